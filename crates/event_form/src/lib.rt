@@ -1,0 +1,12 @@
+//! Events as every layer passes them on, and their bytes in the spool: an entry's text is a head of
+//! 29 bytes (origin, connection, index, unit, length of the text, all in network order) and the
+//! event's text. What is written for an entry is read again as that entry, whatever follows it.
+#![tactic(auto)]
+
+mod blob;
+mod event;
+mod feed_fault;
+
+pub use blob::Blob;
+pub use event::{Entry, Event, Origin};
+pub use feed_fault::FeedFault;
