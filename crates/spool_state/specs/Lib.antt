@@ -1,0 +1,5 @@
+pub mod Segment
+pub mod SpoolState
+pub mod Change
+pub mod Cells
+pub mod Image
