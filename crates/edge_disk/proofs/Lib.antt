@@ -1,0 +1,3 @@
+mod Covers
+pub mod Moments
+pub mod Opening

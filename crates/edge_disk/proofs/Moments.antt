@@ -1,0 +1,62 @@
+-- How a run of disk calls goes on.
+use Rattle.std.proofs.Common.{inl, inr, ⊎_elim, ℕ, ◌∙◌, List, arith, subst, sym}
+use Rattle.foundation.specs.Bytes.{SameBut}
+use Rattle.edge_disk.specs.Disk.{Moment, Elapses, IsSettled, IsUntouched, IsTorn, IsLawful, LeavesOnly}
+
+-- before the first call
+pub started : (P : List ℕ → Type 0) (m : Moment) → IsLawful m → ((c : List ℕ) → m.image c → P c) → LeavesOnly P m m
+started P m lawful here = record {
+  later = omega arith;
+  each = λ c since. here c (lawful.only_now c since);
+  now = here;
+  before = λ t c le since. inl since;
+}
+
+-- one call more, after which a crash leaves what has P
+pub goes_on : (P : List ℕ → Type 0) (old mid new : Moment) → LeavesOnly P old mid → Elapses mid new → ((c : List ℕ) → new.image c → P c) → LeavesOnly P old new
+goes_on P old mid new so_far time here = record {
+  later = omega (arith, so_far.later, time.later);
+  each = λ c since. ⊎_elim (so_far.each c) (here c) (time.nothing_else old.clock c so_far.later since);
+  now = here;
+  before = λ t c le since. ⊎_elim (so_far.before t c le) (λ n. inr (here c n)) (time.nothing_else t c (omega (arith, le, so_far.later)) since);
+}
+
+-- a read or a sync, also one that failed
+pub untouched : (P : List ℕ → Type 0) (old mid new : Moment) → LeavesOnly P old mid → IsUntouched mid new → LeavesOnly P old new
+untouched P old mid new so_far call = goes_on P old mid new so_far call.time (λ c n. so_far.now c (call.images c n))
+
+-- a write on a settled disk
+pub torn : (P : List ℕ → Type 0) (old mid new : Moment) (at n : ℕ) → LeavesOnly P old mid → IsSettled mid → IsTorn at n mid new → ((c : List ℕ) → SameBut at n mid.reads c → P c) → LeavesOnly P old new
+torn P old mid new at n so_far settled call here = goes_on P old mid new so_far call.time (λ c i. let from = call.images c i in here c (subst (λ d. SameBut at n d c) (settled.only from.0 from.1) from.2))
+
+-- one run behind another
+pub both : (P Q R : List ℕ → Type 0) (old mid new : Moment) → LeavesOnly P old mid → LeavesOnly Q mid new → ((c : List ℕ) → P c → R c) → ((c : List ℕ) → Q c → R c) → LeavesOnly R old new
+both P Q R old mid new first second p q = record {
+  later = omega (arith, first.later, second.later);
+  each = λ c since. ⊎_elim (λ had. p c (first.each c had)) (q c) (second.before old.clock c first.later since);
+  now = λ c n. q c (second.now c n);
+  before = λ t c le since. ⊎_elim (λ had. ⊎_elim (λ was. inl was) (λ h. inr (p c h)) (first.before t c le had)) (λ h. inr (q c h)) (second.before t c (omega (arith, le, first.later)) since);
+}
+
+pub weaker : (P Q : List ℕ → Type 0) (old new : Moment) → LeavesOnly P old new → ((c : List ℕ) → P c → Q c) → LeavesOnly Q old new
+weaker P Q old new run p = record {
+  later = run.later;
+  each = λ c since. p c (run.each c since);
+  now = λ c n. p c (run.now c n);
+  before = λ t c le since. ⊎_elim (λ was. inl was) (λ h. inr (p c h)) (run.before t c le since);
+}
+
+pub still_settled : (m new : Moment) → IsSettled m → IsUntouched m new → IsSettled new
+still_settled m new settled call = record { only = λ c i. settled.only c (call.images c i) ∙ sym call.same }
+
+-- what the disk reads at the exit is one of its images
+pub reads_have : (P : List ℕ → Type 0) (old new : Moment) → IsLawful new → LeavesOnly P old new → P new.reads
+reads_have P old new lawful run = run.now new.reads lawful.reads_image
+
+-- on a settled disk nothing but what it reads can be left
+pub started_settled : (P : List ℕ → Type 0) (m : Moment) → IsLawful m → IsSettled m → P m.reads → LeavesOnly P m m
+started_settled P m lawful settled here = started P m lawful (λ c i. subst P (sym (settled.only c i)) here)
+
+-- one more write before a sync, which keeps what has P so
+pub torn_more : (P : List ℕ → Type 0) (old mid new : Moment) (at n : ℕ) → LeavesOnly P old mid → IsTorn at n mid new → ((d c : List ℕ) → P d → SameBut at n d c → P c) → LeavesOnly P old new
+torn_more P old mid new at n so_far call keeps = goes_on P old mid new so_far call.time (λ c i. let from = call.images c i in keeps from.0 c (so_far.now from.0 from.1) from.2)
