@@ -1,4 +1,5 @@
 pub mod Adding
 pub mod Following
 pub mod Frames
+pub mod Steps
 pub mod Texts
