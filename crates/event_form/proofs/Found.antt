@@ -1,13 +1,13 @@
 -- The entry that is found is the one whose text begins the bytes.
-use Rattle.std.proofs.Common.{◌≡◌, ℕ, ◌+◌, ◌^◌, ◌<◌, ◌≤◌, List, ◌∷◌, ◌++◌, length, get_or, take, drop, refl, sym, ◌∙◌, ap, subst, arith}
+use Rattle.std.proofs.Common.{◌≡◌, ℕ, ◌+◌, ◌^◌, ◌<◌, ◌≤◌, List, ◌∷◌, ◌++◌, length, get_or, take, drop, refl, sym, ◌∙◌, ap, arith}
 use Rattle.std.specs.Int.{w32, w64, from_be_bytes, to_be_bytes}
 use Rattle.std.proofs.lemmas.List.{take-append-drop, drop-drop, drop_more, take_at, length-take, length-drop}
 use Rattle.event_form.specs.declared.event.Origin.TheVariants.{LumberData}
 use Rattle.event_form.specs.declared.event.Entry.{Entry}
 use Rattle.event_form.specs.declared.reading.Head.{Head}
 use Rattle.event_form.specs.Event.{ArePairs}
-use Rattle.event_form.specs.Entry.{origin_code, IsEntry, head_text, entry_text, size_of}
-use Rattle.event_form.specs.Reading.{Begins, told_length}
+use Rattle.event_form.specs.Entry.{origin_code, head_text, entry_text, size_of}
+use Rattle.event_form.specs.Reading.{Begins}
 use Rattle.event_form.specs.Head.{Tells, entry_of}
 use Rattle.event_form.proofs.Numbers.{IsBytes, IsBytes-take, IsBytes-drop, four_again, eight_again, eight_below}
 use Rattle.event_form.proofs.Fields.{length-entry_text}
@@ -59,13 +59,13 @@ found b head text fits tells room is pairs =
         unit = eight_fits 17 b head.unit fits tells.unit;
       };
       whole = fields b text rest tells.there behind
-        ∙ same_fields (get_or b 0 0) (origin_code head.origin) (take 8 (drop 1 b)) (to_be_bytes w64 head.conn) (take 8 (drop 9 b)) (to_be_bytes w64 head.index) (take 8 (drop 17 b)) (to_be_bytes w64 head.unit) (take 4 (drop 25 b)) (to_be_bytes w32 (length text)) (text ++ rest)
-            tells.origin
-            (eight_there 1 b head.conn (omega (arith, tells.there)) fits tells.conn)
-            (eight_there 9 b head.index (omega (arith, tells.there)) fits tells.index)
-            (eight_there 17 b head.unit (omega (arith, tells.there)) fits tells.unit)
-            (four_there 25 b (length text) (omega (arith, tells.there)) fits (long ∙ tells.length))
-        ∙ sym (written (entry_of head text) rest);
+          ∙ same_fields (get_or b 0 0) (origin_code head.origin) (take 8 (drop 1 b)) (to_be_bytes w64 head.conn) (take 8 (drop 9 b)) (to_be_bytes w64 head.index) (take 8 (drop 17 b)) (to_be_bytes w64 head.unit) (take 4 (drop 25 b)) (to_be_bytes w32 (length text)) (text ++ rest)
+          tells.origin
+          (eight_there 1 b head.conn (omega (arith, tells.there)) fits tells.conn)
+          (eight_there 9 b head.index (omega (arith, tells.there)) fits tells.index)
+          (eight_there 17 b head.unit (omega (arith, tells.there)) fits tells.unit)
+          (four_there 25 b (length text) (omega (arith, tells.there)) fits (long ∙ tells.length))
+          ∙ sym (written (entry_of head text) rest);
     }
 
 -- the bytes that it takes are its text

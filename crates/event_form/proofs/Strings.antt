@@ -1,5 +1,5 @@
 -- Keys, values and pairs at the front of bytes.
-use Rattle.std.proofs.Common.{◌≡◌, ℕ, zero, suc, ◌+◌, ◌-◌, ◌^◌, ◌<◌, ◌≤◌, List, [], ◌∷◌, ◌++◌, length, take, drop, refl, sym, ◌∙◌, ap, arith, append_assoc, length-append}
+use Rattle.std.proofs.Common.{◌≡◌, ℕ, ◌+◌, ◌^◌, ◌<◌, ◌≤◌, List, [], ◌∷◌, ◌++◌, length, take, drop, refl, sym, ◌∙◌, ap, arith, append_assoc, length-append}
 use Rattle.std.specs.Prelude.{Option, Some, None, IfNone}
 use Rattle.std.specs.Int.{w32, to_be_bytes}
 use Rattle.std.proofs.lemmas.List.{take_at, drop_at, nil_from_length}
@@ -9,9 +9,10 @@ use Rattle.event_form.proofs.Numbers.{same_four}
 
 -- fronts of one length
 pub same_front : (s t x y : List ℕ) → length s ≡ length t → s ++ x ≡ t ++ y → (s ≡ t) × (x ≡ y)
-same_front s t x y n h =
-    (sym (take_at s x (length s) refl) ∙ ap (take (length s)) h ∙ take_at t y (length s) (sym n),
-     sym (drop_at s x (length s) refl) ∙ ap (drop (length s)) h ∙ drop_at t y (length s) (sym n))
+same_front s t x y n h = (
+  sym (take_at s x (length s) refl) ∙ ap (take (length s)) h ∙ take_at t y (length s) (sym n),
+  sym (drop_at s x (length s) refl) ∙ ap (drop (length s)) h ∙ drop_at t y (length s) (sym n),
+)
 
 pub one_string : (s t b x y : List ℕ) → BeginsString s b x → BeginsString t b y → (s ≡ t) × (x ≡ y)
 one_string s t b x y p q =

@@ -1,10 +1,11 @@
 -- No entry's text begins another one's: what is read is what was written, whatever follows it.
-use Rattle.std.proofs.Common.{◌≡◌, ℕ, suc, ◌+◌, ◌^◌, ◌<◌, ◌≤◌, Bool, true, false, cond, eqb, List, [], ◌∷◌, ◌++◌, length, get_or, take, drop, refl, sym, ◌∙◌, ap, arith, append_assoc, length-append}
+use Rattle.std.proofs.Common.{◌≡◌, ℕ, ◌+◌, cond, eqb, List, [], ◌∷◌, ◌++◌, length, get_or, take, drop, refl, sym, ◌∙◌, ap, arith, append_assoc, length-append}
 use Rattle.std.specs.Int.{w32, w64, from_be_bytes}
 use Rattle.std.specs.List.{All, AllByRecursion, flat_map, sum_by}
-use Rattle.std.proofs.lemmas.List.{append_cancel_left, append-nil}
+use Rattle.std.proofs.lemmas.List.{append_cancel_left}
 use Rattle.std.proofs.lemmas.List.Elements.{recursion_from_All}
-use Rattle.std.proofs.lemmas.List.Concat.{flat_map-cons, length-flat_map}
+use Rattle.std.proofs.lemmas.List.Sums.{sum_by-cons}
+use Rattle.std.proofs.lemmas.List.Concat.{flat_map-cons}
 use Rattle.event_form.specs.declared.event.Origin.{Origin}
 use Rattle.event_form.specs.declared.event.Origin.TheVariants.{Relp, LumberData, LumberJson, HecEvent, HecRaw}
 use Rattle.event_form.specs.declared.event.Entry.{Entry}
@@ -85,3 +86,9 @@ same_list (d ∷ ds) (e ∷ es) hd he h =
 
 pub same_entries : (ds es : List Entry) → All IsEntry ds → All IsEntry es → flat_map entry_text ds ≡ flat_map entry_text es → ds ≡ es
 same_entries ds es hd he h = same_list ds es (recursion_from_All IsEntry ds hd) (recursion_from_All IsEntry es he) h
+
+pub length-entries_text : (es : List Entry) → length (flat_map entry_text es) ≡ sum_by size_of es
+length-entries_text [] = refl
+length-entries_text (e ∷ es) =
+    let joined : length (flat_map entry_text (e ∷ es)) ≡ length (entry_text e) + length (flat_map entry_text es) = ap length (flat_map-cons entry_text e es) ∙ length-append (entry_text e) (flat_map entry_text es) in
+    omega (arith, joined, length-entry_text e, length-entries_text es, sum_by-cons size_of e es)

@@ -1,10 +1,9 @@
 -- What an entry's head tells, and a text with the pairs in it.
-use Rattle.std.specs.Prelude.{◌≡◌, ℕ, ◌+◌, ◌<◌, ◌≤◌, ◌^◌, List, ◌++◌, length, take, drop, slice_index}
-use Rattle.std.specs.Int.{from_be_bytes, to_be_bytes}
-use mir.Syntax.{w32, w64}
+use Rattle.std.specs.Prelude.{◌≡◌, ℕ, ◌≤◌, List, length, take, drop, slice_index}
+use Rattle.std.specs.Int.{from_be_bytes}
+use mir.Syntax.{w64}
 use Rattle.event_form.specs.declared.event.Entry.{Entry}
 use Rattle.event_form.specs.declared.reading.Head.{Head}
-use Rattle.event_form.specs.Event.{pairs_text}
 use Rattle.event_form.specs.Entry.{origin_code}
 use Rattle.event_form.specs.Reading.{told_length}
 

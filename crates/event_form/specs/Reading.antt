@@ -1,5 +1,5 @@
 -- Bytes that begin with an entry's text, and bytes that don't.
-use Rattle.std.specs.Prelude.{◌≡◌, ◌≢◌, ℕ, ◌+◌, List, ◌++◌, length, take, drop, slice_index, Bool, ◌&&◌, not, nat_lt, if◌then◌else◌, Result, Ok, Err}
+use Rattle.std.specs.Prelude.{◌≡◌, ℕ, ◌+◌, List, ◌++◌, length, take, drop, slice_index, Bool, ◌&&◌, not, nat_lt, if◌then◌else◌, Result, Ok, Err}
 use Rattle.std.specs.Int.{from_be_bytes}
 use mir.Syntax.{w32}
 use Rattle.event_form.specs.declared.event.Entry.{Entry}

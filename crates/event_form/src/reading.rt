@@ -6,6 +6,7 @@ ghost use Rattle.event_form.specs.Entry.{origin_code, IsEntry, entry_text, size_
 ghost use Rattle.event_form.specs.Reading.{Begins, is_origin, IsBadAt, IsFault, IsRead};
 ghost use Rattle.event_form.specs.Head.{Tells, entry_of};
 
+use crate::event::{HEAD_BYTES, MOST_TEXT};
 use crate::pairs::are_pairs;
 use crate::{Blob, Entry, Event, Origin};
 use std::alloc::{AllocError, Global};
@@ -87,13 +88,13 @@ fn read_head(bytes: &[u8]) -> Result<Head, usize>
     let Some(origin) = origin_of(bytes[0]) else {
         return Err(0);
     };
-    if bytes.len() < 29 {
+    if bytes.len() < HEAD_BYTES {
         return Err(bytes.len());
     }
     let mut field = [0; 4];
     field.copy_from_slice(&bytes[25..29]);
     let length = u32::from_be_bytes(field) as usize;
-    if length > 131_072 {
+    if length > MOST_TEXT {
         return Err(25);
     }
     Ok(Head {
@@ -119,13 +120,13 @@ fn read_parts(bytes: &[u8]) -> Result<(Head, &[u8]), usize>
     ensures err { IfErr result (IsBadAt bytes.now) }
 {
     let head = read_head(bytes)?;
-    let (_, rest) = bytes.split_at(29);
+    let (_, rest) = bytes.split_at(HEAD_BYTES);
     if rest.len() < head.length {
         return Err(bytes.len());
     }
     let (text, _) = rest.split_at(head.length);
     if !may_have(head.origin, text) {
-        return Err(29);
+        return Err(HEAD_BYTES);
     }
     Ok((head, text))
 }
@@ -144,7 +145,7 @@ pub fn read_entry(alloc: Global, bytes: &[u8]) -> Result<Took, EntryFault>
         Ok(found) => found,
         Err(at) => return Err(EntryFault::BadEntry { at }),
     };
-    let used = 29 + text.len();
+    let used = HEAD_BYTES + text.len();
     let text = Vec::from_slice(alloc, text)?;
     let event = Event {
         origin: head.origin,

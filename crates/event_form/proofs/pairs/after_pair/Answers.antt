@@ -1,6 +1,6 @@
-use Rattle.std.proofs.Common.{ℕ, List, sym, subst}
+use Rattle.std.proofs.Common.{ℕ, List, subst}
 use Rattle.std.proofs.lemmas.Option.{IfSome_then}
-use Rattle.event_form.specs.Pairs.{BeginsString, BeginsPair}
+use Rattle.event_form.specs.Pairs.{BeginsString}
 use Rattle.event_form.proofs.Strings.{IfNone_then, one_string}
 use Rattle.event_form.proofs.pairs.after_pair.Goals as goal
 

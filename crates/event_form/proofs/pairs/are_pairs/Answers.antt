@@ -1,4 +1,4 @@
-use Rattle.std.proofs.Common.{◌≡◌, ◌≢◌, ◌-◌, ◌+◌, ◌<◌, ◌≤◌, ◌^◌, [], length, refl, sym, ◌∙◌, ap, arith, eq-eqb}
+use Rattle.std.proofs.Common.{◌≡◌, ◌≢◌, ◌-◌, ◌+◌, ◌<◌, ◌^◌, [], length, refl, sym, ◌∙◌, ap, arith, eq-eqb}
 use Rattle.std.proofs.lemmas.Bool.{eqb-true, eqb-false}
 use Rattle.event_form.proofs.Strings.{up_to_none, up_to_zero, up_to_less, up_to_more, up_to_stuck, pair_shorter, pairs_up_to, up_to_pairs}
 use Rattle.event_form.proofs.pairs.are_pairs.Goals as goal
@@ -29,6 +29,7 @@ loop-preserved c =
 
 pub returns : goal.returns
 returns c =
-    let end : 1024 - c.loop.counter ≡ 0 = omega arith in
-    (λ is. up_to_pairs c.args.text.now (c.loop.invariant.there (up_to_none (1024 - c.loop.counter) c.loop.rest.now (eqb-true _ _ (sym c.is_empty-2.ensures ∙ is)))),
-     λ pairs. c.is_empty-2.ensures ∙ eq-eqb _ _ (ap length (up_to_zero (1024 - c.loop.counter) c.loop.rest.now end (c.loop.invariant.back (pairs_up_to c.args.text.now pairs)))))
+    let end : 1024 - c.loop.counter ≡ 0 = omega arith in (
+      λ is. up_to_pairs c.args.text.now (c.loop.invariant.there (up_to_none (1024 - c.loop.counter) c.loop.rest.now (eqb-true _ _ (sym c.is_empty-2.ensures ∙ is)))),
+      λ pairs. c.is_empty-2.ensures ∙ eq-eqb _ _ (ap length (up_to_zero (1024 - c.loop.counter) c.loop.rest.now end (c.loop.invariant.back (pairs_up_to c.args.text.now pairs)))),
+    )

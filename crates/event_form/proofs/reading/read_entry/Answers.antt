@@ -1,4 +1,4 @@
-use Rattle.std.proofs.Common.{◌≡◌, ℕ, List, ◌+◌, length, take, sym, ◌∙◌, ap, subst}
+use Rattle.std.proofs.Common.{◌≡◌, ℕ, List, take, sym, ◌∙◌, ap, subst}
 use Rattle.event_form.specs.Entry.{IsEntry, entry_text, size_of}
 use Rattle.event_form.specs.Head.{entry_of}
 use Rattle.event_form.proofs.Found.{taken, only}

@@ -1,4 +1,4 @@
-use Rattle.std.proofs.Common.{◌≡◌, ◌<◌, sym, ◌∙◌, ap, subst, arith}
+use Rattle.std.proofs.Common.{◌≡◌, ◌<◌, sym, ◌∙◌, ap, arith}
 use Rattle.std.specs.Int.{w32, from_be_bytes}
 use Rattle.std.proofs.lemmas.Bool.{eqb-true}
 use Rattle.event_form.specs.Reading.{told_length}
@@ -11,11 +11,11 @@ returns-then-is_empty-clause-err c = bad_empty c.args.bytes.now (eqb-true _ _ (s
 pub returns-in_default-clause-err : goal.returns-in_default-clause-err
 returns-in_default-clause-err c = bad_origin c.args.bytes.now c.in_default.ensures.none
 
-pub returns-then-bytes-lt29-clause-err : goal.returns-then-bytes-lt29-clause-err
-returns-then-bytes-lt29-clause-err c = bad_head c.in-Some.origin c.args.bytes.now c.in-Some.ensures.some c.if-bytes-lt29.true
+pub returns-then-bytes-lt-HEAD_BYTES-clause-err : goal.returns-then-bytes-lt-HEAD_BYTES-clause-err
+returns-then-bytes-lt-HEAD_BYTES-clause-err c = bad_head c.in-Some.origin c.args.bytes.now c.in-Some.ensures.some c.if-bytes-lt-HEAD_BYTES.true
 
-pub returns-then-length-gt131072-clause-err : goal.returns-then-length-gt131072-clause-err
-returns-then-length-gt131072-clause-err c =
+pub returns-then-length-gt-MOST_TEXT-clause-err : goal.returns-then-length-gt-MOST_TEXT-clause-err
+returns-then-length-gt-MOST_TEXT-clause-err c =
     let told : c.from_be_bytes-length.result ≡ told_length c.args.bytes.now = c.from_be_bytes-length.ensures ∙ ap (from_be_bytes w32) c.copy_from_slice.ensures.after in
-    let long : 131072 < told_length c.args.bytes.now = omega (arith, told, c.if-length-gt131072.true) in
-    bad_length c.in-Some.origin c.args.bytes.now c.in-Some.ensures.some c.if-bytes-lt29.false long
+    let long : 131072 < told_length c.args.bytes.now = omega (arith, told, c.if-length-gt-MOST_TEXT.true) in
+    bad_length c.in-Some.origin c.args.bytes.now c.in-Some.ensures.some c.if-bytes-lt-HEAD_BYTES.false long
