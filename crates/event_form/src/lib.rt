@@ -17,3 +17,6 @@ pub use feed_fault::FeedFault;
 pub use law::one_reading;
 pub use reading::{EntryFault, Took, read_entry};
 pub use writing::{entry_head, entry_size, write_entry};
+
+#[cfg(test)]
+mod tests;
