@@ -1,4 +1,5 @@
 use Rattle.std.proofs.Common.{◌-◌, ◌≤◌, length}
+use Rattle.event_form.specs.declared.pairs.TheConstants.{MOST_PAIRS}
 use Rattle.event_form.specs.Pairs.{AreUpTo}
 use Rattle.event_form.proofs.pairs.are_pairs.Given as goal
 
@@ -6,6 +7,6 @@ abbrev pub invariant-loop : goal.invariant-loop
 invariant-loop l =
     record {
       short : length l.rest ≤ 131072;
-      there : AreUpTo (1024 - l.counter) l.rest → AreUpTo 1024 l.text;
-      back : AreUpTo 1024 l.text → AreUpTo (1024 - l.counter) l.rest;
+      there : AreUpTo (MOST_PAIRS - l.counter) l.rest → AreUpTo MOST_PAIRS l.text;
+      back : AreUpTo MOST_PAIRS l.text → AreUpTo (MOST_PAIRS - l.counter) l.rest;
     }
