@@ -68,25 +68,3 @@ no_frames waiting (f ∷ fs) e = absurd (omega arith)
 
 pub reads_none : (fed : List ℕ) (taken waiting frames : List Frame) (at : ℕ) (h rest : List ℕ) (fault : Option RelpFault) → length frames ≡ 0 → fault ≡ None → rest ≡ h → IsStream IsSpelling fed (taken ++ (waiting ++ frames)) at h → ReadsTo fed (taken ++ waiting) at rest fault
 reads_none fed taken waiting frames at h rest fault l n e s = reads_some fed taken waiting frames waiting at h rest fault (no_frames waiting frames l) n e s
-
-same_fault : (d e : RelpFault) → d.at ≡ e.at → d.why ≡ e.why → Some d ≡ Some e
-same_fault d e p q =
-    let f : ℕ → RelpWhy → Option RelpFault = λ a w. Some (record { at = a; why = w }) in
-    ap (λ a. f a d.why) p ∙ ap (λ w. f e.at w) q
-
-pub one_reading : OneReading
-one_reading fed fs gs m n h k None None i j =
-    let r = one_stream step Completes IsGood relp_laws start start_good IsSpelling same_spelling fed fs gs m n h k i j in
-    (r.0, r.1, r.2, refl)
-one_reading fed fs gs m n h k None (Some e) i j = absurd (fault_or_stream j.0 i.begins)
-one_reading fed fs gs m n h k (Some d) None i j = absurd (fault_or_stream i.0 j.begins)
-one_reading fed fs gs m n h k (Some d) (Some e) i j =
-    let g = one_good i.0 j.0 in
-    let s = subst (λ z. IsStream IsSpelling z fs m i.0.rest) g i.0.stream in
-    let r = one_stream step Completes IsGood relp_laws start start_good IsSpelling same_spelling j.0.good fs gs m n i.0.rest j.0.rest s j.0.stream in
-    let w : j.0.good ++ i.0.byte ∷ i.0.more ≡ j.0.good ++ j.0.byte ∷ j.0.more = ap (λ z. z ++ i.0.byte ∷ i.0.more) (sym g) ∙ sym i.0.whole ∙ j.0.whole in
-    let c = append_cancel_left j.0.good (i.0.byte ∷ i.0.more) (j.0.byte ∷ j.0.more) w in
-    let b : i.0.byte ≡ j.0.byte = cc in
-    let t : i.0.rest ≡ j.0.rest = r.2 in
-    let y : IsReason j.0.rest j.0.byte d.why = subst (λ z. IsReason j.0.rest z d.why) b (subst (λ z. IsReason z i.0.byte d.why) t i.0.reason) in
-    (r.0, r.1, i.1 ∙ sym j.1, same_fault d e (one_place i.0 j.0) (one_reason j.0.rest j.0.byte d.why e.why y j.0.reason))

@@ -3,7 +3,7 @@ ghost use Rattle.std.specs.Prelude.{◌≡◌, ℕ, ◌+◌, ◌≤◌, ◌<◌,
 ghost use Rattle.std.specs.Char.{digit_value};
 ghost use Rattle.relp_frame.specs.Spelling.{is_digit, is_letter};
 ghost use Rattle.relp_frame.specs.Machine.{step, InTxnr, InCommand, InLength, InBody};
-ghost use Rattle.relp_frame.specs.Places.{Fits, FitsTurn, state_of, step_of};
+ghost use Rattle.relp_frame.specs.Places.{Fits, FitsTurn, state_of, step_of, due_of, past};
 
 use crate::fault::RelpWhy;
 
@@ -236,5 +236,38 @@ pub fn after_byte(phase: Phase, place: usize, c: u8) -> Turn
             at,
             left,
         } => in_body(txnr, from, to, at, left, place, c),
+    }
+}
+
+/// How many bytes of the data are due.
+pub fn data_due(phase: Phase) -> usize
+    ensures { result ≡ due_of phase }
+{
+    match phase {
+        Phase::Body { left, .. } => left,
+        _ => 0,
+    }
+}
+
+/// What has been read once so many bytes of the data that is due came.
+pub fn past_data(phase: Phase, count: usize) -> Phase
+    requires { count ≤ due_of phase }
+    ensures { result ≡ past phase count }
+{
+    match phase {
+        Phase::Body {
+            txnr,
+            from,
+            to,
+            at,
+            left,
+        } => Phase::Body {
+            txnr,
+            from,
+            to,
+            at,
+            left: left - count,
+        },
+        other => other,
     }
 }

@@ -7,7 +7,7 @@ ghost use Rattle.relp_frame.specs.Places.{Fits, FitsParts, state_of, frame_of};
 
 use crate::fault::RelpWhy;
 use crate::frame::Frame;
-use crate::phase::{Parts, Phase, Turn, after_byte};
+use crate::phase::{Parts, Phase, Turn, after_byte, data_due, past_data};
 use event_form::Blob;
 use std::alloc::{AllocError, Global};
 use std::collections::VecDeque;
@@ -68,11 +68,20 @@ pub fn scan(alloc: Global, held: &[u8], phase: Phase, piece: &[u8]) -> Result<Sc
     let mut now = phase;
     let mut from = 0;
     let mut front = held;
-    for i in 0..piece.len() {
+    let mut i = 0;
+    while i < piece.len() {
+        let count = data_due(now).min(piece.len() - i);
+        if count > 0 {
+            now = past_data(now, count);
+            i += count;
+            continue;
+        }
         let place = front.len() + (i - from);
-        let c = piece[i];
-        match after_byte(now, place, c) {
-            Turn::Go(next) => now = next,
+        match after_byte(now, place, piece[i]) {
+            Turn::Go(next) => {
+                now = next;
+                i += 1;
+            }
             Turn::Done(parts) => {
                 let frame = build(alloc, front, &piece[from..i + 1], parts)?;
                 frames.push_back(frame)?;
@@ -80,7 +89,8 @@ pub fn scan(alloc: Global, held: &[u8], phase: Phase, piece: &[u8]) -> Result<Sc
                     digits: 0,
                     value: 0,
                 };
-                from = i + 1;
+                i += 1;
+                from = i;
                 front = &[];
             }
             Turn::Bad(why) => {
