@@ -1,24 +1,27 @@
 -- The bytes of a stream have one reading.
-use Rattle.std.proofs.Common.{refl, ◌≡◌, ℕ, ◌+◌, ◌-◌, ◌<◌, ◌∙◌, List, [], ◌∷◌, ◌++◌, Option, Some, None, Err, length, take, drop, get_or, sym, ap, subst, length-take-le, arith, append_assoc, length-append, length-drop}
-use Rattle.std.proofs.lemmas.List.{append-nil, append_cancel_left, take_all}
-use Rattle.relp_frame.proofs.OneReason.{one_reason}
+use Rattle.std.proofs.Common.{◌≡◌, ℕ, ◌+◌, ◌≤◌, ◌∙◌, List, ◌∷◌, ◌++◌, Option, Some, None, length, refl, sym, ap, subst, arith, length-append}
+use Rattle.std.proofs.lemmas.List.{append_cancel_left}
 use Rattle.relp_frame.specs.declared.frame.Frame.{Frame}
-use Rattle.relp_frame.specs.declared.phase.Phase.{Phase}
-use Rattle.relp_frame.specs.declared.fault.RelpWhy.{RelpWhy}
 use Rattle.relp_frame.specs.declared.fault.RelpFault.{RelpFault}
-use Rattle.event_form.specs.declared.feed_fault.FeedFault.TheVariants.{Fault}
-use Rattle.stream_grammar.specs.Automaton.{Fails}
-use Rattle.stream_grammar.specs.Framing.{IsStream, IsFaulty}
-use Rattle.relp_frame.specs.Spelling.{IsSpelling}
-use Rattle.relp_frame.specs.Machine.{step}
-use Rattle.relp_frame.specs.Places.{state_of}
+use Rattle.relp_frame.specs.declared.fault.RelpWhy.{RelpWhy}
+use Rattle.stream_grammar.specs.Framing.{IsStream}
+use Rattle.stream_grammar.proofs.Machine.{fault_or_stream, one_stream, one_place, one_good}
+use Rattle.relp_frame.specs.Machine.{start, step, Completes}
+use Rattle.relp_frame.specs.Reading.{Reader, Reads, ReadsTo, OneReading}
 use Rattle.relp_frame.specs.Reason.{IsReason}
-use Rattle.relp_frame.specs.Reading.{Reader, ReadsTo, Feeds, OneReading}
-use Rattle.relp_frame.specs.Scanning.{Scan, bytes_of}
-use Rattle.relp_frame.specs.Machine.{start, Completes}
+use Rattle.relp_frame.specs.Spelling.{IsSpelling}
 use Rattle.relp_frame.proofs.FrameLaws.{relp_laws, start_good, same_spelling, IsGood}
-use Rattle.stream_grammar.proofs.Machine.{fault_stays, fault_or_stream, one_stream, one_place, one_good}
-use Rattle.relp_frame.proofs.ScanLaws.{scan_stream, scan_fault, length_bytes}
+use Rattle.relp_frame.proofs.OneReason.{one_reason}
+
+reads_to_count : (fed : List ℕ) (frames : List Frame) (at : ℕ) (rest : List ℕ) (fault : Option RelpFault) → ReadsTo fed frames at rest fault → at + length rest ≤ length fed
+reads_to_count fed frames at rest None r = omega (arith, r.ends, ap length r.whole, length-append r.front rest)
+reads_to_count fed frames at rest (Some e) r =
+    let i = r.0 in
+    omega (arith, i.stream.ends, ap length i.whole, ap length i.stream.whole, length-append i.good (i.byte ∷ i.more), length-append i.stream.front i.rest, ap length r.1)
+
+-- the bytes behind which the unfinished frame stands, and those held, were fed
+pub reads_count : (fed : List ℕ) (taken : List Frame) (r : Reader) → Reads fed taken r → r.at + length r.rest ≤ length fed
+reads_count fed taken r k = reads_to_count fed (taken ++ r.waiting) r.at r.rest r.fault k
 
 same_fault : (d e : RelpFault) → d.at ≡ e.at → d.why ≡ e.why → Some d ≡ Some e
 same_fault d e p q =

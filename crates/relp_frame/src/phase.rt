@@ -35,6 +35,12 @@ pub enum Phase {
     },
 }
 
+/// Nothing has been read.
+pub const START: Phase = Phase::Txnr {
+    digits: 0,
+    value: 0,
+};
+
 /// The places of a whole frame's command and data.
 #[derive(Clone, Copy)]
 pub struct Parts {

@@ -6,4 +6,4 @@ abbrev pub decreases-loop-i : goal.decreases-loop-i
 decreases-loop-i l = length l.piece - l.i
 
 abbrev pub invariant-loop-i : goal.invariant-loop-i
-invariant-loop-i l = Scan l.held l.piece l.i l.frames.items l.front l.from l.now
+invariant-loop-i l = Scan l.held l.piece l.i l.frames.items l.end l.now
