@@ -1,23 +1,22 @@
 -- What a fed piece adds to what was read.
-use Rattle.std.proofs.Common.{◌≡◌, ℕ, ◌+◌, ◌-◌, ◌*◌, ◌≤◌, ◌∙◌, List, [], ◌∷◌, ◌++◌, Option, Some, None, Err, ◌^◌, length, take, drop, lit<, refl, sym, ap, subst, arith, append_assoc}
+use Rattle.std.proofs.Common.{◌≡◌, ℕ, ◌+◌, ◌-◌, ◌≤◌, ◌∙◌, List, [], ◌∷◌, ◌++◌, Some, None, Err, ◌^◌, length, take, drop, lit<, refl, sym, ap, subst, arith, append_assoc}
 use Rattle.std.specs.List.{All}
 use Rattle.std.specs.Prelude.{slice_range}
 use Rattle.std.proofs.lemmas.List.{take_all, drop_at}
 use Rattle.std.proofs.lemmas.List.Elements.{All-append}
 use Rattle.relp_frame.specs.declared.frame.Frame.{Frame}
 use Rattle.relp_frame.specs.declared.fault.RelpFault.{RelpFault}
-use Rattle.relp_frame.specs.declared.fault.RelpWhy.{RelpWhy}
 use Rattle.relp_frame.specs.declared.phase.Phase.{Phase}
 use Rattle.relp_frame.specs.declared.phase.Phase.TheVariants.{Txnr, Command, Length, Body}
 use Rattle.relp_frame.specs.declared.scan.Scanned.{Scanned}
 use Rattle.event_form.specs.declared.feed_fault.FeedFault.TheVariants.{Fault}
 use Rattle.stream_grammar.specs.Framing.{AreSpelled, IsStream, IsFaulty}
-use Rattle.stream_grammar.proofs.Machine.{fault_stays}
+use Rattle.stream_grammar.proofs.Faults.{fault_stays}
 use Rattle.relp_frame.specs.Keeping.{Keeps}
 use Rattle.relp_frame.specs.Places.{Fits}
-use Rattle.relp_frame.specs.Reading.{Reader, Reads, ReadsTo, ReadsOn, Feeds}
+use Rattle.relp_frame.specs.Reading.{Reader, ReadsTo, ReadsOn, Feeds}
 use Rattle.relp_frame.specs.Reason.{IsReason}
-use Rattle.relp_frame.specs.Scanning.{EndsAt, Scan, Scans}
+use Rattle.relp_frame.specs.Scanning.{EndsAt, Scans}
 use Rattle.relp_frame.specs.Spelling.{IsFrame, IsSpelling}
 use Rattle.relp_frame.proofs.ScanLaws.{scan_stream, scan_fault}
 

@@ -1,16 +1,16 @@
 -- The laws of the machine that reads one frame.
-use Rattle.std.proofs.Common.{◌≡◌, ℕ, ◌+◌, ◌-◌, ◌*◌, ◌<◌, ◌≤◌, Bool, true, false, cond, eqb, ltb, leb, List, [], ◌∷◌, ◌++◌, refl, sym, ap, ◌∙◌, ◌↔◌, suc, zero, lit<, replicate, subst, length, append_assoc, length-append, inl, inr, arith}
-use Rattle.std.proofs.lemmas.Bool.{ltb-true, leb-true, eqb-true, eqb-false, lt-ltb, le-leb, eq-eqb, ne_eqb}
+use Rattle.std.proofs.Common.{◌≡◌, ℕ, ◌+◌, ◌-◌, ◌*◌, ◌≤◌, Bool, true, false, cond, eqb, ltb, leb, List, [], ◌∷◌, ◌++◌, refl, sym, ap, ◌∙◌, ◌↔◌, suc, zero, lit<, replicate, subst, length, length-append, inl, inr, arith}
+use Rattle.std.proofs.lemmas.Bool.{ltb-true, leb-true}
 use Rattle.std.proofs.lemmas.List.{append-nil, length-replicate}
-use Rattle.std.specs.Char.{digit_value}
+use Rattle.std.specs.Char.{is_ascii_alphabetic, digit_value}
 use Rattle.std.specs.Str.Parse.{digits_value_after}
 use Rattle.relp_frame.specs.declared.frame.Frame.{Frame}
 use Rattle.relp_frame.specs.declared.fault.RelpWhy.{RelpWhy}
 use Rattle.relp_frame.specs.declared.fault.RelpWhy.TheVariants.{Digits, Space, Command, TooLong, Trailer}
 use Rattle.stream_grammar.specs.Automaton.{Step, Goes, Ends, Fails, After}
-use Rattle.relp_frame.specs.Spelling.{is_letter, IsEnding, IsSpelling}
-use Rattle.stream_grammar.proofs.Machine.{Laws}
-use Rattle.relp_frame.specs.Machine.{State, InTxnr, InCommand, InLength, InBody, frame, more_digits, step, BodyEnds, AfterLength, AreDigits, LengthEnds, AreLetters, CommandEnds, TxnrEnds, Completes, start}
+use Rattle.relp_frame.specs.Spelling.{IsEnding, IsSpelling}
+use Rattle.stream_grammar.proofs.Machine.{Laws, Format}
+use Rattle.relp_frame.specs.Machine.{State, InTxnr, InCommand, InLength, InBody, frame, more_digits, step, BodyEnds, AfterLength, LengthEnds, CommandEnds, TxnrEnds, Completes, start}
 use Rattle.relp_frame.proofs.StepLaws.{forth_txnr, back_txnr, forth_command, back_command, forth_length, back_length, forth_body, back_body}
 
 -- the states that a machine can be in
@@ -62,7 +62,7 @@ good_step (InTxnr count value) t c g e = go (ltb (digit_value c) 10) (ltb count 
     go false q dq true s e = cc
     go false q dq false true e = let k : InCommand value [] ≡ t = cc in let m : 0 ≤ 32 = omega arith in subst IsGood k m
     go false q dq false false e = cc
-good_step (InCommand txnr command) t c g e = go (is_letter c) (ltb (length command) 32) refl (eqb (length command) 0) (eqb c 32) e
+good_step (InCommand txnr command) t c g e = go (is_ascii_alphabetic c) (ltb (length command) 32) refl (eqb (length command) 0) (eqb c 32) e
   where
     go : (p : Bool) (q : Bool) → ltb (length command) 32 ≡ q → (r s : Bool) → cond {A = Steps} p (cond q (Goes (InCommand txnr (command ++ c ∷ []))) (Fails Command)) (cond r (Fails Command) (cond s (Goes (InLength txnr command 0 0)) (Fails Command))) ≡ Goes t → IsGood t
     go true true dq r s e = let k : InCommand txnr (command ++ c ∷ []) ≡ t = cc in let l = ltb-true (length command) 32 dq in let m : length (command ++ c ∷ []) ≤ 32 = omega (arith, l, length-append command (c ∷ [])) in subst IsGood k m
@@ -192,3 +192,7 @@ same_spelling f b = (there, again)
           fits = omega (arith, p.2, l.3);
           ending_is = p.3;
         }
+
+-- RELP as a format
+pub relp : Format step Completes IsGood start IsSpelling
+relp = record { laws = relp_laws; good = start_good; same = same_spelling }

@@ -1,20 +1,16 @@
 -- The bytes before a fault leave one reason.
-use Rattle.std.proofs.Common.{◌≡◌, ℕ, ◌+◌, ◌-◌, ◌<◌, ◌≤◌, Bool, true, false, eqb, ltb, List, [], ◌∷◌, ◌++◌, refl, sym, ap, ◌∙◌, length, append_assoc, length-append, inl, inr, arith}
-use Rattle.std.proofs.lemmas.Bool.{lt-ltb, le-ltb, le-leb, lt-leb, ne_eqb, eqb-true, eqb-false}
+use Rattle.std.proofs.Common.{◌≡◌, ℕ, ◌<◌, Bool, true, false, eqb, ltb, List, [], ◌∷◌, ◌++◌, refl, ap, length, inl, inr, arith}
+use Rattle.std.proofs.lemmas.Bool.{lt-ltb, le-ltb, lt-leb, ne_eqb, eqb-true, eqb-false}
 use Rattle.std.proofs.lemmas.Int.Digits.{digits_value_push}
-use Rattle.std.proofs.lemmas.List.{append-nil}
-use Rattle.std.specs.Char.{digit_value}
-use Rattle.std.specs.Str.Parse.{digits_value, digits_value_after, AllDigits}
-use Rattle.std.specs.List.{AllByRecursion}
+use Rattle.std.specs.Char.{is_ascii_alphabetic}
+use Rattle.std.specs.Str.Parse.{digits_value}
 use Rattle.relp_frame.specs.declared.fault.RelpWhy.{RelpWhy}
 use Rattle.relp_frame.specs.declared.fault.RelpWhy.TheVariants.{Digits, Space, Command, TooLong, Trailer}
-use Rattle.stream_grammar.specs.Automaton.{Goes, Fails, Going, then, run}
-use Rattle.relp_frame.specs.Spelling.{is_digit, is_letter}
+use Rattle.stream_grammar.specs.Automaton.{Fails, Going, run}
+use Rattle.relp_frame.specs.Spelling.{is_digit}
 use Rattle.relp_frame.specs.Machine.{State, more_digits, step, start, Completes}
 use Rattle.relp_frame.specs.Machine as m
-use Rattle.relp_frame.specs.Reason.{InTxnr, InCommand, InLength, InBody, IsReason}
-use Rattle.stream_grammar.proofs.Machine.{going_run}
-use Rattle.relp_frame.proofs.FrameLaws.{relp_laws, IsGood}
+use Rattle.relp_frame.specs.Reason.{IsReason, OneReason}
 use Rattle.relp_frame.proofs.RunLaws.{at_txnr, at_command, at_length, at_body}
 
 space_fails : (n : ℕ) (command : List ℕ) (k v c : ℕ) → is_digit c ≡ false → (c ≡ 32 → ⊥) → 0 < k → (c ≡ 10 → 0 < v) → step (m.InLength n command k v) c ≡ Fails Space
@@ -28,7 +24,7 @@ space_fails n command k v c d s p q = go (eqb c 10) refl
     go true t = let z = q (eqb-true c 10 t) in let y : eqb v 0 ≡ false = ne_eqb v 0 (λ u. omega arith) in rw (d, e, ne_eqb c 32 s, t, y) refl
     go false t = rw (d, e, ne_eqb c 32 s, t) refl
 
-command_fails : (n : ℕ) (command : List ℕ) (c : ℕ) → is_letter c ≡ false → (c ≡ 32 → command ≡ []) → step (m.InCommand n command) c ≡ Fails Command
+command_fails : (n : ℕ) (command : List ℕ) (c : ℕ) → is_ascii_alphabetic c ≡ false → (c ≡ 32 → command ≡ []) → step (m.InCommand n command) c ≡ Fails Command
 unfolding step
 command_fails n command c l q = go (eqb (length command) 0) refl
   where
@@ -61,7 +57,7 @@ reason_fails h c TooLong i =
     (m.InLength b.0 b.1 (length i.0) (digits_value 10 i.0), b.2, rw (i.3, lt-ltb (length i.0) 9 i.2, lt-leb (more_digits (digits_value 10 i.0) c) 131072 (omega (arith, i.4, v))) refl)
 reason_fails h c Trailer i = let b = at_body h i.0 i.1 in (m.InBody b.0 b.1 0 i.0, b.2, rw (ne_eqb c 10 i.2) refl)
 
-pub one_reason : (h : List ℕ) (c : ℕ) (v w : RelpWhy) → IsReason h c v → IsReason h c w → v ≡ w
+pub one_reason : OneReason
 one_reason h c v w i j =
     let a = reason_fails h c v i in
     let b = reason_fails h c w j in

@@ -1,20 +1,16 @@
 -- What each beginning of a frame makes of the machine.
-use Rattle.std.proofs.Common.{◌≡◌, ℕ, ◌+◌, ◌-◌, ◌<◌, ◌≤◌, Bool, true, false, eqb, ltb, List, [], ◌∷◌, ◌++◌, refl, sym, ap, ◌∙◌, length, append_assoc, length-append, inl, inr, arith}
-use Rattle.std.proofs.lemmas.Bool.{lt-ltb, le-ltb, le-leb, lt-leb, ne_eqb, eqb-true, eqb-false}
-use Rattle.std.proofs.lemmas.Int.Digits.{digits_value_push}
+use Rattle.std.proofs.Common.{◌≡◌, ℕ, ◌+◌, ◌-◌, ◌<◌, ◌≤◌, true, false, eqb, List, [], ◌∷◌, ◌++◌, refl, sym, ap, ◌∙◌, length, append_assoc, length-append, arith}
+use Rattle.std.proofs.lemmas.Bool.{lt-ltb, le-leb, ne_eqb}
 use Rattle.std.proofs.lemmas.List.{append-nil}
-use Rattle.std.specs.Char.{digit_value}
+use Rattle.std.specs.Char.{is_ascii_alphabetic, digit_value}
 use Rattle.std.specs.Str.Parse.{digits_value, digits_value_after, AllDigits}
 use Rattle.std.specs.List.{AllByRecursion}
-use Rattle.relp_frame.specs.declared.fault.RelpWhy.{RelpWhy}
-use Rattle.relp_frame.specs.declared.fault.RelpWhy.TheVariants.{Digits, Space, Command, TooLong, Trailer}
-use Rattle.stream_grammar.specs.Automaton.{Goes, Fails, Going, then, run}
-use Rattle.relp_frame.specs.Spelling.{is_digit, is_letter}
+use Rattle.stream_grammar.specs.Automaton.{Goes, Going, then, run}
 use Rattle.relp_frame.specs.Machine.{State, more_digits, step, start, Completes}
 use Rattle.relp_frame.specs.Machine as m
-use Rattle.relp_frame.specs.Reason.{InTxnr, InCommand, InLength, InBody, IsReason}
+use Rattle.relp_frame.specs.Reason.{InTxnr, InCommand, InLength, InBody}
 use Rattle.stream_grammar.proofs.Machine.{going_run}
-use Rattle.relp_frame.proofs.FrameLaws.{relp_laws, IsGood}
+use Rattle.relp_frame.proofs.FrameLaws.{relp_laws}
 use Rattle.relp_frame.proofs.StepLaws.{value_grows}
 
 -- one step, and then the rest
@@ -22,7 +18,7 @@ onward : (s t u : State) (c : ℕ) (h : List ℕ) → step s c ≡ Goes t → ru
 onward s t u c h e r = ap (λ p. then p (λ v. run step v h) h) e ∙ r
 
 both : (s t u : State) (a b : List ℕ) → run step s a ≡ Going t → run step t b ≡ Going u → run step s (a ++ b) ≡ Going u
-both s t u a b e r = going_run step Completes IsGood relp_laws s t a b e ∙ r
+both s t u a b e r = going_run relp_laws s t a b e ∙ r
 
 txnr_digit : (k v c : ℕ) → digit_value c < 10 → k < 9 → step (m.InTxnr k v) c ≡ Goes (m.InTxnr (k + 1) (more_digits v c))
 unfolding step
@@ -42,7 +38,7 @@ run_txnr k v (c ∷ h) a l =
 pub at_txnr : (h : List ℕ) → InTxnr h → run step start h ≡ Going (m.InTxnr (length h) (digits_value 10 h))
 at_txnr h i = run_txnr 0 0 h i.digits (omega (arith, i.few)) ∙ ap (λ j. Going (m.InTxnr j (digits_value 10 h))) (omega arith)
 
-letter_more : (n : ℕ) (acc : List ℕ) (c : ℕ) → is_letter c ≡ true → length acc < 32 → step (m.InCommand n acc) c ≡ Goes (m.InCommand n (acc ++ c ∷ []))
+letter_more : (n : ℕ) (acc : List ℕ) (c : ℕ) → is_ascii_alphabetic c ≡ true → length acc < 32 → step (m.InCommand n acc) c ≡ Goes (m.InCommand n (acc ++ c ∷ []))
 unfolding step
 letter_more n acc c t l = rw (t, lt-ltb (length acc) 32 l) refl
 
@@ -50,7 +46,7 @@ command_space : (n : ℕ) (command : List ℕ) → 0 < length command → step (
 unfolding step
 command_space n command p = let e : eqb (length command) 0 ≡ false = ne_eqb (length command) 0 (λ q. omega arith) in rw e refl
 
-pub run_letters : (n : ℕ) (acc xs : List ℕ) → AllByRecursion (λ c. is_letter c ≡ true) xs → length acc + length xs ≤ 32 → run step (m.InCommand n acc) xs ≡ Going (m.InCommand n (acc ++ xs))
+pub run_letters : (n : ℕ) (acc xs : List ℕ) → AllByRecursion (λ c. is_ascii_alphabetic c ≡ true) xs → length acc + length xs ≤ 32 → run step (m.InCommand n acc) xs ≡ Going (m.InCommand n (acc ++ xs))
 run_letters n acc [] a l = ap (λ v. Going (m.InCommand n v)) (sym (append-nil acc))
 run_letters n acc (c ∷ xs) a l =
     let i = run_letters n (acc ++ c ∷ []) xs a.1 (omega (arith, l, length-append acc (c ∷ []))) in

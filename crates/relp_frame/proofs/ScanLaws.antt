@@ -9,15 +9,17 @@ use Rattle.relp_frame.specs.declared.phase.Phase.{Phase}
 use Rattle.relp_frame.specs.declared.phase.Phase.TheVariants.{Txnr, Command, Length, Body}
 use Rattle.relp_frame.specs.declared.phase.Parts.{Parts}
 use Rattle.relp_frame.specs.declared.fault.RelpWhy.{RelpWhy}
-use Rattle.stream_grammar.specs.Automaton.{Goes, Ends, Fails, Going, Done, then, run}
-use Rattle.stream_grammar.specs.Framing.{AreSpelled, IsStream, IsFaulty}
-use Rattle.stream_grammar.proofs.Machine.{going_run, run_push, completed_run, spelled_append, spelled_one, stream_more, stream_fault}
+use Rattle.stream_grammar.specs.Automaton.{Goes, Ends, Fails, Going, then, run}
+use Rattle.stream_grammar.specs.Framing.{IsStream, IsFaulty}
+use Rattle.stream_grammar.proofs.Machine.{going_run, run_push}
+use Rattle.stream_grammar.proofs.Readings.{spelled_byte}
+use Rattle.stream_grammar.proofs.Streams.{spelled_append, spelled_one, stream_more, stream_fault}
 use Rattle.relp_frame.specs.Reason.{IsReason}
 use Rattle.relp_frame.specs.Spelling.{IsFrame, IsSpelling}
-use Rattle.relp_frame.specs.Machine.{InBody, step, start, Completes}
+use Rattle.relp_frame.specs.Machine.{InBody, step, start}
 use Rattle.relp_frame.specs.Places.{state_of, frame_of, due_of, past, Fits}
 use Rattle.relp_frame.specs.Scanning.{Scan}
-use Rattle.relp_frame.proofs.FrameLaws.{relp_laws, start_good, same_spelling, IsGood}
+use Rattle.relp_frame.proofs.FrameLaws.{relp, relp_laws}
 use Rattle.relp_frame.proofs.PlaceLaws.{range_more}
 use Rattle.relp_frame.proofs.ReasonLaws.{reason_of}
 use Rattle.relp_frame.proofs.RunLaws.{run_body}
@@ -36,7 +38,7 @@ scan_go held piece i frames end now next l s fits turn =
     let c = get_or piece i 0 in
     let n : length s.rest ≡ length held + i - end = omega (arith, s.count) in
     let m : length held + i - end + 1 ≡ length (s.rest ++ c ∷ []) = omega (arith, n, length-append s.rest (c ∷ [])) in
-    let r : run step start (s.rest ++ c ∷ []) ≡ Going (state_of next (s.rest ++ c ∷ [])) = run_push step Completes IsGood relp_laws start (state_of now s.rest) s.rest c s.runs ∙ ap (λ p. then p (λ u. Going u) []) (sym (turn s.rest n)) in
+    let r : run step start (s.rest ++ c ∷ []) ≡ Going (state_of next (s.rest ++ c ∷ [])) = run_push relp_laws start (state_of now s.rest) s.rest c s.runs ∙ ap (λ p. then p (λ u. Going u) []) (sym (turn s.rest n)) in
     record {
       within = omega arith;
       spelt = s.spelt;
@@ -64,7 +66,7 @@ data_run (Body txnr from to at left) h xs fits l r =
     let a : slice_range (h ++ xs) from to ≡ slice_range h from to = range_more h xs from to fits.1 (omega (arith, fits.3, fits.5)) in
     let d : drop at (h ++ xs) ≡ drop at h ++ xs = drop-append-le at h xs fits.5 in
     let b = run_body txnr (slice_range h from to) n (drop at h) xs in
-    going_run step Completes IsGood relp_laws start (InBody txnr (slice_range h from to) left (drop at h)) h xs r
+    going_run relp_laws start (InBody txnr (slice_range h from to) left (drop at h)) h xs r
     ∙ ap (λ j. run step (InBody txnr (slice_range h from to) j (drop at h)) xs) e
     ∙ b
     ∙ ap (λ v. Going (InBody txnr v n (drop at h ++ xs))) (sym a)
@@ -103,17 +105,14 @@ scan_done held piece i frames end now parts f l s turn is =
     let n : length h ≡ length held + i - end = omega (arith, s.count) in
     let w : held ++ take (i + 1) piece ≡ s.spelt ++ (h ++ c ∷ []) = join_byte held piece s.spelt h i l s.joined in
     let k : f ≡ frame_of parts (h ++ c ∷ []) = is ∙ ap (frame_of parts) (ap (drop end) w ∙ drop_at s.spelt (h ++ c ∷ []) end s.ends) in
-    let r : run step start (h ++ c ∷ []) ≡ Done f [] = run_push step Completes IsGood relp_laws start (state_of now h) h c s.runs ∙ ap (λ p. then p (λ u. Going u) []) (sym (turn h n)) ∙ ap (λ g. Done g []) (sym k) in
-    let d = completed_run step Completes IsGood relp_laws start f (h ++ c ∷ []) [] start_good r in
-    let y : h ++ c ∷ [] ≡ d.0 = d.2 ∙ append-nil d.0 in
-    let z : IsSpelling f (h ++ c ∷ []) = (same_spelling f (h ++ c ∷ [])).1 (subst (Completes start f) (sym y) d.1) in
-    let one = spelled_one step Completes IsGood relp_laws start start_good IsSpelling same_spelling f (h ++ c ∷ []) z in
+    let z : IsSpelling f (h ++ c ∷ []) = spelled_byte relp (state_of now h) h c f s.runs (sym (turn h n) ∙ ap Ends (sym k)) in
+    let one = spelled_one relp f (h ++ c ∷ []) z in
     let e : length (s.spelt ++ (h ++ c ∷ [])) ≡ length held + (i + 1) = omega (arith, s.count, s.ends, length-append s.spelt (h ++ c ∷ []), length-append h (c ∷ [])) in
     record {
       within = omega arith;
       spelt = s.spelt ++ (h ++ c ∷ []);
       rest = [];
-      spelled = spelled_append step Completes IsGood relp_laws start start_good IsSpelling same_spelling frames (f ∷ []) s.spelt (h ++ c ∷ []) s.spelled one;
+      spelled = spelled_append relp frames (f ∷ []) s.spelt (h ++ c ∷ []) s.spelled one;
       limits = All-append IsFrame frames (f ∷ []) s.limits (All-cons IsFrame f [] (spelling_fits f (h ++ c ∷ []) z) (All-nil IsFrame));
       ends = e;
       joined = w ∙ sym (append-nil (s.spelt ++ (h ++ c ∷ [])));
@@ -126,7 +125,7 @@ scan_done held piece i frames end now parts f l s turn is =
 pub scan_stream : (held piece : List ℕ) (i : ℕ) (frames : List Frame) (end : ℕ) (now : Phase) (s : Scan held piece i frames end now) → i ≡ length piece → (fed : List ℕ) (before : List Frame) (at : ℕ) → IsStream IsSpelling fed before at held → IsStream IsSpelling (fed ++ piece) (before ++ frames) (at + end) s.rest
 scan_stream held piece i frames end now s e fed before at b =
     let w : held ++ piece ≡ s.spelt ++ s.rest = ap (λ v. held ++ v) (sym (take_all i piece (omega arith))) ∙ s.joined in
-    let r = stream_more step Completes IsGood relp_laws start start_good IsSpelling same_spelling (state_of now s.rest) fed piece s.spelt s.rest held before frames at b s.spelled w s.runs in
+    let r = stream_more relp (state_of now s.rest) fed piece s.spelt s.rest held before frames at b s.spelled w s.runs in
     subst (λ n. IsStream IsSpelling (fed ++ piece) (before ++ frames) (at + n) s.rest) s.ends r
 
 -- the piece is read to a fault
@@ -138,5 +137,5 @@ scan_fault held piece i frames end now why s l f fed before at b =
     let k : piece ≡ take i piece ++ c ∷ more = sym (take-append-drop i piece) ∙ ap (λ v. take i piece ++ v) (rw add-one (drop-cons piece i 0 l)) in
     let v : held ++ piece ≡ s.spelt ++ (h ++ c ∷ more) = ap (λ v. held ++ v) k ∙ sym (append_assoc held (take i piece) (c ∷ more)) ∙ ap (λ v. v ++ c ∷ more) s.joined ∙ append_assoc s.spelt h (c ∷ more) in
     let p : at + length s.spelt + length h ≡ at + (length held + i) = omega (arith, s.ends, s.count) in
-    let r = stream_fault step Completes IsGood relp_laws start start_good IsSpelling same_spelling (state_of now h) fed piece s.spelt h more held c why before frames at b s.spelled v s.runs f (reason_of h c why (state_of now h) s.runs f) in
+    let r = stream_fault relp (state_of now h) fed piece s.spelt h more held c why before frames at b s.spelled v s.runs f (reason_of h c why (state_of now h) s.runs f) in
     subst (λ q. IsFaulty IsSpelling IsReason (fed ++ piece) (before ++ frames) (at + end) q why) p (subst (λ n. IsFaulty IsSpelling IsReason (fed ++ piece) (before ++ frames) (at + n) (at + length s.spelt + length h) why) s.ends r)

@@ -1,12 +1,12 @@
 -- What a reader has read and holds.
-use Rattle.std.specs.Prelude.{◌≡◌, ℕ, ◌++◌, List, [], Option, Some, None, Result, Ok, Err}
+use Rattle.std.specs.Prelude.{◌≡◌, ℕ, ◌+◌, ◌++◌, List, [], ◌∷◌, length, Option, Some, None, Result, Ok, Err}
 use Rattle.relp_frame.specs.declared.frame.Frame.{Frame}
 use Rattle.relp_frame.specs.declared.fault.RelpFault.{RelpFault}
 use Rattle.event_form.specs.declared.feed_fault.FeedFault.{FeedFault}
 use Rattle.event_form.specs.declared.feed_fault.FeedFault.TheVariants.{Fault, NoMemory}
 use Rattle.relp_frame.specs.Reason.{IsReason}
 use Rattle.stream_grammar.specs.Framing.{IsStream, IsFaulty}
-use Rattle.relp_frame.specs.Spelling.{IsSpelling}
+use Rattle.relp_frame.specs.Spelling.{IsFrame, IsSpelling, canonical}
 
 -- What contracts see of a reader: the whole frames that wait to be taken, the offset behind the last
 -- whole frame, the bytes held from there on, and the fault. With a fault no bytes are held.
@@ -42,3 +42,16 @@ Feeds old piece (Err NoMemory) new = new ≡ old
 -- The bytes alone decide the frames, the offset, the rest and the fault.
 abbrev pub OneReading : Type 0
 OneReading = (fed : List ℕ) (fs gs : List Frame) (m n : ℕ) (h k : List ℕ) (d e : Option RelpFault) → ReadsTo fed fs m h d → ReadsTo fed gs n k e → (fs ≡ gs) × (m ≡ n) × (h ≡ k) × (d ≡ e)
+
+-- All bytes have one: they are frames and a rest, or have a fault for a reason of the table.
+abbrev pub SomeReading : Type 0
+SomeReading = (fed : List ℕ) → (frames : List Frame) × (at : ℕ) × (rest : List ℕ) × (fault : Option RelpFault) × ReadsTo fed frames at rest fault
+
+-- a fault so many bytes further on
+abbrev pub moved : ℕ → Option RelpFault → Option RelpFault
+moved n None = None
+moved n (Some e) = Some (record { at = n + e.at; why = e.why })
+
+-- What is written for a frame is read first, whatever follows, and what follows is read behind it.
+abbrev pub WrittenIsRead : Type 0
+WrittenIsRead = (f : Frame) (more : List ℕ) (frames : List Frame) (at : ℕ) (rest : List ℕ) (fault : Option RelpFault) → IsFrame f → ReadsTo more frames at rest fault → ReadsTo (canonical f ++ more) (f ∷ frames) (length (canonical f) + at) rest (moved (length (canonical f)) fault)

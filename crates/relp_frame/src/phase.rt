@@ -1,7 +1,7 @@
 //! What one byte does to an unfinished frame.
 ghost use Rattle.std.specs.Prelude.{◌≡◌, ℕ, ◌+◌, ◌≤◌, ◌<◌, ◌^◌, List, [], ◌∷◌, ◌++◌, length, drop, MatchOption, true, false, slice_range};
-ghost use Rattle.std.specs.Char.{digit_value};
-ghost use Rattle.relp_frame.specs.Spelling.{is_digit, is_letter};
+ghost use Rattle.std.specs.Char.{is_ascii_alphabetic, digit_value};
+ghost use Rattle.relp_frame.specs.Spelling.{is_digit};
 ghost use Rattle.relp_frame.specs.Machine.{step, InTxnr, InCommand, InLength, InBody};
 ghost use Rattle.relp_frame.specs.Places.{Fits, FitsTurn, state_of, step_of, due_of, past};
 
@@ -69,12 +69,6 @@ fn digit_of(c: u8) -> Option<u32>
     }
 }
 
-fn letter(c: u8) -> bool
-    ensures { result ≡ is_letter c }
-{
-    (c >= b'A' && c <= b'Z') || (c >= b'a' && c <= b'z')
-}
-
 #[tactic(auto, using(crate::proofs::PlaceLaws::pow_small), unfolding(crate::specs::Machine::step))]
 fn in_txnr(digits: usize, value: u32, place: usize, c: u8) -> Turn
     requires { (digits ≡ place) × (digits ≤ 9) × (value < 10 ^ digits) }
@@ -113,7 +107,7 @@ fn in_command(txnr: u32, from: usize, place: usize, c: u8) -> Turn
     ensures fits { FitsTurn result (place + 1) }
     ensures turn { (h : List ℕ) → length h ≡ place → step_of result (h ++ c ∷ []) ≡ step (InCommand txnr (drop from h)) c }
 {
-    if letter(c) {
+    if c.is_ascii_alphabetic() {
         if place - from < 32 {
             Turn::Go(Phase::Command { txnr, from })
         } else {

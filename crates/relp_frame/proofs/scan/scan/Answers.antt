@@ -1,5 +1,5 @@
 -- The scan goes on by the data that is due, or by one byte.
-use Rattle.std.proofs.Common.{◌≡◌, ◌≤◌, ◌+◌, ◌-◌, min, length, sym, arith}
+use Rattle.std.proofs.Common.{◌≡◌, ◌+◌, ◌-◌, min, length, sym, arith}
 use Rattle.relp_frame.specs.Places.{due_of}
 use Rattle.relp_frame.proofs.ScanLaws.{scan_go, scan_data, scan_done}
 use Rattle.relp_frame.proofs.scan.scan.Goals as goal
