@@ -1,12 +1,12 @@
 -- The machine that reads one frame.
 use Rattle.std.specs.Prelude.{◌≡◌, ℕ, ◌+◌, ◌-◌, ◌*◌, ◌<◌, ◌≤◌, true, nat_lt, nat_le, ◌==◌, if◌then◌else◌, ◌⊎◌, List, [], ◌∷◌, ◌++◌, length}
-use Rattle.std.specs.Char.{digit_value}
+use Rattle.std.specs.Char.{is_ascii_alphabetic, digit_value}
 use Rattle.std.specs.Str.Parse.{digits_value_after, AllDigits}
 use Rattle.std.specs.List.{AllByRecursion}
 use Rattle.relp_frame.specs.declared.frame.Frame.{Frame}
 use Rattle.relp_frame.specs.declared.fault.RelpWhy.{RelpWhy}
 use Rattle.relp_frame.specs.declared.fault.RelpWhy.TheVariants.{Digits, Space, Command, TooLong, Trailer}
-use Rattle.relp_frame.specs.Spelling.{is_digit, is_letter}
+use Rattle.relp_frame.specs.Spelling.{is_digit}
 use Rattle.stream_grammar.specs.Automaton.{Step, Goes, Ends, Fails}
 
 -- what has been read of a frame: of a number how many digits and their value, of the body how much is left
@@ -33,7 +33,7 @@ step (InTxnr count value) c =
     then (if nat_lt count 9 then Goes (InTxnr (count + 1) (more_digits value c)) else Fails Digits)
     else (if count == 0 then Fails Digits else (if c == 32 then Goes (InCommand value []) else Fails Space))
 step (InCommand txnr command) c =
-    if is_letter c
+    if is_ascii_alphabetic c
     then (if nat_lt (length command) 32 then Goes (InCommand txnr (command ++ c ∷ [])) else Fails Command)
     else (if length command == 0 then Fails Command else (if c == 32 then Goes (InLength txnr command 0 0) else Fails Command))
 step (InLength txnr command count value) c =
@@ -63,7 +63,7 @@ abbrev pub LengthEnds : ℕ → List ℕ → ℕ → ℕ → Frame → List ℕ 
 LengthEnds txnr command count value f b = (text : List ℕ) × (rest : List ℕ) × AreDigits count text × (digits_value_after 10 value text ≤ 131072) × (b ≡ text ++ rest) × AfterLength txnr command (digits_value_after 10 value text) f rest
 
 pub record AreLetters (command more : List ℕ) : Type 0 where
-  pub letters : AllByRecursion (λ c. is_letter c ≡ true) more
+  pub letters : AllByRecursion (λ c. is_ascii_alphabetic c ≡ true) more
   pub some : 0 < length (command ++ more)
   pub few : length (command ++ more) ≤ 32
 

@@ -1,5 +1,5 @@
 -- What the reader keeps of an unfinished frame: places in its bytes, which give the machine's state.
-use Rattle.std.specs.Prelude.{◌≡◌, ℕ, ◌+◌, ◌^◌, ◌<◌, ◌≤◌, List, drop, slice_range}
+use Rattle.std.specs.Prelude.{◌≡◌, ℕ, ◌+◌, ◌-◌, ◌^◌, ◌<◌, ◌≤◌, List, drop, slice_range}
 use Rattle.relp_frame.specs.declared.frame.Frame.{Frame}
 use Rattle.relp_frame.specs.declared.phase.Phase.{Phase}
 use Rattle.relp_frame.specs.declared.phase.Phase.TheVariants.{Txnr, Command, Length, Body}
@@ -22,6 +22,20 @@ Fits (Txnr digits value) n = (digits ≡ n) × (digits ≤ 9) × (value < 10 ^ d
 Fits (Command txnr from) n = (from ≤ 10) × (from ≤ n) × (n ≤ from + 32) × (txnr < 10 ^ 9)
 Fits (Length txnr from to digits value) n = (from ≤ 10) × (from ≤ to) × (to ≤ from + 32) × (digits + to + 1 ≡ n) × (digits ≤ 9) × (value ≤ 131072) × (txnr < 10 ^ 9)
 Fits (Body txnr from to at left) n = (from ≤ 10) × (from ≤ to) × (to ≤ from + 32) × (to ≤ at) × (at ≤ to + 11) × (at ≤ n) × (n + left ≤ at + 131072) × (txnr < 10 ^ 9)
+
+-- how many bytes of the data are due
+abbrev pub due_of : Phase → ℕ
+due_of (Txnr digits value) = 0
+due_of (Command txnr from) = 0
+due_of (Length txnr from to digits value) = 0
+due_of (Body txnr from to at left) = left
+
+-- once so many of them came
+abbrev pub past : Phase → ℕ → Phase
+past (Txnr digits value) n = Txnr digits value
+past (Command txnr from) n = Command txnr from
+past (Length txnr from to digits value) n = Length txnr from to digits value
+past (Body txnr from to at left) n = Body txnr from to at (left - n)
 
 abbrev pub frame_of : Parts → List ℕ → Frame
 frame_of p h = frame p.txnr (slice_range h p.from p.to) (slice_range h p.at p.end)

@@ -1,7 +1,7 @@
--- How a frame may be spelled: TXNR SP COMMAND SP DATALEN [SP DATA] LF.
-use Rattle.std.specs.Prelude.{◌≡◌, ℕ, ◌<◌, ◌≤◌, Bool, true, ◌&&◌, ◌||◌, nat_lt, nat_le, ◌⊎◌, List, [], ◌∷◌, ◌++◌, length}
+-- How a frame may be spelled, TXNR SP COMMAND SP DATALEN [SP DATA] LF, and how it is written.
+use Rattle.std.specs.Prelude.{◌≡◌, ℕ, ◌<◌, ◌≤◌, Bool, true, nat_lt, ◌⊎◌, List, [], ◌∷◌, ◌++◌, length}
 use Rattle.std.specs.Str.Parse.{digits_value, AllDigits}
-use Rattle.std.specs.Char.{digit_value}
+use Rattle.std.specs.Char.{is_ascii_alphabetic, digit_value}
 use Rattle.std.specs.List.{AllByRecursion}
 use Rattle.std.specs.Fmt.{decimal}
 use Rattle.relp_frame.specs.declared.frame.Frame.{Frame}
@@ -17,13 +17,9 @@ pub record IsNumber (n : ℕ) (text : List ℕ) : Type 0 where
 abbrev pub is_digit : ℕ → Bool
 is_digit c = nat_lt (digit_value c) 10
 
--- an ASCII letter
-abbrev pub is_letter : ℕ → Bool
-is_letter c = (nat_le 65 c && nat_le c 90) || (nat_le 97 c && nat_le c 122)
-
 -- 1 to 32 letters
 pub record IsCommand (text : List ℕ) : Type 0 where
-  pub letters : AllByRecursion (λ c. is_letter c ≡ true) text
+  pub letters : AllByRecursion (λ c. is_ascii_alphabetic c ≡ true) text
   pub some : 0 < length text
   pub few : length text ≤ 32
 
@@ -49,13 +45,18 @@ pub record IsFrame (f : Frame) : Type 0 where
   pub command : IsCommand f.command
   pub body : length f.body ≤ 131072
 
--- the writer's spelling: no leading zeros, and LF alone where there is no data
+-- behind the length, as it is written: LF alone where there is no data
 abbrev pub short_ending : List ℕ → List ℕ
 short_ending [] = 10 ∷ []
 short_ending (c ∷ body) = 32 ∷ ((c ∷ body) ++ 10 ∷ [])
 
+-- what is written for a number, a command and a body of any length: no leading zeros, and the short
+-- ending
+abbrev pub frame_text : ℕ → List ℕ → List ℕ → List ℕ
+frame_text txnr command body = decimal txnr ++ 32 ∷ (command ++ 32 ∷ (decimal (length body) ++ short_ending body))
+
 abbrev pub canonical : Frame → List ℕ
-canonical f = decimal f.txnr ++ 32 ∷ (f.command ++ 32 ∷ (decimal (length f.body) ++ short_ending f.body))
+canonical f = frame_text f.txnr f.command f.body
 
 -- No spelling is a front of another one, whatever follows.
 abbrev pub SpellsOnce : Type 0
