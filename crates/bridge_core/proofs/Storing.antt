@@ -49,7 +49,7 @@ module _ (entry : Entry) (slot : OnlySlot) (group old : List ℕ) (is : IsEntry 
 
   put_holds : (s : SpoolState) → IsKnown s slot old → HoldsSegment 12288 s.size (with_group s.active.segment (entry ∷ [])) (put (12288 + slot.gate) (1 ∷ group) old)
   put_holds s known = subst (λ (g : List ℕ). HoldsSegment 12288 s.size (with_group s.active.segment (entry ∷ [])) (put (12288 + slot.gate) (1 ∷ g) old)) (sym text)
-    (holds_more 12288 s.size slot.gate s.active.segment (entry ∷ []) old (omega (arith, gate_there s slot old known, known.size)) (omega (arith, fits, lt, known.size, ap length text, length-need (entry ∷ []))) known.gate (holds s known))
+      (holds_more 12288 s.size slot.gate s.active.segment (entry ∷ []) old (omega (arith, gate_there s slot old known, known.size)) (omega (arith, fits, lt, known.size, ap length text, length-need (entry ∷ []))) known.gate (holds s known))
 
   within : (c : List ℕ) (s : SpoolState) → IsKnown s slot old → SameBut (12288 + slot.gate) (length group + 1) old c → SameBut (slot_at s.size s.active.place) s.size old c
   within c s known same = same_but_wider (slot_at s.size s.active.place) s.size (12288 + slot.gate) (length group + 1) old c same (omega (arith, at_zero s known.place)) (omega (arith, at_zero s known.place, fits, lt, known.size))
@@ -68,8 +68,8 @@ module _ (entry : Entry) (slot : OnlySlot) (group old : List ℕ) (is : IsEntry 
         size = known.size;
         gate = omega (arith, known.gate, length-segment_text-with_group s.active.segment (entry ∷ []), ap length text, length-need (entry ∷ []));
         stands = with_active s active old c (omega (arith, known.stands.sound.large)) refl known.stands (within c s known (subst (SameBut (12288 + slot.gate) (length group + 1) old) (sym c_is) (put_within s known)))
-          (subst (λ (n : ℕ). HoldsSegment n s.size (with_group s.active.segment (entry ∷ [])) c) (sym (at_zero s known.place)) there)
-          (sound-added s (entry ∷ []) known.stands.sound (group_of_one entry is) (numbers s slot old known lt small));
+            (subst (λ (n : ℕ). HoldsSegment n s.size (with_group s.active.segment (entry ∷ [])) c) (sym (at_zero s known.place)) there)
+            (sound-added s (entry ∷ []) known.stands.sound (group_of_one entry is) (numbers s slot old known lt small));
       }
 
   pub may_add : (c : List ℕ) → IsGateStep (12288 + slot.gate) group old c → MayAdd entry slot old c
@@ -88,7 +88,7 @@ module _ (entry : Entry) (slot : OnlySlot) (group old : List ℕ) (is : IsEntry 
       let long : length group ≡ length g + 1 = omega (arith, ap length text, length-append g (0 ∷ [])) in
       let last : get_or (1 ∷ group) (length group) 0 ≡ 0 = ap (λ (l : List ℕ). get_or (1 ∷ l) (length group) 0) text ∙ ap (λ (n : ℕ). get_or (1 ∷ g ++ 0 ∷ []) n 0) long ∙ behind g in
       let here : get_or c (12288 + (slot.gate + length group)) 0 ≡ 0 =
-          ap (λ (l : List ℕ). get_or l (12288 + (slot.gate + length group)) 0) c_is
-          ∙ put_at (12288 + slot.gate) (1 ∷ group) old (length group) (12288 + (slot.gate + length group)) (omega (arith, there, fits, lt)) (omega arith) (omega arith)
-          ∙ last in
+      ap (λ (l : List ℕ). get_or l (12288 + (slot.gate + length group)) 0) c_is
+      ∙ put_at (12288 + slot.gate) (1 ∷ group) old (length group) (12288 + (slot.gate + length group)) (omega (arith, there, fits, lt)) (omega arith) (omega arith)
+      ∙ last in
       absurd (omega (arith, here, one))

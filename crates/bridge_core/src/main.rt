@@ -1,8 +1,11 @@
 //! bridge: takes log events by RELP and keeps them in a spool on a device.
 #![tactic(auto)]
 
+mod carry;
+mod next;
 mod note;
 mod opening;
+mod reply;
 mod slot;
 mod store;
 mod words;
