@@ -1,2 +1,4 @@
 pub mod Emptiness
+pub mod Reading
+pub mod Running
 pub mod Storing

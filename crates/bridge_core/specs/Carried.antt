@@ -72,10 +72,13 @@ abbrev pub after : Next → Next
 after Open = Syslog 0
 after (Syslog index) = Syslog (index + 1)
 
--- fewer than 2^41 came before it
+-- how many frames came before it
+abbrev pub count_of : Next → ℕ
+count_of Open = 0
+count_of (Syslog index) = index + 1
+
 abbrev pub IsEarly : Next → Type 0
-IsEarly Open = Unit {0}
-IsEarly (Syslog index) = index < 2 ^ 41
+IsEarly next = count_of next < 2 ^ 41
 
 -- The place of a run between two frames: what the output tells that it took, the slot, and what the device reads.
 pub record Place : Type 0 where

@@ -4,3 +4,4 @@ pub mod Carried
 pub mod Notes
 pub mod Empty
 pub mod Slot
+pub mod Progress
