@@ -53,6 +53,10 @@ both P Q R old mid new first second p q = record {
   before = λ t c le since. ⊎_elim (λ had. ⊎_elim (λ was. inl was) (λ h. inr (p c h)) (first.before t c le had)) (λ h. inr (q c h)) (second.before t c (omega (arith, le, first.later)) since);
 }
 
+-- one run behind another that is seen from the images between them
+pub both_from : (P R : List ℕ → Type 0) (Q : List ℕ → List ℕ → Type 0) (old mid new : Moment) → LeavesOnly P old mid → LeavesOnly (ComesFrom mid Q) mid new → ((c : List ℕ) → P c → R c) → ((d c : List ℕ) → P d → Q d c → R c) → LeavesOnly R old new
+both_from P R Q old mid new first second p q = both P (ComesFrom mid Q) R old mid new first second p (λ c from. q from.0 c (first.now from.0 from.1) from.2)
+
 -- a run that leaves only what has P leaves only what has Q, if P gives Q
 pub weaker : (P Q : List ℕ → Type 0) (old new : Moment) → LeavesOnly P old new → ((c : List ℕ) → P c → Q c) → LeavesOnly Q old new
 weaker P Q old new run p = record {
