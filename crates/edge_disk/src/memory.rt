@@ -1,5 +1,5 @@
 //! A disk in memory.
-ghost use Rattle.std.specs.Prelude.{◌≡◌, ◌+◌, ◌≤◌, [], length, true, false, IsTrue, replicate, Option, Some, None, IfOk, OnOk};
+ghost use Rattle.std.specs.Prelude.{◌≡◌, ◌+◌, ◌≤◌, [], length, true, false, IsTrue, replicate, IfOk, OnOk};
 ghost use Rattle.foundation.specs.Bytes.{part, put};
 ghost use Rattle.foundation.specs.Faults.{Rose, HasCause};
 ghost use Rattle.edge_disk.specs.Disk.{IsSettled, Remembers, IsUntouched, IsTorn};

@@ -1,5 +1,5 @@
 //! Which calls of a disk in memory fail.
-ghost use Rattle.std.specs.Prelude.{◌≡◌, Option};
+ghost use Rattle.std.specs.Prelude.{◌≡◌};
 ghost use Rattle.edge_disk.specs.CallPlan.{next_fails, after_call};
 
 use std::marker::Model;
