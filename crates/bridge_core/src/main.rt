@@ -5,6 +5,7 @@ mod carry;
 mod next;
 mod note;
 mod opening;
+mod replay;
 mod reply;
 mod slot;
 mod store;
