@@ -1,0 +1,4 @@
+pub mod MemLink
+pub mod MemSink
+pub mod MemSource
+pub mod Script

@@ -1,0 +1,6 @@
+pub mod Spelling
+pub mod Reason
+pub mod Reading
+pub mod Machine
+pub mod Places
+pub mod Scanning
