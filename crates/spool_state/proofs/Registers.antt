@@ -60,9 +60,9 @@ counts_stay here other ordinal content at n a b same off_here off_other long_her
 }
 
 -- a change outside the two cells
-pub register_stays : (ordinal run cursor at n : ℕ) (a b : List ℕ) → SameBut at n a b → (at + n ≤ 4096) ⊎ (12288 ≤ at) → 12288 ≤ length a
+pub outside_stays : (ordinal run cursor at n : ℕ) (a b : List ℕ) → SameBut at n a b → (at + n ≤ 4096) ⊎ (12288 ≤ at) → 12288 ≤ length a
     → RegisterHolds ordinal (content_text run cursor) a → RegisterHolds ordinal (content_text run cursor) b
-register_stays ordinal run cursor at n a b same off long holds =
+outside_stays ordinal run cursor at n a b same off long holds =
     let len = length-cell ordinal run cursor in
     elim off [
       | inl below ↦ elim holds [

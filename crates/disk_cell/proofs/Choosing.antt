@@ -1,0 +1,1 @@
+-- Which cell counts, by the fields of both.

@@ -1,0 +1,5 @@
+pub mod Behind
+pub mod Cell
+pub mod Fault
+pub mod Fields
+pub mod Register
