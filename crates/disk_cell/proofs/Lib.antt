@@ -1,3 +1,4 @@
-pub mod Gates
 pub mod Choosing
+pub mod Gates
 pub mod Reading
+pub mod Setting

@@ -12,6 +12,12 @@ use Rattle.disk_cell.specs.declared.register.Register.{Register}
 abbrev pub bytes_of : Fields → List ℕ
 bytes_of f = fields_text f.gate f.ordinal f.len f.version f.run f.cursor
 
+-- each fits its width
+pub record AreInRange (f : Fields) : Type 0 where
+  pub ordinal : f.ordinal < 2 ^ 64
+  pub len : f.len < 2 ^ 32
+  pub run : f.run < 2 ^ 64
+
 -- the cell of these fields is open, and the other one is closed or has a smaller ordinal
 pub record Outranks (f other : Fields) : Type 0 where
   pub is_open : f.gate ≡ 1

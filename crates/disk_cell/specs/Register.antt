@@ -19,3 +19,8 @@ pub record Knows (r : Register) (c : List ℕ) : Type 0 where
 pub record IsSetStep (r : Register) (content : Content) (old c : List ℕ) : Type 0 where
   pub outside : SameBut 4096 8192 old c
   pub inside : RegisterHolds r.ordinal (text_of r.content) c ⊎ RegisterHolds (r.ordinal + 1) (text_of content) c
+
+-- Outside the two cells nothing changed, and the cell that counted counts.
+pub record IsClosingStep (r : Register) (old c : List ℕ) : Type 0 where
+  pub outside : SameBut 4096 8192 old c
+  pub counts : Counts (place_of r.counting) (place_of (other_of r.counting)) r.ordinal (text_of r.content) c

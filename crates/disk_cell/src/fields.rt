@@ -32,11 +32,12 @@ fn number_at(text: &[u8], at: usize) -> u64
 
 impl Fields {
     ghost use Rattle.disk_cell.specs.Cell.{place_of};
-    ghost use Rattle.disk_cell.specs.Fields.{bytes_of, Outranks, IsBad, IsRegisterOf};
+    ghost use Rattle.disk_cell.specs.Fields.{bytes_of, AreInRange, Outranks, IsBad, IsRegisterOf};
 
     // Reads them from a text of 30 bytes.
     fn of(text: &[u8; 30]) -> Fields
-        ensures { bytes_of result ≡ text.now }
+        ensures text { bytes_of result ≡ text.now }
+        ensures range { AreInRange result }
     {
         Fields {
             gate: text[0],
@@ -56,6 +57,7 @@ impl Fields {
         ensures size { (D.moment disk.new).size ≡ (D.moment disk.old).size }
         ensures untouched { D.tells → IsUntouched (D.moment disk.old) (D.moment disk.new) }
         ensures text { IfOk result (λ fields. D.tells → part (place_of cell) 30 (D.moment disk.old).reads ≡ bytes_of fields) }
+        ensures range { IfOk result AreInRange }
     {
         let mut text = [0; 30];
         disk.read_at(cell.offset(), &mut text)?;

@@ -29,7 +29,7 @@ impl Register {
     ghost use Rattle.disk_cell.specs.Behind.{FromImage};
     ghost use Rattle.disk_cell.specs.Cell.{place_of, other_of};
     ghost use Rattle.disk_cell.specs.Fault.{IsBroken, IsWornAt};
-    ghost use Rattle.disk_cell.specs.Register.{Knows, IsSetStep};
+    ghost use Rattle.disk_cell.specs.Register.{Knows, IsClosingStep, IsSetStep};
 
     /// The ordinal behind which a register can't be changed.
     pub const LAST_ORDINAL: u64 = 9_223_372_036_854_775_808;
@@ -72,5 +72,68 @@ impl Register {
         ensures { result ≡ self.now.ordinal }
     {
         self.ordinal
+    }
+
+    // Closes the gate of the other cell where it is open. A gate that is closed is not written, since a
+    // write that is torn could open it over what stands behind it.
+    fn close_other<D: Disk>(&self, disk: &mut D) -> Result<(), DiskFault>
+        requires room { 12288 ≤ (D.moment disk.old).size }
+        requires known { D.tells → (c : List ℕ) → (D.moment disk.old).image c → Knows self.now c }
+
+        ensures cause { HasCause (D.moment disk.old).faults (D.moment disk.new).faults result }
+        ensures size { (D.moment disk.new).size ≡ (D.moment disk.old).size }
+        ensures closed { OnOk result (D.tells → (c : List ℕ) → (D.moment disk.new).image c → slice_index c (place_of (other_of self.now.counting)) ≢ 1) }
+        ensures outside { D.tells → SameBut 4096 8192 (D.moment disk.old).reads (D.moment disk.new).reads }
+        ensures any_moment { D.tells → LeavesOnly (FromImage (D.moment disk.old) (IsClosingStep self.now)) (D.moment disk.old) (D.moment disk.new) }
+    {
+        if !self.other_is_open {
+            return Ok(());
+        }
+        close_gate(disk, self.counting.other().offset())
+    }
+
+    /// Changes what the register holds: the other cell gets the next ordinal and the content, and counts from
+    /// then on. `Worn` comes exactly where the ordinal is 2^63, and nothing changes then. `DiskFault` comes
+    /// only where a call on the disk failed; the disk then holds the old content or the new one, and the
+    /// register has to be loaded again after a sync.
+    pub fn set<D: Disk>(&mut self, disk: &mut D, content: Content) -> Result<(), SetFault>
+        requires version { content.version ≡ 1 }
+        requires run { content.run ≤ 2097151 }
+        requires room { 12288 ≤ (D.moment disk.old).size }
+        requires known { D.tells → (c : List ℕ) → (D.moment disk.old).image c → Knows self.old c }
+
+        ensures later { (D.moment disk.old).faults ≤ (D.moment disk.new).faults }
+        ensures cause { IsErrOf result SetFault.DiskFault → Rose 1 (D.moment disk.old).faults (D.moment disk.new).faults }
+        ensures size { (D.moment disk.new).size ≡ (D.moment disk.old).size }
+
+        ensures worn { MatchResult result (λ _. self.old.ordinal < 2 ^ 63) (IsWornAt self.old.ordinal) }
+        ensures unchanged { self.old.ordinal ≡ 2 ^ 63 → disk.new ≡ disk.old }
+        ensures err { OnErr result (self.new ≡ self.old) }
+
+        // At `Ok` the register has the new content, in memory and on the disk.
+        ensures content { OnOk result (self.new.content ≡ content) }
+        ensures ordinal { OnOk result (self.new.ordinal ≡ self.old.ordinal + 1) }
+        ensures durable { OnOk result (D.tells → IsSettled (D.moment disk.new)) }
+        ensures known { OnOk result (D.tells → Knows self.new (D.moment disk.new).reads) }
+
+        ensures outside { D.tells → SameBut 4096 8192 (D.moment disk.old).reads (D.moment disk.new).reads }
+        ensures any_moment { D.tells → LeavesOnly (FromImage (D.moment disk.old) (IsSetStep self.old content)) (D.moment disk.old) (D.moment disk.new) }
+    {
+        if self.ordinal == Register::LAST_ORDINAL {
+            return Err(SetFault::Worn {
+                ordinal: self.ordinal,
+            });
+        }
+        let ordinal = self.ordinal + 1;
+        let counting = self.counting.other();
+        self.close_other(disk)?;
+        write_behind(disk, counting.offset(), &content.body(ordinal))?;
+        *self = Register {
+            counting,
+            other_is_open: true,
+            ordinal,
+            content,
+        };
+        Ok(())
     }
 }
