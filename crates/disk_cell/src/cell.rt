@@ -13,8 +13,8 @@ pub enum Cell {
 impl Cell {
     ghost use Rattle.disk_cell.specs.Cell.{place_of, other_of};
 
-    /// The offset on the device at which the cell begins, in bytes.
-    pub fn offset(self) -> u64
+    // The offset on the device at which the cell begins, in bytes.
+    pub(crate) fn offset(self) -> u64
         ensures { result ≡ place_of self }
     {
         match self {
@@ -23,8 +23,8 @@ impl Cell {
         }
     }
 
-    /// The other one of the two.
-    pub fn other(self) -> Cell
+    // The other one of the two.
+    pub(crate) fn other(self) -> Cell
         ensures { result ≡ other_of self }
     {
         match self {

@@ -31,8 +31,8 @@ impl Register {
     ghost use Rattle.disk_cell.specs.Fault.{IsBroken, IsWornAt};
     ghost use Rattle.disk_cell.specs.Register.{Knows, IsClosingStep, IsSetStep};
 
-    /// The ordinal behind which a register can't be changed.
-    pub const LAST_ORDINAL: u64 = 9_223_372_036_854_775_808;
+    // With this ordinal a register is worn.
+    pub(crate) const LAST_ORDINAL: u64 = 9_223_372_036_854_775_808;
 
     /// Reads the register of a device. `NotSpool` comes exactly where a rule of the cells is broken, at the
     /// place of the first one, and `DiskFault` only where a call on the disk failed. Nothing is written.
