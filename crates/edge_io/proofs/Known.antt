@@ -1,9 +1,9 @@
 -- How what a source, a sink or a link tells of its bytes goes on, call after call. `None` tells nothing.
 use Rattle.std.specs.Prelude.{◌≡◌, ◌+◌, ◌-◌, ◌≤◌, length, ℕ, List, [], ◌++◌, take, drop, Option, None, Some, refl}
 use Rattle.std.specs.Io.KnownBytes.{Appends, Keeps, Consumes, IsAtEnd}
-use Rattle.std.proofs.Common.{sym, ◌∙◌, ap, subst, append_assoc, append-nil}
+use Rattle.std.proofs.Common.{sym, ◌∙◌, ap, subst, append_assoc, append-nil, arith, length-append}
 use Rattle.std.proofs.Math.Seq.{take-add}
-use Rattle.std.proofs.lemmas.List.{take_rest}
+use Rattle.std.proofs.lemmas.List.{take_rest, length-take, nil_from_length}
 
 -- no call
 pub appends_none : (a : Option (List ℕ)) → Appends a a []
@@ -77,9 +77,38 @@ keeps_then (Some us) None c p q = absurd p
 keeps_then (Some us) (Some vs) None p q = absurd q
 keeps_then (Some us) (Some vs) (Some ws) p q = q ∙ p
 
+-- what was told stays told
+pub appends_told : (a b : Option (List ℕ)) (xs ys : List ℕ) → a ≡ Some xs → Appends a b ys → b ≡ Some (xs ++ ys)
+appends_told None b xs ys is p = cc
+appends_told (Some us) None xs ys is p = absurd p
+appends_told (Some us) (Some vs) xs ys is p =
+    let same : us ≡ xs = cc in
+    ap Some (p ∙ ap (λ l. l ++ ys) same)
+
+-- what is left of bytes that were told: they are the bytes read and the rest
+pub consumes_told : (a b : Option (List ℕ)) (xs ys : List ℕ) → a ≡ Some xs → Consumes a b ys → (rest : List ℕ) × (b ≡ Some rest) × (xs ≡ ys ++ rest)
+consumes_told None b xs ys is p = cc
+consumes_told (Some us) None xs ys is p = absurd p
+consumes_told (Some us) (Some vs) xs ys is p =
+    let same : us ≡ xs = cc in
+    (vs, refl, sym same ∙ p)
+
+-- a read at the end gives nothing, and the end stays
+pub end_stays : (a b : Option (List ℕ)) (n : ℕ) (buf : List ℕ) → a ≡ Some [] → Consumes a b (take n buf) → n ≤ length buf → (n ≡ 0) × (b ≡ Some [])
+end_stays a b n buf is p bound =
+    let told = consumes_told a b [] (take n buf) is p in
+    let none : length (take n buf ++ told.0) ≡ 0 = ap length (sym told.2) in (
+      omega (arith, none, length-append {A = ℕ}, length-take {A = ℕ}),
+      told.1 ∙ ap Some (nil_from_length told.0 (omega (arith, none, length-append {A = ℕ}))),
+    )
+
 -- what was read to the end is all that there was
-pub consumes_all : (a b : List ℕ) (xs : List ℕ) → Consumes (Some a) (Some b) xs → IsAtEnd (Some b) → a ≡ xs
-consumes_all a b xs p end = p ∙ ap (λ l. xs ++ l) end ∙ append-nil xs
+pub consumes_all : (a b : Option (List ℕ)) (xs ys : List ℕ) → a ≡ Some xs → Consumes a b ys → IsAtEnd b → ys ≡ xs
+consumes_all None b xs ys is p end = cc
+consumes_all (Some us) None xs ys is p end = absurd p
+consumes_all (Some us) (Some vs) xs ys is p end =
+    let same : us ≡ xs = cc in
+    sym (append-nil ys) ∙ ap (λ l. ys ++ l) (sym end) ∙ sym p ∙ same
 
 -- the bytes given and the bytes left are together the same bytes throughout
 pub same_input : (given given' left left' xs : List ℕ) → Appends (Some given) (Some given') xs → Consumes (Some left) (Some left') xs → given' ++ left' ≡ given ++ left

@@ -1,3 +1,5 @@
+pub mod Counts
+pub mod FileIo
 pub mod MemLink
 pub mod MemSink
 pub mod MemSource

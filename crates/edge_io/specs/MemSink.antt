@@ -1,5 +1,6 @@
 -- A sink in memory.
-use Rattle.std.specs.Prelude.{◌≡◌, ◌⊎◌, ℕ, ◌+◌, ◌-◌, ◌^◌, min, List, length, Result, IsErr, IfOk, OnOk}
+use Rattle.std.specs.Prelude.{◌≡◌, ◌⊎◌, ℕ, List, length, Result, IsErr, IfOk, OnOk}
+use Rattle.edge_io.specs.Counts.{one_more, CountsFault}
 use Rattle.edge_io.specs.Script.{IsFailing, Advances}
 use Rattle.edge_io.specs.declared.script.Script.{Script}
 use Rattle.edge_io.specs.declared.sink.WriteFault.{WriteFault}
@@ -21,10 +22,6 @@ starved_of sink = sink.starved
 abbrev pub script_of : MemSink → Script
 script_of sink = sink.script
 
--- one more, as far as a u64 goes
-abbrev pub one_more : ℕ → ℕ
-one_more n = min (n + 1) (2 ^ 64 - 1)
-
 -- why a write was answered a fault: it was to fail, or it was to pass and found no memory
 abbrev pub HasReason : MemSink → MemSink → Type 0
 HasReason old new =
@@ -37,6 +34,5 @@ pub record WritesExactly (old new : MemSink) (piece : List ℕ) (result : Result
   pub reason : IsErr result → HasReason old new
   pub whole : IfOk result (λ n. n ≡ length piece)
   pub not_starved : OnOk result (starved_of new ≡ starved_of old)
-  pub no_fault : OnOk result (faults_of new ≡ faults_of old)
-  pub fault : IsErr result → faults_of new ≡ one_more (faults_of old)
+  pub counts : CountsFault (faults_of old) (faults_of new) result
   pub advances : Advances (script_of old) (script_of new)

@@ -1,5 +1,6 @@
 -- A source in memory.
-use Rattle.std.specs.Prelude.{◌≡◌, ◌↔◌, ℕ, ◌+◌, ◌-◌, ◌^◌, min, List, take, drop, length, Result, IsErr, IfOk, OnOk, OnErr}
+use Rattle.std.specs.Prelude.{◌≡◌, ◌↔◌, ℕ, min, List, take, drop, length, Result, IsErr, IfOk, OnErr}
+use Rattle.edge_io.specs.Counts.{CountsFault}
 use Rattle.edge_io.specs.Script.{IsFailing, Advances}
 use Rattle.edge_io.specs.declared.script.Script.{Script}
 use Rattle.edge_io.specs.declared.source.ReadFault.{ReadFault}
@@ -30,8 +31,7 @@ pub record ReadsExactly (old new : MemSource) (buf buf' : List ℕ) (result : Re
   pub fails : IsErr result ↔ IsFailing (script_of old)
   pub gives : IfOk result (λ n. n ≡ min (step_of old) (min (length buf) (length (left_of old))))
   pub rest : IfOk result (λ n. drop n buf' ≡ drop n buf)
-  pub no_fault : OnOk result (faults_of new ≡ faults_of old)
-  pub fault : OnErr result (faults_of new ≡ min (faults_of old + 1) (2 ^ 64 - 1))
   pub untouched : OnErr result (buf' ≡ buf)
+  pub counts : CountsFault (faults_of old) (faults_of new) result
   pub advances : Advances (script_of old) (script_of new)
   pub same_step : step_of new ≡ step_of old

@@ -1,6 +1,6 @@
 //! The adapter over std's readers and writers.
-ghost use Rattle.std.specs.Prelude.{◌≡◌, None};
-ghost use Rattle.std.specs.Io.{WritesAtMost};
+ghost use Rattle.std.specs.Prelude.{◌≡◌, ◌≤◌, IfOk, length, take};
+ghost use Rattle.std.specs.Io.KnownBytes.{Appends};
 
 use crate::{Link, Object, ReadFault, Sink, Source, WriteFault};
 use std::io::{self, Read, Write};
@@ -16,8 +16,14 @@ pub struct FileIo<T: Drop> {
 }
 
 impl<T: Drop> FileIo<T> {
+    ghost use Rattle.edge_io.specs.FileIo.{inner_of, read_errors_of, write_errors_of};
+
     /// An adapter with no error so far.
-    pub fn of(inner: T) -> FileIo<T> {
+    pub fn of(inner: T) -> FileIo<T>
+        ensures inner { inner_of result ≡ inner }
+        ensures reads { read_errors_of result ≡ 0 }
+        ensures writes { write_errors_of result ≡ 0 }
+    {
         FileIo {
             inner,
             read_errors: 0,
@@ -35,15 +41,31 @@ impl<T: Drop> Object for FileIo<T> {
 }
 
 impl<T: Read + Drop> Source for FileIo<T> {
+    ghost use Rattle.std.specs.Prelude.{◌<◌, None};
+    ghost use Rattle.std.specs.Io.KnownBytes.{ReadConsumes};
+    ghost use Rattle.foundation.specs.Faults.{HasCause};
+    ghost use Rattle.edge_io.specs.Counts.{CountsFault};
+    ghost use Rattle.edge_io.specs.FileIo.{inner_of, read_errors_of, write_errors_of};
+
     ghost given = { λ _. None };
 
     ghost left = { λ _. None };
 
-    ghost read_faults = { λ file. file.read_errors };
+    ghost read_faults = { λ file. read_errors_of file };
 
-    ghost read_apart = { λ x y. y.write_errors ≡ x.write_errors };
+    ghost read_apart = { λ x y. write_errors_of y ≡ write_errors_of x };
 
-    fn read(&mut self, buf: &mut [u8]) -> Result<usize, ReadFault> {
+    /// A read of the reader. Each error of it is a fault, an interrupted call's too.
+    fn read(&mut self, buf: &mut [u8]) -> Result<usize, ReadFault>
+        requires { 0 < length buf.old }
+        ensures bound { IfOk result (λ n. n ≤ length buf.new) }
+        ensures cause { HasCause (read_errors_of self.old) (read_errors_of self.new) result }
+        ensures apart { write_errors_of self.new ≡ write_errors_of self.old }
+        ensures counts { CountsFault (read_errors_of self.old) (read_errors_of self.new) result }
+        // Where the reader itself tells its bytes, they are what is read.
+        ensures passed { ReadConsumes (T.remaining (inner_of self.old))
+            (T.remaining (inner_of self.new)) result buf.new }
+    {
         match self.inner.read(buf) {
             Ok(n) => Ok(n),
             Err(_) => {
@@ -57,7 +79,8 @@ impl<T: Read + Drop> Source for FileIo<T> {
 // Writes the start of the piece, and sends on at once what the writer may keep in a buffer: a peer may
 // wait for it, and an error must not come too late to be told.
 fn write_through<T: Write>(inner: &mut T, piece: &[u8]) -> io::Result<usize>
-    ensures { WritesAtMost result piece.now }
+    ensures bound { IfOk result (λ n. n ≤ length piece.now) }
+    ensures passed { IfOk result (λ n. Appends (T.contents inner.old) (T.contents inner.new) (take n piece.now)) }
 {
     let n = inner.write(piece)?;
     inner.flush()?;
@@ -65,17 +88,34 @@ fn write_through<T: Write>(inner: &mut T, piece: &[u8]) -> io::Result<usize>
 }
 
 impl<T: Write + Drop> Sink for FileIo<T> {
+    ghost use Rattle.std.specs.Prelude.{◌<◌, None};
+    ghost use Rattle.foundation.specs.Faults.{HasCause};
+    ghost use Rattle.edge_io.specs.Counts.{CountsFault};
+    ghost use Rattle.edge_io.specs.FileIo.{inner_of, read_errors_of, write_errors_of};
+
     ghost taken = { λ _. None };
 
-    ghost write_faults = { λ file. file.write_errors };
+    ghost write_faults = { λ file. write_errors_of file };
 
-    ghost write_apart = { λ x y. y.read_errors ≡ x.read_errors };
+    ghost write_apart = { λ x y. read_errors_of y ≡ read_errors_of x };
 
     ghost apart_refl = { λ _. Prim.cc };
 
     ghost apart_trans = { λ x y z p q. Prim.cc };
 
-    fn write(&mut self, piece: &[u8]) -> Result<usize, WriteFault> {
+    /// A write to the writer, flushed at once. Each error of it or of the flush is a fault, and so is 0
+    /// bytes for a piece that isn't empty.
+    fn write(&mut self, piece: &[u8]) -> Result<usize, WriteFault>
+        ensures bound { IfOk result (λ n. n ≤ length piece.now) }
+        ensures some { 0 < length piece.now → IfOk result (λ n. 0 < n) }
+        ensures cause { HasCause (write_errors_of self.old) (write_errors_of self.new) result }
+        ensures apart { read_errors_of self.new ≡ read_errors_of self.old }
+        ensures counts { CountsFault (write_errors_of self.old) (write_errors_of self.new) result }
+        // Where the writer itself tells its bytes, they are what is written. After a fault they may be
+        // there too, since the flush comes last.
+        ensures passed { IfOk result (λ n. Appends (T.contents (inner_of self.old))
+            (T.contents (inner_of self.new)) (take n piece.now)) }
+    {
         match write_through(&mut self.inner, piece) {
             Ok(n) if n > 0 || piece.is_empty() => Ok(n),
             _ => {

@@ -17,6 +17,8 @@ mod proto;
 mod script;
 mod sink;
 mod source;
+#[cfg(test)]
+mod tests;
 mod whole;
 
 pub use both::Both;

@@ -2,14 +2,13 @@
 use Rattle.std.proofs.Common.{◌≡◌, ℕ, ◌+◌, ◌-◌, ◌*◌, Bool, true, false, cond, eqb, ltb, leb, List, [], ◌∷◌, ◌++◌, refl, sym, ap, ◌∙◌, subst, length, append_assoc, length-append, inl, inr, arith}
 use Rattle.std.proofs.lemmas.Bool.{ltb-true, ltb-false, leb-true, leb-false, eqb-true, eqb-false}
 use Rattle.std.proofs.lemmas.Int.Digits.{digits_value_push, digits_push}
-use Rattle.std.specs.Char.{digit_value}
+use Rattle.std.specs.Char.{is_ascii_alphabetic, digit_value}
 use Rattle.std.specs.Str.Parse.{digits_value}
 use Rattle.std.specs.List.{AllByRecursion}
 use Rattle.relp_frame.specs.declared.frame.Frame.{Frame}
 use Rattle.relp_frame.specs.declared.fault.RelpWhy.{RelpWhy}
 use Rattle.relp_frame.specs.declared.fault.RelpWhy.TheVariants.{Digits, Space, Command, TooLong, Trailer}
 use Rattle.stream_grammar.specs.Automaton.{Step, Goes, Ends, Fails, Going, run}
-use Rattle.relp_frame.specs.Spelling.{is_letter}
 use Rattle.relp_frame.specs.Machine.{State, frame, more_digits, step, start}
 use Rattle.relp_frame.specs.Machine as m
 use Rattle.relp_frame.specs.Reason.{InTxnr, InCommand, InLength, InBody, IsReason}
@@ -25,7 +24,7 @@ At (m.InCommand txnr command) h = InCommand h command
 At (m.InLength txnr command count value) h = (digits : List ℕ) × InLength h digits × (length digits ≡ count) × (digits_value 10 digits ≡ value)
 At (m.InBody txnr command left body) h = InBody h body (length body + left)
 
-letters_push : (xs : List ℕ) (c : ℕ) → AllByRecursion (λ c. is_letter c ≡ true) xs → is_letter c ≡ true → AllByRecursion (λ c. is_letter c ≡ true) (xs ++ c ∷ [])
+letters_push : (xs : List ℕ) (c : ℕ) → AllByRecursion (λ c. is_ascii_alphabetic c ≡ true) xs → is_ascii_alphabetic c ≡ true → AllByRecursion (λ c. is_ascii_alphabetic c ≡ true) (xs ++ c ∷ [])
 letters_push [] c a p = (p, tt)
 letters_push (x ∷ xs) c a p = (a.0, letters_push xs c a.1 p)
 
@@ -52,9 +51,9 @@ keep (m.InTxnr count value) t c h a e = go (ltb (digit_value c) 10) refl (ltb co
         let b : At (m.InCommand value []) (h ++ c ∷ []) = record { txnr = h; before = a.0; some = omega (arith, a.1, z); whole = ap (λ v. h ++ v ∷ []) d; letters = tt; few = omega arith } in
         subst (λ u. At u (h ++ c ∷ [])) k b
     go false dp q dq false dr false ds e = cc
-keep (m.InCommand txnr command) t c h a e = go (is_letter c) refl (ltb (length command) 32) refl (eqb (length command) 0) refl (eqb c 32) refl e
+keep (m.InCommand txnr command) t c h a e = go (is_ascii_alphabetic c) refl (ltb (length command) 32) refl (eqb (length command) 0) refl (eqb c 32) refl e
   where
-    go : (p : Bool) → is_letter c ≡ p → (q : Bool) → ltb (length command) 32 ≡ q → (r : Bool) → eqb (length command) 0 ≡ r → (s : Bool) → eqb c 32 ≡ s → cond {A = Steps} p (cond q (Goes (m.InCommand txnr (command ++ c ∷ []))) (Fails Command)) (cond r (Fails Command) (cond s (Goes (m.InLength txnr command 0 0)) (Fails Command))) ≡ Goes t → At t (h ++ c ∷ [])
+    go : (p : Bool) → is_ascii_alphabetic c ≡ p → (q : Bool) → ltb (length command) 32 ≡ q → (r : Bool) → eqb (length command) 0 ≡ r → (s : Bool) → eqb c 32 ≡ s → cond {A = Steps} p (cond q (Goes (m.InCommand txnr (command ++ c ∷ []))) (Fails Command)) (cond r (Fails Command) (cond s (Goes (m.InLength txnr command 0 0)) (Fails Command))) ≡ Goes t → At t (h ++ c ∷ [])
     go true dp true dq r dr s ds e =
         let k : m.InCommand txnr (command ++ c ∷ []) ≡ t = cc in
         let l = ltb-true (length command) 32 dq in
@@ -132,9 +131,9 @@ fault_at (m.InTxnr count value) h c w a e = go (ltb (digit_value c) 10) refl (lt
         let x = eqb-false count 0 dr in
         let b : IsReason h c Space = (dp, eqb-false c 32 ds, inl (a.0, omega (arith, a.1, x))) in
         subst (IsReason h c) k b
-fault_at (m.InCommand txnr command) h c w a e = go (is_letter c) refl (ltb (length command) 32) refl (eqb (length command) 0) refl (eqb c 32) refl e
+fault_at (m.InCommand txnr command) h c w a e = go (is_ascii_alphabetic c) refl (ltb (length command) 32) refl (eqb (length command) 0) refl (eqb c 32) refl e
   where
-    go : (p : Bool) → is_letter c ≡ p → (q : Bool) → ltb (length command) 32 ≡ q → (r : Bool) → eqb (length command) 0 ≡ r → (s : Bool) → eqb c 32 ≡ s → cond {A = Steps} p (cond q (Goes (m.InCommand txnr (command ++ c ∷ []))) (Fails Command)) (cond r (Fails Command) (cond s (Goes (m.InLength txnr command 0 0)) (Fails Command))) ≡ Fails w → IsReason h c w
+    go : (p : Bool) → is_ascii_alphabetic c ≡ p → (q : Bool) → ltb (length command) 32 ≡ q → (r : Bool) → eqb (length command) 0 ≡ r → (s : Bool) → eqb c 32 ≡ s → cond {A = Steps} p (cond q (Goes (m.InCommand txnr (command ++ c ∷ []))) (Fails Command)) (cond r (Fails Command) (cond s (Goes (m.InLength txnr command 0 0)) (Fails Command))) ≡ Fails w → IsReason h c w
     go true dp true dq r dr s ds e = cc
     go true dp false dq r dr s ds e =
         let k : Command ≡ w = cc in

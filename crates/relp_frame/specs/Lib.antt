@@ -4,3 +4,4 @@ pub mod Reading
 pub mod Machine
 pub mod Places
 pub mod Scanning
+pub mod Keeping

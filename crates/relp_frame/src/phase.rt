@@ -1,9 +1,9 @@
 //! What one byte does to an unfinished frame.
 ghost use Rattle.std.specs.Prelude.{◌≡◌, ℕ, ◌+◌, ◌≤◌, ◌<◌, ◌^◌, List, [], ◌∷◌, ◌++◌, length, drop, MatchOption, true, false, slice_range};
-ghost use Rattle.std.specs.Char.{digit_value};
-ghost use Rattle.relp_frame.specs.Spelling.{is_digit, is_letter};
+ghost use Rattle.std.specs.Char.{is_ascii_alphabetic, digit_value};
+ghost use Rattle.relp_frame.specs.Spelling.{is_digit};
 ghost use Rattle.relp_frame.specs.Machine.{step, InTxnr, InCommand, InLength, InBody};
-ghost use Rattle.relp_frame.specs.Places.{Fits, FitsTurn, state_of, step_of};
+ghost use Rattle.relp_frame.specs.Places.{Fits, FitsTurn, state_of, step_of, due_of, past};
 
 use crate::fault::RelpWhy;
 
@@ -35,6 +35,12 @@ pub enum Phase {
     },
 }
 
+/// Nothing has been read.
+pub const START: Phase = Phase::Txnr {
+    digits: 0,
+    value: 0,
+};
+
 /// The places of a whole frame's command and data.
 #[derive(Clone, Copy)]
 pub struct Parts {
@@ -61,12 +67,6 @@ fn digit_of(c: u8) -> Option<u32>
     } else {
         None
     }
-}
-
-fn letter(c: u8) -> bool
-    ensures { result ≡ is_letter c }
-{
-    (c >= b'A' && c <= b'Z') || (c >= b'a' && c <= b'z')
 }
 
 #[tactic(auto, using(crate::proofs::PlaceLaws::pow_small), unfolding(crate::specs::Machine::step))]
@@ -107,7 +107,7 @@ fn in_command(txnr: u32, from: usize, place: usize, c: u8) -> Turn
     ensures fits { FitsTurn result (place + 1) }
     ensures turn { (h : List ℕ) → length h ≡ place → step_of result (h ++ c ∷ []) ≡ step (InCommand txnr (drop from h)) c }
 {
-    if letter(c) {
+    if c.is_ascii_alphabetic() {
         if place - from < 32 {
             Turn::Go(Phase::Command { txnr, from })
         } else {
@@ -236,5 +236,38 @@ pub fn after_byte(phase: Phase, place: usize, c: u8) -> Turn
             at,
             left,
         } => in_body(txnr, from, to, at, left, place, c),
+    }
+}
+
+/// How many bytes of the data are due.
+pub fn data_due(phase: Phase) -> usize
+    ensures { result ≡ due_of phase }
+{
+    match phase {
+        Phase::Body { left, .. } => left,
+        _ => 0,
+    }
+}
+
+/// What has been read once so many bytes of the data that is due came.
+pub fn past_data(phase: Phase, count: usize) -> Phase
+    requires { count ≤ due_of phase }
+    ensures { result ≡ past phase count }
+{
+    match phase {
+        Phase::Body {
+            txnr,
+            from,
+            to,
+            at,
+            left,
+        } => Phase::Body {
+            txnr,
+            from,
+            to,
+            at,
+            left: left - count,
+        },
+        other => other,
     }
 }

@@ -1,10 +1,11 @@
 -- A machine that fails at the last byte of a broken field reads a stream whose faults are such fields.
-use Rattle.std.proofs.Common.{◌≡◌, ℕ, ◌+◌, List, [], ◌∷◌, ◌++◌, refl, sym, ap, ◌∙◌, ◌↔◌, length, length-append, append_assoc, arith}
+use Rattle.std.proofs.Common.{◌≡◌, ℕ, ◌+◌, List, [], ◌∷◌, ◌++◌, refl, sym, ap, ◌∙◌, length, length-append, append_assoc, arith}
 use Rattle.std.proofs.lemmas.List.{append_cancel_right}
 use Rattle.stream_grammar.specs.Automaton.{Step, Fails, Going, Done, Bad, run}
 use Rattle.stream_grammar.specs.Framing.{AreSpelled, HasNoFrame}
 use Rattle.stream_grammar.specs.FieldFaults.{HasNoBreak, IsFieldStream, IsFieldFault}
-use Rattle.stream_grammar.proofs.Machine.{Laws, run_bad, spelled_run, spelled_append, going_no_frame, one_split}
+use Rattle.stream_grammar.proofs.Machine.{Format, run_bad}
+use Rattle.stream_grammar.proofs.Streams.{spelled_run, spelled_append, going_no_frame, one_split}
 
 -- what a format says of its broken fields
 pub record BreakLaws {S F W : Type 0} (step : S → ℕ → Step S F W) (s : S) (Broken : List ℕ → List ℕ → W → Type 0) : Type 0 where
@@ -12,9 +13,9 @@ pub record BreakLaws {S F W : Type 0} (step : S → ℕ → Step S F W) (s : S) 
   pub broken : (t : S) (h : List ℕ) (c : ℕ) (w : W) → run step s h ≡ Going t → step t c ≡ Fails w → (x : List ℕ) × (field : List ℕ) × (h ++ c ∷ [] ≡ x ++ field) × Broken x field w
   pub one_field : (h k x y : List ℕ) (v w : W) → Broken h x v → Broken k y w → h ++ x ≡ k ++ y → h ≡ k
 
-module _ {S F W : Type 0} (step : S → ℕ → Step S F W) (C : S → F → List ℕ → Type 0) (Good : S → Type 0) (laws : Laws step C Good) (s : S) (g : Good s) (Spells : F → List ℕ → Type 0) (same : (f : F) (b : List ℕ) → Spells f b ↔ C s f b) (Broken : List ℕ → List ℕ → W → Type 0) (breaks : BreakLaws step s Broken) where
+module _ {S F W : Type 0} {step : S → ℕ → Step S F W} {C : S → F → List ℕ → Type 0} {Good : S → Type 0} {s : S} {Spells : F → List ℕ → Type 0} {Broken : List ℕ → List ℕ → W → Type 0} (format : Format step C Good s Spells) (breaks : BreakLaws step s Broken) where
   broken_run : (h field more : List ℕ) (w : W) → Broken h field w → run step s (h ++ (field ++ more)) ≡ Bad w more
-  broken_run h field more w b = ap (run step s) (sym (append_assoc h field more)) ∙ run_bad step C Good laws s w (h ++ field) [] more (breaks.breaks h field w b)
+  broken_run h field more w b = ap (run step s) (sym (append_assoc h field more)) ∙ run_bad format.laws s w (h ++ field) [] more (breaks.breaks h field w b)
 
   going_unbroken : (t : S) (h : List ℕ) → run step s h ≡ Going t → HasNoBreak Broken h
   going_unbroken t h e x field more w b q =
@@ -24,7 +25,7 @@ module _ {S F W : Type 0} (step : S → ℕ → Step S F W) (C : S → F → Lis
 
   bad_no_frame : (w : W) (h m : List ℕ) → run step s h ≡ Bad w m → HasNoFrame Spells h
   bad_no_frame w h m e f x more k q =
-      let d : run step s (x ++ more) ≡ Done f more = spelled_run step C Good laws s g Spells same f x more k in
+      let d : run step s (x ++ more) ≡ Done f more = spelled_run format f x more k in
       let z : run step s h ≡ Done f more = ap (run step s) q ∙ d in
       cc
 
@@ -32,10 +33,10 @@ module _ {S F W : Type 0} (step : S → ℕ → Step S F W) (C : S → F → Lis
   pub field_more : (t : S) (b piece x h rest : List ℕ) (frames fs : List F) (at : ℕ) → IsFieldStream Spells Broken b frames at rest → AreSpelled Spells fs x → rest ++ piece ≡ x ++ h → run step s h ≡ Going t → IsFieldStream Spells Broken (b ++ piece) (frames ++ fs) (at + length x) h
   field_more t b piece x h rest frames fs at i a w e = record {
     front = i.front ++ x;
-    spelled = spelled_append step C Good laws s g Spells same frames fs i.front x i.spelled a;
+    spelled = spelled_append format frames fs i.front x i.spelled a;
     ends = length-append i.front x ∙ ap (λ n. n + length x) i.ends;
     whole = ap (λ v. v ++ piece) i.whole ∙ append_assoc i.front rest piece ∙ ap (λ v. i.front ++ v) w ∙ sym (append_assoc i.front x h);
-    no_more = going_no_frame step C Good laws s g Spells same t h e;
+    no_more = going_no_frame format t h e;
     unbroken = going_unbroken t h e;
   }
 
@@ -50,7 +51,7 @@ module _ {S F W : Type 0} (step : S → ℕ → Step S F W) (C : S → F → Lis
           rest = k.0;
           field = k.1;
           more = more;
-          spelled = spelled_append step C Good laws s g Spells same frames fs i.front x i.spelled a;
+          spelled = spelled_append format frames fs i.front x i.spelled a;
           ends = length-append i.front x ∙ ap (λ n. n + length x) i.ends;
           whole = ap (λ z. z ++ piece) i.whole ∙ append_assoc i.front rest piece ∙ ap (λ z. i.front ++ z) (v ∙ ap (λ z. x ++ z) q) ∙ sym (append_assoc i.front x (k.0 ++ (k.1 ++ more)));
           place_is = refl;
@@ -63,7 +64,7 @@ module _ {S F W : Type 0} (step : S → ℕ → Step S F W) (C : S → F → Lis
   one_fault b fs gs m n p q v w i j =
       let a = broken_run i.rest i.field i.more v i.broken in
       let c = broken_run j.rest j.field j.more w j.broken in
-      let r = one_split step C Good laws s g Spells same fs gs i.front j.front (i.rest ++ (i.field ++ i.more)) (j.rest ++ (j.field ++ j.more)) i.spelled j.spelled (sym i.whole ∙ j.whole) (bad_no_frame v (i.rest ++ (i.field ++ i.more)) i.more a) (bad_no_frame w (j.rest ++ (j.field ++ j.more)) j.more c) in
+      let r = one_split format fs gs i.front j.front (i.rest ++ (i.field ++ i.more)) (j.rest ++ (j.field ++ j.more)) i.spelled j.spelled (sym i.whole ∙ j.whole) (bad_no_frame v (i.rest ++ (i.field ++ i.more)) i.more a) (bad_no_frame w (j.rest ++ (j.field ++ j.more)) j.more c) in
       let z : run step s (i.rest ++ (i.field ++ i.more)) ≡ run step s (j.rest ++ (j.field ++ j.more)) = ap (run step s) r.2 in
       let x : v ≡ w = cc in
       let y : i.more ≡ j.more = cc in
@@ -77,5 +78,5 @@ module _ {S F W : Type 0} (step : S → ℕ → Step S F W) (C : S → F → Lis
   pub fault_or_none : (b : List ℕ) (fs gs : List F) (m n p : ℕ) (h : List ℕ) (v : W) → IsFieldFault Spells Broken b fs m p v → IsFieldStream Spells Broken b gs n h → ⊥
   fault_or_none b fs gs m n p h v i j =
       let a = broken_run i.rest i.field i.more v i.broken in
-      let r = one_split step C Good laws s g Spells same fs gs i.front j.front (i.rest ++ (i.field ++ i.more)) h i.spelled j.spelled (sym i.whole ∙ j.whole) (bad_no_frame v (i.rest ++ (i.field ++ i.more)) i.more a) j.no_more in
+      let r = one_split format fs gs i.front j.front (i.rest ++ (i.field ++ i.more)) h i.spelled j.spelled (sym i.whole ∙ j.whole) (bad_no_frame v (i.rest ++ (i.field ++ i.more)) i.more a) j.no_more in
       j.unbroken i.rest i.field i.more v i.broken (sym r.2)

@@ -1,4 +1,4 @@
-use Rattle.std.proofs.Common.{ℕ, ◌≡◌, ◌≤◌, ◌+◌, arith, length, take, drop, length-drop}
+use Rattle.std.proofs.Common.{ℕ, arith, length-drop}
 use Rattle.std.proofs.lemmas.List.{length-take}
 use Rattle.edge_io.proofs.Known.{appends_on}
 use Rattle.edge_io.proofs.whole.write_whole.Goals as goal
@@ -11,5 +11,5 @@ loop-sent-preserved g c =
       so_far = appends_on _ _ _ piece c.loop-sent.sent c.in-Ok.n c.loop-sent.invariant.so_far c.in-Ok.ensures.taken;
       later = omega (arith, c.loop-sent.invariant.later, c.in-Ok.ensures.cause.later);
       same = g.K.Object.same_trans _ _ _ c.loop-sent.invariant.same c.in-Ok.ensures.same;
-      apart = g.met.K.Sink.apart_trans _ _ _ c.loop-sent.invariant.apart c.in-Ok.ensures.apart
+      apart = g.met.K.Sink.apart_trans _ _ _ c.loop-sent.invariant.apart c.in-Ok.ensures.apart;
     }

@@ -8,7 +8,7 @@ invariant-loop-sent g l = record {
   so_far : Appends (g.K.Sink.taken l.fn.sink) (g.K.Sink.taken l.sink) (take l.sent l.piece);
   later : g.K.Sink.write_faults l.fn.sink ≤ g.K.Sink.write_faults l.sink;
   same : g.K.Object.same l.fn.sink l.sink;
-  apart : g.K.Sink.write_apart l.fn.sink l.sink
+  apart : g.K.Sink.write_apart l.fn.sink l.sink;
 }
 
 abbrev pub decreases-loop-sent : goal.decreases-loop-sent

@@ -12,5 +12,5 @@ returns-clause-left c =
     let seen = c.deref.result.now in
     let same = c.deref.ensures.value in (
       drop_moved source.bytes.items seen c.give-n.new.buf source.at c.give-n.result same c.give-n.ensures.gave,
-      λ none room. drop_ended source.bytes.items seen source.at c.give-n.result source.step _ same c.give-n.ensures.count none source.some c.requires
+      λ none room. drop_ended source.bytes.items seen source.at c.give-n.result source.step _ same c.give-n.ensures.count none source.some c.requires,
     )
