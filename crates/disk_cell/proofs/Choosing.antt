@@ -1,9 +1,9 @@
 -- Which cell counts, by the fields of both.
-use Rattle.std.proofs.Common.{◌≡◌, ◌≢◌, ◌⊎◌, inl, inr, ℕ, ◌+◌, ◌^◌, ◌<◌, ◌≤◌, Bool, List, length, get_or, sym, ◌∙◌, ap, subst, arith, IsTrue, ◌↔◌, Result, Ok, Err, IfOk, IfErr, refl}
+use Rattle.std.proofs.Common.{◌≡◌, ◌≢◌, ◌⊎◌, inl, inr, ℕ, ◌^◌, ◌<◌, Bool, List, get_or, sym, ◌∙◌, ap, subst, arith, IsTrue, ◌↔◌, Result, Ok, Err, IfOk, IfErr, refl}
 use Rattle.std.proofs.lemmas.Bool.{cases_eq, cases_order}
 use Rattle.foundation.specs.Bytes.{part}
 use Rattle.edge_disk.specs.Disk.{Moment, IsUntouched}
-use Rattle.spool_state.specs.Cells.{first_cell, second_cell, content_text, cell_text, fields_text, ordinal_at, IsOpen, Counts, NoCellCounts, IsCounting, HasBadContent, CellsBreak}
+use Rattle.spool_state.specs.Cells.{first_cell, second_cell, content_text, fields_text, ordinal_at, IsOpen, Counts, IsCounting, HasBadContent, CellsBreak}
 use Rattle.spool_state.proofs.Places.{cell_fields, length-cell, gate_is, version_is, ordinal_is, length_is, run_is}
 use Rattle.disk_cell.specs.Cell.{place_of, other_of}
 use Rattle.disk_cell.specs.Fields.{bytes_of, AreInRange, Outranks, IsBad, IsRegisterOf}

@@ -1,5 +1,5 @@
 -- What the layers above need of a register that they leave alone.
-use Rattle.std.proofs.Common.{◌≡◌, ◌⊎◌, inl, inr, ℕ, ◌+◌, ◌<◌, ◌≤◌, List, length, get_or, sym, ◌∙◌, subst, arith, IsTrue, ◌↔◌}
+use Rattle.std.proofs.Common.{◌≡◌, ◌⊎◌, inl, inr, ℕ, ◌+◌, ◌≤◌, List, length, get_or, sym, ◌∙◌, subst, arith}
 use Rattle.foundation.specs.Bytes.{SameBut}
 use Rattle.edge_disk.specs.Disk.{Moment, IsSettled, IsUntouched}
 use Rattle.spool_state.specs.Cells.{RegisterHolds}
@@ -21,11 +21,11 @@ knows_stays r at n a b same off room known =
     let other = place_of (other_of r.counting) in
     let apart = cells_apart r.counting in
     let len = length-cell r.ordinal r.content.run r.content.cursor in
-    let gate : get_or b other 0 ≡ get_or a other 0 = elim off [ | inl below ↦ same.above other (omega (arith, apart.other_from)) | inr above ↦ same.below other (omega (arith, apart.other_to)) ] in
+    let gate : get_or b other 0 ≡ get_or a other 0 = elim off [ inl below ↦ same.above other (omega (arith, apart.other_from)) | inr above ↦ same.below other (omega (arith, apart.other_to)) ] in
     record {
       counts = counts_stay here other r.ordinal (text_of r.content) at n a b same
-          (elim off [ | inl below ↦ inr (omega (arith, apart.here_from)) | inr above ↦ inl (omega (arith, len, apart.here_to)) ])
-          (elim off [ | inl below ↦ inr (omega (arith, apart.other_from)) | inr above ↦ inl (omega (arith, apart.other_to)) ])
+          (elim off [ inl below ↦ inr (omega (arith, apart.here_from)) | inr above ↦ inl (omega (arith, len, apart.here_to)) ])
+          (elim off [ inl below ↦ inr (omega (arith, apart.other_from)) | inr above ↦ inl (omega (arith, apart.other_to)) ])
           (omega (arith, len, apart.here_to)) (omega (arith, apart.other_to)) known.counts;
       other_open = ((λ t. gate ∙ known.other_open.0 t), (λ o. known.other_open.1 (sym gate ∙ o)));
     }

@@ -1,10 +1,10 @@
 -- The fields that are read from a text have that text.
-use Rattle.std.proofs.Common.{◌≡◌, inl, inr, ℕ, zero, suc, ◌+◌, ◌<◌, ◌≤◌, List, [], ◌∷◌, ◌++◌, length, get_or, take, drop, sym, ◌∙◌, ap, arith, refl, append_assoc, length-drop}
+use Rattle.std.proofs.Common.{◌≡◌, inl, inr, ℕ, zero, suc, ◌+◌, ◌<◌, ◌≤◌, List, [], ◌∷◌, ◌++◌, length, get_or, drop, sym, ◌∙◌, ap, arith, refl, append_assoc, length-drop}
 use Rattle.std.proofs.lemmas.List.{take-append-drop, drop-drop, take_all, get_or_past}
 use Rattle.std.proofs.Math.Seq.{drop-cons}
 use Rattle.std.proofs.lemmas.Nat.{be_bytes_4, be_bytes_8}
 use Rattle.std.proofs.lemmas.Bool.{cases_lt}
-use Rattle.std.specs.Int.{to_be_bytes, from_be_bytes}
+use Rattle.std.specs.Int.{from_be_bytes}
 use mir.Syntax.{w32, w64}
 use Rattle.foundation.specs.Bytes.{part}
 use Rattle.foundation.proofs.Bytes.{length-part, get_or-part}
@@ -59,5 +59,5 @@ module _ (text : List ℕ) (long : length text ≡ 30) where
       let r = be_bytes_8 (part 14 8 text) run (length-part 14 8 text (omega arith)) (part_bytes 14 8 text bytes (omega arith)) is_run in
       let s = be_bytes_8 (part 22 8 text) cursor (length-part 22 8 text (omega arith)) (part_bytes 22 8 text bytes (omega arith)) is_cursor in
       let whole : fields_text (get_or text 0 0) ordinal len (get_or text 13 0) run cursor ≡ (((get_or text 0 0 ∷ part 1 8 text) ++ get_or text 9 0 ∷ get_or text 10 0 ∷ get_or text 11 0 ∷ get_or text 12 0 ∷ []) ++ get_or text 13 0 ∷ part 14 8 text) ++ part 22 8 text =
-          λ i. (((get_or text 0 0 ∷ p i) ++ q i) ++ get_or text 13 0 ∷ r i) ++ s i in
+      λ i. (((get_or text 0 0 ∷ p i) ++ q i) ++ get_or text 13 0 ∷ r i) ++ s i in
       whole ∙ joined

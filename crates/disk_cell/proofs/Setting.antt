@@ -3,14 +3,13 @@ use Rattle.std.proofs.Common.{◌≡◌, ◌≢◌, ◌⊎◌, inl, inr, ℕ, �
 use Rattle.std.specs.Int.{from_be_bytes}
 use mir.Syntax.{w64}
 use Rattle.foundation.specs.Bytes.{part, put, SameBut}
-use Rattle.foundation.proofs.Bytes.{same_but_refl, same_but_then, same_but_wider, same_part, part_put, put_at, put_same}
+use Rattle.foundation.proofs.Bytes.{same_but_refl, same_but_then, same_but_wider, same_part, part_put, put_same}
 use Rattle.edge_disk.specs.Disk.{Moment, IsLawful, LeavesOnly}
-use Rattle.edge_disk.specs.Gate.{IsGateStep}
+use Rattle.edge_disk.specs.Gate.{IsGateStep, ComesFrom}
 use Rattle.edge_disk.proofs.Moments.{weaker, both}
-use Rattle.spool_state.specs.Cells.{content_text, body_text, cell_text, fields_text, ordinal_at, Counts, RegisterHolds}
-use Rattle.spool_state.proofs.Places.{cell_fields, length-cell, gate_is, ordinal_is}
+use Rattle.spool_state.specs.Cells.{content_text, body_text, cell_text, fields_text, Counts, RegisterHolds}
+use Rattle.spool_state.proofs.Places.{length-cell, gate_is, ordinal_is}
 use Rattle.spool_state.proofs.Registers.{fields}
-use Rattle.disk_cell.specs.Behind.{FromImage}
 use Rattle.disk_cell.specs.Cell.{place_of, other_of}
 use Rattle.disk_cell.specs.Register.{text_of, Knows, IsClosingStep, IsSetStep}
 use Rattle.disk_cell.specs.declared.cell.Cell.{Cell}
@@ -46,7 +45,7 @@ holds_other Second ordinal content c counts = inl counts
 -- the cell that counts, with the gate of the other one written
 module _ (here other ordinal run cursor : ℕ) (apart : AreApart here other) where
   away : (n : ℕ) → n ≤ 30 → (here + 30 ≤ other) ⊎ (other + n ≤ here)
-  away n le = elim apart.apart [ | inl before ↦ inl before | inr behind ↦ inr (omega arith) ]
+  away n le = elim apart.apart [ inl before ↦ inl before | inr behind ↦ inr (omega arith) ]
 
   part_stays : (n : ℕ) (d c : List ℕ) → n ≤ 30 → 12288 ≤ length d → SameBut other n d c → part here 30 c ≡ part here 30 d
   part_stays n d c le room same = same_part other n here 30 d c same (away n le) (omega (arith, apart.here_to))
@@ -145,18 +144,18 @@ known_then r new content d mid c room fits step gate body is_gate is_body is is_
     let text = part_stays here other r.ordinal r.content.run r.content.cursor apart 30 mid (put other piece mid) (omega arith) room_mid same ∙ fields here other r.ordinal r.content.run r.content.cursor mid step.counts in
     let counts = new_counts here other r.ordinal r.content.run r.content.cursor apart content.run content.cursor mid fits room_mid step.counts in
     subst (Knows new) (sym (is ∙ ap (λ (k : ℕ). put k (1 ∷ body) mid) is_gate ∙ ap (λ (l : List ℕ). put other (1 ∷ l) mid) is_body)) (new_knows r.counting new (put other piece mid) is_counting is_open (gate_is here 1 r.ordinal 17 1 r.content.run r.content.cursor (put other piece mid) text)
-        (subst (λ (n : ℕ). Counts other here n (text_of new.content) (put other piece mid)) (sym is_ordinal) (subst (λ (x : Content). Counts other here (r.ordinal + 1) (text_of x) (put other piece mid)) (sym is_content) counts)))
+    (subst (λ (n : ℕ). Counts other here n (text_of new.content) (put other piece mid)) (sym is_ordinal) (subst (λ (x : Content). Counts other here (r.ordinal + 1) (text_of x) (put other piece mid)) (sym is_content) counts)))
 
 -- all moments of a change
-pub set_moments : (r : Register) (content : Content) (m mid new : Moment) → IsLawful m → 12288 ≤ m.size → r.ordinal < 2 ^ 64 → LeavesOnly (FromImage m (IsClosingStep r)) m mid
-    → (gate : ℕ) (piece : List ℕ) → gate ≡ place_of (other_of r.counting) → piece ≡ body_text (r.ordinal + 1) (text_of content) → LeavesOnly (FromImage mid (IsGateStep gate piece)) mid new → LeavesOnly (FromImage m (IsSetStep r content)) m new
+pub set_moments : (r : Register) (content : Content) (m mid new : Moment) → IsLawful m → 12288 ≤ m.size → r.ordinal < 2 ^ 64 → LeavesOnly (ComesFrom m (IsClosingStep r)) m mid
+    → (gate : ℕ) (piece : List ℕ) → gate ≡ place_of (other_of r.counting) → piece ≡ body_text (r.ordinal + 1) (text_of content) → LeavesOnly (ComesFrom mid (IsGateStep gate piece)) mid new → LeavesOnly (ComesFrom m (IsSetStep r content)) m new
 set_moments r content m mid new lawful room fits closing gate piece is_gate is_piece opening =
-    both _ _ (FromImage m (IsSetStep r content)) m mid new closing (subst (λ (k : ℕ). LeavesOnly (FromImage mid (IsGateStep k (body_text (r.ordinal + 1) (text_of content)))) mid new) is_gate (subst (λ (l : List ℕ). LeavesOnly (FromImage mid (IsGateStep gate l)) mid new) is_piece opening))
+    both _ _ (ComesFrom m (IsSetStep r content)) m mid new closing (subst (λ (k : ℕ). LeavesOnly (ComesFrom mid (IsGateStep k (body_text (r.ordinal + 1) (text_of content)))) mid new) is_gate (subst (λ (l : List ℕ). LeavesOnly (ComesFrom mid (IsGateStep gate l)) mid new) is_piece opening))
     (λ c from. (from.0, from.1, closing_holds r content from.0 c from.2))
     (λ c from. let first = closing.now from.0 from.1 in (first.0, first.1, gate_step r content first.0 from.0 c (omega (arith, lawful.image_size first.0 first.1)) fits first.2 from.2))
 
 -- all moments while the gate is closed
 pub closing_moments : (r : Register) (m new : Moment) → IsLawful m → 12288 ≤ m.size → IsTrue r.other_is_open → ((d : List ℕ) → m.image d → Knows r d)
-    → (gate : ℕ) → gate ≡ place_of (other_of r.counting) → LeavesOnly (FromImage m (SameBut gate 1)) m new → LeavesOnly (FromImage m (IsClosingStep r)) m new
+    → (gate : ℕ) → gate ≡ place_of (other_of r.counting) → LeavesOnly (ComesFrom m (IsGateStep gate [])) m new → LeavesOnly (ComesFrom m (IsClosingStep r)) m new
 closing_moments r m new lawful room is_open known gate is run =
-    weaker _ (FromImage m (IsClosingStep r)) m new run (λ c from. (from.0, from.1, closing_step r from.0 c (omega (arith, lawful.image_size from.0 from.1)) is_open (known from.0 from.1) (subst (λ (k : ℕ). SameBut k 1 from.0 c) is from.2)))
+    weaker _ (ComesFrom m (IsClosingStep r)) m new run (λ c from. (from.0, from.1, closing_step r from.0 c (omega (arith, lawful.image_size from.0 from.1)) is_open (known from.0 from.1) (subst (λ (k : ℕ). SameBut k 1 from.0 c) is from.2.outside)))

@@ -1,4 +1,3 @@
-pub mod Behind
 pub mod Cell
 pub mod Fault
 pub mod Fields

@@ -1,5 +1,5 @@
 -- A register in memory, and the two cells on the disk that it speaks of.
-use Rattle.std.specs.Prelude.{◌≡◌, ◌⊎◌, ℕ, ◌+◌, List, IsTrue, ◌↔◌}
+use Rattle.std.specs.Prelude.{◌⊎◌, ℕ, ◌+◌, List, IsTrue, ◌↔◌}
 use Rattle.foundation.specs.Bytes.{SameBut}
 use Rattle.spool_state.specs.Cells.{content_text, IsOpen, Counts, RegisterHolds}
 use Rattle.disk_cell.specs.Cell.{place_of, other_of}

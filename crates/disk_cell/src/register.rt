@@ -3,11 +3,12 @@ ghost use Rattle.std.specs.Prelude.{◌≡◌, ◌≢◌, List, ℕ, ◌+◌, �
 ghost use Rattle.foundation.specs.Bytes.{SameBut};
 ghost use Rattle.foundation.specs.Faults.{HasCause, Rose};
 ghost use Rattle.edge_disk.specs.Disk.{IsSettled, IsUntouched, LeavesOnly};
+ghost use Rattle.edge_disk.specs.Gate.{ComesFrom};
 
-use crate::behind::{close_gate, write_behind};
+use crate::behind::write_behind;
 use crate::fields::Fields;
 use crate::{Cell, Content, LoadFault, SetFault};
-use edge_disk::{Disk, DiskFault};
+use edge_disk::{Disk, DiskFault, close_gate};
 
 /// What is known of a register on a disk. It is read by `load`, and changed by `set` alone.
 #[derive(Drop, Debug)]
@@ -26,7 +27,6 @@ pub struct Register {
 }
 
 impl Register {
-    ghost use Rattle.disk_cell.specs.Behind.{FromImage};
     ghost use Rattle.disk_cell.specs.Cell.{place_of, other_of};
     ghost use Rattle.disk_cell.specs.Fault.{IsBroken, IsWornAt};
     ghost use Rattle.disk_cell.specs.Register.{Knows, IsClosingStep, IsSetStep};
@@ -83,8 +83,8 @@ impl Register {
         ensures cause { HasCause (D.moment disk.old).faults (D.moment disk.new).faults result }
         ensures size { (D.moment disk.new).size ≡ (D.moment disk.old).size }
         ensures closed { OnOk result (D.tells → (c : List ℕ) → (D.moment disk.new).image c → slice_index c (place_of (other_of self.now.counting)) ≢ 1) }
-        ensures outside { D.tells → SameBut 4096 8192 (D.moment disk.old).reads (D.moment disk.new).reads }
-        ensures any_moment { D.tells → LeavesOnly (FromImage (D.moment disk.old) (IsClosingStep self.now)) (D.moment disk.old) (D.moment disk.new) }
+        ensures outside { OnOk result (D.tells → SameBut 4096 8192 (D.moment disk.old).reads (D.moment disk.new).reads) }
+        ensures any_moment { D.tells → LeavesOnly (ComesFrom (D.moment disk.old) (IsClosingStep self.now)) (D.moment disk.old) (D.moment disk.new) }
     {
         if !self.other_is_open {
             return Ok(());
@@ -116,8 +116,8 @@ impl Register {
         ensures durable { OnOk result (D.tells → IsSettled (D.moment disk.new)) }
         ensures known { OnOk result (D.tells → Knows self.new (D.moment disk.new).reads) }
 
-        ensures outside { D.tells → SameBut 4096 8192 (D.moment disk.old).reads (D.moment disk.new).reads }
-        ensures any_moment { D.tells → LeavesOnly (FromImage (D.moment disk.old) (IsSetStep self.old content)) (D.moment disk.old) (D.moment disk.new) }
+        ensures outside { OnOk result (D.tells → SameBut 4096 8192 (D.moment disk.old).reads (D.moment disk.new).reads) }
+        ensures any_moment { D.tells → LeavesOnly (ComesFrom (D.moment disk.old) (IsSetStep self.old content)) (D.moment disk.old) (D.moment disk.new) }
     {
         if self.ordinal == Register::LAST_ORDINAL {
             return Err(SetFault::Worn {

@@ -66,7 +66,11 @@ fn each_rule_has_its_place(rt: HostRuntime) -> Result<(), Fail> {
     let rows = [
         (good, shut, Ok((0, 0, 1))),
         (shut, good, Ok((0, 0, 1))),
-        (garbage, cell(1, 5, 17, 1, 2_097_151, 6), Ok((2_097_151, 6, 5))),
+        (
+            garbage,
+            cell(1, 5, 17, 1, 2_097_151, 6),
+            Ok((2_097_151, 6, 5)),
+        ),
         (cell(1, 1 << 63, 17, 1, 2, 8), garbage, Ok((2, 8, 1 << 63))),
         (cell(2, 1, 17, 1, 0, 0), shut, Err(4096)),
         (good, cell(1, 1, 17, 1, 4, 4), Err(4096)),
@@ -86,7 +90,11 @@ fn each_rule_has_its_place(rt: HostRuntime) -> Result<(), Fail> {
 
 #[test]
 fn a_change_is_read_again(rt: HostRuntime) -> Result<(), Fail> {
-    let bytes = device(rt.alloc(), &cell(1, 1, 17, 1, 0, 0), &cell(0, 7, 17, 1, 3, 9))?;
+    let bytes = device(
+        rt.alloc(),
+        &cell(1, 1, 17, 1, 0, 0),
+        &cell(0, 7, 17, 1, 3, 9),
+    )?;
     let mut disk = MemDisk::of(bytes, Vec::new(rt.alloc()));
     let content = Content {
         version: 1,
@@ -94,7 +102,8 @@ fn a_change_is_read_again(rt: HostRuntime) -> Result<(), Fail> {
         cursor: 0,
     };
     assert_eq!(rt; change(&mut disk, content), Some(Ok(())));
-    let text = b"\x01\x00\x00\x00\x00\x00\x00\x00\x02\x00\x00\x00\x11\x01\x00\x00\x00\x00\x00\x00\x00\x01\x00\x00\x00\x00\x00\x00\x00\x00";
+    let text =
+        b"\x01\x00\x00\x00\x00\x00\x00\x00\x02\x00\x00\x00\x11\x01\x00\x00\x00\x00\x00\x00\x00\x01\x00\x00\x00\x00\x00\x00\x00\x00";
     assert_eq!(rt; &disk.bytes()[8192..8222], text.as_slice());
     assert_eq!(rt; disk.bytes()[4096], 1);
     Ok(())
@@ -126,10 +135,7 @@ fn after_stop(
 #[test]
 fn a_stop_leaves_the_old_or_the_new(rt: HostRuntime) -> Result<(), Fail> {
     // A cell that is closed is written in four calls behind the two of `load`, one that is open in six.
-    let rows = [
-        (cell(0, 9, 17, 1, 8, 90), 6),
-        (cell(1, 1, 17, 1, 3, 50), 8),
-    ];
+    let rows = [(cell(0, 9, 17, 1, 8, 90), 6), (cell(1, 1, 17, 1, 3, 50), 8)];
     for (first, whole) in rows {
         for calls in 0..10 {
             for choice in [
@@ -152,7 +158,11 @@ fn a_stop_leaves_the_old_or_the_new(rt: HostRuntime) -> Result<(), Fail> {
 
 #[test]
 fn a_worn_register_is_left_alone(rt: HostRuntime) -> Result<(), Fail> {
-    let bytes = device(rt.alloc(), &cell(0, 9, 17, 1, 8, 90), &cell(1, 1 << 63, 17, 1, 4, 60))?;
+    let bytes = device(
+        rt.alloc(),
+        &cell(0, 9, 17, 1, 8, 90),
+        &cell(1, 1 << 63, 17, 1, 4, 60),
+    )?;
     let mut disk = MemDisk::of(bytes, Vec::new(rt.alloc()));
     let content = Content {
         version: 1,

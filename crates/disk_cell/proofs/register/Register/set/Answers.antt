@@ -1,4 +1,4 @@
-use Rattle.std.proofs.Common.{◌∙◌, ap, ◌<◌, ◌^◌, refl, arith}
+use Rattle.std.proofs.Common.{◌∙◌, ap, refl, arith}
 use Rattle.edge_disk.proofs.Moments.{started, weaker}
 use Rattle.disk_cell.specs.Cell.{place_of}
 use Rattle.disk_cell.proofs.Setting.{set_moments, known_step, known_then, closing_holds}
