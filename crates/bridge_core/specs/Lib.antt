@@ -1,0 +1,6 @@
+pub mod Words
+pub mod Input
+pub mod Carried
+pub mod Notes
+pub mod Empty
+pub mod Slot
