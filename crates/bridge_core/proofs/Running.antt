@@ -84,16 +84,16 @@ stores_then s (g ∷ gs) f next now new is stores known =
     subst (λ (t : SpoolState). IsKnown t new.slot new.reads) (sym (ap (with_entries s) (stored_push (g ∷ gs) f) ∙ with_push (stored (g ∷ gs)) s (entry_of (length gs) f))) (adds (with_entries s (stored (g ∷ gs))) known)
 
 -- a frame more was carried
-pub progress_carried : (tells : Type 0) (given given' : Option (List ℕ)) (start now new : Place) (reader reader' : Reader) (next : Next) (total : ℕ) (f : Frame)
-    → Progress tells given given' start now reader next total → ((fed : List ℕ) (taken : List Frame) → Reads fed taken reader → Reads fed (taken ++ f ∷ []) reader') → Carries next f tells now new → Progress tells given given' start new reader' (after next) total
-progress_carried tells given given' start now new reader reader' next total f p took carries = record {
+pub progress_carried : (tells : Type 0) (given given' : Option (List ℕ)) (start now new : Place) (reader reader' : Reader) (next next' : Next) (total : ℕ) (f : Frame) → next' ≡ after next
+    → Progress tells given given' start now reader next total → ((fed : List ℕ) (taken : List Frame) → Reads fed taken reader → Reads fed (taken ++ f ∷ []) reader') → Carries next f tells now new → Progress tells given given' start new reader' next' total
+progress_carried tells given given' start now new reader reader' next next' total f is p took carries = record {
   read = p.read;
   frames = p.frames ++ f ∷ [];
   is_given = p.is_given;
   counted = p.counted;
   reads = took p.read p.frames p.reads;
   in_order = order_push p.frames f p.in_order (subst (λ (n : Next). MayCome n f) p.next_is carries.may);
-  next_is = ap after p.next_is ∙ next_push p.frames f;
+  next_is = is ∙ ap after p.next_is ∙ next_push p.frames f;
   is_taken = subst (Appends start.taken new.taken) (ap (λ (n : Next). answers p.frames ++ answer n f) p.next_is ∙ sym (answers_push p.frames f)) (appends_then start.taken now.taken new.taken (answers p.frames) (answer next f) p.is_taken carries.taken);
   stores = λ t s known. stores_then s p.frames f next now new p.next_is (carries.stores t) (p.stores t s known);
 }

@@ -67,3 +67,43 @@ fn read_piece<S: Source>(input: &mut S, reader: &mut RelpReader, room: usize) ->
         Err(FeedFault::NoMemory) => Err(Note::NoMemory),
     }
 }
+
+// Carries all frames that wait.
+fn carry_waiting<D: Disk, K: Sink>(
+    alloc: Global,
+    disk: &mut D,
+    slot: &mut OnlySlot,
+    output: &mut K,
+    reader: &mut RelpReader,
+    next: &mut Next,
+) -> Result<(), Note>
+    requires early { count_of next.old + length reader.old.waiting < 2 ^ 41 }
+    requires placed { IsPlaced (D.moment disk.old).size slot.old }
+    requires settled { D.tells → IsSettled (D.moment disk.old) }
+    requires closed { D.tells → slice_index (D.moment disk.old).reads (12288 + slot.old.gate) ≢ 1 }
+
+    ensures later { (D.moment disk.old).faults ≤ (D.moment disk.new).faults }
+    ensures disk_cause { IsErrOf result Note.DiskFault → Rose 1 (D.moment disk.old).faults (D.moment disk.new).faults }
+    ensures size { (D.moment disk.new).size ≡ (D.moment disk.old).size }
+    ensures placed { IsPlaced (D.moment disk.new).size slot.new }
+    ensures settled { OnOk result (D.tells → IsSettled (D.moment disk.new)) }
+    ensures closed { OnOk result (D.tells → slice_index (D.moment disk.new).reads (12288 + slot.new.gate) ≢ 1) }
+    ensures same { K.same output.old output.new }
+    ensures later_writes { K.write_faults output.old ≤ K.write_faults output.new }
+    ensures write_cause { IsErrOf result Note.WriteFault → Rose 1 (K.write_faults output.old) (K.write_faults output.new) }
+
+    ensures none { OnOk result (reader.new.waiting ≡ []) }
+    ensures reader { reader.new ≡ record reader.old { waiting = reader.new.waiting } }
+    ensures goes { OnOk result ((given given' : Option (List ℕ)) (start : Place) (total : ℕ)
+        → Progress D.tells given given' start (place (K.taken output.old) slot.old (D.moment disk.old).reads) reader.old next.old total
+        → Progress D.tells given given' start (place (K.taken output.new) slot.new (D.moment disk.new).reads) reader.new next.new total) }
+    ensures stops { IfErr result (λ note. (given given' : Option (List ℕ)) (start : Place) (total : ℕ)
+        → Progress D.tells given given' start (place (K.taken output.old) slot.old (D.moment disk.old).reads) reader.old next.old total
+        → Ran D.tells ⊥ given given' start (K.taken output.new) (D.moment disk.new).reads note) }
+{
+    while let Some(frame) = reader.take() {
+        carry_frame(alloc, disk, slot, output, *next, frame)?;
+        *next = next.after();
+    }
+    Ok(())
+}
