@@ -19,7 +19,7 @@ use Rattle.bridge_core.specs.declared.note.Note.TheVariants.{Fine, Usage, NoMemo
 use Rattle.bridge_core.specs.declared.slot.OnlySlot.{OnlySlot}
 use Rattle.bridge_core.specs.Slot.{IsKnown, IsFull, MayAdd}
 use Rattle.bridge_core.specs.Input.{MayCome, next_of, IsInput, BeginsInput}
-use Rattle.bridge_core.specs.Carried.{answer, answers, entry_of, entries_for, stored, with_entries, IsDue, Place, Stores, MayStore, Overflows, StopsAt}
+use Rattle.bridge_core.specs.Carried.{answer, answers, entry_of, entries_for, stored, with_entries, IsDue, Place, Stores, MayStore, Overflows, StopsAt, count_of}
 use Rattle.bridge_core.specs.Progress.{Progress, Ran, IsCut, IsLate, IsEnd, Overfull, NoneDue}
 use Rattle.bridge_core.proofs.Reading.{Split, HasNone, split, split_due, split_rest, split_fault, input_begins, misplaced, unfinished, one_due, none_due, whole_input, too_long}
 use Rattle.bridge_core.proofs.Running.{stored_push, with_push, stores_then}
@@ -181,3 +181,52 @@ module _ (tells : Type 0) (given given' : Option (List ℕ)) (start now : Place)
         stands = stands_whole NoMemory refl;
         ends = tt;
       }
+
+-- whether the input has ended is of no account where a frame was not carried
+ended_or : (ended : Type 0) (note : Note) (TooLong : Frame → Type 0) (read : List ℕ) (frames : List Frame) (tail : List ℕ) → IsEnd note ⊥ TooLong read frames tail → IsEnd note ended TooLong read frames tail
+ended_or ended Fine TooLong read frames tail e = absurd e.0
+ended_or ended NotBuilt TooLong read frames tail (inl e) = inl (e.0, elim e.1 [ inl never ↦ inl never | inr over ↦ absurd over.0 ])
+ended_or ended NotBuilt TooLong read frames tail (inr e) = inr e
+ended_or ended ReadFault TooLong read frames tail e = e
+ended_or ended WriteFault TooLong read frames tail e = e
+ended_or ended DiskFault TooLong read frames tail e = e
+ended_or ended NoMemory TooLong read frames tail e = e
+ended_or ended Usage TooLong read frames tail e = e
+
+pub ran_or : (tells ended : Type 0) (given given' : Option (List ℕ)) (start : Place) (taken' : Option (List ℕ)) (c : List ℕ) (note : Note) → Ran tells ⊥ given given' start taken' c note → Ran tells ended given given' start taken' c note
+ran_or tells ended given given' start taken' c note r = record {
+  read = r.read;
+  frames = r.frames;
+  front = r.front;
+  tail = r.tail;
+  cut = r.cut;
+  part = r.part;
+  is_given = r.is_given;
+  is_taken = r.is_taken;
+  in_order = r.in_order;
+  spelled = r.spelled;
+  whole = r.whole;
+  is_cut = r.is_cut;
+  stands = r.stands;
+  ends = ended_or ended note _ r.read r.frames r.tail r.ends;
+}
+
+pub count_next : (frames : List Frame) → count_of (next_of frames) ≡ length frames
+count_next [] = refl
+count_next (f ∷ fs) = omega arith
+
+-- at the end of the input
+pub at_end : (tells : Type 0) (given given' : Option (List ℕ)) (start now : Place) (reader : Reader) (next : Next) (total : ℕ) → Progress tells given given' start now reader next total → (ended : Type 0) → ended → reader.waiting ≡ [] → reader.fault ≡ None → total < 2 ^ 40
+    → (note : Note) → ((note ≡ Fine) × (length reader.rest ≡ 0)) ⊎ ((note ≡ NotBuilt) × (0 < length reader.rest)) → Ran tells ended given given' start now.taken now.reads note
+at_end tells given given' start now reader next total p ended over none sound short note (inl whole) =
+    subst (λ (n : Note). Ran tells ended given given' start now.taken now.reads n) (sym whole.0) (finished tells given given' start now reader next total p ended over none sound whole.1 short)
+at_end tells given given' start now reader next total p ended over none sound short note (inr rest) =
+    subst (λ (n : Note). Ran tells ended given given' start now.taken now.reads n) (sym rest.0) (cut_off tells given given' start now reader next total p ended over none sound rest.1)
+
+-- nothing was fed
+pub not_fed : (tells : Type 0) (given given' given'' : Option (List ℕ)) (start now : Place) (reader : Reader) (next : Next) (total : ℕ) → Progress tells given given' start now reader next total → (ended : Type 0) → reader.waiting ≡ [] → reader.fault ≡ None
+    → (note : Note) → (note ≡ ReadFault) ⊎ (note ≡ NoMemory) → (note ≡ ReadFault → Appends given' given'' []) → (note ≡ NoMemory → (piece : List ℕ) × Appends given' given'' piece) → Ran tells ended given given'' start now.taken now.reads note
+not_fed tells given given' given'' start now reader next total p ended none sound note (inl is) nothing piece =
+    subst (λ (n : Note). Ran tells ended given given'' start now.taken now.reads n) (sym is) (unread tells given given' start now reader next total p ended given'' (nothing is) none sound)
+not_fed tells given given' given'' start now reader next total p ended none sound note (inr is) nothing piece =
+    subst (λ (n : Note). Ran tells ended given given'' start now.taken now.reads n) (sym is) (starved tells given given' start now reader next total p ended given'' (piece is).0 (piece is).1)

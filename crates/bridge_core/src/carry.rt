@@ -91,6 +91,8 @@ pub fn carry_frame<D: Disk, K: Sink>(
     ensures later_writes { K.write_faults output.old ≤ K.write_faults output.new }
     ensures write_cause { IsErrOf result Note.WriteFault → Rose 1 (K.write_faults output.old) (K.write_faults output.new) }
 
+    ensures unread { IsErrOf result Note.ReadFault → ⊥ }
+
     ensures carried { OnOk result (Carries next frame D.tells (place (K.taken output.old) slot.old (D.moment disk.old).reads) (place (K.taken output.new) slot.new (D.moment disk.new).reads)) }
     ensures stopped { IfErr result (StopsAt next frame D.tells (place (K.taken output.old) slot.old (D.moment disk.old).reads) (place (K.taken output.new) slot.new (D.moment disk.new).reads)) }
 {

@@ -26,6 +26,7 @@ const LIMIT: u64 = 1 << 40;
 const PIECE: usize = 8192;
 
 /// What a read brought.
+#[derive(Clone, Copy)]
 struct Fed {
     /// How many bytes; 0 at the end of the input.
     len: usize,
@@ -91,6 +92,7 @@ fn carry_waiting<D: Disk, K: Sink>(
     ensures same { K.same output.old output.new }
     ensures later_writes { K.write_faults output.old ≤ K.write_faults output.new }
     ensures write_cause { IsErrOf result Note.WriteFault → Rose 1 (K.write_faults output.old) (K.write_faults output.new) }
+    ensures unread { IsErrOf result Note.ReadFault → ⊥ }
 
     ensures none { OnOk result (reader.new.waiting ≡ []) }
     ensures reader { reader.new ≡ record reader.old { waiting = reader.new.waiting } }
@@ -106,4 +108,58 @@ fn carry_waiting<D: Disk, K: Sink>(
         *next = next.after();
     }
     Ok(())
+}
+
+/// Reads the input to its end, at most 2^40 bytes, and carries its frames. The slot is that of the spool
+/// that the device holds.
+pub fn replay<D: Disk, S: Source, K: Sink>(
+    alloc: Global,
+    disk: &mut D,
+    slot: OnlySlot,
+    input: &mut S,
+    output: &mut K,
+) -> Note
+    requires placed { IsPlaced (D.moment disk.old).size slot }
+    requires settled { D.tells → IsSettled (D.moment disk.old) }
+    requires closed { D.tells → slice_index (D.moment disk.old).reads (12288 + slot.gate) ≢ 1 }
+
+    ensures disk_later { (D.moment disk.old).faults ≤ (D.moment disk.new).faults }
+    ensures disk_cause { result ≡ Note.DiskFault → Rose 1 (D.moment disk.old).faults (D.moment disk.new).faults }
+    ensures read_cause { result ≡ Note.ReadFault → Rose 1 (S.read_faults input.old) (S.read_faults input.new) }
+    ensures write_cause { result ≡ Note.WriteFault → Rose 1 (K.write_faults output.old) (K.write_faults output.new) }
+    ensures ran { Ran D.tells (IsAtEnd (S.left input.new)) (S.given input.old) (S.given input.new) (place (K.taken output.old) slot (D.moment disk.old).reads) (K.taken output.new) (D.moment disk.new).reads result }
+{
+    let mut slot = slot;
+    let mut reader = RelpReader::new(alloc);
+    let mut next = Next::Open;
+    let mut total = 0;
+    while total < LIMIT {
+        let room = (LIMIT - total).min(PIECE as u64) as usize;
+        let fed = match read_piece(input, &mut reader, room) {
+            Ok(fed) => fed,
+            Err(note) => return note,
+        };
+        total += fed.len as u64;
+        if let Err(note) = carry_waiting(alloc, disk, &mut slot, output, &mut reader, &mut next) {
+            return note;
+        }
+        if fed.is_faulty {
+            return Note::NotBuilt;
+        }
+        if fed.len == 0 {
+            return at_end(&reader);
+        }
+    }
+    Note::NotBuilt
+}
+
+// What the end of the input means: it is whole, or a frame is unfinished.
+fn at_end(reader: &RelpReader) -> Note
+    requires { reader.now.fault ≡ None }
+    ensures { (result ≡ Note.Fine × (length reader.now.rest ≡ 0)) ⊎ (result ≡ Note.NotBuilt × (0 < length reader.now.rest)) }
+{
+    match reader.rest_at() {
+        None => Note::Fine,
+        Some(_) => Note::NotBuilt,
+    }
 }

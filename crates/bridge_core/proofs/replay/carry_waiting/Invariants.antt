@@ -21,8 +21,8 @@ invariant-loop-frame g l =
       writes : g.K.Sink.write_faults l.fn.output ≤ g.K.Sink.write_faults l.output;
       reader : l.reader ≡ record l.fn.reader { waiting = l.reader.waiting };
       goes : (given given' : Option (List ℕ)) (start : Place) (total : ℕ)
-        → Progress g.D.Disk.tells given given' start (place (taken l.fn.output) l.fn.slot (moment l.fn.disk).reads) l.fn.reader l.fn.next total
-        → Progress g.D.Disk.tells given given' start (place (taken l.output) l.slot (moment l.disk).reads) l.reader l.next total;
+          → Progress g.D.Disk.tells given given' start (place (taken l.fn.output) l.fn.slot (moment l.fn.disk).reads) l.fn.reader l.fn.next total
+          → Progress g.D.Disk.tells given given' start (place (taken l.output) l.slot (moment l.disk).reads) l.reader l.next total;
     }
 
 abbrev pub decreases-loop-frame : goal.decreases-loop-frame
