@@ -1,4 +1,5 @@
 pub mod Emptiness
+pub mod Replaying
 pub mod Reading
 pub mod Running
 pub mod Stopping

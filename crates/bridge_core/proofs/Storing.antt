@@ -24,7 +24,7 @@ full entry slot group c is less s known = omega (arith, less, ap length is, leng
 group_of_one : (entry : Entry) → IsEntry entry → IsGroup (entry ∷ [])
 group_of_one entry is = record { some = omega arith; entries = All-push IsEntry [] entry (All-nil IsEntry) is }
 
-at_zero : (s : SpoolState) → s.active.place ≡ 0 → slot_at s.size s.active.place ≡ 12288
+pub at_zero : (s : SpoolState) → s.active.place ≡ 0 → slot_at s.size s.active.place ≡ 12288
 at_zero s is = ap (λ (n : ℕ). slot_at s.size n) is ∙ omega arith
 
 -- one entry more has a number
@@ -35,7 +35,7 @@ numbers s slot c known lt small =
     omega (arith, from_zero, none, length-append (entries_in s.older) (entries_of s.active.segment), entries_fit s.active.segment, known.gate, lt, small)
 
 -- the closing gate, as the spool knows it
-gate_there : (s : SpoolState) (slot : OnlySlot) (c : List ℕ) → IsKnown s slot c → 12288 + slot.size ≤ length c
+pub gate_there : (s : SpoolState) (slot : OnlySlot) (c : List ℕ) → IsKnown s slot c → 12288 + slot.size ≤ length c
 gate_there s slot c known = omega (arith, known.stands.long, known.size, at_zero s known.place, inside s.size s.active.place s.slots known.stands.sound.active.place)
 
 behind : (g : List ℕ) → get_or (1 ∷ g ++ 0 ∷ []) (length g + 1) 0 ≡ 0

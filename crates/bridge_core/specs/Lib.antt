@@ -5,3 +5,4 @@ pub mod Notes
 pub mod Empty
 pub mod Slot
 pub mod Progress
+pub mod Replayed

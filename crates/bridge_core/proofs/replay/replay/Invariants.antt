@@ -20,7 +20,7 @@ invariant-loop-total g l =
       none : l.reader.waiting ≡ [];
       sound : l.reader.fault ≡ None;
       progress : Progress g.D.Disk.tells (g.S.Source.given l.fn.input) (g.S.Source.given l.input)
-        (place (g.K.Sink.taken l.fn.output) l.fn.slot (moment l.fn.disk).reads) (place (g.K.Sink.taken l.output) l.slot (moment l.disk).reads) l.reader l.next l.total;
+          (place (g.K.Sink.taken l.fn.output) l.fn.slot (moment l.fn.disk).reads) (place (g.K.Sink.taken l.output) l.slot (moment l.disk).reads) l.reader l.next l.total;
     }
 
 abbrev pub decreases-loop-total : goal.decreases-loop-total
