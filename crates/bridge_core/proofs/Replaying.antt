@@ -25,10 +25,10 @@ gate_closed s slot c known one =
     let lt : length text < s.size = omega (arith, length-part 12288 s.size c room, ap length holds.text, length-append text holds.rest, holds.more) in
     let none : length text - length text ≡ 0 = omega arith in
     let here : get_or c (12288 + slot.gate) 0 ≡ get_or holds.rest 0 0 =
-        sym (get_or-part 12288 s.size c (length text) (12288 + slot.gate) lt (omega (arith, known.gate)))
-        ∙ ap (λ (l : List ℕ). get_or l (length text) 0) holds.text
-        ∙ get_or-append_right text holds.rest (length text) (length text) 0 refl (omega arith)
-        ∙ ap (λ (n : ℕ). get_or holds.rest n 0) none in
+    sym (get_or-part 12288 s.size c (length text) (12288 + slot.gate) lt (omega (arith, known.gate)))
+    ∙ ap (λ (l : List ℕ). get_or l (length text) 0) holds.text
+    ∙ get_or-append_right text holds.rest (length text) (length text) 0 refl (omega arith)
+    ∙ ap (λ (n : ℕ). get_or holds.rest n 0) none in
     holds.closed (sym here ∙ one)
 
 -- another way to say that an entry has no room
@@ -47,9 +47,9 @@ pub replayed : (tells ended : Type 0) (before found after : List ℕ) (given giv
     → Replayed tells ended before after given given' taken taken' note
 replayed tells ended before found after given given' taken taken' slot note same empty r =
     let holds : tells → Holds before after note r.frames r.cut = λ t.
-        let e = empty t in
-        let s = r.stands t e.0 e.2 in
-        record { state = e.0; empty = e.1; stood = subst (λ (c : List ℕ). StandsFor e.0 c) (same t) e.2.stands; late = s.0; is_late = s.1; stands = s.2 } in
+    let e = empty t in
+    let s = r.stands t e.0 e.2 in
+    record { state = e.0; empty = e.1; stood = subst (λ (c : List ℕ). StandsFor e.0 c) (same t) e.2.stands; late = s.0; is_late = s.1; stands = s.2 } in
     record {
       read = r.read;
       frames = r.frames;
