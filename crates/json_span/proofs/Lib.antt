@@ -1,0 +1,9 @@
+pub mod TextLaws
+pub mod ItemLaws
+pub mod TokenForth
+pub mod TokenBack
+pub mod TokenLaws
+pub mod StepForth
+pub mod StepBack
+pub mod RunLaws
+pub mod RaiseLaws

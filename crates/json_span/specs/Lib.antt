@@ -1,0 +1,4 @@
+pub mod Numbers
+pub mod Strings
+pub mod Json
+pub mod Machine
