@@ -7,3 +7,12 @@ pub mod StepForth
 pub mod StepBack
 pub mod RunLaws
 pub mod RaiseLaws
+pub mod BitLaws
+pub mod Stretches
+pub mod Fronts
+pub mod Values
+pub mod ScanLaws
+pub mod TailLaws
+pub mod TailRuns
+pub mod FaultPlaces
+pub mod Exact

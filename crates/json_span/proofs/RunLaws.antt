@@ -26,7 +26,7 @@ hex_live : (n : ℕ) → (x : List ℕ) × AreHex n x
 hex_live zero = ([], refl)
 hex_live (suc n) = let r = hex_live n in (48 ∷ r.0, (48, r.0, refl, refl, r.1))
 
-tail_live : (w : Bounds) (n : ℕ) → (x : List ℕ) × AreTail w n x
+pub tail_live : (w : Bounds) (n : ℕ) → (x : List ℕ) × AreTail w n x
 tail_live Any zero = (128 ∷ [], (128, refl, refl))
 tail_live FromA0 zero = (160 ∷ [], (160, refl, refl))
 tail_live To9F zero = (128 ∷ [], (128, refl, refl))

@@ -59,7 +59,7 @@ begin_forth (suc d) st c v y (inr (inr i)) r =
     let k : Completes (Names d st) (i.0 ++ y) = spaced_join (λ z. Byte 125 IsEmpty z ⊎ Then (IsMember (Json d)) (Items (IsMember (Json d)) 125) z) i.0 y (λ z. Byte 125 (Rest st (suc d)) z ⊎ Then (IsMember (Json d)) (Rest (Object ∷ st) d) z) (group_join (IsMember (Json d)) 125 (Rest st (suc d)) y r) i.2 in
     subst (λ z. After (begin (suc d) st z) (v ++ y) × (is_space z ≡ false)) (sym q) (subst (λ z. Completes (Names d st) (z ++ y)) (sym w) k, refl)
 
-value_forth : (d : ℕ) (st : List Bracket) (c : ℕ) (b : List ℕ) → Then (Json d) (Rest st d) (c ∷ b) → After (begin d st c) b × (is_space c ≡ false)
+pub value_forth : (d : ℕ) (st : List Bracket) (c : ℕ) (b : List ℕ) → Then (Json d) (Rest st d) (c ∷ b) → After (begin d st c) b × (is_space c ≡ false)
 value_forth d st c b h = go h.0 h.2 h.3
   where
     go : (v : List ℕ) → Json d v → c ∷ b ≡ v ++ h.1 → After (begin d st c) b × (is_space c ≡ false)

@@ -74,7 +74,7 @@ token_ends Escape e = cc
 token_ends (Hex n) e = cc
 token_ends (Tail w n) e = cc
 
-of_space : (P : ℕ → Type 0) → P 32 → P 9 → P 10 → P 13 → (c : ℕ) → is_space c ≡ true → P c
+pub of_space : (P : ℕ → Type 0) → P 32 → P 9 → P 10 → P 13 → (c : ℕ) → is_space c ≡ true → P c
 of_space P a b d e c h = go (eqb c 32) refl (eqb c 9) refl (eqb c 10) refl (eqb c 13) refl h
   where
     go : (p : Bool) → eqb c 32 ≡ p → (q : Bool) → eqb c 9 ≡ q → (r : Bool) → eqb c 10 ≡ r → (s : Bool) → eqb c 13 ≡ s → ((p || q) || (r || s)) ≡ true → P c

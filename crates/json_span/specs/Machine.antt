@@ -1,6 +1,6 @@
 -- The machine that the code is: where it stands in a JSON value after each byte, with a stack of open brackets. No public
 -- contract names it; proofs show that it takes exactly the beginnings of JSON values.
-use Rattle.std.specs.Prelude.{◌≡◌, ℕ, ◌+◌, zero, suc, ◌⊎◌, Bool, true, false, ◌==◌, ◌||◌, if◌then◌else◌, List, [], ◌∷◌, ◌++◌, Option, Some, None}
+use Rattle.std.specs.Prelude.{◌≤◌, ◌<◌, slice_index, ◌≡◌, ℕ, ◌+◌, zero, suc, ◌⊎◌, Bool, true, false, ◌==◌, ◌||◌, if◌then◌else◌, List, [], ◌∷◌, ◌++◌, Option, Some, None}
 use Rattle.json_span.specs.Numbers.{between, is_digit, AreDigits, AreSomeDigits, IsSign, IsExp, IsFrac, IsUnsigned}
 use Rattle.json_span.specs.Strings.{Bounds, Any, within, Lead, lead, AreTail, is_plain, is_escape, is_hex, AreHex, CharKind, EndsString}
 use Rattle.json_span.specs.Json.{is_space, Spaced, Byte, Then, IsMember, Json}
@@ -184,3 +184,17 @@ onward (Fails w) k = Stopped w
 abbrev pub run : State → List ℕ → Run
 run s [] = Going s
 run s (c ∷ b) = onward (step s c) (λ t. run t b)
+
+-- within a string, number or literal
+abbrev pub token_in : State → Option Token
+token_in (InName t d st) = Some t
+token_in (In t d st) = Some t
+token_in s = None
+
+abbrev pub is_tail : Option Token → Bool
+is_tail (Some (Tail bounds more)) = true
+is_tail t = false
+
+-- the last place of a byte of 192 or more, at most three before `fault`
+abbrev pub IsLastLead : List ℕ → ℕ → ℕ → Type 0
+IsLastLead bytes fault last = (k : ℕ) → k < fault → fault ≤ k + 3 → 192 ≤ slice_index bytes k → ((j : ℕ) → k < j → j < fault → slice_index bytes j < 192) → last ≡ k

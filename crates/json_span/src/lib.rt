@@ -1,3 +1,11 @@
-//! x
+//! Spans of JSON.
 #![tactic(auto)]
-fn f() {}
+
+mod bytes;
+mod reading;
+mod scan;
+mod span;
+mod token;
+
+pub use scan::first_value;
+pub use span::{JsonFault, Span};

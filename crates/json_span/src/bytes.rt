@@ -1,0 +1,45 @@
+//! Kinds of bytes.
+ghost use Rattle.std.specs.Prelude.{◌≡◌, ◌≤◌, ◌<◌, length, slice_index, false};
+ghost use Rattle.json_span.specs.Numbers.{is_digit};
+ghost use Rattle.json_span.specs.Strings.{is_hex};
+ghost use Rattle.json_span.specs.Json.{is_space, AreSpaces};
+ghost use Rattle.json_span.specs.Machine.{is_e};
+ghost use Rattle.json_span.specs.Spans.{Stretch};
+
+pub(crate) fn space(byte: u8) -> bool
+    ensures { result ≡ is_space byte }
+{
+    byte == b' ' || byte == b'\t' || byte == b'\n' || byte == b'\r'
+}
+
+pub(crate) fn digit(byte: u8) -> bool
+    ensures { result ≡ is_digit byte }
+{
+    b'0' <= byte && byte <= b'9'
+}
+
+pub(crate) fn exponent(byte: u8) -> bool
+    ensures { result ≡ is_e byte }
+{
+    byte == b'e' || byte == b'E'
+}
+
+pub(crate) fn hex(byte: u8) -> bool
+    ensures { result ≡ is_hex byte }
+{
+    digit(byte) || (b'A' <= byte && byte <= b'F') || (b'a' <= byte && byte <= b'f')
+}
+
+/// The first place from `at` on where no white space stands.
+pub(crate) fn behind_space(bytes: &[u8], at: usize) -> usize
+    requires { at ≤ length bytes.now }
+    ensures spaces { Stretch AreSpaces bytes.now at result }
+    ensures stops { result < length bytes.now → is_space (slice_index bytes.now result) ≡ false }
+{
+    for i in at..bytes.len() {
+        if !space(bytes[i]) {
+            return i;
+        }
+    }
+    bytes.len()
+}
