@@ -143,3 +143,9 @@ run_front s t (c ∷ x) y e = go (step s c) (λ u. run_front u t x y) e
     go : (p : Step) → ((u : State) → run u (x ++ y) ≡ Going t → (v : State) × (run u x ≡ Going v) × (run v y ≡ Going t)) → onward p (λ u. run u (x ++ y)) ≡ Going t → (v : State) × (onward p (λ u. run u x) ≡ Going v) × (run v y ≡ Going t)
     go (Goes u) k f = k u f
     go (Fails w) k f = cc
+
+-- A value of so many levels is one of more.
+pub json_more : (d n : ℕ) (x : List ℕ) → d ≤ n → Json d x → Json n x
+json_more d n x h i =
+    let v = value_run d x (spaced_now (Json d) x i) in
+    spaced_value n x (λ c y e. value_first d c y (subst (Json d) e i)) (run_value n (raise (n - d) v.0) x (up d n v.0 x h v.1) (raise_accepts (n - d) v.0 ∙ v.2))

@@ -16,3 +16,8 @@ pub mod TailLaws
 pub mod TailRuns
 pub mod FaultPlaces
 pub mod Exact
+pub mod Following
+pub mod Parts
+pub mod MemberLaws
+pub mod WalkLaws
+pub mod ObjectLaws

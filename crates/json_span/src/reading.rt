@@ -17,7 +17,7 @@ pub(crate) enum Place {
     In(Token),
 }
 
-/// A place, how many levels may still be opened, how many are depth, and their brackets, the innermost
+/// A place, how many levels may still be opened, how many are open, and their brackets, the innermost
 /// in the lowest bit.
 #[derive(Clone, Copy)]
 pub(crate) struct Reading {
