@@ -1,5 +1,5 @@
 -- What is answered at a place of some bytes is determined by them.
-use Rattle.std.proofs.Common.{◌≡◌, ℕ, ◌+◌, ◌≤◌, ◌<◌, Bool, true, false, List, [], ◌∷◌, ◌++◌, length, get_or, drop, refl, sym, ap, ◌∙◌, suc, zero, subst, inl, inr, arith, ◌⊎◌}
+use Rattle.std.proofs.Common.{◌≡◌, ℕ, ◌+◌, ◌≤◌, ◌<◌, List, drop, refl, sym, ap, ◌∙◌, subst, inl, inr, arith}
 use Rattle.std.specs.Prelude.{slice_range, Result, Ok, Err, ◌↔◌}
 use Rattle.json_span.specs.Json.{Json}
 use Rattle.json_span.specs.Spans.{Stretch, Begins, NoValue, IsFirst, IsCut, IsFault, IsFaultPlace, IsNotJson, IsTooDeep, IsAnswer}

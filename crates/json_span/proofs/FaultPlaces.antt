@@ -1,12 +1,12 @@
 -- Where a fault is found: at the character that the faulty byte leaves unfinished.
-use Rattle.std.proofs.Common.{◌≡◌, ◌≢◌, ℕ, ◌+◌, ◌-◌, ◌≤◌, ◌<◌, Bool, true, false, ◌||◌, ◌&&◌, cond, eqb, leb, List, [], ◌∷◌, ◌++◌, length, get_or, refl, sym, ap, ◌∙◌, suc, zero, subst, inl, inr, arith, ◌⊎◌, Option, Some, None}
+use Rattle.std.proofs.Common.{◌≡◌, ◌≢◌, ℕ, ◌+◌, ◌-◌, ◌≤◌, ◌<◌, Bool, true, false, cond, eqb, List, [], ◌∷◌, ◌++◌, length, get_or, refl, sym, ap, ◌∙◌, suc, zero, subst, inl, inr, arith, Some, None}
 use Rattle.std.specs.Prelude.{slice_range}
 use Rattle.std.specs.List.{AllByRecursion}
 use Rattle.std.proofs.lemmas.List.Edits.{length-between, get_or-between}
 use Rattle.json_span.specs.Numbers.{between}
 use Rattle.json_span.specs.Strings.{Bounds, Any, FromA0, To9F, From90, To8F, within, Lead, lead, lead_of, AreTail, Wide, IsChar, IsBegun}
 use Rattle.json_span.specs.Json.{is_space, AreSpaces}
-use Rattle.json_span.specs.Machine.{IsLastLead, Token, Tail, State, Value, Run, Going, run, token_in, is_tail}
+use Rattle.json_span.specs.Machine.{IsLastLead, State, Value, Going, run, token_in, is_tail}
 use Rattle.json_span.specs.Spans.{Stretch, IsFaultPlace}
 use Rattle.json_span.proofs.TokenForth.{lead_low, between_high}
 use Rattle.json_span.proofs.TailLaws.{lead_not_space}

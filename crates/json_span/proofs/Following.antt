@@ -1,11 +1,10 @@
 -- A value with a byte behind it that may follow one goes no further.
-use Rattle.std.proofs.Common.{◌≡◌, ℕ, ◌+◌, ◌-◌, ◌≤◌, ◌<◌, Bool, true, false, cond, List, [], ◌∷◌, ◌++◌, length, get_or, refl, sym, ap, ◌∙◌, suc, zero, subst, append_assoc, arith, Option, Some, None}
+use Rattle.std.proofs.Common.{◌≡◌, ℕ, ◌+◌, ◌≤◌, ◌<◌, true, List, [], ◌∷◌, ◌++◌, get_or, refl, sym, ap, ◌∙◌, subst, append_assoc, arith, None}
 use Rattle.std.specs.Prelude.{slice_range}
-use Rattle.json_span.specs.Json.{is_space, AreSpaces, Json}
-use Rattle.json_span.specs.Machine.{Bracket, Token, State, Value, First, Names, Name, InName, In, done, next, behind, Follows, Step, Goes, Fails, Why, Bad, or_else, step, accepts, Run, Going, Stopped, onward, run}
-use Rattle.json_span.specs.Spans.{Stretch, Begins, IsFirst}
+use Rattle.json_span.specs.Json.{AreSpaces, Json}
+use Rattle.json_span.specs.Machine.{State, Value, First, Names, Name, InName, In, next, behind, Follows, Fails, Bad, step, accepts, Going, Stopped, onward, run}
+use Rattle.json_span.specs.Spans.{Stretch, IsFirst}
 use Rattle.json_span.specs.Walk.{IsFollowed}
-use Rattle.json_span.specs.declared.span.Span.{Span}
 use Rattle.json_span.proofs.TextLaws.{spaced_now}
 use Rattle.json_span.proofs.TokenLaws.{token_stops}
 use Rattle.json_span.proofs.RunLaws.{run_push}
@@ -36,7 +35,7 @@ first_followed bytes at start end w v f = record { space = w; value = v; longest
     longest : (d e : ℕ) → Stretch (Json d) bytes start e → e ≤ end
     longest d e s =
         let no : end < e → ⊥ = λ h.
-            let p : slice_range bytes start e ≡ slice_range bytes start end ++ slice_range bytes end e = range_split bytes start end e v.order (omega (arith, h)) in
-            let q : slice_range bytes end e ≡ get_or bytes end 0 ∷ slice_range bytes (end + 1) e = range_head bytes end e h s.bound in
-            no_longer 127 d (slice_range bytes start end) (slice_range bytes (end + 1) e) (get_or bytes end 0) v.text (f (omega (arith, h, s.bound))) (subst (Json d) (p ∙ ap (λ z. slice_range bytes start end ++ z) q) s.text) in
+        let p : slice_range bytes start e ≡ slice_range bytes start end ++ slice_range bytes end e = range_split bytes start end e v.order (omega (arith, h)) in
+        let q : slice_range bytes end e ≡ get_or bytes end 0 ∷ slice_range bytes (end + 1) e = range_head bytes end e h s.bound in
+        no_longer 127 d (slice_range bytes start end) (slice_range bytes (end + 1) e) (get_or bytes end 0) v.text (f (omega (arith, h, s.bound))) (subst (Json d) (p ∙ ap (λ z. slice_range bytes start end ++ z) q) s.text) in
         omega (arith, no)

@@ -1,12 +1,12 @@
 -- What the machine says of the beginnings of values.
-use Rattle.std.proofs.Common.{◌≡◌, ℕ, ◌+◌, ◌-◌, ◌≤◌, ◌<◌, Bool, true, false, leb, List, [], ◌∷◌, ◌++◌, length, refl, sym, ap, ◌∙◌, suc, zero, subst, append_assoc, inl, inr, arith, ◌⊎◌}
+use Rattle.std.proofs.Common.{◌≡◌, ℕ, ◌+◌, ◌-◌, ◌≤◌, Bool, true, false, leb, List, [], ◌∷◌, ◌++◌, refl, sym, ap, ◌∙◌, subst, append_assoc, inl, inr, arith, ◌⊎◌}
 use Rattle.std.proofs.lemmas.List.{append-nil}
 use Rattle.std.proofs.lemmas.Bool.{leb-true, le-leb}
 use Rattle.json_span.specs.Json.{is_space, AreSpaces, Spaced, Then, Json}
-use Rattle.json_span.specs.Machine.{Bracket, State, Value, In, Rest, Completes, Why, Bad, Deep, Step, Goes, Fails, step, accepts, Run, Going, Stopped, onward, run}
+use Rattle.json_span.specs.Machine.{State, Value, Rest, Completes, Why, Bad, Deep, Step, Goes, Fails, step, accepts, Going, Stopped, onward, run}
 use Rattle.json_span.specs.Spans.{Begins}
-use Rattle.json_span.proofs.TextLaws.{spaced_forth, spaced_back, spaced_now, spaced_nil, spaced_map}
-use Rattle.json_span.proofs.StepForth.{value_forth, json_some}
+use Rattle.json_span.proofs.TextLaws.{spaced_forth, spaced_back, spaced_now, spaced_map}
+use Rattle.json_span.proofs.StepForth.{value_forth}
 use Rattle.json_span.proofs.RunLaws.{live, runs, ran, run_push, accepted, accepting}
 use Rattle.json_span.proofs.RaiseLaws.{raise, Raised, raise_step, raise_accepts, raise_going, raise_bad}
 

@@ -1,5 +1,5 @@
 -- Items, groups and members with more bytes behind them.
-use Rattle.std.proofs.Common.{◌≡◌, ◌≢◌, ℕ, ◌+◌, ◌-◌, ◌≤◌, ◌<◌, Bool, true, false, ◌||◌, ◌&&◌, cond, eqb, leb, List, [], ◌∷◌, ◌++◌, refl, sym, ap, ◌∙◌, suc, zero, subst, append_assoc, inl, inr, arith, ◌⊎◌, Option, Some, None}
+use Rattle.std.proofs.Common.{◌≡◌, ℕ, true, List, [], ◌∷◌, ◌++◌, refl, sym, suc, zero, subst, inl, inr, ◌⊎◌}
 use Rattle.json_span.specs.Strings.{IsString}
 use Rattle.json_span.specs.Json.{Byte, IsEmpty, IsMember, Items, Spaced, Then, is_space}
 use Rattle.json_span.specs.Machine.{ClosesThen, ItemsThen}

@@ -1,11 +1,11 @@
 -- The members of an object one by one.
-use Rattle.std.proofs.Common.{◌≡◌, ◌≢◌, ℕ, ◌+◌, ◌-◌, ◌≤◌, ◌<◌, Bool, true, false, List, [], ◌∷◌, ◌++◌, length, get_or, refl, sym, ap, ◌∙◌, suc, zero, subst, arith, inl, inr, ◌⊎◌}
+use Rattle.std.proofs.Common.{◌≡◌, ◌≢◌, ℕ, ◌+◌, ◌<◌, false, List, [], ◌∷◌, length, get_or, refl, sym, ap, ◌∙◌, suc, zero, subst, arith, inl, inr, ◌⊎◌}
 use Rattle.std.specs.Prelude.{slice_range}
 use Rattle.json_span.specs.Strings.{IsString}
-use Rattle.json_span.specs.Json.{is_space, AreSpaces, Spaced, Byte, Then, IsEmpty, Further, Items, IsMember, Json, JsonObject}
-use Rattle.json_span.specs.Machine.{Follows, Space, Comma, EndObject, Colon}
+use Rattle.json_span.specs.Json.{is_space, AreSpaces, Spaced, Byte, Then, IsEmpty, Further, Items, IsMember, Json}
+use Rattle.json_span.specs.Machine.{Comma, EndObject, Colon}
 use Rattle.json_span.specs.Spans.{Stretch}
-use Rattle.json_span.specs.Members.{Separator, IsMemberAt, AreFurther, HasMembers}
+use Rattle.json_span.specs.Members.{Separator, IsMemberAt, AreFurther}
 use Rattle.json_span.specs.Walk.{IsFollowed, MembersLeft, IsLeft, AreAhead}
 use Rattle.json_span.specs.declared.span.Span.{Span}
 use Rattle.json_span.specs.declared.object.Member.{Member}
@@ -13,7 +13,7 @@ use Rattle.json_span.proofs.ItemLaws.{member_flat}
 use Rattle.json_span.proofs.StepForth.{json_scalar}
 use Rattle.json_span.proofs.Fronts.{json_more}
 use Rattle.json_span.proofs.Stretches.{space_ends, no_spaces}
-use Rattle.json_span.proofs.Parts.{stretch_map, then_at, then_back, ByteAt, byte_at, byte_back, separator_back, followed}
+use Rattle.json_span.proofs.Parts.{stretch_map, then_at, then_back, byte_at, separator_back, followed}
 
 abbrev V : List ℕ → Type 0
 V = Json 126
@@ -104,14 +104,14 @@ member_here bytes at end m result n v =
     let a : result.name.start ≡ at = ap (λ s. s.start) n in
     let b : result.name.end ≡ m.name_end = ap (λ s. s.end) n in
     let c : result.value.start ≡ m.start = ap (λ s. s.start) v in
-    let d : result.value.end ≡ m.to = ap (λ s. s.end) v in
-    ( a
-    , record {
+    let d : result.value.end ≡ m.to = ap (λ s. s.end) v in (
+      a,
+      record {
         name = subst (λ s. Stretch IsString bytes s.start s.end) (sym n) m.name;
         colon = subst (λ s. Stretch (Spaced (Byte 58 AreSpaces)) bytes s.end result.value.start) (sym n) (subst (λ s. Stretch (Spaced (Byte 58 AreSpaces)) bytes m.name_end s.start) (sym v) (separator_back 58 bytes m.name_end m.colon m.start m.before m.colon_is m.after));
         value = subst (λ s. Stretch (Json 126) bytes s.start s.end) (sym v) m.value;
-      }
-    , subst (λ z. Stretch K bytes z end) (sym d) m.rest
+      },
+      subst (λ z. Stretch K bytes z end) (sym d) m.rest,
     )
 
 -- behind a member

@@ -1,11 +1,10 @@
 -- Objects among values, and whole texts that are one.
-use Rattle.std.proofs.Common.{◌≡◌, ℕ, ◌+◌, ◌-◌, ◌≤◌, ◌<◌, Bool, true, false, List, [], ◌∷◌, ◌++◌, length, get_or, drop, refl, sym, ap, ◌∙◌, suc, zero, subst, arith, inl, inr, ◌⊎◌}
+use Rattle.std.proofs.Common.{◌≡◌, ℕ, ◌+◌, ◌<◌, true, false, List, ◌∷◌, length, get_or, sym, ap, ◌∙◌, suc, zero, subst, arith, inl, inr}
 use Rattle.std.specs.Prelude.{slice_range}
-use Rattle.json_span.specs.Numbers.{between, IsInt, IsUnsigned}
-use Rattle.json_span.specs.Json.{is_space, AreSpaces, Spaced, Then, IsScalar, Json, JsonObject}
-use Rattle.json_span.specs.Machine.{Follows, Space, first}
+use Rattle.json_span.specs.Json.{is_space, AreSpaces, Then, IsScalar, Json, JsonObject}
+use Rattle.json_span.specs.Machine.{Space, first}
 use Rattle.json_span.specs.Spans.{Stretch, IsFirst}
-use Rattle.json_span.specs.Members.{IsObjectText}
+use Rattle.json_span.specs.Members.{HasObject, IsObjectText}
 use Rattle.json_span.specs.declared.span.Span.{Span}
 use Rattle.json_span.proofs.TokenLaws.{scalar_forth}
 use Rattle.json_span.proofs.Stretches.{range_whole, space_within}
@@ -29,18 +28,21 @@ pub object_json : (d : ℕ) (x : List ℕ) → JsonObject d x → Json d x
 object_json zero x i = absurd i
 object_json (suc d) x i = inr (inr i)
 
+-- the first value is an object where its first byte is a brace
+pub first_object : (bytes : List ℕ) (at : ℕ) (s : Span) → IsFirst bytes at s → get_or bytes s.start 0 ≡ 123 → HasObject bytes s
+first_object bytes at s f b = record {
+  order = f.value.order;
+  bound = f.value.bound;
+  text =
+      let h = range_head bytes s.start s.end (value_some bytes 127 s.start s.end f.value) f.value.bound in
+      let q = h ∙ ap (λ z. z ∷ slice_range bytes (s.start + 1) s.end) b in
+      subst (JsonObject 127) (sym q) (json_object 127 (slice_range bytes (s.start + 1) s.end) (subst (Json 127) q f.value.text));
+}
+
 -- one object, and nothing but white space round it
 pub object_text : (bytes : List ℕ) (s : Span) (to : ℕ) → IsFirst bytes 0 s → get_or bytes s.start 0 ≡ 123 → Stretch AreSpaces bytes s.end to → to ≡ length bytes → IsObjectText bytes
 object_text bytes s to f b w e =
-    let o : s.start < s.end = value_some bytes 127 s.start s.end f.value in
-    let h = range_head bytes s.start s.end o f.value.bound in
-    let c : Stretch (JsonObject 127) bytes s.start s.end = record {
-      order = f.value.order;
-      bound = f.value.bound;
-      text =
-          let q = h ∙ ap (λ z. z ∷ slice_range bytes (s.start + 1) s.end) b in
-          subst (JsonObject 127) (sym q) (json_object 127 (slice_range bytes (s.start + 1) s.end) (subst (Json 127) q f.value.text));
-    } in
+    let c : Stretch (JsonObject 127) bytes s.start s.end = first_object bytes 0 s f b in
     let v : Stretch (Then (JsonObject 127) AreSpaces) bytes s.start (length bytes) = then_back (JsonObject 127) AreSpaces bytes s.start s.end (length bytes) c (subst (Stretch AreSpaces bytes s.end) e w) in
     let t : Stretch IsObjectText bytes 0 (length bytes) = then_back AreSpaces (Then (JsonObject 127) AreSpaces) bytes 0 s.start (length bytes) f.space v in
     subst IsObjectText (sym (range_whole bytes 0 (omega arith))) t.text

@@ -1,7 +1,7 @@
 -- Texts in parts, by the places of the bytes.
-use Rattle.std.proofs.Common.{◌≡◌, ℕ, ◌+◌, ◌-◌, ◌≤◌, ◌<◌, Bool, true, false, List, [], ◌∷◌, ◌++◌, length, get_or, refl, sym, ap, ◌∙◌, suc, zero, subst, arith, inl, inr, ◌⊎◌}
+use Rattle.std.proofs.Common.{◌≡◌, ℕ, ◌+◌, ◌≤◌, ◌<◌, List, [], ◌∷◌, ◌++◌, length, get_or, sym, ap, ◌∙◌, subst, arith}
 use Rattle.std.specs.Prelude.{slice_range}
-use Rattle.json_span.specs.Json.{is_space, AreSpaces, Spaced, Byte, Then}
+use Rattle.json_span.specs.Json.{AreSpaces, Spaced, Byte, Then}
 use Rattle.json_span.specs.Machine.{Follows, Space}
 use Rattle.json_span.specs.Spans.{Stretch}
 use Rattle.json_span.specs.Members.{Separator}
@@ -16,10 +16,10 @@ stretch_map P Q bytes a b f s = record { order = s.order; bound = s.bound; text 
 pub then_at : (P Q : List ℕ → Type 0) (bytes : List ℕ) (a c : ℕ) → Stretch (Then P Q) bytes a c → (b : ℕ) × Stretch P bytes a b × Stretch Q bytes b c
 then_at P Q bytes a c s =
     let t = s.text in
-    let p = range_parts bytes t.0 t.1 a c s.order s.bound t.3 in
-    ( a + length t.0
-    , record { order = omega arith; bound = omega (arith, p.0, s.bound); text = subst P (sym p.1) t.2 }
-    , record { order = p.0; bound = s.bound; text = subst Q (sym p.2) t.4 }
+    let p = range_parts bytes t.0 t.1 a c s.order s.bound t.3 in (
+      a + length t.0,
+      record { order = omega arith; bound = omega (arith, p.0, s.bound); text = subst P (sym p.1) t.2 },
+      record { order = p.0; bound = s.bound; text = subst Q (sym p.2) t.4 },
     )
 
 pub then_back : (P Q : List ℕ → Type 0) (bytes : List ℕ) (a b c : ℕ) → Stretch P bytes a b → Stretch Q bytes b c → Stretch (Then P Q) bytes a c

@@ -1,5 +1,5 @@
 -- With more levels the machine does the same, but where it is too deep.
-use Rattle.std.proofs.Common.{◌≡◌, ◌≢◌, ℕ, ◌+◌, ◌-◌, ◌≤◌, ◌<◌, Bool, true, false, ◌||◌, ◌&&◌, cond, eqb, leb, List, [], ◌∷◌, ◌++◌, refl, sym, ap, ◌∙◌, suc, zero, subst, append_assoc, inl, inr, arith, ◌⊎◌, Option, Some, None}
+use Rattle.std.proofs.Common.{◌≡◌, ℕ, ◌+◌, Bool, true, false, cond, eqb, List, [], ◌∷◌, refl, sym, ap, suc, zero, arith, Option, Some, None}
 use Rattle.json_span.specs.Json.{is_space}
 use Rattle.json_span.specs.Machine.{Array, Bad, Bracket, Chars, Closed, Deep, Fails, First, Goes, Going, In, InName, Name, Names, Object, State, Step, Stopped, Token, Value, accepts, begin, begin_array, begin_object, behind, done, first, next, onward, or_else, run, step}
 

@@ -1,5 +1,5 @@
 -- Runs of the machine, and where a value may end.
-use Rattle.std.proofs.Common.{◌≡◌, ◌≢◌, ℕ, ◌+◌, ◌-◌, ◌≤◌, ◌<◌, Bool, true, false, ◌||◌, ◌&&◌, cond, eqb, leb, List, [], ◌∷◌, ◌++◌, refl, sym, ap, ◌∙◌, suc, zero, subst, append_assoc, inl, inr, arith, ◌⊎◌, Option, Some, None}
+use Rattle.std.proofs.Common.{◌≡◌, ℕ, true, List, [], ◌∷◌, ◌++◌, refl, sym, ap, ◌∙◌, suc, zero, subst, inl, inr, ◌⊎◌}
 use Rattle.json_span.specs.Strings.{Any, AreHex, AreTail, Bounds, From90, FromA0, To8F, To9F}
 use Rattle.json_span.specs.Json.{Byte, IsMember, IsScalar, Json, Spaced, Then}
 use Rattle.json_span.specs.Machine.{After, Array, Bracket, Chars, Closed, ClosesThen, Completes, Dot, E, Ends, Escape, Exp, Fails, First, Frac, Goes, Going, Hex, In, InName, InString, Int, ItemsThen, Minus, Name, Names, Object, Rest, Sign, State, Step, Tail, Token, Value, Word, Zero, accepts, done, onward, run, step}

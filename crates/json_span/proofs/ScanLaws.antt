@@ -1,16 +1,16 @@
 -- The scan for the first value goes on, and ends.
-use Rattle.std.proofs.Common.{◌≡◌, ℕ, ◌+◌, ◌-◌, ◌≤◌, ◌<◌, Bool, true, false, cond, List, [], ◌∷◌, ◌++◌, length, get_or, take, drop, refl, sym, ap, ◌∙◌, suc, zero, subst, arith, inl, inr, ◌⊎◌, Option, Some, None}
+use Rattle.std.proofs.Common.{◌≡◌, ℕ, ◌+◌, ◌≤◌, ◌<◌, Bool, true, false, cond, List, [], ◌∷◌, ◌++◌, length, get_or, refl, sym, ap, ◌∙◌, subst, arith, Option, Some, None}
 use Rattle.std.specs.Prelude.{slice_range}
-use Rattle.std.proofs.lemmas.List.Edits.{between_more, between_none}
-use Rattle.json_span.specs.Json.{is_space, AreSpaces, Spaced, Json}
-use Rattle.json_span.specs.Machine.{Bracket, Token, State, Value, First, Names, Name, InName, In, done, next, behind, or_else, Goes, Fails, Why, Bad, Deep, Step, step, accepts, Run, Going, Stopped, onward, run}
+use Rattle.std.proofs.lemmas.List.Edits.{between_more}
+use Rattle.json_span.specs.Json.{is_space, AreSpaces, Json}
+use Rattle.json_span.specs.Machine.{Token, State, Value, First, Names, Name, InName, In, done, next, behind, or_else, Goes, Fails, Why, Bad, Deep, step, accepts, Going, Stopped, onward, run}
 use Rattle.json_span.specs.Spans.{Stretch, Begins, NoValue, IsFirst, IsCut, IsFault, IsFaultPlace, IsNotJson, IsTooDeep}
 use Rattle.json_span.specs.Reading.{Fits, HasTop, brackets, state_of}
 use Rattle.json_span.specs.declared.reading.Reading.{Reading}
 use Rattle.json_span.proofs.TextLaws.{spaced_now}
 use Rattle.json_span.proofs.RunLaws.{run_push}
-use Rattle.json_span.proofs.Fronts.{top, value_run, run_value, run_begins, spaced_value, going_no_value, bad_none, stopped_none, deep_deeper, run_behind}
-use Rattle.json_span.proofs.Stretches.{range_split, drop_split, range_whole}
+use Rattle.json_span.proofs.Fronts.{value_run, run_value, run_begins, spaced_value, going_no_value, bad_none, stopped_none, deep_deeper, run_behind}
+use Rattle.json_span.proofs.Stretches.{range_split, range_whole}
 use Rattle.json_span.proofs.Values.{range_head, value_some, value_start, begins_at, begins_from, value_front}
 
 -- the longest value from `start` that ends at `i` or before

@@ -1,6 +1,6 @@
 -- A byte that takes the machine on, and what completes the state behind it, complete the state before it.
-use Rattle.std.proofs.Common.{◌≡◌, ◌≢◌, ℕ, ◌+◌, ◌-◌, ◌≤◌, ◌<◌, Bool, true, false, ◌||◌, ◌&&◌, cond, eqb, leb, List, [], ◌∷◌, ◌++◌, refl, sym, ap, ◌∙◌, suc, zero, subst, append_assoc, inl, inr, arith, ◌⊎◌, Option, Some, None}
-use Rattle.std.proofs.lemmas.Bool.{eqb-true, eqb-false, leb-true, le-leb, eq-eqb, ne_eqb}
+use Rattle.std.proofs.Common.{◌≡◌, ℕ, Bool, true, false, cond, eqb, List, [], ◌∷◌, ◌++◌, refl, sym, ap, ◌∙◌, suc, zero, subst, inl, inr, ◌⊎◌, Option, Some, None}
+use Rattle.std.proofs.lemmas.Bool.{eqb-true}
 use Rattle.json_span.specs.Json.{Byte, IsEmpty, IsMember, Items, Json, Spaced, Then, is_space}
 use Rattle.json_span.specs.Machine.{After, Array, Bad, Bracket, Chars, Closed, Completes, Ends, Fails, First, Goes, In, InName, InString, Name, Names, Object, Rest, State, Step, Token, Value, begin, begin_array, begin_object, behind, done, first, next, or_else, step}
 use Rattle.json_span.proofs.TextLaws.{spaced_back, spaced_now, spaced_split}

@@ -1,6 +1,6 @@
 -- A byte of what completes a state takes the machine on, to a state that the rest completes.
-use Rattle.std.proofs.Common.{◌≡◌, ◌≢◌, ℕ, ◌+◌, ◌-◌, ◌≤◌, ◌<◌, Bool, true, false, ◌||◌, ◌&&◌, cond, eqb, leb, List, [], ◌∷◌, ◌++◌, refl, sym, ap, ◌∙◌, suc, zero, subst, append_assoc, inl, inr, arith, ◌⊎◌, Option, Some, None}
-use Rattle.std.proofs.lemmas.Bool.{eqb-true, eqb-false, leb-true, le-leb, eq-eqb, ne_eqb}
+use Rattle.std.proofs.Common.{◌≡◌, ℕ, Bool, true, false, cond, eqb, List, [], ◌∷◌, ◌++◌, refl, sym, ap, ◌∙◌, suc, zero, subst, inl, inr, ◌⊎◌, Some, None}
+use Rattle.std.proofs.lemmas.Bool.{eqb-true}
 use Rattle.json_span.specs.Json.{Byte, IsEmpty, IsMember, IsScalar, Items, Json, Spaced, Then, is_space}
 use Rattle.json_span.specs.Machine.{After, Array, Bad, Bracket, Chars, Closed, Colon, Comma, Completes, EndArray, EndObject, Ends, Fails, First, Follows, Goes, In, InName, InString, Name, Names, Object, Rest, Space, State, Step, Token, Value, begin, behind, done, first, next, or_else, step}
 use Rattle.json_span.proofs.TextLaws.{spaced_forth, spaced_join}

@@ -1,13 +1,11 @@
 -- What first and further bytes of characters of several bytes do to the machine.
-use Rattle.std.proofs.Common.{◌≡◌, ◌≢◌, ℕ, ◌+◌, ◌-◌, ◌≤◌, ◌<◌, Bool, true, false, ◌||◌, ◌&&◌, cond, eqb, leb, List, [], ◌∷◌, ◌++◌, length, refl, sym, ap, ◌∙◌, suc, zero, subst, append_assoc, inl, inr, arith, ◌⊎◌, Option, Some, None}
+use Rattle.std.proofs.Common.{◌≡◌, ℕ, ◌≤◌, ◌<◌, Bool, true, false, ◌||◌, cond, eqb, [], ◌∷◌, refl, sym, ap, suc, zero, subst, inl, inr, arith, ◌⊎◌, Option, Some, None}
 use Rattle.std.specs.List.{AllByRecursion}
-use Rattle.std.proofs.lemmas.Bool.{leb-true, ne_eqb}
 use Rattle.json_span.specs.Numbers.{between, is_digit}
-use Rattle.json_span.specs.Strings.{Bounds, Any, FromA0, To9F, From90, To8F, within, Lead, lead, AreTail, is_plain, is_escape, is_hex, Wide, IsChar, IsBegun}
+use Rattle.json_span.specs.Strings.{Bounds, Any, FromA0, To9F, From90, To8F, within, Lead, lead, is_plain, is_escape, is_hex}
 use Rattle.json_span.specs.Json.{is_space}
-use Rattle.json_span.specs.Machine.{Bracket, Array, Object, Token, Closed, Word, Minus, Zero, Int, Dot, Frac, E, Sign, Exp, Chars, Escape, Hex, Tail, done, is_e, wide_token, next, first, State, Value, First, Names, Name, InName, In, Why, Bad, Step, Goes, Fails, or_else, begin_array, begin_object, begin, behind, step, Run, Going, Stopped, onward, run, token_in, is_tail}
+use Rattle.json_span.specs.Machine.{Token, Closed, Word, Minus, Zero, Int, Dot, Frac, E, Sign, Exp, Chars, Escape, Hex, Tail, is_e, wide_token, next, first}
 use Rattle.json_span.proofs.TokenForth.{lead_low, lead_is_not, lead_not_plain, between_high}
-use Rattle.json_span.proofs.TokenLaws.{of_space}
 
 -- A first byte of several is none of the bytes that the machine takes elsewhere.
 lead_not : (p : ℕ → Bool) (c : ℕ) (l : Lead) → (p c ≡ true → c < 194) → lead c ≡ Some l → p c ≡ false

@@ -1,19 +1,13 @@
 -- The machine is in the tail of a character of several bytes exactly where such a character is begun and not ended.
-use Rattle.std.proofs.Common.{◌≡◌, ◌≢◌, ℕ, ◌+◌, ◌-◌, ◌≤◌, ◌<◌, Bool, true, false, ◌||◌, ◌&&◌, cond, eqb, leb, List, [], ◌∷◌, ◌++◌, length, get_or, refl, sym, ap, ◌∙◌, suc, zero, subst, append_assoc, inl, inr, arith, ◌⊎◌, Option, Some, None}
-use Rattle.std.specs.Prelude.{slice_range}
-use Rattle.std.specs.List.{AllByRecursion}
-use Rattle.std.proofs.lemmas.Bool.{eqb-true, leb-true, ne_eqb}
-use Rattle.std.proofs.lemmas.List.{append-nil}
-use Rattle.json_span.specs.Numbers.{between}
-use Rattle.json_span.specs.Strings.{Bounds, Any, FromA0, To9F, From90, To8F, within, Lead, lead, AreTail, Wide, IsChar, IsBegun}
+use Rattle.std.proofs.Common.{◌≡◌, ◌≢◌, ℕ, ◌<◌, Bool, true, false, cond, eqb, List, [], ◌∷◌, ◌++◌, refl, sym, ap, ◌∙◌, suc, zero, subst, inl, inr, arith, ◌⊎◌, Option, Some, None}
+use Rattle.std.proofs.lemmas.Bool.{eqb-true}
+use Rattle.json_span.specs.Strings.{Bounds, Any, within, Lead, lead, AreTail, Wide, IsChar, IsBegun}
 use Rattle.json_span.specs.Json.{is_space}
-use Rattle.json_span.specs.Machine.{Bracket, Array, Object, Token, Closed, Word, Chars, Tail, done, next, first, State, Value, First, Names, Name, InName, In, Why, Bad, Deep, Step, Goes, Fails, or_else, begin_array, begin_object, begin, behind, step, Run, Going, Stopped, onward, run, token_in, is_tail}
-use Rattle.json_span.specs.Spans.{Stretch, IsFaultPlace}
-use Rattle.json_span.proofs.TokenForth.{lead_low, between_high}
+use Rattle.json_span.specs.Machine.{Bracket, Array, Object, Token, Closed, Chars, Tail, done, next, first, State, Value, First, Names, Name, InName, In, Bad, Step, Goes, Fails, or_else, begin_array, begin_object, begin, behind, step, Going, onward, run, token_in, is_tail}
+use Rattle.json_span.proofs.TokenForth.{lead_low}
 use Rattle.json_span.proofs.TokenLaws.{of_space}
 use Rattle.json_span.proofs.RunLaws.{tail_live}
-use Rattle.json_span.proofs.TailLaws.{LowToken, lead_next, lead_first, next_low, first_low, FromTail, next_tail, first_tail}
-use Rattle.json_span.proofs.Stretches.{range_split, range_parts}
+use Rattle.json_span.proofs.TailLaws.{LowToken, lead_next, lead_first, next_low, first_low, next_tail, first_tail}
 
 abbrev Quiet : Option Token → Type 0
 Quiet o = (o ≡ None) ⊎ ((o ≡ Some Closed) ⊎ (o ≡ Some Chars))

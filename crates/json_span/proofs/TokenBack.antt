@@ -1,6 +1,6 @@
 -- A byte that takes the machine on in a string, number or literal.
-use Rattle.std.proofs.Common.{◌≡◌, ◌≢◌, ℕ, ◌+◌, ◌-◌, ◌≤◌, ◌<◌, Bool, true, false, ◌||◌, ◌&&◌, cond, eqb, leb, List, [], ◌∷◌, ◌++◌, refl, sym, ap, ◌∙◌, suc, zero, subst, append_assoc, inl, inr, arith, ◌⊎◌, Option, Some, None}
-use Rattle.std.proofs.lemmas.Bool.{eqb-true, eqb-false, leb-true, le-leb, eq-eqb, ne_eqb}
+use Rattle.std.proofs.Common.{◌≡◌, ℕ, Bool, true, false, ◌||◌, cond, eqb, List, [], ◌∷◌, ◌++◌, refl, sym, ap, ◌∙◌, suc, zero, subst, inl, inr, Option, Some, None}
+use Rattle.std.proofs.lemmas.Bool.{eqb-true}
 use Rattle.json_span.specs.Numbers.{AreDigits, AreSomeDigits, IsExp, IsFrac, IsInt, IsSign, IsUnsigned, between, is_digit}
 use Rattle.json_span.specs.Strings.{Any, CharKind, IsChar, Lead, Long, Plain, Short, Wide, is_escape, is_hex, is_plain, lead, within}
 use Rattle.json_span.specs.Json.{Then}

@@ -1,12 +1,12 @@
 -- Where strings, numbers and literals end, and their first bytes.
-use Rattle.std.proofs.Common.{◌≡◌, ◌≢◌, ℕ, ◌+◌, ◌-◌, ◌≤◌, ◌<◌, Bool, true, false, ◌||◌, ◌&&◌, cond, eqb, leb, List, [], ◌∷◌, ◌++◌, refl, sym, ap, ◌∙◌, suc, zero, subst, append_assoc, inl, inr, arith, ◌⊎◌, Option, Some, None}
-use Rattle.std.proofs.lemmas.Bool.{eqb-true, eqb-false, leb-true, le-leb, eq-eqb, ne_eqb}
+use Rattle.std.proofs.Common.{◌≡◌, ℕ, Bool, true, false, ◌||◌, cond, eqb, List, [], ◌∷◌, ◌++◌, refl, sym, ap, ◌∙◌, suc, subst, inl, inr, Option, Some, None}
+use Rattle.std.proofs.lemmas.Bool.{eqb-true}
 use Rattle.json_span.specs.Numbers.{AreSomeDigits, IsExp, IsInt, IsSign, IsUnsigned, between}
 use Rattle.json_span.specs.Strings.{AreHex, AreTail, CharKind, EndsString, IsChar, Long, Plain, Short, Wide}
 use Rattle.json_span.specs.Json.{IsScalar, Then, is_space}
 use Rattle.json_span.specs.Machine.{Chars, Closed, Colon, Comma, Dot, E, EndArray, EndObject, Ends, Escape, Exp, Follows, Frac, Hex, InString, Int, Minus, Sign, Space, Tail, Token, Word, Zero, done, first, next}
-use Rattle.json_span.proofs.TokenForth.{apart, token_forth}
-use Rattle.json_span.proofs.TokenBack.{token_back, unsigned_of}
+use Rattle.json_span.proofs.TokenForth.{apart}
+use Rattle.json_span.proofs.TokenBack.{unsigned_of}
 
 -- All of strings, numbers and words.
 

@@ -1,15 +1,13 @@
 -- Values at places of some bytes: where they begin and end.
-use Rattle.std.proofs.Common.{◌≡◌, ℕ, ◌+◌, ◌-◌, ◌≤◌, ◌<◌, Bool, true, false, List, [], ◌∷◌, ◌++◌, length, get_or, take, drop, refl, sym, ap, ◌∙◌, suc, zero, subst, arith}
+use Rattle.std.proofs.Common.{◌≡◌, ℕ, ◌+◌, ◌≤◌, ◌<◌, false, List, [], ◌∷◌, ◌++◌, length, get_or, sym, ap, ◌∙◌, subst, arith}
 use Rattle.std.specs.Prelude.{slice_range}
-use Rattle.std.proofs.lemmas.List.Edits.{between_more, between_none, length-between}
-use Rattle.json_span.specs.Json.{is_space, AreSpaces, Spaced, Json}
-use Rattle.json_span.specs.Machine.{State, Value, In, Goes, Fails, Why, Bad, Deep, step, accepts, Run, Going, Stopped, onward, run}
-use Rattle.json_span.specs.Spans.{Stretch, Begins, NoValue}
-use Rattle.json_span.proofs.TextLaws.{spaced_now}
+use Rattle.std.proofs.lemmas.List.Edits.{between_more, between_none}
+use Rattle.json_span.specs.Json.{is_space, AreSpaces, Json}
+use Rattle.json_span.specs.Spans.{Stretch, Begins, IsFirst}
+use Rattle.json_span.specs.declared.span.Span.{Span}
 use Rattle.json_span.proofs.StepForth.{json_some}
-use Rattle.json_span.proofs.RunLaws.{run_push}
-use Rattle.json_span.proofs.Fronts.{value_first, spaced_value, begins_behind, begins_spaced, begins_value, run_value, bad_none, stopped_none}
-use Rattle.json_span.proofs.Stretches.{range_split, drop_split, space_ends}
+use Rattle.json_span.proofs.Fronts.{value_first, begins_behind, begins_spaced, begins_value}
+use Rattle.json_span.proofs.Stretches.{range_split, space_ends}
 
 pub range_head : (bytes : List ℕ) (a c : ℕ) → a < c → c ≤ length bytes → slice_range bytes a c ≡ get_or bytes a 0 ∷ slice_range bytes (a + 1) c
 range_head bytes a c h k =
@@ -26,6 +24,12 @@ value_some bytes d start end s =
 pub value_byte : (bytes : List ℕ) (d start end : ℕ) → Stretch (Json d) bytes start end → is_space (get_or bytes start 0) ≡ false
 value_byte bytes d start end s =
     value_first d (get_or bytes start 0) (slice_range bytes (start + 1) end) (subst (Json d) (range_head bytes start end (value_some bytes d start end s) s.bound) s.text)
+
+-- where the first value's span lies
+pub first_within : (bytes : List ℕ) (at : ℕ) (s : Span) → IsFirst bytes at s → (at ≤ s.start) × (s.start < length bytes) × (s.start < s.end) × (s.end ≤ length bytes)
+first_within bytes at s f =
+    let o : s.start < s.end = value_some bytes 127 s.start s.end f.value in
+    (f.space.order, omega (arith, o, f.value.bound), o, f.value.bound)
 
 -- white space that ends where none stands, or where the bytes end, ends where each value behind it begins
 pub value_start : (bytes : List ℕ) (at start d from end : ℕ) → Stretch AreSpaces bytes at start → (start < length bytes → is_space (get_or bytes start 0) ≡ false) → Stretch AreSpaces bytes at from → Stretch (Json d) bytes from end → start ≡ from

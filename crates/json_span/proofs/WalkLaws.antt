@@ -1,8 +1,7 @@
 -- The walk over an object's members.
-use Rattle.std.proofs.Common.{◌≡◌, ◌≢◌, ℕ, ◌+◌, ◌-◌, ◌≤◌, ◌<◌, Bool, true, false, List, [], ◌∷◌, ◌++◌, length, get_or, refl, sym, ap, ◌∙◌, suc, zero, subst, append_assoc, arith, inl, inr, ◌⊎◌}
-use Rattle.std.specs.Prelude.{slice_range}
+use Rattle.std.proofs.Common.{◌≡◌, ◌≢◌, ℕ, ◌+◌, ◌<◌, false, List, [], ◌∷◌, ◌++◌, length, get_or, sym, ◌∙◌, subst, append_assoc, arith, inl, inr, ◌⊎◌}
 use Rattle.std.proofs.lemmas.List.{append-nil}
-use Rattle.json_span.specs.Json.{is_space, AreSpaces, Spaced, Byte, IsEmpty, Items, IsMember, Json, JsonObject}
+use Rattle.json_span.specs.Json.{is_space, AreSpaces, Spaced, Byte, IsEmpty}
 use Rattle.json_span.specs.Spans.{Stretch}
 use Rattle.json_span.specs.Members.{IsMemberAt, AreFurther, HasMembers, HasObject}
 use Rattle.json_span.specs.Walk.{MembersLeft, IsLeft, AreAhead}

@@ -1,6 +1,6 @@
 -- The machine that the code is: where it stands in a JSON value after each byte, with a stack of open brackets. No public
 -- contract names it; proofs show that it takes exactly the beginnings of JSON values.
-use Rattle.std.specs.Prelude.{◌≤◌, ◌<◌, slice_index, ◌≡◌, ℕ, ◌+◌, zero, suc, ◌⊎◌, Bool, true, false, ◌==◌, ◌||◌, if◌then◌else◌, List, [], ◌∷◌, ◌++◌, Option, Some, None}
+use Rattle.std.specs.Prelude.{◌≤◌, ◌<◌, slice_index, ◌≡◌, ℕ, ◌+◌, zero, suc, ◌⊎◌, Bool, true, false, ◌==◌, ◌||◌, if◌then◌else◌, List, [], ◌∷◌, Option, Some, None}
 use Rattle.json_span.specs.Numbers.{between, is_digit, AreDigits, AreSomeDigits, IsSign, IsExp, IsFrac, IsUnsigned}
 use Rattle.json_span.specs.Strings.{Bounds, Any, within, Lead, lead, AreTail, is_plain, is_escape, is_hex, AreHex, CharKind, EndsString}
 use Rattle.json_span.specs.Json.{is_space, Spaced, Byte, Then, IsMember, Json}

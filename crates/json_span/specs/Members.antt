@@ -1,5 +1,5 @@
 -- Where the members of an object stand: RFC 8259, section 4.
-use Rattle.std.specs.Prelude.{◌≡◌, ℕ, List, [], ◌∷◌}
+use Rattle.std.specs.Prelude.{ℕ, List, [], ◌∷◌}
 use Rattle.json_span.specs.Strings.{IsString}
 use Rattle.json_span.specs.Json.{AreSpaces, Spaced, Byte, Then, IsEmpty, Json, JsonObject}
 use Rattle.json_span.specs.Spans.{Stretch}

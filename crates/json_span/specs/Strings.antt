@@ -1,5 +1,5 @@
 -- Strings: RFC 8259, section 7. Their characters are in UTF-8 (section 8.1), of which RFC 3629, section 4, has the table.
-use Rattle.std.specs.Prelude.{◌≡◌, ◌≢◌, ℕ, zero, suc, Bool, true, ◌==◌, ◌&&◌, ◌||◌, if◌then◌else◌, List, [], ◌∷◌, ◌++◌, Option, Some, None}
+use Rattle.std.specs.Prelude.{◌≡◌, ◌≢◌, ℕ, zero, suc, Bool, true, ◌==◌, ◌||◌, if◌then◌else◌, List, [], ◌∷◌, ◌++◌, Option, Some, None}
 use Rattle.json_span.specs.Numbers.{between, is_digit}
 
 -- bounds of a character's second byte: 80-BF (UTF8-tail), A0-BF, 80-9F, 90-BF, 80-8F
@@ -24,13 +24,13 @@ lead_of bounds more = Some (record { bounds = bounds; more = more })
 -- UTF8-2 / UTF8-3 / UTF8-4, by the first byte
 unfoldable pub lead : ℕ → Option Lead
 lead c =
-    if between 194 223 c then lead_of Any 0 else       -- %xC2-DF UTF8-tail
-    (if c == 224 then lead_of FromA0 1 else            -- %xE0 %xA0-BF UTF8-tail
-    (if c == 237 then lead_of To9F 1 else              -- %xED %x80-9F UTF8-tail
-    (if between 225 239 c then lead_of Any 1 else      -- %xE1-EC 2( UTF8-tail ) / %xEE-EF 2( UTF8-tail )
-    (if c == 240 then lead_of From90 2 else            -- %xF0 %x90-BF 2( UTF8-tail )
-    (if between 241 243 c then lead_of Any 2 else      -- %xF1-F3 3( UTF8-tail )
-    (if c == 244 then lead_of To8F 2 else None))))))   -- %xF4 %x80-8F 2( UTF8-tail )
+    if between 194 223 c then lead_of Any 0 else  -- %xC2-DF UTF8-tail
+    (if c == 224 then lead_of FromA0 1 else  -- %xE0 %xA0-BF UTF8-tail
+    (if c == 237 then lead_of To9F 1 else  -- %xED %x80-9F UTF8-tail
+    (if between 225 239 c then lead_of Any 1 else  -- %xE1-EC 2( UTF8-tail ) / %xEE-EF 2( UTF8-tail )
+    (if c == 240 then lead_of From90 2 else  -- %xF0 %x90-BF 2( UTF8-tail )
+    (if between 241 243 c then lead_of Any 2 else  -- %xF1-F3 3( UTF8-tail )
+    (if c == 244 then lead_of To8F 2 else None))))))  -- %xF4 %x80-8F 2( UTF8-tail )
 
 -- one byte within the bounds, then n of UTF8-tail
 abbrev pub AreTail : Bounds → ℕ → List ℕ → Type 0

@@ -5,21 +5,21 @@ ghost use Rattle.json_span.specs.Spans.{Stretch};
 ghost use Rattle.json_span.specs.Members.{HasObject, IsObjectText, IsMemberAt, AreFurther, HasMembers};
 ghost use Rattle.json_span.specs.Walk.{IsFollowed, MembersLeft, IsLeft, AreAhead};
 
-use std::alloc::{AllocError, Global};
-
 use crate::bytes::behind_space;
 use crate::scan::first_value;
 use crate::span::Span;
+use std::alloc::{AllocError, Global};
 
-/// A member of an object: its name, with the quotes round it, and its value.
+/// A member of an object (RFC 8259, section 4): the spans of its name, with the quotes round it, and of
+/// its value, as offsets of the same bytes as the object's.
 #[derive(Clone, Copy, PartialEq, Eq, Debug)]
 pub struct Member {
     pub name: Span,
     pub value: Span,
 }
 
-/// Whether the bytes are one JSON object, which may have white space round it, of at most 127 levels.
-/// It takes no memory.
+/// Whether the bytes are one JSON object of at most 127 levels, with or without white space round it. It
+/// takes no memory.
 pub fn is_object(bytes: &[u8]) -> bool
     ensures { IsTrue result ↔ IsObjectText bytes.now }
 {
@@ -32,11 +32,9 @@ pub fn is_object(bytes: &[u8]) -> bool
 /// The value at a place where one is known to stand.
 fn value_at(bytes: &[u8], at: usize) -> Span
     requires { at ≤ length bytes.now }
-    ensures {
-        (start end : ℕ) → Stretch AreSpaces bytes.now at start
-            → Stretch (Json 127) bytes.now start end → IsFollowed bytes.now end
-            → result ≡ record { start = start; end = end }
-    }
+    ensures { (start end : ℕ) → Stretch AreSpaces bytes.now at start
+        → Stretch (Json 127) bytes.now start end → IsFollowed bytes.now end
+        → result ≡ record { start = start; end = end } }
 {
     match first_value(bytes, at) {
         Ok(span) => span,
@@ -47,11 +45,9 @@ fn value_at(bytes: &[u8], at: usize) -> Span
 /// The member at a place where one is known to stand.
 fn member_at(bytes: &[u8], at: usize) -> Member
     requires { (end : ℕ) × Stretch MembersLeft bytes.now at end }
-    ensures {
-        (end : ℕ) → Stretch MembersLeft bytes.now at end
-            → (result.name.start ≡ at) × IsMemberAt bytes.now result
-                × Stretch (Items (IsMember (Json 126)) 125) bytes.now result.value.end end
-    }
+    ensures { (end : ℕ) → Stretch MembersLeft bytes.now at end
+        → (result.name.start ≡ at) × IsMemberAt bytes.now result
+        × Stretch (Items (IsMember (Json 126)) 125) bytes.now result.value.end end }
 {
     let name = value_at(bytes, at);
     let colon = behind_space(bytes, name.end);
@@ -63,15 +59,11 @@ fn member_at(bytes: &[u8], at: usize) -> Member
 fn behind_member(bytes: &[u8], at: usize) -> usize
     requires { (end : ℕ) × Stretch (Items (IsMember (Json 126)) 125) bytes.now at end }
     ensures order { at ≤ result }
-    ensures left {
-        (end : ℕ) → Stretch (Items (IsMember (Json 126)) 125) bytes.now at end
-            → Stretch IsLeft bytes.now result end
-    }
-    ensures ahead {
-        (end : ℕ) → Stretch (Items (IsMember (Json 126)) 125) bytes.now at end
-            → (rest : List Member) → AreAhead bytes.now result rest end
-            → AreFurther bytes.now at rest end
-    }
+    ensures left { (end : ℕ) → Stretch (Items (IsMember (Json 126)) 125) bytes.now at end
+        → Stretch IsLeft bytes.now result end }
+    ensures ahead { (end : ℕ) → Stretch (Items (IsMember (Json 126)) 125) bytes.now at end
+        → (rest : List Member) → AreAhead bytes.now result rest end
+        → AreFurther bytes.now at rest end }
 {
     let next = behind_space(bytes, at);
     if bytes[next] == b',' {
@@ -81,8 +73,8 @@ fn behind_member(bytes: &[u8], at: usize) -> usize
     }
 }
 
-/// The members of the object at `object`, in order, each of those with one name too. Memory is all
-/// that can fail.
+/// The members of the object over the span `object`, in their order, each of those with one name too.
+/// Memory is all that can fail.
 pub fn members(alloc: Global, bytes: &[u8], object: Span) -> Result<Vec<Member>, AllocError>
     requires { HasObject bytes.now object }
     ensures { IfOk result (λ v. HasMembers bytes.now object v.items) }
@@ -96,3 +88,6 @@ pub fn members(alloc: Global, bytes: &[u8], object: Span) -> Result<Vec<Member>,
     }
     Ok(members)
 }
+
+#[cfg(test)]
+mod tests;

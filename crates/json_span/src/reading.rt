@@ -5,7 +5,7 @@ ghost use Rattle.json_span.specs.Reading.{token_of, brackets, state_of, step_of,
 ghost use Rattle.json_span.specs.declared.reading.Place.TheVariants.{First, Names};
 
 use crate::bytes::space;
-use crate::token::{done, first_token, next_token, Token};
+use crate::token::{Token, done, first_token, next_token};
 
 #[derive(Clone, Copy)]
 pub(crate) enum Place {

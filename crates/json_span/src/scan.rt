@@ -6,7 +6,7 @@ ghost use Rattle.json_span.specs.Spans.{IsFirst, IsCut, IsNotJson, IsTooDeep};
 ghost use Rattle.json_span.specs.declared.span.JsonFault.TheVariants.{Cut, NotJson, TooDeep};
 
 use crate::bytes::behind_space;
-use crate::reading::{after_byte, may_end, Place, Reading, Turn};
+use crate::reading::{Place, Reading, Turn, after_byte, may_end};
 use crate::span::{JsonFault, Span};
 use crate::token::Token;
 
@@ -46,7 +46,12 @@ fn longest(next: Reading, end: Option<usize>, place: usize) -> Option<usize>
     if may_end(next) { Some(place) } else { end }
 }
 
-/// The longest JSON value that begins at `at` behind white space.
+/// The longest JSON value (RFC 8259, section 2) that begins at `at` behind white space: `at` is an
+/// offset of the bytes, at most their length, and so are the places of the span and of the errors. A
+/// number takes as many bytes as it can, and what stands behind a value is not looked at.
+///
+/// `Cut` where the bytes end within the white space or the value, `NotJson` and `TooDeep` where no value
+/// of at most 127 levels is possible, whichever comes first. It takes no memory.
 pub fn first_value(bytes: &[u8], at: usize) -> Result<Span, JsonFault>
     requires { at ≤ length bytes.now }
     ensures ok { (s : Span) → (result ≡ Ok s) ↔ IsFirst bytes.now at s }
@@ -84,3 +89,6 @@ pub fn first_value(bytes: &[u8], at: usize) -> Result<Span, JsonFault>
         None => Err(JsonFault::Cut),
     }
 }
+
+#[cfg(test)]
+mod tests;

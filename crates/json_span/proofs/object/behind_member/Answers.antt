@@ -1,4 +1,4 @@
-use Rattle.std.proofs.Common.{◌≡◌, ℕ, ◌+◌, ◌≤◌, ◌<◌, length, arith}
+use Rattle.std.proofs.Common.{◌≡◌, arith}
 use Rattle.json_span.proofs.MemberLaws.{item_parts, next_found, comma_is_left, brace_is_left, comma_ahead, brace_ahead}
 use Rattle.json_span.proofs.object.behind_member.Goals as goal
 

@@ -1,4 +1,4 @@
-use Rattle.std.proofs.Common.{◌≡◌, ℕ, ◌+◌, ◌≤◌, ◌<◌, length, arith, ap}
+use Rattle.std.proofs.Common.{◌≡◌, arith, ap}
 use Rattle.json_span.proofs.MemberLaws.{member_parts, name_found, colon_found, value_found, member_here}
 use Rattle.json_span.proofs.object.member_at.Goals as goal
 

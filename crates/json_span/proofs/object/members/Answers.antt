@@ -1,4 +1,4 @@
-use Rattle.std.proofs.Common.{◌≡◌, ℕ, ◌+◌, ◌-◌, ◌≤◌, ◌<◌, List, [], ◌∷◌, ◌++◌, length, arith, sym, subst}
+use Rattle.std.proofs.Common.{◌-◌, ◌<◌, length, arith, sym, subst}
 use Rattle.json_span.proofs.MemberLaws.{string_byte, left_inside}
 use Rattle.json_span.proofs.WalkLaws.{Walk, inside, walk_begins, walk_goes, walk_member, walk_ends}
 use Rattle.json_span.proofs.object.members.Goals as goal

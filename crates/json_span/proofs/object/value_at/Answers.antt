@@ -1,5 +1,3 @@
-use Rattle.std.proofs.Common.{◌≡◌}
-use Rattle.std.specs.Prelude.{Ok, Err}
 use Rattle.json_span.proofs.Following.{first_followed}
 use Rattle.json_span.proofs.object.value_at.Goals as goal
 

@@ -1,4 +1,4 @@
-use Rattle.std.proofs.Common.{◌+◌, ◌*◌, ◌<◌, ◌^◌, arith}
+use Rattle.std.proofs.Common.{◌<◌, ◌^◌, arith}
 use Rattle.json_span.proofs.BitLaws.{bits_small}
 use Rattle.json_span.proofs.reading.push.Goals as goal
 

@@ -1,9 +1,8 @@
 -- The scan's exits.
-use Rattle.std.proofs.Common.{◌≡◌, ℕ, ◌+◌, ◌≤◌, ◌<◌, length, arith, subst, Option, None}
-use Rattle.std.specs.Prelude.{slice_range, Ok, Err}
-use Rattle.json_span.specs.Machine.{run, Value, Going}
+use Rattle.std.proofs.Common.{◌≡◌, length, arith, subst, None}
+use Rattle.std.specs.Prelude.{Ok, Err}
 use Rattle.json_span.specs.Reading.{state_of}
-use Rattle.json_span.specs.Spans.{IsFirst, IsCut, IsFaultPlace, IsNotJson, IsTooDeep}
+use Rattle.json_span.specs.Spans.{IsFaultPlace}
 use Rattle.json_span.specs.declared.span.JsonFault.TheVariants.{Cut, NotJson, TooDeep}
 use Rattle.json_span.proofs.ScanLaws.{Found, runs_more, found_more, first_bad, first_end, cut_here, not_json_here, deep_here}
 use Rattle.json_span.proofs.FaultPlaces.{fault_found}
