@@ -21,3 +21,5 @@ pub mod Parts
 pub mod MemberLaws
 pub mod WalkLaws
 pub mod ObjectLaws
+pub mod NumberLaws
+pub mod MembersOnly

@@ -118,11 +118,11 @@ lead_first u c l e n =
     let m : first c ≡ None = rw (a, b, d, f, g, i, j) refl in cc
 
 -- what holds of each token that a test may give
-pick : (P : Token → Type 0) (p : Bool) (x : Token) (o : Option Token) → P x → ((v : Token) → o ≡ Some v → P v) → (v : Token) → cond p (Some x) o ≡ Some v → P v
+pub pick : (P : Token → Type 0) (p : Bool) (x : Token) (o : Option Token) → P x → ((v : Token) → o ≡ Some v → P v) → (v : Token) → cond p (Some x) o ≡ Some v → P v
 pick P true x o a f v e = let q : x ≡ v = cc in subst P q a
 pick P false x o a f v e = f v e
 
-none : (P : Token → Type 0) (v : Token) → None ≡ Some v → P v
+pub none : (P : Token → Type 0) (v : Token) → None ≡ Some v → P v
 none P v e = cc
 
 abbrev Low : Token → Type 0
