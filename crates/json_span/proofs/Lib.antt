@@ -11,6 +11,7 @@ pub mod BitLaws
 pub mod Stretches
 pub mod Fronts
 pub mod Values
+pub mod DeepLaws
 pub mod ScanLaws
 pub mod TailLaws
 pub mod TailRuns

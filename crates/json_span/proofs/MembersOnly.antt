@@ -1,10 +1,9 @@
 -- An object's members are determined by its bytes.
-use Rattle.std.proofs.Common.{◌≡◌, ℕ, ◌+◌, ◌≤◌, ◌<◌, Bool, true, false, List, [], ◌∷◌, ◌++◌, length, get_or, refl, sym, ap, ◌∙◌, suc, zero, subst, arith}
+use Rattle.std.proofs.Common.{◌≡◌, ℕ, ◌+◌, ◌<◌, false, List, [], ◌∷◌, length, get_or, refl, sym, ap, ◌∙◌, suc, zero, subst, arith}
 use Rattle.std.specs.Prelude.{All}
 use Rattle.std.proofs.lemmas.List.Elements.{All-from_get_or}
-use Rattle.json_span.specs.Strings.{IsString}
 use Rattle.json_span.specs.Json.{is_space, AreSpaces, Byte, Spaced, IsEmpty, Json}
-use Rattle.json_span.specs.Machine.{Follows, Colon, Comma, EndObject}
+use Rattle.json_span.specs.Machine.{Colon, Comma, EndObject}
 use Rattle.json_span.specs.Spans.{Stretch, IsFirst}
 use Rattle.json_span.specs.Members.{Separator, IsMemberAt, AreFurther, HasMembers}
 use Rattle.json_span.specs.Walk.{IsFollowed}

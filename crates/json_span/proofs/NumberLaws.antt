@@ -1,19 +1,17 @@
 -- Of two values that begin at one place both are numbers, or they are one.
-use Rattle.std.proofs.Common.{◌≡◌, ℕ, ◌+◌, ◌≤◌, ◌<◌, Bool, true, false, ◌||◌, cond, eqb, List, [], ◌∷◌, ◌++◌, length, get_or, refl, sym, ap, ◌∙◌, suc, zero, subst, append_assoc, inl, inr, arith, ◌⊎◌, Option, Some, None}
+use Rattle.std.proofs.Common.{◌≡◌, ℕ, ◌+◌, ◌≤◌, ◌<◌, Bool, true, false, ◌||◌, cond, eqb, List, [], ◌∷◌, ◌++◌, get_or, refl, sym, ap, ◌∙◌, suc, zero, subst, append_assoc, inl, inr, arith, ◌⊎◌, Option, Some, None}
 use Rattle.std.specs.Prelude.{slice_range, ◌==◌}
-use Rattle.std.proofs.lemmas.Bool.{eqb-true}
-use Rattle.json_span.specs.Numbers.{between, is_digit, IsUnsigned, IsNumber}
-use Rattle.json_span.specs.Strings.{Bounds, Any, within, Lead, lead, is_plain, is_escape, is_hex}
+use Rattle.json_span.specs.Numbers.{between, IsUnsigned, IsNumber}
+use Rattle.json_span.specs.Strings.{Any, within, Lead, lead, is_plain, is_escape, is_hex}
 use Rattle.json_span.specs.Json.{is_space, AreSpaces, IsScalar, Json, JsonObject}
-use Rattle.json_span.specs.Machine.{Bracket, Array, Object, Token, Closed, Word, Minus, Zero, Int, Dot, Frac, E, Sign, Exp, Chars, Escape, Hex, Tail, done, is_e, wide_token, next, first, State, Value, First, Names, Name, InName, In, Why, Bad, Step, Goes, Fails, or_else, begin_array, begin_object, begin, behind, step, accepts, Run, Going, Stopped, onward, run}
+use Rattle.json_span.specs.Machine.{Bracket, Array, Object, Token, Closed, Word, Minus, Zero, Int, Dot, Frac, E, Sign, Exp, Chars, Escape, Hex, Tail, done, wide_token, next, first, State, Value, First, Names, Name, InName, In, Bad, Step, Goes, Fails, or_else, begin_array, begin_object, begin, behind, step, accepts, Going, Stopped, onward, run}
 use Rattle.json_span.specs.Spans.{Stretch, IsFirst}
-use Rattle.json_span.specs.declared.span.Span.{Span}
 use Rattle.json_span.proofs.TextLaws.{spaced_now}
 use Rattle.json_span.proofs.TokenForth.{forth_minus}
 use Rattle.json_span.proofs.TailLaws.{pick, none}
 use Rattle.json_span.proofs.StepForth.{json_some}
 use Rattle.json_span.proofs.RunLaws.{run_push}
-use Rattle.json_span.proofs.Fronts.{top, value_first, value_run, bad_none, begins_value}
+use Rattle.json_span.proofs.Fronts.{top, value_run, bad_none, begins_value}
 use Rattle.json_span.proofs.Stretches.{range_split}
 use Rattle.json_span.proofs.Values.{range_head}
 
@@ -295,9 +293,9 @@ first_there bytes at start end w v f = record { space = w; value = v; longest = 
     longest : (d e : ℕ) → Stretch (Json d) bytes start e → e ≤ end
     longest d e s =
         let no : end < e → ⊥ = λ h.
-            let p : slice_range bytes start e ≡ slice_range bytes start end ++ slice_range bytes end e = range_split bytes start end e v.order (omega (arith, h)) in
-            let q : slice_range bytes end e ≡ get_or bytes end 0 ∷ slice_range bytes (end + 1) e = range_head bytes end e h s.bound in
-            f (front_number 127 d (slice_range bytes start end) (slice_range bytes (end + 1) e) (get_or bytes end 0) v.text (subst (Json d) (p ∙ ap (λ z. slice_range bytes start end ++ z) q) s.text)) in
+        let p : slice_range bytes start e ≡ slice_range bytes start end ++ slice_range bytes end e = range_split bytes start end e v.order (omega (arith, h)) in
+        let q : slice_range bytes end e ≡ get_or bytes end 0 ∷ slice_range bytes (end + 1) e = range_head bytes end e h s.bound in
+        f (front_number 127 d (slice_range bytes start end) (slice_range bytes (end + 1) e) (get_or bytes end 0) v.text (subst (Json d) (p ∙ ap (λ z. slice_range bytes start end ++ z) q) s.text)) in
         omega (arith, no)
 
 -- and an object is
@@ -305,6 +303,6 @@ pub object_there : (bytes : List ℕ) (at start end : ℕ) → Stretch AreSpaces
 unfolding opens
 object_there bytes at start end w v =
     first_there bytes at start end w (record { order = v.order; bound = v.bound; text = inr (inr v.text) }) (λ n.
-        let e : slice_range bytes start end ≡ 123 ∷ v.text.0 = v.text.1 in
-        let k : opens 123 ≡ true = number_opens 123 v.text.0 (subst IsNumber e n) in
-        cc)
+    let e : slice_range bytes start end ≡ 123 ∷ v.text.0 = v.text.1 in
+    let k : opens 123 ≡ true = number_opens 123 v.text.0 (subst IsNumber e n) in
+    cc)

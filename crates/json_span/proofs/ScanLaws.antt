@@ -1,15 +1,16 @@
 -- The scan for the first value goes on, and ends.
-use Rattle.std.proofs.Common.{◌≡◌, ℕ, ◌+◌, ◌≤◌, ◌<◌, Bool, true, false, cond, List, [], ◌∷◌, ◌++◌, length, get_or, refl, sym, ap, ◌∙◌, subst, arith, Option, Some, None}
+use Rattle.std.proofs.Common.{◌≡◌, ℕ, ◌+◌, ◌≤◌, ◌<◌, Bool, true, false, List, [], ◌∷◌, ◌++◌, length, get_or, refl, sym, ap, ◌∙◌, subst, arith, Option, Some, None}
 use Rattle.std.specs.Prelude.{slice_range}
 use Rattle.std.proofs.lemmas.List.Edits.{between_more}
 use Rattle.json_span.specs.Json.{is_space, AreSpaces, Json}
-use Rattle.json_span.specs.Machine.{Token, State, Value, First, Names, Name, InName, In, done, next, behind, or_else, Goes, Fails, Why, Bad, Deep, step, accepts, Going, Stopped, onward, run}
+use Rattle.json_span.specs.Machine.{State, Value, Goes, Fails, Why, Bad, Deep, step, accepts, Going, Stopped, onward, run}
 use Rattle.json_span.specs.Spans.{Stretch, Begins, NoValue, IsFirst, IsCut, IsFault, IsFaultPlace, IsNotJson, IsTooDeep}
 use Rattle.json_span.specs.Reading.{Fits, HasTop, brackets, state_of}
 use Rattle.json_span.specs.declared.reading.Reading.{Reading}
 use Rattle.json_span.proofs.TextLaws.{spaced_now}
 use Rattle.json_span.proofs.RunLaws.{run_push}
-use Rattle.json_span.proofs.Fronts.{value_run, run_value, run_begins, spaced_value, going_no_value, bad_none, stopped_none, deep_deeper, run_behind}
+use Rattle.json_span.proofs.Fronts.{run_value, run_begins, spaced_value, going_no_value, bad_none, stopped_none, deep_deeper}
+use Rattle.json_span.proofs.DeepLaws.{deep_alone, deep_bracket}
 use Rattle.json_span.proofs.Stretches.{range_split, range_whole}
 use Rattle.json_span.proofs.Values.{range_head, value_some, value_start, begins_at, begins_from, value_front}
 
@@ -128,47 +129,11 @@ not_json_here bytes at start i place s w u a b r f h p = record {
   none = none_here bytes at start i w u h (bad_longest bytes start i s a b r f);
 }
 
--- Behind a value no bracket is opened.
-stays : (k : Token) (d : ℕ) (t : State) (y : List ℕ) → run (In k d []) y ≡ Going t → (u : Token) × (t ≡ In u d [])
-unfolding step behind
-stays k d t [] e = (k, let q : In k d [] ≡ t = cc in sym q)
-stays k d t (c ∷ y) e = go (next k c) (done k) (λ u f. stays u d t y f) e
-  where
-    go : (o : Option Token) (p : Bool) → ((u : Token) → run (In u d []) y ≡ Going t → (v : Token) × (t ≡ In v d [])) → onward (or_else o (λ u. In u d []) (cond p (Fails Bad) (Fails Bad))) (λ v. run v y) ≡ Going t → (u : Token) × (t ≡ In u d [])
-    go (Some u) p h f = h u f
-    go None true h f = cc
-    go None false h f = cc
-
-not_deep : (k : Token) (d c : ℕ) → Fails Deep ≡ step (In k d []) c → ⊥
-unfolding step behind
-not_deep k d c e = go (next k c) (done k) e
-  where
-    go : (o : Option Token) (p : Bool) → Fails Deep ≡ or_else o (λ u. In u d []) (cond p (Fails Bad) (Fails Bad)) → ⊥
-    go (Some u) p f = cc
-    go None true f = let q : Deep ≡ Bad = cc in cc
-    go None false f = let q : Deep ≡ Bad = cc in cc
-
-accepts_in : (s : State) → accepts s ≡ true → (k : Token) × (d : ℕ) × (s ≡ In k d [])
-accepts_in (In k d []) e = (k, d, refl)
-accepts_in (In k d (b ∷ st)) e = cc
-accepts_in (Value d st) e = cc
-accepts_in (First d st) e = cc
-accepts_in (Names d st) e = cc
-accepts_in (Name d st) e = cc
-accepts_in (InName k d st) e = cc
-
-deep_alone : (x y : List ℕ) (s : State) (c : ℕ) → Json 127 x → run (Value 127 []) (x ++ y) ≡ Going s → Fails Deep ≡ step s c → ⊥
-deep_alone x y s c i r f =
-    let v = value_run 127 x (spaced_now (Json 127) x i) in
-    let a = accepts_in v.0 v.2 in
-    let g : run v.0 y ≡ Going s = run_behind (Value 127 []) s v.0 x y v.1 r in
-    let t = stays a.0 a.1 s y (subst (λ z. run z y ≡ Going s) a.2 g) in
-    not_deep t.0 a.1 c (f ∙ ap (λ z. step z c) t.1)
-
 pub deep_here : (bytes : List ℕ) (at start i : ℕ) (s : State) → Stretch AreSpaces bytes at start → (start < length bytes → is_space (get_or bytes start 0) ≡ false) → start ≤ i → i < length bytes → run (Value 127 []) (slice_range bytes start i) ≡ Going s → Fails Deep ≡ step s (get_or bytes i 0) → IsTooDeep bytes at i
 deep_here bytes at start i s w u a b r f = record {
   order = omega (arith, w.order, a);
   bound = b;
+  bracket = deep_bracket s (get_or bytes i 0) f;
   begins = begins_at bytes 127 at start i w a (run_begins 127 s (slice_range bytes start i) r);
   ends = λ g. stopped_none 127 Deep (slice_range bytes start (i + 1)) (stopped_more bytes start i s Deep a b r f) (begins_from bytes 127 at start (i + 1) w (omega (arith, a)) g);
   deeper = begins_at bytes 128 at start (i + 1) w (omega (arith, a)) (subst (Begins 128) (sym (between_more bytes start i 0 a b)) (deep_deeper 127 s (slice_range bytes start i) (get_or bytes i 0) r (sym f)));

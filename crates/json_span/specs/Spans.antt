@@ -1,5 +1,5 @@
 -- What is answered for the first value behind a place of some bytes.
-use Rattle.std.specs.Prelude.{◌≡◌, ℕ, ◌+◌, ◌≤◌, ◌<◌, ◌⊎◌, List, ◌++◌, length, drop, slice_range, Result, Ok, Err}
+use Rattle.std.specs.Prelude.{◌≡◌, ℕ, ◌+◌, ◌≤◌, ◌<◌, ◌⊎◌, List, ◌++◌, length, drop, slice_index, slice_range, Result, Ok, Err}
 use Rattle.json_span.specs.Strings.{IsBegun}
 use Rattle.json_span.specs.Json.{AreSpaces, Spaced, Json}
 use Rattle.json_span.specs.declared.span.Span.{Span}
@@ -50,10 +50,11 @@ pub record IsNotJson (bytes : List ℕ) (at place : ℕ) : Type 0 where
   pub found : IsFaultPlace bytes at fault place
   pub none : NoValue bytes at
 
--- the byte at `place` is the first after which only values of more than 127 levels are possible
+-- the bracket at `place` is the first byte after which only values of more than 127 levels are possible
 pub record IsTooDeep (bytes : List ℕ) (at place : ℕ) : Type 0 where
   pub order : at ≤ place
   pub bound : place < length bytes
+  pub bracket : (slice_index bytes place ≡ 91) ⊎ (slice_index bytes place ≡ 123)
   pub begins : Begins 127 (slice_range bytes at place)
   pub ends : Begins 127 (slice_range bytes at (place + 1)) → ⊥
   pub deeper : Begins 128 (slice_range bytes at (place + 1))
