@@ -24,3 +24,4 @@ pub mod WalkLaws
 pub mod ObjectLaws
 pub mod NumberLaws
 pub mod MembersOnly
+pub mod PlainLaws

@@ -147,3 +147,7 @@ deep_here bytes at start i s w u a b r f = record {
         let l : e ≤ i = deep_longest bytes start i s a b r f e x in
         let p : slice_range bytes start i ≡ slice_range bytes start e ++ slice_range bytes e i = range_split bytes start e i x.order l in
         deep_alone (slice_range bytes start e) (slice_range bytes e i) s (get_or bytes i 0) x.text (subst (λ z. run (Value 127 []) z ≡ Going s) p r) f
+
+-- where the state is none that accepts, the longest value stays
+pub found_stays : (bytes : List ℕ) (start i : ℕ) (t : State) (end : Option ℕ) → start ≤ i → i < length bytes → is_space (get_or bytes start 0) ≡ false → run (Value 127 []) (slice_range bytes start (i + 1)) ≡ Going t → Found bytes start i end → accepts t ≡ false → Found bytes start (i + 1) end
+found_stays bytes start i t end a b f e h n = found_more bytes start i t end end a b f e h (λ y. let q : true ≡ false = sym y ∙ n in cc) (λ _. refl)

@@ -1,7 +1,7 @@
 //! Kinds of bytes.
 ghost use Rattle.std.specs.Prelude.{◌≡◌, ◌≤◌, ◌<◌, length, slice_index, false};
 ghost use Rattle.json_span.specs.Numbers.{is_digit};
-ghost use Rattle.json_span.specs.Strings.{is_hex};
+ghost use Rattle.json_span.specs.Strings.{is_hex, is_plain};
 ghost use Rattle.json_span.specs.Json.{is_space, AreSpaces};
 ghost use Rattle.json_span.specs.Machine.{is_e};
 ghost use Rattle.json_span.specs.Spans.{Stretch};
@@ -28,6 +28,13 @@ pub(crate) fn hex(byte: u8) -> bool
     ensures { result ≡ is_hex byte }
 {
     digit(byte) || (b'A' <= byte && byte <= b'F') || (b'a' <= byte && byte <= b'f')
+}
+
+/// Whether a byte of a string stands for itself.
+pub(crate) fn plain(byte: u8) -> bool
+    ensures { result ≡ is_plain byte }
+{
+    (32 <= byte && byte <= 33) || (35 <= byte && byte <= 91) || (93 <= byte && byte <= 127)
 }
 
 /// The first place from `at` on where no white space stands.

@@ -1,11 +1,11 @@
 //! A reading of a value as far as some bytes have come, and one byte more.
-ghost use Rattle.std.specs.Prelude.{◌≡◌, ℕ, ◌+◌, ◌<◌, List, ◌∷◌};
+ghost use Rattle.std.specs.Prelude.{◌≡◌, ℕ, ◌+◌, ◌<◌, List, ◌∷◌, IsTrue, false};
 ghost use Rattle.json_span.specs.Machine.{begin, behind, step, accepts, begin_array, begin_object, First as FirstState, Names as NamesState, Name as NameState, InName as InNameState, Value as ValueState, Goes, In, Closed, Array, Object, Bracket};
 ghost use Rattle.json_span.specs.Reading.{token_of, brackets, state_of, step_of, Fits, FitsTurn, HasTop, TopTurn, state_at};
 ghost use Rattle.json_span.specs.declared.reading.Place.TheVariants.{First, Names};
 
 use crate::bytes::space;
-use crate::token::{Token, done, first_token, next_token};
+use crate::token::{Token, done, first_token, next_token, same_token};
 
 #[derive(Clone, Copy)]
 pub(crate) enum Place {
@@ -266,6 +266,20 @@ pub(crate) fn may_end(r: Reading) -> bool
 {
     match r.place {
         Place::In(token) => r.depth == 0 && done(token),
+        _ => false,
+    }
+}
+
+/// Whether the byte stands for itself in a string, so that it changes nothing.
+#[tactic(auto, unfolding(crate::specs::Machine::step))]
+pub(crate) fn stays(r: Reading, byte: u8) -> bool
+    requires { HasTop r.place (brackets r.depth r.bits) }
+    ensures step { IsTrue result → Goes (state_of r) ≡ step (state_of r) byte }
+    ensures inside { IsTrue result → accepts (state_of r) ≡ false }
+{
+    match r.place {
+        Place::In(token) => same_token(token, byte),
+        Place::InName(token) => same_token(token, byte),
         _ => false,
     }
 }

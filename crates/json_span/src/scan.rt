@@ -6,7 +6,7 @@ ghost use Rattle.json_span.specs.Spans.{IsFirst, IsCut, IsNotJson, IsTooDeep};
 ghost use Rattle.json_span.specs.declared.span.JsonFault.TheVariants.{Cut, NotJson, TooDeep};
 
 use crate::bytes::behind_space;
-use crate::reading::{Place, Reading, Turn, after_byte, may_end};
+use crate::reading::{Place, Reading, Turn, after_byte, may_end, stays};
 use crate::span::{JsonFault, Span};
 use crate::token::Token;
 
@@ -48,7 +48,7 @@ fn longest(next: Reading, end: Option<usize>, place: usize) -> Option<usize>
 
 /// The longest JSON value (RFC 8259, section 2) that begins at `at` behind white space: `at` is an
 /// offset of the bytes, at most their length, and so are the places of the span and of the errors. A
-/// number takes as many bytes as it can, and what stands behind a value is not looked at.
+/// number takes as many bytes as it can, and what stands behind a value is no matter.
 ///
 /// `Cut` where the bytes end within the white space or the value, `NotJson` and `TooDeep` where no value
 /// of at most 127 levels is possible, whichever comes first. It takes no memory.
@@ -68,7 +68,11 @@ pub fn first_value(bytes: &[u8], at: usize) -> Result<Span, JsonFault>
     };
     let mut end = None;
     for i in start..bytes.len() {
-        match after_byte(reading, bytes[i]) {
+        let byte = bytes[i];
+        if stays(reading, byte) {
+            continue;
+        }
+        match after_byte(reading, byte) {
             Turn::Go(next) => {
                 end = longest(next, end, i + 1);
                 reading = next;

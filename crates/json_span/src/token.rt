@@ -1,10 +1,10 @@
 //! Strings, numbers and literals, byte by byte.
-ghost use Rattle.std.specs.Prelude.{◌≡◌, if◌then◌else◌, Some, None};
+ghost use Rattle.std.specs.Prelude.{◌≡◌, if◌then◌else◌, IsTrue, false, Some, None};
 ghost use Rattle.json_span.specs.Strings.{lead, within as in_bounds};
 ghost use Rattle.json_span.specs.Machine.{next, first, Zero, done as may_end, wide_token};
 ghost use Rattle.json_span.specs.Reading.{token_of, token_option, bounds_of};
 
-use crate::bytes::{digit, exponent, hex};
+use crate::bytes::{digit, exponent, hex, plain};
 
 /// Bounds of the second byte of a character of several bytes in UTF-8.
 #[derive(Clone, Copy)]
@@ -225,6 +225,18 @@ pub(crate) fn done(token: Token) -> bool
 {
     match token {
         Token::Closed | Token::Zero | Token::Int | Token::Frac | Token::Exp => true,
+        _ => false,
+    }
+}
+
+/// Whether the byte stands for itself in a string.
+#[tactic(auto, using(crate::proofs::PlainLaws::plain_next))]
+pub(crate) fn same_token(token: Token, byte: u8) -> bool
+    ensures same { IsTrue result → next (token_of token) byte ≡ Some (token_of token) }
+    ensures inside { IsTrue result → may_end (token_of token) ≡ false }
+{
+    match token {
+        Token::Chars => plain(byte),
         _ => false,
     }
 }

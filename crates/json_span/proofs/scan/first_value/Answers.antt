@@ -4,7 +4,7 @@ use Rattle.std.specs.Prelude.{Ok, Err}
 use Rattle.json_span.specs.Reading.{state_of}
 use Rattle.json_span.specs.Spans.{IsFaultPlace}
 use Rattle.json_span.specs.declared.span.JsonFault.TheVariants.{Cut, NotJson, TooDeep}
-use Rattle.json_span.proofs.ScanLaws.{Found, runs_more, found_more, first_bad, first_end, cut_here, not_json_here, deep_here}
+use Rattle.json_span.proofs.ScanLaws.{Found, runs_more, found_more, found_stays, first_bad, first_end, cut_here, not_json_here, deep_here}
 use Rattle.json_span.proofs.FaultPlaces.{fault_found}
 use Rattle.json_span.proofs.Exact.{exact}
 use Rattle.json_span.proofs.scan.first_value.Goals as goal
@@ -77,4 +77,20 @@ loop-i-preserved c =
       top = c.in-Go.ensures.top;
       runs = r;
       found = found_more b w.result l.i (state_of n) l.end c.longest-end.result v.order c.loop-i-test.true (w.ensures.stops (omega (arith, v.order, c.loop-i-test.true))) r v.found c.longest-end.ensures.yes c.longest-end.ensures.no;
+    }
+
+pub loop-i-preserved-then-stays : goal.loop-i-preserved-then-stays
+loop-i-preserved-then-stays c =
+    let l = c.loop-i in
+    let v = l.invariant in
+    let b = c.args.bytes.now in
+    let w = c.behind_space-start in
+    let s = state_of l.reading in
+    let r = runs_more b w.result l.i s s v.order c.loop-i-test.true v.runs (c.stays.ensures.step c.if-stays.true) in
+    record {
+      order = omega (arith, v.order);
+      fits = v.fits;
+      top = v.top;
+      runs = r;
+      found = found_stays b w.result l.i s l.end v.order c.loop-i-test.true (w.ensures.stops (omega (arith, v.order, c.loop-i-test.true))) r v.found (c.stays.ensures.inside c.if-stays.true);
     }
