@@ -22,6 +22,7 @@ pub mod Parts
 pub mod MemberLaws
 pub mod WalkLaws
 pub mod ObjectLaws
+pub mod CalmLaws
 pub mod NumberLaws
 pub mod MembersOnly
 pub mod PlainLaws

@@ -3,7 +3,7 @@ use Rattle.std.proofs.Common.{◌≡◌, ℕ, ◌+◌, ◌≤◌, ◌<◌, false
 use Rattle.std.specs.Prelude.{slice_range}
 use Rattle.std.proofs.lemmas.List.Edits.{between_more, between_none}
 use Rattle.json_span.specs.Json.{is_space, AreSpaces, Json}
-use Rattle.json_span.specs.Spans.{Stretch, Begins, IsFirst}
+use Rattle.json_span.specs.Spans.{Stretch, Begins, IsWithin, IsFirst}
 use Rattle.json_span.specs.declared.span.Span.{Span}
 use Rattle.json_span.proofs.StepForth.{json_some}
 use Rattle.json_span.proofs.Fronts.{value_first, begins_behind, begins_spaced, begins_value}
@@ -26,10 +26,8 @@ value_byte bytes d start end s =
     value_first d (get_or bytes start 0) (slice_range bytes (start + 1) end) (subst (Json d) (range_head bytes start end (value_some bytes d start end s) s.bound) s.text)
 
 -- where the first value's span lies
-pub first_within : (bytes : List ℕ) (at : ℕ) (s : Span) → IsFirst bytes at s → (at ≤ s.start) × (s.start < length bytes) × (s.start < s.end) × (s.end ≤ length bytes)
-first_within bytes at s f =
-    let o : s.start < s.end = value_some bytes 127 s.start s.end f.value in
-    (f.space.order, omega (arith, o, f.value.bound), o, f.value.bound)
+pub first_within : (bytes : List ℕ) (at : ℕ) (s : Span) → IsFirst bytes at s → IsWithin at s (length bytes)
+first_within bytes at s f = record { behind = f.space.order; some = value_some bytes 127 s.start s.end f.value; bound = f.value.bound }
 
 -- white space that ends where none stands, or where the bytes end, ends where each value behind it begins
 pub value_start : (bytes : List ℕ) (at start d from end : ℕ) → Stretch AreSpaces bytes at start → (start < length bytes → is_space (get_or bytes start 0) ≡ false) → Stretch AreSpaces bytes at from → Stretch (Json d) bytes from end → start ≡ from

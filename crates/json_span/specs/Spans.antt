@@ -22,6 +22,12 @@ pub record IsFirst (bytes : List ℕ) (at : ℕ) (s : Span) : Type 0 where
   pub value : Stretch (Json 127) bytes s.start s.end
   pub longest : (levels end : ℕ) → Stretch (Json levels) bytes s.start end → end ≤ s.end
 
+-- so it is not empty, and lies between `at` and the bytes' end
+pub record IsWithin (at : ℕ) (s : Span) (len : ℕ) : Type 0 where
+  pub behind : at ≤ s.start
+  pub some : s.start < s.end
+  pub bound : s.end ≤ len
+
 -- no value, of any depth, stands behind the white space at `at`
 abbrev pub NoValue : List ℕ → ℕ → Type 0
 NoValue bytes at = (levels start end : ℕ) → Stretch AreSpaces bytes at start → Stretch (Json levels) bytes start end → ⊥
@@ -44,6 +50,7 @@ IsFaultPlace bytes at fault place =
     ((at ≤ place) × Stretch IsBegun bytes place fault)
     ⊎ ((place ≡ fault) × ((from : ℕ) → at ≤ from → Stretch IsBegun bytes from fault → ⊥))
 
+-- no value is possible, and none was found before the fault
 pub record IsNotJson (bytes : List ℕ) (at place : ℕ) : Type 0 where
   pub fault : ℕ
   pub first : IsFault bytes at fault

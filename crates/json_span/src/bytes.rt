@@ -6,24 +6,28 @@ ghost use Rattle.json_span.specs.Json.{is_space, AreSpaces};
 ghost use Rattle.json_span.specs.Machine.{is_e};
 ghost use Rattle.json_span.specs.Spans.{Stretch};
 
+/// White space.
 pub(crate) fn space(byte: u8) -> bool
     ensures { result ≡ is_space byte }
 {
     byte == b' ' || byte == b'\t' || byte == b'\n' || byte == b'\r'
 }
 
+/// A decimal digit.
 pub(crate) fn digit(byte: u8) -> bool
     ensures { result ≡ is_digit byte }
 {
     b'0' <= byte && byte <= b'9'
 }
 
+/// The letter of an exponent.
 pub(crate) fn exponent(byte: u8) -> bool
     ensures { result ≡ is_e byte }
 {
     byte == b'e' || byte == b'E'
 }
 
+/// A hexadecimal digit of either case.
 pub(crate) fn hex(byte: u8) -> bool
     ensures { result ≡ is_hex byte }
 {

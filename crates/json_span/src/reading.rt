@@ -35,6 +35,7 @@ pub(crate) enum Turn {
     Deep,
 }
 
+/// A bracket opens: an array for bit 0, an object for bit 1.
 #[tactic(auto, using(crate::proofs::BitLaws::bits_grow, crate::proofs::BitLaws::bits_small))]
 fn push(r: Reading, place: Place, bit: u128) -> Turn
     requires fits { Fits r }
@@ -57,6 +58,7 @@ fn push(r: Reading, place: Place, bit: u128) -> Turn
     }
 }
 
+/// The innermost bracket closes.
 #[tactic(auto, using(crate::proofs::BitLaws::bits_half))]
 fn pop(r: Reading) -> Turn
     requires fits { Fits r }
@@ -77,6 +79,7 @@ fn pop(r: Reading) -> Turn
     }
 }
 
+/// The same brackets at another place.
 fn go(r: Reading, place: Place) -> Turn
     requires fits { Fits r }
     ensures fits { FitsTurn result }
@@ -91,6 +94,7 @@ fn go(r: Reading, place: Place) -> Turn
     })
 }
 
+/// The first byte of a value.
 #[tactic(auto, unfolding(crate::specs::Machine::begin))]
 fn begin_value(r: Reading, byte: u8) -> Turn
     requires fits { Fits r }
@@ -110,6 +114,7 @@ fn begin_value(r: Reading, byte: u8) -> Turn
     }
 }
 
+/// A byte behind a value.
 #[tactic(auto, unfolding(crate::specs::Machine::behind))]
 fn behind_value(r: Reading, byte: u8) -> Turn
     requires fits { Fits r }
@@ -138,6 +143,7 @@ fn behind_value(r: Reading, byte: u8) -> Turn
     }
 }
 
+/// A byte where an array's first value or its closing bracket is due.
 #[tactic(auto, unfolding(crate::specs::Machine::step))]
 fn in_first(r: Reading, byte: u8) -> Turn
     requires fits { Fits r }
@@ -154,6 +160,7 @@ fn in_first(r: Reading, byte: u8) -> Turn
     }
 }
 
+/// A byte where an object's first name or its closing brace is due.
 #[tactic(auto, unfolding(crate::specs::Machine::step))]
 fn in_names(r: Reading, byte: u8) -> Turn
     requires fits { Fits r }
@@ -172,6 +179,7 @@ fn in_names(r: Reading, byte: u8) -> Turn
     }
 }
 
+/// A byte where a further name of an object is due.
 #[tactic(auto, unfolding(crate::specs::Machine::step))]
 fn in_name(r: Reading, byte: u8) -> Turn
     requires fits { Fits r }
@@ -188,6 +196,7 @@ fn in_name(r: Reading, byte: u8) -> Turn
     }
 }
 
+/// A byte within a name, or behind it where the colon is due.
 #[tactic(auto, unfolding(crate::specs::Machine::step))]
 fn in_member(r: Reading, token: Token, byte: u8) -> Turn
     requires fits { Fits r }
@@ -211,6 +220,7 @@ fn in_member(r: Reading, token: Token, byte: u8) -> Turn
     }
 }
 
+/// A byte within a string, number or literal that is a value, or behind a value.
 #[tactic(auto, unfolding(crate::specs::Machine::step))]
 fn in_token(r: Reading, token: Token, byte: u8) -> Turn
     requires fits { Fits r }
@@ -230,6 +240,7 @@ fn in_token(r: Reading, token: Token, byte: u8) -> Turn
     }
 }
 
+/// A byte where a value is due.
 #[tactic(auto, unfolding(crate::specs::Machine::step))]
 fn in_value(r: Reading, byte: u8) -> Turn
     requires fits { Fits r }
@@ -244,6 +255,7 @@ fn in_value(r: Reading, byte: u8) -> Turn
     }
 }
 
+/// One byte more.
 pub(crate) fn after_byte(r: Reading, byte: u8) -> Turn
     requires fits { Fits r }
     requires top { HasTop r.place (brackets r.depth r.bits) }
@@ -261,6 +273,7 @@ pub(crate) fn after_byte(r: Reading, byte: u8) -> Turn
     }
 }
 
+/// Whether the bytes so far may be a value.
 pub(crate) fn may_end(r: Reading) -> bool
     ensures { result ≡ accepts (state_of r) }
 {

@@ -1,8 +1,8 @@
 //! The first value at a place of some bytes.
-ghost use Rattle.std.specs.Prelude.{◌≡◌, ◌≤◌, ℕ, length, true, false, Some, ◌↔◌, Result, Ok, Err};
+ghost use Rattle.std.specs.Prelude.{◌≡◌, ◌≤◌, ℕ, length, true, false, Some, ◌↔◌, Result, Ok, Err, IfOk};
 ghost use Rattle.json_span.specs.Machine.{accepts, token_in, is_tail, IsLastLead};
 ghost use Rattle.json_span.specs.Reading.{state_of, HasTop, brackets};
-ghost use Rattle.json_span.specs.Spans.{IsFirst, IsCut, IsNotJson, IsTooDeep};
+ghost use Rattle.json_span.specs.Spans.{IsWithin, IsFirst, IsCut, IsNotJson, IsTooDeep};
 ghost use Rattle.json_span.specs.declared.span.JsonFault.TheVariants.{Cut, NotJson, TooDeep};
 
 use crate::bytes::behind_space;
@@ -10,7 +10,8 @@ use crate::reading::{Place, Reading, Turn, after_byte, may_end, stays};
 use crate::span::{JsonFault, Span};
 use crate::token::Token;
 
-/// The last of the three bytes before a place that can be the first byte of a character of several.
+/// The last of the three places before `fault` whose byte can be the first of several that are one
+/// character.
 fn last_lead(bytes: &[u8], fault: usize) -> usize
     requires { fault ≤ length bytes.now }
     ensures { IsLastLead bytes.now fault result }
@@ -24,7 +25,7 @@ fn last_lead(bytes: &[u8], fault: usize) -> usize
     }
 }
 
-/// Where a faulty byte's fault is found.
+/// Where the fault of the byte at `fault` is found: at the character that it breaks off, if there is one.
 fn fault_place(reading: Reading, bytes: &[u8], fault: usize) -> usize
     requires top { HasTop reading.place (brackets reading.depth reading.bits) }
     requires within { fault ≤ length bytes.now }
@@ -38,7 +39,7 @@ fn fault_place(reading: Reading, bytes: &[u8], fault: usize) -> usize
     }
 }
 
-/// The end of the longest value so far, if the bytes up to `place` may be one.
+/// The end of the longest value so far: `place`, if the bytes before it may be one, and else `end`.
 fn longest(next: Reading, end: Option<usize>, place: usize) -> Option<usize>
     ensures yes { accepts (state_of next) ≡ true → result ≡ Some place }
     ensures no { accepts (state_of next) ≡ false → result ≡ end }
@@ -55,6 +56,7 @@ fn longest(next: Reading, end: Option<usize>, place: usize) -> Option<usize>
 pub fn first_value(bytes: &[u8], at: usize) -> Result<Span, JsonFault>
     requires { at ≤ length bytes.now }
     ensures ok { (s : Span) → (result ≡ Ok s) ↔ IsFirst bytes.now at s }
+    ensures within { IfOk result (λ s. IsWithin at s (length bytes.now)) }
     ensures cut { (result ≡ Err Cut) ↔ IsCut bytes.now at }
     ensures not_json { (place : ℕ) → (result ≡ Err (NotJson place)) ↔ IsNotJson bytes.now at place }
     ensures too_deep { (place : ℕ) → (result ≡ Err (TooDeep place)) ↔ IsTooDeep bytes.now at place }

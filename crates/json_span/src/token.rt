@@ -44,12 +44,14 @@ pub(crate) enum Token {
     Tail { bounds: Range, more: u8 },
 }
 
+/// The token, if the test holds.
 fn when(test: bool, token: Token) -> Option<Token>
     ensures { result ≡ (if test then Some token else None) }
 {
     if test { Some(token) } else { None }
 }
 
+/// A byte behind the whole part of a number.
 #[tactic(auto, unfolding(crate::specs::Machine::next))]
 fn fraction(byte: u8) -> Option<Token>
     ensures { token_option result ≡ next Zero byte }
@@ -61,6 +63,7 @@ fn fraction(byte: u8) -> Option<Token>
     }
 }
 
+/// The first byte of a character of several bytes.
 #[tactic(auto, unfolding(crate::specs::Strings::lead))]
 fn wide(byte: u8) -> Option<Token>
     ensures { token_option result ≡ wide_token (lead byte) }
@@ -85,6 +88,7 @@ fn wide(byte: u8) -> Option<Token>
     Some(Token::Tail { bounds, more })
 }
 
+/// Whether a character's further byte is within the bounds.
 fn within(bounds: Range, byte: u8) -> bool
     ensures { result ≡ in_bounds (bounds_of bounds) byte }
 {
@@ -97,6 +101,7 @@ fn within(bounds: Range, byte: u8) -> bool
     }
 }
 
+/// One byte more, if it belongs to the token.
 #[tactic(auto, unfolding(crate::specs::Machine::next))]
 pub(crate) fn next_token(token: Token, byte: u8) -> Option<Token>
     ensures { token_option result ≡ next (token_of token) byte }
@@ -197,6 +202,7 @@ pub(crate) fn next_token(token: Token, byte: u8) -> Option<Token>
     }
 }
 
+/// The first byte of a string, number or literal.
 #[tactic(auto, unfolding(crate::specs::Machine::first))]
 pub(crate) fn first_token(byte: u8) -> Option<Token>
     ensures { token_option result ≡ first byte }
@@ -220,6 +226,7 @@ pub(crate) fn first_token(byte: u8) -> Option<Token>
     }
 }
 
+/// Whether the token may end here.
 pub(crate) fn done(token: Token) -> bool
     ensures { result ≡ may_end (token_of token) }
 {

@@ -1,22 +1,7 @@
-use Rattle.std.proofs.Common.{◌≤◌, ◌<◌, length, arith, refl}
+use Rattle.std.proofs.Common.{length, refl}
 use Rattle.std.proofs.lemmas.Bool.{eqb-true, eq-eqb}
-use Rattle.json_span.proofs.Values.{value_some}
 use Rattle.json_span.proofs.ObjectLaws.{object_text, object_first, object_span, object_end}
 use Rattle.json_span.proofs.object.is_object.Goals as goal
-
-pub bounds-bytes-span : goal.bounds-bytes-span
-bounds-bytes-span c =
-    let s = c.in-Ok.span in
-    let f = (c.in-Ok.ensures.ok s).0 refl in
-    let l : s.start < length c.args.bytes.now = omega (arith, value_some c.args.bytes.now 127 s.start s.end f.value, f.value.bound) in
-    l
-
-pub behind_space-requires : goal.behind_space-requires
-behind_space-requires c =
-    let s = c.in-Ok.span in
-    let f = (c.in-Ok.ensures.ok s).0 refl in
-    let l : s.end ≤ length c.args.bytes.now = f.value.bound in
-    l
 
 pub returns-then-bytes-span-eq123 : goal.returns-then-bytes-span-eq123
 returns-then-bytes-span-eq123 c =

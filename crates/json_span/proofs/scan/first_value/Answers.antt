@@ -5,6 +5,7 @@ use Rattle.json_span.specs.Reading.{state_of}
 use Rattle.json_span.specs.Spans.{IsFaultPlace}
 use Rattle.json_span.specs.declared.span.JsonFault.TheVariants.{Cut, NotJson, TooDeep}
 use Rattle.json_span.proofs.ScanLaws.{Found, runs_more, found_more, found_stays, first_bad, first_end, cut_here, not_json_here, deep_here}
+use Rattle.json_span.proofs.Values.{first_within}
 use Rattle.json_span.proofs.FaultPlaces.{fault_found}
 use Rattle.json_span.proofs.Exact.{exact}
 use Rattle.json_span.proofs.scan.first_value.Goals as goal
@@ -17,7 +18,7 @@ returns-in-Some c =
     let w = c.behind_space-start in
     let f = first_bad b c.args.at w.result l.i c.in-Some.end (state_of l.reading) l.end w.ensures.spaces v.order c.loop-i-test.true v.runs c.in-Bad.ensures.turn v.found c.in-Some.is in
     let e = exact b c.args.at (Ok (record { start = w.result; end = c.in-Some.end })) in
-    record { ok = λ x. e (Ok x) f; cut = e (Err Cut) f; not_json = λ p. e (Err (NotJson p)) f; too_deep = λ p. e (Err (TooDeep p)) f }
+    record { ok = λ x. e (Ok x) f; within = first_within b c.args.at (record { start = w.result; end = c.in-Some.end }) f; cut = e (Err Cut) f; not_json = λ p. e (Err (NotJson p)) f; too_deep = λ p. e (Err (TooDeep p)) f }
 
 pub returns-in-None : goal.returns-in-None
 returns-in-None c =
@@ -30,7 +31,7 @@ returns-in-None c =
     let p : IsFaultPlace b c.args.at l.i c.fault_place.result = fault_found b c.args.at w.result l.i c.fault_place.result s w.ensures.spaces v.order (omega (arith, c.loop-i-test.true)) v.runs c.fault_place.ensures.tail c.fault_place.ensures.other in
     let f = not_json_here b c.args.at w.result l.i c.fault_place.result s w.ensures.spaces w.ensures.stops v.order c.loop-i-test.true v.runs c.in-Bad.ensures.turn found p in
     let e = exact b c.args.at (Err (NotJson c.fault_place.result)) in
-    record { ok = λ x. e (Ok x) f; cut = e (Err Cut) f; not_json = λ p. e (Err (NotJson p)) f; too_deep = λ p. e (Err (TooDeep p)) f }
+    record { ok = λ x. e (Ok x) f; within = tt; cut = e (Err Cut) f; not_json = λ p. e (Err (NotJson p)) f; too_deep = λ p. e (Err (TooDeep p)) f }
 
 pub returns-in-Deep : goal.returns-in-Deep
 returns-in-Deep c =
@@ -40,7 +41,7 @@ returns-in-Deep c =
     let w = c.behind_space-start in
     let f = deep_here b c.args.at w.result l.i (state_of l.reading) w.ensures.spaces w.ensures.stops v.order c.loop-i-test.true v.runs c.in-Deep.ensures.turn in
     let e = exact b c.args.at (Err (TooDeep l.i)) in
-    record { ok = λ x. e (Ok x) f; cut = e (Err Cut) f; not_json = λ p. e (Err (NotJson p)) f; too_deep = λ p. e (Err (TooDeep p)) f }
+    record { ok = λ x. e (Ok x) f; within = tt; cut = e (Err Cut) f; not_json = λ p. e (Err (NotJson p)) f; too_deep = λ p. e (Err (TooDeep p)) f }
 
 pub returns-in-Some-end : goal.returns-in-Some-end
 returns-in-Some-end c =
@@ -50,7 +51,7 @@ returns-in-Some-end c =
     let w = c.behind_space-start in
     let f = first_end b c.args.at w.result l.i c.in-Some-end.end l.end w.ensures.spaces (omega (arith, c.loop-i-test.false)) v.found c.in-Some-end.is in
     let e = exact b c.args.at (Ok (record { start = w.result; end = c.in-Some-end.end })) in
-    record { ok = λ x. e (Ok x) f; cut = e (Err Cut) f; not_json = λ p. e (Err (NotJson p)) f; too_deep = λ p. e (Err (TooDeep p)) f }
+    record { ok = λ x. e (Ok x) f; within = first_within b c.args.at (record { start = w.result; end = c.in-Some-end.end }) f; cut = e (Err Cut) f; not_json = λ p. e (Err (NotJson p)) f; too_deep = λ p. e (Err (TooDeep p)) f }
 
 pub returns-in-None-end : goal.returns-in-None-end
 returns-in-None-end c =
@@ -61,7 +62,7 @@ returns-in-None-end c =
     let q : l.i ≡ length b = omega (arith, c.loop-i-test.false, l.auto.i-end, w.ensures.spaces.bound) in
     let f = cut_here b c.args.at w.result l.i (state_of l.reading) w.ensures.spaces w.ensures.stops q v.runs (subst (Found b w.result l.i) c.in-None-end.is v.found) in
     let e = exact b c.args.at (Err Cut) in
-    record { ok = λ x. e (Ok x) f; cut = e (Err Cut) f; not_json = λ p. e (Err (NotJson p)) f; too_deep = λ p. e (Err (TooDeep p)) f }
+    record { ok = λ x. e (Ok x) f; within = tt; cut = e (Err Cut) f; not_json = λ p. e (Err (NotJson p)) f; too_deep = λ p. e (Err (TooDeep p)) f }
 
 pub loop-i-preserved : goal.loop-i-preserved
 loop-i-preserved c =
