@@ -26,3 +26,4 @@ pub mod CalmLaws
 pub mod NumberLaws
 pub mod MembersOnly
 pub mod PlainLaws
+pub mod ListForms

@@ -12,7 +12,7 @@ pub record Stretch (P : List ℕ → Type 0) (bytes : List ℕ) (start end : ℕ
   pub bound : end ≤ length bytes
   pub text : P (slice_range bytes start end)
 
--- the bytes can become, if more follow, white space and a value of at most so many levels
+-- the front, or the whole, of white space and a value of at most so many levels
 abbrev pub Begins : ℕ → List ℕ → Type 0
 Begins levels x = (more : List ℕ) × Spaced (Json levels) (x ++ more)
 
@@ -32,7 +32,7 @@ pub record IsWithin (at : ℕ) (s : Span) (len : ℕ) : Type 0 where
 abbrev pub NoValue : List ℕ → ℕ → Type 0
 NoValue bytes at = (levels start end : ℕ) → Stretch AreSpaces bytes at start → Stretch (Json levels) bytes start end → ⊥
 
--- the bytes end before the first value does
+-- the bytes from `at` on are the front of white space and a value, and hold no value
 pub record IsCut (bytes : List ℕ) (at : ℕ) : Type 0 where
   pub begins : Begins 127 (drop at bytes)
   pub none : NoValue bytes at
