@@ -27,3 +27,4 @@ pub mod NumberLaws
 pub mod MembersOnly
 pub mod PlainLaws
 pub mod ListForms
+pub mod MembersExist
