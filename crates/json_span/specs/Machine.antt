@@ -5,10 +5,11 @@ use Rattle.json_span.specs.Numbers.{between, is_digit, AreDigits, AreSomeDigits,
 use Rattle.json_span.specs.Strings.{Bounds, Any, within, Lead, lead, AreTail, is_plain, is_escape, is_hex, AreHex, CharKind, EndsString}
 use Rattle.json_span.specs.Json.{is_space, Spaced, Byte, Then, IsMember, Json}
 
+-- the open brackets
 pub data Bracket : Type 0 where
   Array Object : Bracket
 
--- where in a string, number or word
+-- where in a string, number or literal
 pub data Token : Type 0 where
   Closed : Token
   Word : ℕ → List ℕ → Token
@@ -17,6 +18,7 @@ pub data Token : Type 0 where
   Hex : ℕ → Token
   Tail : Bounds → ℕ → Token
 
+-- the rest of a string
 abbrev pub InString : List ℕ → Type 0
 InString x = (ks : List CharKind) × EndsString ks x
 
@@ -46,9 +48,11 @@ done Frac = true
 done Exp = true
 done t = false
 
+-- the letter of an exponent
 abbrev pub is_e : ℕ → Bool
 is_e c = (c == 101) || (c == 69)
 
+-- behind the first byte of a character of several bytes
 abbrev pub wide_token : Option Lead → Option Token
 wide_token None = None
 wide_token (Some l) = Some (Tail l.bounds l.more)
@@ -76,7 +80,7 @@ next (Hex (suc n)) c = if is_hex c then Some (Hex n) else None
 next (Tail bounds zero) c = if within bounds c then Some Chars else None
 next (Tail bounds (suc n)) c = if within bounds c then Some (Tail Any n) else None
 
--- the first byte of a string, number or word
+-- the first byte of a string, number or literal
 unfoldable pub first : ℕ → Option Token
 first c =
     if c == 34 then Some Chars else
@@ -191,6 +195,7 @@ token_in (InName t d st) = Some t
 token_in (In t d st) = Some t
 token_in s = None
 
+-- in the tail of a character of several bytes
 abbrev pub is_tail : Option Token → Bool
 is_tail (Some (Tail bounds more)) = true
 is_tail t = false
