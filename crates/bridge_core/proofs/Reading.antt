@@ -1,5 +1,5 @@
 -- What the frames read say of the input.
-use Rattle.std.proofs.Common.{◌≡◌, ◌⊎◌, inl, inr, ℕ, ◌+◌, ◌-◌, ◌^◌, ◌<◌, ◌≤◌, ◌∙◌, List, [], ◌∷◌, ◌++◌, Option, Some, None, length, take, drop, refl, sym, ap, subst, arith, append_assoc, length-append, take-append-drop, zero, suc}
+use Rattle.std.proofs.Common.{◌≡◌, inl, inr, ℕ, ◌+◌, ◌^◌, ◌<◌, ◌≤◌, ◌∙◌, List, [], ◌∷◌, ◌++◌, Option, Some, None, length, take, drop, refl, sym, ap, subst, arith, append_assoc, length-append, take-append-drop}
 use Rattle.std.specs.List.{AllByRecursion}
 use Rattle.std.proofs.lemmas.Bool.{cases_lt}
 use Rattle.std.proofs.lemmas.List.{append-nil, take-append-le, take_at}
@@ -12,7 +12,7 @@ use Rattle.relp_frame.proofs.WriteLaws.{spells_once}
 use Rattle.stream_grammar.specs.Framing.{AreSpelled, BeginsAList, HasNoFrame}
 use Rattle.stream_grammar.proofs.Streams.{spelled_append, spelled_strip, spelled_one}
 use Rattle.stream_grammar.proofs.Faults.{begins_front}
-use Rattle.bridge_core.specs.Input.{IsOpening, IsSyslog, MayCome, next_of, AreInOrder, IsInput, BeginsInput}
+use Rattle.bridge_core.specs.Input.{IsSyslog, MayCome, next_of, AreInOrder, IsInput, BeginsInput}
 use Rattle.bridge_core.specs.Carried.{IsDue}
 
 -- the bytes begin with these frames, and go on with the tail

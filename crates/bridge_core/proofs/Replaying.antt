@@ -1,7 +1,6 @@
 -- A run over the empty spool that was found.
-use Rattle.std.proofs.Common.{◌≡◌, ◌≢◌, inl, inr, ℕ, ◌+◌, ◌-◌, ◌<◌, ◌≤◌, List, ◌++◌, Option, length, get_or, refl, sym, ◌∙◌, ap, subst, arith, length-append}
+use Rattle.std.proofs.Common.{◌≡◌, ◌≢◌, inl, inr, ℕ, ◌+◌, ◌-◌, ◌<◌, ◌≤◌, List, Option, length, get_or, refl, sym, ◌∙◌, ap, subst, arith, length-append}
 use Rattle.std.proofs.lemmas.List.{get_or-append_right}
-use Rattle.foundation.specs.Bytes.{part}
 use Rattle.foundation.proofs.Bytes.{get_or-part, length-part}
 use Rattle.relp_frame.specs.declared.frame.Frame.{Frame}
 use Rattle.spool_state.specs.Segment.{segment_text}
@@ -11,8 +10,8 @@ use Rattle.bridge_core.specs.declared.note.Note.{Note}
 use Rattle.bridge_core.specs.declared.note.Note.TheVariants.{Fine, Usage, NoMemory, ReadFault, WriteFault, DiskFault, NotBuilt}
 use Rattle.bridge_core.specs.declared.slot.OnlySlot.{OnlySlot}
 use Rattle.bridge_core.specs.Slot.{IsKnown, Empty}
-use Rattle.bridge_core.specs.Carried.{Place, place}
-use Rattle.bridge_core.specs.Progress.{Ran, IsEnd, Overfull}
+use Rattle.bridge_core.specs.Carried.{place}
+use Rattle.bridge_core.specs.Progress.{Ran, IsEnd}
 use Rattle.bridge_core.specs.Replayed.{Holds, Replayed}
 use Rattle.bridge_core.proofs.Storing.{at_zero, gate_there}
 

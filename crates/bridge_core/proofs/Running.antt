@@ -1,5 +1,5 @@
 -- How a run goes on, and how it ends.
-use Rattle.std.proofs.Common.{◌≡◌, ◌⊎◌, inl, inr, ℕ, ◌+◌, ◌^◌, ◌<◌, ◌≤◌, ◌∙◌, List, [], ◌∷◌, ◌++◌, Option, Some, None, length, take, refl, sym, ap, subst, arith, append_assoc, length-append}
+use Rattle.std.proofs.Common.{◌≡◌, ℕ, ◌+◌, ◌∙◌, List, [], ◌∷◌, ◌++◌, Option, length, refl, sym, ap, subst, arith, append_assoc, length-append}
 use Rattle.std.specs.Prelude.{flat_map}
 use Rattle.std.specs.Io.KnownBytes.{Appends}
 use Rattle.std.proofs.lemmas.List.{append-nil}
@@ -7,21 +7,16 @@ use Rattle.std.proofs.lemmas.List.Concat.{flat_map-append}
 use Rattle.edge_io.proofs.Known.{appends_none, appends_then}
 use Rattle.event_form.specs.declared.event.Entry.{Entry}
 use Rattle.relp_frame.specs.declared.frame.Frame.{Frame}
-use Rattle.relp_frame.specs.declared.fault.RelpFault.{RelpFault}
-use Rattle.relp_frame.specs.Reading.{Reader, Reads, ReadsOn, unfed}
+use Rattle.relp_frame.specs.Reading.{Reader, Reads, ReadsOn}
 use Rattle.spool_state.specs.SpoolState.{SpoolState}
 use Rattle.spool_state.specs.Change.{added}
-use Rattle.spool_state.specs.Image.{StandsFor}
 use Rattle.bridge_core.specs.declared.next.Next.{Next}
 use Rattle.bridge_core.specs.declared.next.Next.TheVariants.{Open, Syslog}
-use Rattle.bridge_core.specs.declared.note.Note.{Note}
-use Rattle.bridge_core.specs.declared.note.Note.TheVariants.{Fine, Usage, NoMemory, ReadFault, WriteFault, DiskFault, NotBuilt}
-use Rattle.bridge_core.specs.declared.slot.OnlySlot.{OnlySlot}
 use Rattle.bridge_core.specs.Slot.{IsKnown}
-use Rattle.bridge_core.specs.Input.{MayCome, next_of, AreInOrder, IsInput, BeginsInput}
-use Rattle.bridge_core.specs.Carried.{response, success, offers, answer, answers, entry_of, entries_for, entries_from, stored, with_entries, after, IsDue, Place, Stores, Carries, StopsAt}
-use Rattle.bridge_core.specs.Progress.{Progress, Ran, IsEnd, Overfull, NoneDue, IsNoInput}
-use Rattle.bridge_core.proofs.Reading.{Split, HasNone, split, split_due, split_rest, split_fault, input_begins, order_push, misplaced, unfinished, one_due, none_due, whole_input, too_long}
+use Rattle.bridge_core.specs.Input.{MayCome, next_of}
+use Rattle.bridge_core.specs.Carried.{response, success, offers, answer, answers, entry_of, entries_for, entries_from, stored, with_entries, after, Place, Stores, Carries}
+use Rattle.bridge_core.specs.Progress.{Progress}
+use Rattle.bridge_core.proofs.Reading.{order_push}
 
 -- a frame more
 

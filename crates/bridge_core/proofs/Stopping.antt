@@ -1,27 +1,24 @@
 -- How a run ends.
-use Rattle.std.proofs.Common.{◌≡◌, ◌⊎◌, inl, inr, ℕ, ◌+◌, ◌^◌, ◌<◌, ◌≤◌, ◌∙◌, List, [], ◌∷◌, ◌++◌, Option, Some, None, length, take, refl, sym, ap, subst, arith, append_assoc, length-append}
+use Rattle.std.proofs.Common.{◌≡◌, ◌⊎◌, inl, inr, ℕ, ◌^◌, ◌<◌, ◌≤◌, ◌∙◌, List, [], ◌∷◌, ◌++◌, Option, Some, None, length, take, refl, sym, ap, subst, arith, append_assoc}
 use Rattle.std.specs.Io.KnownBytes.{Appends}
 use Rattle.std.proofs.lemmas.List.{append-nil}
-use Rattle.edge_io.proofs.Known.{appends_none, appends_then}
+use Rattle.edge_io.proofs.Known.{appends_then}
 use Rattle.event_form.specs.declared.event.Entry.{Entry}
 use Rattle.relp_frame.specs.declared.frame.Frame.{Frame}
 use Rattle.relp_frame.specs.declared.fault.RelpFault.{RelpFault}
 use Rattle.relp_frame.specs.Spelling.{IsSpelling}
-use Rattle.relp_frame.specs.Reading.{Reader, Reads}
-use Rattle.spool_state.specs.Segment.{need_of}
-use Rattle.spool_state.specs.SpoolState.{SpoolState, room}
-use Rattle.spool_state.specs.Change.{added}
+use Rattle.relp_frame.specs.Reading.{Reader}
+use Rattle.spool_state.specs.SpoolState.{SpoolState}
 use Rattle.spool_state.specs.Image.{StandsFor}
 use Rattle.bridge_core.specs.declared.next.Next.{Next}
-use Rattle.bridge_core.specs.declared.next.Next.TheVariants.{Open, Syslog}
 use Rattle.bridge_core.specs.declared.note.Note.{Note}
 use Rattle.bridge_core.specs.declared.note.Note.TheVariants.{Fine, Usage, NoMemory, ReadFault, WriteFault, DiskFault, NotBuilt}
 use Rattle.bridge_core.specs.declared.slot.OnlySlot.{OnlySlot}
-use Rattle.bridge_core.specs.Slot.{IsKnown, IsFull, MayAdd}
-use Rattle.bridge_core.specs.Input.{MayCome, next_of, IsInput, BeginsInput}
-use Rattle.bridge_core.specs.Carried.{answer, answers, entry_of, entries_for, stored, with_entries, IsDue, Place, Stores, MayStore, Overflows, StopsAt, count_of}
-use Rattle.bridge_core.specs.Progress.{Progress, Ran, IsCut, IsLate, IsEnd, Overfull, NoneDue}
-use Rattle.bridge_core.proofs.Reading.{Split, HasNone, split, split_due, split_rest, split_fault, input_begins, misplaced, unfinished, one_due, none_due, whole_input, too_long}
+use Rattle.bridge_core.specs.Slot.{IsKnown}
+use Rattle.bridge_core.specs.Input.{MayCome, next_of}
+use Rattle.bridge_core.specs.Carried.{answer, answers, entry_of, entries_for, stored, with_entries, IsDue, Place, MayStore, Overflows, StopsAt, count_of}
+use Rattle.bridge_core.specs.Progress.{Progress, Ran, IsCut, IsLate, IsEnd, Overfull}
+use Rattle.bridge_core.proofs.Reading.{Split, split, split_due, split_rest, split_fault, input_begins, misplaced, unfinished, one_due, none_due, whole_input, too_long}
 use Rattle.bridge_core.proofs.Running.{stored_push, with_push, stores_then}
 
 -- nothing stands behind the entries of the frames carried

@@ -1,5 +1,5 @@
 -- An entry stored in the one slot of a spool.
-use Rattle.std.proofs.Common.{◌≡◌, ◌≢◌, inl, inr, ℕ, zero, suc, ◌+◌, ◌-◌, ◌*◌, ◌^◌, ◌<◌, ◌≤◌, List, [], ◌∷◌, ◌++◌, length, get_or, refl, sym, ◌∙◌, ap, subst, arith, length-append}
+use Rattle.std.proofs.Common.{◌≡◌, ◌≢◌, inl, inr, ℕ, ◌+◌, ◌-◌, ◌^◌, ◌<◌, ◌≤◌, List, [], ◌∷◌, ◌++◌, length, get_or, refl, sym, ◌∙◌, ap, subst, arith, length-append}
 use Rattle.std.proofs.lemmas.List.{get_or-append_right}
 use Rattle.std.proofs.lemmas.List.Elements.{All-nil, All-push}
 use Rattle.foundation.specs.Bytes.{put, SameBut}
@@ -7,12 +7,12 @@ use Rattle.foundation.proofs.Bytes.{put_at, put_same, same_but_wider}
 use Rattle.event_form.specs.declared.event.Entry.{Entry}
 use Rattle.event_form.specs.Entry.{IsEntry}
 use Rattle.edge_disk.specs.Gate.{IsGateStep}
-use Rattle.spool_state.specs.Segment.{IsGroup, group_text, need_of, segment_text, with_group, entries_of}
-use Rattle.spool_state.specs.SpoolState.{SpoolState, OpenSlot, first_of, entries_in, list, base, end, room}
-use Rattle.spool_state.specs.Change.{added, slot_with}
-use Rattle.spool_state.specs.Image.{slot_at, HoldsSegment, StandsFor}
-use Rattle.spool_state.proofs.Texts.{length-need, entries_fit, length-segment_text-with_group, length-group_text}
-use Rattle.spool_state.proofs.Steps.{still_holds, holds_more, gate_inside}
+use Rattle.spool_state.specs.Segment.{IsGroup, group_text, with_group, entries_of}
+use Rattle.spool_state.specs.SpoolState.{SpoolState, OpenSlot, first_of, entries_in, base, end}
+use Rattle.spool_state.specs.Change.{slot_with}
+use Rattle.spool_state.specs.Image.{slot_at, HoldsSegment}
+use Rattle.spool_state.proofs.Texts.{length-need, entries_fit, length-segment_text-with_group}
+use Rattle.spool_state.proofs.Steps.{still_holds, holds_more}
 use Rattle.spool_state.proofs.Frames.{inside}
 use Rattle.spool_state.proofs.Adding.{adding, with_active, sound-added}
 use Rattle.bridge_core.specs.declared.slot.OnlySlot.{OnlySlot}

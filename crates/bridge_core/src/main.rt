@@ -13,6 +13,8 @@ mod replay;
 mod reply;
 mod slot;
 mod store;
+#[cfg(test)]
+mod tests;
 mod words;
 
 use std::process::ExitCode;

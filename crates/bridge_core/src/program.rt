@@ -25,7 +25,7 @@ fn words(rt: &(impl Env + AllocGlobal)) -> Result<Vec<String>, Note> {
 }
 
 // A device of one slot of 4,096 bytes that holds an empty spool.
-fn empty_device(alloc: Global) -> Result<Vec<u8>, AllocError> {
+pub(crate) fn empty_device(alloc: Global) -> Result<Vec<u8>, AllocError> {
     let mut bytes = vec![in alloc; 0; 16_384]?;
     bytes[..8].copy_from_slice(b"RLBSPOOL");
     bytes[8..12].copy_from_slice(&1u32.to_be_bytes());

@@ -1,7 +1,6 @@
-use Rattle.std.proofs.Common.{◌≡◌, ◌+◌, ◌<◌, ℕ, length, refl, sym, ◌∙◌, ap, subst, arith}
+use Rattle.std.proofs.Common.{◌≡◌, ◌+◌, length, refl, sym, ◌∙◌, ap, subst, arith}
 use Rattle.std.specs.Prelude.{Result, Ok, Err, IfErr, IsErrAnd}
 use Rattle.relp_frame.specs.Reading.{Reader}
-use Rattle.bridge_core.specs.Progress.{Progress}
 use Rattle.bridge_core.specs.declared.next.Next.{Next}
 use Rattle.bridge_core.specs.declared.next.Next.TheVariants.{Open, Syslog}
 use Rattle.bridge_core.specs.Carried.{count_of, after}

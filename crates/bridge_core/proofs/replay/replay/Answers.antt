@@ -1,11 +1,8 @@
-use Rattle.std.proofs.Common.{◌≡◌, ◌+◌, ◌<◌, ◌≤◌, ℕ, List, [], Option, Some, None, length, inl, inr, refl, sym, ◌∙◌, ap, subst, arith}
-use Rattle.std.specs.Prelude.{Result, Ok, Err}
+use Rattle.std.proofs.Common.{◌≡◌, None, ◌∙◌, ap, arith}
+use Rattle.std.specs.Prelude.{Err}
 use Rattle.relp_frame.specs.Reading.{Reader}
-use Rattle.relp_frame.proofs.ReadingLaws.{reads_count}
-use Rattle.bridge_core.specs.declared.note.Note.{Note}
-use Rattle.bridge_core.specs.Carried.{place, count_of}
-use Rattle.bridge_core.specs.Progress.{Ran, Progress}
-use Rattle.bridge_core.proofs.Running.{progress_start, progress_fed}
+use Rattle.bridge_core.specs.Carried.{count_of}
+use Rattle.bridge_core.proofs.Running.{progress_fed}
 use Rattle.bridge_core.proofs.Reading.{frames_count}
 use Rattle.bridge_core.proofs.Stopping.{faulty, overlong, at_end, not_fed, ran_or, count_next}
 use Rattle.bridge_core.proofs.replay.replay.Goals as goal

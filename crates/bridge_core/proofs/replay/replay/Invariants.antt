@@ -1,4 +1,4 @@
-use Rattle.std.proofs.Common.{◌≡◌, ◌≢◌, ◌+◌, ◌-◌, ◌≤◌, ℕ, [], None}
+use Rattle.std.proofs.Common.{◌≡◌, ◌≢◌, ◌+◌, ◌-◌, ◌≤◌, [], None}
 use Rattle.std.specs.Prelude.{slice_index}
 use Rattle.edge_disk.specs.Disk.{IsSettled}
 use Rattle.bridge_core.specs.Carried.{place}

@@ -1,6 +1,5 @@
-use Rattle.std.proofs.Common.{◌≡◌, ◌≢◌, ◌+◌, ◌-◌, ◌≤◌, ◌<◌, ℕ, List, [], ◌∷◌, ◌++◌, length, get_or, refl, sym, ◌∙◌, ap, subst, arith}
+use Rattle.std.proofs.Common.{◌≡◌, ◌≢◌, ◌+◌, ℕ, List, ◌∷◌, length, get_or, sym, ◌∙◌, ap, subst, arith}
 use Rattle.foundation.specs.Bytes.{put}
-use Rattle.spool_state.specs.Segment.{group_text}
 use Rattle.edge_disk.specs.Gate.{IsGateStep}
 use Rattle.edge_disk.proofs.Moments.{reads_have}
 use Rattle.bridge_core.specs.Slot.{Adds}
