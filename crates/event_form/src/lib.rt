@@ -6,7 +6,9 @@
 mod blob;
 mod event;
 mod feed_fault;
+mod writing;
 
 pub use blob::Blob;
 pub use event::{Entry, Event, Origin};
 pub use feed_fault::FeedFault;
+pub use writing::{entry_head, entry_size, write_entry};

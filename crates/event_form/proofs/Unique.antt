@@ -1,0 +1,71 @@
+-- No entry's text begins another one's: what is read is what was written, whatever follows it.
+use Rattle.std.proofs.Common.{◌≡◌, ℕ, suc, ◌+◌, ◌^◌, ◌<◌, ◌≤◌, Bool, true, false, cond, eqb, List, [], ◌∷◌, ◌++◌, length, get_or, take, drop, refl, sym, ◌∙◌, ap, arith, append_assoc, length-append}
+use Rattle.std.specs.Int.{w32, w64, from_be_bytes}
+use Rattle.std.specs.List.{All, AllByRecursion, flat_map, sum_by}
+use Rattle.std.proofs.lemmas.List.{append_cancel_left, append-nil}
+use Rattle.std.proofs.lemmas.List.Elements.{recursion_from_All}
+use Rattle.std.proofs.lemmas.List.Concat.{flat_map-cons, length-flat_map}
+use Rattle.event_form.specs.declared.event.Origin.{Origin}
+use Rattle.event_form.specs.declared.event.Origin.TheVariants.{Relp, LumberData, LumberJson, HecEvent, HecRaw}
+use Rattle.event_form.specs.declared.event.Entry.{Entry}
+use Rattle.event_form.specs.Entry.{origin_code, IsEntry, entry_text, size_of}
+use Rattle.event_form.proofs.Fields.{length-entry_text, origin_at, conn_read, index_read, unit_read, length_read, text_at}
+
+-- ---- origins
+
+-- the origin of a code
+origin_from : ℕ → Origin
+origin_from n = cond (eqb n 1) Relp (cond (eqb n 2) LumberData (cond (eqb n 3) LumberJson (cond (eqb n 4) HecEvent HecRaw)))
+
+origin_from-code : (o : Origin) → origin_from (origin_code o) ≡ o
+unfolding origin_from
+origin_from-code Relp = refl
+origin_from-code LumberData = refl
+origin_from-code LumberJson = refl
+origin_from-code HecEvent = refl
+origin_from-code HecRaw = refl
+
+pub same_origin : (o p : Origin) → origin_code o ≡ origin_code p → o ≡ p
+same_origin o p e = sym (origin_from-code o) ∙ ap origin_from e ∙ origin_from-code p
+
+-- ---- entries
+
+abbrev entry_of : ℕ → ℕ → ℕ → Origin → List ℕ → Entry
+entry_of conn index unit origin text = record { conn = conn; index = index; unit = unit; event = record { origin = origin; text = text } }
+
+pub same_entry : (d e : Entry) → d.conn ≡ e.conn → d.index ≡ e.index → d.unit ≡ e.unit → d.event.origin ≡ e.event.origin → d.event.text ≡ e.event.text → d ≡ e
+same_entry d e conn index unit origin text =
+    ap (λ n. entry_of n d.index d.unit d.event.origin d.event.text) conn
+    ∙ ap (λ n. entry_of e.conn n d.unit d.event.origin d.event.text) index
+    ∙ ap (λ n. entry_of e.conn e.index n d.event.origin d.event.text) unit
+    ∙ ap (λ o. entry_of e.conn e.index e.unit o d.event.text) origin
+    ∙ ap (entry_of e.conn e.index e.unit e.event.origin) text
+
+pub one_entry : (d e : Entry) (x y : List ℕ) → IsEntry d → IsEntry e → entry_text d ++ x ≡ entry_text e ++ y → (d ≡ e) × (x ≡ y)
+one_entry d e x y hd he h =
+    let origin = same_origin d.event.origin e.event.origin (sym (origin_at d x) ∙ ap (λ (b : List ℕ). get_or b 0 0) h ∙ origin_at e y) in
+    let conn = sym (conn_read d x hd.conn) ∙ ap (λ (b : List ℕ). from_be_bytes w64 (take 8 (drop 1 b))) h ∙ conn_read e y he.conn in
+    let index = sym (index_read d x hd.index) ∙ ap (λ (b : List ℕ). from_be_bytes w64 (take 8 (drop 9 b))) h ∙ index_read e y he.index in
+    let unit = sym (unit_read d x hd.unit) ∙ ap (λ (b : List ℕ). from_be_bytes w64 (take 8 (drop 17 b))) h ∙ unit_read e y he.unit in
+    let long = sym (length_read d x hd.event) ∙ ap (λ (b : List ℕ). from_be_bytes w32 (take 4 (drop 25 b))) h ∙ length_read e y he.event in
+    let text = sym (text_at d x) ∙ ap (λ (n : ℕ). take n (drop 29 (entry_text d ++ x))) long ∙ ap (λ (b : List ℕ). take (length e.event.text) (drop 29 b)) h ∙ text_at e y in
+    let same = same_entry d e conn index unit origin text in
+    (same, append_cancel_left (entry_text e) x y (ap (λ (f : Entry). entry_text f ++ x) (sym same) ∙ h))
+
+-- ---- lists of entries
+
+joined : (e : Entry) (es : List Entry) (x : List ℕ) → flat_map entry_text (e ∷ es) ++ x ≡ entry_text e ++ (flat_map entry_text es ++ x)
+joined e es x = ap (λ (b : List ℕ). b ++ x) (flat_map-cons entry_text e es) ∙ append_assoc (entry_text e) (flat_map entry_text es) x
+
+one_list : (ds es : List Entry) (x y : List ℕ) → AllByRecursion IsEntry ds → AllByRecursion IsEntry es → length ds ≡ length es → flat_map entry_text ds ++ x ≡ flat_map entry_text es ++ y → (ds ≡ es) × (x ≡ y)
+one_list [] [] x y hd he n h = (refl, h)
+one_list [] (e ∷ es) x y hd he n h = absurd (omega (arith, n))
+one_list (d ∷ ds) [] x y hd he n h = absurd (omega (arith, n))
+one_list (d ∷ ds) (e ∷ es) x y hd he n h =
+    let first = one_entry d e (flat_map entry_text ds ++ x) (flat_map entry_text es ++ y) hd.0 he.0 (sym (joined d ds x) ∙ h ∙ joined e es y) in
+    let others = one_list ds es x y hd.1 he.1 (omega (arith, n)) first.1 in
+    (cc (first.0, others.0), others.1)
+
+-- as many entries, whatever follows them
+pub one_run : (ds es : List Entry) (x y : List ℕ) → All IsEntry ds → All IsEntry es → length ds ≡ length es → flat_map entry_text ds ++ x ≡ flat_map entry_text es ++ y → (ds ≡ es) × (x ≡ y)
+one_run ds es x y hd he n h = one_list ds es x y (recursion_from_All IsEntry ds hd) (recursion_from_All IsEntry es he) n h
