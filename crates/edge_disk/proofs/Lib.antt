@@ -1,3 +1,3 @@
 mod Covers
 pub mod Moments
-pub mod Opening
+pub mod GateSteps

@@ -1,7 +1,9 @@
 -- How a run of disk calls goes on.
-use Rattle.std.proofs.Common.{inl, inr, ⊎_elim, ℕ, ◌∙◌, List, arith, subst, sym}
+use Rattle.std.proofs.Common.{inl, inr, ⊎_elim, ℕ, ◌∙◌, List, arith, refl, subst, sym}
 use Rattle.foundation.specs.Bytes.{SameBut}
+use Rattle.foundation.proofs.Bytes.{same_but_refl}
 use Rattle.edge_disk.specs.Disk.{Moment, Elapses, IsSettled, IsUntouched, IsTorn, IsLawful, LeavesOnly}
+use Rattle.edge_disk.specs.Gate.{ComesFrom}
 
 -- before the first call
 pub started : (P : List ℕ → Type 0) (m : Moment) → IsLawful m → ((c : List ℕ) → m.image c → P c) → LeavesOnly P m m
@@ -60,3 +62,35 @@ started_settled P m lawful settled here = started P m lawful (λ c i. subst P (s
 -- one more write before a sync, which keeps what has P so
 pub torn_more : (P : List ℕ → Type 0) (old mid new : Moment) (at n : ℕ) → LeavesOnly P old mid → IsTorn at n mid new → ((d c : List ℕ) → P d → SameBut at n d c → P c) → LeavesOnly P old new
 torn_more P old mid new at n so_far call keeps = goes_on P old mid new so_far call.time (λ c i. let from = call.images c i in keeps from.0 c (so_far.now from.0 from.1) from.2)
+
+-- a write on any disk, seen from what a crash before it may leave
+pub torn_from : (Q : List ℕ → List ℕ → Type 0) (m new : Moment) (at n : ℕ) → IsLawful m → IsTorn at n m new → ((d c : List ℕ) → m.image d → SameBut at n d c → Q d c) → LeavesOnly (ComesFrom m Q) m new
+torn_from Q m new at n lawful call here =
+    goes_on (ComesFrom m Q) m m new (started (ComesFrom m Q) m lawful (λ c i. (c, i, here c c i (same_but_refl at n c)))) call.time (λ c i. let from = call.images c i in (from.0, from.1, here from.0 c from.1 from.2))
+
+-- on a settled disk what a crash leaves comes from what it reads
+pub from_settled : (Q : List ℕ → List ℕ → Type 0) (m new : Moment) → IsSettled m → LeavesOnly (ComesFrom m Q) m new → LeavesOnly (Q m.reads) m new
+from_settled Q m new settled run = weaker (ComesFrom m Q) (Q m.reads) m new run (λ c from. subst (λ d. Q d c) (settled.only from.0 from.1) from.2)
+
+-- no call
+pub untouched_refl : (m : Moment) → IsUntouched m m
+untouched_refl m = record {
+  same = refl;
+  images = λ c i. i;
+  time = record { later = omega arith; nothing_else = λ t c le since. inl since };
+}
+
+-- one read or sync behind others
+pub untouched_then : (m mid new : Moment) → IsLawful m → IsUntouched m mid → IsUntouched mid new → IsUntouched m new
+untouched_then m mid new lawful before call = record {
+  same = call.same ∙ before.same;
+  images = λ c i. before.images c (call.images c i);
+  time = record {
+    later = omega (arith, before.time.later, call.time.later);
+    nothing_else = λ t c le since. ⊎_elim (λ had. ⊎_elim (λ was. inl was) (λ mid_image. inl (lawful.counts_now t c le (before.images c mid_image))) (before.time.nothing_else t c le had)) (λ now. inr now) (call.time.nothing_else t c (omega (arith, le, before.time.later)) since);
+  };
+}
+
+-- reads and syncs leave only what the disk as it was may leave
+pub untouched_run : (P : List ℕ → Type 0) (m new : Moment) → IsLawful m → ((c : List ℕ) → m.image c → P c) → IsUntouched m new → LeavesOnly P m new
+untouched_run P m new lawful here call = untouched P m m new (started P m lawful here) call

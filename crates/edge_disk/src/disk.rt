@@ -4,25 +4,32 @@ ghost use Rattle.foundation.specs.Bytes.{part, put};
 ghost use Rattle.foundation.specs.Faults.{HasCause};
 ghost use Rattle.edge_disk.specs.Disk.{Moment, IsSettled, Remembers, IsUntouched, IsTorn, IsLawful};
 
-/// A call failed.
+/// A call on a disk failed. The disk's count of faults rose in that call.
 #[derive(Clone, Copy, Debug, PartialEq, Eq)]
 pub struct DiskFault;
 
+/// A disk of a fixed length in bytes, with reads, writes and a sync. Offsets count bytes from 0.
+///
+/// There are three kinds: one that tells what it reads and every image that a crash may leave, one that
+/// tells what it reads alone, and one that tells neither, as a real file. Clauses that speak of bytes hold
+/// where the disk tells what it reads. A disk that tells no images has what it reads as its one image, so
+/// a promise of all images is then one of what it reads when the call returns.
 pub trait Disk {
-    /// It tells what a read gives and what a crash may leave. A real file tells neither.
+    /// It tells what it reads.
     ghost tells: { Type 0 };
 
-    /// It tells every image. One that doesn't has only what it reads as its image.
+    /// It tells every image that a crash may leave.
     ghost tells_images: { Self → Type 0 };
 
-    /// What it tells, and its size and its count of faults, which are always told.
+    /// What it tells at this moment. The size and the count of faults are told by each disk.
     ghost moment: { Self → Moment };
 
-    /// How many bytes it has. It never changes.
+    /// How many bytes it has. This never changes.
     fn len(&self) -> u64
         ensures { result ≡ (moment self.now).size };
 
-    /// Reads as many bytes as the buffer has.
+    /// Reads the bytes from offset `at` on until the buffer is full. After a fault the buffer holds any
+    /// bytes.
     fn read_at(&mut self, at: u64, buf: &mut [u8]) -> Result<(), DiskFault>
         requires { at + length buf.old ≤ (moment self.old).size }
         ensures cause { HasCause (moment self.old).faults (moment self.new).faults result }
@@ -31,7 +38,8 @@ pub trait Disk {
         ensures told { tells → IsUntouched (moment self.old) (moment self.new) }
         ensures images { tells_images self.old → tells_images self.new × Remembers (moment self.old) (moment self.new) };
 
-    /// Writes over what is there. Until a sync, a crash may leave any bytes in the range, also after a fault.
+    /// Writes the piece over the bytes from offset `at` on. A crash before the next sync may leave any bytes
+    /// in that range. After a fault a read, too, may give any bytes there.
     fn write_at(&mut self, at: u64, piece: &[u8]) -> Result<(), DiskFault>
         requires { at + length piece.now ≤ (moment self.old).size }
         ensures cause { HasCause (moment self.old).faults (moment self.new).faults result }
@@ -40,7 +48,8 @@ pub trait Disk {
         ensures told { tells → IsTorn at (length piece.now) (moment self.old) (moment self.new) }
         ensures images { tells_images self.old → tells_images self.new × Remembers (moment self.old) (moment self.new) };
 
-    /// After it, a crash leaves what a read gives.
+    /// Makes durable what was written: from then on a crash leaves what a read gives. After a fault the
+    /// images are still those of before.
     fn sync(&mut self) -> Result<(), DiskFault>
         ensures cause { HasCause (moment self.old).faults (moment self.new).faults result }
         ensures size { (moment self.new).size ≡ (moment self.old).size }
@@ -48,13 +57,15 @@ pub trait Disk {
         ensures told { tells → IsUntouched (moment self.old) (moment self.new) }
         ensures images { tells_images self.old → tells_images self.new × Remembers (moment self.old) (moment self.new) };
 
-    /// A disk that tells its images tells its reads too.
+    /// A disk that tells its images tells what it reads too.
     ghost reads_too: { (disk : Self) → tells_images disk → tells };
 
+    /// An offset within the disk is a `u64`.
     ghost fits: { (disk : Self) → (moment disk).size < 2 ^ 64 };
 
+    /// What it reads is one of its images, and the images of now are those since now.
     ghost lawful: { (disk : Self) → tells → IsLawful (moment disk) };
 
-    /// Where it doesn't tell its images, what it reads at an exit stands in for them.
+    /// Where it doesn't tell its images, what it reads stands in for them.
     ghost stands_in: { (disk : Self) (t : ℕ) (c : List ℕ) → tells → (tells_images disk) ⊎ ((moment disk).image_since t c → c ≡ (moment disk).reads) };
 }

@@ -1,13 +1,16 @@
-//! A piece that comes to stand on the disk whole or not at all.
-ghost use Rattle.std.specs.Prelude.{◌≡◌, ◌≢◌, ◌+◌, ◌^◌, ◌<◌, ◌≤◌, ◌∷◌, length, slice_index, OnOk};
+//! A piece that comes to stand on the disk whole or not at all: it is written behind a closed gate, one
+//! byte that is open where it is 1, and the gate is opened once the piece is durable.
+ghost use Rattle.std.specs.Prelude.{◌≡◌, ◌≢◌, ◌+◌, ◌<◌, ◌≤◌, [], ◌∷◌, length, slice_index, OnOk};
 ghost use Rattle.foundation.specs.Bytes.{put};
 ghost use Rattle.foundation.specs.Faults.{HasCause};
 ghost use Rattle.edge_disk.specs.Disk.{IsSettled, LeavesOnly};
-ghost use Rattle.edge_disk.specs.Gate.{IsGateStep};
+ghost use Rattle.edge_disk.specs.Gate.{IsGateStep, ComesFrom};
 
 use crate::{Disk, DiskFault};
 
-/// Writes a piece behind a closed gate and opens the gate: a write, a sync, a write, a sync.
+/// Writes `piece` behind the closed gate at offset `gate`, and opens the gate: a write, a sync, a write, a
+/// sync. At each moment the gate is closed, or the piece stands behind it whole. After a fault, too, so a
+/// sync and a read of the gate tell which it is.
 pub fn write_behind<D: Disk>(disk: &mut D, gate: u64, piece: &[u8]) -> Result<(), DiskFault>
     requires room { gate + length piece.now + 1 ≤ (D.moment disk.old).size }
     requires settled { D.tells → IsSettled (D.moment disk.old) }
@@ -21,6 +24,37 @@ pub fn write_behind<D: Disk>(disk: &mut D, gate: u64, piece: &[u8]) -> Result<()
 {
     disk.write_at(gate + 1, piece)?;
     disk.sync()?;
+    open_gate(disk, gate)
+}
+
+/// Opens the gate at offset `gate`, where what stands behind it is durable: a write of 1, a sync. For a
+/// piece that was written in several parts. At each moment the gate is closed or open, and no other byte
+/// changes.
+pub fn open_gate<D: Disk>(disk: &mut D, gate: u64) -> Result<(), DiskFault>
+    requires room { gate < (D.moment disk.old).size }
+    requires settled { D.tells → IsSettled (D.moment disk.old) }
+
+    ensures cause { HasCause (D.moment disk.old).faults (D.moment disk.new).faults result }
+    ensures size { (D.moment disk.new).size ≡ (D.moment disk.old).size }
+    ensures durable { OnOk result (D.tells → IsSettled (D.moment disk.new)) }
+    ensures written { OnOk result (D.tells → (D.moment disk.new).reads ≡ put gate (1 ∷ []) (D.moment disk.old).reads) }
+    ensures any_moment { D.tells → LeavesOnly (IsGateStep gate [] (D.moment disk.old).reads) (D.moment disk.old) (D.moment disk.new) }
+{
     disk.write_at(gate, &[1])?;
+    disk.sync()
+}
+
+/// Closes the gate at offset `gate`: a write of 0, a sync. The disk may have writes that are not durable
+/// yet: each image comes from one of before, by no change but at the gate.
+pub fn close_gate<D: Disk>(disk: &mut D, gate: u64) -> Result<(), DiskFault>
+    requires room { gate < (D.moment disk.old).size }
+
+    ensures cause { HasCause (D.moment disk.old).faults (D.moment disk.new).faults result }
+    ensures size { (D.moment disk.new).size ≡ (D.moment disk.old).size }
+    ensures durable { OnOk result (D.tells → IsSettled (D.moment disk.new)) }
+    ensures written { OnOk result (D.tells → (D.moment disk.new).reads ≡ put gate (0 ∷ []) (D.moment disk.old).reads) }
+    ensures any_moment { D.tells → LeavesOnly (ComesFrom (D.moment disk.old) (IsGateStep gate [])) (D.moment disk.old) (D.moment disk.new) }
+{
+    disk.write_at(gate, &[0])?;
     disk.sync()
 }
