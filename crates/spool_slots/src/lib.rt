@@ -6,6 +6,7 @@
 #![tactic(auto)]
 
 mod fault;
+mod pen;
 mod slot;
 
 pub use fault::SlotFault;
