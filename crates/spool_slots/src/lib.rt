@@ -5,6 +5,7 @@
 //! after it. `docs/DEVICE.md` tells the layout in prose.
 #![tactic(auto)]
 
+mod append;
 mod fault;
 mod pen;
 mod slot;

@@ -1,6 +1,7 @@
 -- The bytes of a segment, and of one with a group more.
 use Rattle.std.proofs.Common.{◌≡◌, ◌≢◌, ◌⊎◌, ℕ, ◌+◌, ◌<◌, ◌≤◌, List, [], ◌∷◌, ◌++◌, length, take, drop, get_or, refl, sym, ◌∙◌, ap, subst, arith, append_assoc, length-append}
 use Rattle.std.specs.List.{flat_map}
+use Rattle.std.specs.Int.{to_be_bytes, w32}
 use Rattle.std.proofs.lemmas.List.{append-nil, take_at, drop_at, get_or-append-add, get_or_append_left, take_min}
 use Rattle.std.proofs.lemmas.List.Concat.{flat_map-append, flat_map-cons}
 use Rattle.foundation.specs.Bytes.{part, SameBut}
@@ -80,3 +81,10 @@ holds_frame at size at' n segment old c same away room holds = record {
   more = holds.more;
   closed = holds.closed;
 }
+
+-- ---- a group's text by its parts
+
+pub group_parts : (group : List Entry) (size : ℕ) (head : List ℕ) → head ≡ to_be_bytes w32 size ++ to_be_bytes w32 (length group) → size ≡ length (entries_text group) → head ++ entries_text group ≡ group_text group
+unfolding group_text
+group_parts group size head is size_is =
+    ap (λ (l : List ℕ). l ++ entries_text group) is ∙ ap (λ (n : ℕ). (to_be_bytes w32 n ++ to_be_bytes w32 (length group)) ++ entries_text group) size_is
