@@ -1,10 +1,11 @@
 -- No entry's text begins another one's: what is read is what was written, whatever follows it.
-use Rattle.std.proofs.Common.{◌≡◌, ℕ, suc, ◌+◌, ◌^◌, ◌<◌, ◌≤◌, Bool, true, false, cond, eqb, List, [], ◌∷◌, ◌++◌, length, get_or, take, drop, refl, sym, ◌∙◌, ap, arith, append_assoc, length-append}
+use Rattle.std.proofs.Common.{◌≡◌, ℕ, ◌+◌, cond, eqb, List, [], ◌∷◌, ◌++◌, length, get_or, take, drop, refl, sym, ◌∙◌, ap, arith, append_assoc, length-append}
 use Rattle.std.specs.Int.{w32, w64, from_be_bytes}
 use Rattle.std.specs.List.{All, AllByRecursion, flat_map, sum_by}
-use Rattle.std.proofs.lemmas.List.{append_cancel_left, append-nil}
+use Rattle.std.proofs.lemmas.List.{append_cancel_left}
 use Rattle.std.proofs.lemmas.List.Elements.{recursion_from_All}
-use Rattle.std.proofs.lemmas.List.Concat.{flat_map-cons, length-flat_map}
+use Rattle.std.proofs.lemmas.List.Sums.{sum_by-cons}
+use Rattle.std.proofs.lemmas.List.Concat.{flat_map-cons}
 use Rattle.event_form.specs.declared.event.Origin.{Origin}
 use Rattle.event_form.specs.declared.event.Origin.TheVariants.{Relp, LumberData, LumberJson, HecEvent, HecRaw}
 use Rattle.event_form.specs.declared.event.Entry.{Entry}
@@ -57,6 +58,9 @@ one_entry d e x y hd he h =
 joined : (e : Entry) (es : List Entry) (x : List ℕ) → flat_map entry_text (e ∷ es) ++ x ≡ entry_text e ++ (flat_map entry_text es ++ x)
 joined e es x = ap (λ (b : List ℕ). b ++ x) (flat_map-cons entry_text e es) ∙ append_assoc (entry_text e) (flat_map entry_text es) x
 
+not_empty : (e : Entry) (x : List ℕ) → entry_text e ++ x ≡ [] → ⊥
+not_empty e x h = absurd (omega (arith, length-append (entry_text e) x, length-entry_text e, ap length h))
+
 one_list : (ds es : List Entry) (x y : List ℕ) → AllByRecursion IsEntry ds → AllByRecursion IsEntry es → length ds ≡ length es → flat_map entry_text ds ++ x ≡ flat_map entry_text es ++ y → (ds ≡ es) × (x ≡ y)
 one_list [] [] x y hd he n h = (refl, h)
 one_list [] (e ∷ es) x y hd he n h = absurd (omega (arith, n))
@@ -69,3 +73,22 @@ one_list (d ∷ ds) (e ∷ es) x y hd he n h =
 -- as many entries, whatever follows them
 pub one_run : (ds es : List Entry) (x y : List ℕ) → All IsEntry ds → All IsEntry es → length ds ≡ length es → flat_map entry_text ds ++ x ≡ flat_map entry_text es ++ y → (ds ≡ es) × (x ≡ y)
 one_run ds es x y hd he n h = one_list ds es x y (recursion_from_All IsEntry ds hd) (recursion_from_All IsEntry es he) n h
+
+-- nothing behind them: the count needn't be known
+same_list : (ds es : List Entry) → AllByRecursion IsEntry ds → AllByRecursion IsEntry es → flat_map entry_text ds ≡ flat_map entry_text es → ds ≡ es
+same_list [] [] hd he h = refl
+same_list [] (e ∷ es) hd he h = absurd (not_empty e (flat_map entry_text es) (sym h))
+same_list (d ∷ ds) [] hd he h = absurd (not_empty d (flat_map entry_text ds) h)
+same_list (d ∷ ds) (e ∷ es) hd he h =
+    let first = one_entry d e (flat_map entry_text ds) (flat_map entry_text es) hd.0 he.0 h in
+    let others = same_list ds es hd.1 he.1 first.1 in
+    cc (first.0, others)
+
+pub same_entries : (ds es : List Entry) → All IsEntry ds → All IsEntry es → flat_map entry_text ds ≡ flat_map entry_text es → ds ≡ es
+same_entries ds es hd he h = same_list ds es (recursion_from_All IsEntry ds hd) (recursion_from_All IsEntry es he) h
+
+pub length-entries_text : (es : List Entry) → length (flat_map entry_text es) ≡ sum_by size_of es
+length-entries_text [] = refl
+length-entries_text (e ∷ es) =
+    let joined : length (flat_map entry_text (e ∷ es)) ≡ length (entry_text e) + length (flat_map entry_text es) = ap length (flat_map-cons entry_text e es) ∙ length-append (entry_text e) (flat_map entry_text es) in
+    omega (arith, joined, length-entry_text e, length-entries_text es, sum_by-cons size_of e es)

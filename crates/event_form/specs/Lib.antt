@@ -1,2 +1,5 @@
 pub mod Event
 pub mod Entry
+pub mod Reading
+pub mod Head
+pub mod Pairs

@@ -1,6 +1,12 @@
 //! An event, and an entry of the spool.
 use crate::Blob;
 
+/// How many bytes an event's text may have.
+pub(crate) const MOST_TEXT: usize = 131_072;
+
+/// How many bytes stand before the event's text in an entry's text.
+pub(crate) const HEAD_BYTES: usize = 29;
+
 /// By which protocol, and in which of its forms, an event came.
 #[derive(Clone, Copy, PartialEq, Eq, Debug)]
 pub enum Origin {

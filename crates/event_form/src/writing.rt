@@ -3,6 +3,7 @@ ghost use Rattle.std.specs.Prelude.{◌≡◌, ◌++◌, IfOk, OnOk, OnErr};
 ghost use Rattle.event_form.specs.Event.{IsEvent};
 ghost use Rattle.event_form.specs.Entry.{origin_code, head_text, entry_text, size_of};
 
+use crate::event::HEAD_BYTES;
 use crate::{Blob, Entry, Event, Origin};
 use std::alloc::{AllocError, Global};
 
@@ -23,7 +24,7 @@ fn code_of(origin: Origin) -> u8
 pub fn entry_size(entry: &Entry) -> u64
     ensures { result ≡ size_of entry.now }
 {
-    29 + entry.event.text.bytes().len() as u64
+    HEAD_BYTES as u64 + entry.event.text.bytes().len() as u64
 }
 
 /// The first 29 bytes of the entry's text: all but the event's text. The event keeps its limits. It

@@ -12,7 +12,8 @@ use Rattle.edge_disk.proofs.GateSteps.{behind, opening, open_whole, closed_or_be
 use Rattle.event_form.specs.declared.event.Entry.{Entry}
 use Rattle.spool_state.specs.Segment.{Segment, empty_segment, with_group, group_text, head_text, need_of, segment_text}
 use Rattle.spool_state.specs.Image.{HoldsSegment}
-use Rattle.spool_state.proofs.Segments.{length-head_text, segment_push, length-group_text, holds_open, holds_closed}
+use Rattle.spool_state.proofs.Segments.{holds_open}
+use Rattle.spool_state.proofs.Texts.{length-head_text, length-group_text, length-need, segment_text-with_group}
 use Rattle.spool_slots.specs.Slot.{Knows, IsClosedOrHolds, HoldsOldOrNew}
 use Rattle.spool_slots.specs.declared.slot.Slot.{Slot}
 use Rattle.spool_slots.proofs.Parts.{take-part, part-put, part-put_front}
@@ -61,7 +62,7 @@ group_put at size gate segment group old room le is holds =
     let joined : segment_text segment ++ piece ++ behind ≡ (segment_text segment ++ 1 ∷ body) ++ 0 ∷ behind = simp append_assoc in
     record {
       rest = 0 ∷ behind;
-      text = part-put at size gate piece old room fits ∙ ap (λ (l : List ℕ). l ++ piece ++ behind) front ∙ joined ∙ ap (λ (l : List ℕ). l ++ 0 ∷ behind) (sym (segment_push segment group));
+      text = part-put at size gate piece old room fits ∙ ap (λ (l : List ℕ). l ++ piece ++ behind) front ∙ joined ∙ ap (λ (l : List ℕ). l ++ 0 ∷ behind) (sym (segment_text-with_group segment group));
       more = omega arith;
       closed = λ one. absurd (omega arith);
     }
@@ -127,21 +128,17 @@ pub begin_run : (at size ordinal first : ℕ) (piece : List ℕ) (m new : Moment
 begin_run at size ordinal first piece m new lawful room large is run =
     weaker _ _ m new run (λ c from. (from.0, from.1, head_step at size ordinal first piece from.0 c (omega (arith, room, lawful.image_size from.0 from.1)) large is from.2))
 
--- what stands behind the gate of a group
-pub length-body : (group : List Entry) → length (group_text group ++ 0 ∷ []) ≡ need_of group
-length-body group = omega (arith, length-append (group_text group) (0 ∷ []), length-group_text group)
-
 -- `append_entries`
 pub append_run : (slot : Slot) (segment : Segment) (group : List Entry) (m new : Moment) → IsLawful m → slot.at + slot.size ≤ m.size → need_of group ≤ slot.size - slot.gate - 1 → ((c : List ℕ) → m.image c → Knows slot segment c)
     → LeavesOnly (ComesFrom m (IsGateStep (slot.at + slot.gate) (group_text group ++ 0 ∷ []))) m new → LeavesOnly (ComesFrom m (HoldsOldOrNew slot.at slot.size segment group)) m new
 append_run slot segment group m new lawful room le known run =
     weaker _ _ m new run (λ c from.
       let knows = known from.0 from.1 in
-      (from.0, from.1, group_step slot.at slot.size slot.gate segment group (group_text group ++ 0 ∷ []) from.0 c refl (omega (arith, room, lawful.image_size from.0 from.1)) (omega (arith, le, slot.inside, length-body group)) knows.gate knows.holds from.2))
+      (from.0, from.1, group_step slot.at slot.size slot.gate segment group (group_text group ++ 0 ∷ []) from.0 c refl (omega (arith, room, lawful.image_size from.0 from.1)) (omega (arith, le, slot.inside, length-need group)) knows.gate knows.holds from.2))
 
 -- the piece is as long as the group's need
 pub body_from : (gate : ℕ) (group : List Entry) (m new : Moment) → LeavesOnly (ComesFrom m (SameBut (gate + 1) (need_of group))) m new → LeavesOnly (ComesFrom m (SameBut (gate + 1) (length (group_text group ++ 0 ∷ [])))) m new
-body_from gate group m new run = subst (λ (n : ℕ). LeavesOnly (ComesFrom m (SameBut (gate + 1) n)) m new) (sym (length-body group)) run
+body_from gate group m new run = subst (λ (n : ℕ). LeavesOnly (ComesFrom m (SameBut (gate + 1) n)) m new) (sym (length-need group)) run
 
 -- the group stands behind its open gate
 pub append_holds : (slot : Slot) (segment : Segment) (group : List Entry) (old mid new : List ℕ) → slot.at + slot.size ≤ length old → need_of group ≤ slot.size - slot.gate - 1 → Knows slot segment old
@@ -149,6 +146,6 @@ pub append_holds : (slot : Slot) (segment : Segment) (group : List Entry) (old m
 append_holds slot segment group old mid new room le knows is_mid is_new =
     let gate = slot.at + slot.gate in
     let whole : new ≡ put gate (1 ∷ group_text group ++ 0 ∷ []) old =
-        is_new ∙ ap (put gate (1 ∷ [])) is_mid ∙ open_whole gate (group_text group ++ 0 ∷ []) old (omega (arith, room, le, slot.inside, length-body group)) in
+        is_new ∙ ap (put gate (1 ∷ [])) is_mid ∙ open_whole gate (group_text group ++ 0 ∷ []) old (omega (arith, room, le, slot.inside, length-need group)) in
     subst (HoldsSegment slot.at slot.size (with_group segment group)) (sym whole)
       (group_put slot.at slot.size slot.gate segment group old room (omega (arith, le, slot.inside, length-group_text group)) knows.gate knows.holds)

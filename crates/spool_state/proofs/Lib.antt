@@ -1,2 +1,7 @@
-pub mod Segments
+pub mod Adding
 pub mod Entries
+pub mod Following
+pub mod Frames
+pub mod Segments
+pub mod Steps
+pub mod Texts

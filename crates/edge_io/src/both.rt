@@ -1,0 +1,57 @@
+//! A link of two halves.
+ghost use Rattle.std.specs.Prelude.{◌≡◌};
+
+use crate::{Link, Object, ReadFault, Sink, Source, WriteFault};
+
+/// A link that reads from the one and writes to the other, which may be lent: `Both<&mut S, &mut K>`
+/// is a link too.
+#[derive(Drop)]
+pub struct Both<S, K> {
+    pub source: S,
+    pub sink: K,
+}
+
+impl<S: Object, K: Object> Object for Both<S, K> {
+    ghost same = { λ x y. S.same x.source y.source × K.same x.sink y.sink };
+
+    ghost same_refl = { λ x. (S.same_refl x.source, K.same_refl x.sink) };
+
+    ghost same_trans = { λ x y z p q.
+        (S.same_trans x.source y.source z.source p.0 q.0, K.same_trans x.sink y.sink z.sink p.1 q.1) };
+}
+
+impl<S: Source, K: Sink> Source for Both<S, K> {
+    ghost given = { λ both. S.given both.source };
+
+    ghost left = { λ both. S.left both.source };
+
+    ghost read_faults = { λ both. S.read_faults both.source };
+
+    ghost read_apart = { λ x y. y.sink ≡ x.sink };
+
+    fn read(&mut self, buf: &mut [u8]) -> Result<usize, ReadFault> {
+        self.source.read(buf)
+    }
+}
+
+impl<S: Source, K: Sink> Sink for Both<S, K> {
+    ghost taken = { λ both. K.taken both.sink };
+
+    ghost write_faults = { λ both. K.write_faults both.sink };
+
+    ghost write_apart = { λ x y. y.source ≡ x.source };
+
+    ghost apart_refl = { λ _. Prim.cc };
+
+    ghost apart_trans = { λ x y z p q. Prim.cc };
+
+    fn write(&mut self, piece: &[u8]) -> Result<usize, WriteFault> {
+        self.sink.write(piece)
+    }
+}
+
+impl<S: Source, K: Sink> Link for Both<S, K> {
+    ghost reads_keep = { λ x y same. (Prim.cc, Prim.cc) };
+
+    ghost writes_keep = { λ x y same. (Prim.cc, Prim.cc, Prim.cc) };
+}

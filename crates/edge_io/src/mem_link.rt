@@ -1,0 +1,99 @@
+//! A link in memory.
+ghost use Rattle.std.specs.Prelude.{◌≡◌};
+
+use crate::{Link, MemSink, MemSource, Object, ReadFault, Sink, Source, WriteFault};
+
+/// A link that reads from a source in memory and writes to a sink in memory.
+#[derive(Drop)]
+pub struct MemLink {
+    source: MemSource,
+    sink: MemSink,
+}
+
+impl MemLink {
+    ghost use Rattle.edge_io.specs.MemLink.{source_of, sink_of};
+
+    /// A link of the two.
+    pub fn of(source: MemSource, sink: MemSink) -> MemLink
+        ensures source { source_of result ≡ source }
+        ensures sink { sink_of result ≡ sink }
+    {
+        MemLink { source, sink }
+    }
+}
+
+impl Object for MemLink {
+    ghost same = { λ _ _. Unit {0} };
+
+    ghost same_refl = { λ _. tt };
+
+    ghost same_trans = { λ _ _ _ _ _. tt };
+}
+
+impl Source for MemLink {
+    ghost use Rattle.std.specs.Prelude.{◌<◌, ◌≤◌, Some, IfOk, length};
+    ghost use Rattle.std.specs.Io.KnownBytes.{ReadConsumes, WriteAppends};
+    ghost use Rattle.foundation.specs.Faults.{HasCause};
+    ghost use Rattle.edge_io.specs.MemLink.{source_of, sink_of};
+    ghost use Rattle.edge_io.specs.MemSource.{given_of, left_of, faults_of, ReadsExactly};
+
+    ghost given = { λ link. Some (given_of (source_of link)) };
+
+    ghost left = { λ link. Some (left_of (source_of link)) };
+
+    ghost read_faults = { λ link. faults_of (source_of link) };
+
+    ghost read_apart = { λ x y. sink_of y ≡ sink_of x };
+
+    /// A read of the source.
+    fn read(&mut self, buf: &mut [u8]) -> Result<usize, ReadFault>
+        requires { 0 < length buf.old }
+        ensures bound { IfOk result (λ n. n ≤ length buf.new) }
+        ensures given { WriteAppends (Some (given_of (source_of self.old)))
+            (Some (given_of (source_of self.new))) result buf.new }
+        ensures left { ReadConsumes (Some (left_of (source_of self.old)))
+            (Some (left_of (source_of self.new))) result buf.new }
+        ensures cause { HasCause (faults_of (source_of self.old)) (faults_of (source_of self.new)) result }
+        ensures apart { sink_of self.new ≡ sink_of self.old }
+        ensures exact { ReadsExactly (source_of self.old) (source_of self.new) buf.old buf.new result }
+    {
+        self.source.read(buf)
+    }
+}
+
+impl Sink for MemLink {
+    ghost use Rattle.std.specs.Prelude.{◌<◌, ◌≤◌, Some, IfOk, length};
+    ghost use Rattle.std.specs.Io.KnownBytes.{WriteAppends};
+    ghost use Rattle.foundation.specs.Faults.{HasCause};
+    ghost use Rattle.edge_io.specs.MemLink.{source_of, sink_of};
+    ghost use Rattle.edge_io.specs.MemSink.{taken_of, faults_of, WritesExactly};
+
+    ghost taken = { λ link. Some (taken_of (sink_of link)) };
+
+    ghost write_faults = { λ link. faults_of (sink_of link) };
+
+    ghost write_apart = { λ x y. source_of y ≡ source_of x };
+
+    ghost apart_refl = { λ _. Prim.cc };
+
+    ghost apart_trans = { λ x y z p q. Prim.cc };
+
+    /// A write to the sink.
+    fn write(&mut self, piece: &[u8]) -> Result<usize, WriteFault>
+        ensures bound { IfOk result (λ n. n ≤ length piece.now) }
+        ensures some { 0 < length piece.now → IfOk result (λ n. 0 < n) }
+        ensures taken { WriteAppends (Some (taken_of (sink_of self.old)))
+            (Some (taken_of (sink_of self.new))) result piece.now }
+        ensures cause { HasCause (faults_of (sink_of self.old)) (faults_of (sink_of self.new)) result }
+        ensures apart { source_of self.new ≡ source_of self.old }
+        ensures exact { WritesExactly (sink_of self.old) (sink_of self.new) piece.now result }
+    {
+        self.sink.write(piece)
+    }
+}
+
+impl Link for MemLink {
+    ghost reads_keep = { λ x y same. (Prim.cc, Prim.cc) };
+
+    ghost writes_keep = { λ x y same. (Prim.cc, Prim.cc, Prim.cc) };
+}

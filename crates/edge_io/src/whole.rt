@@ -1,0 +1,35 @@
+//! Writing a piece to its end.
+ghost use Rattle.std.specs.Prelude.{◌<◌, take, length, IfErr, OnOk};
+ghost use Rattle.std.specs.Io.KnownBytes.{Appends};
+ghost use Rattle.foundation.specs.Faults.{HasCause};
+
+use crate::Sink;
+
+/// A write failed before the whole piece was taken.
+#[derive(Clone, Copy, Debug, PartialEq, Eq)]
+pub struct Stopped {
+    /// How many bytes of the piece were taken: its first ones, and not all.
+    pub sent: usize,
+}
+
+/// Writes the whole piece, in as many writes as the sink needs. It takes no memory.
+///
+/// `Ok`: the whole piece was taken. `Stopped`: a write failed, so the sink's count of faults has risen,
+/// and exactly the first `sent` bytes of the piece were taken.
+pub fn write_whole<K: Sink>(sink: &mut K, piece: &[u8]) -> Result<(), Stopped>
+    ensures whole { OnOk result (Appends (K.taken sink.old) (K.taken sink.new) piece.now) }
+    ensures part { IfErr result (λ stopped. (stopped.sent < length piece.now)
+        × Appends (K.taken sink.old) (K.taken sink.new) (take stopped.sent piece.now)) }
+    ensures cause { HasCause (K.write_faults sink.old) (K.write_faults sink.new) result }
+    ensures same { K.same sink.old sink.new }
+    ensures apart { K.write_apart sink.old sink.new }
+{
+    let mut sent = 0;
+    while sent < piece.len() {
+        match sink.write(&piece[sent..]) {
+            Ok(n) => sent += n,
+            Err(_) => return Err(Stopped { sent }),
+        }
+    }
+    Ok(())
+}
