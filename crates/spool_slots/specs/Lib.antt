@@ -1,3 +1,4 @@
 pub mod Slot
 pub mod Fault
 pub mod Pen
+pub mod Window

@@ -9,6 +9,7 @@ mod append;
 mod fault;
 mod pen;
 mod slot;
+mod window;
 
 pub use fault::SlotFault;
 pub use slot::Slot;
