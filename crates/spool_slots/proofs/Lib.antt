@@ -2,3 +2,4 @@ pub mod Parts
 pub mod Steps
 pub mod Pens
 pub mod Windows
+pub mod Peeks

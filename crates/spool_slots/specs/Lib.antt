@@ -2,3 +2,5 @@ pub mod Slot
 pub mod Fault
 pub mod Pen
 pub mod Window
+pub mod Groups
+pub mod Scan

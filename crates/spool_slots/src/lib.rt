@@ -7,9 +7,10 @@
 
 mod append;
 mod fault;
+mod group;
 mod pen;
 mod slot;
 mod window;
 
-pub use fault::SlotFault;
+pub use fault::{ScanFault, SlotFault};
 pub use slot::Slot;

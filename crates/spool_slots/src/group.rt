@@ -1,0 +1,73 @@
+//! The groups of a slot, one at a time.
+ghost use Rattle.std.specs.Prelude.{◌≡◌, ◌≢◌, ℕ, ◌+◌, ◌-◌, ◌*◌, ◌^◌, ◌<◌, ◌≤◌, ◌↔◌, List, length, take, drop, slice_index, OnOk, IfOk, IfSome, IsTrue, MatchOption};
+ghost use Rattle.std.specs.Int.{w32, from_be_bytes};
+ghost use Rattle.foundation.specs.Bytes.{part};
+ghost use Rattle.foundation.specs.Faults.{HasCause};
+ghost use Rattle.event_form.specs.declared.event.Entry.{Entry};
+ghost use Rattle.event_form.specs.Entry.{size_of};
+ghost use Rattle.event_form.specs.Reading.{Begins, BeginsNoEntry};
+ghost use Rattle.edge_disk.specs.Disk.{IsUntouched};
+ghost use Rattle.spool_slots.specs.Groups.{AreEntries, IsStep, IsInside};
+ghost use Rattle.spool_slots.specs.Window.{IsWindow};
+
+use crate::window::Window;
+use edge_disk::{Disk, DiskFault};
+use event_form::peek_entry;
+
+/// What stands at a gate.
+pub(crate) enum Step {
+    /// A gate that isn't open.
+    End,
+    /// An open gate with no group behind it.
+    Broken,
+    /// A group: how many bytes its entries have, and how many they are.
+    Group { size: u32, count: u32 },
+}
+
+/// The number in the four bytes from an offset on.
+pub(crate) fn u32_at(bytes: &[u8], at: usize) -> u32
+    requires { at + 4 ≤ length bytes.now }
+    ensures { result ≡ from_be_bytes w32 (take 4 (drop at bytes.now)) }
+{
+    let mut field = [0; 4];
+    field.copy_from_slice(&bytes[at..at + 4]);
+    u32::from_be_bytes(field)
+}
+
+/// The length of the entry's text that begins at offset `from` of the slot and ends at `end` or before.
+fn entry_at<D: Disk>(
+    window: &mut Window,
+    disk: &mut D,
+    at: u64,
+    size: u64,
+    from: u64,
+    end: u64,
+) -> Result<Option<u64>, DiskFault>
+    requires place { at + size ≤ (D.moment disk.old).size }
+    requires begins { from ≤ end }
+    requires ends { end ≤ size }
+    requires window { D.tells → IsWindow at window.old (D.moment disk.old).reads }
+
+    ensures cause { HasCause (D.moment disk.old).faults (D.moment disk.new).faults result }
+    ensures same_size { (D.moment disk.new).size ≡ (D.moment disk.old).size }
+    ensures told { D.tells → IsUntouched (D.moment disk.old) (D.moment disk.new) }
+    ensures window { OnOk result (D.tells → IsWindow at window.new (D.moment disk.new).reads) }
+    ensures inside { IfOk result (λ found. IfSome found (λ n. (29 ≤ n) × (from + n ≤ end))) }
+    ensures found { IfOk result (λ found. D.tells → MatchOption found (BeginsNoEntry (part (at + from) (end - from) (D.moment disk.old).reads))
+        (λ n. (e : Entry) × (rest : List ℕ) × Begins e (part (at + from) (end - from) (D.moment disk.old).reads) rest × (n ≡ size_of e))) }
+{
+    if end - from < 29 {
+        return Ok(None);
+    }
+    window.cover(disk, at, size, from, 29)?;
+    let len = u32_at(window.bytes(from, 29), 25);
+    if len > 131_072 || u64::from(len) > end - from - 29 {
+        return Ok(None);
+    }
+    let n = 29 + len as usize;
+    window.cover(disk, at, size, from, n)?;
+    match peek_entry(window.bytes(from, n)) {
+        Some(_) => Ok(Some(n as u64)),
+        None => Ok(None),
+    }
+}
