@@ -3,3 +3,4 @@ pub mod Steps
 pub mod Pens
 pub mod Windows
 pub mod Peeks
+pub mod Walks

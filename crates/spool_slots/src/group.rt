@@ -71,3 +71,35 @@ fn entry_at<D: Disk>(
         None => Ok(None),
     }
 }
+
+/// Whether the bytes from offset `from` of the slot to `end` are exactly `count` entries.
+fn are_entries<D: Disk>(
+    window: &mut Window,
+    disk: &mut D,
+    at: u64,
+    size: u64,
+    from: u64,
+    end: u64,
+    count: u32,
+) -> Result<bool, DiskFault>
+    requires place { at + size ≤ (D.moment disk.old).size }
+    requires begins { from ≤ end }
+    requires ends { end ≤ size }
+    requires window { D.tells → IsWindow at window.old (D.moment disk.old).reads }
+
+    ensures cause { HasCause (D.moment disk.old).faults (D.moment disk.new).faults result }
+    ensures same_size { (D.moment disk.new).size ≡ (D.moment disk.old).size }
+    ensures told { D.tells → IsUntouched (D.moment disk.old) (D.moment disk.new) }
+    ensures window { OnOk result (D.tells → IsWindow at window.new (D.moment disk.new).reads) }
+    ensures long { IfOk result (λ found. IsTrue found → from + 29 * count ≤ end) }
+    ensures exact { IfOk result (λ found. D.tells → (IsTrue found ↔ AreEntries count (part (at + from) (end - from) (D.moment disk.old).reads))) }
+{
+    let mut place = from;
+    for i in 0..count {
+        match entry_at(window, disk, at, size, place, end)? {
+            Some(n) => place += n,
+            None => return Ok(false),
+        }
+    }
+    Ok(place == end)
+}
