@@ -4,3 +4,4 @@ pub mod Pens
 pub mod Windows
 pub mod Peeks
 pub mod Walks
+pub mod Found

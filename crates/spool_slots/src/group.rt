@@ -10,6 +10,7 @@ ghost use Rattle.edge_disk.specs.Disk.{IsUntouched};
 ghost use Rattle.spool_slots.specs.Groups.{AreEntries, IsStep, IsInside};
 ghost use Rattle.spool_slots.specs.Window.{IsWindow};
 
+use crate::number::u32_at;
 use crate::window::Window;
 use edge_disk::{Disk, DiskFault};
 use event_form::peek_entry;
@@ -22,16 +23,6 @@ pub(crate) enum Step {
     Broken,
     /// A group: how many bytes its entries have, and how many they are.
     Group { size: u32, count: u32 },
-}
-
-/// The number in the four bytes from an offset on.
-pub(crate) fn u32_at(bytes: &[u8], at: usize) -> u32
-    requires { at + 4 ≤ length bytes.now }
-    ensures { result ≡ from_be_bytes w32 (take 4 (drop at bytes.now)) }
-{
-    let mut field = [0; 4];
-    field.copy_from_slice(&bytes[at..at + 4]);
-    u32::from_be_bytes(field)
 }
 
 /// The length of the entry's text that begins at offset `from` of the slot and ends at `end` or before.
@@ -102,4 +93,47 @@ fn are_entries<D: Disk>(
         }
     }
     Ok(place == end)
+}
+
+/// What stands at a gate of the slot.
+pub(crate) fn look_at<D: Disk>(
+    window: &mut Window,
+    disk: &mut D,
+    at: u64,
+    size: u64,
+    gate: u64,
+) -> Result<Step, DiskFault>
+    requires place { at + size ≤ (D.moment disk.old).size }
+    requires small { size ≤ 1073741824 }
+    requires gate { gate < size }
+    requires window { D.tells → IsWindow at window.old (D.moment disk.old).reads }
+
+    ensures cause { HasCause (D.moment disk.old).faults (D.moment disk.new).faults result }
+    ensures same_size { (D.moment disk.new).size ≡ (D.moment disk.old).size }
+    ensures told { D.tells → IsUntouched (D.moment disk.old) (D.moment disk.new) }
+    ensures window { OnOk result (D.tells → IsWindow at window.new (D.moment disk.new).reads) }
+    ensures inside { IfOk result (IsInside size gate) }
+    ensures seen { IfOk result (λ step. D.tells → IsStep (part (at + gate) (size - gate) (D.moment disk.old).reads) step) }
+{
+    window.cover(disk, at, size, gate, 1)?;
+    if window.bytes(gate, 1)[0] != 1 {
+        return Ok(Step::End);
+    }
+    if size - gate <= 9 {
+        return Ok(Step::Broken);
+    }
+    window.cover(disk, at, size, gate + 1, 8)?;
+    let head = window.bytes(gate + 1, 8);
+    let len = u32_at(head, 0);
+    let count = u32_at(head, 4);
+    if count == 0 || u64::from(len) >= size - gate - 9 {
+        return Ok(Step::Broken);
+    }
+    let first = gate + 9;
+    let end = first + u64::from(len);
+    if are_entries(window, disk, at, size, first, end, count)? {
+        Ok(Step::Group { size: len, count })
+    } else {
+        Ok(Step::Broken)
+    }
 }

@@ -8,6 +8,7 @@
 mod append;
 mod fault;
 mod group;
+mod number;
 mod pen;
 mod slot;
 mod window;

@@ -14,7 +14,7 @@ pub returns-then-len-gt131072-clause-found : goal.returns-then-len-gt131072-clau
 returns-then-len-gt131072-clause-found g c = λ tells.
     let k = c.args.end - c.args.from in
     let same = (c.cover.ensures.told tells).same in
-    let told = c.u32_at-len.ensures ∙ ap (λ (l : List ℕ). from_be_bytes w32 (take 4 (drop 25 l))) (c.bytes.ensures.value c.args.at _ (c.in_ok-cover.ensures.window tells) ∙ ap (part (c.args.at + c.args.from) 29) same) in
+    let told = c.u32_at-len.ensures.value ∙ ap (λ (l : List ℕ). from_be_bytes w32 (take 4 (drop 25 l))) (c.bytes.ensures.value c.args.at _ (c.in_ok-cover.ensures.window tells) ∙ ap (part (c.args.at + c.args.from) 29) same) in
     let too_long : (131072 < c.u32_at-len.result) ⊎ (k - 29 < c.u32_at-len.result) = elim c.then-len-gt131072.branch [
       | then-len-gt131072-via-then-len-gt131072 w ↦ inl (omega (arith, w.if-len-gt131072))
       | then-len-gt131072-via-else-len-gt131072+then-from-end w ↦ inr (omega (arith, w.if-from-end, w.from.ensures))
@@ -38,7 +38,7 @@ returns-in-Some-clause-found g c = λ tells.
     let n = 29 + len in
     let same = (c.cover.ensures.told tells).same in
     let same_2 = (c.cover-2.ensures.told tells).same ∙ same in
-    let told = c.u32_at-len.ensures ∙ ap (λ (l : List ℕ). from_be_bytes w32 (take 4 (drop 25 l))) (c.bytes.ensures.value c.args.at _ (c.in_ok-cover.ensures.window tells) ∙ ap (part p 29) same) in
+    let told = c.u32_at-len.ensures.value ∙ ap (λ (l : List ℕ). from_be_bytes w32 (take 4 (drop 25 l))) (c.bytes.ensures.value c.args.at _ (c.in_ok-cover.ensures.window tells) ∙ ap (part p 29) same) in
     let here = c.bytes-2.ensures.value c.args.at _ (c.in_ok-cover-2.ensures.window tells) ∙ ap (part p n) same_2 in
     let found = c.in-Some.ensures.some in
     let begins = subst (λ (l : List ℕ). Begins found.0 l found.1) here found.2 in
@@ -52,6 +52,6 @@ returns-in-None-clause-found g c = λ tells.
     let n = 29 + len in
     let same = (c.cover.ensures.told tells).same in
     let same_2 = (c.cover-2.ensures.told tells).same ∙ same in
-    let told = c.u32_at-len.ensures ∙ ap (λ (l : List ℕ). from_be_bytes w32 (take 4 (drop 25 l))) (c.bytes.ensures.value c.args.at _ (c.in_ok-cover.ensures.window tells) ∙ ap (part p 29) same) in
+    let told = c.u32_at-len.ensures.value ∙ ap (λ (l : List ℕ). from_be_bytes w32 (take 4 (drop 25 l))) (c.bytes.ensures.value c.args.at _ (c.in_ok-cover.ensures.window tells) ∙ ap (part p 29) same) in
     let here = c.bytes-2.ensures.value c.args.at _ (c.in_ok-cover-2.ensures.window tells) ∙ ap (part p n) same_2 in
     none_wider p n k len (g.D.Disk.moment c.args.disk.now).reads (omega (arith, c.if-end-from-lt29.false, c.if-from-end.false, c.from.ensures)) (omega arith) told (subst BeginsNoEntry here c.in-None.ensures.none)
