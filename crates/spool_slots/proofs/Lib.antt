@@ -5,3 +5,4 @@ pub mod Windows
 pub mod Peeks
 pub mod Walks
 pub mod Found
+pub mod Scans

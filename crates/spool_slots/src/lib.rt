@@ -10,6 +10,7 @@ mod fault;
 mod group;
 mod number;
 mod pen;
+mod scan;
 mod slot;
 mod window;
 
