@@ -12,7 +12,10 @@ use Rattle.spool_state.specs.Image.{HoldsSegment}
 use Rattle.spool_state.specs.Broken.{BeginsGroup, BreaksAt}
 use Rattle.spool_state.proofs.Segments.{empty_text, empty_length}
 use Rattle.spool_state.proofs.Texts.{length-group_text, segment_text-with_group, length-segment_text-with_group, entries_of-with_group}
-use Rattle.spool_slots.specs.Scan.{IsScanned}
+use Rattle.spool_state.proofs.Once.{one_segment}
+use Rattle.spool_slots.specs.declared.slot.Slot.{Slot}
+use Rattle.spool_slots.specs.Slot.{Knows}
+use Rattle.spool_slots.specs.Scan.{IsScanned, KnowsSome}
 use Rattle.spool_slots.proofs.Windows.{part-part}
 use Rattle.spool_slots.proofs.Walks.{drop-part}
 use Rattle.spool_slots.proofs.Found.{part_split, first_byte}
@@ -82,3 +85,14 @@ scan_broken at size ordinal first gate count c scanned opens none = record {
   opens = opens;
   no_group = none;
 }
+
+-- ---- the segment that a slot holds is the one that is found
+
+-- memory knows the segment that the slot holds, if it knows any
+pub known_one : (slot : Slot) (segment : Segment) (c : List ℕ) → slot.at + slot.size ≤ length c → slot.ordinal < 2 ^ 64 → slot.first < 2 ^ 64 → All IsGroup segment.groups → segment.ordinal < 2 ^ 64 → segment.first < 2 ^ 64
+    → HoldsSegment slot.at slot.size segment c → KnowsSome slot c → Knows slot segment c
+known_one slot segment c room so sf sound to tf holds known =
+    let found = known.0 in
+    let knows = known.1 in
+    let same : found ≡ segment = one_segment slot.at slot.size found segment c room (omega (arith, slot.small)) (omega (arith, so, knows.ordinal)) to (omega (arith, sf, knows.first)) tf knows.sound sound knows.holds holds in
+    subst (λ (s : Segment). Knows slot s c) same knows

@@ -1,5 +1,5 @@
 -- What a scan of a slot answers.
-use Rattle.std.specs.Prelude.{◌≡◌, ℕ, ◌+◌, ◌-◌, List, ◌++◌, length, All}
+use Rattle.std.specs.Prelude.{◌≡◌, ℕ, ◌+◌, ◌-◌, List, ◌++◌, length, All, Option, None, Some, Result, Ok, Err}
 use Rattle.foundation.specs.Bytes.{part}
 use Rattle.spool_state.specs.Segment.{IsGroup, Segment, entries_of, segment_text}
 use Rattle.spool_state.specs.Broken.{BreaksAt}
@@ -27,3 +27,11 @@ pub record IsScanned (at size ordinal first gate count : ℕ) (c : List ℕ) : T
   pub text : part at size c ≡ segment_text before ++ part (at + gate) (size - gate) c
   pub gate_is : gate ≡ length (segment_text before)
   pub count_is : count ≡ length (entries_of before)
+
+-- Of a slot that holds the segment, whose groups are sound, the scan knows that segment, or it had a fault or no memory.
+abbrev pub IsScanOf : Segment → List ℕ → Result (Option Slot) ScanFault → Type 0
+IsScanOf segment c (Ok None) = ⊥
+IsScanOf segment c (Ok (Some slot)) = Knows slot segment c
+IsScanOf segment c (Err (NotSpool place)) = ⊥
+IsScanOf segment c (Err DiskFault) = Unit {0}
+IsScanOf segment c (Err NoMemory) = Unit {0}

@@ -1,8 +1,10 @@
 //! A slot read as a segment.
-ghost use Rattle.std.specs.Prelude.{◌≡◌, ◌≢◌, ◌+◌, ◌≤◌, slice_index, IfOk, IfErr, IfSome, IsErrOf, MatchOption};
+ghost use Rattle.std.specs.Prelude.{◌≡◌, ◌≢◌, ◌+◌, ◌^◌, ◌<◌, ◌≤◌, slice_index, All, IfOk, IfErr, IfSome, IsErrOf, MatchOption};
 ghost use Rattle.foundation.specs.Faults.{Rose};
+ghost use Rattle.spool_state.specs.Segment.{IsGroup, Segment};
+ghost use Rattle.spool_state.specs.Image.{HoldsSegment};
 ghost use Rattle.edge_disk.specs.Disk.{IsUntouched};
-ghost use Rattle.spool_slots.specs.Scan.{KnowsSome, IsScanFault};
+ghost use Rattle.spool_slots.specs.Scan.{KnowsSome, IsScanFault, IsScanOf};
 
 use crate::group::{Step, look_at};
 use crate::number::u64_at;
@@ -30,6 +32,9 @@ impl Slot {
         ensures found { IfOk result (λ found. D.tells → MatchOption found (slice_index (D.moment disk.old).reads at ≢ 1) (λ slot. KnowsSome slot (D.moment disk.old).reads)) }
         // NotSpool comes only where the slot breaks the rule of its groups, with the place.
         ensures broken { IfErr result (λ fault. D.tells → IsScanFault at size (D.moment disk.old).reads fault) }
+        // Of a slot that holds a segment it knows that one, and never says NotSpool.
+        ensures known { (segment : Segment) → D.tells → HoldsSegment at size segment (D.moment disk.old).reads → All IsGroup segment.groups → segment.ordinal < 2 ^ 64 → segment.first < 2 ^ 64
+            → IsScanOf segment (D.moment disk.old).reads result }
     {
         let mut window = Window::new(alloc)?;
         window.cover(disk, at, size, 0, 17)?;
