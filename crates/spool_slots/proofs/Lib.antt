@@ -6,3 +6,4 @@ pub mod Peeks
 pub mod Walks
 pub mod Found
 pub mod Scans
+pub mod Marks
