@@ -114,3 +114,16 @@ module _ (p k : ℕ) (c : List ℕ) (room : p + k ≤ length c) (small : k < 2 ^
 -- an open gate that was read
 pub gate_read : (p k : ℕ) (bytes c : List ℕ) → 0 < k → bytes ≡ part p 1 c → get_or bytes 0 0 ≡ 1 → get_or (part p k c) 0 0 ≡ 1
 gate_read p k bytes c some is one = sym (ap (λ (l : List ℕ). get_or l 0 0) is ∙ same_gate p k c some) ∙ one
+
+-- a group takes at least ten bytes
+pub begins_long : (p k : ℕ) (c : List ℕ) (group : List Entry) → BeginsGroup group (part p k c) → 10 ≤ k
+begins_long p k c group begins = omega (arith, length-take k (drop p c), ap length begins.text, length-append (group_text group) begins.behind, length-group_text group, begins.closing)
+
+-- its gate and its count, read at once
+pub gate_told : (p k : ℕ) (c : List ℕ) (group : List Entry) → BeginsGroup group (part p k c) → get_or (part p 9 c) 0 0 ≡ 1
+gate_told p k c group begins =
+    get_or-part p 9 c 0 p (omega arith) (omega arith) ∙ sym (get_or-part p k c 0 p (omega (arith, begins_long p k c group begins)) (omega arith)) ∙ ap (λ (l : List ℕ). get_or l 0 0) begins.text
+
+pub count_read : (p k : ℕ) (c : List ℕ) → p + k ≤ length c → k < 2 ^ 32 → (group : List Entry) → BeginsGroup group (part p k c) → from_be_bytes w32 (take 4 (drop 5 (part p 9 c))) ≡ length group
+count_read p k c room small group begins =
+    ap (from_be_bytes w32) (part-part p 9 5 4 c (omega arith) ∙ ap (λ (j : ℕ). part j 4 c) (omega arith) ∙ sym (part-part (p + 1) 8 4 4 c (omega arith))) ∙ count_told p k c room small group begins

@@ -18,7 +18,11 @@ use Rattle.spool_state.proofs.Once.{entries_at}
 use Rattle.spool_state.proofs.Segments.{empty_length, groups_join}
 use Rattle.spool_state.proofs.Texts.{length-group_text, length-segment_text-with_group, entries_of-with_group}
 use Rattle.spool_slots.specs.declared.mark.Mark.{Mark}
-use Rattle.spool_slots.specs.Mark.{IsAtGate, IsInGroup, IsMark, IsNext, with_groups}
+use Rattle.std.specs.Prelude.{Result, Ok, Err}
+use Rattle.std.specs.Result.{IsErrAnd}
+use Rattle.spool_slots.specs.declared.fault.ScanFault.{ScanFault}
+use Rattle.spool_slots.specs.declared.fault.ScanFault.TheVariants.{NotSpool, DiskFault, NoMemory}
+use Rattle.spool_slots.specs.Mark.{IsAtGate, IsInGroup, IsMark, IsNext, IsNextOf, IsReading, with_groups}
 use Rattle.spool_slots.proofs.Walks.{drop-part}
 
 -- the first number's mark
@@ -211,3 +215,23 @@ in_group segment mark some (inr here) = here
 pub at_gate : (segment : Segment) (mark : Mark) → mark.rest ≡ 0 → IsMark segment mark → IsAtGate segment mark
 at_gate segment mark none (inl here) = here
 at_gate segment mark none (inr here) = absurd (omega (arith, none, here.rest_is, here.some))
+
+-- a fault of a reading is handed on
+fault_handed : (segment : Segment) (mark : Mark) (e : Entry) (f : ScanFault) → IsReading e (Err f) → IsNextOf segment mark (Err f)
+fault_handed segment mark e (NotSpool place) h = absurd h
+fault_handed segment mark e DiskFault h = tt
+fault_handed segment mark e NoMemory h = tt
+
+pub next_fault : (segment : Segment) (mark : Mark) (e : Entry) (r : Result (Entry × Mark) ScanFault) (f : ScanFault) → IsErrAnd r (λ x. x ≡ f) → IsReading e (Err f) → IsNextOf segment mark r
+next_fault segment mark e (Ok next) f is h = absurd is
+next_fault segment mark e (Err x) f is h = subst (λ (y : ScanFault). IsNextOf segment mark (Err y)) (sym is) (fault_handed segment mark e f h)
+
+-- the same entry by another mark of its number
+pub next_as : (segment : Segment) (entered mark next : Mark) (d e : Entry) → entered.number ≡ mark.number → d ≡ e → IsNext segment entered e next → IsNext segment mark d next
+next_as segment entered mark next d e number_is same is = record {
+  before = is.before;
+  behind = is.behind;
+  whole = is.whole ∙ ap (λ (x : Entry). is.before ++ x ∷ is.behind) (sym same);
+  counted = sym number_is ∙ is.counted;
+  goes_on = is.goes_on;
+}

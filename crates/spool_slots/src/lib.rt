@@ -9,6 +9,7 @@ mod append;
 mod fault;
 mod group;
 mod mark;
+mod next;
 mod number;
 mod part;
 mod pen;
