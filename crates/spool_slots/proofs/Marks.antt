@@ -2,7 +2,7 @@
 use Rattle.std.proofs.Common.{◌≡◌, ◌⊎◌, inl, inr, ℕ, ◌+◌, ◌-◌, ◌^◌, ◌<◌, ◌≤◌, List, [], ◌∷◌, ◌++◌, length, take, drop, get_or, refl, sym, ◌∙◌, ap, subst, arith, append_assoc, length-append}
 use Rattle.std.specs.List.{All}
 use Rattle.std.specs.Int.{w32, from_be_bytes}
-use Rattle.std.proofs.lemmas.List.{append-nil, drop_at, drop-drop, get_or_at}
+use Rattle.std.proofs.lemmas.List.{append-nil, drop_at, drop-drop, get_or_at, get_or-drop, length-drop, take_min, take_more}
 use Rattle.std.proofs.lemmas.List.Concat.{flat_map-append}
 use Rattle.foundation.specs.Bytes.{part}
 use Rattle.foundation.proofs.Bytes.{length-part}
@@ -18,11 +18,13 @@ use Rattle.spool_state.proofs.Once.{entries_at}
 use Rattle.spool_state.proofs.Segments.{empty_length, groups_join}
 use Rattle.spool_state.proofs.Texts.{length-group_text, length-segment_text-with_group, entries_of-with_group}
 use Rattle.spool_slots.specs.declared.mark.Mark.{Mark}
-use Rattle.std.specs.Prelude.{Result, Ok, Err}
+use Rattle.std.specs.Prelude.{min, Result, Ok, Err}
 use Rattle.std.specs.Result.{IsErrAnd}
 use Rattle.spool_slots.specs.declared.fault.ScanFault.{ScanFault}
 use Rattle.spool_slots.specs.declared.fault.ScanFault.TheVariants.{NotSpool, DiskFault, NoMemory}
 use Rattle.spool_slots.specs.Mark.{IsAtGate, IsInGroup, IsMark, IsNext, IsNextOf, IsReading, with_groups}
+use Rattle.spool_slots.specs.declared.part.Part.{Part}
+use Rattle.spool_slots.specs.Part.{IsPartOf}
 use Rattle.spool_slots.proofs.Walks.{drop-part}
 
 -- the first number's mark
@@ -235,3 +237,35 @@ next_as segment entered mark next d e number_is same is = record {
   counted = sym number_is ∙ is.counted;
   goes_on = is.goes_on;
 }
+
+-- ---- the entries that were read
+
+pub mark_from : (segment : Segment) (mark : Mark) → IsMark segment mark → segment.first ≤ mark.number
+mark_from segment mark (inl here) = omega (arith, here.counted)
+mark_from segment mark (inr here) = omega (arith, here.counted)
+
+pub read_more : (segment : Segment) (here : Mark) (e : Entry) (next : Mark) (number i : ℕ) (read : List Entry) → segment.first ≤ number → here.number ≡ number + i → read ≡ take i (drop (number - segment.first) (entries_of segment)) → IsNext segment here e next
+    → read ++ e ∷ [] ≡ take (i + 1) (drop (number - segment.first) (entries_of segment))
+read_more segment here e next number i read from is read_is found =
+    let all = entries_of segment in
+    let k = number - segment.first in
+    let before_is : length found.before ≡ k + i = omega (arith, found.counted, is, from) in
+    let long : k + i < length all = omega (arith, ap length found.whole, length-append found.before (e ∷ found.behind), before_is) in
+    let there : get_or (drop k all) i e ≡ e = get_or-drop k all i e ∙ ap (λ (l : List Entry). get_or l (k + i) e) found.whole ∙ get_or_at found.before e found.behind e (k + i) before_is in
+    ap (λ (l : List Entry). l ++ e ∷ []) read_is ∙ ap (λ (x : Entry). take i (drop k all) ++ x ∷ []) (sym there) ∙ sym (take_more (drop k all) i e (omega (arith, long, length-drop k all)))
+
+pub read_all : (segment : Segment) (number most left wanted : ℕ) (read : List Entry) → segment.first ≤ number → left ≡ segment.first + length (entries_of segment) - number → wanted ≡ min most left → read ≡ take wanted (drop (number - segment.first) (entries_of segment))
+    → read ≡ take most (drop (number - segment.first) (entries_of segment))
+read_all segment number most left wanted read from left_is wanted_is is =
+    let rest = drop (number - segment.first) (entries_of segment) in
+    let long : left ≡ length rest = omega (arith, left_is, from, length-drop (number - segment.first) (entries_of segment)) in
+    is ∙ ap (λ (n : ℕ). take n rest) (wanted_is ∙ ap (min most) long) ∙ take_min most rest
+
+part_handed : (segment : Segment) (mark here : Mark) (most : ℕ) (f : ScanFault) → IsNextOf segment here (Err f) → IsPartOf segment mark most (Err f)
+part_handed segment mark here most (NotSpool place) h = absurd h
+part_handed segment mark here most DiskFault h = tt
+part_handed segment mark here most NoMemory h = tt
+
+pub part_fault : (segment : Segment) (mark here : Mark) (most : ℕ) (r : Result Part ScanFault) (f : ScanFault) → IsErrAnd r (λ x. x ≡ f) → IsNextOf segment here (Err f) → IsPartOf segment mark most r
+part_fault segment mark here most (Ok part) f is h = absurd is
+part_fault segment mark here most (Err x) f is h = subst (λ (y : ScanFault). IsPartOf segment mark most (Err y)) (sym is) (part_handed segment mark here most f h)
