@@ -21,3 +21,6 @@ pub use fault::{ScanFault, SlotFault};
 pub use mark::Mark;
 pub use part::Part;
 pub use slot::Slot;
+
+#[cfg(test)]
+mod tests;
