@@ -63,7 +63,7 @@ mark_stays segment group mark (inr in_group) = inr (record {
 entry_in : (passed left more : List Entry) (e : Entry) → All IsEntry (passed ++ left) → left ≡ e ∷ more → IsEntry e
 entry_in passed left more e all is =
     subst IsEntry (get_or_at passed e more e (length passed) refl)
-      (subst (λ (l : List Entry). (k : ℕ) (d : Entry) → k < length l → IsEntry (get_or l k d)) (ap (λ (l : List Entry). passed ++ l) is) all (length passed) e (omega (arith, length-append passed (e ∷ more))))
+    (subst (λ (l : List Entry). (k : ℕ) (d : Entry) → k < length l → IsEntry (get_or l k d)) (ap (λ (l : List Entry). passed ++ l) is) all (length passed) e (omega (arith, length-append passed (e ∷ more))))
 
 entries_split : (segment : Segment) (before behind : List (List Entry)) → segment.groups ≡ before ++ behind → entries_of segment ≡ entries_of (with_groups segment before) ++ entries_of (with_groups segment behind)
 entries_split segment before behind is = ap (λ (l : List (List Entry)). entries_of (with_groups segment l)) is ∙ flat_map-append (λ (g : List Entry). g) before behind
@@ -101,19 +101,23 @@ module _ (at size : ℕ) (segment : Segment) (c : List ℕ) (room : at + size �
   sound_at : (before more : List (List Entry)) (g : List Entry) → All IsGroup segment.groups → segment.groups ≡ before ++ g ∷ more → IsGroup g
   sound_at before more g sound is =
       subst IsGroup (get_or_at before g more g (length before) refl)
-        (subst (λ (l : List (List Entry)). (k : ℕ) (d : List Entry) → k < length l → IsGroup (get_or l k d)) is sound (length before) g (omega (arith, length-append before (g ∷ more))))
+      (subst (λ (l : List (List Entry)). (k : ℕ) (d : List Entry) → k < length l → IsGroup (get_or l k d)) is sound (length before) g (omega (arith, length-append before (g ∷ more))))
 
   pub group_at : (mark : Mark) → All IsGroup segment.groups → (here : IsAtGate segment mark) → mark.number < segment.first + length (entries_of segment)
       → (g : List Entry) × (more : List (List Entry)) × (here.behind ≡ g ∷ more) × BeginsGroup g (part (at + mark.at) (size - mark.at) c)
   group_at mark sound here lt =
       let found = some_behind here.behind (omega (arith, lt, here.counted, ap length (entries_split segment here.before here.behind here.whole), length-append (entries_of (with_groups segment here.before)) (entries_of (with_groups segment here.behind)))) in
-      let is = here.whole ∙ ap (λ (l : List (List Entry)). here.before ++ l) found.2 in
-      (found.0, found.1, found.2, record {
-        sound = sound_at here.before found.1 found.0 sound is;
-        behind = groups_text found.1 ++ holds.rest;
-        text = from_gate here.before (found.0 ∷ found.1) mark.at is here.place ∙ group_text_at found.0 found.1;
-        closing = omega (arith, length-append (groups_text found.1) holds.rest, holds.more);
-      })
+      let is = here.whole ∙ ap (λ (l : List (List Entry)). here.before ++ l) found.2 in (
+        found.0,
+        found.1,
+        found.2,
+        record {
+          sound = sound_at here.before found.1 found.0 sound is;
+          behind = groups_text found.1 ++ holds.rest;
+          text = from_gate here.before (found.0 ∷ found.1) mark.at is here.place ∙ group_text_at found.0 found.1;
+          closing = omega (arith, length-append (groups_text found.1) holds.rest, holds.more);
+        },
+      )
 
   -- within a group the next entry begins at the mark
   pub entry_here : (mark : Mark) → All IsGroup segment.groups → (here : IsInGroup segment mark) (e : Entry) (more : List Entry) → here.left ≡ e ∷ more → (rest : List ℕ) × Begins e (part (at + mark.at) (size - mark.at) c) rest
@@ -125,20 +129,22 @@ module _ (at size : ℕ) (segment : Segment) (c : List ℕ) (room : at + size �
       let gate = from_gate here.before (g ∷ here.behind) n here.whole refl ∙ group_text_at g here.behind in
       let group = sound_at here.before here.behind g sound here.whole in
       let whole_text : entries_text g ++ x ≡ entries_text here.passed ++ (entry_text e ++ (entries_text more ++ x)) =
-          ap (λ (l : List ℕ). l ++ x) (entries_join here.passed here.left ∙ ap (λ (l : List Entry). entries_text here.passed ++ entries_text l) left_is)
-          ∙ append_assoc (entries_text here.passed) (entry_text e ++ entries_text more) x
-          ∙ ap (λ (l : List ℕ). entries_text here.passed ++ l) (append_assoc (entry_text e) (entries_text more) x) in
+      ap (λ (l : List ℕ). l ++ x) (entries_join here.passed here.left ∙ ap (λ (l : List Entry). entries_text here.passed ++ entries_text l) left_is)
+      ∙ append_assoc (entries_text here.passed) (entry_text e ++ entries_text more) x
+      ∙ ap (λ (l : List ℕ). entries_text here.passed ++ l) (append_assoc (entry_text e) (entries_text more) x) in
       let n_fits = before_fits here.before (g ∷ here.behind) here.whole in
-      let room_for : n + k ≤ size = omega (arith, ap length gate, length-part (at + n) (size - n) c (omega (arith, room, n_fits)), length-append (group_text g) x, length-group_text g, ap length whole_text, length-append (entries_text g) x, length-append (entries_text here.passed) (entry_text e ++ (entries_text more ++ x)), n_fits) in
-      (entries_text more ++ x, record {
-        limits = entry_in here.passed here.left more e group.entries left_is;
-        whole = ap (λ (j : ℕ). part j (size - mark.at) c) (omega (arith, here.place)) ∙ ap (λ (j : ℕ). part (at + n + k) j c) (omega (arith, here.place))
-          ∙ sym (drop-part (at + n) k (size - n) c (omega (arith, room_for)))
-          ∙ ap (drop k) gate
-          ∙ sym (drop-drop (length (entries_text here.passed)) 9 (1 ∷ (group_text g ++ x)))
-          ∙ ap (drop (length (entries_text here.passed))) (entries_at g x ∙ whole_text)
-          ∙ drop_at (entries_text here.passed) (entry_text e ++ (entries_text more ++ x)) (length (entries_text here.passed)) refl;
-      })
+      let room_for : n + k ≤ size = omega (arith, ap length gate, length-part (at + n) (size - n) c (omega (arith, room, n_fits)), length-append (group_text g) x, length-group_text g, ap length whole_text, length-append (entries_text g) x, length-append (entries_text here.passed) (entry_text e ++ (entries_text more ++ x)), n_fits) in (
+        entries_text more ++ x,
+        record {
+          limits = entry_in here.passed here.left more e group.entries left_is;
+          whole = ap (λ (j : ℕ). part j (size - mark.at) c) (omega (arith, here.place)) ∙ ap (λ (j : ℕ). part (at + n + k) j c) (omega (arith, here.place))
+              ∙ sym (drop-part (at + n) k (size - n) c (omega (arith, room_for)))
+              ∙ ap (drop k) gate
+              ∙ sym (drop-drop (length (entries_text here.passed)) 9 (1 ∷ (group_text g ++ x)))
+              ∙ ap (drop (length (entries_text here.passed))) (entries_at g x ∙ whole_text)
+              ∙ drop_at (entries_text here.passed) (entry_text e ++ (entries_text more ++ x)) (length (entries_text here.passed)) refl;
+        },
+      )
 
 -- ---- the mark of the next entry
 

@@ -38,7 +38,13 @@ impl Slot {
 
     /// The entries from the mark on: `most` of them, or all where they are fewer, and the mark behind them.
     /// The mark is one of this slot, and stays one after `append_entries`.
-    pub fn read_part<D: Disk>(&self, alloc: Global, disk: &mut D, mark: Mark, most: u32) -> Result<Part, ScanFault>
+    pub fn read_part<D: Disk>(
+        &self,
+        alloc: Global,
+        disk: &mut D,
+        mark: Mark,
+        most: u32,
+    ) -> Result<Part, ScanFault>
         requires place { self.now.at + self.now.size ≤ (D.moment disk.old).size }
         requires ends { self.now.first + self.now.count ≤ 2 ^ 63 }
 

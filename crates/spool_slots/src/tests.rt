@@ -74,15 +74,16 @@ fn begun(alloc: Global, size: usize, failing: u64, stop: u64) -> Result<Bench, F
 }
 
 // What becomes of a group, and the slot and the disk after it.
-fn try_add(alloc: Global, bench: Bench, entries: &[Entry]) -> Result<(Result<(), SlotFault>, Slot, MemDisk), Fail>
+fn try_add(
+    alloc: Global,
+    bench: Bench,
+    entries: &[Entry],
+) -> Result<(Result<(), SlotFault>, Slot, MemDisk), Fail>
     requires some { 0 < length entries.now }
     requires few { length entries.now < 100 }
     requires limits { All IsEntry entries.now }
 {
-    let Bench {
-        mut disk,
-        mut slot,
-    } = bench;
+    let Bench { mut disk, mut slot } = bench;
     if !fits(&slot, &disk) {
         return Err("slot".into());
     }
@@ -97,10 +98,7 @@ fn add(alloc: Global, bench: Bench, entries: &[Entry]) -> Result<Bench, Fail>
     requires few { length entries.now < 100 }
     requires limits { All IsEntry entries.now }
 {
-    let Bench {
-        mut disk,
-        mut slot,
-    } = bench;
+    let Bench { mut disk, mut slot } = bench;
     if !fits(&slot, &disk) {
         return Err("slot".into());
     }
@@ -143,9 +141,9 @@ fn units(alloc: Global, disk: &mut MemDisk, slot: &Slot, most: u32) -> Result<Ve
 // The first bytes of a slot of ordinal 1 with one RELP event of connection 4294967296, unit 2 and text
 // "hello".
 const HELLO: [u8; 61] = [
-    1, 0, 0, 0, 0, 0, 0, 0, 1, 0, 0, 0, 0, 0, 0, 0, 0, 1, 0, 0, 0, 0x22, 0, 0, 0, 1, 1, 0, 0, 0, 1, 0,
-    0, 0, 0, 0, 0, 0, 0, 0, 0, 0, 0, 0, 0, 0, 0, 0, 0, 0, 2, 0, 0, 0, 5, 0x68, 0x65, 0x6c, 0x6c, 0x6f,
-    0,
+    1, 0, 0, 0, 0, 0, 0, 0, 1, 0, 0, 0, 0, 0, 0, 0, 0, 1, 0, 0, 0, 0x22, 0, 0, 0, 1, 1, 0, 0, 0, 1,
+    0, 0, 0, 0, 0, 0, 0, 0, 0, 0, 0, 0, 0, 0, 0, 0, 0, 0, 0, 2, 0, 0, 0, 5, 0x68, 0x65, 0x6c, 0x6c,
+    0x6f, 0,
 ];
 
 #[test]
@@ -170,11 +168,12 @@ fn groups_are_read_back(rt: HostRuntime) -> Result<(), Fail> {
         event_of(alloc, 5, 0)?,
         event_of(alloc, 6, 2)?,
     ];
-    let two = add(alloc, add(alloc, begun(alloc, 4096, 99, 0)?, &first)?, &second)?;
-    let Bench {
-        mut disk,
-        slot,
-    } = add(alloc, two, &third)?;
+    let two = add(
+        alloc,
+        add(alloc, begun(alloc, 4096, 99, 0)?, &first)?,
+        &second,
+    )?;
+    let Bench { mut disk, slot } = add(alloc, two, &third)?;
     for most in 1..8 {
         let read = units(alloc, &mut disk, &slot, most)?;
         assert_eq!(rt; read.as_slice(), [1, 2, 3, 4, 5, 6].as_slice());
@@ -187,7 +186,11 @@ fn a_scan_finds_the_slot(rt: HostRuntime) -> Result<(), Fail> {
     let alloc = rt.alloc();
     let first = [event_of(alloc, 1, 0)?, event_of(alloc, 2, 300)?];
     let second = [event_of(alloc, 3, 1)?];
-    let Bench { disk, slot } = add(alloc, add(alloc, begun(alloc, 4096, 99, 0)?, &first)?, &second)?;
+    let Bench { disk, slot } = add(
+        alloc,
+        add(alloc, begun(alloc, 4096, 99, 0)?, &first)?,
+        &second,
+    )?;
     let found = scanned(alloc, disk)?.ok().ok_or("scan")?.ok_or("closed")?;
     assert_eq!(rt; (found.ordinal, found.first), (1, 0));
     assert_eq!(rt; (found.gate, found.count), (slot.gate, 3));
@@ -209,7 +212,13 @@ fn an_exact_fit_and_a_byte_more(rt: HostRuntime) -> Result<(), Fail> {
     let (large, exact) = ([event_of(alloc, 2, 2003)?], [event_of(alloc, 3, 2002)?]);
     let one = add(alloc, begun(alloc, 4096, 99, 0)?, &first)?;
     let (refused, slot, _) = try_add(alloc, one, &large)?;
-    assert_eq!(rt; refused, Err(SlotFault::NoRoom { need: 2041, room: 2040 }));
+    assert_eq!(rt;
+        refused,
+        Err(SlotFault::NoRoom {
+            need: 2041,
+            room: 2040
+        })
+    );
     assert_eq!(rt; (slot.gate, slot.count), (2055, 1));
     let one = add(alloc, begun(alloc, 4096, 99, 0)?, &first)?;
     let (_, slot, _) = try_add(alloc, one, &exact)?;
@@ -237,13 +246,20 @@ fn a_large_group_takes_ten_calls(rt: HostRuntime) -> Result<(), Fail> {
         assert_eq!(rt; got, outcome);
         let bytes = disk.bytes();
         assert_eq!(rt; bytes.len(), 2_097_352);
-        assert_eq!(rt; (bytes[117], bytes[393_428], bytes[393_429]), (gate, last, 0));
+        assert_eq!(rt;
+            (bytes[117], bytes[393_428], bytes[393_429]),
+            (gate, last, 0)
+        );
     }
     Ok(())
 }
 
 // What a scan says of the slot of one group, where this byte is changed.
-fn scan_changed(alloc: Global, at: usize, byte: u8) -> Result<Result<Option<Slot>, ScanFault>, Fail> {
+fn scan_changed(
+    alloc: Global,
+    at: usize,
+    byte: u8,
+) -> Result<Result<Option<Slot>, ScanFault>, Fail> {
     let mut bytes = vec![in alloc; 0; 4300]?;
     if bytes.len() < 4300 {
         return Err("bytes".into());
@@ -278,8 +294,14 @@ fn each_rule_of_a_group(rt: HostRuntime) -> Result<(), Fail> {
             Ok(_) => assert!(rt; false, "no fault at {at}"),
         }
     }
-    assert_eq!(rt; scan_changed(alloc, 0, 255)?.map(|found| found.is_some()), Ok(false));
-    assert_eq!(rt; scan_changed(alloc, 60, 2)?.map(|found| found.is_some()), Ok(true));
+    assert_eq!(rt;
+        scan_changed(alloc, 0, 255)?.map(|found| found.is_some()),
+        Ok(false)
+    );
+    assert_eq!(rt;
+        scan_changed(alloc, 60, 2)?.map(|found| found.is_some()),
+        Ok(true)
+    );
     Ok(())
 }
 

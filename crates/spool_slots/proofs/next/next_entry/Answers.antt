@@ -30,4 +30,4 @@ returns-clause-next g c = λ segment tells holds sound mark lt.
     let begins = subst (λ (l : List ℕ). Begins left.0 (part (c.args.at + entered.at) (c.args.size - entered.at) l) there.0) (sym (c.enter.ensures.told tells).same) there.1 in
     let read = c.in_ok-entry.ensures.read left.0 there.0 tells begins in
     next_as segment entered c.args.mark _ c.in_ok-entry.field-0.entry left.0 here.1 read.0
-      (next_is segment entered _ here.0 left.0 left.1 left.2 (omega (arith, here.1)) (omega (arith, read.1)) refl)
+    (next_is segment entered _ here.0 left.0 left.1 left.2 (omega (arith, here.1)) (omega (arith, read.1)) refl)

@@ -16,7 +16,7 @@ returns-in_err-entry-clause-part g c = λ segment tells knows mark.
     let holds_now = subst (HoldsSegment slot.at (slot.gate + 1) segment) (sym (c.loop-i.invariant.told tells).same) holds in
     let here = c.loop-i.invariant.read segment tells knows mark in
     part_fault segment c.args.mark c.loop-i.here c.args.most _ _ c.from_residual-in_err-entry.ensures.1
-      (c.in_err-entry.ensures.next segment tells holds_now knows.sound here.0 (omega (arith, c.loop-i.invariant.number, c.loop-i-test.true, c.min-wanted.ensures, c.saturating_sub-left.ensures, knows.first, knows.count)))
+    (c.in_err-entry.ensures.next segment tells holds_now knows.sound here.0 (omega (arith, c.loop-i.invariant.number, c.loop-i-test.true, c.min-wanted.ensures, c.saturating_sub-left.ensures, knows.first, knows.count)))
 
 pub loop-i-preserved : goal.loop-i-preserved
 loop-i-preserved g c =
@@ -41,9 +41,11 @@ loop-i-preserved g c =
 
 pub returns-clause-part : goal.returns-clause-part
 returns-clause-part g c = λ segment tells knows mark.
-    let here = c.loop-i.invariant.read segment tells knows mark in
-    (read_all segment c.args.mark.number c.args.most c.saturating_sub-left.result c.loop-i.i c.loop-i.entries.items (mark_from segment c.args.mark mark)
-      (omega (arith, c.saturating_sub-left.ensures, knows.first, knows.count)) (omega (arith, c.loop-i-test.false, c.loop-i.auto.i-end, c.min-wanted.ensures, c.from.ensures)) here.1, here.0)
+    let here = c.loop-i.invariant.read segment tells knows mark in (
+      read_all segment c.args.mark.number c.args.most c.saturating_sub-left.result c.loop-i.i c.loop-i.entries.items (mark_from segment c.args.mark mark)
+          (omega (arith, c.saturating_sub-left.ensures, knows.first, knows.count)) (omega (arith, c.loop-i-test.false, c.loop-i.auto.i-end, c.min-wanted.ensures, c.from.ensures)) here.1,
+      here.0,
+    )
 
 pub returns-in_default-clause-told : goal.returns-in_default-clause-told
 returns-in_default-clause-told g c = λ tells. untouched_then _ _ _ (g.met.D.Disk.lawful c.args.disk.now tells) (c.loop-i.invariant.told tells) (c.next_entry.ensures.told tells)

@@ -17,5 +17,5 @@ invariant-loop-i g l =
       number : l.here.number ≡ l.fn.mark.number + l.i;
       counted : length l.entries.items ≡ l.i;
       read : (segment : Segment) → g.D.Disk.tells → Knows l.self segment (moment l.fn.disk).reads → IsMark segment l.fn.mark
-        → IsMark segment l.here × (l.entries.items ≡ take l.i (drop (l.fn.mark.number - segment.first) (entries_of segment)));
+          → IsMark segment l.here × (l.entries.items ≡ take l.i (drop (l.fn.mark.number - segment.first) (entries_of segment)));
     }
