@@ -1,3 +1,4 @@
 mod Covers
 pub mod Moments
+mod StoreSteps
 pub mod GateSteps

@@ -1,7 +1,9 @@
 pub mod Disk
 pub mod Gate
-pub mod Memory
-pub mod Past
-pub mod Laws
+pub mod Held
+pub mod StoreView
+pub mod HeldLaws
+pub mod CallPlan
+pub mod Crashing
 pub mod MemDisk
-pub mod Silent
+pub mod FileDisk

@@ -1,6 +1,6 @@
-//! A disk that is a file. What a real file reads and keeps is no claim of it.
-ghost use Rattle.std.specs.Prelude.{◌<◌, ◌^◌, []};
-ghost use Rattle.edge_disk.specs.Silent.{silent_moment};
+//! A disk that is a file: the trusted edge. What a file reads, and what it keeps over a crash, is the
+//! system's word, so it tells no bytes. It counts its faults.
+ghost use Rattle.std.specs.Prelude.{◌≡◌, ◌⊎◌, ◌<◌, ◌^◌, IfOk};
 ghost use Rattle.foundation.specs.Faults.{HasCause};
 
 use crate::{Disk, DiskFault};
@@ -8,6 +8,8 @@ use std::fs::{File, OpenOptions};
 use std::io;
 use std::os::unix::fs::FileExt;
 
+/// A file as a disk. Its length is the file's as it was opened. A read at which the file has become
+/// shorter is a fault.
 #[derive(Drop)]
 pub struct FileDisk {
     file: File,
@@ -17,30 +19,43 @@ pub struct FileDisk {
 }
 
 impl FileDisk {
-    pub fn open(rt: &HostRuntime, path: &str) -> Result<FileDisk, DiskFault> {
+    ghost use Rattle.edge_disk.specs.FileDisk.{file_moment};
+
+    /// Opens a file that exists, to read and write. A fault says that this failed, for whatever cause.
+    pub fn open(rt: &HostRuntime, path: &str) -> Result<FileDisk, DiskFault>
+        ensures { IfOk result (λ disk. (file_moment disk).faults ≡ 0) }
+    {
         match open_file(rt, path, false) {
-            Ok((file, len)) => Ok(FileDisk {
-                file,
-                len,
-                faults: 0,
-            }),
+            Ok((file, len)) => Ok(disk_of(file, len)),
             Err(_) => Err(DiskFault),
         }
     }
 
-    /// Opens it, or makes it. One that is new or empty gets this length.
-    pub fn make(rt: &HostRuntime, path: &str, len: u64) -> Result<FileDisk, DiskFault> {
+    /// Opens the file, or makes it. A file that is new or empty gets the length of `len` zero bytes; the
+    /// bytes and the length of any other stay.
+    pub fn make(rt: &HostRuntime, path: &str, len: u64) -> Result<FileDisk, DiskFault>
+        ensures faults { IfOk result (λ disk. (file_moment disk).faults ≡ 0) }
+        ensures size { IfOk result (λ disk. (file_moment disk).size ≡ len ⊎ 0 < (file_moment disk).size) }
+    {
         match make_file(rt, path, len) {
-            Ok((file, len)) => Ok(FileDisk {
-                file,
-                len,
-                faults: 0,
-            }),
+            Ok((file, len)) => Ok(disk_of(file, len)),
             Err(_) => Err(DiskFault),
         }
     }
 }
 
+fn disk_of(file: File, len: u64) -> FileDisk
+    ensures faults { result.faults ≡ 0 }
+    ensures len { result.len ≡ len }
+{
+    FileDisk {
+        file,
+        len,
+        faults: 0,
+    }
+}
+
+// The file and its length.
 fn open_file(rt: &HostRuntime, path: &str, create: bool) -> io::Result<(File, u64)> {
     let mut options = OpenOptions::new();
     options.read(true);
@@ -51,22 +66,39 @@ fn open_file(rt: &HostRuntime, path: &str, create: bool) -> io::Result<(File, u6
     Ok((file, len))
 }
 
-fn make_file(rt: &HostRuntime, path: &str, len: u64) -> io::Result<(File, u64)> {
-    let (file, had) = open_file(rt, path, true)?;
-    if had > 0 {
-        return Ok((file, had));
+fn make_file(rt: &HostRuntime, path: &str, len: u64) -> io::Result<(File, u64)>
+    ensures { IfOk result (λ made. made.1 ≡ len ⊎ 0 < made.1) }
+{
+    let (file, found) = open_file(rt, path, true)?;
+    if found > 0 {
+        return Ok((file, found));
     }
     file.set_len(len)?;
     file.sync_all()?;
     Ok((file, len))
 }
 
+// Counts a failure.
+fn count(outcome: io::Result<()>, faults: &mut u64) -> Result<(), DiskFault>
+    ensures { HasCause faults.old faults.new result }
+{
+    match outcome {
+        Ok(()) => Ok(()),
+        Err(_) => {
+            *faults = faults.saturating_add(1);
+            Err(DiskFault)
+        }
+    }
+}
+
 impl Disk for FileDisk {
+    ghost use Rattle.edge_disk.specs.FileDisk.{file_moment};
+
     ghost tells = { ⊥ };
 
     ghost tells_images = { λ _. ⊥ };
 
-    ghost moment = { λ d. silent_moment d.len d.faults };
+    ghost moment = { file_moment };
 
     ghost reads_too = { λ d images. images };
 
@@ -91,19 +123,7 @@ impl Disk for FileDisk {
     }
 
     fn sync(&mut self) -> Result<(), DiskFault> {
-        let outcome = self.file.sync_all();
+        let outcome = self.file.sync_data();
         count(outcome, &mut self.faults)
-    }
-}
-
-fn count(outcome: io::Result<()>, faults: &mut u64) -> Result<(), DiskFault>
-    ensures { HasCause faults.old faults.new result }
-{
-    match outcome {
-        Ok(()) => Ok(()),
-        Err(_) => {
-            *faults = faults.saturating_add(1);
-            Err(DiskFault)
-        }
     }
 }

@@ -1,315 +1,214 @@
-//! A disk in memory. It keeps a record of what a crash may leave, so it tells all its images.
-ghost use Rattle.std.specs.Prelude.{◌≡◌, ◌⊎◌, [], ◌∷◌, ◌++◌, ◌+◌, ◌<◌, ◌≤◌, ◌^◌, length, drop, cond, true, false, not, IsTrue, replicate, IfOk, OnOk, OnErr};
-ghost use Rattle.std.proofs.Common.{rules};
-ghost use Rattle.foundation.specs.Bytes.{put};
-ghost use Rattle.foundation.specs.Faults.{Rose};
-ghost use Rattle.edge_disk.specs.Past.{moment_of};
-ghost use Rattle.edge_disk.specs.Memory.{is_written, IsCover, IsImage, noted, noted_synced};
+//! A disk in memory.
+ghost use Rattle.std.specs.Prelude.{◌≡◌, ◌+◌, ◌≤◌, [], length, true, false, IsTrue, replicate, IfOk, OnOk};
+ghost use Rattle.foundation.specs.Bytes.{part, put};
+ghost use Rattle.foundation.specs.Faults.{Rose, HasCause};
+ghost use Rattle.edge_disk.specs.Disk.{IsSettled, Remembers, IsUntouched, IsTorn};
+ghost use Rattle.edge_disk.specs.Held.{IsSound, first_half, after_write, after_sync};
+ghost use Rattle.edge_disk.specs.CallPlan.{one_more, after_call};
 
-use crate::{Disk, DiskFault};
+use crate::plan::Plan;
+use crate::store::Store;
+use crate::{Crash, Disk, DiskFault};
 use std::alloc::{AllocError, Global};
-use std::mem;
 
-/// A time between two syncs in which something was written.
-#[derive(Drop)]
-pub struct Epoch {
-    /// What was there as it began.
-    synced: Vec<u8>,
-    /// The ranges that were written, the last one first.
-    ranges: Vec<(usize, usize)>,
-}
-
-// Notes a write on a disk that keeps a record, and what was there at the first one since a sync.
-fn note(
-    recorded: bool,
-    synced: &mut Vec<u8>,
-    ranges: &mut Vec<(usize, usize)>,
-    bytes: &Vec<u8>,
-    at: usize,
-    n: usize,
-) -> Result<(), AllocError>
-    ensures ok { OnOk result (ranges.new.items ≡ noted recorded at n ranges.old.items) }
-    ensures synced { OnOk result (synced.new.items ≡ noted_synced recorded ranges.old.items bytes.now.items synced.old.items) }
-    ensures err { OnErr result (ranges.new.items ≡ ranges.old.items) }
-    ensures err_synced { OnErr result (synced.new.items ≡ synced.old.items) }
-{
-    if !recorded {
-        return Ok(());
-    }
-    if ranges.is_empty() {
-        let copy = bytes.to_vec(*bytes.allocator())?;
-        ranges.insert(0, (at, n))?;
-        *synced = copy;
-        return Ok(());
-    }
-    ranges.insert(0, (at, n))?;
-    Ok(())
-}
-
-// Puts what was noted since the last sync to the past.
-fn close(
-    synced: &mut Vec<u8>,
-    ranges: &mut Vec<(usize, usize)>,
-    past: &mut Vec<Epoch>,
-) -> Result<(), AllocError>
-    ensures ok { OnOk result (ranges.new.items ≡ []) }
-    ensures past { OnOk result ((e : _) × (e.synced.items ≡ synced.old.items) × (e.ranges.items ≡ ranges.old.items) × (past.new.items ≡ past.old.items ++ e ∷ [])) }
-    ensures err { OnErr result (ranges.new.items ≡ ranges.old.items) }
-    ensures err_synced { OnErr result (synced.new.items ≡ synced.old.items) }
-    ensures err_past { OnErr result (past.new.items ≡ past.old.items) }
-{
-    let alloc = *past.allocator();
-    let epoch = Epoch {
-        synced: mem::replace(synced, Vec::new(alloc)),
-        ranges: mem::replace(ranges, Vec::new(alloc)),
-    };
-    match past.push(epoch) {
-        Ok(()) => Ok(()),
-        Err(failed) => {
-            let Epoch {
-                synced: kept,
-                ranges: noted,
-            } = failed.value;
-            *synced = kept;
-            *ranges = noted;
-            Err(AllocError)
-        }
-    }
-}
-
-fn overwrite(bytes: &mut Vec<u8>, at: usize, piece: &[u8])
-    requires { at + length piece.now ≤ length bytes.old.items }
-    ensures { bytes.new.items ≡ put at piece.now bytes.old.items }
-{
-    bytes[at..at + piece.len()].copy_from_slice(piece);
-}
-
-// Counts a fault.
-fn fault(faults: &mut u64) -> DiskFault
-    ensures rose { Rose 1 faults.old faults.new }
-    ensures later { faults.old ≤ faults.new }
-{
-    *faults = faults.saturating_add(1);
-    DiskFault
-}
-
-// Whether the next call is one that fails.
-fn fails(calls: &mut u64, failing: &[u64], stop: Option<u64>) -> bool {
-    let number = *calls;
-    *calls = number.saturating_add(1);
-    let stopped = match stop {
-        Some(passed) => number >= passed,
-        None => false,
-    };
-    stopped || failing.contains(&number)
-}
-
-/// Bytes in memory. A call fails where a list says so, and from a stop on.
+/// Bytes in memory as a disk, with calls that fail as its making says.
+///
+/// Its calls of `read_at`, `write_at` and `sync` are numbered from 0. A call that fails counts a fault. A
+/// write that fails leaves the first half of its range written, rounded down, and a crash may tear all of
+/// the range; a read or a sync that fails leaves all as it was. A write or a sync that finds no memory for
+/// the record counts a fault and changes nothing else.
 #[derive(Drop)]
 pub struct MemDisk {
-    bytes: Vec<u8>,
-    recorded: bool,
-    synced: Vec<u8>,
-    ranges: Vec<(usize, usize)>,
-    past: Vec<Epoch>,
-    failing: Vec<u64>,
-    stop: Option<u64>,
-    calls: u64,
+    store: Store,
+    plan: Plan,
     faults: u64,
     starved: u64,
-    ghost covers: { 0 < length ranges.items → IsCover ranges.items synced.items bytes.items },
-    ghost nothing_noted: { recorded ≡ false → length ranges.items ≡ 0 },
-    ghost no_past: { recorded ≡ false → length past.items ≡ 0 },
-}
-
-/// What a crash does to the ranges that were written since the last sync.
-#[derive(Clone, Copy, Debug, PartialEq, Eq)]
-pub enum Crash {
-    /// They hold their old bytes.
-    Synced,
-    /// They hold what was written.
-    Written,
-    /// They hold this byte everywhere.
-    Filled(u8),
+    ghost sound: { IsSound store },
 }
 
 impl MemDisk {
-    ghost use Rattle.edge_disk.specs.MemDisk.{IsFresh, mem_moment};
+    ghost use Rattle.edge_disk.specs.MemDisk.{held_of, plan_of, starved_of, mem_moment, IsNew};
+    ghost use Rattle.edge_disk.specs.Crashing.{IsLeft};
 
-    /// A disk with these bytes, all of them on the disk, that keeps a record. `failing` lists the numbers,
-    /// from 0, of the calls that fail.
+    /// A disk with these bytes, all of them durable, that keeps a record. `failing` lists the numbers of
+    /// the calls that fail.
     pub fn of(bytes: Vec<u8>, failing: Vec<u64>) -> MemDisk
-        ensures { IsFresh true bytes.items result }
+        ensures { IsNew true bytes.items failing.items None result }
     {
         MemDisk::make(bytes, true, failing, None)
     }
 
     /// One that passes so many calls and fails each later one.
     pub fn stopped(bytes: Vec<u8>, calls: u64) -> MemDisk
-        ensures { IsFresh true bytes.items result }
+        ensures { IsNew true bytes.items [] (Some calls) result }
     {
-        let alloc = *bytes.allocator();
-        MemDisk::make(bytes, true, Vec::new(alloc), Some(calls))
+        let failing = Vec::new(*bytes.allocator());
+        MemDisk::make(bytes, true, failing, Some(calls))
     }
 
-    /// Zero bytes, with no record: it tells what it reads and no images.
+    /// A disk of so many zero bytes without a record: it tells what it reads, and no images. No call fails.
     pub fn plain(alloc: Global, len: u64) -> Result<MemDisk, AllocError>
-        ensures { IfOk result (λ disk. IsFresh false (replicate len 0) disk) }
+        ensures { IfOk result (λ disk. IsNew false (replicate len 0) [] None disk) }
     {
         let bytes = vec![in alloc; 0; len as usize]?;
         Ok(MemDisk::make(bytes, false, Vec::new(alloc), None))
     }
 
     fn make(bytes: Vec<u8>, recorded: bool, failing: Vec<u64>, stop: Option<u64>) -> MemDisk
-        ensures { IsFresh recorded bytes.items result }
+        ensures { IsNew recorded bytes.items failing.items stop result }
     {
-        let alloc = *bytes.allocator();
         MemDisk {
-            bytes,
-            recorded,
-            synced: Vec::new(alloc),
-            ranges: Vec::new(alloc),
-            past: Vec::new(alloc),
-            failing,
-            stop,
-            calls: 0,
+            store: Store::new(bytes, recorded),
+            plan: Plan::new(failing, stop),
             faults: 0,
             starved: 0,
         }
     }
 
-    /// What it reads.
+    /// What a read of the whole disk gives.
     pub fn bytes(&self) -> &[u8]
         ensures { result.now ≡ (mem_moment self.now).reads }
     {
-        &self.bytes
+        self.store.bytes()
     }
 
-    /// How many calls found no memory for the record.
-    pub fn starved(&self) -> u64 {
+    /// How many calls found no memory for the record, as far as a `u64` counts.
+    pub fn starved(&self) -> u64
+        ensures { result ≡ starved_of self.now }
+    {
         self.starved
     }
 
-    /// What stands after a crash, as a new disk.
+    /// What stands after a crash, as a new disk that keeps a record and fails no call. It is one of the
+    /// images.
     pub fn crash(self, choice: Crash) -> MemDisk
         ensures image { (mem_moment self).image (mem_moment result).reads }
-        ensures fresh { IsFresh true (mem_moment result).reads result }
+        ensures left { IsLeft choice (held_of self) (mem_moment result).reads }
+        ensures fresh { IsNew true (mem_moment result).reads [] None result }
     {
         let MemDisk {
-            bytes,
-            recorded: _,
-            synced,
-            ranges,
-            past: _,
-            failing: _,
-            stop: _,
-            calls: _,
+            store,
+            plan: _,
             faults: _,
             starved: _,
         } = self;
-        let alloc = *bytes.allocator();
-        MemDisk::of(left(bytes, synced, &ranges, choice), Vec::new(alloc))
+        let bytes = store.crash(choice);
+        let failing = Vec::new(*bytes.allocator());
+        MemDisk::of(bytes, failing)
     }
 }
 
-// One of the images.
-fn left(mut bytes: Vec<u8>, synced: Vec<u8>, ranges: &[(usize, usize)], choice: Crash) -> Vec<u8>
-    requires { 0 < length ranges.now → IsCover ranges.now synced.items bytes.items }
-    ensures { IsImage ranges.now synced.items bytes.items result.items }
+// Counts one more.
+fn count(counter: &mut u64)
+    ensures one { counter.new ≡ one_more counter.old }
+    ensures rose { Rose 1 counter.old counter.new }
+    ensures later { counter.old ≤ counter.new }
 {
-    if ranges.is_empty() {
-        return bytes;
-    }
-    match choice {
-        Crash::Synced => synced,
-        Crash::Written => bytes,
-        Crash::Filled(byte) => {
-            for place in 0..bytes.len() {
-                if is_written(ranges, place) {
-                    bytes[place] = byte;
-                }
-            }
-            bytes
-        }
-    }
+    *counter = counter.saturating_add(1);
 }
 
-// Whether one of the ranges has this place.
-fn is_written(ranges: &[(usize, usize)], place: usize) -> bool
-    ensures { result ≡ is_written ranges.now place }
+// What a write of the piece leaves written.
+fn came_through(piece: &[u8], fails: bool) -> &[u8]
+    ensures whole { fails ≡ false → result.now ≡ piece.now }
+    ensures half { fails ≡ true → result.now ≡ first_half piece.now }
+    ensures short { length result.now ≤ length piece.now }
 {
-    for range in ranges {
-        if range.0 <= place && place - range.0 < range.1 {
-            return true;
-        }
+    if fails {
+        return &piece[..piece.len() / 2];
     }
-    false
+    piece
 }
 
 impl Disk for MemDisk {
-    ghost use Rattle.edge_disk.specs.Laws.{lawful, stands_in};
+    ghost use Rattle.edge_disk.specs.HeldLaws.{lawful, stands_in};
+    ghost use Rattle.edge_disk.specs.MemDisk.{held_of, plan_of, mem_moment, Ends};
 
     ghost tells = { Unit {0} };
 
-    ghost tells_images = { λ d. IsTrue d.recorded };
+    ghost tells_images = { λ d. IsTrue (held_of d).recorded };
 
-    ghost moment = { λ d. moment_of d.ranges.items d.synced.items d.bytes.items d.past.items d.faults };
+    ghost moment = { mem_moment };
 
     ghost reads_too = { λ d images. tt };
 
-    ghost fits = { λ d. Prim.search rules };
+    ghost fits = { λ d. d.sound.fits };
 
-    ghost lawful = { λ d tells. lawful d.ranges.items d.synced.items d.bytes.items d.past.items d.faults d.covers };
+    ghost lawful = { λ d tells. lawful d.store d.faults d.sound };
 
-    ghost stands_in = { λ d t c tells. stands_in d.recorded d.ranges.items d.synced.items d.bytes.items d.past.items d.nothing_noted d.no_past t c };
+    ghost stands_in = { λ d t c tells. stands_in d.store d.faults t c d.sound };
 
     fn len(&self) -> u64 {
-        self.bytes.len() as u64
+        self.store.bytes().len() as u64
     }
 
-    fn read_at(&mut self, at: u64, buf: &mut [u8]) -> Result<(), DiskFault> {
-        if fails(&mut self.calls, &self.failing, self.stop) {
-            return Err(fault(&mut self.faults));
+    fn read_at(&mut self, at: u64, buf: &mut [u8]) -> Result<(), DiskFault>
+        requires { at + length buf.old ≤ (mem_moment self.old).size }
+
+        ensures cause { HasCause (mem_moment self.old).faults (mem_moment self.new).faults result }
+        ensures size { (mem_moment self.new).size ≡ (mem_moment self.old).size }
+        ensures read { OnOk result (buf.new ≡ part at (length buf.old) (mem_moment self.old).reads) }
+        ensures told { IsUntouched (mem_moment self.old) (mem_moment self.new) }
+        ensures images { IsTrue (held_of self.old).recorded
+            → IsTrue (held_of self.new).recorded × Remembers (mem_moment self.old) (mem_moment self.new) }
+        ensures ends { Ends result (held_of self.old) (held_of self.old) self.old self.new }
+        ensures counted { plan_of self.new ≡ after_call (plan_of self.old) }
+    {
+        if self.plan.call_fails() {
+            count(&mut self.faults);
+            return Err(DiskFault);
         }
         let at = at as usize;
-        buf.copy_from_slice(&self.bytes[at..at + buf.len()]);
+        buf.copy_from_slice(&self.store.bytes()[at..at + buf.len()]);
         Ok(())
     }
 
-    fn write_at(&mut self, at: u64, piece: &[u8]) -> Result<(), DiskFault> {
-        let at = at as usize;
-        let is_failing = fails(&mut self.calls, &self.failing, self.stop);
-        let outcome = note(
-            self.recorded,
-            &mut self.synced,
-            &mut self.ranges,
-            &self.bytes,
-            at,
-            piece.len(),
-        );
-        if outcome.is_err() {
-            self.starved = self.starved.saturating_add(1);
-            return Err(fault(&mut self.faults));
+    fn write_at(&mut self, at: u64, piece: &[u8]) -> Result<(), DiskFault>
+        requires { at + length piece.now ≤ (mem_moment self.old).size }
+
+        ensures cause { HasCause (mem_moment self.old).faults (mem_moment self.new).faults result }
+        ensures size { (mem_moment self.new).size ≡ (mem_moment self.old).size }
+        ensures written { OnOk result ((mem_moment self.new).reads ≡ put at piece.now (mem_moment self.old).reads) }
+        ensures told { IsTorn at (length piece.now) (mem_moment self.old) (mem_moment self.new) }
+        ensures images { IsTrue (held_of self.old).recorded
+            → IsTrue (held_of self.new).recorded × Remembers (mem_moment self.old) (mem_moment self.new) }
+        ensures ends { Ends result
+            (after_write at (length piece.now) piece.now (held_of self.old))
+            (after_write at (length piece.now) (first_half piece.now) (held_of self.old))
+            self.old self.new }
+        ensures counted { plan_of self.new ≡ after_call (plan_of self.old) }
+    {
+        let fails = self.plan.call_fails();
+        let written = came_through(piece, fails);
+        if self.store.write(at as usize, piece.len(), written).is_err() {
+            count(&mut self.starved);
+            count(&mut self.faults);
+            return Err(DiskFault);
         }
-        if is_failing {
-            overwrite(&mut self.bytes, at, &piece[..piece.len() / 2]);
-            return Err(fault(&mut self.faults));
+        if fails {
+            count(&mut self.faults);
+            return Err(DiskFault);
         }
-        overwrite(&mut self.bytes, at, piece);
         Ok(())
     }
 
-    fn sync(&mut self) -> Result<(), DiskFault> {
-        if fails(&mut self.calls, &self.failing, self.stop) {
-            return Err(fault(&mut self.faults));
+    fn sync(&mut self) -> Result<(), DiskFault>
+        ensures cause { HasCause (mem_moment self.old).faults (mem_moment self.new).faults result }
+        ensures size { (mem_moment self.new).size ≡ (mem_moment self.old).size }
+        ensures durable { OnOk result (IsSettled (mem_moment self.new)) }
+        ensures told { IsUntouched (mem_moment self.old) (mem_moment self.new) }
+        ensures images { IsTrue (held_of self.old).recorded
+            → IsTrue (held_of self.new).recorded × Remembers (mem_moment self.old) (mem_moment self.new) }
+        ensures ends { Ends result (after_sync (held_of self.old)) (held_of self.old) self.old self.new }
+        ensures counted { plan_of self.new ≡ after_call (plan_of self.old) }
+    {
+        if self.plan.call_fails() {
+            count(&mut self.faults);
+            return Err(DiskFault);
         }
-        if self.ranges.is_empty() {
-            return Ok(());
-        }
-        let outcome = close(&mut self.synced, &mut self.ranges, &mut self.past);
-        if outcome.is_err() {
-            self.starved = self.starved.saturating_add(1);
-            return Err(fault(&mut self.faults));
+        if self.store.sync().is_err() {
+            count(&mut self.starved);
+            count(&mut self.faults);
+            return Err(DiskFault);
         }
         Ok(())
     }

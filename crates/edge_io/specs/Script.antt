@@ -14,7 +14,7 @@ call_number script = script.calls
 abbrev pub IsFailing : Script → Type 0
 IsFailing script = Contains (failing_numbers script) (call_number script)
 
--- One call more was made. The count stands still at 2^128 - 1, which is no number of a u64.
+-- One call more was made. The count stands still at 2^128 - 1, a number that no list of u64 has.
 pub record Advances (old new : Script) : Type 0 where
   pub list : failing_numbers new ≡ failing_numbers old
   pub number : call_number new ≡ min (call_number old + 1) (2 ^ 128 - 1)

@@ -7,7 +7,9 @@ use crate::{Link, Object, ReadFault, Sink, Source, WriteFault};
 /// is a link too.
 #[derive(Drop)]
 pub struct Both<S, K> {
+    /// What it reads from.
     pub source: S,
+    /// What it writes to.
     pub sink: K,
 }
 

@@ -20,9 +20,10 @@ impl MemSink {
     ghost use Rattle.edge_io.specs.Script.{call_number, failing_numbers};
     ghost use Rattle.edge_io.specs.MemSink.{script_of, starved_of};
 
-    /// A sink that takes each piece whole. `failing` lists the numbers, from 0, of the writes that fail.
-    /// Such a write counts a fault and changes nothing else. So does one that finds no memory, and
-    /// `starved` counts it.
+    /// A sink that takes each piece whole. `failing` lists the numbers, from 0, of the writes that fail,
+    /// in any order. Such a write counts a fault and changes nothing else. A write that was to pass and
+    /// finds no memory does the same, and `starved` counts it too. A write whose number is beyond a u64
+    /// is to pass.
     pub fn of(alloc: Global, failing: Vec<u64>) -> MemSink
         ensures taken { ⟦<MemSink as Sink>⟧.taken result ≡ Some [] }
         ensures none { ⟦<MemSink as Sink>⟧.write_faults result ≡ 0 }

@@ -35,7 +35,8 @@ impl MemSource {
     ghost use Rattle.edge_io.specs.MemSource.{script_of, step_of};
 
     /// A source that gives these bytes, at most `step` in a read; `step` is above 0. `failing` lists the
-    /// numbers, from 0, of the reads that fail. Such a read counts a fault and changes nothing else.
+    /// numbers, from 0, of the reads that fail, in any order. Such a read counts a fault and changes
+    /// nothing else. A read whose number is beyond a u64 passes.
     pub fn of(bytes: Vec<u8>, step: usize, failing: Vec<u64>) -> MemSource
         requires { 0 < step }
         ensures given { ⟦<MemSource as Source>⟧.given result ≡ Some [] }

@@ -1,8 +1,9 @@
 //! Which calls of a memory form fail.
 ghost use Rattle.std.specs.Prelude.{◌↔◌, Contains, IsTrue};
 
-/// The numbers of the calls that fail, and how many calls there were. The calls are counted from 0. The
-/// count is wider than the numbers, so that it is right at each of them and a call beyond them passes.
+/// The numbers of the calls that fail, and how many calls there were. The calls are numbered from 0.
+/// The count is wider than the numbers that a list can have: it is right at each of these, and every
+/// call beyond them passes.
 #[derive(Drop)]
 pub struct Script {
     failing: Vec<u64>,
@@ -20,6 +21,7 @@ impl Script {
     ghost use Rattle.std.specs.Prelude.{◌≡◌};
     ghost use Rattle.edge_io.specs.Script.{call_number, failing_numbers, IsFailing, Advances};
 
+    /// A script of which no call was made.
     pub fn of(failing: Vec<u64>) -> Script
         ensures list { failing_numbers result ≡ failing.items }
         ensures first { call_number result ≡ 0 }

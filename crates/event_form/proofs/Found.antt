@@ -1,13 +1,14 @@
 -- The entry that is found is the one whose text begins the bytes.
 use Rattle.std.proofs.Common.{◌≡◌, ℕ, ◌+◌, ◌^◌, ◌<◌, ◌≤◌, List, ◌∷◌, ◌++◌, length, get_or, take, drop, refl, sym, ◌∙◌, ap, arith}
 use Rattle.std.specs.Int.{w32, w64, from_be_bytes, to_be_bytes}
-use Rattle.std.proofs.lemmas.List.{take-append-drop, drop-drop, drop_more, take_at, length-take, length-drop}
-use Rattle.event_form.specs.declared.event.Origin.TheVariants.{LumberData}
+use Rattle.std.proofs.lemmas.List.{take-append-drop, drop-drop, drop_more, take_at, drop_at, length-take, length-drop}
+use Rattle.event_form.specs.declared.event.Origin.{Origin}
+use Rattle.event_form.specs.declared.event.Origin.TheVariants.{Relp, LumberData, LumberJson, HecEvent, HecRaw}
 use Rattle.event_form.specs.declared.event.Entry.{Entry}
 use Rattle.event_form.specs.declared.reading.Head.{Head}
 use Rattle.event_form.specs.Event.{ArePairs}
-use Rattle.event_form.specs.Entry.{origin_code, head_text, entry_text, size_of}
-use Rattle.event_form.specs.Reading.{Begins}
+use Rattle.event_form.specs.Entry.{origin_code, IsEntry, head_text, entry_text, size_of}
+use Rattle.event_form.specs.Reading.{Begins, BeginsNoEntry}
 use Rattle.event_form.specs.Head.{Tells, entry_of}
 use Rattle.event_form.proofs.Numbers.{IsBytes, IsBytes-take, IsBytes-drop, four_again, eight_again, eight_below}
 use Rattle.event_form.proofs.Fields.{length-entry_text}
@@ -75,3 +76,25 @@ taken e b rest h = ap (take (size_of e)) h.whole ∙ take_at (entry_text e) rest
 -- no other entry begins the bytes
 pub only : (d e : Entry) (b x y : List ℕ) → Begins d b x → Begins e b y → d ≡ e
 only d e b x y p q = (one_entry d e x y p.limits q.limits (sym p.whole ∙ q.whole)).0
+
+-- what is behind the entry
+pub behind : (e : Entry) (b rest : List ℕ) → Begins e b rest → drop (size_of e) b ≡ rest
+behind e b rest h = ap (drop (size_of e)) h.whole ∙ drop_at (entry_text e) rest (size_of e) (length-entry_text e)
+
+is_lumber : (o : Origin) → ((o ≡ LumberData → ⊥) → ⊥) → o ≡ LumberData
+is_lumber LumberData h = refl
+is_lumber Relp h = absurd (h (λ e. cc))
+is_lumber LumberJson h = absurd (h (λ e. cc))
+is_lumber HecEvent h = absurd (h (λ e. cc))
+is_lumber HecRaw h = absurd (h (λ e. cc))
+
+-- an entry that was read begins the bytes
+pub begins_taken : (e : Entry) (b : List ℕ) (used : ℕ) → IsEntry e → take used b ≡ entry_text e → Begins e b (drop used b)
+begins_taken e b used limits h = record { limits = limits; whole = sym (take-append-drop used b) ∙ ap (λ (t : List ℕ). t ++ drop used b) h }
+
+-- Where no entry begins bytes whose head is sound and whose text is there whole, the pairs are at fault.
+pub pairs_at_fault : (b : List ℕ) (head : Head) → IsBytes b → Tells b head → 29 + head.length ≤ length b → BeginsNoEntry b → (head.origin ≡ LumberData) × (ArePairs (take head.length (drop 29 b)) → ⊥)
+pairs_at_fault b head fits tells room none =
+    let text = take head.length (drop 29 b) in
+    let found_with = λ (pairs : head.origin ≡ LumberData → ArePairs text). none (entry_of head text) (drop head.length (drop 29 b)) (found b head text fits tells room refl pairs) in
+    (is_lumber head.origin (λ other. found_with (λ lumber. absurd (other lumber))), λ pairs. found_with (λ _. pairs))

@@ -55,7 +55,8 @@ one_entry d e x y hd he h =
 
 -- ---- lists of entries
 
-joined : (e : Entry) (es : List Entry) (x : List ℕ) → flat_map entry_text (e ∷ es) ++ x ≡ entry_text e ++ (flat_map entry_text es ++ x)
+-- the first entry's text, and what is behind it
+pub joined : (e : Entry) (es : List Entry) (x : List ℕ) → flat_map entry_text (e ∷ es) ++ x ≡ entry_text e ++ (flat_map entry_text es ++ x)
 joined e es x = ap (λ (b : List ℕ). b ++ x) (flat_map-cons entry_text e es) ∙ append_assoc (entry_text e) (flat_map entry_text es) x
 
 not_empty : (e : Entry) (x : List ℕ) → entry_text e ++ x ≡ [] → ⊥
@@ -86,6 +87,18 @@ same_list (d ∷ ds) (e ∷ es) hd he h =
 
 pub same_entries : (ds es : List Entry) → All IsEntry ds → All IsEntry es → flat_map entry_text ds ≡ flat_map entry_text es → ds ≡ es
 same_entries ds es hd he h = same_list ds es (recursion_from_All IsEntry ds hd) (recursion_from_All IsEntry es he) h
+
+-- The entries of a text that goes on are a front of the entries of the whole.
+front_list : (ds es : List Entry) (y : List ℕ) → AllByRecursion IsEntry ds → AllByRecursion IsEntry es → flat_map entry_text ds ≡ flat_map entry_text es ++ y → (more : List Entry) × (ds ≡ es ++ more) × (y ≡ flat_map entry_text more)
+front_list ds [] y hd he h = (ds, refl, sym h)
+front_list [] (e ∷ es) y hd he h = absurd (not_empty e (flat_map entry_text es ++ y) (sym (h ∙ joined e es y)))
+front_list (d ∷ ds) (e ∷ es) y hd he h =
+    let first = one_entry d e (flat_map entry_text ds) (flat_map entry_text es ++ y) hd.0 he.0 (h ∙ joined e es y) in
+    let others = front_list ds es y hd.1 he.1 first.1 in
+    (others.0, cc (first.0, others.1), others.2)
+
+pub front_entries : (ds es : List Entry) (y : List ℕ) → All IsEntry ds → All IsEntry es → flat_map entry_text ds ≡ flat_map entry_text es ++ y → (more : List Entry) × (ds ≡ es ++ more) × (y ≡ flat_map entry_text more)
+front_entries ds es y hd he h = front_list ds es y (recursion_from_All IsEntry ds hd) (recursion_from_All IsEntry es he) h
 
 pub length-entries_text : (es : List Entry) → length (flat_map entry_text es) ≡ sum_by size_of es
 length-entries_text [] = refl

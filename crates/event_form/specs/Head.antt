@@ -1,4 +1,4 @@
--- What an entry's head tells, and a text with the pairs in it.
+-- What an entry's head tells.
 use Rattle.std.specs.Prelude.{◌≡◌, ℕ, ◌≤◌, List, length, take, drop, slice_index}
 use Rattle.std.specs.Int.{from_be_bytes}
 use mir.Syntax.{w64}

@@ -17,7 +17,7 @@ pub record Begins (e : Entry) (bytes rest : List ℕ) : Type 0 where
 abbrev pub BeginsNoEntry : List ℕ → Type 0
 BeginsNoEntry bytes = (e : Entry) (rest : List ℕ) → Begins e bytes rest → ⊥
 
--- a byte that stands for an origin
+-- a byte that stands for an origin: 1 to 5
 abbrev pub is_origin : ℕ → Bool
 is_origin byte = nat_lt 0 byte && nat_lt byte 6
 
@@ -40,7 +40,7 @@ pub record IsBadAt (bytes : List ℕ) (at : ℕ) : Type 0 where
   pub none : BeginsNoEntry bytes
   pub place : at ≡ bad_place bytes
 
--- no memory was found for an entry's text that is there, or there is none
+-- what a fault says of the bytes: no entry begins them, or one does for which no memory was found
 abbrev pub IsFault : List ℕ → EntryFault → Type 0
 IsFault bytes (BadEntry at) = IsBadAt bytes at
 IsFault bytes NoMemory = (e : Entry) × (rest : List ℕ) × Begins e bytes rest

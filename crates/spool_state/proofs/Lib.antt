@@ -3,6 +3,8 @@ pub mod Entries
 pub mod Following
 pub mod Frames
 pub mod Once
+pub mod Places
+pub mod Registers
 pub mod Segments
 pub mod Steps
 pub mod Texts

@@ -1,11 +1,12 @@
 -- A machine that fails at the last byte of a broken field reads a stream whose faults are such fields.
-use Rattle.std.proofs.Common.{◌≡◌, ℕ, ◌+◌, List, [], ◌∷◌, ◌++◌, refl, sym, ap, ◌∙◌, length, length-append, append_assoc, arith}
-use Rattle.std.proofs.lemmas.List.{append_cancel_right}
-use Rattle.stream_grammar.specs.Automaton.{Step, Fails, Going, Done, Bad, run}
+use Rattle.std.proofs.Common.{◌≡◌, ℕ, ◌+◌, ◌⊎◌, inl, inr, List, [], ◌∷◌, ◌++◌, refl, sym, ap, ◌∙◌, subst, length, length-append, append_assoc, arith}
+use Rattle.std.proofs.lemmas.List.{append-nil, append_cancel_right}
+use Rattle.stream_grammar.specs.Automaton.{Step, Goes, Ends, Fails, Going, Done, Bad, then, run}
 use Rattle.stream_grammar.specs.Framing.{AreSpelled, HasNoFrame}
 use Rattle.stream_grammar.specs.FieldFaults.{HasNoBreak, IsFieldStream, IsFieldFault}
-use Rattle.stream_grammar.proofs.Machine.{Format, run_bad}
-use Rattle.stream_grammar.proofs.Streams.{spelled_run, spelled_append, going_no_frame, one_split}
+use Rattle.stream_grammar.proofs.Machine.{Format, run_bad, run_push}
+use Rattle.stream_grammar.proofs.Readings.{spelled_byte}
+use Rattle.stream_grammar.proofs.Streams.{spelled_run, spelled_append, spelled_one, going_no_frame, one_split}
 
 -- what a format says of its broken fields
 pub record BreakLaws {S F W : Type 0} (step : S → ℕ → Step S F W) (s : S) (Broken : List ℕ → List ℕ → W → Type 0) : Type 0 where
@@ -80,3 +81,74 @@ module _ {S F W : Type 0} {step : S → ℕ → Step S F W} {C : S → F → Lis
       let a = broken_run i.rest i.field i.more v i.broken in
       let r = one_split format fs gs i.front j.front (i.rest ++ (i.field ++ i.more)) h i.spelled j.spelled (sym i.whole ∙ j.whole) (bad_no_frame v (i.rest ++ (i.field ++ i.more)) i.more a) j.no_more in
       j.unbroken i.rest i.field i.more v i.broken (sym r.2)
+
+  -- The bytes decide the frames and the rest.
+  pub one_field_stream : (b : List ℕ) (fs gs : List F) (m n : ℕ) (h k : List ℕ) → IsFieldStream Spells Broken b fs m h → IsFieldStream Spells Broken b gs n k → (fs ≡ gs) × (m ≡ n) × (h ≡ k)
+  one_field_stream b fs gs m n h k i j =
+      let r = one_split format fs gs i.front j.front h k i.spelled j.spelled (sym i.whole ∙ j.whole) i.no_more j.no_more in
+      (r.0, sym i.ends ∙ ap length r.1 ∙ j.ends, r.2)
+
+  -- bytes are frames and a rest, or have a fault
+  abbrev pub HasFieldReading : List ℕ → Type 0
+  HasFieldReading b = ((fs : List F) × (at : ℕ) × (rest : List ℕ) × IsFieldStream Spells Broken b fs at rest) ⊎ ((fs : List F) × (at : ℕ) × (place : ℕ) × (why : W) × IsFieldFault Spells Broken b fs at place why)
+
+  empty_fields : IsFieldStream Spells Broken [] [] 0 []
+  empty_fields = record { front = []; spelled = refl; ends = refl; whole = refl; no_more = going_no_frame format s [] refl; unbroken = going_unbroken s [] refl }
+
+  fields_on : (piece b rest : List ℕ) (fs : List F) (at : ℕ) (t : S) → IsFieldStream Spells Broken b fs at rest → run step s rest ≡ Going t → HasFieldReading (b ++ piece)
+  fields_on [] b rest fs at t i e = inl (fs, at, rest, subst (λ v. IsFieldStream Spells Broken v fs at rest) (sym (append-nil b)) i)
+  fields_on (c ∷ piece) b rest fs at t i e = go (step t c) refl (λ rest' fs' at' u. fields_on piece (b ++ c ∷ []) rest' fs' at' u)
+    where
+      go : (p : Step S F W) → step t c ≡ p → ((rest' : List ℕ) (fs' : List F) (at' : ℕ) (u : S) → IsFieldStream Spells Broken (b ++ c ∷ []) fs' at' rest' → run step s rest' ≡ Going u → HasFieldReading ((b ++ c ∷ []) ++ piece)) → HasFieldReading (b ++ c ∷ piece)
+      go (Goes u) q more =
+          let r : run step s (rest ++ c ∷ []) ≡ Going u = run_push format.laws s t rest c e ∙ ap (λ p. then p (λ u. Going u) []) q in
+          let j = field_more u b (c ∷ []) [] (rest ++ c ∷ []) rest fs [] at i refl refl r in
+          subst HasFieldReading (append_assoc b (c ∷ []) piece) (more (rest ++ c ∷ []) (fs ++ []) (at + 0) u j r)
+      go (Ends f) q more =
+          let x = rest ++ c ∷ [] in
+          let k = spelled_one format f x (spelled_byte format t rest c f e q) in
+          let j = field_more s b (c ∷ []) x [] rest fs (f ∷ []) at i k (sym (append-nil x)) refl in
+          subst HasFieldReading (append_assoc b (c ∷ []) piece) (more [] (fs ++ f ∷ []) (at + length x) s j refl)
+      go (Fails w) q more = let j = field_fault t b (c ∷ piece) [] rest piece rest c w fs [] at i refl refl e q in inr (fs ++ [], at + 0, j.0, w, j.1)
+
+  -- Each stream has a reading.
+  pub some_field_reading : (b : List ℕ) → HasFieldReading b
+  some_field_reading b = fields_on b [] [] [] 0 s empty_fields refl
+
+  -- Spellings in front of a stream are read first.
+  pub field_stream_behind : (gs fs : List F) (x b rest : List ℕ) (at : ℕ) → AreSpelled Spells gs x → IsFieldStream Spells Broken b fs at rest → IsFieldStream Spells Broken (x ++ b) (gs ++ fs) (length x + at) rest
+  field_stream_behind gs fs x b rest at a i = record {
+    front = x ++ i.front;
+    spelled = spelled_append format gs fs x i.front a i.spelled;
+    ends = length-append x i.front ∙ ap (λ n. length x + n) i.ends;
+    whole = ap (λ v. x ++ v) i.whole ∙ sym (append_assoc x i.front rest);
+    no_more = i.no_more;
+    unbroken = i.unbroken;
+  }
+
+  pub field_fault_behind : (gs fs : List F) (x b : List ℕ) (at place : ℕ) (why : W) → AreSpelled Spells gs x → IsFieldFault Spells Broken b fs at place why → IsFieldFault Spells Broken (x ++ b) (gs ++ fs) (length x + at) (length x + place) why
+  field_fault_behind gs fs x b at place why a i = record {
+    front = x ++ i.front;
+    rest = i.rest;
+    field = i.field;
+    more = i.more;
+    spelled = spelled_append format gs fs x i.front a i.spelled;
+    ends = length-append x i.front ∙ ap (λ n. length x + n) i.ends;
+    whole = ap (λ v. x ++ v) i.whole ∙ sym (append_assoc x i.front (i.rest ++ (i.field ++ i.more)));
+    place_is = omega (arith, i.place_is, length-append x i.front);
+    broken = i.broken;
+  }
+
+-- bytes behind a fault change nothing
+pub field_fault_stays : {F W : Type 0} {Spells : F → List ℕ → Type 0} {Broken : List ℕ → List ℕ → W → Type 0} {b : List ℕ} {frames : List F} {at place : ℕ} {why : W} (piece : List ℕ) → IsFieldFault Spells Broken b frames at place why → IsFieldFault Spells Broken (b ++ piece) frames at place why
+field_fault_stays piece i = record {
+  front = i.front;
+  rest = i.rest;
+  field = i.field;
+  more = i.more ++ piece;
+  spelled = i.spelled;
+  ends = i.ends;
+  whole = ap (λ v. v ++ piece) i.whole ∙ append_assoc i.front (i.rest ++ (i.field ++ i.more)) piece ∙ ap (λ v. i.front ++ v) (append_assoc i.rest (i.field ++ i.more) piece ∙ ap (λ v. i.rest ++ v) (append_assoc i.field i.more piece));
+  place_is = i.place_is;
+  broken = i.broken;
+}

@@ -1,0 +1,4 @@
+pub mod Cell
+pub mod Fault
+pub mod Fields
+pub mod Register

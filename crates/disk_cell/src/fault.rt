@@ -1,0 +1,43 @@
+//! Why a register was not read or not written.
+use edge_disk::DiskFault;
+
+/// Why no register was read.
+#[derive(Clone, Copy, Debug, PartialEq, Eq)]
+pub enum LoadFault {
+    /// The cells break a rule of their layout. `at` is the offset on the device, in bytes, of the cell at
+    /// fault: that of the first cell where none counts, else that of the cell that counts.
+    NotSpool { at: u64 },
+    /// A call on the disk failed.
+    DiskFault,
+}
+
+/// Why a register was not written.
+#[derive(Clone, Copy, Debug, PartialEq, Eq)]
+pub enum SetFault {
+    /// The register was written as often as it can be. `ordinal` is its ordinal, 2^63.
+    Worn { ordinal: u64 },
+    /// A call on the disk failed.
+    DiskFault,
+}
+
+impl From<DiskFault> for LoadFault {
+    ghost use Rattle.std.specs.Prelude.{◌≡◌};
+    ghost use Rattle.disk_cell.specs.declared.fault.LoadFault.TheVariants.{DiskFault as Failed};
+
+    ghost from_gives = { λ _ e. e ≡ Failed };
+
+    fn from(_: DiskFault) -> LoadFault {
+        LoadFault::DiskFault
+    }
+}
+
+impl From<DiskFault> for SetFault {
+    ghost use Rattle.std.specs.Prelude.{◌≡◌};
+    ghost use Rattle.disk_cell.specs.declared.fault.SetFault.TheVariants.{DiskFault as Failed};
+
+    ghost from_gives = { λ _ e. e ≡ Failed };
+
+    fn from(_: DiskFault) -> SetFault {
+        SetFault::DiskFault
+    }
+}
