@@ -3,7 +3,7 @@ ghost use Rattle.std.specs.Prelude.{IfOk};
 ghost use Rattle.event_form.specs.Event.{IsEvent};
 ghost use Rattle.event_map.specs.Maps.{IsText, IsJsonObject, IsHecObject};
 
-use crate::objects::{with_event, with_message};
+use crate::objects::{unchanged, with_event, with_message};
 use crate::pairs::object_of_pairs;
 use crate::strings::filled_string;
 use event_form::{Blob, Event, Origin};
@@ -16,13 +16,12 @@ pub fn as_text(alloc: Global, event: &Event) -> Result<Blob, AllocError>
     ensures { IfOk result (λ bytes. IsText event.now bytes) }
 {
     let text = event.text.bytes();
-    let bytes = match event.origin {
+    match event.origin {
         Origin::Relp | Origin::HecRaw | Origin::LumberJson | Origin::HecEvent => {
-            Vec::from_slice(alloc, text)?
+            unchanged(alloc, text)
         }
-        Origin::LumberData => object_of_pairs(alloc, text)?,
-    };
-    Ok(Blob::of(bytes))
+        Origin::LumberData => object_of_pairs(alloc, text),
+    }
 }
 
 /// The event as a JSON object.
@@ -31,14 +30,13 @@ pub fn as_json_object(alloc: Global, event: &Event) -> Result<Blob, AllocError>
     ensures { IfOk result (λ bytes. IsJsonObject event.now bytes) }
 {
     let text = event.text.bytes();
-    let bytes = match event.origin {
-        Origin::Relp | Origin::HecRaw => with_message(alloc, text)?,
-        Origin::LumberJson if is_object(text) => Vec::from_slice(alloc, text)?,
-        Origin::LumberJson => with_message(alloc, text)?,
-        Origin::LumberData => object_of_pairs(alloc, text)?,
-        Origin::HecEvent => Vec::from_slice(alloc, text)?,
-    };
-    Ok(Blob::of(bytes))
+    match event.origin {
+        Origin::Relp | Origin::HecRaw => with_message(alloc, text),
+        Origin::LumberJson if is_object(text) => unchanged(alloc, text),
+        Origin::LumberJson => with_message(alloc, text),
+        Origin::LumberData => object_of_pairs(alloc, text),
+        Origin::HecEvent => unchanged(alloc, text),
+    }
 }
 
 /// The event as an event object of Splunk's HTTP Event Collector.
@@ -47,12 +45,11 @@ pub fn as_hec_object(alloc: Global, event: &Event) -> Result<Blob, AllocError>
     ensures { IfOk result (λ bytes. IsHecObject event.now bytes) }
 {
     let text = event.text.bytes();
-    let bytes = match event.origin {
-        Origin::Relp | Origin::HecRaw => with_event(alloc, &filled_string(alloc, text)?)?,
-        Origin::LumberJson if is_object(text) => with_event(alloc, text)?,
-        Origin::LumberJson => with_event(alloc, &filled_string(alloc, text)?)?,
-        Origin::LumberData => with_event(alloc, &object_of_pairs(alloc, text)?)?,
-        Origin::HecEvent => Vec::from_slice(alloc, text)?,
-    };
-    Ok(Blob::of(bytes))
+    match event.origin {
+        Origin::Relp | Origin::HecRaw => with_event(alloc, &filled_string(alloc, text)?),
+        Origin::LumberJson if is_object(text) => with_event(alloc, text),
+        Origin::LumberJson => with_event(alloc, &filled_string(alloc, text)?),
+        Origin::LumberData => with_event(alloc, object_of_pairs(alloc, text)?.bytes()),
+        Origin::HecEvent => unchanged(alloc, text),
+    }
 }

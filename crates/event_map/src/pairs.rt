@@ -6,6 +6,7 @@ ghost use Rattle.event_map.specs.Objects.{member_of, pairs_object};
 ghost use Rattle.event_map.specs.Maps.{OfPairs};
 
 use crate::strings::json_string;
+use event_form::Blob;
 use std::alloc::{AllocError, Global};
 
 /// The key or value that the bytes begin with, and what is behind it.
@@ -21,8 +22,7 @@ fn split_string(bytes: &[u8]) -> (&[u8], &[u8])
 /// Appends the pair that the bytes begin with as a member, `"key":"value"`; what is behind the pair.
 fn write_member<'a>(alloc: Global, bytes: &'a [u8], object: &mut Vec<u8>) -> Result<&'a [u8], AllocError>
     requires { (pair : List ℕ × List ℕ) × (rest : List ℕ) × BeginsPair pair bytes.now rest }
-    ensures { IfOk result (λ rest. (pair : List ℕ × List ℕ) × BeginsPair pair bytes.now rest.now
-        × (object.new.items ≡ object.old.items ++ member_of pair)) }
+    ensures { IfOk result (λ rest. (pair : List ℕ × List ℕ) × BeginsPair pair bytes.now rest.now × (object.new.items ≡ object.old.items ++ member_of pair)) }
 {
     let (key, middle) = split_string(bytes);
     let (value, rest) = split_string(middle);
@@ -33,19 +33,19 @@ fn write_member<'a>(alloc: Global, bytes: &'a [u8], object: &mut Vec<u8>) -> Res
 }
 
 /// The pairs as one object, in their order.
-pub(crate) fn object_of_pairs(alloc: Global, text: &[u8]) -> Result<Vec<u8>, AllocError>
+pub(crate) fn object_of_pairs(alloc: Global, text: &[u8]) -> Result<Blob, AllocError>
     requires short { length text.now ≤ 131072 }
     requires pairs { ArePairs text.now }
-    ensures { IfOk result (λ object. OfPairs pairs_object text.now object.items) }
+    ensures { IfOk result (λ object. OfPairs pairs_object text.now object) }
 {
     let mut object = Vec::from_slice(alloc, b"{")?;
     let mut rest = text;
     while !rest.is_empty() {
-        if rest.len() < text.len() {
+        rest = write_member(alloc, rest, &mut object)?;
+        if !rest.is_empty() {
             object.push(b',')?;
         }
-        rest = write_member(alloc, rest, &mut object)?;
     }
     object.push(b'}')?;
-    Ok(object)
+    Ok(Blob::of(object))
 }
