@@ -67,10 +67,6 @@ comes_on text rest object new behind pair some begins wrote h = go h.pairs h.who
         on [] there so = ap (λ (n : List ℕ). n ++ left []) (wrote.last (ap length there)) ∙ behind_last object (member_of pair) (codes "}") ∙ so
         on (q ∷ qs) there so = ap (λ (n : List ℕ). n ++ left (q ∷ qs)) (wrote.more (omega (arith, ap length there, length_behind q qs))) ∙ behind_more object (member_of pair) (join_with_byte 44 (map member_of (q ∷ qs))) (codes "}") ∙ so
 
--- what is behind a pair is shorter
-pub shorter : (pair : List ℕ × List ℕ) (rest behind : List ℕ) → BeginsPair pair rest behind → length behind < length rest
-shorter pair rest behind h = omega (arith, ap length h.key.whole, ap length h.value.whole, length-append pair.0 h.middle, length-append pair.1 behind)
-
 -- a key, a colon and a value behind what stood there
 pub member_written : (object key colon new : List ℕ) (pair : List ℕ × List ℕ) → key ≡ object ++ string_of pair.0 → colon ≡ key ++ 58 ∷ [] → new ≡ colon ++ string_of pair.1 → new ≡ object ++ member_of pair
 member_written object key colon new pair k c n =

@@ -32,3 +32,7 @@ same_pairs (p ∷ ps) (q ∷ qs) short h =
 -- the pairs of a text that an event may have
 pub one_list : (text : List ℕ) → length text ≤ 131072 → (h k : ArePairs text) → h.pairs ≡ k.pairs
 one_list text short h k = same_pairs h.pairs k.pairs (omega (arith, ap length h.whole)) (sym h.whole ∙ k.whole)
+
+-- what is behind a pair is shorter
+pub shorter : (pair : List ℕ × List ℕ) (rest behind : List ℕ) → BeginsPair pair rest behind → length behind < length rest
+shorter pair rest behind h = omega (arith, ap length h.key.whole, ap length h.value.whole, length-append pair.0 h.middle, length-append pair.1 behind)

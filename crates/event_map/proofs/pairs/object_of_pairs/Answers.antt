@@ -2,7 +2,7 @@ use Rattle.std.proofs.Common.{rules, ◌≡◌, ◌<◌, ℕ, Bool, true, false,
 use Rattle.std.proofs.lemmas.Bool.{eqb-true, eqb-false}
 use Rattle.event_map.specs.Objects.{pairs_object}
 use Rattle.event_map.specs.Maps.{OfPairs}
-use Rattle.event_map.proofs.Members.{Comes, comes, next, closed, comes_on, shorter}
+use Rattle.event_map.proofs.Members.{Comes, comes, next, closed, comes_on}
 use Rattle.event_map.proofs.pairs.object_of_pairs.Goals as goal
 
 -- what `is_empty` says
