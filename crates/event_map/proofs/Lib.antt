@@ -5,3 +5,4 @@ pub mod ObjectOrNot
 pub mod PairsOrNot
 pub mod Functions
 pub mod Exact
+pub mod Sizes
