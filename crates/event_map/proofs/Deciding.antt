@@ -1,5 +1,5 @@
 -- Facts that hold or don't.
-use Rattle.std.proofs.Common.{◌≡◌, ℕ, zero, suc, ◌+◌, ◌<◌, ◌≤◌, ◌⊎◌, inl, inr, Bool, true, false, ◌==◌, List, [], ◌∷◌, refl, ap₂, subst, arith}
+use Rattle.std.proofs.Common.{◌≡◌, ℕ, zero, suc, ◌≤◌, ◌⊎◌, inl, inr, Bool, true, false, ◌==◌, List, [], ◌∷◌, refl, ap₂, subst, arith}
 use Rattle.std.proofs.lemmas.Bool.{eqb-true, eqb-false, cases_lt}
 
 -- it holds, or it doesn't
@@ -40,6 +40,7 @@ some_up_to P d (suc n) = go (d (suc n)) (some_up_to P d n)
       where
         some_or_last : (i : ℕ) → i ≤ suc n → (i ≤ n) ⊎ (i ≡ suc n)
         some_or_last i h = elim (cases_lt i (suc n)) [ inl lt ↦ inl (omega arith) | inr le ↦ inr (omega arith) ]
+
         last : (i : ℕ) → i ≤ suc n → P i → (i ≤ n) ⊎ (i ≡ suc n) → ⊥
         last i h p (inl le) = none (i, le, p)
         last i h p (inr e) = never (subst P e p)

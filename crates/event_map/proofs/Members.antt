@@ -1,7 +1,7 @@
 -- How far an object of pairs has come.
-use Rattle.std.proofs.Common.{◌≡◌, ℕ, ◌+◌, ◌^◌, ◌<◌, ◌≤◌, List, [], ◌∷◌, ◌++◌, length, map, codes, refl, sym, ◌∙◌, ap, subst, arith, length-append, append_assoc, append-nil}
+use Rattle.std.proofs.Common.{◌≡◌, ℕ, ◌<◌, ◌≤◌, List, [], ◌∷◌, ◌++◌, length, map, codes, refl, sym, ◌∙◌, ap, subst, arith, append_assoc}
 use Rattle.std.specs.List.{join_with_byte}
-use Rattle.event_form.specs.Event.{pair_text, pairs_text, ArePairs}
+use Rattle.event_form.specs.Event.{pairs_text, ArePairs}
 use Rattle.event_form.specs.Pairs.{BeginsPair}
 use Rattle.event_form.proofs.Strings.{pair_from_text}
 use Rattle.event_map.specs.Strings.{string_of}

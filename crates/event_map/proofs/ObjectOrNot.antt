@@ -1,5 +1,5 @@
 -- Whether a text is one JSON object: an answer for every list of numbers.
-use Rattle.std.proofs.Common.{◌≡◌, ℕ, ◌+◌, ◌≤◌, ◌⊎◌, inl, inr, Bool, true, false, ◌==◌, List, [], ◌∷◌, ◌++◌, length, take, drop, refl, sym, ◌∙◌, ap, subst, arith, append-nil, length-append, take-append-drop}
+use Rattle.std.proofs.Common.{◌≡◌, ℕ, ◌+◌, ◌≤◌, inl, inr, Bool, true, false, ◌==◌, List, [], ◌∷◌, ◌++◌, length, take, drop, refl, sym, ◌∙◌, ap, subst, arith, append-nil, length-append, take-append-drop}
 use Rattle.std.proofs.lemmas.Bool.{eqb-true, eqb-false}
 use Rattle.std.proofs.lemmas.List.{take_at, drop_at}
 use Rattle.json_span.specs.Json.{is_space, AreSpaces, Spaced, Json, JsonObject}
@@ -24,11 +24,14 @@ value x = go (run (Value 127 []) x) refl
   where
     there : Completes (Value 127 []) (x ++ []) → Spaced (Json 127) x
     there h = let t = h.4 in (h.0, h.1, h.2, sym (append-nil x) ∙ h.3, subst (Json 127) (sym (t.3 ∙ ap (λ (z : List ℕ). t.0 ++ z) t.4 ∙ append-nil t.0)) t.2)
+
     back : Spaced (Json 127) x → Completes (Value 127 []) (x ++ [])
     back h = (h.0, h.1, h.2, append-nil x ∙ h.3, (h.1, [], h.4, sym (append-nil h.1), refl))
+
     ends : (t : State) (b : Bool) → accepts t ≡ b → run (Value 127 []) x ≡ Going t → Decided (Spaced (Json 127) x)
     ends t true a e = inl (there (ran (Value 127 []) t x [] e (accepting t a)))
     ends t false a e = inr (λ h. let r = runs (Value 127 []) x [] (back h) in let y = accepted r.0 r.2 in absurd cc)
+
     go : (r : Run) → run (Value 127 []) x ≡ r → Decided (Spaced (Json 127) x)
     go (Going t) e = ends t (accepts t) refl e
     go (Stopped w) e = inr (λ h. let r = runs (Value 127 []) x [] (back h) in absurd cc)
@@ -60,8 +63,10 @@ object_or_not b = go (some_up_to (λ m. (n : ℕ) × (n ≤ length b) × Cut b m
   where
     Places : Type 0
     Places = (m : ℕ) × (m ≤ length b) × ((n : ℕ) × (n ≤ length b) × Cut b m n)
+
     there : Places → IsObjectText b
     there h = let m = h.0 in let n = h.2.0 in let c = h.2.2 in (take m b, drop m b, c.0, sym (take-append-drop m b), (take n (drop m b), drop n (drop m b), c.1.0, sym (take-append-drop n (drop m b)), c.1.1))
+
     back : IsObjectText b → Places
     back h =
         let w = h.0 in
@@ -75,6 +80,7 @@ object_or_not b = go (some_up_to (λ m. (n : ℕ) × (n ≤ length b) × Cut b m
         let room : length b ≡ m + length h.1 = ap length h.3 ∙ length-append w h.1 in
         let more : length h.1 ≡ n + length t.1 = ap length t.3 ∙ length-append t.0 t.1 in
         (m, omega (arith, room), (n, omega (arith, room, more), (subst AreSpaces (sym front) h.2, (subst (JsonObject 127) (sym middle) t.2, subst AreSpaces (sym end) t.4))))
+
     go : Decided Places → Decided (IsObjectText b)
     go (inl h) = inl (there h)
     go (inr never) = inr (λ h. never (back h))

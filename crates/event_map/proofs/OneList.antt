@@ -1,7 +1,7 @@
 -- A text is whole pairs in one way only.
-use Rattle.std.proofs.Common.{◌≡◌, ℕ, ◌+◌, ◌^◌, ◌<◌, ◌≤◌, List, [], ◌∷◌, ◌++◌, length, refl, sym, ◌∙◌, ap, ap₂, subst, arith, length-append}
+use Rattle.std.proofs.Common.{◌≡◌, ℕ, ◌+◌, ◌^◌, ◌<◌, ◌≤◌, List, [], ◌∷◌, length, refl, sym, ◌∙◌, ap, ap₂, arith, length-append}
 use Rattle.event_form.specs.Event.{pair_text, pairs_text, ArePairs}
-use Rattle.event_form.specs.Pairs.{BeginsString, BeginsPair}
+use Rattle.event_form.specs.Pairs.{BeginsPair}
 use Rattle.event_form.proofs.Strings.{one_string, pair_from_text, length-pair_text}
 
 -- the pair that bytes begin with, and what is behind it

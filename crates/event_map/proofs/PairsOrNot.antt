@@ -1,5 +1,5 @@
 -- Whether a text, no longer than an event's text may be, is whole pairs: an answer for every list of numbers.
-use Rattle.std.proofs.Common.{◌≡◌, ℕ, zero, suc, ◌+◌, ◌^◌, ◌<◌, ◌≤◌, ◌⊎◌, inl, inr, List, [], ◌∷◌, ◌++◌, length, take, drop, refl, sym, ◌∙◌, ap, subst, arith, length-append, take-append-drop}
+use Rattle.std.proofs.Common.{◌≡◌, ℕ, zero, suc, ◌+◌, ◌^◌, ◌<◌, ◌≤◌, inl, inr, List, [], ◌∷◌, ◌++◌, length, take, drop, refl, sym, ◌∙◌, ap, subst, arith, length-append, take-append-drop}
 use Rattle.std.specs.Int.{w32, to_be_bytes, from_be_bytes}
 use Rattle.std.proofs.lemmas.List.{take_at, drop_at, length-take-le}
 use Rattle.event_form.specs.Event.{ArePairs}
@@ -26,10 +26,13 @@ a_string b = go (both (at_most (n + 1) (2 ^ 32)) (both (at_most n (length d)) (s
   where
     n : ℕ
     n = from_be_bytes w32 (take 4 b)
+
     d : List ℕ
     d = drop 4 b
+
     Is : Type 0
     Is = (n + 1 ≤ 2 ^ 32) × ((n ≤ length d) × (take 4 b ≡ to_be_bytes w32 n))
+
     there : Is → SomeString b
     there h =
         let size : length (take n d) ≡ n = length-take-le n d h.1.0 in (
@@ -40,6 +43,7 @@ a_string b = go (both (at_most (n + 1) (2 ^ 32)) (both (at_most n (length d)) (s
             whole = sym (take-append-drop 4 b) ∙ ap (λ (f : List ℕ). f ++ d) (h.1.1 ∙ ap (to_be_bytes w32) (sym size)) ∙ ap (λ (r : List ℕ). to_be_bytes w32 (length (take n d)) ++ r) (sym (take-append-drop n d));
           },
         )
+
     back : SomeString b → Is
     back h =
         let s = h.0 in
@@ -47,6 +51,7 @@ a_string b = go (both (at_most (n + 1) (2 ^ 32)) (both (at_most n (length d)) (s
         let behind : d ≡ s ++ h.1 = ap (drop 4) h.2.whole ∙ drop_at (to_be_bytes w32 (length s)) (s ++ h.1) 4 refl in
         let size : n ≡ length s = ap (from_be_bytes w32) front ∙ four_back (length s) h.2.short in
         (omega (arith, size, h.2.short), (omega (arith, size, ap length behind, length-append s h.1), front ∙ ap (to_be_bytes w32) (sym size)))
+
     go : Decided Is → Decided (SomeString b)
     go (inl h) = inl (there h)
     go (inr never) = inr (λ h. never (back h))

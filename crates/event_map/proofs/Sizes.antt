@@ -1,21 +1,21 @@
 -- How long the maps' bytes may be.
-use Rattle.std.proofs.Common.{◌≡◌, ℕ, zero, suc, ◌+◌, ◌*◌, ◌<◌, ◌≤◌, inl, inr, Bool, true, false, ◌==◌, Option, Some, None, if◌then◌else◌, List, [], ◌∷◌, ◌++◌, length, take, drop, map, codes, refl, sym, ◌∙◌, ap, subst, arith, length-append, length-drop}
+use Rattle.std.proofs.Common.{◌≡◌, ℕ, zero, suc, ◌+◌, ◌*◌, ◌<◌, ◌≤◌, inl, inr, Bool, true, false, ◌==◌, Option, Some, None, if◌then◌else◌, List, [], ◌∷◌, ◌++◌, length, take, drop, map, codes, refl, ap, arith, length-append, length-drop}
 use Rattle.std.specs.Prelude.{◌/◌, ◌%◌, unwrap_or, flat_map, nat_lt, slice_index}
 use Rattle.std.specs.Int.{is_in_range}
 use Rattle.std.specs.Char.{digit_char}
 use Rattle.std.specs.List.{join_with_byte}
 use Rattle.std.specs.Str.Lossy.{utf8_lossy, utf8_lossy_within, utf8_valid_len, utf8_invalid_len, utf8_error_len, error_len_of_some, error_len_after_one, error_len_after_two, after_first_chunk, replacement_bytes}
 use Rattle.std.proofs.lemmas.Str.{utf8_valid_len_le}
-use Rattle.std.proofs.lemmas.Bool.{eqb-true, eqb-false}
+use Rattle.std.proofs.lemmas.Bool.{eqb-false}
 use Rattle.std.proofs.lemmas.List.{length-take-le}
 use Rattle.json.specs.Print.{escape_byte, escape_letter}
-use Rattle.event_form.specs.Event.{ArePairs, pairs_text, IsEvent}
+use Rattle.event_form.specs.Event.{pairs_text, IsEvent}
 use Rattle.event_form.specs.declared.event.Event.{Event}
 use Rattle.event_form.specs.declared.event.Origin.{Origin}
 use Rattle.event_form.specs.declared.event.Origin.TheVariants.{Relp, HecRaw, LumberJson, LumberData, HecEvent}
 use Rattle.event_map.specs.Strings.{string_of, event_string}
 use Rattle.event_map.specs.Objects.{message_object, event_object, member_of, pairs_object}
-use Rattle.event_map.specs.Maps.{OfPairs, OfObject, TextBy, JsonBy, HecBy, IsText, IsJsonObject, IsHecObject}
+use Rattle.event_map.specs.Maps.{OfPairs, TextBy, JsonBy, HecBy, IsText, IsJsonObject, IsHecObject}
 use Rattle.event_map.proofs.OneList.{length_behind}
 
 -- ---- strings
@@ -72,6 +72,7 @@ within_size (suc k) bytes = go (utf8_valid_len bytes == length bytes) refl (with
   where
     v : ℕ
     v = utf8_valid_len bytes
+
     go : (b : Bool) → (v == length bytes) ≡ b → escaped (utf8_lossy_within k (after_first_chunk bytes)) ≤ 6 * length (after_first_chunk bytes) → escaped (if b then bytes else (take v bytes ++ (replacement_bytes ++ utf8_lossy_within k (after_first_chunk bytes)))) ≤ 6 * length bytes
     go true e h = escaped_size bytes
     go false e h =

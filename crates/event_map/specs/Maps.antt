@@ -5,7 +5,7 @@ use Rattle.event_form.specs.declared.event.Event.{Event}
 use Rattle.event_form.specs.declared.event.Origin.{Origin}
 use Rattle.event_form.specs.declared.event.Origin.TheVariants.{Relp, HecRaw, LumberJson, LumberData, HecEvent}
 use Rattle.json_span.specs.Members.{IsObjectText}
-use Rattle.event_map.specs.Strings.{string_of, event_string}
+use Rattle.event_map.specs.Strings.{event_string}
 use Rattle.event_map.specs.Objects.{message_object, event_object, pairs_object}
 
 -- the text is some pairs, and the bytes are what f makes of them

@@ -1,5 +1,5 @@
 -- JSON objects with no white space: RFC 8259, section 4.
-use Rattle.std.specs.Prelude.{◌≡◌, List, ℕ, ◌∷◌, [], ◌++◌, codes, map}
+use Rattle.std.specs.Prelude.{List, ℕ, ◌++◌, codes, map}
 use Rattle.std.specs.List.{join_with_byte}
 use Rattle.event_map.specs.Strings.{string_of}
 

@@ -20,7 +20,11 @@ fn split_string(bytes: &[u8]) -> (&[u8], &[u8])
 }
 
 /// Appends the pair that the bytes begin with as a member, `"key":"value"`; what is behind the pair.
-fn write_member<'a>(alloc: Global, bytes: &'a [u8], object: &mut Vec<u8>) -> Result<&'a [u8], AllocError>
+fn write_member<'a>(
+    alloc: Global,
+    bytes: &'a [u8],
+    object: &mut Vec<u8>,
+) -> Result<&'a [u8], AllocError>
     requires { (pair : List ℕ × List ℕ) × (rest : List ℕ) × BeginsPair pair bytes.now rest }
     ensures { IfOk result (λ rest. (pair : List ℕ × List ℕ) × BeginsPair pair bytes.now rest.now × (object.new.items ≡ object.old.items ++ member_of pair)) }
 {

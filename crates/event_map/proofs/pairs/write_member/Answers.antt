@@ -1,4 +1,4 @@
-use Rattle.std.proofs.Common.{rules, ◌≡◌, ℕ, List, [], ◌∷◌, ◌++◌, subst, sym, ◌∙◌, ap, append_assoc}
+use Rattle.std.proofs.Common.{rules, ◌≡◌, ℕ, List, [], ◌∷◌, ◌++◌, subst}
 use Rattle.event_form.specs.Pairs.{BeginsString}
 use Rattle.event_form.proofs.Strings.{one_string}
 use Rattle.event_map.specs.Strings.{string_of}
