@@ -1,0 +1,4 @@
+pub mod Spelling
+pub mod Broken
+pub mod Machine
+pub mod Places

@@ -1,0 +1,11 @@
+//! Lumberjack frames.
+#![tactic(auto)]
+
+mod fault;
+mod field;
+mod frame;
+mod side;
+
+pub use fault::{LumberFault, LumberWhy};
+pub use frame::LumberFrame;
+pub use side::Side;
