@@ -4,6 +4,7 @@
 mod fault;
 mod field;
 mod frame;
+mod joined;
 mod side;
 
 pub use fault::{LumberFault, LumberWhy};
