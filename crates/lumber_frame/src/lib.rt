@@ -6,6 +6,7 @@ mod field;
 mod frame;
 mod joined;
 mod side;
+mod turn;
 
 pub use fault::{LumberFault, LumberWhy};
 pub use frame::LumberFrame;
