@@ -1,2 +1,5 @@
 pub mod TextLaws
 pub mod JoinedLaws
+pub mod TurnLaws
+pub mod BackLaws
+pub mod FrameLaws
