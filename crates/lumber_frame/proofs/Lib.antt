@@ -3,3 +3,4 @@ pub mod JoinedLaws
 pub mod TurnLaws
 pub mod BackLaws
 pub mod FrameLaws
+pub mod BeforeLaws
