@@ -4,3 +4,4 @@ pub mod TurnLaws
 pub mod BackLaws
 pub mod FrameLaws
 pub mod BeforeLaws
+pub mod RunLaws
