@@ -2,7 +2,7 @@
 use Rattle.std.proofs.Common.{◌≡◌, ℕ, zero, suc, ◌+◌, ◌-◌, ◌<◌, ◌≤◌, true, false, eqb, leb, ltb, List, [], ◌∷◌, ◌++◌, refl, sym, ap, ◌∙◌, subst, get_or, length, append_assoc, length-append, inl, inr, w32, arith}
 use Rattle.std.specs.Int.{from_be_bytes}
 use Rattle.std.proofs.lemmas.Bool.{eqb-true, eqb-false, leb-true, leb-false, ltb-true, ltb-false}
-use Rattle.std.proofs.lemmas.List.{append-nil}
+use Rattle.std.proofs.lemmas.List.{append-nil, append_cancel_right}
 use Rattle.lumber_frame.specs.declared.fault.LumberWhy.{LumberWhy}
 use Rattle.lumber_frame.specs.declared.field.Field.{Field}
 use Rattle.lumber_frame.specs.declared.field.Field.TheVariants.{VersionByte, TypeByte, WindowSize, AckSequence, PairsSequence, JsonSequence, PairCount, PayloadLength, Payload, KeyLength, Key, ValueLength, Value}
@@ -253,8 +253,8 @@ pub fails_broken : (side : Side) (t : State) (h : List ℕ) (c : ℕ) (w : Lumbe
 fails_broken side t h c w e q = subst (Onward side (h ++ c ∷ [])) q (onward side t c h (reached side t h e))
 
 -- a whole field that fails breaks its rule
-pub turn_broken : (side : Side) (field : Field) (text h b : List ℕ) (w : LumberWhy) → run (step side) start h ≡ Going (At field text []) → length b ≡ size_of field → turn side field text b (value_of field b) ≡ Fails w → Broken side h b w
-turn_broken side field text h b w e l q =
-    let r = reached side (At field text []) h e in
-    let u : h ≡ r.0 = r.2 ∙ append-nil r.0 in
-    subst (λ z. Broken side z b w) (sym u) (subst (Holds side r.0 b) q (turn_holds side field text r.0 b l r.1))
+pub turn_broken : (side : Side) (field : Field) (text h g b : List ℕ) (w : LumberWhy) → run (step side) start (h ++ g) ≡ Going (At field text g) → length (g ++ b) ≡ size_of field → turn side field text (g ++ b) (value_of field (g ++ b)) ≡ Fails w → Broken side h (g ++ b) w
+turn_broken side field text h g b w e l q =
+    let r = reached side (At field text g) (h ++ g) e in
+    let u : h ≡ r.0 = append_cancel_right h r.0 g r.2 in
+    subst (λ z. Broken side z (g ++ b) w) (sym u) (subst (Holds side r.0 (g ++ b)) q (turn_holds side field text r.0 (g ++ b) l r.1))

@@ -5,3 +5,5 @@ pub mod BackLaws
 pub mod FrameLaws
 pub mod BeforeLaws
 pub mod RunLaws
+pub mod BytesLaws
+pub mod ScanLaws

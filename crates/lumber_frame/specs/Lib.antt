@@ -2,3 +2,4 @@ pub mod Spelling
 pub mod Broken
 pub mod Machine
 pub mod Places
+pub mod Scanning

@@ -2,6 +2,7 @@
 use Rattle.std.specs.Prelude.{◌≡◌, ℕ, ◌+◌, ◌<◌, ◌≤◌, List, [], ◌++◌, drop, take}
 use Rattle.lumber_frame.specs.declared.field.Field.{Field}
 use Rattle.lumber_frame.specs.declared.field.Field.TheVariants.{VersionByte, TypeByte, WindowSize, AckSequence, PairsSequence, JsonSequence, PairCount, PayloadLength, Payload, KeyLength, Key, ValueLength, Value}
+use Rattle.lumber_frame.specs.declared.field.Phase.{Phase}
 use Rattle.lumber_frame.specs.declared.field.Whole.{Whole}
 use Rattle.lumber_frame.specs.declared.field.Whole.TheVariants as whole
 use Rattle.lumber_frame.specs.declared.field.Turn.{Turn}
@@ -33,6 +34,16 @@ Stands (KeyLength seq left) at = (10 ≤ at) × (at ≤ 131082)
 Stands (Key seq left len) at = (10 ≤ at) × (0 < len) × (at + len ≤ 131082)
 Stands (ValueLength seq left) at = (10 ≤ at) × (at ≤ 131082)
 Stands (Value seq left len) at = (10 ≤ at) × (0 < len) × (at + len ≤ 131082)
+
+-- the machine's state, by the place of the field and the bytes of the frame so far
+abbrev pub state_of : Phase → List ℕ → State
+state_of now h = At now.field (drop 10 (take now.at h)) (drop now.at h)
+
+-- of so many bytes of the frame, some are the field's, and not all of it
+pub record Fits (now : Phase) (n : ℕ) : Type 0 where
+  pub stands : Stands now.field now.at
+  pub before : now.at ≤ n
+  pub within : n < now.at + size_of now.field
 
 -- what a turn makes of the machine, of the bytes of the frame so far
 abbrev pub step_of : Turn → List ℕ → Turning

@@ -79,6 +79,10 @@ IsFrame (Pairs seq text) = (seq < 2 ^ 32) × (length text ≤ 131072) × ArePair
 IsFrame (Json seq text) = (seq < 2 ^ 32) × (length text ≤ 131072)
 IsFrame (Ack seq) = seq < 2 ^ 32
 
+-- a frame that the side reads, within the limits
+abbrev pub IsFrameFor : Side → LumberFrame → Type 0
+IsFrameFor side f = MayCome side f × IsFrame f
+
 -- what is written for a W frame
 abbrev pub window_text : ℕ → List ℕ
 window_text size = 50 ∷ 87 ∷ to_be_bytes w32 size

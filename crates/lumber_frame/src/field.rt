@@ -39,6 +39,19 @@ pub enum Field {
     Value { seq: u32, left: u32, len: usize },
 }
 
+/// The field that is read of an unfinished frame, and the place in the frame where it begins.
+#[derive(Clone, Copy)]
+pub struct Phase {
+    pub field: Field,
+    pub at: usize,
+}
+
+/// Nothing has been read.
+pub const START: Phase = Phase {
+    field: Field::VersionByte,
+    at: 0,
+};
+
 /// A whole frame without its text, which stands behind the frame's first ten bytes.
 #[derive(Clone, Copy)]
 pub enum Whole {

@@ -5,6 +5,7 @@ mod fault;
 mod field;
 mod frame;
 mod joined;
+mod scan;
 mod side;
 mod turn;
 
