@@ -7,3 +7,4 @@ pub mod BeforeLaws
 pub mod RunLaws
 pub mod BytesLaws
 pub mod ScanLaws
+pub mod FeedLaws

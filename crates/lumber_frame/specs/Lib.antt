@@ -3,3 +3,5 @@ pub mod Broken
 pub mod Machine
 pub mod Places
 pub mod Scanning
+pub mod Keeping
+pub mod Reading
