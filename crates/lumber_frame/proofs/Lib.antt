@@ -8,3 +8,6 @@ pub mod RunLaws
 pub mod BytesLaws
 pub mod ScanLaws
 pub mod FeedLaws
+pub mod ReadingLaws
+pub mod WriteLaws
+pub mod CountLaws

@@ -106,6 +106,10 @@ IsWritten (Pairs seq text) b = (pairs : List (List ℕ × List ℕ)) × (text �
 IsWritten (Json seq text) b = b ≡ json_text seq text
 IsWritten (Ack seq) b = b ≡ ack_text seq
 
+-- what is written for the frame is added
+abbrev pub AddsFrame : LumberFrame → List ℕ → List ℕ → Type 0
+AddsFrame f old new = (text : List ℕ) × IsWritten f text × (new ≡ old ++ text)
+
 -- No spelling is a front of another one, whatever follows.
 abbrev pub SpellsOnce : Type 0
 SpellsOnce = (f g : LumberFrame) (x y a b : List ℕ) → IsSpelling f x → IsSpelling g y → x ++ a ≡ y ++ b → (f ≡ g) × (x ≡ y) × (a ≡ b)
