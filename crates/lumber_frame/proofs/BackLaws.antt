@@ -115,9 +115,9 @@ turn_back side (Key seq left len) text b f y l room = λ k.
 turn_back side (ValueLength seq left) text b f y l room =
     by_cases (Back side f y (Behind side (ValueLength seq left) text b f y)) (leb (length text + 4 + from_be_bytes w32 b) 131072) _ _
     (λ e k.
-        let m = leb-true (length text + 4 + from_be_bytes w32 b) 131072 e in
-        let p = back_value side seq left (text ++ b) (from_be_bytes w32 b) f y (omega (arith, m, l, length-append text b)) k in
-        (p.0, p.1, p.2, p.3, subst (λ t. PairsEnd seq left t f p.1) (append_assoc text b p.0) p.4))
+    let m = leb-true (length text + 4 + from_be_bytes w32 b) 131072 e in
+    let p = back_value side seq left (text ++ b) (from_be_bytes w32 b) f y (omega (arith, m, l, length-append text b)) k in
+    (p.0, p.1, p.2, p.3, subst (λ t. PairsEnd seq left t f p.1) (append_assoc text b p.0) p.4))
     (λ _ k. absurd k)
 turn_back side (Value seq left len) text b f y l room = back_pairs side seq left (text ++ b) f y (omega (arith, l, room, length-append text b))
 
@@ -162,8 +162,8 @@ turn_leads side (KeyLength seq left) text b l room =
     let t : length (text ++ b) ≡ length text + length b = length-append text b in
     by_cases Leads (leb (length text + 8 + n) 131072) _ _
     (λ m.
-        let r = leb-true (length text + 8 + n) 131072 m in
-        by_cases Leads (eqb n 0) _ _ (λ _. (omega arith, omega (arith, r, t, l))) (λ e. let some : n ≡ 0 → ⊥ = eqb-false n 0 e in (omega arith, omega (arith, r, t, l))))
+    let r = leb-true (length text + 8 + n) 131072 m in
+    by_cases Leads (eqb n 0) _ _ (λ _. (omega arith, omega (arith, r, t, l))) (λ e. let some : n ≡ 0 → ⊥ = eqb-false n 0 e in (omega arith, omega (arith, r, t, l))))
     (λ _. tt)
 turn_leads side (Key seq left len) text b l room = (omega arith, omega (arith, length-append text b))
 turn_leads side (ValueLength seq left) text b l room =
@@ -171,8 +171,8 @@ turn_leads side (ValueLength seq left) text b l room =
     let t : length (text ++ b) ≡ length text + length b = length-append text b in
     by_cases Leads (leb (length text + 4 + n) 131072) _ _
     (λ m.
-        let r = leb-true (length text + 4 + n) 131072 m in
-        by_cases Leads (eqb n 0) _ _ (λ _. leads_pairs seq left (text ++ b) (omega (arith, r, t, l))) (λ e. let some : n ≡ 0 → ⊥ = eqb-false n 0 e in (omega arith, omega (arith, r, t, l))))
+    let r = leb-true (length text + 4 + n) 131072 m in
+    by_cases Leads (eqb n 0) _ _ (λ _. leads_pairs seq left (text ++ b) (omega (arith, r, t, l))) (λ e. let some : n ≡ 0 → ⊥ = eqb-false n 0 e in (omega arith, omega (arith, r, t, l))))
     (λ _. tt)
 turn_leads side (Value seq left len) text b l room = leads_pairs seq left (text ++ b) (omega (arith, l, room, length-append text b))
 

@@ -185,32 +185,38 @@ turn_holds side (KeyLength seq left) text h b l (r, p) =
     let n = from_be_bytes w32 b in
     by_cases (Holds side h b) (leb (length text + 8 + n) 131072) _ _
     (λ q.
-        let m = leb-true (length text + 8 + n) 131072 q in
-        by_cases (Holds side h b) (eqb n 0) _ _
-        (λ z.
-            let k = string_is b [] n (number_of b l) (sym (eqb-true n 0 z)) in
-            (refl, (r, record { pairs = text; front = h; key = b; read = p; key_is = subst IsString (append-nil b) k; short = omega (arith, m, l); text_is = refl; whole = refl })))
-        (λ _. (refl, (r, (text, h, b, p, number_of b l, m, refl, refl)))))
+    let m = leb-true (length text + 8 + n) 131072 q in
+    by_cases (Holds side h b) (eqb n 0) _ _
+    (λ z.
+    let k = string_is b [] n (number_of b l) (sym (eqb-true n 0 z)) in
+    (refl, (r, record { pairs = text; front = h; key = b; read = p; key_is = subst IsString (append-nil b) k; short = omega (arith, m, l); text_is = refl; whole = refl })))
+    (λ _. (refl, (r, (text, h, b, p, number_of b l, m, refl, refl)))))
     (λ q. (r, (n, number_of b l, inr (inl (text, before_pair left text h p, leb-false (length text + 8 + n) 131072 q)))))
-turn_holds side (Key seq left len) text h b l (r, (pairs, front, number, p, i, m, t, w)) = (refl, (r, record {
-  pairs = pairs;
-  front = front;
-  key = number ++ b;
-  read = p;
-  key_is = string_is number b len i l;
-  short = omega (arith, m, l, i.four, length-append number b);
-  text_is = ap (λ z. z ++ b) t ∙ append_assoc pairs number b;
-  whole = ap (λ z. z ++ b) w ∙ append_assoc front number b;
-}))
+turn_holds side (Key seq left len) text h b l (r, (pairs, front, number, p, i, m, t, w)) = (
+  refl,
+  (
+    r,
+    record {
+      pairs = pairs;
+      front = front;
+      key = number ++ b;
+      read = p;
+      key_is = string_is number b len i l;
+      short = omega (arith, m, l, i.four, length-append number b);
+      text_is = ap (λ z. z ++ b) t ∙ append_assoc pairs number b;
+      whole = ap (λ z. z ++ b) w ∙ append_assoc front number b;
+    },
+  ),
+)
 turn_holds side (ValueLength seq left) text h b l (r, k) =
     let n = from_be_bytes w32 b in
     let u : length text ≡ length k.pairs + length k.key = ap length k.text_is ∙ length-append k.pairs k.key in
     by_cases (Holds side h b) (leb (length text + 4 + n) 131072) _ _
     (λ q.
-        let m = leb-true (length text + 4 + n) 131072 q in
-        by_cases (Holds side h b) (eqb n 0) _ _
-        (λ z. holds_value side seq left text h b (text ++ b) h b r k (subst IsString (append-nil b) (string_is b [] n (number_of b l) (sym (eqb-true n 0 z)))) (omega (arith, m, l)) refl refl)
-        (λ _. (refl, (r, (text, h, b, k, number_of b l, m, refl, refl)))))
+    let m = leb-true (length text + 4 + n) 131072 q in
+    by_cases (Holds side h b) (eqb n 0) _ _
+    (λ z. holds_value side seq left text h b (text ++ b) h b r k (subst IsString (append-nil b) (string_is b [] n (number_of b l) (sym (eqb-true n 0 z)))) (omega (arith, m, l)) refl refl)
+    (λ _. (refl, (r, (text, h, b, k, number_of b l, m, refl, refl)))))
     (λ q. (r, (n, number_of b l, inr (inr (k.pairs, k.key, record { front = k.front; before = before_pair left k.pairs k.front k.read; key_is = k.key_is; short = k.short; whole = k.whole }, omega (arith, u, leb-false (length text + 4 + n) 131072 q))))))
 turn_holds side (Value seq left len) text h b l (r, (front, before, number, k, i, m, t, w)) = holds_value side seq left front before (number ++ b) (text ++ b) h b r k (string_is number b len i l) (omega (arith, m, l, i.four, length-append number b)) (ap (λ z. z ++ b) t ∙ append_assoc front number b) (ap (λ z. z ++ b) w ∙ append_assoc before number b)
 
@@ -234,10 +240,10 @@ onward side (At field text g) c x (h, before, w, good) =
     by_cases (Onward side (x ++ c ∷ [])) (ltb (length g + 1) (size_of field)) _ _
     (λ q. (h, before, u, (omega (arith, ltb-true (length g + 1) (size_of field) q, push_length g c), good.1)))
     (λ q.
-        let b = g ++ c ∷ [] in
-        let s : size_of field ≤ length g + 1 = ltb-false (length g + 1) (size_of field) q in
-        let l : length b ≡ size_of field = omega (arith, s, good.0, push_length g c) in
-        go (turn side field text b (value_of field b)) (turn_holds side field text h b l before) (λ t e. turn_good side field text b t l good.1 e) u)
+    let b = g ++ c ∷ [] in
+    let s : size_of field ≤ length g + 1 = ltb-false (length g + 1) (size_of field) q in
+    let l : length b ≡ size_of field = omega (arith, s, good.0, push_length g c) in
+    go (turn side field text b (value_of field b)) (turn_holds side field text h b l before) (λ t e. turn_good side field text b t l good.1 e) u)
   where
     go : (z : Turning) → Holds side h (g ++ c ∷ []) z → ((t : State) → z ≡ Goes t → IsGood t) → x ++ c ∷ [] ≡ h ++ (g ++ c ∷ []) → Onward side (x ++ c ∷ []) z
     go (Goes (At f t k)) i good u = (h ++ (g ++ c ∷ []), i.1, u ∙ sym (ap (λ z. (h ++ (g ++ c ∷ [])) ++ z) i.0 ∙ append-nil (h ++ (g ++ c ∷ []))), good (At f t k) refl)

@@ -49,12 +49,12 @@ pairs_bytes (suc n) b a p =
       pair ∷ r.0,
       ap suc r.1,
       a.5
-      ∙ ap (λ z. z ++ (a.1 ++ a.2)) k
-      ∙ append_assoc (to_be_bytes w32 (length key.string)) key.string (a.1 ++ a.2)
-      ∙ ap (λ z. to_be_bytes w32 (length key.string) ++ (key.string ++ (z ++ a.2))) v
-      ∙ ap (λ z. to_be_bytes w32 (length key.string) ++ (key.string ++ z)) (append_assoc (to_be_bytes w32 (length value.string)) value.string a.2)
-      ∙ sym (pair_parts pair a.2)
-      ∙ ap (λ z. pair_text pair ++ z) r.2,
+          ∙ ap (λ z. z ++ (a.1 ++ a.2)) k
+          ∙ append_assoc (to_be_bytes w32 (length key.string)) key.string (a.1 ++ a.2)
+          ∙ ap (λ z. to_be_bytes w32 (length key.string) ++ (key.string ++ (z ++ a.2))) v
+          ∙ ap (λ z. to_be_bytes w32 (length key.string) ++ (key.string ++ z)) (append_assoc (to_be_bytes w32 (length value.string)) value.string a.2)
+          ∙ sym (pair_parts pair a.2)
+          ∙ ap (λ z. pair_text pair ++ z) r.2,
     )
 
 -- what is spelled in bytes keeps the limits

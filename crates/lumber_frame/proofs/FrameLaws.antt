@@ -54,20 +54,20 @@ back side (At field text g) f c b good =
       subst (λ v. Behind side field text v f k.1) (append_assoc g (c ∷ []) k.0) k.5,
     ))
     (λ e k.
-        let s : size_of field ≤ length g + 1 = ltb-false (length g + 1) (size_of field) e in
-        (c ∷ [], b, omega arith, omega (arith, s, good.0), refl, turn_back side field text (g ++ c ∷ []) f b (omega (arith, s, good.0, push_length g c)) good.1 k))
+    let s : size_of field ≤ length g + 1 = ltb-false (length g + 1) (size_of field) e in
+    (c ∷ [], b, omega arith, omega (arith, s, good.0), refl, turn_back side field text (g ++ c ∷ []) f b (omega (arith, s, good.0, push_length g c)) good.1 k))
 
 good_step : (side : Side) (s t : State) (c : ℕ) → IsGood s → step side s c ≡ Goes t → IsGood t
 unfolding step
 good_step side (At field text g) t c good =
     by_cases (λ (z : Turning). z ≡ Goes t → IsGood t) (ltb (length g + 1) (size_of field)) _ _
     (λ e k.
-        let m = ltb-true (length g + 1) (size_of field) e in
-        let q : At field text (g ++ c ∷ []) ≡ t = cc in
-        subst IsGood q (omega (arith, m, push_length g c), good.1))
+    let m = ltb-true (length g + 1) (size_of field) e in
+    let q : At field text (g ++ c ∷ []) ≡ t = cc in
+    subst IsGood q (omega (arith, m, push_length g c), good.1))
     (λ e k.
-        let s : size_of field ≤ length g + 1 = ltb-false (length g + 1) (size_of field) e in
-        turn_good side field text (g ++ c ∷ []) t (omega (arith, s, good.0, push_length g c)) good.1 k)
+    let s : size_of field ≤ length g + 1 = ltb-false (length g + 1) (size_of field) e in
+    turn_good side field text (g ++ c ∷ []) t (omega (arith, s, good.0, push_length g c)) good.1 k)
 
 pub lumber_laws : (side : Side) → Laws (step side) (Completes side) IsGood
 lumber_laws side = record { never = never side; forth = forth side; back = back side; good = good_step side }
@@ -108,26 +108,40 @@ from_type Receiver f c b rest e (inl (t, (n, y, four, w, (small, z, is)))) =
     let q : rest ≡ n = w ∙ ap (λ v. n ++ v) z ∙ append-nil n in
     spells_again Receiver f (Window (from_be_bytes w32 n)) b is (tt, (rest, e ∙ ap (λ v. 50 ∷ v ∷ rest) t, subst (λ v. IsNumber (from_be_bytes w32 n) v) (sym q) (number_is n four), small))
 from_type Receiver f c b rest e (inr (inl (t, (s, y, four, w, (n, text, four', w', (few, (pairs, short, is))))))) =
-    spells_again Receiver f (Pairs (from_be_bytes w32 s) text) b is (tt, (rest, e ∙ ap (λ v. 50 ∷ v ∷ rest) t, record {
-      sequence = s;
-      count = n;
-      pairs = from_be_bytes w32 n;
-      whole = w ∙ ap (λ v. s ++ v) w';
-      sequence_is = number_is s four;
-      count_is = number_is n four';
-      few = few;
-      pairs_are = pairs;
-      short = short;
-    }))
+    spells_again Receiver f (Pairs (from_be_bytes w32 s) text) b is (
+      tt,
+      (
+        rest,
+        e ∙ ap (λ v. 50 ∷ v ∷ rest) t,
+        record {
+          sequence = s;
+          count = n;
+          pairs = from_be_bytes w32 n;
+          whole = w ∙ ap (λ v. s ++ v) w';
+          sequence_is = number_is s four;
+          count_is = number_is n four';
+          few = few;
+          pairs_are = pairs;
+          short = short;
+        },
+      ),
+    )
 from_type Receiver f c b rest e (inr (inr (t, (s, y, four, w, (n, text, four', w', (short, l, is)))))) =
-    spells_again Receiver f (Json (from_be_bytes w32 s) text) b is (tt, (rest, e ∙ ap (λ v. 50 ∷ v ∷ rest) t, record {
-      sequence = s;
-      number = n;
-      whole = w ∙ ap (λ v. s ++ v) w';
-      sequence_is = number_is s four;
-      number_is = record { four = four'; value = sym l };
-      short = omega (arith, short, l);
-    }))
+    spells_again Receiver f (Json (from_be_bytes w32 s) text) b is (
+      tt,
+      (
+        rest,
+        e ∙ ap (λ v. 50 ∷ v ∷ rest) t,
+        record {
+          sequence = s;
+          number = n;
+          whole = w ∙ ap (λ v. s ++ v) w';
+          sequence_is = number_is s four;
+          number_is = record { four = four'; value = sym l };
+          short = omega (arith, short, l);
+        },
+      ),
+    )
 from_type Sender f c b rest e (t, (n, y, four, w, (z, is))) =
     let q : rest ≡ n = w ∙ ap (λ v. n ++ v) z ∙ append-nil n in
     spells_again Sender f (Ack (from_be_bytes w32 n)) b is (tt, (rest, e ∙ ap (λ v. 50 ∷ v ∷ rest) t, subst (λ v. IsNumber (from_be_bytes w32 n) v) (sym q) (number_is n four)))

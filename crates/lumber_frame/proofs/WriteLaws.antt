@@ -78,26 +78,33 @@ pub written_spells : WrittenSpells
 written_spells (Window size) b i w = (to_be_bytes w32 size, w, number_written size (omega arith), i)
 written_spells (Pairs seq text) b i (pairs, t, w) =
     let few : length pairs ≤ 1024 = omega (arith, i.2.few, pairs_once pairs i.2.pairs text (omega (arith, i.1)) t i.2.whole) in
-    let are : ArePairsOf (length pairs) text = subst (ArePairsOf (length pairs)) (sym t) (pairs_written pairs (omega (arith, i.1, ap length t))) in
-    (to_be_bytes w32 seq ++ (to_be_bytes w32 (length pairs) ++ text), w, record {
-  sequence = to_be_bytes w32 seq;
-  count = to_be_bytes w32 (length pairs);
-  pairs = length pairs;
-  whole = refl;
-  sequence_is = number_written seq i.0;
-  count_is = number_written (length pairs) (omega (arith, few));
-  few = few;
-  pairs_are = are;
-  short = i.1;
-})
-written_spells (Json seq text) b i w = (to_be_bytes w32 seq ++ (to_be_bytes w32 (length text) ++ text), w, record {
-  sequence = to_be_bytes w32 seq;
-  number = to_be_bytes w32 (length text);
-  whole = refl;
-  sequence_is = number_written seq i.0;
-  number_is = number_written (length text) (omega (arith, i.1));
-  short = i.1;
-})
+    let are : ArePairsOf (length pairs) text = subst (ArePairsOf (length pairs)) (sym t) (pairs_written pairs (omega (arith, i.1, ap length t))) in (
+      to_be_bytes w32 seq ++ (to_be_bytes w32 (length pairs) ++ text),
+      w,
+      record {
+        sequence = to_be_bytes w32 seq;
+        count = to_be_bytes w32 (length pairs);
+        pairs = length pairs;
+        whole = refl;
+        sequence_is = number_written seq i.0;
+        count_is = number_written (length pairs) (omega (arith, few));
+        few = few;
+        pairs_are = are;
+        short = i.1;
+      },
+    )
+written_spells (Json seq text) b i w = (
+  to_be_bytes w32 seq ++ (to_be_bytes w32 (length text) ++ text),
+  w,
+  record {
+    sequence = to_be_bytes w32 seq;
+    number = to_be_bytes w32 (length text);
+    whole = refl;
+    sequence_is = number_written seq i.0;
+    number_is = number_written (length text) (omega (arith, i.1));
+    short = i.1;
+  },
+)
 written_spells (Ack seq) b i w = (to_be_bytes w32 seq, w, number_written seq i)
 
 pub written_is_read : WrittenIsRead

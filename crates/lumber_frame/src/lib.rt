@@ -10,6 +10,8 @@ mod laws;
 mod reader;
 mod scan;
 mod side;
+#[cfg(test)]
+mod tests;
 mod turn;
 mod write;
 

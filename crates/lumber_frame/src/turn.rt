@@ -4,8 +4,8 @@ ghost use Rattle.lumber_frame.specs.Machine.{size_of, turn, value_of};
 ghost use Rattle.lumber_frame.specs.Places.{Stands, StandsBehind, step_of};
 
 use crate::field::{
-    Field, Turn, Whole, after_count, after_key_length, after_payload_length, after_size, after_type,
-    after_value_length, after_version, next_pair,
+    Field, Turn, Whole, after_count, after_key_length, after_payload_length, after_size,
+    after_type, after_value_length, after_version, next_pair,
 };
 use crate::joined::{byte_at, number_at};
 use crate::side::Side;

@@ -25,13 +25,7 @@ pub fn ack_frame(seq: u32) -> [u8; 6]
 }
 
 /// Appends the version, a type, two numbers in network order, and a text.
-fn append(
-    kind: u8,
-    seq: u32,
-    number: u32,
-    text: &[u8],
-    out: &mut Vec<u8>,
-) -> Result<(), AllocError>
+fn append(kind: u8, seq: u32, number: u32, text: &[u8], out: &mut Vec<u8>) -> Result<(), AllocError>
     ensures ok { OnOk result (out.new.items ≡ out.old.items ++ 50 ∷ kind ∷ (to_be_bytes w32 seq ++ (to_be_bytes w32 number ++ text.now))) }
     ensures err { OnErr result (out.new.items ≡ out.old.items) }
 {
