@@ -1,16 +1,16 @@
 -- What completes the state that a whole field leads to stands behind the field, and the state is a good one.
-use Rattle.std.proofs.Common.{◌≡◌, ℕ, zero, suc, ◌+◌, ◌-◌, ◌<◌, ◌≤◌, Bool, true, false, cond, eqb, leb, List, [], ◌∷◌, ◌++◌, refl, sym, ap, ◌∙◌, subst, get_or, length, append_assoc, length-append, inl, inr, w32, arith}
+use Rattle.std.proofs.Common.{◌≡◌, ℕ, zero, suc, ◌+◌, ◌-◌, ◌<◌, ◌≤◌, eqb, leb, List, [], ◌∷◌, ◌++◌, refl, sym, ap, ◌∙◌, subst, get_or, length, append_assoc, length-append, inl, inr, w32, arith}
 use Rattle.std.specs.Int.{from_be_bytes}
 use Rattle.std.proofs.lemmas.Bool.{eqb-true, eqb-false, leb-true}
-use Rattle.std.proofs.lemmas.List.{append-nil, nil_from_length}
+use Rattle.std.proofs.lemmas.List.{append-nil}
 use Rattle.lumber_frame.specs.declared.field.Field.{Field}
 use Rattle.lumber_frame.specs.declared.field.Field.TheVariants.{VersionByte, TypeByte, WindowSize, AckSequence, PairsSequence, JsonSequence, PairCount, PayloadLength, Payload, KeyLength, Key, ValueLength, Value}
 use Rattle.lumber_frame.specs.declared.frame.LumberFrame.{LumberFrame}
-use Rattle.lumber_frame.specs.declared.frame.LumberFrame.TheVariants.{Window, Pairs, Json, Ack}
+use Rattle.lumber_frame.specs.declared.frame.LumberFrame.TheVariants.{Pairs, Json}
 use Rattle.lumber_frame.specs.declared.side.Side.{Side}
 use Rattle.lumber_frame.specs.declared.side.Side.TheVariants.{Receiver, Sender}
 use Rattle.stream_grammar.specs.Automaton.{After, Goes, Ends, Fails}
-use Rattle.lumber_frame.specs.Spelling.{IsString, ArePairsOf}
+use Rattle.lumber_frame.specs.Spelling.{IsString}
 use Rattle.lumber_frame.specs.Machine.{State, At, size_of, value_of, Turning, type_turn, pairs_turn, payload_turn, key_turn, value_turn, turn, PairsEnd, AfterType, Behind, Completes}
 use Rattle.lumber_frame.proofs.TurnLaws.{by_cases, one_byte, completes_four}
 

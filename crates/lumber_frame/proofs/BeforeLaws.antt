@@ -1,5 +1,5 @@
 -- What stands before each field of a frame, and that a field at which the machine fails breaks its rule.
-use Rattle.std.proofs.Common.{◌≡◌, ℕ, zero, suc, ◌+◌, ◌-◌, ◌<◌, ◌≤◌, true, false, eqb, leb, ltb, List, [], ◌∷◌, ◌++◌, refl, sym, ap, ◌∙◌, subst, get_or, length, append_assoc, length-append, inl, inr, w32, arith}
+use Rattle.std.proofs.Common.{◌≡◌, ℕ, zero, suc, ◌+◌, ◌-◌, ◌≤◌, true, eqb, leb, ltb, List, [], ◌∷◌, ◌++◌, refl, sym, ap, ◌∙◌, subst, get_or, length, append_assoc, length-append, inl, inr, w32, arith}
 use Rattle.std.specs.Int.{from_be_bytes}
 use Rattle.std.proofs.lemmas.Bool.{eqb-true, eqb-false, leb-true, leb-false, ltb-true, ltb-false}
 use Rattle.std.proofs.lemmas.List.{append-nil, append_cancel_right}
@@ -11,10 +11,10 @@ use Rattle.lumber_frame.specs.declared.side.Side.TheVariants.{Receiver, Sender}
 use Rattle.stream_grammar.specs.Automaton.{Goes, Ends, Fails, Going, run}
 use Rattle.stream_grammar.proofs.Machine.{along}
 use Rattle.lumber_frame.specs.Spelling.{IsNumber, IsString, ArePairsOf}
-use Rattle.lumber_frame.specs.Broken.{IsHead, BeforePair, BeforeValue, Broken}
+use Rattle.lumber_frame.specs.Broken.{IsHead, BeforePair, Broken}
 use Rattle.lumber_frame.specs.Machine.{State, At, start, size_of, value_of, Turning, pairs_turn, turn, step}
 use Rattle.lumber_frame.proofs.TurnLaws.{by_cases, one_byte}
-use Rattle.lumber_frame.proofs.BackLaws.{Room, IsGood, turn_good}
+use Rattle.lumber_frame.proofs.BackLaws.{IsGood, turn_good}
 
 -- a head, a pair count, and these bytes of pairs, of which so many are left
 pub record PairsRead (left : ℕ) (pairs h : List ℕ) : Type 0 where

@@ -1,9 +1,9 @@
 -- What is spelled in bytes keeps the limits.
-use Rattle.std.proofs.Common.{◌≡◌, ℕ, zero, suc, ◌+◌, ◌-◌, ◌^◌, ◌<◌, ◌≤◌, List, [], ◌∷◌, ◌++◌, refl, sym, ap, ◌∙◌, subst, get_or, take, drop, length, append_assoc, length-append, inl, inr, w32, arith}
-use Rattle.std.specs.Int.{from_be_bytes, to_be_bytes}
+use Rattle.std.proofs.Common.{◌≡◌, ℕ, zero, suc, ◌-◌, ◌^◌, ◌<◌, List, [], ◌∷◌, ◌++◌, refl, sym, ap, ◌∙◌, subst, length, append_assoc, inl, inr, w32, arith}
+use Rattle.std.specs.Int.{to_be_bytes}
 use Rattle.std.proofs.lemmas.Bool.{cases_lt}
 use Rattle.std.proofs.lemmas.List.{take_at, drop_at, get_or-append_right, get_or_append_left}
-use Rattle.event_form.specs.Event.{pair_text, pairs_text, ArePairs}
+use Rattle.event_form.specs.Event.{pair_text, pairs_text}
 use Rattle.event_form.proofs.Numbers.{IsBytes, IsBytes-drop, IsBytes-take, four_again, four_below}
 use Rattle.event_form.proofs.Strings.{pair_parts}
 use Rattle.lumber_frame.specs.declared.frame.LumberFrame.{LumberFrame}

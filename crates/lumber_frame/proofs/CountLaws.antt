@@ -1,7 +1,7 @@
 -- How many pairs a text has.
-use Rattle.std.proofs.Common.{◌≡◌, ℕ, zero, suc, ◌+◌, ◌^◌, ◌<◌, ◌≤◌, ◌∙◌, List, [], ◌∷◌, ◌++◌, length, refl, sym, ap, arith, length-append}
+use Rattle.std.proofs.Common.{◌≡◌, ℕ, suc, ◌+◌, ◌^◌, ◌<◌, ◌≤◌, ◌∙◌, List, [], ◌∷◌, length, refl, ap, arith, length-append}
 use Rattle.event_form.specs.Event.{pair_text, pairs_text, ArePairs}
-use Rattle.event_form.specs.Pairs.{BeginsString, BeginsPair}
+use Rattle.event_form.specs.Pairs.{BeginsPair}
 use Rattle.event_form.proofs.Strings.{pair_from_text, one_pair, length-pair_text}
 
 length-pairs_text : (pair : List ℕ × List ℕ) (pairs : List (List ℕ × List ℕ)) → length (pairs_text (pair ∷ pairs)) ≡ 8 + length pair.0 + length pair.1 + length (pairs_text pairs)

@@ -1,10 +1,8 @@
 -- The laws of the machine that reads one frame.
-use Rattle.std.proofs.Common.{◌≡◌, ℕ, ◌+◌, ◌<◌, ◌≤◌, true, false, cond, ltb, List, [], ◌∷◌, ◌++◌, refl, sym, ap, ◌∙◌, ◌↔◌, subst, length, append_assoc, length-append, inl, inr, w32, arith}
+use Rattle.std.proofs.Common.{◌≡◌, ℕ, ◌+◌, ◌<◌, ◌≤◌, true, false, ltb, List, [], ◌∷◌, ◌++◌, refl, sym, ap, ◌∙◌, subst, length, append_assoc, length-append, inl, inr, w32, arith}
 use Rattle.std.specs.Int.{from_be_bytes}
 use Rattle.std.proofs.lemmas.Bool.{ltb-true, ltb-false, lt-ltb, le-ltb}
 use Rattle.std.proofs.lemmas.List.{append-nil}
-use Rattle.lumber_frame.specs.declared.field.Field.{Field}
-use Rattle.lumber_frame.specs.declared.field.Field.TheVariants.{VersionByte}
 use Rattle.lumber_frame.specs.declared.frame.LumberFrame.{LumberFrame}
 use Rattle.lumber_frame.specs.declared.frame.LumberFrame.TheVariants.{Window, Pairs, Json, Ack}
 use Rattle.lumber_frame.specs.declared.side.Side.{Side}
@@ -12,7 +10,7 @@ use Rattle.lumber_frame.specs.declared.side.Side.TheVariants.{Receiver, Sender}
 use Rattle.stream_grammar.specs.Automaton.{After, Goes}
 use Rattle.stream_grammar.proofs.Machine.{Laws, Format}
 use Rattle.lumber_frame.specs.Spelling.{IsNumber, ArePairsOf, MayCome, IsSpelling, Spells}
-use Rattle.lumber_frame.specs.Machine.{State, At, start, size_of, value_of, turn, Turning, step, AfterType, Behind, Completes}
+use Rattle.lumber_frame.specs.Machine.{State, At, start, size_of, Turning, step, AfterType, Behind, Completes}
 use Rattle.lumber_frame.proofs.TurnLaws.{by_cases, turn_forth}
 use Rattle.lumber_frame.proofs.BackLaws.{IsGood, turn_back, turn_good}
 

@@ -1,22 +1,21 @@
 -- What whole fields make of the machine, and that it fails at the end of each field that breaks its rule.
-use Rattle.std.proofs.Common.{◌≡◌, ℕ, zero, suc, ◌+◌, ◌-◌, ◌<◌, ◌≤◌, true, false, eqb, leb, ltb, List, [], ◌∷◌, ◌++◌, refl, sym, ap, ◌∙◌, subst, take, drop, length, append_assoc, length-append, inl, inr, w32, arith}
+use Rattle.std.proofs.Common.{◌≡◌, ℕ, zero, suc, ◌+◌, ◌-◌, ◌<◌, ◌≤◌, true, false, eqb, leb, ltb, List, [], ◌∷◌, ◌++◌, refl, sym, ap, ◌∙◌, take, length, append_assoc, length-append, inl, inr, w32, arith}
 use Rattle.std.specs.Int.{from_be_bytes}
-use Rattle.std.proofs.lemmas.Bool.{lt-leb, le-leb, lt-ltb, le-ltb, ne_eqb, eqb-false}
+use Rattle.std.proofs.lemmas.Bool.{lt-leb, le-leb, lt-ltb, le-ltb, ne_eqb}
 use Rattle.std.proofs.lemmas.List.{append-nil, take_at}
 use Rattle.std.proofs.Math.Seq.{take-append-add}
 use Rattle.lumber_frame.specs.declared.fault.LumberWhy.{LumberWhy}
 use Rattle.lumber_frame.specs.declared.fault.LumberWhy.TheVariants.{Version, Kind, Compressed, AckFromWriter, TooLong, TooMany}
 use Rattle.lumber_frame.specs.declared.field.Field.{Field}
 use Rattle.lumber_frame.specs.declared.field.Field.TheVariants.{VersionByte, TypeByte, WindowSize, PairsSequence, JsonSequence, PairCount, PayloadLength, KeyLength, Key, ValueLength, Value}
-use Rattle.lumber_frame.specs.declared.frame.LumberFrame.{LumberFrame}
 use Rattle.lumber_frame.specs.declared.side.Side.{Side}
 use Rattle.lumber_frame.specs.declared.side.Side.TheVariants.{Receiver, Sender}
-use Rattle.stream_grammar.specs.Automaton.{Goes, Ends, Fails, Going, Done, Bad, then, run}
+use Rattle.stream_grammar.specs.Automaton.{Goes, Fails, Going, Bad, then, run}
 use Rattle.stream_grammar.proofs.Machine.{going_run}
 use Rattle.stream_grammar.proofs.FieldFaults.{BreakLaws}
 use Rattle.lumber_frame.specs.Spelling.{IsNumber, IsString, ArePairsOf}
 use Rattle.lumber_frame.specs.Broken.{IsHead, BeforePair, BeforeValue, IsNoType, Broken}
-use Rattle.lumber_frame.specs.Machine.{State, At, start, size_of, value_of, Turning, turn, step}
+use Rattle.lumber_frame.specs.Machine.{State, At, start, size_of, value_of, turn, step}
 use Rattle.lumber_frame.proofs.FrameLaws.{lumber_laws}
 use Rattle.lumber_frame.proofs.BeforeLaws.{fails_broken}
 

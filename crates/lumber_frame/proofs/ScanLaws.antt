@@ -16,7 +16,6 @@ use Rattle.stream_grammar.specs.Automaton.{Goes, Ends, Fails, Going, Done, then,
 use Rattle.stream_grammar.proofs.Machine.{going_run, completed_run}
 use Rattle.stream_grammar.proofs.Streams.{spelled_append, spelled_one}
 use Rattle.lumber_frame.specs.Spelling.{IsFrameFor, Spells}
-use Rattle.lumber_frame.specs.Broken.{Broken}
 use Rattle.lumber_frame.specs.Machine.{At, size_of, value_of, turn, step, start, Completes}
 use Rattle.lumber_frame.specs.Places.{Stands, Fits, state_of, frame_of}
 use Rattle.lumber_frame.specs.Scanning.{Scan, Breaks}

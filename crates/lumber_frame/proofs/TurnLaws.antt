@@ -1,17 +1,17 @@
 -- What stands behind a whole field is what completes the state that it leads to, and only that.
-use Rattle.std.proofs.Common.{◌≡◌, ℕ, zero, suc, ◌+◌, ◌-◌, ◌<◌, ◌≤◌, Bool, true, false, cond, eqb, leb, List, [], ◌∷◌, ◌++◌, refl, sym, ap, ◌∙◌, subst, get_or, length, append_assoc, length-append, inl, inr, w32, arith}
+use Rattle.std.proofs.Common.{◌≡◌, ℕ, zero, suc, ◌+◌, ◌-◌, ◌≤◌, Bool, true, false, cond, eqb, List, [], ◌∷◌, ◌++◌, refl, sym, ap, ◌∙◌, subst, get_or, length, append_assoc, length-append, inl, inr, w32, arith}
 use Rattle.std.specs.Int.{from_be_bytes}
-use Rattle.std.proofs.lemmas.Bool.{eqb-true, eqb-false, leb-true, le-leb, eq-eqb, ne_eqb}
+use Rattle.std.proofs.lemmas.Bool.{le-leb, ne_eqb}
 use Rattle.std.proofs.lemmas.List.{append-nil}
 use Rattle.lumber_frame.specs.declared.field.Field.{Field}
 use Rattle.lumber_frame.specs.declared.field.Field.TheVariants.{VersionByte, TypeByte, WindowSize, AckSequence, PairsSequence, JsonSequence, PairCount, PayloadLength, Payload, KeyLength, Key, ValueLength, Value}
 use Rattle.lumber_frame.specs.declared.frame.LumberFrame.{LumberFrame}
-use Rattle.lumber_frame.specs.declared.frame.LumberFrame.TheVariants.{Window, Pairs, Json, Ack}
+use Rattle.lumber_frame.specs.declared.frame.LumberFrame.TheVariants.{Pairs, Json}
 use Rattle.lumber_frame.specs.declared.side.Side.{Side}
 use Rattle.lumber_frame.specs.declared.side.Side.TheVariants.{Receiver, Sender}
 use Rattle.stream_grammar.specs.Automaton.{After}
-use Rattle.lumber_frame.specs.Spelling.{IsString, ArePairsOf}
-use Rattle.lumber_frame.specs.Machine.{At, size_of, value_of, Turning, type_turn, pairs_turn, payload_turn, key_turn, value_turn, turn, Four, PairsEnd, AfterCount, AfterLength, AfterSize, AfterType, Behind, Completes}
+use Rattle.lumber_frame.specs.Spelling.{IsString}
+use Rattle.lumber_frame.specs.Machine.{At, size_of, value_of, type_turn, pairs_turn, payload_turn, key_turn, value_turn, turn, Four, PairsEnd, AfterType, Behind, Completes}
 
 -- what holds of each choice holds of what is chosen
 pub by_cases : {A : Type 0} (P : A → Type 0) (p : Bool) (x y : A) → (p ≡ true → P x) → (p ≡ false → P y) → P (cond p x y)

@@ -1,10 +1,10 @@
 -- What is written is a spelling, and no spelling is a front of another one.
 use Rattle.std.proofs.Common.{Some, None, ◌≡◌, ℕ, false, eqb, ◌^◌, ◌<◌, ◌≤◌, ◌+◌, ◌∙◌, List, [], ◌∷◌, ◌++◌, length, refl, sym, ap, subst, w32, arith, append_assoc, length-append}
-use Rattle.std.specs.Int.{from_be_bytes, to_be_bytes}
+use Rattle.std.specs.Int.{to_be_bytes}
 use Rattle.std.proofs.lemmas.Bool.{eqb-false}
 use Rattle.std.proofs.lemmas.List.{append_cancel_right}
-use Rattle.event_form.specs.Event.{pair_text, pairs_text, ArePairs}
-use Rattle.event_form.specs.Pairs.{BeginsString, BeginsPair}
+use Rattle.event_form.specs.Event.{pair_text, pairs_text}
+use Rattle.event_form.specs.Pairs.{BeginsString}
 use Rattle.event_form.proofs.Numbers.{length-four, four_back}
 use Rattle.event_form.proofs.Strings.{pair_from_text}
 use Rattle.lumber_frame.specs.declared.frame.LumberFrame.{LumberFrame}
@@ -16,7 +16,7 @@ use Rattle.stream_grammar.proofs.Streams.{spelled_run, spelled_one}
 use Rattle.stream_grammar.proofs.FieldReadings.{field_stream_behind, field_fault_behind}
 use Rattle.lumber_frame.specs.Machine.{step, start}
 use Rattle.lumber_frame.specs.Reading.{WrittenIsRead}
-use Rattle.lumber_frame.specs.Spelling.{IsNumber, IsString, ArePairsOf, IsSpelling, Spells, IsWritten, SpellsOnce, WrittenSpells}
+use Rattle.lumber_frame.specs.Spelling.{IsNumber, IsString, ArePairsOf, Spells, SpellsOnce, WrittenSpells}
 use Rattle.lumber_frame.proofs.CountLaws.{pairs_once}
 use Rattle.lumber_frame.proofs.FrameLaws.{lumber}
 

@@ -10,7 +10,7 @@ use Rattle.lumber_frame.specs.declared.frame.LumberFrame.{LumberFrame}
 use Rattle.lumber_frame.specs.declared.frame.LumberFrame.TheVariants.{Window, Pairs, Json, Ack}
 use Rattle.lumber_frame.specs.declared.side.Side.{Side}
 use Rattle.lumber_frame.specs.declared.side.Side.TheVariants.{Receiver, Sender}
-use Rattle.lumber_frame.specs.Spelling.{IsNumber, IsString, ArePairsOf}
+use Rattle.lumber_frame.specs.Spelling.{IsString, ArePairsOf}
 use Rattle.stream_grammar.specs.Automaton.{Step, Goes, Ends, Fails}
 
 -- the field that is read, the pair bytes before it, and its own bytes so far

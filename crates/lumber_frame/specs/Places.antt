@@ -1,5 +1,5 @@
 -- What the reader keeps of an unfinished frame: the place of the field that it reads.
-use Rattle.std.specs.Prelude.{◌≡◌, ℕ, ◌+◌, ◌<◌, ◌≤◌, List, [], ◌++◌, drop, take}
+use Rattle.std.specs.Prelude.{◌≡◌, ℕ, ◌+◌, ◌<◌, ◌≤◌, List, [], ◌++◌, drop, length, take}
 use Rattle.lumber_frame.specs.declared.field.Field.{Field}
 use Rattle.lumber_frame.specs.declared.field.Field.TheVariants.{VersionByte, TypeByte, WindowSize, AckSequence, PairsSequence, JsonSequence, PairCount, PayloadLength, Payload, KeyLength, Key, ValueLength, Value}
 use Rattle.lumber_frame.specs.declared.field.Phase.{Phase}
@@ -9,8 +9,9 @@ use Rattle.lumber_frame.specs.declared.field.Turn.{Turn}
 use Rattle.lumber_frame.specs.declared.field.Turn.TheVariants.{Go, Done, Bad}
 use Rattle.lumber_frame.specs.declared.frame.LumberFrame.{LumberFrame}
 use Rattle.lumber_frame.specs.declared.frame.LumberFrame.TheVariants.{Window, Pairs, Json, Ack}
+use Rattle.lumber_frame.specs.declared.side.Side.{Side}
 use Rattle.stream_grammar.specs.Automaton.{Goes, Ends, Fails}
-use Rattle.lumber_frame.specs.Machine.{State, At, Turning, size_of}
+use Rattle.lumber_frame.specs.Machine.{State, At, Turning, size_of, turn}
 
 -- the frame of these bytes: its text stands behind the first ten
 abbrev pub frame_of : Whole → List ℕ → LumberFrame
@@ -59,3 +60,8 @@ StandsBehind (Done (whole.Pairs seq)) at = 10 ≤ at
 StandsBehind (Done (whole.Json seq)) at = 10 ≤ at
 StandsBehind (Done (whole.Ack seq)) at = Unit {0}
 StandsBehind (Bad w) at = Unit {0}
+
+-- What the machine does with a whole field of this value that begins at a place, whatever its bytes and
+-- those before it.
+abbrev pub Turns : Turn → Side → Field → ℕ → ℕ → Type 0
+Turns result side field at n = (h b : List ℕ) → length h ≡ at → length b ≡ size_of field → step_of result (h ++ b) ≡ turn side field (drop 10 h) b n

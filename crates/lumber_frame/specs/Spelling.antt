@@ -1,5 +1,5 @@
 -- The layout of a frame of Lumberjack, version 2: the byte `2`, a type byte, and what stands behind them.
-use Rattle.std.specs.Prelude.{◌≡◌, ℕ, zero, suc, ◌+◌, ◌^◌, ◌<◌, ◌≤◌, List, [], ◌∷◌, ◌++◌, length}
+use Rattle.std.specs.Prelude.{◌≡◌, ℕ, zero, suc, ◌^◌, ◌<◌, ◌≤◌, List, [], ◌∷◌, ◌++◌, length}
 use Rattle.std.specs.Int.{from_be_bytes, to_be_bytes}
 use mir.Syntax.{w32}
 use Rattle.event_form.specs.Event.{pairs_text, ArePairs}

@@ -3,12 +3,13 @@ ghost use Rattle.std.specs.Prelude.{◌≡◌, ℕ, ◌+◌, ◌≤◌, List, �
 ghost use Rattle.lumber_frame.specs.Machine.{size_of, turn, value_of};
 ghost use Rattle.lumber_frame.specs.Places.{Stands, StandsBehind, step_of};
 
-use crate::field::{
-    Field, Turn, Whole, after_count, after_key_length, after_payload_length, after_size,
-    after_type, after_value_length, after_version, next_pair,
-};
+use crate::field::{Field, Turn, Whole};
 use crate::joined::{byte_at, number_at};
 use crate::side::Side;
+use crate::steps::{
+    after_count, after_key_length, after_payload_length, after_size, after_type,
+    after_value_length, after_version, next_pair,
+};
 
 /// What a whole field does that begins at a place of its frame, and at another one of two lists joined.
 #[tactic(auto, using(crate::proofs::TextLaws::drop_early, crate::proofs::TextLaws::drop_text, crate::proofs::TextLaws::drop_whole), unfolding(crate::specs::Machine::turn))]
@@ -23,7 +24,11 @@ pub fn after_field(
     requires stands { Stands field at }
     requires inside { from + size_of field ≤ length front.now + length back.now }
     ensures stands { StandsBehind result (at + size_of field) }
-    ensures turn { (h b : List ℕ) → length h ≡ at → length b ≡ size_of field → b ≡ slice_range (front.now ++ back.now) from (from + size_of field) → step_of result (h ++ b) ≡ turn side field (drop 10 h) b (value_of field b) }
+    ensures turn {
+        (h b : List ℕ) → length h ≡ at → length b ≡ size_of field
+        → b ≡ slice_range (front.now ++ back.now) from (from + size_of field)
+        → step_of result (h ++ b) ≡ turn side field (drop 10 h) b (value_of field b)
+    }
 {
     match field {
         Field::VersionByte => after_version(byte_at(front, back, from)),

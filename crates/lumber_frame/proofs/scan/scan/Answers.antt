@@ -1,5 +1,5 @@
 -- The scan goes on by the bytes of a field.
-use Rattle.std.proofs.Common.{◌≡◌, ◌+◌, ◌-◌, ◌≤◌, ◌<◌, ℕ, length, sym, subst, ap, ◌∙◌, arith}
+use Rattle.std.proofs.Common.{◌≡◌, ◌+◌, ◌-◌, ◌≤◌, ◌<◌, length, subst, arith}
 use Rattle.lumber_frame.specs.Machine.{size_of}
 use Rattle.lumber_frame.specs.Scanning.{Scan}
 use Rattle.lumber_frame.proofs.ScanLaws.{scan_init, scan_part, scan_go, scan_done, scan_bad}

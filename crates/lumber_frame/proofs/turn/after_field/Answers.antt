@@ -1,6 +1,5 @@
 -- What stands in the field's bytes is what was read there.
-use Rattle.std.proofs.Common.{◌≡◌, ℕ, ◌+◌, ◌∙◌, List, ◌++◌, take, drop, get_or, refl, sym, ap, subst, w32}
-use Rattle.std.specs.Prelude.{slice_range}
+use Rattle.std.proofs.Common.{◌≡◌, ◌∙◌, ◌++◌, drop, sym, ap, subst, w32}
 use Rattle.std.specs.Int.{from_be_bytes}
 use Rattle.lumber_frame.specs.declared.field.Field.TheVariants.{VersionByte, WindowSize, PairCount, PayloadLength, KeyLength, ValueLength}
 use Rattle.lumber_frame.specs.Machine.{turn}
@@ -15,7 +14,8 @@ returns-in-VersionByte-clause-turn c = rw c.in-VersionByte.is (λ h b l m w.
 
 pub returns-in-WindowSize-clause-turn : goal.returns-in-WindowSize-clause-turn
 returns-in-WindowSize-clause-turn c = rw c.in-WindowSize.is (λ h b l m w.
-    c.after_size.ensures.turn c.args.side h b ∙ ap (turn c.args.side WindowSize (drop 10 h) b) (c.number_at.ensures ∙ ap (from_be_bytes w32) (sym w)))
+    let at : c.args.at ≡ 2 = subst (λ f. Stands f c.args.at) c.in-WindowSize.is c.requires.stands in
+    c.after_size.ensures.turn c.args.side h b (l ∙ at) m ∙ ap (turn c.args.side WindowSize (drop 10 h) b) (c.number_at.ensures ∙ ap (from_be_bytes w32) (sym w)))
 
 pub returns-in-PairCount-clause-turn : goal.returns-in-PairCount-clause-turn
 returns-in-PairCount-clause-turn c = rw c.in-PairCount.is (λ h b l m w.
