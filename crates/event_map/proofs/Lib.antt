@@ -5,4 +5,5 @@ pub mod ObjectOrNot
 pub mod PairsOrNot
 pub mod Functions
 pub mod Exact
+pub mod StringSizes
 pub mod Sizes

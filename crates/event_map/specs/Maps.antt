@@ -12,10 +12,11 @@ use Rattle.event_map.specs.Objects.{message_object, event_object, pairs_object}
 abbrev pub OfPairs : (List (List ℕ × List ℕ) → List ℕ) → List ℕ → List ℕ → Type 0
 OfPairs f text bytes = (h : ArePairs text) × (bytes ≡ f h.pairs)
 
--- the first where the text is one JSON object, and else the second
+-- the bytes are the first where the text is one JSON object, white space round it allowed, and else the second
 abbrev pub OfObject : List ℕ → List ℕ → List ℕ → List ℕ → Type 0
 OfObject object other text bytes = (IsObjectText text × (bytes ≡ object)) ⊎ ((¬ IsObjectText text) × (bytes ≡ other))
 
+-- an event as a text, by its origin and its text: the text itself, and of pairs their object
 abbrev pub TextBy : Origin → List ℕ → List ℕ → Type 0
 TextBy Relp text bytes = bytes ≡ text
 TextBy HecRaw text bytes = bytes ≡ text
@@ -23,6 +24,7 @@ TextBy LumberJson text bytes = bytes ≡ text
 TextBy LumberData text bytes = OfPairs pairs_object text bytes
 TextBy HecEvent text bytes = bytes ≡ text
 
+-- an event as a JSON object: a text that isn't one is put into a message
 abbrev pub JsonBy : Origin → List ℕ → List ℕ → Type 0
 JsonBy Relp text bytes = bytes ≡ message_object text
 JsonBy HecRaw text bytes = bytes ≡ message_object text
@@ -30,6 +32,7 @@ JsonBy LumberJson text bytes = OfObject text (message_object text) text bytes
 JsonBy LumberData text bytes = OfPairs pairs_object text bytes
 JsonBy HecEvent text bytes = bytes ≡ text
 
+-- an event as an event object: what isn't one already stands under `event`, an object as it is and another text as a string
 abbrev pub HecBy : Origin → List ℕ → List ℕ → Type 0
 HecBy Relp text bytes = bytes ≡ event_object (event_string text)
 HecBy HecRaw text bytes = bytes ≡ event_object (event_string text)

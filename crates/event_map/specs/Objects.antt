@@ -15,6 +15,6 @@ event_object value = codes "{\"event\":" ++ (value ++ codes "}")
 abbrev pub member_of : List ℕ × List ℕ → List ℕ
 member_of pair = string_of pair.0 ++ (codes ":" ++ string_of pair.1)
 
--- {"key":"value","key":"value"}: the pairs in their order, each of those with one key too
+-- {"key":"value","key":"value"}: the pairs in their order with commas (44) between, each of those with one key too
 abbrev pub pairs_object : List (List ℕ × List ℕ) → List ℕ
 pairs_object pairs = codes "{" ++ (join_with_byte 44 (map member_of pairs) ++ codes "}")
