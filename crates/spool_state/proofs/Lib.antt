@@ -1,4 +1,5 @@
 pub mod Adding
+pub mod Chains
 pub mod Entries
 pub mod Following
 pub mod Frames
@@ -6,5 +7,6 @@ pub mod Once
 pub mod Places
 pub mod Registers
 pub mod Segments
+pub mod Sorting
 pub mod Steps
 pub mod Texts
