@@ -8,5 +8,6 @@ pub mod Places
 pub mod Registers
 pub mod Segments
 pub mod Sorting
+pub mod Standing
 pub mod Steps
 pub mod Texts
