@@ -3,6 +3,7 @@ pub mod Chains
 pub mod Entries
 pub mod Following
 pub mod Frames
+pub mod Laws
 pub mod Once
 pub mod Places
 pub mod Registers
