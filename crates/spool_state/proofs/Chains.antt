@@ -1,11 +1,10 @@
 -- Slots that are in order, and the state that they make.
-use Rattle.std.proofs.Common.{◌≡◌, ◌≢◌, ◌⊎◌, inl, inr, ℕ, zero, suc, ◌+◌, ◌^◌, ◌<◌, ◌≤◌, List, [], ◌∷◌, ◌++◌, length, get_or, refl, sym, ◌∙◌, ap, subst, arith, length-append}
+use Rattle.std.proofs.Common.{◌≡◌, inl, inr, ℕ, ◌+◌, ◌^◌, ◌<◌, ◌≤◌, List, [], ◌∷◌, ◌++◌, length, refl, arith, length-append}
 use Rattle.std.specs.Prelude.{All}
-use Rattle.std.specs.List.{flat_map}
-use Rattle.std.proofs.lemmas.List.Elements.{All-nil, All-cons, All-head, All-tail, All-push, All-weaker}
+use Rattle.std.proofs.lemmas.List.Elements.{All-nil, All-cons, All-head, All-tail}
 use Rattle.spool_state.specs.Segment.{entries_of}
-use Rattle.spool_state.specs.SpoolState.{OpenSlot, SpoolState, entries_in, list, first_of, ordinal_of, base, end, HasEarlyOrdinal, AreConsecutive, AreElsewhere, AreApart, IsOpenSlot}
-use Rattle.spool_state.specs.Order.{ComesBefore, AreSorted, count_of, IsInOrder, AreInOrder, FirstAtFault}
+use Rattle.spool_state.specs.SpoolState.{OpenSlot, entries_in, first_of, ordinal_of, HasEarlyOrdinal, AreConsecutive}
+use Rattle.spool_state.specs.Order.{AreSorted, count_of, AreInOrder, FirstAtFault}
 
 -- ---- what being in order gives
 
@@ -13,7 +12,7 @@ pub rising : (slots : List OpenSlot) (ordinal first : ℕ) → AreInOrder slots 
 rising [] ordinal first h = All-nil (λ slot. ordinal ≤ slot.segment.ordinal)
 rising (slot ∷ slots) ordinal first h =
     All-cons (λ s. ordinal ≤ s.segment.ordinal) slot slots (omega (arith, h.0.ordinal_due))
-      (λ k d lt. omega (arith, h.0.ordinal_due, rising slots (slot.segment.ordinal + 1) (slot.segment.first + count_of slot) h.1 k d lt))
+    (λ k d lt. omega (arith, h.0.ordinal_due, rising slots (slot.segment.ordinal + 1) (slot.segment.first + count_of slot) h.1 k d lt))
 
 pub sorted-in_order : (slots : List OpenSlot) (ordinal first : ℕ) → AreInOrder slots ordinal first → AreSorted slots
 sorted-in_order [] ordinal first h = tt
@@ -52,14 +51,16 @@ pub in_order : (slots : List OpenSlot) (last : OpenSlot) (ordinal first : ℕ) �
     → AreConsecutive slots last.segment.ordinal last.segment.first → All HasEarlyOrdinal slots → HasEarlyOrdinal last → last.segment.first + count_of last ≤ 2 ^ 63
     → AreInOrder (slots ++ last ∷ []) ordinal first
 in_order [] last ordinal first o f h all early fits = (record { ordinal_due = o; first_due = f; some = λ some. absurd (omega arith); early = early; ends = fits }, tt)
-in_order (slot ∷ slots) last ordinal first o f h all early fits =
-    (record {
-      ordinal_due = o;
-      first_due = f;
-      some = λ some. h.2;
-      early = All-head HasEarlyOrdinal slot slots all;
-      ends = omega (arith, h.1, first_below slots last.segment.ordinal last.segment.first h.3);
-    }, in_order slots last (slot.segment.ordinal + 1) (slot.segment.first + count_of slot) h.0 h.1 h.3 (All-tail HasEarlyOrdinal slot slots all) early fits)
+in_order (slot ∷ slots) last ordinal first o f h all early fits = (
+  record {
+    ordinal_due = o;
+    first_due = f;
+    some = λ some. h.2;
+    early = All-head HasEarlyOrdinal slot slots all;
+    ends = omega (arith, h.1, first_below slots last.segment.ordinal last.segment.first h.3);
+  },
+  in_order slots last (slot.segment.ordinal + 1) (slot.segment.first + count_of slot) h.0 h.1 h.3 (All-tail HasEarlyOrdinal slot slots all) early fits,
+)
 
 -- and slots in order are those of a state
 pub last_in_order : (slots : List OpenSlot) (last : OpenSlot) (ordinal first : ℕ) → AreInOrder (slots ++ last ∷ []) ordinal first → HasEarlyOrdinal last × (last.segment.first + count_of last ≤ 2 ^ 63)

@@ -1,25 +1,22 @@
 -- The laws of the whole device: its bytes stand for one state at most, and none where they break a rule.
-use Rattle.std.proofs.Common.{◌≡◌, ◌≢◌, ◌⊎◌, inl, inr, ℕ, zero, suc, ◌+◌, ◌*◌, ◌^◌, ◌<◌, ◌≤◌, List, [], ◌∷◌, ◌++◌, length, get_or, refl, sym, ◌∙◌, ap, subst, arith, append_assoc, length-append}
-use Rattle.std.specs.Prelude.{All}
-use Rattle.std.proofs.lemmas.Nat.{row_fits}
-use Rattle.std.proofs.lemmas.List.Elements.{All-contains, All-head, All-push}
-use Rattle.foundation.specs.Bytes.{part}
+use Rattle.std.proofs.Common.{◌≡◌, inl, inr, ℕ, ◌+◌, ◌^◌, ◌<◌, ◌≤◌, List, [], ◌∷◌, ◌++◌, length, get_or, refl, sym, ◌∙◌, ap, subst, arith, append_assoc, length-append}
+use Rattle.std.proofs.lemmas.List.Elements.{All-contains}
 use Rattle.foundation.proofs.Bytes.{get_or-part}
-use Rattle.spool_state.specs.Segment.{IsGroup, Segment, entries_of, head_text, groups_text, segment_text}
-use Rattle.spool_state.specs.SpoolState.{OpenSlot, SpoolState, entries_in, list, first_of, ordinal_of, base, end, AreElsewhere, AreApart, IsOpenSlot, IsSound}
-use Rattle.spool_state.specs.Cells.{first_cell, second_cell, content_text, ordinal_at, run_at, Counts, RegisterHolds, CellsBreak}
+use Rattle.spool_state.specs.Segment.{entries_of, head_text, groups_text}
+use Rattle.spool_state.specs.SpoolState.{OpenSlot, SpoolState, entries_in, list, first_of, ordinal_of, base}
+use Rattle.spool_state.specs.Cells.{first_cell, second_cell, content_text, Counts, RegisterHolds}
 use Rattle.spool_state.specs.Image.{slot_at, HoldsSegment, StandsFor}
 use Rattle.spool_state.specs.Broken.{BreaksAt}
-use Rattle.spool_state.specs.Order.{AreSorted, IsFound, AreOpenSlots, AreInOrder, FirstAtFault}
-use Rattle.spool_state.specs.Rules.{slots_told, size_told, IsNamed, IsMeasured, RegisterIsAt, cursor_at, HasHead, GroupBreaks, HasOpenSlots, OrderBreaks, IsChain, CursorBreaks, Breaks}
+use Rattle.spool_state.specs.Order.{IsFound, AreOpenSlots, AreInOrder}
+use Rattle.spool_state.specs.Rules.{slots_told, size_told, IsMeasured, HasOpenSlots, OrderBreaks, CursorBreaks, Breaks}
 use Rattle.spool_state.proofs.Places.{ordinal_is, run_is}
 use Rattle.spool_state.proofs.Registers.{fields, is_counting, one_counts, holds_unbroken}
 use Rattle.spool_state.proofs.Once.{broken_holds_none}
 use Rattle.spool_state.proofs.Frames.{inside}
 use Rattle.spool_state.proofs.Segments.{head_open}
-use Rattle.spool_state.proofs.Sorting.{slot_of_place, one_list, apart_found}
-use Rattle.spool_state.proofs.Chains.{some-push, first_of-push, length-entries_in-push, in_order_no_fault, last_in_order, consecutive, all_early, entries_end}
-use Rattle.spool_state.proofs.Standing.{all_slots, name_is, cursor_is, cursor_there, state_in_order, state_open_slots, state_slots, state_size}
+use Rattle.spool_state.proofs.Sorting.{slot_of_place, one_list}
+use Rattle.spool_state.proofs.Chains.{some-push, first_of-push, length-entries_in-push, in_order_no_fault}
+use Rattle.spool_state.proofs.Standing.{state_of, all_slots, name_is, cursor_is, cursor_there, state_in_order, state_open_slots, state_slots, state_size}
 
 -- ---- bytes that stand for a state break no rule
 
@@ -44,7 +41,7 @@ module _ (s : SpoolState) (c : List ℕ) (stands : StandsFor s c) where
         | inr there ↦
             let f = All-contains (IsFound s.slots s.size c) (all_slots s) there.0 opened.found there.1 in
             broken_holds_none (slot_at s.size slot) s.size at there.0.segment c room (omega (arith, stands.sound.small)) f.groups breaks
-              (subst (λ (p : ℕ). HoldsSegment (slot_at s.size p) s.size there.0.segment c) there.2 f.holds)
+            (subst (λ (p : ℕ). HoldsSegment (slot_at s.size p) s.size there.0.segment c) there.2 f.holds)
       ]
 
   measured : IsMeasured c
@@ -69,7 +66,7 @@ module _ (s : SpoolState) (c : List ℕ) (stands : StandsFor s c) where
   order_kept at size [] is breaks = omega (arith, ap length is, some-push s.older s.active)
   order_kept at size (slot ∷ slots) is breaks =
       in_order_no_fault (slot ∷ slots) slot.segment.ordinal slot.segment.first breaks.0
-        (subst (λ (l : List OpenSlot). AreInOrder l (ordinal_of l 0) (first_of l 0)) (sym is) (state_in_order s c stands)) breaks.2
+      (subst (λ (l : List OpenSlot). AreInOrder l (ordinal_of l 0) (first_of l 0)) (sym is) (state_in_order s c stands)) breaks.2
 
   cursor_kept : (opened : List OpenSlot) → opened ≡ all_slots s → CursorBreaks s.cursor opened → ⊥
   cursor_kept opened is breaks =
@@ -94,7 +91,7 @@ module _ (s : SpoolState) (c : List ℕ) (stands : StandsFor s c) where
   stands_unbroken at (inr (inr (inr (inr (inr b))))) =
       let opened = b.1 in
       cursor_kept opened.0 (told opened.0 opened.1)
-        (subst (λ (n : ℕ). CursorBreaks n opened.0) (cursor_there at s.ordinal s.run s.cursor c stands.sound.ordinal (omega (arith, stands.sound.to_end, stands.sound.ends)) stands.register b.0.register) opened.3)
+      (subst (λ (n : ℕ). CursorBreaks n opened.0) (cursor_there at s.ordinal s.run s.cursor c stands.sound.ordinal (omega (arith, stands.sound.to_end, stands.sound.ends)) stands.register b.0.register) opened.3)
 
 -- ---- one state
 
@@ -102,10 +99,11 @@ one_counting : (here other o run cursor o' run' cursor' : ℕ) (c : List ℕ) �
     → Counts here other o (content_text run cursor) c → Counts here other o' (content_text run' cursor') c → (o ≡ o') × (run ≡ run') × (cursor ≡ cursor')
 one_counting here other o run cursor o' run' cursor' c ho ho' hr hr' hc hc' p q =
     let f = fields here other o run cursor c p in
-    let g = fields here other o' run' cursor' c q in
-    (sym (ordinal_is here 1 o 17 1 run cursor c f (omega arith)) ∙ ordinal_is here 1 o' 17 1 run' cursor' c g (omega arith),
-     sym (run_is here 1 o 17 1 run cursor c f (omega arith)) ∙ run_is here 1 o' 17 1 run' cursor' c g (omega arith),
-     sym (cursor_is here 1 o 17 1 run cursor c f hc) ∙ cursor_is here 1 o' 17 1 run' cursor' c g hc')
+    let g = fields here other o' run' cursor' c q in (
+      sym (ordinal_is here 1 o 17 1 run cursor c f (omega arith)) ∙ ordinal_is here 1 o' 17 1 run' cursor' c g (omega arith),
+      sym (run_is here 1 o 17 1 run cursor c f (omega arith)) ∙ run_is here 1 o' 17 1 run' cursor' c g (omega arith),
+      sym (cursor_is here 1 o 17 1 run cursor c f hc) ∙ cursor_is here 1 o' 17 1 run' cursor' c g hc',
+    )
 
 pub one_register : (o run cursor o' run' cursor' : ℕ) (c : List ℕ) → o ≤ 2 ^ 63 → o' ≤ 2 ^ 63 → run ≤ 2097151 → run' ≤ 2097151 → cursor < 2 ^ 64 → cursor' < 2 ^ 64
     → RegisterHolds o (content_text run cursor) c → RegisterHolds o' (content_text run' cursor') c → (o ≡ o') × (run ≡ run') × (cursor ≡ cursor')
@@ -125,20 +123,17 @@ same_push (a ∷ xs) (b ∷ ys) x y is =
     let others = same_push xs ys x y rest in
     (cc (first, others.0), others.1)
 
-abbrev state_of : ℕ → ℕ → ℕ → ℕ → ℕ → List OpenSlot → OpenSlot → SpoolState
-state_of slots size run cursor ordinal older active = record { slots = slots; size = size; run = run; cursor = cursor; ordinal = ordinal; older = older; active = active }
-
 -- The bytes of a device stand for one state at most.
 pub one_state : (s t : SpoolState) (c : List ℕ) → StandsFor s c → StandsFor t c → s ≡ t
 one_state s t c p q =
     let slots = sym (state_slots s c p) ∙ state_slots t c q in
     let size = sym (state_size s c p) ∙ state_size t c q in
     let numbers = one_register s.ordinal s.run s.cursor t.ordinal t.run t.cursor c p.sound.ordinal q.sound.ordinal p.sound.run q.sound.run
-      (omega (arith, p.sound.to_end, p.sound.ends)) (omega (arith, q.sound.to_end, q.sound.ends)) p.register q.register in
+    (omega (arith, p.sound.to_end, p.sound.ends)) (omega (arith, q.sound.to_end, q.sound.ends)) p.register q.register in
     let opened : AreOpenSlots t.slots t.size c (all_slots s) =
-      subst (λ (n : ℕ). AreOpenSlots n t.size c (all_slots s)) slots (subst (λ (n : ℕ). AreOpenSlots s.slots n c (all_slots s)) size (state_open_slots s c p)) in
+    subst (λ (n : ℕ). AreOpenSlots n t.size c (all_slots s)) slots (subst (λ (n : ℕ). AreOpenSlots s.slots n c (all_slots s)) size (state_open_slots s c p)) in
     let rows = same_push s.older t.older s.active t.active
-      (one_list t.slots t.size c q.long (omega (arith, q.sound.large)) (omega (arith, q.sound.small)) (all_slots s) (all_slots t) opened (state_open_slots t c q)) in
+    (one_list t.slots t.size c q.long (omega (arith, q.sound.large)) (omega (arith, q.sound.small)) (all_slots s) (all_slots t) opened (state_open_slots t c q)) in
     ap (λ (n : ℕ). state_of n s.size s.run s.cursor s.ordinal s.older s.active) slots
     ∙ ap (λ (n : ℕ). state_of t.slots n s.run s.cursor s.ordinal s.older s.active) size
     ∙ ap (λ (n : ℕ). state_of t.slots t.size n s.cursor s.ordinal s.older s.active) numbers.1

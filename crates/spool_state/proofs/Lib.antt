@@ -4,6 +4,7 @@ pub mod Entries
 pub mod Following
 pub mod Frames
 pub mod Laws
+pub mod Making
 pub mod Once
 pub mod Places
 pub mod Registers

@@ -1,12 +1,12 @@
 -- Slots in order: there is one list of the same ones.
-use Rattle.std.proofs.Common.{◌≡◌, ◌≢◌, ◌⊎◌, inl, inr, ℕ, zero, suc, ◌+◌, ◌^◌, ◌<◌, ◌≤◌, List, [], ◌∷◌, ◌++◌, length, get_or, refl, sym, ◌∙◌, ap, subst, arith}
+use Rattle.std.proofs.Common.{◌≡◌, ◌≢◌, ◌⊎◌, inl, inr, ℕ, zero, suc, ◌^◌, ◌<◌, List, [], ◌∷◌, length, get_or, refl, sym, ◌∙◌, ap, subst, arith}
 use Rattle.std.specs.Prelude.{All}
 use Rattle.std.specs.List.{Contains}
-use Rattle.std.proofs.lemmas.Bool.{cases_eq, cases_lt}
+use Rattle.std.proofs.lemmas.Bool.{cases_eq}
 use Rattle.std.proofs.lemmas.List.Elements.{All-nil, All-cons, All-head, All-tail, All-contains}
-use Rattle.spool_state.specs.Segment.{Segment, entries_of}
+use Rattle.spool_state.specs.Segment.{Segment}
 use Rattle.spool_state.specs.SpoolState.{OpenSlot, AreElsewhere}
-use Rattle.spool_state.specs.Image.{slot_at, HoldsSegment, HoldsSlot}
+use Rattle.spool_state.specs.Image.{slot_at, HoldsSegment}
 use Rattle.spool_state.specs.Order.{ComesBefore, AreSorted, IsFound, AreOpenSlots}
 use Rattle.spool_state.proofs.Frames.{inside}
 use Rattle.spool_state.proofs.Once.{one_segment}

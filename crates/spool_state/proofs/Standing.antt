@@ -1,24 +1,20 @@
 -- What bytes that stand for a state say of its parts, and the state that parts make.
-use Rattle.std.proofs.Common.{◌≡◌, ◌≢◌, ◌⊎◌, inl, inr, ℕ, zero, suc, ◌+◌, ◌*◌, ◌^◌, ◌<◌, ◌≤◌, List, [], ◌∷◌, ◌++◌, length, take, drop, get_or, refl, sym, ◌∙◌, ap, subst, arith, length-append}
+use Rattle.std.proofs.Common.{◌≡◌, ◌≢◌, inl, inr, ℕ, ◌+◌, ◌^◌, ◌<◌, ◌≤◌, List, [], ◌∷◌, ◌++◌, refl, sym, ◌∙◌, ap, arith}
 use Rattle.std.specs.Prelude.{All}
 use Rattle.std.specs.Int.{to_be_bytes, from_be_bytes}
 use mir.Syntax.{w32, w64}
-use Rattle.std.proofs.lemmas.List.{append_cancel_left}
-use Rattle.std.proofs.lemmas.List.Elements.{All-nil, All-cons, All-head, All-tail, All-push, All-append, All-weaker}
+use Rattle.std.proofs.lemmas.List.Elements.{All-nil, All-cons, All-head, All-tail, All-push}
 use Rattle.std.proofs.lemmas.Nat.{from_be_bytes-to_be_bytes_4, from_be_bytes-to_be_bytes_8}
 use Rattle.foundation.specs.Bytes.{part}
-use Rattle.foundation.proofs.Bytes.{length-part}
-use Rattle.spool_state.specs.Segment.{IsGroup, Segment, entries_of}
-use Rattle.spool_state.specs.SpoolState.{OpenSlot, SpoolState, entries_in, list, first_of, ordinal_of, base, end, HasEarlyOrdinal, AreConsecutive, AreElsewhere, AreApart, IsOpenSlot, IsSound}
-use Rattle.spool_state.specs.Cells.{first_cell, second_cell, content_text, fields_text, Counts, RegisterHolds, CellsBreak}
-use Rattle.spool_state.specs.Image.{slot_at, magic, header_text, HoldsSegment, HoldsSlot, StandsFor}
-use Rattle.spool_state.specs.Order.{ComesBefore, AreSorted, count_of, IsFound, AreOpenSlots, IsInOrder, AreInOrder, FirstAtFault}
-use Rattle.spool_state.specs.Rules.{slots_told, size_told, IsNamed, IsMeasured, IsRegister, RegisterIsAt, cursor_at, HasHead, HasOpenSlots, IsChain, CursorBreaks}
-use Rattle.spool_state.proofs.Places.{part_inside, cell_fields}
+use Rattle.spool_state.specs.SpoolState.{OpenSlot, SpoolState, first_of, ordinal_of, HasEarlyOrdinal, AreElsewhere, IsOpenSlot}
+use Rattle.spool_state.specs.Cells.{first_cell, second_cell, content_text, fields_text, Counts, RegisterHolds}
+use Rattle.spool_state.specs.Image.{magic, header_text, HoldsSlot, StandsFor}
+use Rattle.spool_state.specs.Order.{count_of, AreOpenSlots, AreInOrder}
+use Rattle.spool_state.specs.Rules.{slots_told, size_told, IsRegister, RegisterIsAt, cursor_at}
+use Rattle.spool_state.proofs.Places.{part_inside}
 use Rattle.spool_state.proofs.Registers.{fields, is_counting, is_good, one_counts}
 use Rattle.spool_state.proofs.Texts.{end_active}
-use Rattle.spool_state.proofs.Sorting.{apart_found}
-use Rattle.spool_state.proofs.Chains.{sorted-in_order, some-push, first_of-push, ordinal_of-push, length-entries_in-push, in_order, last_in_order, consecutive, all_early, entries_end}
+use Rattle.spool_state.proofs.Chains.{sorted-in_order, first_of-push, ordinal_of-push, in_order}
 
 -- ---- the header
 
@@ -64,6 +60,9 @@ cursor_there cell ordinal run cursor c few fits (inr p) (inr at) = ap (λ (n : �
 
 -- ---- the slots
 
+abbrev pub state_of : ℕ → ℕ → ℕ → ℕ → ℕ → List OpenSlot → OpenSlot → SpoolState
+state_of slots size run cursor ordinal older active = record { slots = slots; size = size; run = run; cursor = cursor; ordinal = ordinal; older = older; active = active }
+
 abbrev pub all_slots : SpoolState → List OpenSlot
 all_slots s = s.older ++ s.active ∷ []
 
@@ -75,8 +74,8 @@ fitting : (slots : List OpenSlot) (ordinal first : ℕ) → AreInOrder slots ord
 fitting [] ordinal first h = All-nil (λ slot. (slot.segment.ordinal < 2 ^ 64) × (slot.segment.first < 2 ^ 64))
 fitting (slot ∷ slots) ordinal first h =
     All-cons (λ slot. (slot.segment.ordinal < 2 ^ 64) × (slot.segment.first < 2 ^ 64)) slot slots
-      (omega (arith, h.0.early, h.0.ends), omega (arith, h.0.ends))
-      (fitting slots (slot.segment.ordinal + 1) (slot.segment.first + count_of slot) h.1)
+    (omega (arith, h.0.early, h.0.ends), omega (arith, h.0.ends))
+    (fitting slots (slot.segment.ordinal + 1) (slot.segment.first + count_of slot) h.1)
 
 elsewhere_split : (place : ℕ) (slots : List OpenSlot) (last : OpenSlot) → AreElsewhere place (slots ++ last ∷ []) → AreElsewhere place slots × (last.place ≢ place)
 elsewhere_split place [] last all = (All-nil (λ slot. slot.place ≢ place), All-head (λ slot. slot.place ≢ place) last [] all)
@@ -87,7 +86,7 @@ elsewhere_split place (slot ∷ slots) last all =
 module _ (s : SpoolState) (c : List ℕ) (stands : StandsFor s c) where
   pub state_in_order : AreInOrder (all_slots s) (ordinal_of (all_slots s) 0) (first_of (all_slots s) 0)
   state_in_order = in_order s.older s.active (ordinal_of (all_slots s) 0) (first_of (all_slots s) 0) (sym (ordinal_of-push s.older s.active 0)) (sym (first_of-push s.older s.active 0))
-    stands.sound.consecutive (early_of s.slots s.older stands.sound.older) stands.sound.active.early (omega (arith, stands.sound.ends, end_active s stands.sound.consecutive))
+      stands.sound.consecutive (early_of s.slots s.older stands.sound.older) stands.sound.active.early (omega (arith, stands.sound.ends, end_active s stands.sound.consecutive))
 
   open_slots : All (IsOpenSlot s.slots) (all_slots s)
   open_slots = All-push (IsOpenSlot s.slots) s.older s.active stands.sound.older stands.sound.active
@@ -97,14 +96,14 @@ module _ (s : SpoolState) (c : List ℕ) (stands : StandsFor s c) where
 
   pub state_open_slots : AreOpenSlots s.slots s.size c (all_slots s)
   state_open_slots =
-    let fit = fitting (all_slots s) (ordinal_of (all_slots s) 0) (first_of (all_slots s) 0) state_in_order in
-    record {
-      found = λ k d lt. record { place = (open_slots k d lt).place; holds = hold k d lt; groups = (open_slots k d lt).groups; ordinal = (fit k d lt).0; first = (fit k d lt).1 };
-      sorted = sorted-in_order (all_slots s) (ordinal_of (all_slots s) 0) (first_of (all_slots s) 0) state_in_order;
-      others = λ place lt none.
-        let split = elsewhere_split place s.older s.active none in
-        stands.closed place lt split.1 split.0;
-    }
+      let fit = fitting (all_slots s) (ordinal_of (all_slots s) 0) (first_of (all_slots s) 0) state_in_order in
+      record {
+        found = λ k d lt. record { place = (open_slots k d lt).place; holds = hold k d lt; groups = (open_slots k d lt).groups; ordinal = (fit k d lt).0; first = (fit k d lt).1 };
+        sorted = sorted-in_order (all_slots s) (ordinal_of (all_slots s) 0) (first_of (all_slots s) 0) state_in_order;
+        others = λ place lt none.
+            let split = elsewhere_split place s.older s.active none in
+            stands.closed place lt split.1 split.0;
+      }
 
   pub state_slots : slots_told c ≡ s.slots
   state_slots = slots_is s.slots s.size c stands.header (omega (arith, stands.sound.few))
