@@ -8,6 +8,7 @@ mod event;
 mod feed_fault;
 mod law;
 mod pairs;
+mod peek;
 mod reading;
 mod writing;
 
@@ -15,6 +16,7 @@ pub use blob::Blob;
 pub use event::{Entry, Event, Origin};
 pub use feed_fault::FeedFault;
 pub use law::one_reading;
+pub use peek::peek_entry;
 pub use reading::{EntryFault, Took, read_entry};
 pub use writing::{entry_head, entry_size, write_entry};
 

@@ -1,7 +1,10 @@
 pub mod Adding
+pub mod Entries
 pub mod Following
 pub mod Frames
+pub mod Once
 pub mod Places
 pub mod Registers
+pub mod Segments
 pub mod Steps
 pub mod Texts

@@ -3,3 +3,4 @@ pub mod SpoolState
 pub mod Change
 pub mod Cells
 pub mod Image
+pub mod Broken

@@ -1,0 +1,7 @@
+pub mod Parts
+pub mod Steps
+pub mod Pens
+pub mod Windows
+pub mod Peeks
+pub mod Walks
+pub mod Found

@@ -1,0 +1,6 @@
+pub mod Slot
+pub mod Fault
+pub mod Pen
+pub mod Window
+pub mod Groups
+pub mod Scan
