@@ -1,0 +1,11 @@
+//! The spool: a list of entries on a device of fixed length, the number up to which they are confirmed,
+//! and how often it was opened. A group of entries is there whole or not at all, whenever the power
+//! fails. `docs/DEVICE.md` tells the layout in prose. Its one contract is that of `Spool`: at each moment
+//! of a call what a crash leaves stands for the state before the call, or for a later stage of its change.
+#![tactic(auto)]
+
+mod fault;
+mod known;
+
+pub use fault::{ConfirmFault, PendFault, Receipt, RecoverFault, TakeFault};
+pub use known::Known;
