@@ -8,7 +8,7 @@ use Rattle.spool_state.specs.Cells.{first_cell, second_cell, content_text, Count
 use Rattle.spool_state.specs.Image.{slot_at, HoldsSegment, StandsFor}
 use Rattle.spool_state.specs.Broken.{BreaksAt}
 use Rattle.spool_state.specs.Order.{IsFound, AreOpenSlots, AreInOrder}
-use Rattle.spool_state.specs.Rules.{slots_told, size_told, IsMeasured, HasOpenSlots, OrderBreaks, CursorBreaks, Breaks}
+use Rattle.spool_state.specs.Rules.{slots_told, size_told, IsMeasured, OrderBreaks, CursorBreaks, Breaks}
 use Rattle.spool_state.proofs.Places.{ordinal_is, run_is}
 use Rattle.spool_state.proofs.Registers.{fields, is_counting, one_counts, holds_unbroken}
 use Rattle.spool_state.proofs.Once.{broken_holds_none}
@@ -57,7 +57,7 @@ module _ (s : SpoolState) (c : List ℕ) (stands : StandsFor s c) where
       }
 
   -- the open slots that the told numbers give are those of the state
-  told : (opened : List OpenSlot) → HasOpenSlots c opened → opened ≡ all_slots s
+  told : (opened : List OpenSlot) → AreOpenSlots (slots_told c) (size_told c) c opened → opened ≡ all_slots s
   told opened has =
       let here : AreOpenSlots s.slots s.size c opened = subst (λ (n : ℕ). AreOpenSlots n s.size c opened) (state_slots s c stands) (subst (λ (n : ℕ). AreOpenSlots (slots_told c) n c opened) (state_size s c stands) has) in
       one_list s.slots s.size c stands.long some (omega (arith, stands.sound.small)) opened (all_slots s) here (state_open_slots s c stands)

@@ -60,15 +60,12 @@ pub record HasHead (cell : ℕ) (c : List ℕ) : Type 0 where
 abbrev pub IsWhole : ℕ → ℕ → List ℕ → Type 0
 IsWhole size place c = (slice_index c (slot_at size place) ≢ 1) ⊎ ((segment : Segment) × All IsGroup segment.groups × HoldsSegment (slot_at size place) size segment c)
 
--- The first slot by place that isn't breaks the rule of its groups at this offset of the device.
-pub record GroupBreaks (at : ℕ) (c : List ℕ) : Type 0 where
+-- The first slot by place that isn't breaks the rule of its groups, at this offset of the device.
+pub record GroupBreaks (slots size at : ℕ) (c : List ℕ) : Type 0 where
   pub slot : ℕ
-  pub within : slot < slots_told c
-  pub breaks : BreaksAt (slot_at (size_told c) slot) (size_told c) at c
-  pub before : (place : ℕ) → place < slot → IsWhole (size_told c) place c
-
-abbrev pub HasOpenSlots : List ℕ → List OpenSlot → Type 0
-HasOpenSlots c opened = AreOpenSlots (slots_told c) (size_told c) c opened
+  pub within : slot < slots
+  pub breaks : BreaksAt (slot_at size slot) size at c
+  pub before : (place : ℕ) → place < slot → IsWhole size place c
 
 -- No slot is open, which counts as a fault of slot 0; or this is the offset of the first open slot that isn't in order.
 abbrev pub OrderBreaks : ℕ → ℕ → List OpenSlot → Type 0
@@ -94,6 +91,6 @@ Breaks at c =
     ((at ≡ 0) × (IsNamed c → ⊥))
     ⊎ ((at ≡ 8) × IsNamed c × (IsMeasured c → ⊥))
     ⊎ (IsNamed c × IsMeasured c × CellsBreak at c)
-    ⊎ ((cell : ℕ) × HasHead cell c × GroupBreaks at c)
-    ⊎ ((cell : ℕ) × HasHead cell c × ((opened : List OpenSlot) × HasOpenSlots c opened × OrderBreaks at (size_told c) opened))
-    ⊎ (HasHead at c × ((opened : List OpenSlot) × HasOpenSlots c opened × IsChain opened × CursorBreaks (cursor_at at c) opened))
+    ⊎ ((cell : ℕ) × HasHead cell c × GroupBreaks (slots_told c) (size_told c) at c)
+    ⊎ ((cell : ℕ) × HasHead cell c × ((opened : List OpenSlot) × AreOpenSlots (slots_told c) (size_told c) c opened × OrderBreaks at (size_told c) opened))
+    ⊎ (HasHead at c × ((opened : List OpenSlot) × AreOpenSlots (slots_told c) (size_told c) c opened × IsChain opened × CursorBreaks (cursor_at at c) opened))
