@@ -1,3 +1,5 @@
 pub mod Device
 pub mod Fault
 pub mod Knows
+pub mod Judging
+pub mod Reading

@@ -5,7 +5,10 @@
 #![tactic(auto)]
 
 mod fault;
+mod judge;
 mod known;
+mod read_fault;
 
 pub use fault::{ConfirmFault, PendFault, Receipt, RecoverFault, TakeFault};
 pub use known::Known;
+pub use read_fault::ReadFault;
