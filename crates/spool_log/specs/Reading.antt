@@ -1,6 +1,7 @@
 -- What the reading of a device answers.
-use Rattle.std.specs.Prelude.{◌≡◌, ℕ, List}
+use Rattle.std.specs.Prelude.{◌≡◌, ℕ, ◌+◌, ◌≤◌, List}
 use Rattle.spool_state.specs.SpoolState.{OpenSlot, SpoolState}
+use Rattle.spool_state.specs.Image.{slot_at}
 use Rattle.spool_state.specs.Order.{AreOpenSlots}
 use Rattle.spool_state.specs.Rules.{GroupBreaks, Breaks}
 use Rattle.disk_cell.specs.declared.fault.LoadFault.{LoadFault}
@@ -44,3 +45,8 @@ pub record KnowsOpened (slots size : ℕ) (known : List Slot) (c : List ℕ) : T
 -- memory knows the state that the device stands for
 abbrev pub KnowsState : List ℕ → Known → Type 0
 KnowsState c known = (s : SpoolState) × IsStored s known c
+
+-- the slot in memory lies on a device of so many slots of this size
+pub record IsPlaced (slots size : ℕ) (known : Slot) : Type 0 where
+  pub wide : known.size ≡ size
+  pub inside : known.at + size ≤ slot_at size slots

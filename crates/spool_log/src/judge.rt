@@ -1,5 +1,5 @@
 //! Whether the open slots of a device are in order, and the cursor among their entries.
-ghost use Rattle.std.specs.Prelude.{◌≡◌, ℕ, ◌↔◌, ◌<◌, List, [], length, All, IsTrue, IsNone, nat_le};
+ghost use Rattle.std.specs.Prelude.{◌≡◌, ℕ, ◌↔◌, ◌<◌, ◌≤◌, List, [], length, All, IsTrue, IsNone, nat_le};
 ghost use Rattle.std.specs.List.{prefix_len};
 ghost use Rattle.spool_state.specs.SpoolState.{OpenSlot};
 ghost use Rattle.spool_log.specs.Knows.{KnowsSlots};
@@ -15,7 +15,8 @@ pub(crate) const FIRST_SLOT: u64 = 12_288;
 
 // How many slots, from the first on, have at most this ordinal.
 pub(crate) fn count_upto(opened: &[Slot], ordinal: u64) -> usize
-    ensures { result ≡ prefix_len (λ slot. nat_le slot.ordinal ordinal) opened.now }
+    ensures count { result ≡ prefix_len (λ slot. nat_le slot.ordinal ordinal) opened.now }
+    ensures within { result ≤ length opened.now }
 {
     opened
         .iter()

@@ -8,6 +8,7 @@ mod fault;
 mod judge;
 mod known;
 mod read_fault;
+mod slots;
 
 pub use fault::{ConfirmFault, PendFault, Receipt, RecoverFault, TakeFault};
 pub use known::Known;
