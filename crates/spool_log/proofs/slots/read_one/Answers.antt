@@ -36,5 +36,5 @@ returns-clause-known g c = λ tells known.
     let knows = subst (λ (o : Option Slot). MatchOption o (get_or reads (12288 + c.from.result * size) 0 ≢ 1) (λ x. KnowsSome x reads)) c.in-Some.is (c.in_ok-slot.ensures.found tells) in
     let at_is : slot.at ≡ slot_at size c.args.place = at.0 ∙ ap (λ (n : ℕ). 12288 + n * size) is in
     let fits : (slot.ordinal < 2 ^ 64) × (slot.first < 2 ^ 64) = search rules in
-    subst (λ (l : List Slot). KnowsOpened (c.args.place + 1) size l reads) (sym c.in_ok-keep.ensures.kept)
+    subst (λ (l : List Slot). KnowsOpened (c.args.place + 1) size l reads) (sym {A = List Slot} c.in_ok-keep.ensures.kept)
       (known_open size c.args.place c.args.opened.now.items reads known slot knows.0 at_is at.1 knows.1 fits.0 fits.1)
