@@ -3,3 +3,4 @@ pub mod Fault
 pub mod Knows
 pub mod Judging
 pub mod Reading
+pub mod Header

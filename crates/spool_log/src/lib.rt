@@ -5,6 +5,7 @@
 #![tactic(auto)]
 
 mod fault;
+mod header;
 mod judge;
 mod known;
 mod read_fault;

@@ -25,13 +25,17 @@ pub record IsNamed (c : List ℕ) : Type 0 where
   pub room : 12288 ≤ length c
   pub name : part 0 8 c ≡ magic
 
--- the told numbers are in their ranges, and the device is as long as they say
-pub record IsMeasured (c : List ℕ) : Type 0 where
-  pub some : 1 ≤ slots_told c
-  pub few : slots_told c ≤ 1024
-  pub large : 4096 ≤ size_told c
-  pub small : size_told c ≤ 1073741824
-  pub long : length c ≡ slot_at (size_told c) (slots_told c)
+-- so many slots of this size make a device of this length, and both numbers are in their ranges
+pub record IsLayout (slots size len : ℕ) : Type 0 where
+  pub some : 1 ≤ slots
+  pub few : slots ≤ 1024
+  pub large : 4096 ≤ size
+  pub small : size ≤ 1073741824
+  pub long : len ≡ slot_at size slots
+
+-- the told numbers are the device's layout
+abbrev pub IsMeasured : List ℕ → Type 0
+IsMeasured c = IsLayout (slots_told c) (size_told c) (length c)
 
 -- ---- then those of the cells
 
