@@ -1,3 +1,6 @@
 pub mod Device
 pub mod Fault
 pub mod Knows
+pub mod Free
+pub mod Stages
+pub mod State
