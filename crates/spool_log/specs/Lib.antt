@@ -4,3 +4,4 @@ pub mod Knows
 pub mod Free
 pub mod Stages
 pub mod State
+pub mod Next

@@ -4,6 +4,7 @@
 //! of a call what a crash leaves stands for the state before the call, or for a later stage of its change.
 #![tactic(auto)]
 
+mod begin;
 mod fault;
 mod known;
 
