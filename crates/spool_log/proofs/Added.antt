@@ -32,7 +32,7 @@ closed_here slot segment m settled room known c image one =
 
 -- a state on a settled disk, with the active slot in memory
 module _ (s : SpoolState) (slot : Slot) (m : Moment) (settled : IsSettled m) (stands : StandsFor s m.reads) (knows : KnowsSlot s.size s.active slot) where
-  holds_read : Slots.Knows slot s.active.segment m.reads
+  pub holds_read : Slots.Knows slot s.active.segment m.reads
   holds_read = record {
     holds = holds_from (slot_at s.size s.active.place) s.size s.active.segment slot m.reads knows.at_is knows.size_is stands.active;
     sound = stands.sound.active.groups;

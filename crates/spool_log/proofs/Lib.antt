@@ -1,4 +1,5 @@
 pub mod Lists
+pub mod Numbers
 pub mod Begun
 pub mod Shut
 pub mod Added

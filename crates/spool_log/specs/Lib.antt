@@ -5,3 +5,4 @@ pub mod Free
 pub mod Stages
 pub mod State
 pub mod Next
+pub mod Target

@@ -4,9 +4,11 @@
 //! of a call what a crash leaves stands for the state before the call, or for a later stage of its change.
 #![tactic(auto)]
 
+mod add;
 mod begin;
 mod fault;
 mod known;
+mod target;
 
 pub use fault::{ConfirmFault, PendFault, Receipt, RecoverFault, TakeFault};
 pub use known::Known;
