@@ -1,11 +1,11 @@
 -- A group added to the active slot, seen from the disk.
-use Rattle.std.proofs.Common.{◌≡◌, ◌≢◌, ◌⊎◌, inl, inr, ℕ, ◌+◌, ◌^◌, ◌≤◌, List, [], ◌∷◌, length, get_or, sym, ◌∙◌, ap, subst, arith, length-append}
+use Rattle.std.proofs.Common.{◌≡◌, ◌≢◌, ℕ, ◌+◌, ◌^◌, ◌≤◌, List, [], ◌∷◌, length, get_or, sym, ◌∙◌, ap, subst, arith, length-append}
 use Rattle.foundation.specs.Bytes.{SameBut}
 use Rattle.event_form.specs.declared.event.Entry.{Entry}
 use Rattle.spool_state.specs.Segment.{IsGroup, Segment, need_of, with_group, entries_of}
 use Rattle.spool_state.specs.SpoolState.{SpoolState, end}
 use Rattle.spool_state.specs.Change.{added, slot_with}
-use Rattle.spool_state.specs.Image.{slot_at, HoldsSegment, HoldsSlot, StandsFor}
+use Rattle.spool_state.specs.Image.{slot_at, HoldsSegment, StandsFor}
 use Rattle.spool_state.proofs.Texts.{entries_of-with_group, length-segment_text-with_group}
 use Rattle.spool_state.proofs.Adding.{adding, with_active, sound-added}
 use Rattle.spool_state.proofs.Segments.{holds_closed}
@@ -22,7 +22,7 @@ use Rattle.spool_log.specs.Stages.{StandsForOne}
 pub holds_at : (at size : ℕ) (segment : Segment) (slot : Slot) (c : List ℕ) → slot.at ≡ at → slot.size ≡ size → HoldsSegment slot.at slot.size segment c → HoldsSegment at size segment c
 holds_at at size segment slot c is wide holds = subst (λ (x : ℕ). HoldsSegment x size segment c) is (subst (λ (y : ℕ). HoldsSegment slot.at y segment c) wide holds)
 
-holds_from : (at size : ℕ) (segment : Segment) (slot : Slot) (c : List ℕ) → slot.at ≡ at → slot.size ≡ size → HoldsSegment at size segment c → HoldsSegment slot.at slot.size segment c
+pub holds_from : (at size : ℕ) (segment : Segment) (slot : Slot) (c : List ℕ) → slot.at ≡ at → slot.size ≡ size → HoldsSegment at size segment c → HoldsSegment slot.at slot.size segment c
 holds_from at size segment slot c is wide holds = subst (λ (x : ℕ). HoldsSegment x slot.size segment c) (sym is) (subst (λ (y : ℕ). HoldsSegment at y segment c) (sym wide) holds)
 
 -- the closing gate of a segment that the slot holds on a settled disk

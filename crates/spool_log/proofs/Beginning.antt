@@ -1,9 +1,9 @@
 -- A segment begun in a closed slot, seen from the disk.
-use Rattle.std.proofs.Common.{◌≡◌, ◌⊎◌, inl, inr, ℕ, ◌+◌, ◌<◌, ◌≤◌, ◌^◌, List, [], ◌∷◌, length, sym, ◌∙◌, ap, subst, arith}
+use Rattle.std.proofs.Common.{◌⊎◌, inl, inr, ℕ, ◌+◌, ◌≤◌, ◌^◌, List, [], ◌∷◌, length, sym, ◌∙◌, subst, arith}
 use Rattle.foundation.specs.Bytes.{SameBut}
 use Rattle.foundation.proofs.Bytes.{same_but_then}
 use Rattle.event_form.specs.declared.event.Entry.{Entry}
-use Rattle.spool_state.specs.Segment.{IsGroup, Segment, entries_of, empty_segment, need_of, with_group}
+use Rattle.spool_state.specs.Segment.{IsGroup, Segment, empty_segment, need_of, with_group}
 use Rattle.spool_state.specs.SpoolState.{SpoolState, end}
 use Rattle.spool_state.specs.Change.{added, begun}
 use Rattle.spool_state.specs.Image.{slot_at, StandsFor}
@@ -73,9 +73,9 @@ module _ (s : SpoolState) (place at size ordinal first : ℕ) (next : IsNext s p
 
 -- Both steps of it: the segment begun, and the group added.
 module _ (s : SpoolState) (place at size ordinal first : ℕ) (next : IsNext s place at size ordinal first) (m mid : Moment) (settled : IsSettled m) (stands : StandsFor s m.reads)
-         (run : LeavesOnly (ComesFrom m (IsClosedOrHolds at size (empty_segment ordinal first))) m mid) (lawful : IsLawful mid) (durable : IsSettled mid)
-         (slot : Slot) (is : IsSlot at size ordinal first 17 0 slot) (there : Slots.Knows slot (empty_segment ordinal first) mid.reads)
-         (group : List Entry) (sound : IsGroup group) (fits : end s + length group ≤ 2 ^ 63) where
+    (run : LeavesOnly (ComesFrom m (IsClosedOrHolds at size (empty_segment ordinal first))) m mid) (lawful : IsLawful mid) (durable : IsSettled mid)
+    (slot : Slot) (is : IsSlot at size ordinal first 17 0 slot) (there : Slots.Knows slot (empty_segment ordinal first) mid.reads)
+    (group : List Entry) (sound : IsGroup group) (fits : end s + length group ≤ 2 ^ 63) where
   known : KnowsSlot s.size (begun s place).active slot
   known = begin_knows s place at size ordinal first next m settled stands mid run lawful slot is
 
@@ -93,7 +93,7 @@ module _ (s : SpoolState) (place at size ordinal first : ℕ) (next : IsNext s p
     both_moments = begin_stages s place at size ordinal first next m settled stands mid run group last (add_moments (begun s place) slot mid durable stood known group sound numbers last added_run)
 
     module _ (lawful_last : IsLawful last) (after : Slot) (moved : IsSlot slot.at slot.size slot.ordinal slot.first (slot.gate + need_of group) (slot.count + length group) after)
-             (holds : Slots.Knows after (with_group (empty_segment (s.active.segment.ordinal + 1) (end s)) group) last.reads) where
+        (holds : Slots.Knows after (with_group (empty_segment (s.active.segment.ordinal + 1) (end s)) group) last.reads) where
       pub both_stand : StandsFor (added (begun s place) group) last.reads
       both_stand = add_stands (begun s place) slot mid durable stood known group sound numbers last added_run lawful_last after moved holds
 

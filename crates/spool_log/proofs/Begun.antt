@@ -1,5 +1,5 @@
 -- A segment begun in a closed slot.
-use Rattle.std.proofs.Common.{◌≡◌, ◌≢◌, ◌⊎◌, inl, inr, ℕ, ◌+◌, ◌-◌, ◌≤◌, ◌<◌, List, [], ◌∷◌, ◌++◌, length, take, drop, get_or, refl, sym, ◌∙◌, ap, subst, arith}
+use Rattle.std.proofs.Common.{◌≡◌, ◌≢◌, ◌⊎◌, inl, inr, ℕ, ◌+◌, ◌-◌, ◌≤◌, ◌<◌, List, [], ◌∷◌, ◌++◌, length, take, drop, get_or, sym, ◌∙◌, ap, subst, arith}
 use Rattle.std.specs.Prelude.{All}
 use Rattle.std.proofs.lemmas.Bool.{cases_eq}
 use Rattle.std.proofs.lemmas.List.{append-nil}
@@ -7,7 +7,7 @@ use Rattle.std.proofs.lemmas.List.Elements.{All-push}
 use Rattle.foundation.specs.Bytes.{SameBut}
 use Rattle.event_form.specs.declared.event.Entry.{Entry}
 use Rattle.spool_state.specs.Segment.{IsGroup, entries_of, empty_segment}
-use Rattle.spool_state.specs.SpoolState.{OpenSlot, SpoolState, entries_in, list, base, end, pending, Follows, AreConsecutive, AreElsewhere, IsOpenSlot, IsSound}
+use Rattle.spool_state.specs.SpoolState.{SpoolState, entries_in, list, base, end, pending, Follows, AreConsecutive, IsOpenSlot, IsSound}
 use Rattle.spool_state.specs.Change.{begun}
 use Rattle.spool_state.specs.Cells.{content_text}
 use Rattle.spool_state.specs.Image.{slot_at, HoldsSegment, HoldsSlot, StandsFor}

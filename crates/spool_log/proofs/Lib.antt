@@ -4,3 +4,4 @@ pub mod Begun
 pub mod Shut
 pub mod Added
 pub mod Beginning
+pub mod Replacing

@@ -1,10 +1,10 @@
 -- The numbers of a state, as memory knows them.
-use Rattle.std.proofs.Common.{◌≡◌, ℕ, ◌+◌, ◌-◌, ◌≤◌, ◌<◌, List, [], ◌∷◌, ◌++◌, length, flat_map, refl, sym, ◌∙◌, ap, arith, length-append}
+use Rattle.std.proofs.Common.{◌≡◌, ℕ, ◌+◌, ◌-◌, ◌≤◌, ◌<◌, List, [], ◌∷◌, ◌++◌, length, flat_map, arith, length-append}
 use Rattle.std.specs.Prelude.{All}
 use Rattle.std.proofs.Math.Logic.{∥∥₁_elim}
 use Rattle.event_form.specs.declared.event.Entry.{Entry}
-use Rattle.spool_state.specs.Segment.{IsGroup, Segment, entries_of, segment_text}
-use Rattle.spool_state.specs.SpoolState.{OpenSlot, SpoolState, end, room, base, IsSound}
+use Rattle.spool_state.specs.Segment.{IsGroup, entries_of, segment_text}
+use Rattle.spool_state.specs.SpoolState.{OpenSlot, SpoolState, end, room, IsSound}
 use Rattle.spool_state.proofs.Texts.{end_active}
 use Rattle.spool_state.proofs.Segments.{empty_length}
 use Rattle.spool_slots.specs.declared.slot.Slot.{Slot}

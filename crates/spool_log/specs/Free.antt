@@ -1,5 +1,5 @@
 -- Slots in which a new segment can be begun.
-use Rattle.std.specs.Prelude.{◌≡◌, ◌≢◌, ℕ, zero, suc, ◌+◌, ◌<◌, ◌==◌, ◌||◌, Bool, true, false, nat_le, List, [], ◌∷◌, length, Option, None, Some}
+use Rattle.std.specs.Prelude.{◌≢◌, ℕ, zero, suc, ◌+◌, ◌<◌, ◌==◌, ◌||◌, Bool, true, false, nat_le, List, [], ◌∷◌, length, Option, None, Some}
 use Rattle.spool_state.specs.Segment.{entries_of}
 use Rattle.spool_state.specs.SpoolState.{OpenSlot, SpoolState, AreElsewhere}
 

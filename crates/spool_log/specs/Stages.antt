@@ -1,5 +1,5 @@
 -- The stages of a change, and a doubt: stages of a change that failed on the way.
-use Rattle.std.specs.Prelude.{◌≡◌, ◌⊎◌, ℕ, ◌<◌, if◌then◌else◌, nat_le, List, [], ◌∷◌, Option, None, Some, All}
+use Rattle.std.specs.Prelude.{◌≡◌, ◌⊎◌, ℕ, if◌then◌else◌, nat_le, List, [], ◌∷◌, Option, None, Some, All}
 use Rattle.event_form.specs.declared.event.Entry.{Entry}
 use Rattle.spool_state.specs.Segment.{need_of}
 use Rattle.spool_state.specs.SpoolState.{OpenSlot, SpoolState, room, Follows}

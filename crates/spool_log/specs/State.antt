@@ -1,5 +1,5 @@
 -- A spool in memory and on its disk.
-use Rattle.std.specs.Prelude.{◌≡◌, ◌↔◌, ℕ, ◌<◌, Bool, IsTrue, List, [], length, Result, MatchResult}
+use Rattle.std.specs.Prelude.{◌↔◌, ℕ, ◌<◌, Bool, IsTrue, List, [], length, Result, MatchResult}
 use Rattle.spool_state.specs.SpoolState.{SpoolState, IsSound}
 use Rattle.edge_disk.specs.Disk.{Moment, LeavesOnly}
 use Rattle.spool_log.specs.declared.known.Known.{Known}

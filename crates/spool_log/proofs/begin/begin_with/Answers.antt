@@ -1,6 +1,5 @@
-use Rattle.std.proofs.Common.{◌≡◌, ℕ, ◌+◌, ◌-◌, ◌^◌, ◌<◌, ◌≤◌, List, length, slice_index, subst, sym, ap, ◌∙◌, arith}
+use Rattle.std.proofs.Common.{ℕ, List, subst, sym, arith}
 use Rattle.spool_state.specs.Segment.{IsGroup, empty_segment}
-use Rattle.spool_state.proofs.Segments.{holds_closed}
 use Rattle.spool_slots.specs.Slot as Slots
 use Rattle.spool_log.proofs.Beginning.{begin_stage, images, both_moments, both_stand, both_known, both_outside}
 use Rattle.spool_log.proofs.Added.{closed_here}
@@ -33,9 +32,10 @@ returns-in-Ok-clause-stands g c = λ s place tells stands next fits.
     let sound : IsGroup c.args.entries.now = record { some = c.requires.some; entries = c.requires.limits } in
     let here = images s place _ _ _ _ next _ _ (c.requires.settled tells) stands (c.begin.ensures.any_moment tells) lawful durable slot c.in_ok-slot.ensures.slot (c.in_ok-slot.ensures.known tells) c.args.entries.now sound fits in
     let run = c.append_entries.ensures.any_moment _ tells here in
-    let last = g.met.D.Disk.lawful c.append_entries.new.disk tells in
-    (both_stand s place _ _ _ _ next _ _ (c.requires.settled tells) stands (c.begin.ensures.any_moment tells) lawful durable slot c.in_ok-slot.ensures.slot (c.in_ok-slot.ensures.known tells) c.args.entries.now sound fits _ run last c.append_entries.new.self c.in-Ok.ensures.slot (c.in-Ok.ensures.known _ tells here),
-     both_known s place _ _ _ _ next _ _ (c.requires.settled tells) stands (c.begin.ensures.any_moment tells) lawful durable slot c.in_ok-slot.ensures.slot (c.in_ok-slot.ensures.known tells) c.args.entries.now sound fits _ run last c.append_entries.new.self c.in-Ok.ensures.slot (c.in-Ok.ensures.known _ tells here))
+    let last = g.met.D.Disk.lawful c.append_entries.new.disk tells in (
+      both_stand s place _ _ _ _ next _ _ (c.requires.settled tells) stands (c.begin.ensures.any_moment tells) lawful durable slot c.in_ok-slot.ensures.slot (c.in_ok-slot.ensures.known tells) c.args.entries.now sound fits _ run last c.append_entries.new.self c.in-Ok.ensures.slot (c.in-Ok.ensures.known _ tells here),
+      both_known s place _ _ _ _ next _ _ (c.requires.settled tells) stands (c.begin.ensures.any_moment tells) lawful durable slot c.in_ok-slot.ensures.slot (c.in_ok-slot.ensures.known tells) c.args.entries.now sound fits _ run last c.append_entries.new.self c.in-Ok.ensures.slot (c.in-Ok.ensures.known _ tells here),
+    )
 
 pub returns-in-Ok-clause-any_moment : goal.returns-in-Ok-clause-any_moment
 returns-in-Ok-clause-any_moment g c = λ s place tells stands next fits.

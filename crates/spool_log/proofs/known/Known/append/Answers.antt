@@ -1,4 +1,4 @@
-use Rattle.std.proofs.Common.{◌≡◌, inr, ℕ, ◌+◌, ◌≤◌, List, [], ◌∷◌, length, arith, sym, ◌∙◌}
+use Rattle.std.proofs.Common.{inr, ◌+◌, ◌≤◌, length, arith}
 use Rattle.spool_state.specs.Segment.{IsGroup}
 use Rattle.spool_state.specs.SpoolState.{end}
 use Rattle.disk_cell.proofs.Frames.{knows_stays}

@@ -1,8 +1,7 @@
-use Rattle.std.proofs.Common.{◌≡◌, inr, ℕ, ◌+◌, ◌*◌, ◌≤◌, ◌<◌, List, [], ◌∷◌, length, get_or, arith, ap, subst, sym, ◌∙◌, ◌++◌}
-use Rattle.spool_state.specs.Segment.{entries_of}
-use Rattle.spool_state.specs.SpoolState.{SpoolState, end}
+use Rattle.std.proofs.Common.{◌≡◌, inr, ℕ, ◌+◌, ◌*◌, List, [], ◌∷◌, get_or, arith, ap, subst, sym, ◌∙◌, ◌++◌}
 use Rattle.disk_cell.proofs.Frames.{knows_stays}
-use Rattle.spool_log.specs.Knows.{IsStored, KnowsSlots}
+use Rattle.spool_slots.specs.declared.slot.Slot.{Slot}
+use Rattle.spool_log.specs.Knows.{KnowsSlots}
 use Rattle.spool_log.specs.Next.{IsNext}
 use Rattle.spool_log.proofs.Numbers.{no_proof, end_known, some_entry, knows_push}
 use Rattle.spool_log.proofs.known.Known.begin.Goals as goal
@@ -65,7 +64,7 @@ returns-clause-stored g c = λ s tells stored.
         run = knows.run;
         cursor = knows.cursor;
         ordinal = knows.ordinal;
-        older = subst (KnowsSlots s.size (s.older ++ s.active ∷ [])) (sym c.push_reserved.ensures.items) (knows_push s.size s.older c.args.self.now.older.items s.active slot knows.older knows.active);
+        older = subst (KnowsSlots s.size (s.older ++ s.active ∷ [])) (sym {A = List Slot} c.push_reserved.ensures.items) (knows_push s.size s.older c.args.self.now.older.items s.active slot knows.older knows.active);
         active = done.1;
       };
       register = knows_stays c.args.self.now.register _ _ m.reads _ (c.in_ok-slot.ensures.outside tells) (inr (omega (arith, next.at_is))) (omega (arith, stored.stands.long)) stored.register;
