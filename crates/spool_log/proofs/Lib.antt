@@ -1,5 +1,7 @@
 pub mod Lists
 pub mod Numbers
+pub mod Lowest
+pub mod Adding
 pub mod Begun
 pub mod Shut
 pub mod Added
