@@ -2,3 +2,12 @@ pub mod Orders
 pub mod Scanned
 pub mod Faults
 pub mod Headers
+pub mod Lists
+pub mod Numbers
+pub mod Lowest
+pub mod Adding
+pub mod Begun
+pub mod Shut
+pub mod Added
+pub mod Beginning
+pub mod Replacing

@@ -4,3 +4,8 @@ pub mod Knows
 pub mod Judging
 pub mod Reading
 pub mod Header
+pub mod Free
+pub mod Stages
+pub mod State
+pub mod Next
+pub mod Target

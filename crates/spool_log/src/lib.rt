@@ -4,12 +4,15 @@
 //! of a call what a crash leaves stands for the state before the call, or for a later stage of its change.
 #![tactic(auto)]
 
+mod add;
+mod begin;
 mod fault;
 mod header;
 mod judge;
 mod known;
 mod read_fault;
 mod slots;
+mod target;
 
 pub use fault::{ConfirmFault, PendFault, Receipt, RecoverFault, TakeFault};
 pub use known::Known;
