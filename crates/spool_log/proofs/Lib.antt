@@ -11,3 +11,4 @@ pub mod Shut
 pub mod Added
 pub mod Beginning
 pub mod Replacing
+pub mod Readings

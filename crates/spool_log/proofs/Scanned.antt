@@ -28,7 +28,7 @@ insert_first x xs k y =
 pub All-insert : {X : Type 0} (P : X → Type 0) (xs : List X) (k : ℕ) (y : X) → All P xs → P y → All P (insert xs k y)
 All-insert P xs k y all here = All-append P (take k xs) (y ∷ drop k xs) (All-take P k xs all) (All-cons P y (drop k xs) here (All-drop P k xs all))
 
-all_split : {X : Type 0} (P : X → Type 0) (xs ys : List X) → All P (xs ++ ys) → All P xs × All P ys
+pub all_split : {X : Type 0} (P : X → Type 0) (xs ys : List X) → All P (xs ++ ys) → All P xs × All P ys
 all_split P [] ys all = (All-nil P, all)
 all_split P (x ∷ xs) ys all =
     let rest = all_split P xs ys (All-tail P x (xs ++ ys) all) in
@@ -37,9 +37,10 @@ all_split P (x ∷ xs) ys all =
 -- what holds of the list with the element more holds of it and of the others
 all_inserted : {X : Type 0} (P : X → Type 0) (xs : List X) (k : ℕ) (y : X) → All P (insert xs k y) → All P xs × P y
 all_inserted P xs k y all =
-    let split = all_split P (take k xs) (y ∷ drop k xs) all in
-    (All-same P xs (take k xs ++ drop k xs) (sym (take-append-drop k xs)) (All-append P (take k xs) (drop k xs) split.0 (All-tail P y (drop k xs) split.1)),
-     All-head P y (drop k xs) split.1)
+    let split = all_split P (take k xs) (y ∷ drop k xs) all in (
+      All-same P xs (take k xs ++ drop k xs) (sym (take-append-drop k xs)) (All-append P (take k xs) (drop k xs) split.0 (All-tail P y (drop k xs) split.1)),
+      All-head P y (drop k xs) split.1,
+    )
 
 -- ---- one slot more, behind those with at most its ordinal
 
@@ -54,10 +55,11 @@ module _ (size : ℕ) (new : OpenSlot) (slot : Slot) (knows : KnowsSlot size new
   AreKept slots items k = KnowsSlots size (insert slots k new) (insert items k slot) × AreSorted (insert slots k new)
 
   behind_first : (s : OpenSlot) (slots : List OpenSlot) (i : Slot) (items : List Slot) (k : ℕ) → KnowsSlot size s i → All (ComesBefore s) slots → ComesBefore s new → AreKept slots items k → AreKept (s ∷ slots) (i ∷ items) (1 + k)
-  behind_first s slots i items k known before first kept =
-      (subst (λ (l : List OpenSlot). KnowsSlots size l (insert (i ∷ items) (1 + k) slot)) (sym (insert_first s slots k new))
-         (subst (λ (l : List Slot). KnowsSlots size (s ∷ insert slots k new) l) (sym (insert_first i items k slot)) (known, kept.0)),
-       subst AreSorted (sym (insert_first s slots k new)) (All-insert (ComesBefore s) slots k new before first, kept.1))
+  behind_first s slots i items k known before first kept = (
+    subst (λ (l : List OpenSlot). KnowsSlots size l (insert (i ∷ items) (1 + k) slot)) (sym (insert_first s slots k new))
+        (subst (λ (l : List Slot). KnowsSlots size (s ∷ insert slots k new) l) (sym (insert_first i items k slot)) (known, kept.0)),
+    subst AreSorted (sym (insert_first s slots k new)) (All-insert (ComesBefore s) slots k new before first, kept.1),
+  )
 
   first_of_all : (s : OpenSlot) (slots : List OpenSlot) → new.segment.ordinal < s.segment.ordinal → All (ComesBefore s) slots → All (ComesBefore new) (s ∷ slots)
   first_of_all s slots lt before =
@@ -78,7 +80,7 @@ module _ (size : ℕ) (new : OpenSlot) (slot : Slot) (knows : KnowsSlot size new
             subst (AreKept (s ∷ slots) (i ∷ items)) (ap (λ (b : Bool). cond b (1 + place_in items) 0) (sym le.0)) (behind_first s slots i items (place_in items) known.0 sorted.0 first later)
         | inr gt ↦
             subst (AreKept (s ∷ slots) (i ∷ items)) (ap (λ (b : Bool). cond b (1 + place_in items) 0) (sym gt.0))
-              ((knows, known), (first_of_all s slots (omega (arith, gt.1, known.0.ordinal_is, knows.ordinal_is)) sorted.0, sorted))
+            ((knows, known), (first_of_all s slots (omega (arith, gt.1, known.0.ordinal_is, knows.ordinal_is)) sorted.0, sorted))
       ]
 
 -- ---- one place more
@@ -141,8 +143,8 @@ module _ (size place : ℕ) (items : List Slot) (c : List ℕ) (known : KnowsOpe
             found = All-insert (IsFound (place + 1) size c) known.opened k new (wider size c place known.opened known.all.found) found;
             sorted = both.1;
             others = λ p lt none.
-              let split = all_inserted (λ s. s.place ≢ p) known.opened k new none in
-              known.all.others p (omega (arith, split.1)) split.0;
+                let split = all_inserted (λ s. s.place ≢ p) known.opened k new none in
+                known.all.others p (omega (arith, split.1)) split.0;
           };
           numbers = both.0;
         }

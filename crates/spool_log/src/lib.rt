@@ -10,6 +10,7 @@ mod fault;
 mod header;
 mod judge;
 mod known;
+mod read;
 mod read_fault;
 mod slots;
 mod target;

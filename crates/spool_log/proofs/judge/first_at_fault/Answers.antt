@@ -9,7 +9,7 @@ use Rattle.spool_log.proofs.judge.first_at_fault.Goals as goal
 pub returns-then-not-is_in_order-clause-order : goal.returns-then-not-is_in_order-clause-order
 returns-then-not-is_in_order-clause-order c = λ size slots knows.
     rest_here size slots c.args.ordinal c.args.first c.args.opened.now c.loop-k.k c.index-opened-k.result c.loop-k-test.true c.index-opened-k.is c.loop-k.ordinal c.loop-k.first (c.loop-k.invariant.order size slots knows)
-      (λ numbers. cc (c.is_in_order.ensures.1 numbers, c.if-not-is_in_order.true))
+    (λ numbers. cc (c.is_in_order.ensures.1 numbers, c.if-not-is_in_order.true))
 
 pub loop-k-preserved : goal.loop-k-preserved
 loop-k-preserved c =
