@@ -1,6 +1,6 @@
 -- Faults of calls, answered as faults of the reading.
 use Rattle.std.proofs.Common.{◌≡◌, ℕ, ◌<◌, List, subst, sym}
-use Rattle.std.specs.Prelude.{Result, Ok, Err, IfErr, IsErrAnd}
+use Rattle.std.specs.Prelude.{Result, Ok, Err, OnOk, IfErr, IsErrAnd}
 use Rattle.spool_state.specs.Image.{slot_at}
 use Rattle.spool_slots.specs.declared.slot.Slot.{Slot}
 use Rattle.spool_slots.specs.declared.fault.ScanFault.{ScanFault}
@@ -19,3 +19,8 @@ pub slots_fault : (slots size place : ℕ) (items : List Slot) (c : List ℕ) (f
 slots_fault slots size place items c (Scan.NotSpool at) lt known breaks = first_breaks size place items c known slots at lt breaks
 slots_fault slots size place items c Scan.DiskFault lt known breaks = tt
 slots_fault slots size place items c Scan.NoMemory lt known breaks = tt
+
+-- what follows from a clause on success
+pub on_ok : {T E : Type 0} (r : Result T E) (P Q : Type 0) → OnOk r P → (P → Q) → OnOk r Q
+on_ok (Ok v) P Q p f = f p
+on_ok (Err x) P Q p f = tt

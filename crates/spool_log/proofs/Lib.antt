@@ -12,3 +12,6 @@ pub mod Added
 pub mod Beginning
 pub mod Replacing
 pub mod Readings
+pub mod Naming
+pub mod Fronts
+pub mod Formats

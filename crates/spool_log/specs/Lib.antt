@@ -9,3 +9,4 @@ pub mod Stages
 pub mod State
 pub mod Next
 pub mod Target
+pub mod Format

@@ -7,6 +7,8 @@
 mod add;
 mod begin;
 mod fault;
+mod format_steps;
+mod formatting;
 mod header;
 mod judge;
 mod known;
@@ -16,5 +18,6 @@ mod slots;
 mod target;
 
 pub use fault::{ConfirmFault, PendFault, Receipt, RecoverFault, TakeFault};
+pub use formatting::{FormatFault, format};
 pub use known::Known;
 pub use read_fault::ReadFault;

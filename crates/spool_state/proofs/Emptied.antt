@@ -86,7 +86,7 @@ module _ (slots size : ℕ) (b : List ℕ) (layout : IsLayout slots size (length
       let long : length c ≡ length b = length-put 0 magic b (omega (arith, fits)) in
       part_split 0 8 12 c
       ∙ ap (λ (l : List ℕ). l ++ part 8 12 c) (part_put 0 8 magic b (omega (arith, fits)) refl)
-      ∙ ap (λ (l : List ℕ). magic ++ l) (part_stays 8 12 (omega arith) (omega (arith, fits)) ∙ body.numbers)
+      ∙ ap (λ (l : List ℕ). magic ++ l) (part_stays 8 12 (omega arith) (omega (arith, fits)) ∙ body.front.numbers)
 
   -- With the magic in front they stand for the empty spool.
   pub body_stands : StandsFor (empty_state slots size) (put 0 magic b)
@@ -99,11 +99,11 @@ module _ (slots size : ℕ) (b : List ℕ) (layout : IsLayout slots size (length
         long = long ∙ layout.long;
         header = header;
         register = inl (record {
-          holds = ap (λ (n : ℕ). part 4096 n c) size_is ∙ part_stays 4096 30 (omega arith) (omega (arith, fits)) ∙ body.cell;
-          other_less = inl (λ one. body.other (sym (same.above 8192 (omega arith)) ∙ one));
+          holds = ap (λ (n : ℕ). part 4096 n c) size_is ∙ part_stays 4096 30 (omega arith) (omega (arith, fits)) ∙ body.front.cell;
+          other_less = inl (λ one. body.front.other (sym (same.above 8192 (omega arith)) ∙ one));
         });
         older = λ k d lt. absurd (omega arith);
-        active = holds_empty (slot_at size 0) size 1 0 c (omega (arith, layout.large)) (omega (arith, fits, long)) (subst (λ (n : ℕ). part n 18 c ≡ head_text 1 0 ++ 0 ∷ []) at_is (part_stays 12288 18 (omega arith) (omega (arith, fits, layout.large)) ∙ body.slot));
+        active = holds_empty (slot_at size 0) size 1 0 c (omega (arith, layout.large)) (omega (arith, fits, long)) (subst (λ (n : ℕ). part n 18 c ≡ head_text 1 0 ++ 0 ∷ []) at_is (part_stays 12288 18 (omega arith) (omega (arith, fits, layout.large)) ∙ body.front.slot));
         closed = λ place lt off none one. body.others place (omega (arith, off)) lt (sym (same.above (slot_at size place) (omega arith)) ∙ one);
         sound = empty_sound slots size (length b) layout;
       }

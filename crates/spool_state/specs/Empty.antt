@@ -20,10 +20,14 @@ empty_state slots size = record {
   active = record { place = 0; segment = empty_segment 1 0 };
 }
 
--- The first bytes of its slots and cells, and the numbers of its header. With the magic in front they stand for it.
-pub record IsBody (slots size : ℕ) (c : List ℕ) : Type 0 where
+-- The numbers of its header, its cells, and the empty segment in its first slot.
+pub record IsFront (slots size : ℕ) (c : List ℕ) : Type 0 where
   pub numbers : part 8 12 c ≡ to_be_bytes w32 slots ++ to_be_bytes w64 size
   pub cell : part first_cell 30 c ≡ cell_text 1 (content_text 0 0)
   pub other : slice_index c second_cell ≢ 1
   pub slot : part 12288 18 c ≡ head_text 1 0 ++ 0 ∷ []
+
+-- All its bytes that matter, but for the magic: the other slots are closed.
+pub record IsBody (slots size : ℕ) (c : List ℕ) : Type 0 where
+  pub front : IsFront slots size c
   pub others : (place : ℕ) → 1 ≤ place → place < slots → slice_index c (slot_at size place) ≢ 1
