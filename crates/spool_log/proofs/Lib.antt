@@ -2,6 +2,7 @@ pub mod Lists
 pub mod Numbers
 pub mod Lowest
 pub mod Adding
+pub mod Stored
 pub mod Begun
 pub mod Shut
 pub mod Added

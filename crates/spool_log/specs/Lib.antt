@@ -6,3 +6,5 @@ pub mod Stages
 pub mod State
 pub mod Next
 pub mod Target
+pub mod Take
+pub mod Outcome
