@@ -1,3 +1,7 @@
+pub mod Orders
+pub mod Scanned
+pub mod Faults
+pub mod Headers
 pub mod Lists
 pub mod Numbers
 pub mod Lowest

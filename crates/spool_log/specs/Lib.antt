@@ -1,6 +1,9 @@
 pub mod Device
 pub mod Fault
 pub mod Knows
+pub mod Judging
+pub mod Reading
+pub mod Header
 pub mod Free
 pub mod Stages
 pub mod State

@@ -7,8 +7,13 @@
 mod add;
 mod begin;
 mod fault;
+mod header;
+mod judge;
 mod known;
+mod read_fault;
+mod slots;
 mod target;
 
 pub use fault::{ConfirmFault, PendFault, Receipt, RecoverFault, TakeFault};
 pub use known::Known;
+pub use read_fault::ReadFault;

@@ -20,7 +20,7 @@ pub same_gate : (p k : ℕ) (c : List ℕ) → 0 < k → get_or (part p 1 c) 0 0
 same_gate p k c some = get_or-part p 1 c 0 p (omega arith) (omega arith) ∙ sym (get_or-part p k c 0 p some (omega arith))
 
 -- a part of two parts
-part_split : (p n k q m : ℕ) (c : List ℕ) → q ≡ p + n → k ≡ n + m → part p k c ≡ part p n c ++ part q m c
+pub part_split : (p n k q m : ℕ) (c : List ℕ) → q ≡ p + n → k ≡ n + m → part p k c ≡ part p n c ++ part q m c
 part_split p n k q m c q_is k_is =
     let le : n ≤ k = omega arith in
     sym (take-append-drop n (part p k c))
@@ -29,7 +29,7 @@ part_split p n k q m c q_is k_is =
     ∙ ap (λ (j : ℕ). part p n c ++ part j (k - n) c) (sym q_is)
     ∙ ap (λ (j : ℕ). part p n c ++ part q j c) (omega arith)
 
-first_byte : (bytes : List ℕ) (x : ℕ) → 0 < length bytes → get_or bytes 0 0 ≡ x → bytes ≡ x ∷ drop 1 bytes
+pub first_byte : (bytes : List ℕ) (x : ℕ) → 0 < length bytes → get_or bytes 0 0 ≡ x → bytes ≡ x ∷ drop 1 bytes
 first_byte [] x some is = absurd (omega arith)
 first_byte (b ∷ bytes) x some is = ap (λ (y : ℕ). y ∷ bytes) is
 

@@ -5,3 +5,5 @@ pub mod Windows
 pub mod Peeks
 pub mod Walks
 pub mod Found
+pub mod Scans
+pub mod Marks

@@ -4,3 +4,5 @@ pub mod Pen
 pub mod Window
 pub mod Groups
 pub mod Scan
+pub mod Mark
+pub mod Part

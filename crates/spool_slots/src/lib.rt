@@ -8,10 +8,15 @@
 mod append;
 mod fault;
 mod group;
+mod mark;
 mod number;
+mod part;
 mod pen;
+mod scan;
 mod slot;
 mod window;
 
 pub use fault::{ScanFault, SlotFault};
+pub use mark::Mark;
+pub use part::Part;
 pub use slot::Slot;

@@ -1,8 +1,8 @@
 -- A slot's bytes are read as groups in one way only.
-use Rattle.std.proofs.Common.{◌≡◌, ◌≢◌, ℕ, ◌+◌, ◌^◌, ◌<◌, ◌≤◌, List, [], ◌∷◌, ◌++◌, length, take, drop, get_or, refl, sym, ◌∙◌, ap, subst, arith, append_assoc, length-append}
-use Rattle.std.specs.List.{All, AllByRecursion, flat_map}
+use Rattle.std.proofs.Common.{◌≡◌, ◌≢◌, ℕ, ◌+◌, ◌^◌, ◌<◌, ◌≤◌, List, [], ◌∷◌, ◌++◌, length, take, drop, get_or, refl, sym, ◌∙◌, ap, arith, append_assoc, length-append}
+use Rattle.std.specs.List.{All, AllByRecursion}
 use Rattle.std.specs.Int.{to_be_bytes, w32, w64}
-use Rattle.std.proofs.lemmas.List.{append-nil, append_cancel_left, take_at, drop_at}
+use Rattle.std.proofs.lemmas.List.{append-nil, take_at, drop_at}
 use Rattle.std.proofs.lemmas.List.Elements.{All-drop, All-same, recursion_from_All}
 use Rattle.foundation.specs.Bytes.{part}
 use Rattle.foundation.proofs.Bytes.{length-part}
@@ -79,7 +79,7 @@ pub found_first : (at size : ℕ) (before segment : Segment) (rest c : List ℕ)
 found_first at size before segment rest c room small hb hs is holds =
     let same : groups_text before.groups ++ rest ≡ groups_text segment.groups ++ holds.rest = sym (behind_head before rest) ∙ ap (drop 17) (sym is ∙ holds.text) ∙ behind_head segment holds.rest in
     let short : length (groups_text before.groups ++ rest) < 2 ^ 32 =
-        omega (arith, small, length-part at size c room, ap length is, ap length (append_assoc (head_text before.ordinal before.first) (groups_text before.groups) rest), length-append (head_text before.ordinal before.first) (groups_text before.groups ++ rest)) in
+    omega (arith, small, length-part at size c room, ap length is, ap length (append_assoc (head_text before.ordinal before.first) (groups_text before.groups) rest), length-append (head_text before.ordinal before.first) (groups_text before.groups ++ rest)) in
     found before.groups segment.groups rest holds.rest (recursion_from_All IsGroup before.groups hb) (recursion_from_All IsGroup segment.groups hs) short holds.closed same
 
 sound_behind : (before more groups : List (List Entry)) → groups ≡ before ++ more → All IsGroup groups → All IsGroup more
@@ -94,12 +94,15 @@ none_behind (g ∷ more) rest x closed is = absurd (closed (ap (λ (l : List ℕ
 -- of groups that stand there, the first stands there
 first_behind : (more : List (List Entry)) (rest x : List ℕ) → All IsGroup more → get_or rest 0 0 ≢ 1 → 0 < length rest → get_or x 0 0 ≡ 1 → x ≡ groups_text more ++ rest → (g : List Entry) × BeginsGroup g x
 first_behind [] rest x all closed some opens is = absurd (closed (ap (λ (l : List ℕ). get_or l 0 0) (sym is) ∙ opens))
-first_behind (g ∷ more) rest x all closed some opens is = (g, record {
-  sound = all 0 g (omega arith);
-  behind = groups_text more ++ rest;
-  text = is ∙ joined g more rest;
-  closing = omega (arith, length-append (groups_text more) rest, some);
-})
+first_behind (g ∷ more) rest x all closed some opens is = (
+  g,
+  record {
+    sound = all 0 g (omega arith);
+    behind = groups_text more ++ rest;
+    text = is ∙ joined g more rest;
+    closing = omega (arith, length-append (groups_text more) rest, some);
+  },
+)
 
 -- a slot that breaks the rule holds no segment of sound groups
 pub broken_holds_none : (at size place : ℕ) (segment : Segment) (c : List ℕ) → at + size ≤ length c → size < 2 ^ 32 → All IsGroup segment.groups → BreaksAt at size place c → HoldsSegment at size segment c → ⊥
@@ -120,6 +123,6 @@ one_segment at size s t c room small so to sf tf hs ht s_holds t_holds =
     let more = found_first at size s t s_holds.rest c room small hs ht s_holds.text t_holds in
     let none = none_behind more.0 t_holds.rest s_holds.rest s_holds.closed more.2 in
     same_segment s t
-      (same_eight s.ordinal t.ordinal so to (sym (ordinal_at s.ordinal s.first) ∙ ap (λ (l : List ℕ). take 8 (drop 1 l)) head ∙ ordinal_at t.ordinal t.first))
-      (same_eight s.first t.first sf tf (sym (first_at s.ordinal s.first) ∙ ap (drop 9) head ∙ first_at t.ordinal t.first))
-      (sym (more.1 ∙ ap (λ (l : List (List Entry)). s.groups ++ l) none ∙ append-nil s.groups))
+    (same_eight s.ordinal t.ordinal so to (sym (ordinal_at s.ordinal s.first) ∙ ap (λ (l : List ℕ). take 8 (drop 1 l)) head ∙ ordinal_at t.ordinal t.first))
+    (same_eight s.first t.first sf tf (sym (first_at s.ordinal s.first) ∙ ap (drop 9) head ∙ first_at t.ordinal t.first))
+    (sym (more.1 ∙ ap (λ (l : List (List Entry)). s.groups ++ l) none ∙ append-nil s.groups))
