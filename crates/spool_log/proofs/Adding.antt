@@ -1,5 +1,5 @@
 -- Where a group goes.
-use Rattle.std.proofs.Common.{◌≡◌, ℕ, zero, suc, ◌+◌, ◌<◌, ◌≤◌, cond, List, [], ◌∷◌, length, get_or, Option, None, Some, refl, ◌∙◌, ap, arith}
+use Rattle.std.proofs.Common.{◌≡◌, ℕ, zero, suc, ◌+◌, ◌<◌, ◌≤◌, cond, List, [], ◌∷◌, length, get_or, Option, None, Some, refl, sym, ◌∙◌, ap, subst, arith}
 use Rattle.std.specs.Prelude.{nat_le}
 use Rattle.std.proofs.lemmas.Bool.{cond-true, cond-false, cond_both, le-leb, lt-leb, leb-true}
 use Rattle.event_form.specs.declared.event.Entry.{Entry}
@@ -11,6 +11,12 @@ use Rattle.spool_log.specs.Free.{lowest_closed, is_confirmed, end_of}
 use Rattle.spool_log.specs.Stages.{beginning, beginning_at, replacing, replacing_confirmed, adding, AllFollow}
 use Rattle.spool_log.proofs.Begun.{base-begun, follows_begun}
 use Rattle.spool_log.proofs.Shut.{follows_shut, sound-shut}
+use Rattle.spool_log.specs.declared.known.Known.{Known}
+use Rattle.spool_log.specs.declared.target.Target.{Target}
+use Rattle.spool_log.specs.declared.target.Target.TheVariants.{Active, Closed, First}
+use Rattle.spool_log.specs.Knows.{Knows}
+use Rattle.spool_log.specs.Target.{stages_at, Suits}
+use Rattle.spool_log.proofs.Replacing.{first_known}
 
 none_of : (s : SpoolState) → AllFollow s []
 none_of s = λ k d lt. absurd (omega arith)
@@ -61,3 +67,11 @@ beginning_follow s group None sound = replacing_follow s group s.older refl soun
 pub adding_follow : (s : SpoolState) (group : List Entry) → IsSound s → AllFollow s (adding s group)
 adding_follow s group sound =
     cond_both (nat_le (need_of group) (room s)) (added s group ∷ []) (beginning_at (lowest_closed s s.slots) s group) (AllFollow s) (λ yes. one_of s (added s group) (follows_added s group sound.from_base)) (λ no. beginning_follow s group (lowest_closed s s.slots) sound)
+
+-- a place that suits a group has a stage
+pub some_stage : (target : Target) (s : SpoolState) (known : Known) (need : ℕ) (group : List Entry) → Knows s known → Suits known need target → 0 < length (stages_at target s group)
+some_stage Active s known need group knows suits = omega arith
+some_stage (Closed place) s known need group knows suits = omega arith
+some_stage First s known need group knows suits =
+    let first = first_known s.size known.register.content.cursor s.older known.older.items knows.older suits.1 in
+    subst (λ (l : List OpenSlot). 0 < length (replacing s l group)) (sym first.slots_are) (omega arith)

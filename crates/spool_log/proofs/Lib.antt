@@ -7,6 +7,8 @@ pub mod Numbers
 pub mod Lowest
 pub mod Adding
 pub mod Stored
+pub mod Mending
+pub mod Storing
 pub mod Begun
 pub mod Shut
 pub mod Added

@@ -2,11 +2,13 @@
 use Rattle.std.specs.Prelude.{◌≡◌, ℕ, ◌+◌, ◌^◌, ◌<◌, ◌≤◌, List, [], length, Result, Ok, Err}
 use Rattle.event_form.specs.declared.event.Entry.{Entry}
 use Rattle.spool_state.specs.Segment.{need_of}
-use Rattle.spool_state.specs.SpoolState.{SpoolState, end, room, most_room}
+use Rattle.spool_state.specs.SpoolState.{SpoolState, end, room, most_room, Follows}
+use Rattle.edge_disk.specs.Disk.{LeavesOnly}
 use Rattle.spool_log.specs.declared.fault.Receipt.{Receipt}
 use Rattle.spool_log.specs.declared.fault.TakeFault.{TakeFault}
 use Rattle.spool_log.specs.declared.fault.TakeFault.TheVariants.{TooLarge, Spent, Full, NotSpool, NoMemory, DiskFault}
-use Rattle.spool_log.specs.Stages.{last_of, adding}
+use Rattle.spool_log.specs.Stages.{last_of, adding, StandsForOne}
+use Rattle.spool_log.specs.State.{View, IsIn}
 
 -- nothing but the disk stands in the way of the group
 pub record Fits (s : SpoolState) (group : List Entry) : Type 0 where
@@ -39,3 +41,27 @@ take_doubt s group (Err (Full need free)) = []
 take_doubt s group (Err (NotSpool at)) = []
 take_doubt s group (Err NoMemory) = []
 take_doubt s group (Err DiskFault) = adding s group
+
+-- the group was refused: for want of room or of numbers
+abbrev pub IsRefusal : TakeFault → Type 0
+IsRefusal (TooLarge need most) = Unit {0}
+IsRefusal (Spent at) = Unit {0}
+IsRefusal (Full need free) = Unit {0}
+IsRefusal (NotSpool at) = ⊥
+IsRefusal NoMemory = ⊥
+IsRefusal DiskFault = ⊥
+
+-- or the disk failed
+abbrev pub IsAnswered : TakeFault → Type 0
+IsAnswered (TooLarge need most) = Unit {0}
+IsAnswered (Spent at) = Unit {0}
+IsAnswered (Full need free) = Unit {0}
+IsAnswered (NotSpool at) = ⊥
+IsAnswered NoMemory = ⊥
+IsAnswered DiskFault = Unit {0}
+
+-- What a take outside doubt leads to.
+pub record StoresTo (s : SpoolState) (group : List Entry) (result : Result Receipt TakeFault) (old new : View) : Type 0 where
+  pub follows : Follows s (taken s group result)
+  pub reached : IsIn (taken s group result) (take_doubt s group result) new
+  pub any_moment : LeavesOnly (StandsForOne s (adding s group)) old.moment new.moment

@@ -10,10 +10,16 @@ mod fault;
 mod header;
 mod judge;
 mod known;
+mod mend;
+mod need;
 mod read_fault;
+mod read_known;
 mod slots;
+mod spool;
+mod take;
 mod target;
 
 pub use fault::{ConfirmFault, PendFault, Receipt, RecoverFault, TakeFault};
 pub use known::Known;
 pub use read_fault::ReadFault;
+pub use spool::Spool;
