@@ -1,5 +1,5 @@
 -- Where a group goes.
-use Rattle.std.proofs.Common.{◌≡◌, ℕ, zero, suc, ◌+◌, ◌<◌, ◌≤◌, cond, List, [], ◌∷◌, length, get_or, Option, None, Some, refl, sym, ◌∙◌, ap, subst, arith}
+use Rattle.std.proofs.Common.{◌≡◌, ℕ, zero, suc, ◌<◌, ◌≤◌, List, [], ◌∷◌, length, get_or, Option, None, Some, refl, sym, ◌∙◌, ap, subst, arith}
 use Rattle.std.specs.Prelude.{nat_le}
 use Rattle.std.proofs.lemmas.Bool.{cond-true, cond-false, cond_both, le-leb, lt-leb, leb-true}
 use Rattle.event_form.specs.declared.event.Entry.{Entry}
@@ -55,10 +55,10 @@ replacing_follow : (s : SpoolState) (group : List Entry) (older : List OpenSlot)
 replacing_follow s group [] is sound = none_of s
 replacing_follow s group (slot ∷ rest) is sound =
     cond_both (is_confirmed s slot) (replacing s (slot ∷ rest) group) [] (AllFollow s) (λ yes.
-      let confirmed = leb-true (end_of slot) s.cursor yes in
-      let first = follows_shut s slot rest is sound confirmed in
-      let more = begun_follow (shut s rest) slot.place group (sound-shut s slot rest is sound confirmed).from_base in
-      more_of s (shut s rest) (beginning (shut s rest) slot.place group) first more) (λ no. none_of s)
+    let confirmed = leb-true (end_of slot) s.cursor yes in
+    let first = follows_shut s slot rest is sound confirmed in
+    let more = begun_follow (shut s rest) slot.place group (sound-shut s slot rest is sound confirmed).from_base in
+    more_of s (shut s rest) (beginning (shut s rest) slot.place group) first more) (λ no. none_of s)
 
 beginning_follow : (s : SpoolState) (group : List Entry) (place : Option ℕ) → IsSound s → AllFollow s (beginning_at place s group)
 beginning_follow s group (Some place) sound = begun_follow s place group sound.from_base

@@ -1,5 +1,5 @@
 -- The header of a device, as it is read.
-use Rattle.std.proofs.Common.{◌≡◌, ◌≢◌, ◌⊎◌, inl, inr, ℕ, ◌+◌, ◌^◌, ◌<◌, ◌≤◌, List, [], ◌∷◌, ◌++◌, length, get_or, take, drop, refl, sym, ◌∙◌, ap, subst, arith, take-append-drop, length-drop}
+use Rattle.std.proofs.Common.{◌≡◌, inl, inr, ℕ, ◌+◌, ◌<◌, ◌≤◌, List, ◌++◌, length, take, drop, refl, sym, ◌∙◌, ap, subst, arith, take-append-drop, length-drop}
 use Rattle.std.specs.Int.{from_be_bytes, to_be_bytes}
 use mir.Syntax.{w32, w64}
 use Rattle.std.proofs.lemmas.List.{ext_get_or, take_all, drop-drop}
@@ -57,9 +57,12 @@ module _ (m : Moment) (lawful : IsLawful m) (room : 12288 ≤ m.size) (text : Li
 
   module _ (named : part 0 8 text ≡ magic) (header : Header) (slots_is : header.slots ≡ from_be_bytes w32 (part 8 4 text)) (size_is : header.size ≡ from_be_bytes w64 (part 12 8 text)) where
     pub not_measured : (IsLayout header.slots header.size m.size → ⊥) → Breaks 8 m.reads
-    not_measured other = inr (inl (refl, record { room = long; name = sym name_there ∙ named },
+    not_measured other = inr (inl (
+      refl,
+      record { room = long; name = sym name_there ∙ named },
       λ measured. other (subst (λ (n : ℕ). IsLayout n header.size m.size) (sym (slots_is ∙ slots_there))
-        (subst (λ (n : ℕ). IsLayout (slots_told m.reads) n m.size) (sym (size_is ∙ size_there)) (subst (IsLayout (slots_told m.reads) (size_told m.reads)) lawful.reads_size measured)))))
+          (subst (λ (n : ℕ). IsLayout (slots_told m.reads) n m.size) (sym (size_is ∙ size_there)) (subst (IsLayout (slots_told m.reads) (size_told m.reads)) lawful.reads_size measured))),
+    ))
 
     pub header_there : text ≡ header_text header.slots header.size → HasHeader header m.reads
     header_there whole = record { text = sym is ∙ whole; slots = sym (slots_is ∙ slots_there); size = sym (size_is ∙ size_there) }
@@ -71,6 +74,7 @@ front slots size = refl
 -- of the layout that the header tells, the device has its first rules kept
 pub header_kept : (header : Header) (m : Moment) → IsLawful m → IsLayout header.slots header.size m.size → HasHeader header m.reads → IsNamed m.reads × IsMeasured m.reads
 header_kept header m lawful layout has =
-    let room : 12288 ≤ length m.reads = omega (arith, layout.long, lawful.reads_size) in
-    (record { room = room; name = sym (part-front 0 8 20 m.reads (omega arith) (omega (arith, room))) ∙ ap (part 0 8) has.text ∙ front header.slots header.size },
-     subst (λ (n : ℕ). IsLayout n (size_told m.reads) (length m.reads)) (sym has.slots) (subst (λ (n : ℕ). IsLayout header.slots n (length m.reads)) (sym has.size) (subst (IsLayout header.slots header.size) (sym lawful.reads_size) layout)))
+    let room : 12288 ≤ length m.reads = omega (arith, layout.long, lawful.reads_size) in (
+      record { room = room; name = sym (part-front 0 8 20 m.reads (omega arith) (omega (arith, room))) ∙ ap (part 0 8) has.text ∙ front header.slots header.size },
+      subst (λ (n : ℕ). IsLayout n (size_told m.reads) (length m.reads)) (sym has.slots) (subst (λ (n : ℕ). IsLayout header.slots n (length m.reads)) (sym has.size) (subst (IsLayout header.slots header.size) (sym lawful.reads_size) layout)),
+    )

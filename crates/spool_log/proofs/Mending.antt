@@ -1,9 +1,8 @@
 -- A doubt mended: the device is read, and what it stands for is the state or one of the stages.
-use Rattle.std.proofs.Common.{◌≡◌, inl, inr, ℕ, suc, ◌+◌, ◌<◌, ◌≤◌, Bool, true, false, List, [], ◌∷◌, length, refl, sym, ◌∙◌, ap, subst, arith, IsTrue, ◌↔◌}
+use Rattle.std.proofs.Common.{◌≡◌, inl, inr, ℕ, suc, ◌<◌, Bool, true, false, List, [], ◌∷◌, length, refl, sym, ap, subst, arith, IsTrue, ◌↔◌}
 use Rattle.std.specs.Prelude.{Result, Ok, Err, IsErrAnd}
 use Rattle.spool_state.specs.SpoolState.{SpoolState, Follows}
 use Rattle.spool_state.specs.Image.{StandsFor}
-use Rattle.spool_state.specs.Rules.{Breaks}
 use Rattle.spool_state.proofs.Following.{follows_self}
 use Rattle.spool_state.proofs.Laws.{one_state, stands_unbroken}
 use Rattle.edge_disk.specs.Disk.{Moment, IsLawful, IsSettled, IsUntouched, LeavesOnly}
@@ -85,10 +84,12 @@ module _ (s : SpoolState) (doubt : List SpoolState) (known : Known) (d : Bool) (
     pub mend_finds : IsSettled mid → (found : Known) → KnowsState mid.reads found → (t : SpoolState) × IsMended s doubt t (view known d m) (view found false new)
     mend_finds settled found state =
         let same : state.0 ≡ one.0 = one_state state.0 one.0 mid.reads state.1.stands one.2 in
-        let stored : IsStored one.0 found new.reads = subst (IsStored one.0 found) (sym read.same) (subst (λ (t : SpoolState). IsStored t found mid.reads) same state.1) in
-        (one.0, record {
-          one = one.1;
-          follows = one_follows s one.0 doubt (view known d m) held one.1;
-          reached = in_stored one.0 found new (still_settled mid new settled read) stored;
-          any_moment = mend_moments;
-        })
+        let stored : IsStored one.0 found new.reads = subst (IsStored one.0 found) (sym read.same) (subst (λ (t : SpoolState). IsStored t found mid.reads) same state.1) in (
+          one.0,
+          record {
+            one = one.1;
+            follows = one_follows s one.0 doubt (view known d m) held one.1;
+            reached = in_stored one.0 found new (still_settled mid new settled read) stored;
+            any_moment = mend_moments;
+          },
+        )

@@ -1,17 +1,14 @@
 -- Slots in memory, one after another, and the open slots whose numbers they are.
-use Rattle.std.proofs.Common.{◌≡◌, ◌⊎◌, inl, inr, ℕ, zero, suc, ◌+◌, ◌-◌, ◌^◌, ◌<◌, ◌≤◌, Bool, nat_eq, true, false, Option, Some, None, List, [], ◌∷◌, length, get_or, drop, refl, sym, ◌∙◌, ap, subst, arith, add-one, length-drop, length-append, drop-cons}
-use Rattle.std.specs.Prelude.{All}
+use Rattle.std.proofs.Common.{◌≡◌, ◌⊎◌, inl, inr, ℕ, zero, suc, ◌+◌, ◌-◌, ◌<◌, ◌≤◌, Bool, nat_eq, false, Option, Some, None, List, [], ◌∷◌, length, get_or, drop, refl, sym, ◌∙◌, ap, subst, arith, add-one, length-drop, length-append, drop-cons}
 use Rattle.std.proofs.lemmas.Bool.Decides.{eqb_tells}
 use Rattle.std.proofs.lemmas.List.{drop_all}
 use Rattle.spool_state.specs.SpoolState.{OpenSlot, entries_in, ordinal_of, first_of}
-use Rattle.spool_state.specs.Image.{slot_at}
-use Rattle.spool_state.specs.Order.{count_of, IsInOrder, AreInOrder, FirstAtFault}
+use Rattle.spool_state.specs.Order.{count_of, IsInOrder, AreInOrder}
 use Rattle.spool_state.specs.Segment.{entries_of}
-use Rattle.spool_state.specs.Rules.{OrderBreaks, IsChain, CursorBreaks}
+use Rattle.spool_state.specs.Rules.{OrderBreaks, IsChain}
 use Rattle.spool_slots.specs.declared.slot.Slot.{Slot}
-use Rattle.spool_slots.specs.Slot.{IsSlot}
 use Rattle.spool_log.specs.Knows.{KnowsSlot, KnowsSlots}
-use Rattle.spool_log.specs.Judging.{HasSoundNumbers, HasDueNumbers, IsOrderOf, IsJudgementOf}
+use Rattle.spool_log.specs.Judging.{HasDueNumbers, IsOrderOf, IsJudgementOf}
 
 pub length-known : (size : ℕ) (slots : List OpenSlot) (known : List Slot) → KnowsSlots size slots known → length slots ≡ length known
 length-known size [] [] h = refl
@@ -22,20 +19,21 @@ length-known size (s ∷ slots) (k ∷ known) h = omega (arith, length-known siz
 -- the numbers of a slot in order
 pub due : (size : ℕ) (slot : OpenSlot) (behind : List OpenSlot) (known : Slot) (is_last : Bool) (ordinal first : ℕ) → KnowsSlot size slot known → (is_last ≡ false → 0 < length behind) → (0 < length behind → is_last ≡ false)
     → (HasDueNumbers is_last ordinal first known → IsInOrder slot behind ordinal first) × (IsInOrder slot behind ordinal first → HasDueNumbers is_last ordinal first known)
-due size slot behind known is_last ordinal first knows more less =
-    ((λ numbers. record {
-       ordinal_due = sym knows.ordinal_is ∙ numbers.ordinal_due;
-       first_due = sym knows.first_is ∙ numbers.first_due;
-       some = λ some. omega (arith, knows.count_is, numbers.some (less some));
-       early = omega (arith, knows.ordinal_is, knows.first_is, numbers.sound.early);
-       ends = omega (arith, knows.first_is, knows.count_is, numbers.sound.ends);
-     }),
-     (λ in_order. record {
-       ordinal_due = knows.ordinal_is ∙ in_order.ordinal_due;
-       first_due = knows.first_is ∙ in_order.first_due;
-       some = λ not_last. omega (arith, knows.count_is, in_order.some (more not_last));
-       sound = record { early = omega (arith, knows.ordinal_is, knows.first_is, in_order.early); ends = omega (arith, knows.first_is, knows.count_is, in_order.ends) };
-     }))
+due size slot behind known is_last ordinal first knows more less = (
+  (λ numbers. record {
+    ordinal_due = sym knows.ordinal_is ∙ numbers.ordinal_due;
+    first_due = sym knows.first_is ∙ numbers.first_due;
+    some = λ some. omega (arith, knows.count_is, numbers.some (less some));
+    early = omega (arith, knows.ordinal_is, knows.first_is, numbers.sound.early);
+    ends = omega (arith, knows.first_is, knows.count_is, numbers.sound.ends);
+  }),
+  (λ in_order. record {
+    ordinal_due = knows.ordinal_is ∙ in_order.ordinal_due;
+    first_due = knows.first_is ∙ in_order.first_due;
+    some = λ not_last. omega (arith, knows.count_is, in_order.some (more not_last));
+    sound = record { early = omega (arith, knows.ordinal_is, knows.first_is, in_order.early); ends = omega (arith, knows.first_is, knows.count_is, in_order.ends) };
+  }),
+)
 
 -- What is judged of the rest is judged of all.
 pub record IsRest (size : ℕ) (slots : List OpenSlot) (due_ordinal due_first : ℕ) (rest : List Slot) (ordinal first : ℕ) : Type 0 where
@@ -61,7 +59,7 @@ module _ (size : ℕ) (slots : List OpenSlot) (o f : ℕ) (known : Slot) (rest :
         behind = behind;
         known = knows.1;
         order = λ answer later. order answer (one_more size slot behind ordinal first answer i
-          (subst (λ (n : ℕ). IsOrderOf size behind n (slot.segment.first + count_of slot) answer) (ap (λ (n : ℕ). n + 1) knows.0.ordinal_is)
+            (subst (λ (n : ℕ). IsOrderOf size behind n (slot.segment.first + count_of slot) answer) (ap (λ (n : ℕ). n + 1) knows.0.ordinal_is)
             (subst (λ (n : ℕ). IsOrderOf size behind (known.ordinal + 1) n answer) (cc (knows.0.first_is, knows.0.count_is)) later)));
       }
 
@@ -123,8 +121,12 @@ end_known size (s ∷ []) (i ∷ j ∷ items) o f k known knows order lt is = ab
 end_known size (s ∷ t ∷ slots) (i ∷ []) o f k known knows order lt is = absurd knows.1
 end_known size (s ∷ t ∷ slots) (i ∷ j ∷ items) o f zero known knows order lt is = absurd (omega (arith, lt))
 end_known size (s ∷ t ∷ slots) (i ∷ j ∷ items) o f (suc k) known knows order lt is =
-    omega (arith, order.0.first_due, length-append (entries_of s.segment) (entries_in (t ∷ slots)),
-      end_known size (t ∷ slots) (j ∷ items) (s.segment.ordinal + 1) (s.segment.first + count_of s) k known knows.1 order.1 (omega (arith, lt)) is)
+    omega (
+      arith,
+      order.0.first_due,
+      length-append (entries_of s.segment) (entries_in (t ∷ slots)),
+      end_known size (t ∷ slots) (j ∷ items) (s.segment.ordinal + 1) (s.segment.first + count_of s) k known knows.1 order.1 (omega (arith, lt)) is,
+    )
 
 -- no slot at all
 pub judged_none : (size : ℕ) (slots : List OpenSlot) (items : List Slot) (cursor cell : ℕ) → KnowsSlots size slots items → length items ≡ 0 → IsJudgementOf size slots cursor cell (Some 12288)

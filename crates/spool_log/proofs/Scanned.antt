@@ -1,17 +1,16 @@
 -- The slots of a device found one after another, and kept in order.
-use Rattle.std.proofs.Common.{◌≡◌, ◌≢◌, ◌⊎◌, inl, inr, ℕ, suc, ◌+◌, ◌^◌, ◌<◌, ◌≤◌, Bool, nat_le, true, false, cond, List, [], ◌∷◌, ◌++◌, length, get_or, take, drop, refl, sym, ◌∙◌, ap, subst, arith, take-append-drop}
+use Rattle.std.proofs.Common.{◌≡◌, ◌≢◌, inl, inr, ℕ, suc, ◌+◌, ◌^◌, ◌<◌, Bool, nat_le, cond, List, [], ◌∷◌, ◌++◌, get_or, take, drop, sym, ap, subst, arith, take-append-drop}
 use Rattle.std.specs.Prelude.{All}
 use Rattle.std.specs.List.{prefix_len, insert}
-use Rattle.std.proofs.lemmas.Bool.{cases_lt, leb-true}
+use Rattle.std.proofs.lemmas.Bool.{cases_lt}
 use Rattle.std.proofs.lemmas.Bool.Decides.{leb_tells}
 use Rattle.std.proofs.lemmas.List.Elements.{All-nil, All-cons, All-head, All-tail, All-append, All-take, All-drop, All-same, All-contains}
-use Rattle.foundation.specs.Bytes.{part}
-use Rattle.spool_state.specs.Segment.{IsGroup, Segment}
-use Rattle.spool_state.specs.SpoolState.{OpenSlot, AreElsewhere}
+use Rattle.spool_state.specs.Segment.{Segment}
+use Rattle.spool_state.specs.SpoolState.{OpenSlot}
 use Rattle.spool_state.specs.Image.{slot_at, HoldsSegment}
 use Rattle.spool_state.specs.Broken.{BreaksAt}
-use Rattle.spool_state.specs.Order.{ComesBefore, AreSorted, IsFound, AreOpenSlots}
-use Rattle.spool_state.specs.Rules.{IsWhole, GroupBreaks}
+use Rattle.spool_state.specs.Order.{ComesBefore, AreSorted, IsFound}
+use Rattle.spool_state.specs.Rules.{GroupBreaks}
 use Rattle.spool_state.proofs.Sorting.{slot_of_place}
 use Rattle.spool_slots.specs.declared.slot.Slot.{Slot}
 use Rattle.spool_slots.specs.Slot as Slots
@@ -37,9 +36,10 @@ all_split P (x ∷ xs) ys all =
 -- what holds of the list with the element more holds of it and of the others
 all_inserted : {X : Type 0} (P : X → Type 0) (xs : List X) (k : ℕ) (y : X) → All P (insert xs k y) → All P xs × P y
 all_inserted P xs k y all =
-    let split = all_split P (take k xs) (y ∷ drop k xs) all in
-    (All-same P xs (take k xs ++ drop k xs) (sym (take-append-drop k xs)) (All-append P (take k xs) (drop k xs) split.0 (All-tail P y (drop k xs) split.1)),
-     All-head P y (drop k xs) split.1)
+    let split = all_split P (take k xs) (y ∷ drop k xs) all in (
+      All-same P xs (take k xs ++ drop k xs) (sym (take-append-drop k xs)) (All-append P (take k xs) (drop k xs) split.0 (All-tail P y (drop k xs) split.1)),
+      All-head P y (drop k xs) split.1,
+    )
 
 -- ---- one slot more, behind those with at most its ordinal
 
@@ -54,10 +54,11 @@ module _ (size : ℕ) (new : OpenSlot) (slot : Slot) (knows : KnowsSlot size new
   AreKept slots items k = KnowsSlots size (insert slots k new) (insert items k slot) × AreSorted (insert slots k new)
 
   behind_first : (s : OpenSlot) (slots : List OpenSlot) (i : Slot) (items : List Slot) (k : ℕ) → KnowsSlot size s i → All (ComesBefore s) slots → ComesBefore s new → AreKept slots items k → AreKept (s ∷ slots) (i ∷ items) (1 + k)
-  behind_first s slots i items k known before first kept =
-      (subst (λ (l : List OpenSlot). KnowsSlots size l (insert (i ∷ items) (1 + k) slot)) (sym (insert_first s slots k new))
-         (subst (λ (l : List Slot). KnowsSlots size (s ∷ insert slots k new) l) (sym (insert_first i items k slot)) (known, kept.0)),
-       subst AreSorted (sym (insert_first s slots k new)) (All-insert (ComesBefore s) slots k new before first, kept.1))
+  behind_first s slots i items k known before first kept = (
+    subst (λ (l : List OpenSlot). KnowsSlots size l (insert (i ∷ items) (1 + k) slot)) (sym (insert_first s slots k new))
+        (subst (λ (l : List Slot). KnowsSlots size (s ∷ insert slots k new) l) (sym (insert_first i items k slot)) (known, kept.0)),
+    subst AreSorted (sym (insert_first s slots k new)) (All-insert (ComesBefore s) slots k new before first, kept.1),
+  )
 
   first_of_all : (s : OpenSlot) (slots : List OpenSlot) → new.segment.ordinal < s.segment.ordinal → All (ComesBefore s) slots → All (ComesBefore new) (s ∷ slots)
   first_of_all s slots lt before =
@@ -78,7 +79,7 @@ module _ (size : ℕ) (new : OpenSlot) (slot : Slot) (knows : KnowsSlot size new
             subst (AreKept (s ∷ slots) (i ∷ items)) (ap (λ (b : Bool). cond b (1 + place_in items) 0) (sym le.0)) (behind_first s slots i items (place_in items) known.0 sorted.0 first later)
         | inr gt ↦
             subst (AreKept (s ∷ slots) (i ∷ items)) (ap (λ (b : Bool). cond b (1 + place_in items) 0) (sym gt.0))
-              ((knows, known), (first_of_all s slots (omega (arith, gt.1, known.0.ordinal_is, knows.ordinal_is)) sorted.0, sorted))
+            ((knows, known), (first_of_all s slots (omega (arith, gt.1, known.0.ordinal_is, knows.ordinal_is)) sorted.0, sorted))
       ]
 
 -- ---- one place more
@@ -141,8 +142,8 @@ module _ (size place : ℕ) (items : List Slot) (c : List ℕ) (known : KnowsOpe
             found = All-insert (IsFound (place + 1) size c) known.opened k new (wider size c place known.opened known.all.found) found;
             sorted = both.1;
             others = λ p lt none.
-              let split = all_inserted (λ s. s.place ≢ p) known.opened k new none in
-              known.all.others p (omega (arith, split.1)) split.0;
+                let split = all_inserted (λ s. s.place ≢ p) known.opened k new none in
+                known.all.others p (omega (arith, split.1)) split.0;
           };
           numbers = both.0;
         }

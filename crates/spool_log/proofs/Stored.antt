@@ -1,11 +1,9 @@
 -- A state in memory and on a disk, outside doubt and in doubt.
-use Rattle.std.proofs.Common.{◌≡◌, ◌≢◌, inl, inr, ℕ, zero, suc, ◌+◌, ◌<◌, ◌≤◌, Bool, true, false, List, [], ◌∷◌, length, get_or, refl, sym, ◌∙◌, ap, subst, arith, IsTrue, ◌↔◌}
-use Rattle.std.specs.Prelude.{All}
+use Rattle.std.proofs.Common.{◌≡◌, inl, inr, ℕ, suc, ◌<◌, Bool, true, false, List, [], ◌∷◌, length, refl, sym, subst, arith}
 use Rattle.std.proofs.Math.Logic.{∥∥₁_elim}
 use Rattle.std.proofs.Props.{props}
-use Rattle.std.proofs.lemmas.Bool.{cases_Bool, cases_eq}
-use Rattle.spool_state.specs.SpoolState.{SpoolState, IsSound, Follows}
-use Rattle.spool_state.specs.Cells.{Counts}
+use Rattle.std.proofs.lemmas.Bool.{cases_Bool}
+use Rattle.spool_state.specs.SpoolState.{SpoolState, Follows}
 use Rattle.spool_state.specs.Image.{StandsFor}
 use Rattle.edge_disk.specs.Disk.{Moment, IsLawful, IsSettled, LeavesOnly}
 use Rattle.edge_disk.proofs.Moments.{started_settled}
@@ -14,12 +12,12 @@ use Rattle.disk_cell.specs.Register as Cells
 use Rattle.disk_cell.specs.declared.register.Register.{Register}
 use Rattle.spool_log.specs.declared.known.Known.{Known}
 use Rattle.spool_log.specs.Knows.{Knows, IsStored}
-use Rattle.spool_log.specs.State.{KnowsDevice, View, view, IsIn}
+use Rattle.spool_log.specs.State.{KnowsDevice, view, IsIn}
 use Rattle.spool_log.specs.Stages.{last_of, StandsForOne, AllFollow}
 use Rattle.spool_log.proofs.Numbers.{no_proof}
 
 -- which cell counts, from a proof that there is one
-register_known : (r : Register) (c : List ℕ) → ∥ Cells.Knows r c ∥₁ → Cells.Knows r c
+pub register_known : (r : Register) (c : List ℕ) → ∥ Cells.Knows r c ∥₁ → Cells.Knows r c
 register_known r c some =
     let other = place_of (other_of r.counting) in
     record {

@@ -1,6 +1,6 @@
 -- What a take outside doubt leads to.
-use Rattle.std.proofs.Common.{Bool, ◌≡◌, ℕ, ◌<◌, List, [], ◌∷◌, length, sym, subst}
-use Rattle.std.specs.Prelude.{Result, Ok, Err}
+use Rattle.std.proofs.Common.{Bool, ◌≡◌, List, [], sym, subst}
+use Rattle.std.specs.Prelude.{Ok, Err}
 use Rattle.event_form.specs.declared.event.Entry.{Entry}
 use Rattle.spool_state.specs.SpoolState.{SpoolState}
 use Rattle.spool_state.proofs.Following.{follows_self}

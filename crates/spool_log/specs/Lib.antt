@@ -10,4 +10,5 @@ pub mod State
 pub mod Next
 pub mod Target
 pub mod Take
+pub mod Confirm
 pub mod Outcome

@@ -7,9 +7,11 @@ use Rattle.spool_log.specs.declared.fault.PendFault.{PendFault}
 use Rattle.spool_log.specs.declared.fault.PendFault.TheVariants.{NotSpool, DiskFault, NoMemory}
 use Rattle.spool_log.specs.declared.fault.Receipt.{Receipt}
 use Rattle.spool_log.specs.declared.fault.TakeFault.{TakeFault}
-use Rattle.spool_log.specs.Fault.{as_take}
-use Rattle.spool_log.specs.Stages.{IsOneOf, StandsForOne, adding}
+use Rattle.spool_log.specs.declared.fault.ConfirmFault.{ConfirmFault}
+use Rattle.spool_log.specs.Fault.{as_take, as_confirm}
+use Rattle.spool_log.specs.Stages.{IsOneOf, StandsForOne, adding, confirming}
 use Rattle.spool_log.specs.State.{View, IsIn}
+use Rattle.spool_log.specs.Confirm.{Confirms, confirmed, confirm_doubt}
 use Rattle.spool_log.specs.Take.{Takes, taken, take_doubt}
 
 -- the device was not said to be no spool
@@ -49,3 +51,9 @@ abbrev pub TakesFrom : SpoolState → List SpoolState → List Entry → Result 
 TakesFrom s doubt group result old new =
     ((fault : PendFault) × (result ≡ Err (as_take fault)) × StaysInDoubt s doubt fault old new)
     ⊎ ((m : SpoolState) × Takes m group result × GoesOn s doubt m (adding m group) (taken m group result) (take_doubt m group result) old new)
+
+-- a confirm
+abbrev pub ConfirmsFrom : SpoolState → List SpoolState → ℕ → Result Unit ConfirmFault → View → View → Type 0
+ConfirmsFrom s doubt upto result old new =
+    ((fault : PendFault) × (result ≡ Err (as_confirm fault)) × StaysInDoubt s doubt fault old new)
+    ⊎ ((m : SpoolState) × Confirms m upto result × GoesOn s doubt m (confirming m upto) (confirmed m upto result) (confirm_doubt m upto result) old new)

@@ -1,5 +1,5 @@
 -- What a take of a group answers, and what comes of it.
-use Rattle.std.specs.Prelude.{◌≡◌, ℕ, ◌+◌, ◌^◌, ◌<◌, ◌≤◌, List, [], length, Result, Ok, Err}
+use Rattle.std.specs.Prelude.{◌≡◌, ◌+◌, ◌^◌, ◌<◌, ◌≤◌, List, [], length, Result, Ok, Err}
 use Rattle.event_form.specs.declared.event.Entry.{Entry}
 use Rattle.spool_state.specs.Segment.{need_of}
 use Rattle.spool_state.specs.SpoolState.{SpoolState, end, room, most_room, Follows}
@@ -7,6 +7,7 @@ use Rattle.edge_disk.specs.Disk.{LeavesOnly}
 use Rattle.spool_log.specs.declared.fault.Receipt.{Receipt}
 use Rattle.spool_log.specs.declared.fault.TakeFault.{TakeFault}
 use Rattle.spool_log.specs.declared.fault.TakeFault.TheVariants.{TooLarge, Spent, Full, NotSpool, NoMemory, DiskFault}
+use Rattle.spool_log.specs.declared.known.Known.{Known}
 use Rattle.spool_log.specs.Stages.{last_of, adding, StandsForOne}
 use Rattle.spool_log.specs.State.{View, IsIn}
 
@@ -65,3 +66,8 @@ pub record StoresTo (s : SpoolState) (group : List Entry) (result : Result Recei
   pub follows : Follows s (taken s group result)
   pub reached : IsIn (taken s group result) (take_doubt s group result) new
   pub any_moment : LeavesOnly (StandsForOne s (adding s group)) old.moment new.moment
+
+-- no entries were taken: the receipt has the end, as memory knows it
+abbrev pub TakesNothing : Known → Result Receipt TakeFault → Type 0
+TakesNothing known (Ok receipt) = (receipt.first ≡ known.active.first + known.active.count) × (receipt.count ≡ 0)
+TakesNothing known (Err fault) = ⊥

@@ -6,6 +6,7 @@
 
 mod add;
 mod begin;
+mod confirm;
 mod fault;
 mod header;
 mod judge;
@@ -18,6 +19,7 @@ mod slots;
 mod spool;
 mod take;
 mod target;
+mod write;
 
 pub use fault::{ConfirmFault, PendFault, Receipt, RecoverFault, TakeFault};
 pub use known::Known;

@@ -52,7 +52,8 @@ impl Known {
 
 impl<D: Disk> Spool<D> {
     ghost use Rattle.spool_log.specs.State.{view, IsIn, Changes};
-    ghost use Rattle.spool_log.specs.Take.{Takes, IsAnswered, StoresTo};
+    ghost use Rattle.spool_log.specs.Take.{Takes, IsAnswered, StoresTo, TakesNothing};
+    ghost use Rattle.spool_log.specs.Outcome.{TakesFrom};
 
     /// Adds the entries where they go. It is in doubt meanwhile, and after a fault.
     fn add(&mut self, target: Target, entries: &[Entry]) -> Result<(), DiskFault>
@@ -71,7 +72,8 @@ impl<D: Disk> Spool<D> {
             → Changes s (stages_at target s entries.now) result (view self.old.known self.old.doubt (D.moment self.old.disk)) (view self.new.known self.new.doubt (D.moment self.new.disk)) }
     {
         self.doubt = true;
-        self.known.add(&mut self.disk, target, entries, &mut self.buffer)?;
+        self.known
+            .add(&mut self.disk, target, entries, &mut self.buffer)?;
         self.doubt = false;
         Ok(())
     }
@@ -97,5 +99,41 @@ impl<D: Disk> Spool<D> {
             first,
             count: entries.len() as u64,
         })
+    }
+
+    /// Takes the entries as one group: on `Ok` they are the last ones, durable, and the receipt has their
+    /// numbers. Without entries nothing is done: `Ok` with the end as it is known, also in doubt. Else, in
+    /// doubt, the spool is mended first.
+    ///
+    /// The group is added to the active slot where it has room. Else a segment is begun for it in a free
+    /// slot: the closed one of lowest place, or the first of the open ones where all its entries are
+    /// confirmed, which is shut before.
+    ///
+    /// `TooLarge` comes exactly where the group needs more than an empty slot has, then `Spent` exactly where
+    /// the end would pass 2^63, then `Full` exactly where the active slot has no room for it and no slot is
+    /// free. `NotSpool` and `NoMemory` come only where the spool was in doubt. After these nothing changed
+    /// but by mending. `DiskFault` comes only where a call of the disk failed. Where it came of the adding,
+    /// the spool is in doubt.
+    pub fn take(&mut self, entries: &[Entry]) -> Result<Receipt, TakeFault>
+        requires few { length entries.now < 2 ^ 32 }
+        requires limits { All IsEntry entries.now }
+
+        ensures met { IsErrOf result TakeFault.NoMemory → self.old.doubt ≡ true }
+        ensures later { (D.moment self.old.disk).faults ≤ (D.moment self.new.disk).faults }
+        ensures cause { IsErrOf result TakeFault.DiskFault → Rose 1 (D.moment self.old.disk).faults (D.moment self.new.disk).faults }
+        ensures size { (D.moment self.new.disk).size ≡ (D.moment self.old.disk).size }
+
+        ensures nothing { length entries.now ≡ 0 → (self.new ≡ self.old) × TakesNothing self.old.known result }
+        ensures taken { (s : SpoolState) (doubt : List SpoolState) → D.tells → 0 < length entries.now → IsIn s doubt (view self.old.known self.old.doubt (D.moment self.old.disk))
+            → TakesFrom s doubt entries.now result (view self.old.known self.old.doubt (D.moment self.old.disk)) (view self.new.known self.new.doubt (D.moment self.new.disk)) }
+    {
+        if entries.is_empty() {
+            return Ok(Receipt {
+                first: self.end(),
+                count: 0,
+            });
+        }
+        self.mend()?;
+        self.store(entries)
     }
 }

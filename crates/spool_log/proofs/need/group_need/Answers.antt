@@ -1,4 +1,4 @@
-use Rattle.std.proofs.Common.{◌≡◌, ◌+◌, ◌*◌, ◌≤◌, arith}
+use Rattle.std.proofs.Common.{arith}
 use Rattle.spool_state.proofs.Entries.{entry_here, length-entries_more}
 use Rattle.spool_log.proofs.need.group_need.Goals as goal
 

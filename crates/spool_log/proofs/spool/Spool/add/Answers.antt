@@ -1,4 +1,4 @@
-use Rattle.std.proofs.Common.{◌≡◌, ℕ, ◌+◌, ◌*◌, false, true, List, sym, length, arith, ◌∙◌, ap, subst}
+use Rattle.std.proofs.Common.{true, sym, ◌∙◌, subst}
 use Rattle.std.specs.Prelude.{Result}
 use Rattle.std.proofs.Math.Logic.{∥∥₁_map}
 use Rattle.spool_state.specs.Image.{slot_at}
@@ -20,7 +20,7 @@ returns-in_err-add-clause-changes g c = λ s tells held follow some.
     let stored = stored_of s known c.args.self.now.doubt old held (g.met.D.Disk.lawful c.args.self.now.disk tells) (c.args.self.now.stored c.requires.sure tells) in
     let run = c.add.ensures.any_moment s tells stored in
     subst (λ (r : Result Unit DiskFault). Changes s stages r (view known c.args.self.now.doubt old) (view c.add.new.self true new)) (sym (err_is _ _ c.from_residual.ensures.1))
-      (record { reached = in_doubt s stages known c.add.new.self old new stored c.in_err-add.ensures.err run follow some; any_moment = run })
+    (record { reached = in_doubt s stages known c.add.new.self old new stored c.in_err-add.ensures.err run follow some; any_moment = run })
 
 pub invariant_of-self-2-clause-long : goal.invariant_of-self-2-clause-long
 invariant_of-self-2-clause-long g c = c.add.ensures.same_size ∙ c.args.self.now.long ∙ (λ i. slot_at (sym c.add.ensures.same_device.0 i) (sym c.add.ensures.same_device.1 i))

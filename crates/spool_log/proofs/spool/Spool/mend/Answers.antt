@@ -1,11 +1,10 @@
-use Rattle.std.proofs.Common.{◌≡◌, ℕ, List, sym, subst}
+use Rattle.std.proofs.Common.{sym, subst}
 use Rattle.std.specs.Prelude.{Result}
-use Rattle.edge_disk.specs.Disk.{Moment}
 use Rattle.edge_disk.proofs.Moments.{still_settled, untouched_refl}
 use Rattle.spool_log.specs.declared.fault.PendFault.{PendFault}
 use Rattle.spool_log.specs.declared.read_fault.ReadFault.TheVariants.{DiskFault}
 use Rattle.spool_log.specs.Knows.{IsStored}
-use Rattle.spool_log.specs.State.{KnowsDevice, view}
+use Rattle.spool_log.specs.State.{view}
 use Rattle.spool_log.specs.Outcome.{Mends}
 use Rattle.spool_log.proofs.Mending.{err_is, sure_mended, mend_fails, mend_finds}
 use Rattle.spool_log.proofs.spool.Spool.mend.Goals as goal
@@ -17,14 +16,14 @@ returns-then-not-self-clause-mended g c = λ s doubt tells held.
 pub returns-in_err-sync-clause-mended : goal.returns-in_err-sync-clause-mended
 returns-in_err-sync-clause-mended g c = λ s doubt tells held.
     subst (λ (r : Result Unit PendFault). Mends s doubt r (view c.args.self.now.known c.args.self.now.doubt (g.D.Disk.moment c.args.self.now.disk)) (view c.args.self.now.known c.args.self.now.doubt (g.D.Disk.moment c.sync.new.self)))
-      (sym (err_is _ _ c.from_residual.ensures.1))
-      (mend_fails s doubt c.args.self.now.known c.args.self.now.doubt _ (g.met.D.Disk.lawful c.args.self.now.disk tells) held _ (c.sync.ensures.told tells) _ (untouched_refl _) c.if-not-self.false DiskFault tt)
+    (sym (err_is _ _ c.from_residual.ensures.1))
+    (mend_fails s doubt c.args.self.now.known c.args.self.now.doubt _ (g.met.D.Disk.lawful c.args.self.now.disk tells) held _ (c.sync.ensures.told tells) _ (untouched_refl _) c.if-not-self.false DiskFault tt)
 
 pub returns-in_err-self-clause-mended : goal.returns-in_err-self-clause-mended
 returns-in_err-self-clause-mended g c = λ s doubt tells held.
     subst (λ (r : Result Unit PendFault). Mends s doubt r (view c.args.self.now.known c.args.self.now.doubt (g.D.Disk.moment c.args.self.now.disk)) (view c.args.self.now.known c.args.self.now.doubt (g.D.Disk.moment c.read_known.new.disk)))
-      (sym (err_is _ _ c.from_residual-in_err-self.ensures.1))
-      (mend_fails s doubt c.args.self.now.known c.args.self.now.doubt _ (g.met.D.Disk.lawful c.args.self.now.disk tells) held _ (c.sync.ensures.told tells) _ (c.read_known.ensures.told tells) c.if-not-self.false c.in_err-self.field-0.0 (c.in_err-self.ensures.broken tells))
+    (sym (err_is _ _ c.from_residual-in_err-self.ensures.1))
+    (mend_fails s doubt c.args.self.now.known c.args.self.now.doubt _ (g.met.D.Disk.lawful c.args.self.now.disk tells) held _ (c.sync.ensures.told tells) _ (c.read_known.ensures.told tells) c.if-not-self.false c.in_err-self.field-0.0 (c.in_err-self.ensures.broken tells))
 
 pub invariant_of-self-2 : goal.invariant_of-self-2
 invariant_of-self-2 g c = record {
