@@ -17,3 +17,4 @@ pub mod Shut
 pub mod Added
 pub mod Beginning
 pub mod Replacing
+pub mod Readings

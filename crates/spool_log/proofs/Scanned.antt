@@ -27,7 +27,7 @@ insert_first x xs k y =
 pub All-insert : {X : Type 0} (P : X → Type 0) (xs : List X) (k : ℕ) (y : X) → All P xs → P y → All P (insert xs k y)
 All-insert P xs k y all here = All-append P (take k xs) (y ∷ drop k xs) (All-take P k xs all) (All-cons P y (drop k xs) here (All-drop P k xs all))
 
-all_split : {X : Type 0} (P : X → Type 0) (xs ys : List X) → All P (xs ++ ys) → All P xs × All P ys
+pub all_split : {X : Type 0} (P : X → Type 0) (xs ys : List X) → All P (xs ++ ys) → All P xs × All P ys
 all_split P [] ys all = (All-nil P, all)
 all_split P (x ∷ xs) ys all =
     let rest = all_split P xs ys (All-tail P x (xs ++ ys) all) in

@@ -3,7 +3,7 @@ ghost use Rattle.std.specs.Prelude.{◌≡◌, ◌≤◌, List, false, true, OnO
 ghost use Rattle.foundation.specs.Faults.{Rose};
 ghost use Rattle.spool_state.specs.SpoolState.{SpoolState};
 
-use crate::read_known::read_known;
+use crate::read::read_known;
 use crate::{PendFault, Spool};
 use edge_disk::Disk;
 

@@ -1,5 +1,6 @@
 pub mod Adding
 pub mod Chains
+pub mod Emptied
 pub mod Entries
 pub mod Following
 pub mod Frames

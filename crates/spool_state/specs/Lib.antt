@@ -6,3 +6,4 @@ pub mod Image
 pub mod Broken
 pub mod Order
 pub mod Rules
+pub mod Empty

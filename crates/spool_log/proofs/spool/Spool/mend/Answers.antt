@@ -1,4 +1,4 @@
-use Rattle.std.proofs.Common.{sym, subst}
+use Rattle.std.proofs.Common.{◌∙◌, sym, subst}
 use Rattle.std.specs.Prelude.{Result}
 use Rattle.edge_disk.proofs.Moments.{still_settled, untouched_refl}
 use Rattle.spool_log.specs.declared.fault.PendFault.{PendFault}
@@ -27,7 +27,7 @@ returns-in_err-self-clause-mended g c = λ s doubt tells held.
 
 pub invariant_of-self-2 : goal.invariant_of-self-2
 invariant_of-self-2 g c = record {
-  long = c.in_ok-self.ensures.long;
+  long = c.read_known.ensures.same_size ∙ c.in_ok-self.ensures.long;
   whole = c.args.self.now.whole;
   settled = λ is tells. still_settled _ _ (c.in_ok-sync.ensures.durable tells) (c.read_known.ensures.told tells);
   stored = λ is tells. let state = c.in_ok-self.ensures.found tells in ∣ (state.0, subst (IsStored state.0 c.in_ok-self.field-0) (sym (c.read_known.ensures.told tells).same) state.1) ∣₁;
