@@ -1,5 +1,5 @@
 -- The header of a device, as it is read.
-use Rattle.std.proofs.Common.{◌≡◌, ◌≢◌, ◌⊎◌, inl, inr, ℕ, ◌+◌, ◌^◌, ◌<◌, ◌≤◌, List, [], ◌∷◌, ◌++◌, length, get_or, take, drop, refl, sym, ◌∙◌, ap, subst, arith, take-append-drop, length-drop}
+use Rattle.std.proofs.Common.{◌≡◌, inl, inr, ℕ, ◌+◌, ◌<◌, ◌≤◌, List, ◌++◌, length, take, drop, refl, sym, ◌∙◌, ap, subst, arith, take-append-drop, length-drop}
 use Rattle.std.specs.Int.{from_be_bytes, to_be_bytes}
 use mir.Syntax.{w32, w64}
 use Rattle.std.proofs.lemmas.List.{ext_get_or, take_all, drop-drop}

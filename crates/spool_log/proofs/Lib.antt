@@ -6,6 +6,12 @@ pub mod Lists
 pub mod Numbers
 pub mod Lowest
 pub mod Adding
+pub mod Registered
+pub mod Stored
+pub mod Mending
+pub mod Storing
+pub mod Confirming
+pub mod Going
 pub mod Begun
 pub mod Shut
 pub mod Added

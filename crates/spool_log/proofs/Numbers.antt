@@ -1,7 +1,8 @@
 -- The numbers of a state, as memory knows them.
-use Rattle.std.proofs.Common.{◌≡◌, ℕ, ◌+◌, ◌-◌, ◌≤◌, ◌<◌, List, [], ◌∷◌, ◌++◌, length, flat_map, arith, length-append}
+use Rattle.std.proofs.Common.{ap, ◌≡◌, ℕ, ◌+◌, ◌-◌, ◌≤◌, ◌<◌, List, [], ◌∷◌, ◌++◌, length, flat_map, arith, length-append, take, drop}
 use Rattle.std.specs.Prelude.{All}
 use Rattle.std.proofs.Math.Logic.{∥∥₁_elim}
+use Rattle.std.proofs.lemmas.Grind.{common_steps}
 use Rattle.event_form.specs.declared.event.Entry.{Entry}
 use Rattle.spool_state.specs.Segment.{IsGroup, entries_of, segment_text}
 use Rattle.spool_state.specs.SpoolState.{OpenSlot, SpoolState, end, room, IsSound}
@@ -34,3 +35,10 @@ knows_push size [] [] slot k h one = (one, tt)
 knows_push size [] (x ∷ known) slot k h one = absurd h
 knows_push size (x ∷ slots) [] slot k h one = absurd h
 knows_push size (x ∷ slots) (y ∷ known) slot k h one = (h.0, knows_push size slots known slot k h.1 one)
+
+-- the buffer behind a call that was lent it
+pub length-lent : (n : ℕ) (lent new items : List ℕ) → lent ≡ items → length lent ≡ n → length new ≡ length lent → length items ≡ 65536 → length (take n (new ++ drop (length new) items)) ≡ 65536
+length-lent n lent new items same whole kept is =
+    let long : n ≡ 65536 = omega (arith, ap length same) in
+    let full : length new ≡ 65536 = omega (arith, ap length same) in
+    grind (arith, common_steps)

@@ -1,17 +1,14 @@
 -- Slots in memory, one after another, and the open slots whose numbers they are.
-use Rattle.std.proofs.Common.{◌≡◌, ◌⊎◌, inl, inr, ℕ, zero, suc, ◌+◌, ◌-◌, ◌^◌, ◌<◌, ◌≤◌, Bool, nat_eq, true, false, Option, Some, None, List, [], ◌∷◌, length, get_or, drop, refl, sym, ◌∙◌, ap, subst, arith, add-one, length-drop, length-append, drop-cons}
-use Rattle.std.specs.Prelude.{All}
+use Rattle.std.proofs.Common.{◌≡◌, ◌⊎◌, inl, inr, ℕ, zero, suc, ◌+◌, ◌-◌, ◌<◌, ◌≤◌, Bool, nat_eq, false, Option, Some, None, List, [], ◌∷◌, length, get_or, drop, refl, sym, ◌∙◌, ap, subst, arith, add-one, length-drop, length-append, drop-cons}
 use Rattle.std.proofs.lemmas.Bool.Decides.{eqb_tells}
 use Rattle.std.proofs.lemmas.List.{drop_all}
 use Rattle.spool_state.specs.SpoolState.{OpenSlot, entries_in, ordinal_of, first_of}
-use Rattle.spool_state.specs.Image.{slot_at}
-use Rattle.spool_state.specs.Order.{count_of, IsInOrder, AreInOrder, FirstAtFault}
+use Rattle.spool_state.specs.Order.{count_of, IsInOrder, AreInOrder}
 use Rattle.spool_state.specs.Segment.{entries_of}
-use Rattle.spool_state.specs.Rules.{OrderBreaks, IsChain, CursorBreaks}
+use Rattle.spool_state.specs.Rules.{OrderBreaks, IsChain}
 use Rattle.spool_slots.specs.declared.slot.Slot.{Slot}
-use Rattle.spool_slots.specs.Slot.{IsSlot}
 use Rattle.spool_log.specs.Knows.{KnowsSlot, KnowsSlots}
-use Rattle.spool_log.specs.Judging.{HasSoundNumbers, HasDueNumbers, IsOrderOf, IsJudgementOf}
+use Rattle.spool_log.specs.Judging.{HasDueNumbers, IsOrderOf, IsJudgementOf}
 
 pub length-known : (size : ℕ) (slots : List OpenSlot) (known : List Slot) → KnowsSlots size slots known → length slots ≡ length known
 length-known size [] [] h = refl

@@ -1,17 +1,16 @@
 -- The slots of a device found one after another, and kept in order.
-use Rattle.std.proofs.Common.{◌≡◌, ◌≢◌, ◌⊎◌, inl, inr, ℕ, suc, ◌+◌, ◌^◌, ◌<◌, ◌≤◌, Bool, nat_le, true, false, cond, List, [], ◌∷◌, ◌++◌, length, get_or, take, drop, refl, sym, ◌∙◌, ap, subst, arith, take-append-drop}
+use Rattle.std.proofs.Common.{◌≡◌, ◌≢◌, inl, inr, ℕ, suc, ◌+◌, ◌^◌, ◌<◌, Bool, nat_le, cond, List, [], ◌∷◌, ◌++◌, get_or, take, drop, sym, ap, subst, arith, take-append-drop}
 use Rattle.std.specs.Prelude.{All}
 use Rattle.std.specs.List.{prefix_len, insert}
-use Rattle.std.proofs.lemmas.Bool.{cases_lt, leb-true}
+use Rattle.std.proofs.lemmas.Bool.{cases_lt}
 use Rattle.std.proofs.lemmas.Bool.Decides.{leb_tells}
 use Rattle.std.proofs.lemmas.List.Elements.{All-nil, All-cons, All-head, All-tail, All-append, All-take, All-drop, All-same, All-contains}
-use Rattle.foundation.specs.Bytes.{part}
-use Rattle.spool_state.specs.Segment.{IsGroup, Segment}
-use Rattle.spool_state.specs.SpoolState.{OpenSlot, AreElsewhere}
+use Rattle.spool_state.specs.Segment.{Segment}
+use Rattle.spool_state.specs.SpoolState.{OpenSlot}
 use Rattle.spool_state.specs.Image.{slot_at, HoldsSegment}
 use Rattle.spool_state.specs.Broken.{BreaksAt}
-use Rattle.spool_state.specs.Order.{ComesBefore, AreSorted, IsFound, AreOpenSlots}
-use Rattle.spool_state.specs.Rules.{IsWhole, GroupBreaks}
+use Rattle.spool_state.specs.Order.{ComesBefore, AreSorted, IsFound}
+use Rattle.spool_state.specs.Rules.{GroupBreaks}
 use Rattle.spool_state.proofs.Sorting.{slot_of_place}
 use Rattle.spool_slots.specs.declared.slot.Slot.{Slot}
 use Rattle.spool_slots.specs.Slot as Slots

@@ -1,6 +1,6 @@
 -- Open slots in memory, judged by their numbers.
-use Rattle.std.specs.Prelude.{◌≡◌, ◌⊎◌, ℕ, ◌+◌, ◌^◌, ◌<◌, ◌≤◌, Bool, true, false, List, [], ◌∷◌, Option, Some, None}
-use Rattle.spool_state.specs.SpoolState.{OpenSlot, ordinal_of, first_of}
+use Rattle.std.specs.Prelude.{◌≡◌, ◌⊎◌, ℕ, ◌+◌, ◌^◌, ◌<◌, ◌≤◌, Bool, false, List, Option, Some, None}
+use Rattle.spool_state.specs.SpoolState.{OpenSlot}
 use Rattle.spool_state.specs.Image.{slot_at}
 use Rattle.spool_state.specs.Order.{AreInOrder, FirstAtFault}
 use Rattle.spool_state.specs.Rules.{OrderBreaks, IsChain, CursorBreaks}

@@ -10,3 +10,6 @@ pub mod State
 pub mod Next
 pub mod Target
 pub mod Format
+pub mod Take
+pub mod Confirm
+pub mod Outcome

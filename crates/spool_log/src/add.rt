@@ -12,10 +12,11 @@ ghost use Rattle.spool_log.specs.Free.{IsClosed};
 ghost use Rattle.spool_log.specs.Knows.{IsStored};
 ghost use Rattle.spool_log.specs.State.{KnowsDevice};
 ghost use Rattle.spool_log.specs.Stages.{last_of, StandsForOne, beginning, replacing};
-ghost use Rattle.spool_log.specs.Target.{StartsConfirmed};
+ghost use Rattle.spool_log.specs.Target.{stages_at, IsFreeIn, StartsConfirmed, Suits};
 
 use crate::Known;
 use crate::begin::{Head, begin_with};
+use crate::target::Target;
 use edge_disk::{Disk, DiskFault};
 use event_form::Entry;
 use spool_slots::Slot;
@@ -154,5 +155,40 @@ impl Known {
         self.older.remove(0);
         self.older.push_reserved(self.active);
         self.active = slot;
+    }
+
+    /// Adds the entries where they go.
+    pub(crate) fn add<D: Disk>(
+        &mut self,
+        disk: &mut D,
+        target: Target,
+        entries: &[Entry],
+        buffer: &mut [u8],
+    ) -> Result<(), DiskFault>
+        requires long { (D.moment disk.old).size ≡ slot_at self.old.size self.old.slots }
+        requires settled { D.tells → IsSettled (D.moment disk.old) }
+        requires stored { D.tells → KnowsDevice self.old (D.moment disk.old).reads }
+        requires some { 0 < length entries.now }
+        requires few { length entries.now < 2 ^ 32 }
+        requires limits { All IsEntry entries.now }
+        requires numbers { self.old.active.first + self.old.active.count + length entries.now ≤ 2 ^ 63 }
+        requires small { need_of entries.now ≤ self.old.size - 18 }
+        requires suits { Suits self.old (need_of entries.now) target }
+        requires free { D.tells → (s : SpoolState) → IsStored s self.old (D.moment disk.old).reads → IsFreeIn target s }
+        requires buffer { length buffer.old ≡ 65536 }
+
+        ensures cause { HasCause (D.moment disk.old).faults (D.moment disk.new).faults result }
+        ensures same_size { (D.moment disk.new).size ≡ (D.moment disk.old).size }
+        ensures same_device { (self.new.size ≡ self.old.size) × (self.new.slots ≡ self.old.slots) }
+        ensures err { OnErr result (self.new ≡ self.old) }
+        ensures durable { OnOk result (D.tells → IsSettled (D.moment disk.new)) }
+        ensures stored { OnOk result ((s : SpoolState) → D.tells → IsStored s self.old (D.moment disk.old).reads → IsStored (last_of s (stages_at target s entries.now)) self.new (D.moment disk.new).reads) }
+        ensures any_moment { (s : SpoolState) → D.tells → IsStored s self.old (D.moment disk.old).reads → LeavesOnly (StandsForOne s (stages_at target s entries.now)) (D.moment disk.old) (D.moment disk.new) }
+    {
+        match target {
+            Target::Active => self.append(disk, entries, buffer),
+            Target::Closed(place) => self.begin(disk, place, entries, buffer),
+            Target::First => self.replace_first(disk, entries, buffer),
+        }
     }
 }

@@ -1,7 +1,9 @@
 //! What the calls of a spool answer.
 ghost use Rattle.std.specs.Prelude.{◌≡◌};
-ghost use Rattle.spool_log.specs.Fault.{as_take, as_confirm};
+ghost use Rattle.spool_log.specs.Fault.{as_pend, as_take, as_confirm, as_recover};
 
+use crate::ReadFault;
+use edge_disk::DiskFault;
 use thiserror::Error;
 
 /// The numbers of the entries that were taken.
@@ -108,5 +110,59 @@ impl From<PendFault> for ConfirmFault {
             PendFault::DiskFault => ConfirmFault::DiskFault,
             PendFault::NoMemory => ConfirmFault::NoMemory,
         }
+    }
+}
+
+impl From<ReadFault> for PendFault {
+    ghost from_gives = { λ fault pending. pending ≡ as_pend fault };
+
+    fn from(fault: ReadFault) -> PendFault {
+        match fault {
+            ReadFault::NotSpool { at } => PendFault::NotSpool { at },
+            ReadFault::DiskFault => PendFault::DiskFault,
+            ReadFault::NoMemory => PendFault::NoMemory,
+        }
+    }
+}
+
+impl From<ReadFault> for RecoverFault {
+    ghost from_gives = { λ fault recovered. recovered ≡ as_recover fault };
+
+    fn from(fault: ReadFault) -> RecoverFault {
+        match fault {
+            ReadFault::NotSpool { at } => RecoverFault::NotSpool { at },
+            ReadFault::DiskFault => RecoverFault::DiskFault,
+            ReadFault::NoMemory => RecoverFault::NoMemory,
+        }
+    }
+}
+
+impl From<DiskFault> for PendFault {
+    ghost use Rattle.spool_log.specs.declared.fault.PendFault.TheVariants.{DiskFault as Failed};
+
+    ghost from_gives = { λ _ fault. fault ≡ Failed };
+
+    fn from(_: DiskFault) -> PendFault {
+        PendFault::DiskFault
+    }
+}
+
+impl From<DiskFault> for TakeFault {
+    ghost use Rattle.spool_log.specs.declared.fault.TakeFault.TheVariants.{DiskFault as Failed};
+
+    ghost from_gives = { λ _ fault. fault ≡ Failed };
+
+    fn from(_: DiskFault) -> TakeFault {
+        TakeFault::DiskFault
+    }
+}
+
+impl From<DiskFault> for RecoverFault {
+    ghost use Rattle.spool_log.specs.declared.fault.RecoverFault.TheVariants.{DiskFault as Failed};
+
+    ghost from_gives = { λ _ fault. fault ≡ Failed };
+
+    fn from(_: DiskFault) -> RecoverFault {
+        RecoverFault::DiskFault
     }
 }

@@ -6,18 +6,25 @@
 
 mod add;
 mod begin;
+mod confirm;
 mod fault;
 mod format_steps;
 mod formatting;
 mod header;
 mod judge;
 mod known;
+mod mend;
+mod need;
 mod read;
 mod read_fault;
 mod slots;
+mod spool;
+mod take;
 mod target;
+mod write;
 
 pub use fault::{ConfirmFault, PendFault, Receipt, RecoverFault, TakeFault};
 pub use formatting::{FormatFault, format};
 pub use known::Known;
 pub use read_fault::ReadFault;
+pub use spool::Spool;

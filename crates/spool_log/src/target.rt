@@ -1,5 +1,5 @@
 //! Where a group of entries goes.
-ghost use Rattle.std.specs.Prelude.{◌≡◌, ℕ, ◌+◌, ◌<◌, ◌==◌, ◌||◌, ◌↔◌, List, [], length, Option, IsTrue, IfSome, MatchOption};
+ghost use Rattle.std.specs.Prelude.{◌≡◌, ℕ, ◌+◌, ◌-◌, ◌<◌, ◌==◌, ◌||◌, ◌↔◌, List, [], length, Option, IsTrue, IfSome, IfNone, MatchOption};
 ghost use Rattle.std.specs.List.{list_any};
 ghost use Rattle.event_form.specs.declared.event.Entry.{Entry};
 ghost use Rattle.spool_state.specs.Segment.{need_of};
@@ -71,6 +71,7 @@ impl Known {
     /// closed one of lowest place; else to the first one, if all its entries are confirmed.
     pub(crate) fn target(&self, need: u64) -> Option<Target>
         ensures suits { IfSome result (Suits self.now need) }
+        ensures full { IfNone result (self.now.active.size - self.now.active.gate - 1 < need) }
         ensures stages { (s : SpoolState) (group : List Entry) → Knows s self.now → IsSound s → need ≡ need_of group
             → MatchOption result (adding s group ≡ []) (λ target. (adding s group ≡ stages_at target s group) × IsFreeIn target s) }
     {

@@ -53,7 +53,7 @@ module _ (p k : ℕ) (c : List ℕ) (room : p + k ≤ length c) (small : k < 2 ^
 
     count_field : take 4 (drop 4 (part (p + 1) 8 c)) ≡ to_be_bytes w32 (length group)
     count_field = part-part (p + 1) 8 4 4 c (omega arith) ∙ sym (part-part (p + 1) (k - 1) 4 4 c (omega (arith, whole)))
-      ∙ ap (λ (l : List ℕ). take 4 (drop 4 l)) (sym (drop-part p 1 k c (omega (arith, whole))) ∙ body) ∙ count_at group begins.behind
+        ∙ ap (λ (l : List ℕ). take 4 (drop 4 l)) (sym (drop-part p 1 k c (omega (arith, whole))) ∙ body) ∙ count_at group begins.behind
 
     pub length_told : from_be_bytes w32 (take 4 (drop 0 (part (p + 1) 8 c))) ≡ length (entries_text group)
     length_told = ap (from_be_bytes w32) length_field ∙ four_back (length (entries_text group)) (omega (arith, whole, small))
@@ -95,22 +95,39 @@ module _ (p k : ℕ) (c : List ℕ) (room : p + k ≤ length c) (small : k < 2 ^
       let len_here : len ≡ length (entries_text group) = sym (length-part (p + 9) len c (omega (arith, room, fits))) ∙ ap length are.text in
       let all_four : take 4 (drop 4 head) ≡ drop 4 head = take_all 4 (drop 4 head) (omega (arith, head_long, length-drop 4 head)) in
       let head_is : head ≡ to_be_bytes w32 len ++ to_be_bytes w32 (length group) =
-          sym (take-append-drop 4 head) ∙ ap (λ (l : List ℕ). l ++ drop 4 head) (sym len_bytes) ∙ ap (λ (l : List ℕ). to_be_bytes w32 len ++ l) (sym all_four ∙ sym count_bytes ∙ ap (to_be_bytes w32) (sym are.counted)) in
+      sym (take-append-drop 4 head) ∙ ap (λ (l : List ℕ). l ++ drop 4 head) (sym len_bytes) ∙ ap (λ (l : List ℕ). to_be_bytes w32 len ++ l) (sym all_four ∙ sym count_bytes ∙ ap (to_be_bytes w32) (sym are.counted)) in
       let slot = part p k c in
       let rest_is : drop 1 slot ≡ part (p + 1) (k - 1) c = drop-part p 1 k c (omega (arith, fits)) in
       let behind = part (p + 9 + len) (k - 9 - len) c in
       let split_8 : part (p + 1) (k - 1) c ≡ head ++ part (p + 9) (k - 9) c = part_split (p + 1) 8 (k - 1) (p + 9) (k - 9) c (omega arith) (omega (arith, fits)) in
-      let split_len : part (p + 9) (k - 9) c ≡ part (p + 9) len c ++ behind = part_split (p + 9) len (k - 9) (p + 9 + len) (k - 9 - len) c (omega arith) (omega (arith, fits)) in
-      (group, record {
-        sound = record { some = omega (arith, some, are.counted); entries = are.sound };
-        behind = behind;
-        text = first_byte slot 1 (omega (arith, long, fits)) opens ∙ ap (λ (l : List ℕ). 1 ∷ l) (rest_is ∙ split_8
-          ∙ ap (λ (l : List ℕ). head ++ l) (split_len ∙ ap (λ (l : List ℕ). l ++ behind) are.text)
-          ∙ sym (append_assoc head (entries_text group) behind)
-          ∙ ap (λ (l : List ℕ). l ++ behind) (group_parts group len head head_is len_here));
-        closing = omega (arith, length-part (p + 9 + len) (k - 9 - len) c (omega (arith, room, fits)), fits);
-      }, len_here, sym are.counted)
+      let split_len : part (p + 9) (k - 9) c ≡ part (p + 9) len c ++ behind = part_split (p + 9) len (k - 9) (p + 9 + len) (k - 9 - len) c (omega arith) (omega (arith, fits)) in (
+        group,
+        record {
+          sound = record { some = omega (arith, some, are.counted); entries = are.sound };
+          behind = behind;
+          text = first_byte slot 1 (omega (arith, long, fits)) opens ∙ ap (λ (l : List ℕ). 1 ∷ l) (rest_is ∙ split_8
+              ∙ ap (λ (l : List ℕ). head ++ l) (split_len ∙ ap (λ (l : List ℕ). l ++ behind) are.text)
+              ∙ sym (append_assoc head (entries_text group) behind)
+              ∙ ap (λ (l : List ℕ). l ++ behind) (group_parts group len head head_is len_here));
+          closing = omega (arith, length-part (p + 9 + len) (k - 9 - len) c (omega (arith, room, fits)), fits);
+        },
+        len_here,
+        sym are.counted,
+      )
 
 -- an open gate that was read
 pub gate_read : (p k : ℕ) (bytes c : List ℕ) → 0 < k → bytes ≡ part p 1 c → get_or bytes 0 0 ≡ 1 → get_or (part p k c) 0 0 ≡ 1
 gate_read p k bytes c some is one = sym (ap (λ (l : List ℕ). get_or l 0 0) is ∙ same_gate p k c some) ∙ one
+
+-- a group takes at least ten bytes
+pub begins_long : (p k : ℕ) (c : List ℕ) (group : List Entry) → BeginsGroup group (part p k c) → 10 ≤ k
+begins_long p k c group begins = omega (arith, length-take k (drop p c), ap length begins.text, length-append (group_text group) begins.behind, length-group_text group, begins.closing)
+
+-- its gate and its count, read at once
+pub gate_told : (p k : ℕ) (c : List ℕ) (group : List Entry) → BeginsGroup group (part p k c) → get_or (part p 9 c) 0 0 ≡ 1
+gate_told p k c group begins =
+    get_or-part p 9 c 0 p (omega arith) (omega arith) ∙ sym (get_or-part p k c 0 p (omega (arith, begins_long p k c group begins)) (omega arith)) ∙ ap (λ (l : List ℕ). get_or l 0 0) begins.text
+
+pub count_read : (p k : ℕ) (c : List ℕ) → p + k ≤ length c → k < 2 ^ 32 → (group : List Entry) → BeginsGroup group (part p k c) → from_be_bytes w32 (take 4 (drop 5 (part p 9 c))) ≡ length group
+count_read p k c room small group begins =
+    ap (from_be_bytes w32) (part-part p 9 5 4 c (omega arith) ∙ ap (λ (j : ℕ). part j 4 c) (omega arith) ∙ sym (part-part (p + 1) 8 4 4 c (omega arith))) ∙ count_told p k c room small group begins

@@ -2,7 +2,7 @@
 use Rattle.std.proofs.Common.{◌≡◌, ◌⊎◌, inl, inr, ℕ, ◌+◌, ◌-◌, ◌^◌, ◌<◌, ◌≤◌, List, [], ◌∷◌, ◌++◌, length, take, drop, get_or, refl, sym, ◌∙◌, ap, subst, arith, append_assoc, length-append}
 use Rattle.std.specs.List.{All}
 use Rattle.std.specs.Int.{w32, from_be_bytes}
-use Rattle.std.proofs.lemmas.List.{append-nil, drop_at, drop-drop, get_or_at}
+use Rattle.std.proofs.lemmas.List.{append-nil, drop_at, drop-drop, get_or_at, get_or-drop, length-drop, take_min, take_more}
 use Rattle.std.proofs.lemmas.List.Concat.{flat_map-append}
 use Rattle.foundation.specs.Bytes.{part}
 use Rattle.foundation.proofs.Bytes.{length-part}
@@ -18,7 +18,13 @@ use Rattle.spool_state.proofs.Once.{entries_at}
 use Rattle.spool_state.proofs.Segments.{empty_length, groups_join}
 use Rattle.spool_state.proofs.Texts.{length-group_text, length-segment_text-with_group, entries_of-with_group}
 use Rattle.spool_slots.specs.declared.mark.Mark.{Mark}
-use Rattle.spool_slots.specs.Mark.{IsAtGate, IsInGroup, IsMark, IsNext, with_groups}
+use Rattle.std.specs.Prelude.{min, Result, Ok, Err}
+use Rattle.std.specs.Result.{IsErrAnd}
+use Rattle.spool_slots.specs.declared.fault.ScanFault.{ScanFault}
+use Rattle.spool_slots.specs.declared.fault.ScanFault.TheVariants.{NotSpool, DiskFault, NoMemory}
+use Rattle.spool_slots.specs.Mark.{IsAtGate, IsInGroup, IsMark, IsNext, IsNextOf, IsReading, with_groups}
+use Rattle.spool_slots.specs.declared.part.Part.{Part}
+use Rattle.spool_slots.specs.Part.{IsPartOf}
 use Rattle.spool_slots.proofs.Walks.{drop-part}
 
 -- the first number's mark
@@ -57,7 +63,7 @@ mark_stays segment group mark (inr in_group) = inr (record {
 entry_in : (passed left more : List Entry) (e : Entry) → All IsEntry (passed ++ left) → left ≡ e ∷ more → IsEntry e
 entry_in passed left more e all is =
     subst IsEntry (get_or_at passed e more e (length passed) refl)
-      (subst (λ (l : List Entry). (k : ℕ) (d : Entry) → k < length l → IsEntry (get_or l k d)) (ap (λ (l : List Entry). passed ++ l) is) all (length passed) e (omega (arith, length-append passed (e ∷ more))))
+    (subst (λ (l : List Entry). (k : ℕ) (d : Entry) → k < length l → IsEntry (get_or l k d)) (ap (λ (l : List Entry). passed ++ l) is) all (length passed) e (omega (arith, length-append passed (e ∷ more))))
 
 entries_split : (segment : Segment) (before behind : List (List Entry)) → segment.groups ≡ before ++ behind → entries_of segment ≡ entries_of (with_groups segment before) ++ entries_of (with_groups segment behind)
 entries_split segment before behind is = ap (λ (l : List (List Entry)). entries_of (with_groups segment l)) is ∙ flat_map-append (λ (g : List Entry). g) before behind
@@ -95,19 +101,23 @@ module _ (at size : ℕ) (segment : Segment) (c : List ℕ) (room : at + size �
   sound_at : (before more : List (List Entry)) (g : List Entry) → All IsGroup segment.groups → segment.groups ≡ before ++ g ∷ more → IsGroup g
   sound_at before more g sound is =
       subst IsGroup (get_or_at before g more g (length before) refl)
-        (subst (λ (l : List (List Entry)). (k : ℕ) (d : List Entry) → k < length l → IsGroup (get_or l k d)) is sound (length before) g (omega (arith, length-append before (g ∷ more))))
+      (subst (λ (l : List (List Entry)). (k : ℕ) (d : List Entry) → k < length l → IsGroup (get_or l k d)) is sound (length before) g (omega (arith, length-append before (g ∷ more))))
 
   pub group_at : (mark : Mark) → All IsGroup segment.groups → (here : IsAtGate segment mark) → mark.number < segment.first + length (entries_of segment)
       → (g : List Entry) × (more : List (List Entry)) × (here.behind ≡ g ∷ more) × BeginsGroup g (part (at + mark.at) (size - mark.at) c)
   group_at mark sound here lt =
       let found = some_behind here.behind (omega (arith, lt, here.counted, ap length (entries_split segment here.before here.behind here.whole), length-append (entries_of (with_groups segment here.before)) (entries_of (with_groups segment here.behind)))) in
-      let is = here.whole ∙ ap (λ (l : List (List Entry)). here.before ++ l) found.2 in
-      (found.0, found.1, found.2, record {
-        sound = sound_at here.before found.1 found.0 sound is;
-        behind = groups_text found.1 ++ holds.rest;
-        text = from_gate here.before (found.0 ∷ found.1) mark.at is here.place ∙ group_text_at found.0 found.1;
-        closing = omega (arith, length-append (groups_text found.1) holds.rest, holds.more);
-      })
+      let is = here.whole ∙ ap (λ (l : List (List Entry)). here.before ++ l) found.2 in (
+        found.0,
+        found.1,
+        found.2,
+        record {
+          sound = sound_at here.before found.1 found.0 sound is;
+          behind = groups_text found.1 ++ holds.rest;
+          text = from_gate here.before (found.0 ∷ found.1) mark.at is here.place ∙ group_text_at found.0 found.1;
+          closing = omega (arith, length-append (groups_text found.1) holds.rest, holds.more);
+        },
+      )
 
   -- within a group the next entry begins at the mark
   pub entry_here : (mark : Mark) → All IsGroup segment.groups → (here : IsInGroup segment mark) (e : Entry) (more : List Entry) → here.left ≡ e ∷ more → (rest : List ℕ) × Begins e (part (at + mark.at) (size - mark.at) c) rest
@@ -119,20 +129,22 @@ module _ (at size : ℕ) (segment : Segment) (c : List ℕ) (room : at + size �
       let gate = from_gate here.before (g ∷ here.behind) n here.whole refl ∙ group_text_at g here.behind in
       let group = sound_at here.before here.behind g sound here.whole in
       let whole_text : entries_text g ++ x ≡ entries_text here.passed ++ (entry_text e ++ (entries_text more ++ x)) =
-          ap (λ (l : List ℕ). l ++ x) (entries_join here.passed here.left ∙ ap (λ (l : List Entry). entries_text here.passed ++ entries_text l) left_is)
-          ∙ append_assoc (entries_text here.passed) (entry_text e ++ entries_text more) x
-          ∙ ap (λ (l : List ℕ). entries_text here.passed ++ l) (append_assoc (entry_text e) (entries_text more) x) in
+      ap (λ (l : List ℕ). l ++ x) (entries_join here.passed here.left ∙ ap (λ (l : List Entry). entries_text here.passed ++ entries_text l) left_is)
+      ∙ append_assoc (entries_text here.passed) (entry_text e ++ entries_text more) x
+      ∙ ap (λ (l : List ℕ). entries_text here.passed ++ l) (append_assoc (entry_text e) (entries_text more) x) in
       let n_fits = before_fits here.before (g ∷ here.behind) here.whole in
-      let room_for : n + k ≤ size = omega (arith, ap length gate, length-part (at + n) (size - n) c (omega (arith, room, n_fits)), length-append (group_text g) x, length-group_text g, ap length whole_text, length-append (entries_text g) x, length-append (entries_text here.passed) (entry_text e ++ (entries_text more ++ x)), n_fits) in
-      (entries_text more ++ x, record {
-        limits = entry_in here.passed here.left more e group.entries left_is;
-        whole = ap (λ (j : ℕ). part j (size - mark.at) c) (omega (arith, here.place)) ∙ ap (λ (j : ℕ). part (at + n + k) j c) (omega (arith, here.place))
-          ∙ sym (drop-part (at + n) k (size - n) c (omega (arith, room_for)))
-          ∙ ap (drop k) gate
-          ∙ sym (drop-drop (length (entries_text here.passed)) 9 (1 ∷ (group_text g ++ x)))
-          ∙ ap (drop (length (entries_text here.passed))) (entries_at g x ∙ whole_text)
-          ∙ drop_at (entries_text here.passed) (entry_text e ++ (entries_text more ++ x)) (length (entries_text here.passed)) refl;
-      })
+      let room_for : n + k ≤ size = omega (arith, ap length gate, length-part (at + n) (size - n) c (omega (arith, room, n_fits)), length-append (group_text g) x, length-group_text g, ap length whole_text, length-append (entries_text g) x, length-append (entries_text here.passed) (entry_text e ++ (entries_text more ++ x)), n_fits) in (
+        entries_text more ++ x,
+        record {
+          limits = entry_in here.passed here.left more e group.entries left_is;
+          whole = ap (λ (j : ℕ). part j (size - mark.at) c) (omega (arith, here.place)) ∙ ap (λ (j : ℕ). part (at + n + k) j c) (omega (arith, here.place))
+              ∙ sym (drop-part (at + n) k (size - n) c (omega (arith, room_for)))
+              ∙ ap (drop k) gate
+              ∙ sym (drop-drop (length (entries_text here.passed)) 9 (1 ∷ (group_text g ++ x)))
+              ∙ ap (drop (length (entries_text here.passed))) (entries_at g x ∙ whole_text)
+              ∙ drop_at (entries_text here.passed) (entry_text e ++ (entries_text more ++ x)) (length (entries_text here.passed)) refl;
+        },
+      )
 
 -- ---- the mark of the next entry
 
@@ -211,3 +223,55 @@ in_group segment mark some (inr here) = here
 pub at_gate : (segment : Segment) (mark : Mark) → mark.rest ≡ 0 → IsMark segment mark → IsAtGate segment mark
 at_gate segment mark none (inl here) = here
 at_gate segment mark none (inr here) = absurd (omega (arith, none, here.rest_is, here.some))
+
+-- a fault of a reading is handed on
+fault_handed : (segment : Segment) (mark : Mark) (e : Entry) (f : ScanFault) → IsReading e (Err f) → IsNextOf segment mark (Err f)
+fault_handed segment mark e (NotSpool place) h = absurd h
+fault_handed segment mark e DiskFault h = tt
+fault_handed segment mark e NoMemory h = tt
+
+pub next_fault : (segment : Segment) (mark : Mark) (e : Entry) (r : Result (Entry × Mark) ScanFault) (f : ScanFault) → IsErrAnd r (λ x. x ≡ f) → IsReading e (Err f) → IsNextOf segment mark r
+next_fault segment mark e (Ok next) f is h = absurd is
+next_fault segment mark e (Err x) f is h = subst (λ (y : ScanFault). IsNextOf segment mark (Err y)) (sym is) (fault_handed segment mark e f h)
+
+-- the same entry by another mark of its number
+pub next_as : (segment : Segment) (entered mark next : Mark) (d e : Entry) → entered.number ≡ mark.number → d ≡ e → IsNext segment entered e next → IsNext segment mark d next
+next_as segment entered mark next d e number_is same is = record {
+  before = is.before;
+  behind = is.behind;
+  whole = is.whole ∙ ap (λ (x : Entry). is.before ++ x ∷ is.behind) (sym same);
+  counted = sym number_is ∙ is.counted;
+  goes_on = is.goes_on;
+}
+
+-- ---- the entries that were read
+
+pub mark_from : (segment : Segment) (mark : Mark) → IsMark segment mark → segment.first ≤ mark.number
+mark_from segment mark (inl here) = omega (arith, here.counted)
+mark_from segment mark (inr here) = omega (arith, here.counted)
+
+pub read_more : (segment : Segment) (here : Mark) (e : Entry) (next : Mark) (number i : ℕ) (read : List Entry) → segment.first ≤ number → here.number ≡ number + i → read ≡ take i (drop (number - segment.first) (entries_of segment)) → IsNext segment here e next
+    → read ++ e ∷ [] ≡ take (i + 1) (drop (number - segment.first) (entries_of segment))
+read_more segment here e next number i read from is read_is found =
+    let all = entries_of segment in
+    let k = number - segment.first in
+    let before_is : length found.before ≡ k + i = omega (arith, found.counted, is, from) in
+    let long : k + i < length all = omega (arith, ap length found.whole, length-append found.before (e ∷ found.behind), before_is) in
+    let there : get_or (drop k all) i e ≡ e = get_or-drop k all i e ∙ ap (λ (l : List Entry). get_or l (k + i) e) found.whole ∙ get_or_at found.before e found.behind e (k + i) before_is in
+    ap (λ (l : List Entry). l ++ e ∷ []) read_is ∙ ap (λ (x : Entry). take i (drop k all) ++ x ∷ []) (sym there) ∙ sym (take_more (drop k all) i e (omega (arith, long, length-drop k all)))
+
+pub read_all : (segment : Segment) (number most left wanted : ℕ) (read : List Entry) → segment.first ≤ number → left ≡ segment.first + length (entries_of segment) - number → wanted ≡ min most left → read ≡ take wanted (drop (number - segment.first) (entries_of segment))
+    → read ≡ take most (drop (number - segment.first) (entries_of segment))
+read_all segment number most left wanted read from left_is wanted_is is =
+    let rest = drop (number - segment.first) (entries_of segment) in
+    let long : left ≡ length rest = omega (arith, left_is, from, length-drop (number - segment.first) (entries_of segment)) in
+    is ∙ ap (λ (n : ℕ). take n rest) (wanted_is ∙ ap (min most) long) ∙ take_min most rest
+
+part_handed : (segment : Segment) (mark here : Mark) (most : ℕ) (f : ScanFault) → IsNextOf segment here (Err f) → IsPartOf segment mark most (Err f)
+part_handed segment mark here most (NotSpool place) h = absurd h
+part_handed segment mark here most DiskFault h = tt
+part_handed segment mark here most NoMemory h = tt
+
+pub part_fault : (segment : Segment) (mark here : Mark) (most : ℕ) (r : Result Part ScanFault) (f : ScanFault) → IsErrAnd r (λ x. x ≡ f) → IsNextOf segment here (Err f) → IsPartOf segment mark most r
+part_fault segment mark here most (Ok part) f is h = absurd is
+part_fault segment mark here most (Err x) f is h = subst (λ (y : ScanFault). IsPartOf segment mark most (Err y)) (sym is) (part_handed segment mark here most f h)

@@ -7,6 +7,7 @@ use Rattle.event_form.specs.declared.event.Entry.{Entry}
 use Rattle.event_form.specs.Entry.{entry_text, size_of}
 use Rattle.event_form.specs.Reading.{Begins, BeginsNoEntry}
 use Rattle.event_form.proofs.Fields.{length-entry_text, length_read}
+use Rattle.event_form.proofs.Unique.{one_entry}
 use Rattle.spool_slots.proofs.Windows.{part-part}
 
 front : (p n k : ℕ) (c : List ℕ) → n ≤ k → take n (part p k c) ≡ part p n c
@@ -44,3 +45,17 @@ none_wider p n k len c le is told_is none = λ e rest begins.
       limits = begins.limits;
       whole = sym (front p n k c le) ∙ ap (take n) begins.whole ∙ take_at (entry_text e) rest n size ∙ sym (append-nil (entry_text e));
     })
+
+-- two entries that begin one part are one, and its front is that entry's text
+pub exact_text : (p n k : ℕ) (c : List ℕ) (d e : Entry) (x y : List ℕ) → Begins d (part p k c) x → Begins e (part p k c) y → n ≡ size_of e → Begins d (part p n c) []
+exact_text p n k c d e x y d_begins e_begins is =
+    let same = one_entry d e x y d_begins.limits e_begins.limits (sym d_begins.whole ∙ e_begins.whole) in
+    let size : length (entry_text d) ≡ n = ap (λ (f : Entry). length (entry_text f)) same.0 ∙ length-entry_text e ∙ sym is in
+    record {
+      limits = d_begins.limits;
+      whole = sym (front p n k c (omega (arith, is, long p k c e y e_begins))) ∙ ap (take n) d_begins.whole ∙ take_at (entry_text d) x n size ∙ sym (append-nil (entry_text d));
+    }
+
+-- what was taken of some bytes is no longer than they are
+pub used_within : (used : ℕ) (bytes : List ℕ) (e : Entry) → take used bytes ≡ entry_text e → used ≡ size_of e → used ≤ length bytes
+used_within used bytes e is size = omega (arith, size, ap length is, length-entry_text e, length-take used bytes)

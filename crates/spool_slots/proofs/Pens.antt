@@ -62,7 +62,7 @@ pub more_waits : (start : ℕ) (base text : List ℕ) (at filled n : ℕ) (buffe
 more_waits start base text at filled n buffer reads piece has is room = record {
   written = has.written;
   whole = ap (λ (l : List ℕ). l ++ piece) has.whole ∙ append_assoc has.written (take filled buffer) piece
-    ∙ ap (λ (l : List ℕ). has.written ++ l) (sym (front_put filled piece buffer (omega arith)) ∙ ap (λ (k : ℕ). take (filled + k) (put filled piece buffer)) (sym is));
+      ∙ ap (λ (l : List ℕ). has.written ++ l) (sym (front_put filled piece buffer (omega arith)) ∙ ap (λ (k : ℕ). take (filled + k) (put filled piece buffer)) (sym is));
   here = has.here;
   fits = has.fits;
   on_disk = has.on_disk;
@@ -92,8 +92,8 @@ all_written start base text at buffer reads has = has.on_disk ∙ ap (λ (l : Li
 pub run_then : (at n i k : ℕ) (m mid new : Moment) → at ≤ i → i + k ≤ at + n → LeavesOnly (ComesFrom m (SameBut at n)) m mid → LeavesOnly (ComesFrom mid (SameBut i k)) mid new → LeavesOnly (ComesFrom m (SameBut at n)) m new
 run_then at n i k m mid new h1 h2 before after =
     both _ _ (ComesFrom m (SameBut at n)) m mid new before after (λ c p. p) (λ c q.
-      let p = before.now q.0 q.1 in
-      (p.0, p.1, same_but_then at n at n i k p.0 q.0 c p.2 q.2 (omega arith) (omega arith) h1 h2))
+    let p = before.now q.0 q.1 in
+    (p.0, p.1, same_but_then at n at n i k p.0 q.0 c p.2 q.2 (omega arith) (omega arith) h1 h2))
 
 -- in a wider range
 pub run_wider : (at n i k : ℕ) (m new : Moment) → at ≤ i → i + k ≤ at + n → LeavesOnly (ComesFrom m (SameBut i k)) m new → LeavesOnly (ComesFrom m (SameBut at n)) m new

@@ -26,7 +26,7 @@ unfolding head_text
 head_read ordinal first head long opens o f =
     first_byte head 1 (omega arith) opens
     ∙ ap (λ (l : List ℕ). 1 ∷ l) (sym (take-append-drop 8 (drop 1 head)) ∙ ap (λ (l : List ℕ). l ++ drop 8 (drop 1 head)) (sym o)
-      ∙ ap (λ (l : List ℕ). to_be_bytes w64 ordinal ++ l) (drop-drop 8 1 head ∙ sym (take_all 8 (drop 9 head) (omega (arith, length-drop 9 head))) ∙ sym f))
+    ∙ ap (λ (l : List ℕ). to_be_bytes w64 ordinal ++ l) (drop-drop 8 1 head ∙ sym (take_all 8 (drop 9 head) (omega (arith, length-drop 9 head))) ∙ sym f))
 
 pub scan_start : (at size ordinal first : ℕ) (head c : List ℕ) → at + size ≤ length c → 17 ≤ size → head ≡ part at 17 c → get_or head 0 0 ≡ 1 → to_be_bytes w64 ordinal ≡ take 8 (drop 1 head) → to_be_bytes w64 first ≡ take 8 (drop 9 head) → IsScanned at size ordinal first 17 0 c
 scan_start at size ordinal first head c room large is opens o f =
@@ -51,17 +51,17 @@ scan_more at size ordinal first gate count next more group c room lt scanned beg
     let group_long = length-group_text group in
     let fits : k ≡ n + length begins.behind = omega (arith, length-part p k c (omega (arith, room)), ap length begins.text, length-append (group_text group) begins.behind, group_long) in
     let behind : part (at + next) (size - next) c ≡ begins.behind =
-        ap (λ (j : ℕ). part j (size - next) c) (omega (arith, next_is)) ∙ ap (λ (j : ℕ). part (p + n) j c) (omega (arith, next_is, fits))
-        ∙ sym (drop-part p n k c (omega (arith, fits))) ∙ ap (drop n) begins.text ∙ drop_at (1 ∷ group_text group) begins.behind n (omega (arith, group_long)) in
+    ap (λ (j : ℕ). part j (size - next) c) (omega (arith, next_is)) ∙ ap (λ (j : ℕ). part (p + n) j c) (omega (arith, next_is, fits))
+    ∙ sym (drop-part p n k c (omega (arith, fits))) ∙ ap (drop n) begins.text ∙ drop_at (1 ∷ group_text group) begins.behind n (omega (arith, group_long)) in
     record {
       before = with_group before group;
       sound = All-push IsGroup before.groups group scanned.sound begins.sound;
       ordinal_is = scanned.ordinal_is;
       first_is = scanned.first_is;
       text = scanned.text ∙ ap (λ (l : List ℕ). segment_text before ++ l) begins.text
-        ∙ sym (append_assoc (segment_text before) (1 ∷ group_text group) begins.behind)
-        ∙ ap (λ (l : List ℕ). l ++ begins.behind) (sym (segment_text-with_group before group))
-        ∙ ap (λ (l : List ℕ). segment_text (with_group before group) ++ l) (sym behind);
+          ∙ sym (append_assoc (segment_text before) (1 ∷ group_text group) begins.behind)
+          ∙ ap (λ (l : List ℕ). l ++ begins.behind) (sym (segment_text-with_group before group))
+          ∙ ap (λ (l : List ℕ). segment_text (with_group before group) ++ l) (sym behind);
       gate_is = omega (arith, next_is, scanned.gate_is, length-segment_text-with_group before group);
       count_is = omega (arith, more_is, scanned.count_is, ap length (entries_of-with_group before group), length-append (entries_of before) group);
     }

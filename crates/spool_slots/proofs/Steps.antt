@@ -1,10 +1,10 @@
 -- What each step of a gate in a slot does to the segment in it.
-use Rattle.std.proofs.Common.{◌≡◌, ◌≢◌, inl, inr, ℕ, ◌+◌, ◌-◌, ◌<◌, ◌≤◌, List, [], ◌∷◌, ◌++◌, length, take, drop, get_or, refl, sym, ◌∙◌, ap, subst, arith, append_assoc, length-append, take-append-drop}
+use Rattle.std.proofs.Common.{◌≡◌, ◌≢◌, inl, inr, ℕ, suc, ◌+◌, ◌-◌, ◌<◌, ◌≤◌, List, [], ◌∷◌, ◌++◌, length, take, drop, get_or, refl, sym, ◌∙◌, ap, subst, arith, append_assoc, length-append, take-append-drop}
 use Rattle.std.specs.Prelude.{All}
-use Rattle.std.proofs.lemmas.List.{take_at, get_or-drop, append-nil}
+use Rattle.std.proofs.lemmas.List.{take_at, get_or-drop, get_or_at, append-nil}
 use Rattle.std.proofs.lemmas.Grind.{common_steps}
 use Rattle.foundation.specs.Bytes.{part, put, SameBut}
-use Rattle.foundation.proofs.Bytes.{same_but_refl, same_but_wider, get_or-part, length-part}
+use Rattle.foundation.proofs.Bytes.{same_but_refl, same_but_wider, get_or-part, length-part, put_at}
 use Rattle.edge_disk.specs.Disk.{Moment, IsTorn, IsLawful, LeavesOnly}
 use Rattle.edge_disk.specs.Gate.{IsGateStep, ComesFrom}
 use Rattle.edge_disk.proofs.Moments.{both, weaker, torn_from}
@@ -12,7 +12,7 @@ use Rattle.edge_disk.proofs.GateSteps.{behind, opening, open_whole, closed_or_be
 use Rattle.event_form.specs.declared.event.Entry.{Entry}
 use Rattle.spool_state.specs.Segment.{Segment, empty_segment, with_group, group_text, head_text, need_of, segment_text}
 use Rattle.spool_state.specs.Image.{HoldsSegment}
-use Rattle.spool_state.proofs.Segments.{holds_open}
+use Rattle.spool_state.proofs.Segments.{holds_closed, holds_open}
 use Rattle.spool_state.proofs.Texts.{length-head_text, length-group_text, length-need, segment_text-with_group}
 use Rattle.spool_slots.specs.Slot.{Knows, IsClosedOrHolds, HoldsOldOrNew}
 use Rattle.spool_slots.specs.declared.slot.Slot.{Slot}
@@ -31,7 +31,7 @@ pub gate_from : (gate : ℕ) (piece : List ℕ) (m mid new : Moment) → IsLawfu
     → LeavesOnly (ComesFrom m (IsGateStep gate piece)) m new
 gate_from gate piece m mid new lawful room closed run is opened =
     both _ _ (ComesFrom m (IsGateStep gate piece)) m mid new (piece_from gate piece m mid closed run) opened (λ c p. p)
-      (λ c q. (m.reads, lawful.reads_image, opening gate piece m.reads c (omega (arith, room, lawful.reads_size)) (subst (λ b. IsGateStep gate [] b c) is q)))
+    (λ c q. (m.reads, lawful.reads_image, opening gate piece m.reads c (omega (arith, room, lawful.reads_size)) (subst (λ b. IsGateStep gate [] b c) is q)))
 
 -- ---- a group behind a segment
 
@@ -133,8 +133,8 @@ pub append_run : (slot : Slot) (segment : Segment) (group : List Entry) (m new :
     → LeavesOnly (ComesFrom m (IsGateStep (slot.at + slot.gate) (group_text group ++ 0 ∷ []))) m new → LeavesOnly (ComesFrom m (HoldsOldOrNew slot.at slot.size segment group)) m new
 append_run slot segment group m new lawful room le known run =
     weaker _ _ m new run (λ c from.
-      let knows = known from.0 from.1 in
-      (from.0, from.1, group_step slot.at slot.size slot.gate segment group (group_text group ++ 0 ∷ []) from.0 c refl (omega (arith, room, lawful.image_size from.0 from.1)) (omega (arith, le, slot.inside, length-need group)) knows.gate knows.holds from.2))
+    let knows = known from.0 from.1 in
+    (from.0, from.1, group_step slot.at slot.size slot.gate segment group (group_text group ++ 0 ∷ []) from.0 c refl (omega (arith, room, lawful.image_size from.0 from.1)) (omega (arith, le, slot.inside, length-need group)) knows.gate knows.holds from.2))
 
 -- the piece is as long as the group's need
 pub body_from : (gate : ℕ) (group : List Entry) (m new : Moment) → LeavesOnly (ComesFrom m (SameBut (gate + 1) (need_of group))) m new → LeavesOnly (ComesFrom m (SameBut (gate + 1) (length (group_text group ++ 0 ∷ [])))) m new
@@ -146,6 +146,24 @@ pub append_holds : (slot : Slot) (segment : Segment) (group : List Entry) (old m
 append_holds slot segment group old mid new room le knows is_mid is_new =
     let gate = slot.at + slot.gate in
     let whole : new ≡ put gate (1 ∷ group_text group ++ 0 ∷ []) old =
-        is_new ∙ ap (put gate (1 ∷ [])) is_mid ∙ open_whole gate (group_text group ++ 0 ∷ []) old (omega (arith, room, le, slot.inside, length-need group)) in
+    is_new ∙ ap (put gate (1 ∷ [])) is_mid ∙ open_whole gate (group_text group ++ 0 ∷ []) old (omega (arith, room, le, slot.inside, length-need group)) in
     subst (HoldsSegment slot.at slot.size (with_group segment group)) (sym whole)
-      (group_put slot.at slot.size slot.gate segment group old room (omega (arith, le, slot.inside, length-group_text group)) knows.gate knows.holds)
+    (group_put slot.at slot.size slot.gate segment group old room (omega (arith, le, slot.inside, length-group_text group)) knows.gate knows.holds)
+
+-- ---- the closed gate behind the last group
+
+-- in each image of a disk that is durable
+pub closed_behind : (gate k : ℕ) (piece old mid new c : List ℕ) → gate + length piece + 2 ≤ length old → mid ≡ put (gate + 1) (piece ++ 0 ∷ []) old → new ≡ put gate (1 ∷ []) mid → c ≡ new → k ≡ gate + 1 + length piece → get_or c k 0 ≢ 1
+closed_behind gate k piece old mid new c room is_mid is_new is k_is =
+    let all = piece ++ 0 ∷ [] in
+    let long : length all ≡ length piece + 1 = length-append piece (0 ∷ []) in
+    let whole : c ≡ put gate (1 ∷ all) old = is ∙ is_new ∙ ap (put gate (1 ∷ [])) is_mid ∙ open_whole gate all old (omega (arith, room, long)) in
+    let byte : get_or c k 0 ≡ 0 =
+    ap (λ (l : List ℕ). get_or l k 0) whole
+    ∙ put_at gate (1 ∷ all) old (suc (length piece)) k (omega (arith, room, long)) (omega (arith, long)) (omega (arith, k_is))
+    ∙ get_or_at piece 0 [] 0 (length piece) refl in
+    λ one. absurd (omega (arith, byte, one))
+
+-- what a segment's slot needs of its images before a group is added
+pub closed_known : (slot : Slot) (segment : Segment) (c : List ℕ) → slot.at + slot.size ≤ length c → Knows slot segment c → get_or c (slot.at + slot.gate) 0 ≢ 1
+closed_known slot segment c room knows = subst (λ (n : ℕ). get_or c (slot.at + n) 0 ≢ 1) (sym knows.gate) (holds_closed slot.at slot.size segment c room knows.holds)

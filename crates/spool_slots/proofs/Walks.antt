@@ -30,10 +30,10 @@ walk_more i p n k bytes c e rest walked begins is le =
       sound = All-push IsEntry walked.entries e walked.sound begins.limits;
       counted = omega (arith, walked.counted, length-append walked.entries (e ∷ []));
       text = walked.text
-        ∙ ap (λ (l : List ℕ). entries_text walked.entries ++ l) (begins.whole ∙ ap (λ (l : List ℕ). entry_text e ++ l) (sym behind))
-        ∙ sym (append_assoc (entries_text walked.entries) (entry_text e) (part (p + n) (k - n) c))
-        ∙ ap (λ (l : List ℕ). (entries_text walked.entries ++ l) ++ part (p + n) (k - n) c) (sym (append-nil (entry_text e)))
-        ∙ ap (λ (l : List ℕ). l ++ part (p + n) (k - n) c) (sym (entries_join walked.entries (e ∷ [])));
+          ∙ ap (λ (l : List ℕ). entries_text walked.entries ++ l) (begins.whole ∙ ap (λ (l : List ℕ). entry_text e ++ l) (sym behind))
+          ∙ sym (append_assoc (entries_text walked.entries) (entry_text e) (part (p + n) (k - n) c))
+          ∙ ap (λ (l : List ℕ). (entries_text walked.entries ++ l) ++ part (p + n) (k - n) c) (sym (append-nil (entry_text e)))
+          ∙ ap (λ (l : List ℕ). l ++ part (p + n) (k - n) c) (sym (entries_join walked.entries (e ∷ [])));
     }
 
 -- the entries that are there go on with what was walked

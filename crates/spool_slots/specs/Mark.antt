@@ -1,7 +1,11 @@
 -- Where an entry of a segment begins in its slot.
-use Rattle.std.specs.Prelude.{◌≡◌, ◌⊎◌, ℕ, ◌+◌, ◌<◌, List, ◌∷◌, ◌++◌, length}
+use Rattle.std.specs.Prelude.{◌≡◌, ◌⊎◌, ℕ, ◌+◌, ◌<◌, List, ◌∷◌, ◌++◌, length, Result, Ok, Err}
 use Rattle.event_form.specs.declared.event.Entry.{Entry}
+use Rattle.event_form.specs.declared.reading.Took.{Took}
+use Rattle.event_form.specs.Entry.{size_of}
 use Rattle.spool_state.specs.Segment.{Segment, entries_of, entries_text, segment_text}
+use Rattle.spool_slots.specs.declared.fault.ScanFault.{ScanFault}
+use Rattle.spool_slots.specs.declared.fault.ScanFault.TheVariants.{NotSpool, DiskFault, NoMemory}
 use Rattle.spool_slots.specs.declared.mark.Mark.{Mark}
 
 -- the segment with these groups alone
@@ -40,3 +44,24 @@ pub record IsNext (segment : Segment) (mark : Mark) (entry : Entry) (next : Mark
   pub whole : entries_of segment ≡ before ++ entry ∷ behind
   pub counted : mark.number ≡ segment.first + length before
   pub goes_on : IsMark segment next
+
+-- From a mark of the segment the mark of its entry was found, behind the head of a group; or there was a fault or no memory.
+abbrev pub IsEntered : Segment → Mark → Result Mark ScanFault → Type 0
+IsEntered segment mark (Ok entered) = IsInGroup segment entered × (entered.number ≡ mark.number)
+IsEntered segment mark (Err (NotSpool place)) = ⊥
+IsEntered segment mark (Err DiskFault) = Unit {0}
+IsEntered segment mark (Err NoMemory) = Unit {0}
+
+-- The entry was read; or there was a fault or no memory.
+abbrev pub IsReading : Entry → Result Took ScanFault → Type 0
+IsReading e (Ok took) = (took.entry ≡ e) × (took.used ≡ size_of e)
+IsReading e (Err (NotSpool place)) = ⊥
+IsReading e (Err DiskFault) = Unit {0}
+IsReading e (Err NoMemory) = Unit {0}
+
+-- The next entry was read; or there was a fault or no memory.
+abbrev pub IsNextOf : Segment → Mark → Result (Entry × Mark) ScanFault → Type 0
+IsNextOf segment mark (Ok next) = IsNext segment mark next.0 next.1
+IsNextOf segment mark (Err (NotSpool place)) = ⊥
+IsNextOf segment mark (Err DiskFault) = Unit {0}
+IsNextOf segment mark (Err NoMemory) = Unit {0}

@@ -124,6 +124,7 @@ impl Slot {
         ensures err { OnErr result (self.new ≡ self.old) }
 
         ensures durable { OnOk result (D.tells → IsSettled (D.moment disk.new)) }
+        ensures closed_behind { OnOk result (D.tells → (c : List ℕ) → (D.moment disk.new).image c → slice_index c (self.new.at + self.new.gate) ≢ 1) }
         ensures known { OnOk result ((segment : Segment) → D.tells → ((c : List ℕ) → (D.moment disk.old).image c → Knows self.old segment c) → Knows self.new (with_group segment entries.now) (D.moment disk.new).reads) }
         ensures any_moment { (segment : Segment) → D.tells → ((c : List ℕ) → (D.moment disk.old).image c → Knows self.old segment c)
             → LeavesOnly (ComesFrom (D.moment disk.old) (HoldsOldOrNew self.old.at self.old.size segment entries.now)) (D.moment disk.old) (D.moment disk.new) }

@@ -26,7 +26,7 @@ pub(crate) enum Step {
 }
 
 /// The length of the entry's text that begins at offset `from` of the slot and ends at `end` or before.
-fn entry_at<D: Disk>(
+pub(crate) fn entry_at<D: Disk>(
     window: &mut Window,
     disk: &mut D,
     at: u64,
@@ -43,7 +43,7 @@ fn entry_at<D: Disk>(
     ensures same_size { (D.moment disk.new).size ≡ (D.moment disk.old).size }
     ensures told { D.tells → IsUntouched (D.moment disk.old) (D.moment disk.new) }
     ensures window { OnOk result (D.tells → IsWindow at window.new (D.moment disk.new).reads) }
-    ensures inside { IfOk result (λ found. IfSome found (λ n. (29 ≤ n) × (from + n ≤ end))) }
+    ensures inside { IfOk result (λ found. IfSome found (λ n. (29 ≤ n) × (n ≤ 131101) × (from + n ≤ end))) }
     ensures found { IfOk result (λ found. D.tells → MatchOption found (BeginsNoEntry (part (at + from) (end - from) (D.moment disk.old).reads))
         (λ n. (e : Entry) × (rest : List ℕ) × Begins e (part (at + from) (end - from) (D.moment disk.old).reads) rest × (n ≡ size_of e))) }
 {

@@ -9,6 +9,7 @@ mod append;
 mod fault;
 mod group;
 mod mark;
+mod next;
 mod number;
 mod part;
 mod pen;
@@ -20,3 +21,6 @@ pub use fault::{ScanFault, SlotFault};
 pub use mark::Mark;
 pub use part::Part;
 pub use slot::Slot;
+
+#[cfg(test)]
+mod tests;

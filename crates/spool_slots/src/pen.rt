@@ -31,7 +31,12 @@ pub(crate) struct Pen {
 impl Pen {
     /// Takes as much of the text as the buffer has room for, and writes the buffer where it is full.
     /// Gives how many bytes it took.
-    fn take_some<D: Disk>(&mut self, disk: &mut D, buffer: &mut [u8], text: &[u8]) -> Result<usize, DiskFault>
+    fn take_some<D: Disk>(
+        &mut self,
+        disk: &mut D,
+        buffer: &mut [u8],
+        text: &[u8],
+    ) -> Result<usize, DiskFault>
         requires buffer { length buffer.old ≡ 65536 }
         requires some { 0 < length text.now }
         requires room { self.old.at + self.old.filled + length text.now ≤ (D.moment disk.old).size }
@@ -57,7 +62,12 @@ impl Pen {
     }
 
     /// Takes the text. Gives an error where a write fails.
-    pub fn write<D: Disk>(&mut self, disk: &mut D, buffer: &mut [u8], text: &[u8]) -> Result<(), DiskFault>
+    pub fn write<D: Disk>(
+        &mut self,
+        disk: &mut D,
+        buffer: &mut [u8],
+        text: &[u8],
+    ) -> Result<(), DiskFault>
         requires buffer { length buffer.old ≡ 65536 }
         requires room { self.old.at + self.old.filled + length text.now ≤ (D.moment disk.old).size }
 

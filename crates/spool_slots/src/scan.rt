@@ -17,7 +17,12 @@ impl Slot {
     /// Reads the slot in the `size` bytes from offset `at` of the device on: its numbers, and how many
     /// entries it has in how many bytes. Nothing where its gate is closed. It reads the slot once, in large
     /// pieces, up to its first gate that isn't open, and takes the memory of one piece.
-    pub fn scan<D: Disk>(alloc: Global, disk: &mut D, at: u64, size: u64) -> Result<Option<Slot>, ScanFault>
+    pub fn scan<D: Disk>(
+        alloc: Global,
+        disk: &mut D,
+        at: u64,
+        size: u64,
+    ) -> Result<Option<Slot>, ScanFault>
         requires large { 4096 ≤ size }
         requires small { size ≤ 1073741824 }
         requires place { at + size ≤ (D.moment disk.old).size }

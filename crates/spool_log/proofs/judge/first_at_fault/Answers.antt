@@ -1,7 +1,6 @@
-use Rattle.std.proofs.Common.{ℕ, ◌+◌, List, take, drop, All, sym, subst}
+use Rattle.std.proofs.Common.{take, sym, subst}
 use Rattle.std.proofs.lemmas.List.{take_all}
 use Rattle.std.proofs.lemmas.List.Elements.{All-more, All-same}
-use Rattle.spool_slots.specs.declared.slot.Slot.{Slot}
 use Rattle.spool_log.specs.Judging.{HasSoundNumbers}
 use Rattle.spool_log.proofs.Orders.{rest_next, rest_here, rest_end}
 use Rattle.spool_log.proofs.judge.first_at_fault.Goals as goal

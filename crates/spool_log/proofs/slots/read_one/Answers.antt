@@ -1,12 +1,12 @@
-use Rattle.std.proofs.Common.{rules, ◌≡◌, ◌≢◌, ℕ, ◌+◌, ◌*◌, ◌^◌, ◌<◌, ◌≤◌, nat_le, get_or, List, All, arith, subst, sym, ◌∙◌, ap}
+use Rattle.std.proofs.Common.{rules, ◌≡◌, ◌≢◌, ℕ, ◌+◌, ◌*◌, ◌^◌, ◌<◌, nat_le, get_or, List, arith, subst, sym, ◌∙◌, ap}
 use Rattle.std.specs.Prelude.{Option, IfSome, MatchOption}
-use Rattle.std.specs.List.{prefix_len, insert}
+use Rattle.std.specs.List.{prefix_len}
 use Rattle.std.proofs.lemmas.List.Elements.{All-same}
 use Rattle.spool_state.specs.Image.{slot_at}
 use Rattle.spool_state.proofs.Frames.{inside}
 use Rattle.spool_slots.specs.declared.slot.Slot.{Slot}
 use Rattle.spool_slots.specs.Scan.{KnowsSome, IsScanFault}
-use Rattle.spool_log.specs.Reading.{IsPlaced, IsSlotsFault, KnowsOpened}
+use Rattle.spool_log.specs.Reading.{IsPlaced, KnowsOpened}
 use Rattle.spool_log.proofs.Scanned.{All-insert, known_open}
 use Rattle.spool_log.proofs.Faults.{if_err, slots_fault}
 use Rattle.spool_log.proofs.slots.read_one.Goals as goal

@@ -1,4 +1,4 @@
-use Rattle.std.proofs.Common.{◌≡◌, ℕ, ◌+◌, List, arith, subst, sym, ◌∙◌}
+use Rattle.std.proofs.Common.{ℕ, ◌+◌, List, arith, subst, sym, ◌∙◌}
 use Rattle.edge_disk.proofs.Moments.{untouched_then}
 use Rattle.spool_log.specs.Reading.{IsSlotsFault, KnowsOpened}
 use Rattle.spool_log.proofs.Faults.{if_err}

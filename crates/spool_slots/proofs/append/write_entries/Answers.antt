@@ -54,6 +54,6 @@ loop-entry-preserved g c =
           let first = c.in_ok-write.ensures.written start base (before ++ done) tells (c.loop-entry.invariant.written start base before tells has) in
           let second = c.in_ok-write-2.ensures.written start base ((before ++ done) ++ c.entry_head.result) tells first in
           subst (λ (l : List ℕ). HasWritten start base l pen.at pen.filled c.write-in-loop-entry.new.buffer (g.D.Disk.moment c.write-in-loop-entry.new.disk).reads)
-            (ap (λ (l : List ℕ). ((before ++ done) ++ c.entry_head.result) ++ l) c.bytes.ensures ∙ ap (λ (l : List ℕ). ((before ++ done) ++ l) ++ e.event.text) c.entry_head.ensures ∙ parts_more before c.args.entries.now i e c.loop-entry-test.true c.entry-item.is)
-            second;
+          (ap (λ (l : List ℕ). ((before ++ done) ++ c.entry_head.result) ++ l) c.bytes.ensures ∙ ap (λ (l : List ℕ). ((before ++ done) ++ l) ++ e.event.text) c.entry_head.ensures ∙ parts_more before c.args.entries.now i e c.loop-entry-test.true c.entry-item.is)
+          second;
     }

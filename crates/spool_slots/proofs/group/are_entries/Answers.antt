@@ -32,16 +32,16 @@ loop-i-preserved g c =
       told = λ tells. untouched_then _ _ _ (g.met.D.Disk.lawful c.args.disk.now tells) (c.loop-i.invariant.told tells) (c.entry_at.ensures.told tells);
       window = λ tells. c.in_ok-n.ensures.window tells;
       begins = omega (arith, c.loop-i.invariant.begins, inside.0);
-      ends = omega (arith, inside.1);
+      ends = omega (arith, inside.2);
       walked = λ tells.
           let found = rw c.in-Some.is at (c.in_ok-n.ensures.found tells) in
           let begins = subst (λ (l : List ℕ). Begins found.0 (part (c.args.at + c.loop-i.place) (c.args.end - c.loop-i.place) l) found.1) (c.loop-i.invariant.told tells).same found.2 in
-          let more = walk_more c.loop-i.i (c.args.at + c.loop-i.place) n (c.args.end - c.loop-i.place) _ reads found.0 found.1 (c.loop-i.invariant.walked tells) begins found.3 (omega (arith, inside.1)) in
+          let more = walk_more c.loop-i.i (c.args.at + c.loop-i.place) n (c.args.end - c.loop-i.place) _ reads found.0 found.1 (c.loop-i.invariant.walked tells) begins found.3 (omega (arith, inside.2)) in
           let at_is : c.args.at + c.loop-i.place + n ≡ c.args.at + (c.loop-i.place + n) = omega arith in
           let len_is : c.args.end - c.loop-i.place - n ≡ c.args.end - (c.loop-i.place + n) = omega arith in
           let bytes = part (c.args.at + c.args.from) (c.args.end - c.args.from) reads in
           subst (λ (k : ℕ). BeginsEntries (c.loop-i.i + 1) bytes (part k (c.args.end - (c.loop-i.place + n)) reads)) at_is
-            (subst (λ (k : ℕ). BeginsEntries (c.loop-i.i + 1) bytes (part (c.args.at + c.loop-i.place + n) k reads)) len_is more);
+          (subst (λ (k : ℕ). BeginsEntries (c.loop-i.i + 1) bytes (part (c.args.at + c.loop-i.place + n) k reads)) len_is more);
     }
 
 pub returns-clause-exact : goal.returns-clause-exact
@@ -53,9 +53,10 @@ returns-clause-exact g c = λ tells.
     let bytes = part (c.args.at + c.args.from) (c.args.end - c.args.from) reads in
     let done : c.loop-i.i ≡ c.args.count = omega (arith, c.loop-i-test.false, c.loop-i.auto.i-end) in
     let walked = subst (λ (n : ℕ). BeginsEntries n bytes (part p k reads)) done (c.loop-i.invariant.walked tells) in
-    let long : length (part p k reads) ≡ k = length-part p k reads (omega (arith, c.requires.place, c.requires.ends, c.loop-i.invariant.ends, lawful.reads_size)) in
-    (λ t. walk_all c.args.count p k bytes reads walked (omega (arith, eqb-true c.loop-i.place c.args.end t)),
-     λ all. elim (cases_lt 0 k) [
-       | inl some ↦ absurd (walk_long c.args.count bytes (part p k reads) walked (omega (arith, long, some)) all)
-       | inr none ↦ eq-eqb c.loop-i.place c.args.end (omega (arith, none, c.loop-i.invariant.ends))
-     ])
+    let long : length (part p k reads) ≡ k = length-part p k reads (omega (arith, c.requires.place, c.requires.ends, c.loop-i.invariant.ends, lawful.reads_size)) in (
+      λ t. walk_all c.args.count p k bytes reads walked (omega (arith, eqb-true c.loop-i.place c.args.end t)),
+      λ all. elim (cases_lt 0 k) [
+        | inl some ↦ absurd (walk_long c.args.count bytes (part p k reads) walked (omega (arith, long, some)) all)
+        | inr none ↦ eq-eqb c.loop-i.place c.args.end (omega (arith, none, c.loop-i.invariant.ends))
+      ],
+    )

@@ -55,11 +55,13 @@ returns-then-count-eq0-clause-seen g c = λ tells.
     let p_is : c.args.at + (c.args.gate + 1) ≡ p + 1 = omega arith in
     let head_is = c.bytes-head.ensures.value c.args.at _ (c.in_ok-cover-2.ensures.window tells) ∙ ap (part (c.args.at + (c.args.gate + 1)) 8) same_2 ∙ ap (λ (j : ℕ). part j 8 reads) p_is in
     let len_is = c.u32_at-len.ensures.value ∙ ap (λ (l : List ℕ). from_be_bytes w32 (take 4 (drop 0 l))) head_is in
-    let count_is = c.u32_at-count.ensures.value ∙ ap (λ (l : List ℕ). from_be_bytes w32 (take 4 (drop 4 l))) head_is in
-    (opens, λ group begins. elim c.then-count-eq0.branch [
-      | then-count-eq0-via-then-count-eq0 w ↦ broken_count p k reads room small c.u32_at-count.result count_is w.if-count-eq0.true group begins
-      | then-count-eq0-via-else-count-eq0+then-from-size w ↦ broken_long p k reads room small c.u32_at-len.result len_is (omega (arith, w.if-from-size.true, w.from.ensures)) group begins
-    ])
+    let count_is = c.u32_at-count.ensures.value ∙ ap (λ (l : List ℕ). from_be_bytes w32 (take 4 (drop 4 l))) head_is in (
+      opens,
+      λ group begins. elim c.then-count-eq0.branch [
+        | then-count-eq0-via-then-count-eq0 w ↦ broken_count p k reads room small c.u32_at-count.result count_is w.if-count-eq0.true group begins
+        | then-count-eq0-via-else-count-eq0+then-from-size w ↦ broken_long p k reads room small c.u32_at-len.result len_is (omega (arith, w.if-from-size.true, w.from.ensures)) group begins
+      ],
+    )
 
 pub returns-then-branch-clause-seen : goal.returns-then-branch-clause-seen
 returns-then-branch-clause-seen g c = λ tells.
@@ -80,7 +82,7 @@ returns-then-branch-clause-seen g c = λ tells.
     let len = c.u32_at-len.result in
     let n_is : c.args.gate + 9 + c.from-2.result - (c.args.gate + 9) ≡ len = omega (arith, c.from-2.ensures) in
     let there : part (c.args.at + (c.args.gate + 9)) (c.args.gate + 9 + c.from-2.result - (c.args.gate + 9)) (g.D.Disk.moment c.cover-2.new.disk).reads ≡ part (p + 9) len reads =
-        ap (part (c.args.at + (c.args.gate + 9)) (c.args.gate + 9 + c.from-2.result - (c.args.gate + 9))) same_2 ∙ ap (λ (j : ℕ). part j (c.args.gate + 9 + c.from-2.result - (c.args.gate + 9)) reads) q_is ∙ ap (λ (j : ℕ). part (p + 9) j reads) n_is in
+    ap (part (c.args.at + (c.args.gate + 9)) (c.args.gate + 9 + c.from-2.result - (c.args.gate + 9))) same_2 ∙ ap (λ (j : ℕ). part j (c.args.gate + 9 + c.from-2.result - (c.args.gate + 9)) reads) q_is ∙ ap (λ (j : ℕ). part (p + 9) j reads) n_is in
     let are = subst (AreEntries c.u32_at-count.result) there ((c.in_ok-are_entries.ensures.exact tells).0 c.if-branch.true) in
     let len_bytes = c.u32_at-len.ensures.bytes ∙ ap (λ (l : List ℕ). take 4 (drop 0 l)) head_is in
     let count_bytes = c.u32_at-count.ensures.bytes ∙ ap (λ (l : List ℕ). take 4 (drop 4 l)) head_is in
@@ -105,6 +107,6 @@ returns-else-branch-clause-seen g c = λ tells.
     let len = c.u32_at-len.result in
     let n_is : c.args.gate + 9 + c.from-2.result - (c.args.gate + 9) ≡ len = omega (arith, c.from-2.ensures) in
     let there : part (c.args.at + (c.args.gate + 9)) (c.args.gate + 9 + c.from-2.result - (c.args.gate + 9)) (g.D.Disk.moment c.cover-2.new.disk).reads ≡ part (p + 9) len reads =
-        ap (part (c.args.at + (c.args.gate + 9)) (c.args.gate + 9 + c.from-2.result - (c.args.gate + 9))) same_2 ∙ ap (λ (j : ℕ). part j (c.args.gate + 9 + c.from-2.result - (c.args.gate + 9)) reads) q_is ∙ ap (λ (j : ℕ). part (p + 9) j reads) n_is in
+    ap (part (c.args.at + (c.args.gate + 9)) (c.args.gate + 9 + c.from-2.result - (c.args.gate + 9))) same_2 ∙ ap (λ (j : ℕ). part j (c.args.gate + 9 + c.from-2.result - (c.args.gate + 9)) reads) q_is ∙ ap (λ (j : ℕ). part (p + 9) j reads) n_is in
     let none = λ (are : AreEntries c.u32_at-count.result (part (p + 9) len reads)). (c.in_ok-are_entries.ensures.exact tells).1 (subst (AreEntries c.u32_at-count.result) (sym there) are) in
     (opens, broken_entries p k reads room small len c.u32_at-count.result len_is count_is (λ are. let t = none are in let f = c.if-branch.false in cc))

@@ -1,6 +1,6 @@
 use Rattle.std.proofs.Common.{rules, ◌≡◌}
 use Rattle.std.specs.Int.{from_be_bytes}
-use mir.Syntax.{w32, w64}
+use mir.Syntax.{w32}
 use Rattle.foundation.specs.Bytes.{part}
 use Rattle.spool_log.proofs.Headers.{text_of_header}
 use Rattle.spool_log.proofs.header.Header.of.Goals as goal

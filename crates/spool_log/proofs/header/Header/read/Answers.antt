@@ -1,7 +1,6 @@
-use Rattle.std.proofs.Common.{◌≡◌, ◌<◌, ◌≤◌, ◌∙◌, sym, subst, arith}
+use Rattle.std.proofs.Common.{◌∙◌, sym, subst, arith}
 use Rattle.std.proofs.lemmas.Bool.{false≢true}
 use Rattle.spool_state.specs.Rules.{IsLayout}
-use Rattle.foundation.specs.Bytes.{part}
 use Rattle.spool_log.proofs.Headers.{too_short, not_named, not_measured, header_there}
 use Rattle.spool_log.proofs.header.Header.read.Goals as goal
 

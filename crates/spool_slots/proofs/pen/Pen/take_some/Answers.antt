@@ -22,4 +22,4 @@ returns-clause-written g c = λ start base done tells has.
     let whole : take (pen.filled + n) next ≡ next = take_all (pen.filled + n) next (omega (arith, full, c.requires.buffer, ap length c.overwrite.ensures, length-put pen.filled piece old (omega (arith, c.requires.buffer)))) in
     let waits_now = subst (λ (b : List ℕ). HasWritten start base (done ++ piece) pen.at (pen.filled + n) b reads) (sym c.overwrite.ensures) waits in
     subst (λ (k : ℕ). HasWritten start base (done ++ piece) (pen.at + k) 0 next (g.D.Disk.moment c.write_at.new.self).reads) full
-      (is_written start base (done ++ piece) pen.at (pen.filled + n) next reads _ next waits_now (omega (arith, full, c.requires.room, lawful.reads_size)) (omega (arith, full, c.requires.buffer, ap length c.overwrite.ensures, length-put pen.filled piece old (omega (arith, c.requires.buffer)))) (c.in_ok-write_at.ensures.written tells ∙ ap (λ (l : List ℕ). put pen.at l reads) (sym whole)))
+    (is_written start base (done ++ piece) pen.at (pen.filled + n) next reads _ next waits_now (omega (arith, full, c.requires.room, lawful.reads_size)) (omega (arith, full, c.requires.buffer, ap length c.overwrite.ensures, length-put pen.filled piece old (omega (arith, c.requires.buffer)))) (c.in_ok-write_at.ensures.written tells ∙ ap (λ (l : List ℕ). put pen.at l reads) (sym whole)))

@@ -19,9 +19,11 @@ loop-rest-preserved g c =
       goes_on = omega (arith, c.loop-rest.invariant.goes_on, c.take_some.ensures.goes_on);
       took = omega (arith, c.loop-rest.invariant.took, took.2, c.split_at.ensures.back_len);
       run = λ tells. run_then _ _ _ _ _ _ _ c.loop-rest.invariant.goes_on (omega (arith, c.loop-rest.invariant.took)) (c.loop-rest.invariant.run tells) (c.take_some.ensures.any_moment tells);
-      written = (before ++ take n rest,
+      written = (
+        before ++ take n rest,
         ap (λ (l : List ℕ). (before ++ take n rest) ++ l) c.split_at.ensures.back ∙ append_assoc before (take n rest) (drop n rest) ∙ ap (λ (l : List ℕ). before ++ l) (take-append-drop n rest) ∙ c.loop-rest.invariant.written.1,
         λ start base done tells has.
-          subst (λ (l : List ℕ). HasWritten start base l c.take_some.new.self.at c.take_some.new.self.filled c.take_some.new.buffer (g.D.Disk.moment c.take_some.new.disk).reads) (append_assoc done before (take n rest))
-            (c.in_ok-n.ensures.written start base (done ++ before) tells (c.loop-rest.invariant.written.2 start base done tells has)));
+            subst (λ (l : List ℕ). HasWritten start base l c.take_some.new.self.at c.take_some.new.self.filled c.take_some.new.buffer (g.D.Disk.moment c.take_some.new.disk).reads) (append_assoc done before (take n rest))
+            (c.in_ok-n.ensures.written start base (done ++ before) tells (c.loop-rest.invariant.written.2 start base done tells has)),
+      );
     }

@@ -2,8 +2,8 @@ use Rattle.std.proofs.Common.{◌≡◌, ◌+◌, ◌-◌, ◌<◌, ◌≤◌, �
 use Rattle.std.proofs.lemmas.List.Elements.{All-push}
 use Rattle.edge_disk.proofs.Moments.{untouched}
 use Rattle.spool_state.specs.Segment.{IsGroup, entries_of, entries_text, group_text, need_of, with_group}
-use Rattle.spool_state.proofs.Texts.{length-need, length-segment_text-with_group, entries_of-with_group}
-use Rattle.spool_slots.proofs.Steps.{append_run, append_holds, body_from, piece_from, gate_from}
+use Rattle.spool_state.proofs.Texts.{length-group_text, length-need, length-segment_text-with_group, entries_of-with_group}
+use Rattle.spool_slots.proofs.Steps.{append_run, append_holds, closed_behind, body_from, piece_from, gate_from}
 use Rattle.spool_slots.proofs.slot.Slot.append_entries.Goals as goal
 
 pub returns-in_err-write_group-clause-any_moment : goal.returns-in_err-write_group-clause-any_moment
@@ -33,7 +33,7 @@ returns-in_err-open_gate-clause-any_moment g c = λ segment tells known.
     let two = untouched _ _ _ _ (body_from (slot.at + slot.gate) entries _ _ (c.write_group.ensures.any_moment tells)) (c.sync.ensures.told tells) in
     let is = (c.sync.ensures.told tells).same ∙ c.in_ok-write_group.ensures.written tells in
     append_run slot segment entries _ _ lawful c.requires.place fits known
-      (gate_from (slot.at + slot.gate) (group_text entries ++ 0 ∷ []) _ _ _ lawful (omega (arith, c.requires.place, fits, slot.inside, length-need entries)) (c.requires.closed tells) two is (c.open_gate.ensures.any_moment tells))
+    (gate_from (slot.at + slot.gate) (group_text entries ++ 0 ∷ []) _ _ _ lawful (omega (arith, c.requires.place, fits, slot.inside, length-need entries)) (c.requires.closed tells) two is (c.open_gate.ensures.any_moment tells))
 
 pub returns-clause-any_moment : goal.returns-clause-any_moment
 returns-clause-any_moment g c = λ segment tells known.
@@ -44,7 +44,7 @@ returns-clause-any_moment g c = λ segment tells known.
     let two = untouched _ _ _ _ (body_from (slot.at + slot.gate) entries _ _ (c.write_group.ensures.any_moment tells)) (c.sync.ensures.told tells) in
     let is = (c.sync.ensures.told tells).same ∙ c.in_ok-write_group.ensures.written tells in
     append_run slot segment entries _ _ lawful c.requires.place fits known
-      (gate_from (slot.at + slot.gate) (group_text entries ++ 0 ∷ []) _ _ _ lawful (omega (arith, c.requires.place, fits, slot.inside, length-need entries)) (c.requires.closed tells) two is (c.open_gate.ensures.any_moment tells))
+    (gate_from (slot.at + slot.gate) (group_text entries ++ 0 ∷ []) _ _ _ lawful (omega (arith, c.requires.place, fits, slot.inside, length-need entries)) (c.requires.closed tells) two is (c.open_gate.ensures.any_moment tells))
 
 pub returns-clause-known : goal.returns-clause-known
 returns-clause-known g c = λ segment tells known.
@@ -61,3 +61,14 @@ returns-clause-known g c = λ segment tells known.
       gate = omega (arith, knows.gate, c.entries_size-size.ensures.size, length-segment_text-with_group segment entries);
       count = omega (arith, knows.count, ap length (entries_of-with_group segment entries), length-append (entries_of segment) entries);
     }
+
+pub returns-clause-closed_behind : goal.returns-clause-closed_behind
+returns-clause-closed_behind g c = λ tells b image.
+    let lawful = g.met.D.Disk.lawful c.args.disk.now tells in
+    let slot = c.args.self.now in
+    let entries = c.args.entries.now in
+    let long = length-need entries in
+    closed_behind (slot.at + slot.gate) _ (group_text entries) (g.D.Disk.moment c.args.disk.now).reads _ _ b
+    (omega (arith, c.requires.place, lawful.reads_size, c.if-need-room.false, c.room-room.ensures, c.entries_size-size.ensures.size, length-group_text entries, slot.inside))
+    ((c.sync.ensures.told tells).same ∙ c.in_ok-write_group.ensures.written tells) (c.in_ok-open_gate.ensures.written tells) ((c.in_ok-open_gate.ensures.durable tells).only b image)
+    (omega (arith, c.entries_size-size.ensures.size, length-group_text entries))

@@ -1,4 +1,4 @@
-use Rattle.std.proofs.Common.{◌≡◌, ◌+◌, ◌<◌, ◌≤◌, ◌∷◌, ◌++◌, [], length, sym, ◌∙◌, ap, subst, arith}
+use Rattle.std.proofs.Common.{◌≡◌, ◌≢◌, ◌+◌, ◌<◌, ◌≤◌, ◌∷◌, ◌++◌, [], ℕ, List, get_or, length, sym, ◌∙◌, ap, subst, arith}
 use Rattle.foundation.specs.Bytes.{put}
 use Rattle.edge_disk.proofs.Moments.{untouched}
 use Rattle.edge_disk.proofs.GateSteps.{open_whole}
@@ -6,7 +6,7 @@ use Rattle.spool_state.specs.Segment.{empty_segment, IsGroup}
 use Rattle.spool_state.specs.Image.{HoldsSegment}
 use Rattle.spool_state.proofs.Segments.{empty_length}
 use Rattle.std.proofs.lemmas.List.Elements.{All-nil}
-use Rattle.spool_slots.proofs.Steps.{piece_run, piece_from, gate_from, begin_run, head_put, head_length}
+use Rattle.spool_slots.proofs.Steps.{piece_run, piece_from, gate_from, begin_run, head_put, head_length, closed_known}
 use Rattle.spool_slots.proofs.slot.Slot.begin.Goals as goal
 
 pub returns-in_err-write_at-clause-any_moment : goal.returns-in_err-write_at-clause-any_moment
@@ -53,3 +53,9 @@ returns-clause-known g c = λ tells.
       gate = sym (empty_length c.args.ordinal c.args.first);
       count = omega arith;
     }
+
+pub returns-clause-closed : goal.returns-clause-closed
+returns-clause-closed g c = λ tells b image.
+    let lawful = g.met.D.Disk.lawful c.args.disk.now tells in
+    let is : b ≡ (g.D.Disk.moment c.open_gate.new.disk).reads = (c.in_ok-open_gate.ensures.durable tells).only b image in
+    subst (λ (l : List ℕ). get_or l (c.args.at + 17) 0 ≢ 1) (sym is) (closed_known _ _ _ (omega (arith, c.requires.place, c.open_gate.ensures.size, c.sync.ensures.size, c.write_at.ensures.size, (g.met.D.Disk.lawful c.open_gate.new.disk tells).reads_size)) (returns-clause-known g c tells))

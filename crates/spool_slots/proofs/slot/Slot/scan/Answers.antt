@@ -40,15 +40,17 @@ returns-in-End-clause-found g c = λ tells.
     let reads = (g.D.Disk.moment c.args.disk.now).reads in
     let scanned = c.groups.invariant.scanned tells in
     let seen = subst (λ (s : Step). IsStep (part (c.args.at + c.groups.gate) (c.args.size - c.groups.gate) (g.D.Disk.moment c.groups.disk).reads) s) c.in-End.is (c.in_ok-look_at.ensures.seen tells) in
-    let closed = subst (λ (l : List ℕ). IsStep (part (c.args.at + c.groups.gate) (c.args.size - c.groups.gate) l) End) (c.groups.invariant.told tells).same seen in
-    (scanned.before, record {
-      holds = scan_end c.args.at c.args.size c.u64_at-ordinal.result c.u64_at-first.result c.groups.gate c.groups.count reads (omega (arith, c.requires.place, lawful.reads_size)) c.groups.invariant.inside scanned closed;
-      sound = scanned.sound;
-      ordinal = sym scanned.ordinal_is;
-      first = sym scanned.first_is;
-      gate = scanned.gate_is;
-      count = scanned.count_is;
-    })
+    let closed = subst (λ (l : List ℕ). IsStep (part (c.args.at + c.groups.gate) (c.args.size - c.groups.gate) l) End) (c.groups.invariant.told tells).same seen in (
+      scanned.before,
+      record {
+        holds = scan_end c.args.at c.args.size c.u64_at-ordinal.result c.u64_at-first.result c.groups.gate c.groups.count reads (omega (arith, c.requires.place, lawful.reads_size)) c.groups.invariant.inside scanned closed;
+        sound = scanned.sound;
+        ordinal = sym scanned.ordinal_is;
+        first = sym scanned.first_is;
+        gate = scanned.gate_is;
+        count = scanned.count_is;
+      },
+    )
 
 pub returns-in-Broken-clause-broken : goal.returns-in-Broken-clause-broken
 returns-in-Broken-clause-broken g c = λ tells.

@@ -8,4 +8,4 @@ returns-clause-any_moment g c = λ segment tells holds.
     let lawful = g.met.D.Disk.lawful c.args.disk.now tells in
     let slot = c.args.self in
     weaker _ _ _ _ (c.close_gate.ensures.any_moment tells) (λ b from.
-      (from.0, from.1, shut_step slot.at slot.size segment from.0 b (omega (arith, c.requires.place, lawful.image_size from.0 from.1)) (omega arith) (holds from.0 from.1) from.2))
+    (from.0, from.1, shut_step slot.at slot.size segment from.0 b (omega (arith, c.requires.place, lawful.image_size from.0 from.1)) (omega arith) (holds from.0 from.1) from.2))
