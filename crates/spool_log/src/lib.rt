@@ -28,3 +28,6 @@ pub use formatting::{FormatFault, format};
 pub use known::Known;
 pub use read_fault::ReadFault;
 pub use spool::Spool;
+
+#[cfg(test)]
+mod device_tests;
