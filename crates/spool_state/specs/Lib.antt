@@ -4,3 +4,6 @@ pub mod Change
 pub mod Cells
 pub mod Image
 pub mod Broken
+pub mod Order
+pub mod Rules
+pub mod Empty
