@@ -12,3 +12,4 @@ pub mod Target
 pub mod Take
 pub mod Confirm
 pub mod Outcome
+pub mod Opening
