@@ -1,4 +1,5 @@
-use Rattle.std.proofs.Common.{◌≡◌, false, List}
+use Rattle.std.proofs.Common.{◌≡◌, false, List, ap}
+use Rattle.std.specs.Prelude.{Err}
 use Rattle.spool_state.specs.SpoolState.{SpoolState}
 use Rattle.spool_log.specs.Opening.{opened}
 use Rattle.spool_log.proofs.Recovering.{opens}
@@ -21,4 +22,4 @@ returns-in-Ok-open-clause-opened g c = λ tells.
     (found.0, opens c.args.opening found.0 _ c.in-Ok-open.known _ found.1 found.2 (c.in-Ok-open.ensures.durable tells) found.3)
 
 pub returns-in-Err-clause-cause : goal.returns-in-Err-clause-cause
-returns-in-Err-clause-cause g c = λ is. c.in-Err.ensures.cause is
+returns-in-Err-clause-cause g c = λ is. c.in-Err.ensures.cause (ap Err is)
