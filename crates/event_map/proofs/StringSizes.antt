@@ -83,4 +83,3 @@ string_size text = omega (arith, within_size (length text) text, length-append (
 pub event_string_size : (text : List ℕ) → length text ≤ 131072 → length (event_string text) ≤ 6 * 131072 + 2
 event_string_size [] h = omega arith
 event_string_size (b ∷ text) h = omega (arith, h, string_size (b ∷ text))
-
