@@ -24,11 +24,9 @@ pub fn after_field(
     requires stands { Stands field at }
     requires inside { from + size_of field ≤ length front.now + length back.now }
     ensures stands { StandsBehind result (at + size_of field) }
-    ensures turn {
-        (h b : List ℕ) → length h ≡ at → length b ≡ size_of field
+    ensures turn { (h b : List ℕ) → length h ≡ at → length b ≡ size_of field
         → b ≡ slice_range (front.now ++ back.now) from (from + size_of field)
-        → step_of result (h ++ b) ≡ turn side field (drop 10 h) b (value_of field b)
-    }
+        → step_of result (h ++ b) ≡ turn side field (drop 10 h) b (value_of field b) }
 {
     match field {
         Field::VersionByte => after_version(byte_at(front, back, from)),
