@@ -12,6 +12,7 @@ pub mod Mending
 pub mod Storing
 pub mod Confirming
 pub mod Going
+pub mod Recovering
 pub mod Begun
 pub mod Shut
 pub mod Added

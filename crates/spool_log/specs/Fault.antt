@@ -1,4 +1,6 @@
 -- Faults of reading the device again, as answers of other calls.
+use Rattle.disk_cell.specs.declared.fault.SetFault.{SetFault}
+use Rattle.disk_cell.specs.declared.fault.SetFault.TheVariants as Set
 use Rattle.spool_log.specs.declared.fault.TakeFault.{TakeFault}
 use Rattle.spool_log.specs.declared.fault.TakeFault.TheVariants as Take
 use Rattle.spool_log.specs.declared.fault.ConfirmFault.{ConfirmFault}
@@ -32,3 +34,8 @@ abbrev pub as_confirm : PendFault → ConfirmFault
 as_confirm (NotSpool at) = Confirm.NotSpool at
 as_confirm DiskFault = Confirm.DiskFault
 as_confirm NoMemory = Confirm.NoMemory
+
+-- the same fault of the register
+abbrev pub of_set : SetFault → RecoverFault
+of_set (Set.Worn ordinal) = Recover.Worn ordinal
+of_set Set.DiskFault = Recover.DiskFault

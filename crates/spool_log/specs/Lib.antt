@@ -13,3 +13,4 @@ pub mod Format
 pub mod Take
 pub mod Confirm
 pub mod Outcome
+pub mod Opening

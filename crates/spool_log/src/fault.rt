@@ -1,8 +1,9 @@
 //! What the calls of a spool answer.
 ghost use Rattle.std.specs.Prelude.{◌≡◌};
-ghost use Rattle.spool_log.specs.Fault.{as_pend, as_take, as_confirm, as_recover};
+ghost use Rattle.spool_log.specs.Fault.{as_pend, as_take, as_confirm, as_recover, of_set};
 
 use crate::ReadFault;
+use disk_cell::SetFault;
 use edge_disk::DiskFault;
 use thiserror::Error;
 
@@ -164,5 +165,16 @@ impl From<DiskFault> for RecoverFault {
 
     fn from(_: DiskFault) -> RecoverFault {
         RecoverFault::DiskFault
+    }
+}
+
+impl From<SetFault> for RecoverFault {
+    ghost from_gives = { λ fault recovered. recovered ≡ of_set fault };
+
+    fn from(fault: SetFault) -> RecoverFault {
+        match fault {
+            SetFault::Worn { ordinal } => RecoverFault::Worn { ordinal },
+            SetFault::DiskFault => RecoverFault::DiskFault,
+        }
     }
 }

@@ -15,8 +15,10 @@ mod judge;
 mod known;
 mod mend;
 mod need;
+mod opening;
 mod read;
 mod read_fault;
+mod recover;
 mod slots;
 mod spool;
 mod take;
@@ -26,7 +28,9 @@ mod write;
 pub use fault::{ConfirmFault, PendFault, Receipt, RecoverFault, TakeFault};
 pub use formatting::{FormatFault, format};
 pub use known::Known;
+pub use opening::Opening;
 pub use read_fault::ReadFault;
+pub use recover::Refusal;
 pub use spool::Spool;
 
 #[cfg(test)]

@@ -36,7 +36,7 @@ impl Known {
         ensures err { OnErr result (self.new ≡ self.old) }
         ensures durable { OnOk result (D.tells → IsSettled (D.moment disk.new)) }
         ensures stored { OnOk result ((s : SpoolState) → D.tells → base s ≤ cursor → cursor ≤ end s → IsStored s self.old (D.moment disk.old).reads → IsStored (registered s run cursor) self.new (D.moment disk.new).reads) }
-        ensures any_moment { (s : SpoolState) → D.tells → base s ≤ cursor → cursor ≤ end s → self.old.register.ordinal < 2 ^ 63 → IsStored s self.old (D.moment disk.old).reads
+        ensures any_moment { (s : SpoolState) → D.tells → base s ≤ cursor → cursor ≤ end s → IsStored s self.old (D.moment disk.old).reads
             → LeavesOnly (StandsForOne s (registered s run cursor ∷ [])) (D.moment disk.old) (D.moment disk.new) }
     {
         let content = Content {

@@ -49,7 +49,7 @@ returns-in-Ok-clause-confirmed g c = λ s tells held number.
     let fits : s.ordinal < 2 ^ 63 = omega (arith, c.in-Ok.ensures.worn, held.knows.ordinal) in
     moved s c.args.upto held.sound further (view known c.args.self.now.doubt old) (view c.write_register.new.self false new) fits
     (in_stored (registered s s.run c.args.upto) c.write_register.new.self new (c.in-Ok.ensures.durable tells) (subst (λ (k : ℕ). IsStored (registered s k c.args.upto) c.write_register.new.self new.reads) run (c.in-Ok.ensures.stored s tells from number stored)))
-    (subst (λ (k : ℕ). LeavesOnly (StandsForOne s (registered s k c.args.upto ∷ [])) old new) run (c.write_register.ensures.any_moment s tells from number c.in-Ok.ensures.worn stored))
+    (subst (λ (k : ℕ). LeavesOnly (StandsForOne s (registered s k c.args.upto ∷ [])) old new) run (c.write_register.ensures.any_moment s tells from number stored))
 
 pub returns-in-Err-DiskFault-clause-confirmed : goal.returns-in-Err-DiskFault-clause-confirmed
 returns-in-Err-DiskFault-clause-confirmed g c = λ s tells held number.
@@ -62,7 +62,7 @@ returns-in-Err-DiskFault-clause-confirmed g c = λ s tells held number.
     let run : c.run-run.result ≡ s.run = c.run-run.ensures ∙ held.knows.run in
     let left : IsWornAt c.args.self.now.known.register.ordinal Failed = subst (IsWornAt c.args.self.now.known.register.ordinal) c.in-Err-DiskFault.field-0-is c.in-Err-DiskFault.ensures.worn in
     let fits : s.ordinal < 2 ^ 63 = omega (arith, left, held.knows.ordinal) in
-    let leaves = subst (λ (k : ℕ). LeavesOnly (StandsForOne s (registered s k c.args.upto ∷ [])) old new) run (c.write_register.ensures.any_moment s tells from number left stored) in
+    let leaves = subst (λ (k : ℕ). LeavesOnly (StandsForOne s (registered s k c.args.upto ∷ [])) old new) run (c.write_register.ensures.any_moment s tells from number stored) in
     failed s c.args.upto held.sound further (view known c.args.self.now.doubt old) (view c.write_register.new.self true new) fits
     (in_doubt s (registered s s.run c.args.upto ∷ []) known c.write_register.new.self old new stored c.in-Err-DiskFault.ensures.err leaves (all_follow s c.args.upto held.sound further) (omega arith))
     leaves
