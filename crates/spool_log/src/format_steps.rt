@@ -13,7 +13,7 @@ ghost use Rattle.edge_disk.specs.Disk.{IsSettled, LeavesOnly};
 ghost use Rattle.edge_disk.specs.Gate.{ComesFrom};
 ghost use Rattle.spool_log.specs.Format.{HasNoName, IsFormatStep, KeepsFront, IsEraseStep, IsNameStep};
 
-use crate::judge::FIRST_SLOT;
+use crate::header::FIRST_SLOT;
 use edge_disk::{Disk, DiskFault};
 
 // The first cell: open, ordinal 1, 17 bytes, version 1, run 0 and cursor 0.

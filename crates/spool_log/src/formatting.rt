@@ -7,7 +7,7 @@ ghost use Rattle.edge_disk.specs.Disk.{IsSettled, LeavesOnly};
 ghost use Rattle.spool_log.specs.Format.{IsFormatStep, CameOf};
 
 use crate::format_steps::make_empty;
-use crate::judge::FIRST_SLOT;
+use crate::header::FIRST_SLOT;
 use edge_disk::{Disk, DiskFault};
 use thiserror::Error;
 

@@ -10,8 +10,10 @@ ghost use Rattle.spool_state.specs.Rules.{IsLayout};
 ghost use Rattle.edge_disk.specs.Disk.{IsUntouched};
 
 use crate::ReadFault;
-use crate::judge::FIRST_SLOT;
 use edge_disk::Disk;
+
+/// The offset at which the first slot begins, behind the header and the two cells.
+pub(crate) const FIRST_SLOT: u64 = 12_288;
 
 /// What the header tells.
 #[derive(Clone, Copy)]

@@ -5,13 +5,11 @@ ghost use Rattle.spool_state.specs.SpoolState.{OpenSlot};
 ghost use Rattle.spool_log.specs.Knows.{KnowsSlots};
 ghost use Rattle.spool_log.specs.Judging.{HasSoundNumbers, HasDueNumbers, IsOrderOf, IsJudgementOf};
 
+use crate::header::FIRST_SLOT;
 use spool_slots::Slot;
 
 // No number of an entry is greater.
 const LAST: u64 = 9_223_372_036_854_775_808;
-
-// Where slot 0 begins.
-pub(crate) const FIRST_SLOT: u64 = 12_288;
 
 // How many slots, from the first on, have at most this ordinal.
 pub(crate) fn count_upto(opened: &[Slot], ordinal: u64) -> usize

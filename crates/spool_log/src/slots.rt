@@ -7,7 +7,8 @@ ghost use Rattle.edge_disk.specs.Disk.{IsUntouched};
 ghost use Rattle.spool_log.specs.Reading.{IsPlaced, IsSlotsFault, KnowsOpened};
 
 use crate::ReadFault;
-use crate::judge::{FIRST_SLOT, count_upto};
+use crate::header::FIRST_SLOT;
+use crate::judge::count_upto;
 use edge_disk::Disk;
 use spool_slots::Slot;
 use std::alloc::{AllocError, Global};

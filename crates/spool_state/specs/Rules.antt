@@ -83,11 +83,19 @@ pub record IsChain (opened : List OpenSlot) : Type 0 where
   pub some : 0 < length opened
   pub all : AreInOrder opened (ordinal_of opened 0) (first_of opened 0)
 
--- the cursor lies before the first entry or behind the end
+-- the cursor is below the number of the first entry, or above the end
 abbrev pub CursorBreaks : ℕ → List OpenSlot → Type 0
 CursorBreaks cursor opened = (cursor < first_of opened 0) ⊎ (first_of opened 0 + length (entries_in opened) < cursor)
 
 -- ---- in this order
+
+-- the open slots aren't in order
+abbrev pub SlotsBreak : ℕ → List ℕ → Type 0
+SlotsBreak at c = (opened : List OpenSlot) × AreOpenSlots (slots_told c) (size_told c) c opened × OrderBreaks at (size_told c) opened
+
+-- they are, and the cursor in the cell at this offset doesn't lie among their entries
+abbrev pub CursorIsOutside : ℕ → List ℕ → Type 0
+CursorIsOutside at c = (opened : List OpenSlot) × AreOpenSlots (slots_told c) (size_told c) c opened × IsChain opened × CursorBreaks (cursor_at at c) opened
 
 -- A rule is broken, and this is the place of the first one that is: an offset on the device.
 abbrev pub Breaks : ℕ → List ℕ → Type 0
@@ -96,5 +104,5 @@ Breaks at c =
     ⊎ ((at ≡ 8) × IsNamed c × (IsMeasured c → ⊥))
     ⊎ (IsNamed c × IsMeasured c × CellsBreak at c)
     ⊎ ((cell : ℕ) × HasHead cell c × GroupBreaks (slots_told c) (size_told c) at c)
-    ⊎ ((cell : ℕ) × HasHead cell c × ((opened : List OpenSlot) × AreOpenSlots (slots_told c) (size_told c) c opened × OrderBreaks at (size_told c) opened))
-    ⊎ (HasHead at c × ((opened : List OpenSlot) × AreOpenSlots (slots_told c) (size_told c) c opened × IsChain opened × CursorBreaks (cursor_at at c) opened))
+    ⊎ ((cell : ℕ) × HasHead cell c × SlotsBreak at c)
+    ⊎ (HasHead at c × CursorIsOutside at c)
