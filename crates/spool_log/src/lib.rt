@@ -7,6 +7,7 @@
 mod add;
 mod begin;
 mod confirm;
+mod entries;
 mod fault;
 mod header;
 mod judge;
@@ -14,6 +15,7 @@ mod known;
 mod mend;
 mod need;
 mod opening;
+mod pending;
 mod read;
 mod read_fault;
 mod recover;
