@@ -13,6 +13,7 @@ pub mod Storing
 pub mod Confirming
 pub mod Going
 pub mod Recovering
+pub mod Listing
 pub mod Begun
 pub mod Shut
 pub mod Added

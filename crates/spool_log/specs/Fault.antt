@@ -1,6 +1,8 @@
 -- Faults of reading the device again, as answers of other calls.
 use Rattle.disk_cell.specs.declared.fault.SetFault.{SetFault}
 use Rattle.disk_cell.specs.declared.fault.SetFault.TheVariants as Set
+use Rattle.spool_slots.specs.declared.fault.ScanFault.{ScanFault}
+use Rattle.spool_slots.specs.declared.fault.ScanFault.TheVariants as Scan
 use Rattle.spool_log.specs.declared.fault.TakeFault.{TakeFault}
 use Rattle.spool_log.specs.declared.fault.TakeFault.TheVariants as Take
 use Rattle.spool_log.specs.declared.fault.ConfirmFault.{ConfirmFault}
@@ -39,3 +41,9 @@ as_confirm NoMemory = Confirm.NoMemory
 abbrev pub of_set : SetFault → RecoverFault
 of_set (Set.Worn ordinal) = Recover.Worn ordinal
 of_set Set.DiskFault = Recover.DiskFault
+
+-- the same fault of a slot
+abbrev pub of_part : ScanFault → PendFault
+of_part (Scan.NotSpool at) = NotSpool at
+of_part Scan.DiskFault = DiskFault
+of_part Scan.NoMemory = NoMemory

@@ -1,7 +1,7 @@
 -- A call that mends the spool before it goes on.
-use Rattle.std.specs.Prelude.{◌≡◌, ◌⊎◌, ℕ, true, List, [], Result, Ok, Err}
+use Rattle.std.specs.Prelude.{◌≡◌, ◌⊎◌, ℕ, ◌-◌, true, max, List, [], take, drop, Vec, Result, Ok, Err}
 use Rattle.event_form.specs.declared.event.Entry.{Entry}
-use Rattle.spool_state.specs.SpoolState.{SpoolState, Follows}
+use Rattle.spool_state.specs.SpoolState.{SpoolState, base, list, Follows}
 use Rattle.edge_disk.specs.Disk.{LeavesOnly}
 use Rattle.spool_log.specs.declared.fault.PendFault.{PendFault}
 use Rattle.spool_log.specs.declared.fault.PendFault.TheVariants.{NotSpool, DiskFault, NoMemory}
@@ -57,3 +57,14 @@ abbrev pub ConfirmsFrom : SpoolState → List SpoolState → ℕ → Result Unit
 ConfirmsFrom s doubt upto result old new =
     ((fault : PendFault) × (result ≡ Err (as_confirm fault)) × StaysInDoubt s doubt fault old new)
     ⊎ ((m : SpoolState) × Confirms m upto result × GoesOn s doubt m (confirming m upto) (confirmed m upto result) (confirm_doubt m upto result) old new)
+
+-- Outside doubt these entries are read: the first ones from the number and from the cursor on. Or the disk failed, or no memory was found.
+abbrev pub Pends : SpoolState → ℕ → ℕ → Result (Vec Entry) PendFault → Type 0
+Pends s from most (Ok entries) = entries.items ≡ take most (drop (max from s.cursor - base s) (list s))
+Pends s from most (Err fault) = IsNotBroken fault
+
+-- a reading of entries
+abbrev pub PendsFrom : SpoolState → List SpoolState → ℕ → ℕ → Result (Vec Entry) PendFault → View → View → Type 0
+PendsFrom s doubt from most result old new =
+    ((fault : PendFault) × (result ≡ Err fault) × StaysInDoubt s doubt fault old new)
+    ⊎ ((m : SpoolState) × Pends m from most result × GoesOn s doubt m [] m [] old new)

@@ -1,10 +1,12 @@
 //! What the calls of a spool answer.
 ghost use Rattle.std.specs.Prelude.{◌≡◌};
-ghost use Rattle.spool_log.specs.Fault.{as_pend, as_take, as_confirm, as_recover, of_set};
+ghost use Rattle.spool_log.specs.Fault.{as_pend, as_take, as_confirm, as_recover, of_set, of_part};
 
 use crate::ReadFault;
 use disk_cell::SetFault;
 use edge_disk::DiskFault;
+use spool_slots::ScanFault;
+use std::alloc::AllocError;
 use thiserror::Error;
 
 /// The numbers of the entries that were taken.
@@ -176,5 +178,27 @@ impl From<SetFault> for RecoverFault {
             SetFault::Worn { ordinal } => RecoverFault::Worn { ordinal },
             SetFault::DiskFault => RecoverFault::DiskFault,
         }
+    }
+}
+
+impl From<ScanFault> for PendFault {
+    ghost from_gives = { λ fault pending. pending ≡ of_part fault };
+
+    fn from(fault: ScanFault) -> PendFault {
+        match fault {
+            ScanFault::NotSpool { at } => PendFault::NotSpool { at },
+            ScanFault::DiskFault => PendFault::DiskFault,
+            ScanFault::NoMemory => PendFault::NoMemory,
+        }
+    }
+}
+
+impl From<AllocError> for PendFault {
+    ghost use Rattle.spool_log.specs.declared.fault.PendFault.TheVariants.{NoMemory};
+
+    ghost from_gives = { λ _ fault. fault ≡ NoMemory };
+
+    fn from(_: AllocError) -> PendFault {
+        PendFault::NoMemory
     }
 }

@@ -7,6 +7,7 @@
 mod add;
 mod begin;
 mod confirm;
+mod entries;
 mod fault;
 mod format_steps;
 mod formatting;
@@ -16,6 +17,7 @@ mod known;
 mod mend;
 mod need;
 mod opening;
+mod pending;
 mod read;
 mod read_fault;
 mod recover;
