@@ -5,20 +5,29 @@ use Rattle.std.specs.List.{AllByRecursion}
 use Rattle.relp_frame.specs.declared.frame.Frame.{Frame}
 use Rattle.relp_frame.specs.Spelling.{IsSpelling}
 use Rattle.stream_grammar.specs.Framing.{AreSpelled}
+use Rattle.bridge_core.specs.declared.next.Next.{Next}
+use Rattle.bridge_core.specs.declared.next.Next.TheVariants.{Open, Syslog}
 
--- an `open` whose data begins with the line `relp_version=0`
-pub record IsOpening (f : Frame) : Type 0 where
-  pub command : f.command ≡ codes "open"
-  pub more : List ℕ
-  pub version : f.body ≡ codes "relp_version=0" ++ 10 ∷ more
+-- the data begins with the line `relp_version=0`
+abbrev pub BeginsWithVersion : List ℕ → Type 0
+BeginsWithVersion body = (more : List ℕ) × (body ≡ codes "relp_version=0" ++ 10 ∷ more)
+
+-- an `open` whose data begins so
+abbrev pub IsOpening : Frame → Type 0
+IsOpening f = (f.command ≡ codes "open") × BeginsWithVersion f.body
 
 abbrev pub IsSyslog : Frame → Type 0
 IsSyslog f = f.command ≡ codes "syslog"
 
--- the frame may come behind these
-abbrev pub MayFollow : List Frame → Frame → Type 0
-MayFollow [] f = IsOpening f
-MayFollow (g ∷ gs) f = IsSyslog f
+-- the frame is of the kind that may come next
+abbrev pub MayCome : Next → Frame → Type 0
+MayCome Open f = IsOpening f
+MayCome (Syslog index) f = IsSyslog f
+
+-- what may come behind these frames: the `open`, or a `syslog` with so many before it
+abbrev pub next_of : List Frame → Next
+next_of [] = Open
+next_of (f ∷ fs) = Syslog (length fs)
 
 -- the frames of such an input
 abbrev pub AreInOrder : List Frame → Type 0

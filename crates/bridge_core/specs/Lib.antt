@@ -4,3 +4,5 @@ pub mod Carried
 pub mod Notes
 pub mod Empty
 pub mod Slot
+pub mod Progress
+pub mod Replayed

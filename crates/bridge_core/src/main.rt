@@ -1,10 +1,26 @@
-//! bridge: takes log events by RELP and keeps them in a spool on a device.
+//! bridge: takes log events by RELP and keeps them in a spool on a device of a fixed length. The one
+//! contract is that of `bridge`, the top call: what it stores and answers for the frames that it reads.
 #![tactic(auto)]
 
+mod bridge;
+mod carry;
+mod ended;
+mod next;
 mod note;
 mod opening;
+mod program;
+mod replay;
+mod reply;
 mod slot;
 mod store;
+#[cfg(test)]
+mod tests;
 mod words;
 
-fn main() {}
+use std::process::ExitCode;
+
+fn main(rt: HostRuntime) -> ExitCode {
+    let note = program::run(&rt);
+    program::report(&rt, note);
+    ExitCode::from(note.status())
+}

@@ -61,7 +61,8 @@ pub fn store_entry<D: Disk>(
     ensures stored { OnOk result (D.tells → Adds entry.now slot.old (D.moment disk.old).reads slot.new (D.moment disk.new).reads) }
     ensures full { IsErrOf result StoreFault.NoRoom → D.tells → IsFull entry.now slot.old (D.moment disk.old).reads }
     ensures torn { IsErrOf result StoreFault.DiskFault → D.tells → MayAdd entry.now slot.old (D.moment disk.old).reads (D.moment disk.new).reads }
-    ensures same { OnErr result (IsErrOf result StoreFault.DiskFault ⊎ (disk.new ≡ disk.old)) }
+    ensures same { OnErr result (slot.new ≡ slot.old) }
+    ensures same_disk { OnErr result (IsErrOf result StoreFault.DiskFault ⊎ (disk.new ≡ disk.old)) }
 {
     let group = match group_of(alloc, entry) {
         Ok(group) => group,

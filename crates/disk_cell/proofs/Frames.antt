@@ -1,10 +1,10 @@
 -- What the layers above need of a register that they leave alone.
-use Rattle.std.proofs.Common.{◌≡◌, ◌⊎◌, inl, inr, ℕ, ◌+◌, ◌≤◌, List, length, get_or, sym, ◌∙◌, subst, arith}
+use Rattle.std.proofs.Common.{◌≡◌, ◌⊎◌, inl, inr, ℕ, ◌+◌, ◌^◌, ◌<◌, ◌≤◌, List, length, get_or, sym, ◌∙◌, subst, arith}
 use Rattle.foundation.specs.Bytes.{SameBut}
 use Rattle.edge_disk.specs.Disk.{Moment, IsSettled, IsUntouched}
-use Rattle.spool_state.specs.Cells.{RegisterHolds}
+use Rattle.spool_state.specs.Cells.{content_text, CellsBreak, RegisterHolds}
 use Rattle.spool_state.proofs.Places.{length-cell}
-use Rattle.spool_state.proofs.Registers.{counts_stay}
+use Rattle.spool_state.proofs.Registers.{HasRoom, IsSameContent, counts_stay, holds_one, holds_unbroken}
 use Rattle.disk_cell.specs.Cell.{place_of, other_of}
 use Rattle.disk_cell.specs.Register.{text_of, Knows}
 use Rattle.disk_cell.specs.declared.register.Register.{Register}
@@ -13,6 +13,14 @@ use Rattle.disk_cell.proofs.Setting.{cells_apart, holds}
 -- what the register in memory knows is what the bytes hold
 pub knows_holds : (r : Register) (c : List ℕ) → Knows r c → RegisterHolds r.ordinal (text_of r.content) c
 knows_holds r c known = holds r.counting r.ordinal (text_of r.content) c known.counts
+
+-- so they break no rule
+pub knows_unbroken : (at : ℕ) (r : Register) (c : List ℕ) → Knows r c → CellsBreak at c → ⊥
+knows_unbroken at r c known = holds_unbroken at r.ordinal r.content.run r.content.cursor c r.last r.run (knows_holds r c known)
+
+-- and hold nothing else
+pub knows_one : (r : Register) (ordinal run cursor : ℕ) (c : List ℕ) → r.content.cursor < 2 ^ 64 → HasRoom ordinal run cursor → Knows r c → RegisterHolds ordinal (content_text run cursor) c → IsSameContent r.ordinal r.content.run r.content.cursor ordinal run cursor
+knows_one r ordinal run cursor c fits room known = holds_one r.ordinal r.content.run r.content.cursor ordinal run cursor c (record { ordinal_room = r.last; run_room = omega (arith, r.run); cursor_room = fits }) room (knows_holds r c known)
 
 -- a change outside the two cells
 pub knows_stays : (r : Register) (at n : ℕ) (a b : List ℕ) → SameBut at n a b → (at + n ≤ 4096) ⊎ (12288 ≤ at) → 12288 ≤ length a → Knows r a → Knows r b

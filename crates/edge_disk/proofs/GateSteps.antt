@@ -20,6 +20,10 @@ only_gate gate x old c room same is =
       ]
     ])
 
+-- what a gate reads that was written, with what was put behind it
+pub gate_reads : (gate x : ℕ) (piece old : List ℕ) → gate + length piece + 1 ≤ length old → get_or (put gate (x ∷ piece) old) gate 0 ≡ x
+gate_reads gate x piece old room = put_at gate (x ∷ piece) old 0 gate (omega arith) (omega arith) (omega arith)
+
 -- a gate that is written: any byte there, and so closed or open
 pub gate_moves : (gate : ℕ) (old c : List ℕ) → gate < length old → SameBut gate 1 old c → IsGateStep gate [] old c
 gate_moves gate old c room same = record {

@@ -1,5 +1,5 @@
 //! What a crash leaves of a disk in memory.
-ghost use Rattle.std.specs.Prelude.{◌≡◌, length};
+ghost use Rattle.std.specs.Prelude.{◌≡◌};
 ghost use Rattle.edge_disk.specs.Held.{is_written};
 ghost use Rattle.edge_disk.specs.Crashing.{IsFilled};
 

@@ -36,7 +36,8 @@ pub trait Disk {
         ensures size { (moment self.new).size ≡ (moment self.old).size }
         ensures read { OnOk result (tells → buf.new ≡ part at (length buf.old) (moment self.old).reads) }
         ensures told { tells → IsUntouched (moment self.old) (moment self.new) }
-        ensures images { tells_images self.old → tells_images self.new × Remembers (moment self.old) (moment self.new) };
+        ensures images { tells_images self.old
+            → tells_images self.new × Remembers (moment self.old) (moment self.new) };
 
     /// Writes the piece over the bytes from offset `at` on. A crash before the next sync may leave any bytes
     /// in that range. After a fault a read, too, may give any bytes there.
@@ -46,7 +47,8 @@ pub trait Disk {
         ensures size { (moment self.new).size ≡ (moment self.old).size }
         ensures written { OnOk result (tells → (moment self.new).reads ≡ put at piece.now (moment self.old).reads) }
         ensures told { tells → IsTorn at (length piece.now) (moment self.old) (moment self.new) }
-        ensures images { tells_images self.old → tells_images self.new × Remembers (moment self.old) (moment self.new) };
+        ensures images { tells_images self.old
+            → tells_images self.new × Remembers (moment self.old) (moment self.new) };
 
     /// Makes durable what was written: from then on a crash leaves what a read gives. After a fault the
     /// images are still those of before.
@@ -55,7 +57,8 @@ pub trait Disk {
         ensures size { (moment self.new).size ≡ (moment self.old).size }
         ensures durable { OnOk result (tells → IsSettled (moment self.new)) }
         ensures told { tells → IsUntouched (moment self.old) (moment self.new) }
-        ensures images { tells_images self.old → tells_images self.new × Remembers (moment self.old) (moment self.new) };
+        ensures images { tells_images self.old
+            → tells_images self.new × Remembers (moment self.old) (moment self.new) };
 
     /// A disk that tells its images tells what it reads too.
     ghost reads_too: { (disk : Self) → tells_images disk → tells };
@@ -67,5 +70,6 @@ pub trait Disk {
     ghost lawful: { (disk : Self) → tells → IsLawful (moment disk) };
 
     /// Where it doesn't tell its images, what it reads stands in for them.
-    ghost stands_in: { (disk : Self) (t : ℕ) (c : List ℕ) → tells → (tells_images disk) ⊎ ((moment disk).image_since t c → c ≡ (moment disk).reads) };
+    ghost stands_in: { (disk : Self) (t : ℕ) (c : List ℕ) → tells
+        → (tells_images disk) ⊎ ((moment disk).image_since t c → c ≡ (moment disk).reads) };
 }

@@ -1,6 +1,6 @@
 //! A disk that is a file: the trusted edge. What a file reads, and what it keeps over a crash, is the
 //! system's word, so it tells no bytes. It counts its faults.
-ghost use Rattle.std.specs.Prelude.{◌≡◌, ◌<◌, ◌^◌, IfOk};
+ghost use Rattle.std.specs.Prelude.{◌≡◌, ◌⊎◌, ◌<◌, ◌^◌, IfOk};
 ghost use Rattle.foundation.specs.Faults.{HasCause};
 
 use crate::{Disk, DiskFault};
@@ -25,28 +25,33 @@ impl FileDisk {
     pub fn open(rt: &HostRuntime, path: &str) -> Result<FileDisk, DiskFault>
         ensures { IfOk result (λ disk. (file_moment disk).faults ≡ 0) }
     {
-        disk_of(open_file(rt, path, false))
+        match open_file(rt, path, false) {
+            Ok((file, len)) => Ok(disk_of(file, len)),
+            Err(_) => Err(DiskFault),
+        }
     }
 
     /// Opens the file, or makes it. A file that is new or empty gets the length of `len` zero bytes; the
     /// bytes and the length of any other stay.
     pub fn make(rt: &HostRuntime, path: &str, len: u64) -> Result<FileDisk, DiskFault>
-        ensures { IfOk result (λ disk. (file_moment disk).faults ≡ 0) }
+        ensures faults { IfOk result (λ disk. (file_moment disk).faults ≡ 0) }
+        ensures size { IfOk result (λ disk. (file_moment disk).size ≡ len ⊎ 0 < (file_moment disk).size) }
     {
-        disk_of(make_file(rt, path, len))
+        match make_file(rt, path, len) {
+            Ok((file, len)) => Ok(disk_of(file, len)),
+            Err(_) => Err(DiskFault),
+        }
     }
 }
 
-fn disk_of(opened: io::Result<(File, u64)>) -> Result<FileDisk, DiskFault>
-    ensures { IfOk result (λ disk. disk.faults ≡ 0) }
+fn disk_of(file: File, len: u64) -> FileDisk
+    ensures faults { result.faults ≡ 0 }
+    ensures len { result.len ≡ len }
 {
-    match opened {
-        Ok((file, len)) => Ok(FileDisk {
-            file,
-            len,
-            faults: 0,
-        }),
-        Err(_) => Err(DiskFault),
+    FileDisk {
+        file,
+        len,
+        faults: 0,
     }
 }
 
@@ -61,7 +66,9 @@ fn open_file(rt: &HostRuntime, path: &str, create: bool) -> io::Result<(File, u6
     Ok((file, len))
 }
 
-fn make_file(rt: &HostRuntime, path: &str, len: u64) -> io::Result<(File, u64)> {
+fn make_file(rt: &HostRuntime, path: &str, len: u64) -> io::Result<(File, u64)>
+    ensures { IfOk result (λ made. made.1 ≡ len ⊎ 0 < made.1) }
+{
     let (file, found) = open_file(rt, path, true)?;
     if found > 0 {
         return Ok((file, found));

@@ -19,8 +19,10 @@ pub fn write_behind<D: Disk>(disk: &mut D, gate: u64, piece: &[u8]) -> Result<()
     ensures cause { HasCause (D.moment disk.old).faults (D.moment disk.new).faults result }
     ensures size { (D.moment disk.new).size ≡ (D.moment disk.old).size }
     ensures durable { OnOk result (D.tells → IsSettled (D.moment disk.new)) }
-    ensures written { OnOk result (D.tells → (D.moment disk.new).reads ≡ put gate (1 ∷ piece.now) (D.moment disk.old).reads) }
-    ensures any_moment { D.tells → LeavesOnly (IsGateStep gate piece.now (D.moment disk.old).reads) (D.moment disk.old) (D.moment disk.new) }
+    ensures written { OnOk result (D.tells
+        → (D.moment disk.new).reads ≡ put gate (1 ∷ piece.now) (D.moment disk.old).reads) }
+    ensures any_moment { D.tells
+        → LeavesOnly (IsGateStep gate piece.now (D.moment disk.old).reads) (D.moment disk.old) (D.moment disk.new) }
 {
     disk.write_at(gate + 1, piece)?;
     disk.sync()?;
@@ -37,8 +39,10 @@ pub fn open_gate<D: Disk>(disk: &mut D, gate: u64) -> Result<(), DiskFault>
     ensures cause { HasCause (D.moment disk.old).faults (D.moment disk.new).faults result }
     ensures size { (D.moment disk.new).size ≡ (D.moment disk.old).size }
     ensures durable { OnOk result (D.tells → IsSettled (D.moment disk.new)) }
-    ensures written { OnOk result (D.tells → (D.moment disk.new).reads ≡ put gate (1 ∷ []) (D.moment disk.old).reads) }
-    ensures any_moment { D.tells → LeavesOnly (IsGateStep gate [] (D.moment disk.old).reads) (D.moment disk.old) (D.moment disk.new) }
+    ensures written { OnOk result (D.tells
+        → (D.moment disk.new).reads ≡ put gate (1 ∷ []) (D.moment disk.old).reads) }
+    ensures any_moment { D.tells
+        → LeavesOnly (IsGateStep gate [] (D.moment disk.old).reads) (D.moment disk.old) (D.moment disk.new) }
 {
     disk.write_at(gate, &[1])?;
     disk.sync()
@@ -52,8 +56,10 @@ pub fn close_gate<D: Disk>(disk: &mut D, gate: u64) -> Result<(), DiskFault>
     ensures cause { HasCause (D.moment disk.old).faults (D.moment disk.new).faults result }
     ensures size { (D.moment disk.new).size ≡ (D.moment disk.old).size }
     ensures durable { OnOk result (D.tells → IsSettled (D.moment disk.new)) }
-    ensures written { OnOk result (D.tells → (D.moment disk.new).reads ≡ put gate (0 ∷ []) (D.moment disk.old).reads) }
-    ensures any_moment { D.tells → LeavesOnly (ComesFrom (D.moment disk.old) (IsGateStep gate [])) (D.moment disk.old) (D.moment disk.new) }
+    ensures written { OnOk result (D.tells
+        → (D.moment disk.new).reads ≡ put gate (0 ∷ []) (D.moment disk.old).reads) }
+    ensures any_moment { D.tells
+        → LeavesOnly (ComesFrom (D.moment disk.old) (IsGateStep gate [])) (D.moment disk.old) (D.moment disk.new) }
 {
     disk.write_at(gate, &[0])?;
     disk.sync()

@@ -1,9 +1,9 @@
 //! A disk in memory.
-ghost use Rattle.std.specs.Prelude.{◌≡◌, ◌+◌, ◌≤◌, [], length, true, false, IsTrue, IsErr, replicate, Option, Some, None, IfOk, OnOk, MatchResult};
+ghost use Rattle.std.specs.Prelude.{◌≡◌, ◌+◌, ◌≤◌, [], length, true, false, IsTrue, replicate, IfOk, OnOk};
 ghost use Rattle.foundation.specs.Bytes.{part, put};
 ghost use Rattle.foundation.specs.Faults.{Rose, HasCause};
 ghost use Rattle.edge_disk.specs.Disk.{IsSettled, Remembers, IsUntouched, IsTorn};
-ghost use Rattle.edge_disk.specs.Held.{IsSound, first_half, after_write, after_sync, moment_of};
+ghost use Rattle.edge_disk.specs.Held.{IsSound, first_half, after_write, after_sync};
 ghost use Rattle.edge_disk.specs.CallPlan.{one_more, after_call};
 
 use crate::plan::Plan;
@@ -27,7 +27,7 @@ pub struct MemDisk {
 }
 
 impl MemDisk {
-    ghost use Rattle.edge_disk.specs.MemDisk.{held_of, plan_of, faults_of, starved_of, mem_moment, IsNew};
+    ghost use Rattle.edge_disk.specs.MemDisk.{held_of, plan_of, starved_of, mem_moment, IsNew};
     ghost use Rattle.edge_disk.specs.Crashing.{IsLeft};
 
     /// A disk with these bytes, all of them durable, that keeps a record. `failing` lists the numbers of
@@ -148,11 +148,12 @@ impl Disk for MemDisk {
         ensures size { (mem_moment self.new).size ≡ (mem_moment self.old).size }
         ensures read { OnOk result (buf.new ≡ part at (length buf.old) (mem_moment self.old).reads) }
         ensures told { IsUntouched (mem_moment self.old) (mem_moment self.new) }
-        ensures images { IsTrue (held_of self.old).recorded → IsTrue (held_of self.new).recorded × Remembers (mem_moment self.old) (mem_moment self.new) }
+        ensures images { IsTrue (held_of self.old).recorded
+            → IsTrue (held_of self.new).recorded × Remembers (mem_moment self.old) (mem_moment self.new) }
         ensures ends { Ends result (held_of self.old) (held_of self.old) self.old self.new }
         ensures counted { plan_of self.new ≡ after_call (plan_of self.old) }
     {
-        if self.plan.next() {
+        if self.plan.call_fails() {
             count(&mut self.faults);
             return Err(DiskFault);
         }
@@ -168,11 +169,15 @@ impl Disk for MemDisk {
         ensures size { (mem_moment self.new).size ≡ (mem_moment self.old).size }
         ensures written { OnOk result ((mem_moment self.new).reads ≡ put at piece.now (mem_moment self.old).reads) }
         ensures told { IsTorn at (length piece.now) (mem_moment self.old) (mem_moment self.new) }
-        ensures images { IsTrue (held_of self.old).recorded → IsTrue (held_of self.new).recorded × Remembers (mem_moment self.old) (mem_moment self.new) }
-        ensures ends { Ends result (after_write at (length piece.now) piece.now (held_of self.old)) (after_write at (length piece.now) (first_half piece.now) (held_of self.old)) self.old self.new }
+        ensures images { IsTrue (held_of self.old).recorded
+            → IsTrue (held_of self.new).recorded × Remembers (mem_moment self.old) (mem_moment self.new) }
+        ensures ends { Ends result
+            (after_write at (length piece.now) piece.now (held_of self.old))
+            (after_write at (length piece.now) (first_half piece.now) (held_of self.old))
+            self.old self.new }
         ensures counted { plan_of self.new ≡ after_call (plan_of self.old) }
     {
-        let fails = self.plan.next();
+        let fails = self.plan.call_fails();
         let written = came_through(piece, fails);
         if self.store.write(at as usize, piece.len(), written).is_err() {
             count(&mut self.starved);
@@ -191,11 +196,12 @@ impl Disk for MemDisk {
         ensures size { (mem_moment self.new).size ≡ (mem_moment self.old).size }
         ensures durable { OnOk result (IsSettled (mem_moment self.new)) }
         ensures told { IsUntouched (mem_moment self.old) (mem_moment self.new) }
-        ensures images { IsTrue (held_of self.old).recorded → IsTrue (held_of self.new).recorded × Remembers (mem_moment self.old) (mem_moment self.new) }
+        ensures images { IsTrue (held_of self.old).recorded
+            → IsTrue (held_of self.new).recorded × Remembers (mem_moment self.old) (mem_moment self.new) }
         ensures ends { Ends result (after_sync (held_of self.old)) (held_of self.old) self.old self.new }
         ensures counted { plan_of self.new ≡ after_call (plan_of self.old) }
     {
-        if self.plan.next() {
+        if self.plan.call_fails() {
             count(&mut self.faults);
             return Err(DiskFault);
         }

@@ -1,5 +1,5 @@
 //! Which calls of a disk in memory fail.
-ghost use Rattle.std.specs.Prelude.{◌≡◌, Option, None};
+ghost use Rattle.std.specs.Prelude.{◌≡◌};
 ghost use Rattle.edge_disk.specs.CallPlan.{next_fails, after_call};
 
 use std::marker::Model;
@@ -31,8 +31,8 @@ impl Plan {
         }
     }
 
-    /// Counts the next call, and says whether it fails.
-    pub(crate) fn next(&mut self) -> bool
+    /// Counts one more call, and says whether it fails.
+    pub(crate) fn call_fails(&mut self) -> bool
         ensures fails { result ≡ next_fails self.old }
         ensures counted { self.new ≡ after_call self.old }
     {

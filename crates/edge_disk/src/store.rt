@@ -1,5 +1,5 @@
 //! Bytes in memory, with a record of what a crash may leave of them.
-ghost use Rattle.std.specs.Prelude.{◌≡◌, ◌+◌, ◌≤◌, ◌∷◌, length, IsTrue, OnOk, OnErr};
+ghost use Rattle.std.specs.Prelude.{◌≡◌, ◌+◌, ◌≤◌, length, OnOk, OnErr};
 ghost use Rattle.foundation.specs.Bytes.{put};
 ghost use Rattle.edge_disk.specs.Held.{new_held, with_note, after_write, after_sync, IsCover, IsSound};
 ghost use Rattle.edge_disk.specs.Crashing.{IsLeft};

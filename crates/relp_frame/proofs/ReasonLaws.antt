@@ -4,13 +4,13 @@ use Rattle.std.proofs.lemmas.Bool.{ltb-true, ltb-false, leb-true, leb-false, eqb
 use Rattle.std.proofs.lemmas.Int.Digits.{digits_value_push, digits_push}
 use Rattle.std.specs.Char.{is_ascii_alphabetic, digit_value}
 use Rattle.std.specs.Str.Parse.{digits_value}
-use Rattle.std.specs.List.{AllByRecursion}
 use Rattle.relp_frame.specs.declared.frame.Frame.{Frame}
 use Rattle.relp_frame.specs.declared.fault.RelpWhy.{RelpWhy}
 use Rattle.relp_frame.specs.declared.fault.RelpWhy.TheVariants.{Digits, Space, Command, TooLong, Trailer}
 use Rattle.stream_grammar.specs.Automaton.{Step, Goes, Ends, Fails, Going, run}
 use Rattle.relp_frame.specs.Machine.{State, frame, more_digits, step, start}
 use Rattle.relp_frame.specs.Machine as m
+use Rattle.relp_frame.specs.Spelling.{AllLetters}
 use Rattle.relp_frame.specs.Reason.{InTxnr, InCommand, InLength, InBody, IsReason}
 use Rattle.stream_grammar.proofs.Machine.{along}
 
@@ -24,7 +24,7 @@ At (m.InCommand txnr command) h = InCommand h command
 At (m.InLength txnr command count value) h = (digits : List ℕ) × InLength h digits × (length digits ≡ count) × (digits_value 10 digits ≡ value)
 At (m.InBody txnr command left body) h = InBody h body (length body + left)
 
-letters_push : (xs : List ℕ) (c : ℕ) → AllByRecursion (λ c. is_ascii_alphabetic c ≡ true) xs → is_ascii_alphabetic c ≡ true → AllByRecursion (λ c. is_ascii_alphabetic c ≡ true) (xs ++ c ∷ [])
+letters_push : (xs : List ℕ) (c : ℕ) → AllLetters xs → is_ascii_alphabetic c ≡ true → AllLetters (xs ++ c ∷ [])
 letters_push [] c a p = (p, tt)
 letters_push (x ∷ xs) c a p = (a.0, letters_push xs c a.1 p)
 

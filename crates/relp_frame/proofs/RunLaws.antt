@@ -4,10 +4,10 @@ use Rattle.std.proofs.lemmas.Bool.{lt-ltb, le-leb, ne_eqb}
 use Rattle.std.proofs.lemmas.List.{append-nil}
 use Rattle.std.specs.Char.{is_ascii_alphabetic, digit_value}
 use Rattle.std.specs.Str.Parse.{digits_value, digits_value_after, AllDigits}
-use Rattle.std.specs.List.{AllByRecursion}
 use Rattle.stream_grammar.specs.Automaton.{Goes, Going, then, run}
 use Rattle.relp_frame.specs.Machine.{State, more_digits, step, start, Completes}
 use Rattle.relp_frame.specs.Machine as m
+use Rattle.relp_frame.specs.Spelling.{AllLetters}
 use Rattle.relp_frame.specs.Reason.{InTxnr, InCommand, InLength, InBody}
 use Rattle.stream_grammar.proofs.Machine.{going_run}
 use Rattle.relp_frame.proofs.FrameLaws.{relp_laws}
@@ -46,7 +46,7 @@ command_space : (n : ℕ) (command : List ℕ) → 0 < length command → step (
 unfolding step
 command_space n command p = let e : eqb (length command) 0 ≡ false = ne_eqb (length command) 0 (λ q. omega arith) in rw e refl
 
-pub run_letters : (n : ℕ) (acc xs : List ℕ) → AllByRecursion (λ c. is_ascii_alphabetic c ≡ true) xs → length acc + length xs ≤ 32 → run step (m.InCommand n acc) xs ≡ Going (m.InCommand n (acc ++ xs))
+pub run_letters : (n : ℕ) (acc xs : List ℕ) → AllLetters xs → length acc + length xs ≤ 32 → run step (m.InCommand n acc) xs ≡ Going (m.InCommand n (acc ++ xs))
 run_letters n acc [] a l = ap (λ v. Going (m.InCommand n v)) (sym (append-nil acc))
 run_letters n acc (c ∷ xs) a l =
     let i = run_letters n (acc ++ c ∷ []) xs a.1 (omega (arith, l, length-append acc (c ∷ []))) in

@@ -13,6 +13,8 @@ mod laws;
 mod phase;
 mod reader;
 mod scan;
+#[cfg(test)]
+mod tests;
 mod write;
 
 pub use fault::{RelpFault, RelpWhy};

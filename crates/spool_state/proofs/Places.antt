@@ -65,3 +65,9 @@ module _ (cell gate ordinal len version run cursor : ℕ) (c : List ℕ) (is : p
   run_is fits =
       ap (λ (l : List ℕ). from_be_bytes w64 l) (part_inside cell 30 (cell + 14) 8 (gate ∷ to_be_bytes w64 ordinal ++ to_be_bytes w32 len ++ version ∷ []) (to_be_bytes w64 run) (to_be_bytes w64 cursor) c is refl refl (omega arith) (omega arith))
       ∙ from_be_bytes-to_be_bytes_8 run fits
+
+  pub cursor_is : cursor < 2 ^ 64 → from_be_bytes w64 (part (cell + 22) 8 c) ≡ cursor
+  unfolding fields_text
+  cursor_is fits =
+      ap (λ (l : List ℕ). from_be_bytes w64 l) (part_inside cell 30 (cell + 22) 8 (gate ∷ to_be_bytes w64 ordinal ++ to_be_bytes w32 len ++ version ∷ to_be_bytes w64 run) (to_be_bytes w64 cursor) [] c is refl refl (omega arith) (omega arith))
+      ∙ from_be_bytes-to_be_bytes_8 cursor fits

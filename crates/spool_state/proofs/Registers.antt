@@ -5,7 +5,7 @@ use mir.Syntax.{w64}
 use Rattle.foundation.specs.Bytes.{part, SameBut}
 use Rattle.foundation.proofs.Bytes.{same_part}
 use Rattle.spool_state.specs.Cells.{first_cell, second_cell, content_text, fields_text, ordinal_at, Counts, RegisterHolds, NoCellCounts, IsCounting, HasBadContent, CellsBreak}
-use Rattle.spool_state.proofs.Places.{cell_fields, length-cell, gate_is, version_is, ordinal_is, length_is, run_is}
+use Rattle.spool_state.proofs.Places.{cell_fields, length-cell, gate_is, version_is, ordinal_is, length_is, run_is, cursor_is}
 
 -- the fields of the cell that counts
 module _ (here other ordinal run cursor : ℕ) (c : List ℕ) (counts : Counts here other ordinal (content_text run cursor) c) where
@@ -47,6 +47,36 @@ holds_unbroken at ordinal run cursor c few runs (inl p) (inr (inr bad)) = one_co
 holds_unbroken at ordinal run cursor c few runs (inr p) (inl none) = none_second c none.1 (is_counting second_cell first_cell ordinal run cursor c p few)
 holds_unbroken at ordinal run cursor c few runs (inr p) (inr (inl bad)) = one_counts second_cell first_cell c (is_counting second_cell first_cell ordinal run cursor c p few) bad.1
 holds_unbroken at ordinal run cursor c few runs (inr p) (inr (inr bad)) = is_good second_cell first_cell ordinal run cursor c p few runs bad.2
+
+-- the same ordinal, run and cursor
+pub record IsSameContent (ordinal run cursor ordinal' run' cursor' : ℕ) : Type 0 where
+  pub ordinal_is_same : ordinal ≡ ordinal'
+  pub run_is_same : run ≡ run'
+  pub cursor_is_same : cursor ≡ cursor'
+
+-- numbers that a cell has room for
+pub record HasRoom (ordinal run cursor : ℕ) : Type 0 where
+  pub ordinal_room : ordinal ≤ 2 ^ 63
+  pub run_room : run < 2 ^ 64
+  pub cursor_room : cursor < 2 ^ 64
+
+-- one cell has one content
+same_cell : (here other ordinal run cursor ordinal' run' cursor' : ℕ) (c : List ℕ) → HasRoom ordinal run cursor → HasRoom ordinal' run' cursor' → Counts here other ordinal (content_text run cursor) c → Counts here other ordinal' (content_text run' cursor') c → IsSameContent ordinal run cursor ordinal' run' cursor'
+same_cell here other ordinal run cursor ordinal' run' cursor' c room room' p q =
+    let text = fields here other ordinal run cursor c p in
+    let text' = fields here other ordinal' run' cursor' c q in
+    record {
+      ordinal_is_same = sym (ordinal_is here 1 ordinal 17 1 run cursor c text (omega (arith, room.ordinal_room))) ∙ ordinal_is here 1 ordinal' 17 1 run' cursor' c text' (omega (arith, room'.ordinal_room));
+      run_is_same = sym (run_is here 1 ordinal 17 1 run cursor c text room.run_room) ∙ run_is here 1 ordinal' 17 1 run' cursor' c text' room'.run_room;
+      cursor_is_same = sym (cursor_is here 1 ordinal 17 1 run cursor c text room.cursor_room) ∙ cursor_is here 1 ordinal' 17 1 run' cursor' c text' room'.cursor_room;
+    }
+
+-- A register holds one content.
+pub holds_one : (ordinal run cursor ordinal' run' cursor' : ℕ) (c : List ℕ) → HasRoom ordinal run cursor → HasRoom ordinal' run' cursor' → RegisterHolds ordinal (content_text run cursor) c → RegisterHolds ordinal' (content_text run' cursor') c → IsSameContent ordinal run cursor ordinal' run' cursor'
+holds_one ordinal run cursor ordinal' run' cursor' c room room' (inl p) (inl q) = same_cell first_cell second_cell ordinal run cursor ordinal' run' cursor' c room room' p q
+holds_one ordinal run cursor ordinal' run' cursor' c room room' (inr p) (inr q) = same_cell second_cell first_cell ordinal run cursor ordinal' run' cursor' c room room' p q
+holds_one ordinal run cursor ordinal' run' cursor' c room room' (inl p) (inr q) = absurd (one_counts first_cell second_cell c (is_counting first_cell second_cell ordinal run cursor c p room.ordinal_room) (is_counting second_cell first_cell ordinal' run' cursor' c q room'.ordinal_room))
+holds_one ordinal run cursor ordinal' run' cursor' c room room' (inr p) (inl q) = absurd (one_counts second_cell first_cell c (is_counting second_cell first_cell ordinal run cursor c p room.ordinal_room) (is_counting first_cell second_cell ordinal' run' cursor' c q room'.ordinal_room))
 
 -- a change that meets neither the cell that counts nor the head of the other one
 pub counts_stay : (here other ordinal : ℕ) (content : List ℕ) (at n : ℕ) (a b : List ℕ) → SameBut at n a b → (here + 13 + length content ≤ at) ⊎ (at + n ≤ here) → (other + 9 ≤ at) ⊎ (at + n ≤ other)

@@ -1,0 +1,5 @@
+use Rattle.json_span.proofs.ScanLaws.{Scan}
+use Rattle.json_span.proofs.scan.first_value.Given as goal
+
+abbrev pub invariant-loop-i : goal.invariant-loop-i
+invariant-loop-i l = Scan l.bytes l.start l.i l.reading l.end

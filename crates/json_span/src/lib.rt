@@ -1,0 +1,20 @@
+//! Where JSON values stand in bytes: the first value behind a place, whether some bytes are one
+//! object, and an object's members. JSON is as RFC 8259 has it, in UTF-8 as RFC 3629 has it, of at
+//! most 127 levels of arrays and objects; an escape of a lone surrogate passes. Nothing is decoded and
+//! nothing is copied: what the callers get are spans.
+//!
+//! The contract: each answer is right by the RFC's grammar, as a relation on whole byte lists, and no
+//! other answer is. A value is the longest at its place, a cut one can still become a value, and a fault
+//! is at the first byte after which nothing can.
+#![tactic(auto)]
+
+mod bytes;
+mod object;
+mod reading;
+mod scan;
+mod span;
+mod token;
+
+pub use object::{Member, is_object, members};
+pub use scan::first_value;
+pub use span::{JsonFault, Span};

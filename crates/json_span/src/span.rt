@@ -1,0 +1,22 @@
+//! Places of bytes, and what may be wrong with them.
+
+/// The bytes from `start` up to `end`, as offsets from the first of all bytes; the byte at `end` is
+/// the first behind it.
+#[derive(Clone, Copy, PartialEq, Eq, Debug)]
+pub struct Span {
+    pub start: usize,
+    pub end: usize,
+}
+
+/// Why no value was found. Places are offsets from the first of all bytes.
+#[derive(Clone, Copy, PartialEq, Eq, Debug)]
+pub enum JsonFault {
+    /// The bytes end before a value does: more bytes can make one.
+    Cut,
+    /// No value begins like this, whatever follows. `at` is the first byte after which none is
+    /// possible, or, where that byte leaves a character of several bytes unfinished, that
+    /// character's first byte.
+    NotJson { at: usize },
+    /// `at` is the bracket that opens level 128.
+    TooDeep { at: usize },
+}
