@@ -6,7 +6,7 @@ ghost use Rattle.event_form.specs.Reading.{Begins, BeginsNoEntry};
 
 use crate::reading::read_parts;
 
-/// How many bytes the text of the entry has that the bytes begin with; other bytes may follow it. Nothing
+/// How many bytes the entry has that the bytes begin with; other bytes may follow it. Nothing
 /// where no entry begins them. It takes no memory.
 pub fn peek_entry(bytes: &[u8]) -> Option<usize>
     ensures some { IfSome result (λ size. (e : Entry) × (rest : List ℕ) × Begins e bytes.now rest × (size ≡ size_of e)) }

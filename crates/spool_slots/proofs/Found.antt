@@ -1,7 +1,7 @@
 -- Whether a group begins at an open gate, told by its length, its count and its entries.
-use Rattle.std.proofs.Common.{◌≡◌, ℕ, ◌+◌, ◌-◌, ◌^◌, ◌<◌, ◌≤◌, List, [], ◌∷◌, ◌++◌, length, take, drop, get_or, refl, sym, ◌∙◌, ap, subst, arith, append_assoc, length-append, take-append-drop}
+use Rattle.std.proofs.Common.{◌≡◌, ℕ, ◌+◌, ◌-◌, ◌^◌, ◌<◌, ◌≤◌, List, [], ◌∷◌, ◌++◌, length, take, drop, get_or, refl, sym, ◌∙◌, ap, arith, append_assoc, length-append, take-append-drop}
 use Rattle.std.specs.Int.{w32, from_be_bytes, to_be_bytes}
-use Rattle.std.proofs.lemmas.List.{append-nil, length-take, length-take-le, take-take, take_at, take-append-le, drop-drop, drop_more, length-drop, take_all}
+use Rattle.std.proofs.lemmas.List.{length-take, take-take, take_at, length-drop, take_all}
 use Rattle.foundation.specs.Bytes.{part}
 use Rattle.foundation.proofs.Bytes.{length-part, get_or-part}
 use Rattle.event_form.specs.declared.event.Entry.{Entry}

@@ -1,7 +1,6 @@
 -- The marks of a segment, and the bytes that stand at them.
-use Rattle.std.proofs.Common.{◌≡◌, ◌⊎◌, inl, inr, ℕ, ◌+◌, ◌-◌, ◌^◌, ◌<◌, ◌≤◌, List, [], ◌∷◌, ◌++◌, length, take, drop, get_or, refl, sym, ◌∙◌, ap, subst, arith, append_assoc, length-append}
+use Rattle.std.proofs.Common.{◌≡◌, inl, inr, ℕ, ◌+◌, ◌-◌, ◌<◌, ◌≤◌, List, [], ◌∷◌, ◌++◌, length, take, drop, get_or, refl, sym, ◌∙◌, ap, subst, arith, append_assoc, length-append}
 use Rattle.std.specs.List.{All}
-use Rattle.std.specs.Int.{w32, from_be_bytes}
 use Rattle.std.proofs.lemmas.List.{append-nil, drop_at, drop-drop, get_or_at, get_or-drop, length-drop, take_min, take_more}
 use Rattle.std.proofs.lemmas.List.Concat.{flat_map-append}
 use Rattle.foundation.specs.Bytes.{part}
@@ -10,7 +9,7 @@ use Rattle.event_form.specs.declared.event.Entry.{Entry}
 use Rattle.event_form.specs.Entry.{IsEntry, entry_text, size_of}
 use Rattle.event_form.specs.Reading.{Begins}
 use Rattle.event_form.proofs.Fields.{length-entry_text}
-use Rattle.spool_state.specs.Segment.{IsGroup, Segment, empty_segment, entries_of, entries_text, group_text, groups_text, head_text, segment_text, with_group}
+use Rattle.spool_state.specs.Segment.{IsGroup, Segment, entries_of, entries_text, group_text, groups_text, head_text, segment_text, with_group}
 use Rattle.spool_state.specs.Image.{HoldsSegment}
 use Rattle.spool_state.specs.Broken.{BeginsGroup}
 use Rattle.spool_state.proofs.Entries.{entries_join}

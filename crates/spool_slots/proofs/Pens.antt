@@ -1,8 +1,7 @@
 -- A text that is written by way of a buffer.
-use Rattle.std.proofs.Common.{◌≡◌, inl, inr, ℕ, ◌+◌, ◌-◌, ◌<◌, ◌≤◌, List, [], ◌∷◌, ◌++◌, length, take, drop, get_or, refl, sym, ◌∙◌, ap, subst, arith, append_assoc, length-append}
+use Rattle.std.proofs.Common.{◌≡◌, inl, inr, ℕ, ◌+◌, ◌-◌, ◌≤◌, List, [], ◌++◌, length, take, drop, refl, sym, ◌∙◌, ap, arith, append_assoc, length-append}
 use Rattle.std.proofs.lemmas.Bool.{cases_lt}
-use Rattle.std.proofs.lemmas.List.{append-nil, ext_get_or, take_at, take_all, length-take-le, get_or_append_left, get_or-append-add}
-use Rattle.std.proofs.lemmas.Grind.{common_steps}
+use Rattle.std.proofs.lemmas.List.{append-nil, ext_get_or, take_at, length-take-le, get_or_append_left, get_or-append-add}
 use Rattle.foundation.specs.Bytes.{put, SameBut}
 use Rattle.foundation.proofs.Bytes.{length-put, put_below, put_above, put_at, same_but_then, same_but_wider, same_but_refl}
 use Rattle.edge_disk.specs.Disk.{Moment, IsLawful, LeavesOnly}

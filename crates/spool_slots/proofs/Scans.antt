@@ -1,11 +1,11 @@
 -- A slot scanned group by group.
-use Rattle.std.proofs.Common.{◌≡◌, ◌≢◌, ℕ, ◌+◌, ◌-◌, ◌^◌, ◌<◌, ◌≤◌, List, [], ◌∷◌, ◌++◌, length, take, drop, get_or, refl, sym, ◌∙◌, ap, subst, arith, append_assoc, length-append, take-append-drop}
+use Rattle.std.proofs.Common.{◌≡◌, ◌≢◌, ℕ, ◌+◌, ◌-◌, ◌^◌, ◌<◌, ◌≤◌, List, ◌∷◌, ◌++◌, length, take, drop, get_or, refl, sym, ◌∙◌, ap, subst, arith, append_assoc, length-append, take-append-drop}
 use Rattle.std.specs.List.{All}
 use Rattle.std.specs.Int.{w64, to_be_bytes}
-use Rattle.std.proofs.lemmas.List.{append-nil, take-append-le, length-drop, drop_at, drop-drop, take_all}
+use Rattle.std.proofs.lemmas.List.{length-drop, drop_at, drop-drop, take_all}
 use Rattle.std.proofs.lemmas.List.Elements.{All-nil, All-push}
 use Rattle.foundation.specs.Bytes.{part}
-use Rattle.foundation.proofs.Bytes.{length-part, get_or-part}
+use Rattle.foundation.proofs.Bytes.{length-part}
 use Rattle.event_form.specs.declared.event.Entry.{Entry}
 use Rattle.spool_state.specs.Segment.{IsGroup, Segment, empty_segment, entries_of, entries_text, group_text, head_text, segment_text, with_group}
 use Rattle.spool_state.specs.Image.{HoldsSegment}
@@ -16,7 +16,6 @@ use Rattle.spool_state.proofs.Once.{one_segment}
 use Rattle.spool_slots.specs.declared.slot.Slot.{Slot}
 use Rattle.spool_slots.specs.Slot.{Knows}
 use Rattle.spool_slots.specs.Scan.{IsScanned, KnowsSome}
-use Rattle.spool_slots.proofs.Windows.{part-part}
 use Rattle.spool_slots.proofs.Walks.{drop-part}
 use Rattle.spool_slots.proofs.Found.{part_split, first_byte}
 

@@ -1,10 +1,9 @@
 -- What each step of a gate in a slot does to the segment in it.
 use Rattle.std.proofs.Common.{◌≡◌, ◌≢◌, inl, inr, ℕ, suc, ◌+◌, ◌-◌, ◌<◌, ◌≤◌, List, [], ◌∷◌, ◌++◌, length, take, drop, get_or, refl, sym, ◌∙◌, ap, subst, arith, append_assoc, length-append, take-append-drop}
-use Rattle.std.specs.Prelude.{All}
 use Rattle.std.proofs.lemmas.List.{take_at, get_or-drop, get_or_at, append-nil}
 use Rattle.std.proofs.lemmas.Grind.{common_steps}
 use Rattle.foundation.specs.Bytes.{part, put, SameBut}
-use Rattle.foundation.proofs.Bytes.{same_but_refl, same_but_wider, get_or-part, length-part, put_at}
+use Rattle.foundation.proofs.Bytes.{same_but_wider, get_or-part, length-part, put_at}
 use Rattle.edge_disk.specs.Disk.{Moment, IsTorn, IsLawful, LeavesOnly}
 use Rattle.edge_disk.specs.Gate.{IsGateStep, ComesFrom}
 use Rattle.edge_disk.proofs.Moments.{both, weaker, torn_from}

@@ -1,5 +1,5 @@
 -- Where an entry of a segment begins in its slot.
-use Rattle.std.specs.Prelude.{◌≡◌, ◌⊎◌, ℕ, ◌+◌, ◌<◌, List, ◌∷◌, ◌++◌, length, Result, Ok, Err}
+use Rattle.std.specs.Prelude.{◌≡◌, ◌⊎◌, ◌+◌, ◌<◌, List, ◌∷◌, ◌++◌, length, Result, Ok, Err}
 use Rattle.event_form.specs.declared.event.Entry.{Entry}
 use Rattle.event_form.specs.declared.reading.Took.{Took}
 use Rattle.event_form.specs.Entry.{size_of}

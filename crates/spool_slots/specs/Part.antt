@@ -1,6 +1,5 @@
 -- What a reading of a part of a slot answers.
 use Rattle.std.specs.Prelude.{◌≡◌, ℕ, ◌-◌, take, drop, Result, Ok, Err}
-use Rattle.event_form.specs.declared.event.Entry.{Entry}
 use Rattle.spool_state.specs.Segment.{Segment, entries_of}
 use Rattle.spool_slots.specs.declared.fault.ScanFault.{ScanFault}
 use Rattle.spool_slots.specs.declared.fault.ScanFault.TheVariants.{NotSpool, DiskFault, NoMemory}

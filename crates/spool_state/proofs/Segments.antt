@@ -1,16 +1,14 @@
 -- The bytes of a segment, and of one with a group more.
-use Rattle.std.proofs.Common.{◌≡◌, ◌≢◌, ◌⊎◌, ℕ, ◌+◌, ◌<◌, ◌≤◌, List, [], ◌∷◌, ◌++◌, length, take, drop, get_or, refl, sym, ◌∙◌, ap, subst, arith, append_assoc, length-append}
-use Rattle.std.specs.List.{flat_map}
+use Rattle.std.proofs.Common.{◌≡◌, ◌≢◌, ℕ, ◌+◌, ◌<◌, ◌≤◌, List, [], ◌∷◌, ◌++◌, length, take, drop, get_or, refl, sym, ◌∙◌, ap, arith, append_assoc, length-append}
 use Rattle.std.specs.Int.{to_be_bytes, w32}
-use Rattle.std.proofs.lemmas.List.{append-nil, take_at, drop_at, get_or-append-add, take-take}
-use Rattle.std.proofs.lemmas.List.Concat.{flat_map-append, flat_map-cons}
-use Rattle.foundation.specs.Bytes.{part, SameBut}
-use Rattle.foundation.proofs.Bytes.{get_or-part, length-part, same_part}
+use Rattle.std.proofs.lemmas.List.{append-nil, take_at, get_or-append-add, take-take}
+use Rattle.std.proofs.lemmas.List.Concat.{flat_map-append}
+use Rattle.foundation.specs.Bytes.{part}
+use Rattle.foundation.proofs.Bytes.{get_or-part, length-part}
 use Rattle.event_form.specs.declared.event.Entry.{Entry}
-use Rattle.event_form.specs.Entry.{entry_text}
-use Rattle.spool_state.specs.Segment.{Segment, empty_segment, with_group, entries_of, entries_text, group_text, groups_text, head_text, need_of, segment_text}
+use Rattle.spool_state.specs.Segment.{Segment, empty_segment, entries_text, group_text, groups_text, head_text, segment_text}
 use Rattle.spool_state.specs.Image.{HoldsSegment}
-use Rattle.spool_state.proofs.Texts.{length-head_text, length-group_text}
+use Rattle.spool_state.proofs.Texts.{length-head_text}
 
 pub head_open : (ordinal first : ℕ) (rest : List ℕ) → get_or (head_text ordinal first ++ rest) 0 0 ≡ 1
 unfolding head_text
@@ -42,10 +40,10 @@ pub holds_closed : (at size : ℕ) (segment : Segment) (c : List ℕ) → at + s
 holds_closed at size segment c room holds =
     let text = segment_text segment in
     let here : get_or c (at + length text) 0 ≡ get_or holds.rest 0 0 =
-        sym (get_or-part at size c (length text) (at + length text) (holds_inside at size segment c room holds) refl)
-        ∙ ap (λ (l : List ℕ). get_or l (length text) 0) holds.text
-        ∙ ap (λ (k : ℕ). get_or (text ++ holds.rest) k 0) (omega arith)
-        ∙ get_or-append-add text holds.rest 0 0 in
+    sym (get_or-part at size c (length text) (at + length text) (holds_inside at size segment c room holds) refl)
+    ∙ ap (λ (l : List ℕ). get_or l (length text) 0) holds.text
+    ∙ ap (λ (k : ℕ). get_or (text ++ holds.rest) k 0) (omega arith)
+    ∙ get_or-append-add text holds.rest 0 0 in
     λ one. holds.closed (sym here ∙ one)
 
 -- ---- a group's text by its parts

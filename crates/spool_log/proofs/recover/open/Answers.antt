@@ -19,12 +19,12 @@ use Rattle.spool_log.proofs.recover.open.Goals as goal
 pub returns-in_err-known-clause-refused : goal.returns-in_err-known-clause-refused
 returns-in_err-known-clause-refused g c =
     subst (λ (r : Result Known RecoverFault). IfErr r (λ fault. (s : SpoolState) → g.D.Disk.tells → StandsFor s (g.D.Disk.moment c.args.disk.now).reads → Refuses c.args.opening s fault)) (sym (err_is _ _ c.from_residual-in_err-known.ensures.1))
-      (λ s tells stands. read_refused c.args.opening s _ c.in_err-known.field-0.0 (c.in_err-known.ensures.broken tells) (subst (StandsFor s) (sym (c.sync.ensures.told tells).same) stands))
+    (λ s tells stands. read_refused c.args.opening s _ c.in_err-known.field-0.0 (c.in_err-known.ensures.broken tells) (subst (StandsFor s) (sym (c.sync.ensures.told tells).same) stands))
 
 pub returns-in_err-known-clause-broken : goal.returns-in_err-known-clause-broken
 returns-in_err-known-clause-broken g c =
     subst (λ (r : Result Known RecoverFault). IfErr r (λ fault. g.D.Disk.tells → IsBrokenAs (g.D.Disk.moment c.args.disk.now).reads fault)) (sym (err_is _ _ c.from_residual-in_err-known.ensures.1))
-      (λ tells. subst (λ (d : List ℕ). IsBrokenAs d (as_recover c.in_err-known.field-0.0)) (c.sync.ensures.told tells).same (read_broken _ c.in_err-known.field-0.0 (c.in_err-known.ensures.broken tells)))
+    (λ tells. subst (λ (d : List ℕ). IsBrokenAs d (as_recover c.in_err-known.field-0.0)) (c.sync.ensures.told tells).same (read_broken _ c.in_err-known.field-0.0 (c.in_err-known.ensures.broken tells)))
 
 pub raise-requires-clause-settled : goal.raise-requires-clause-settled
 raise-requires-clause-settled g c = λ tells. still_settled _ _ (c.in_ok-sync.ensures.durable tells) (c.read_known.ensures.told tells)
@@ -37,18 +37,18 @@ raise-requires-clause-stored g c = λ tells.
 pub returns-in_err-raise-in-Raise-clause-refused : goal.returns-in_err-raise-in-Raise-clause-refused
 returns-in_err-raise-in-Raise-clause-refused g c =
     subst (λ (r : Result Known RecoverFault). IfErr r (λ fault. (s : SpoolState) → g.D.Disk.tells → StandsFor s (g.D.Disk.moment c.args.disk.now).reads → Refuses c.args.opening s fault)) (sym (err_is _ _ c.from_residual-in_err-raise-in-Raise.ensures.1))
-      (λ s tells stands.
-        let here = subst (StandsFor s) (sym (c.sync.ensures.told tells).same) stands in
-        let stored = subst (IsStored s c.in_ok-known.known) (sym (c.read_known.ensures.told tells).same) (same_stored s c.in_ok-known.known _ (c.in_ok-known.ensures.found tells) here) in
-        refused_as c.args.opening c.in-Raise.is s c.in_err-raise-in-Raise.field-0.0 (c.in_err-raise-in-Raise.ensures.refused s tells stored))
+    (λ s tells stands.
+    let here = subst (StandsFor s) (sym (c.sync.ensures.told tells).same) stands in
+    let stored = subst (IsStored s c.in_ok-known.known) (sym (c.read_known.ensures.told tells).same) (same_stored s c.in_ok-known.known _ (c.in_ok-known.ensures.found tells) here) in
+    refused_as c.args.opening c.in-Raise.is s c.in_err-raise-in-Raise.field-0.0 (c.in_err-raise-in-Raise.ensures.refused s tells stored))
 
 pub returns-in_err-raise-in-Raise-clause-broken : goal.returns-in_err-raise-in-Raise-clause-broken
 returns-in_err-raise-in-Raise-clause-broken g c =
     subst (λ (r : Result Known RecoverFault). IfErr r (λ fault. g.D.Disk.tells → IsBrokenAs (g.D.Disk.moment c.args.disk.now).reads fault)) (sym (err_is _ _ c.from_residual-in_err-raise-in-Raise.ensures.1))
-      (λ tells.
-        let state = c.in_ok-known.ensures.found tells in
-        let stored = subst (IsStored state.0 c.in_ok-known.known) (sym (c.read_known.ensures.told tells).same) state.1 in
-        refused_unbroken Raise state.0 _ c.in_err-raise-in-Raise.field-0.0 (c.in_err-raise-in-Raise.ensures.refused state.0 tells stored))
+    (λ tells.
+    let state = c.in_ok-known.ensures.found tells in
+    let stored = subst (IsStored state.0 c.in_ok-known.known) (sym (c.read_known.ensures.told tells).same) state.1 in
+    refused_unbroken Raise state.0 _ c.in_err-raise-in-Raise.field-0.0 (c.in_err-raise-in-Raise.ensures.refused state.0 tells stored))
 
 pub returns-in_err-raise-in-Raise-clause-any_moment : goal.returns-in_err-raise-in-Raise-clause-any_moment
 returns-in_err-raise-in-Raise-clause-any_moment g c = λ tells.

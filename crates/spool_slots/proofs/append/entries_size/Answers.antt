@@ -1,4 +1,4 @@
-use Rattle.std.proofs.Common.{◌≡◌, ◌+◌, ◌*◌, ◌≤◌, ◌∙◌, ap, arith}
+use Rattle.std.proofs.Common.{arith}
 use Rattle.spool_state.proofs.Entries.{entry_here, length-entries_more}
 use Rattle.spool_slots.proofs.append.entries_size.Goals as goal
 

@@ -1,4 +1,4 @@
-use Rattle.std.proofs.Common.{◌≡◌, ℕ, ◌*◌, ◌≤◌, length, take}
+use Rattle.std.proofs.Common.{◌≡◌, ◌*◌, ◌≤◌, length, take}
 use Rattle.spool_state.specs.Segment.{entries_text}
 use Rattle.spool_slots.proofs.append.entries_size.Given as goal
 

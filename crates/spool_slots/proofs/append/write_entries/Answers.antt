@@ -1,4 +1,4 @@
-use Rattle.std.proofs.Common.{◌≡◌, ◌+◌, ◌≤◌, ◌++◌, ℕ, List, length, take, sym, ◌∙◌, ap, subst, arith}
+use Rattle.std.proofs.Common.{◌≡◌, ◌+◌, ◌++◌, ℕ, List, length, take, ◌∙◌, ap, subst, arith}
 use Rattle.event_form.proofs.Fields.{length-head_text}
 use Rattle.spool_state.specs.Segment.{entries_text}
 use Rattle.spool_state.proofs.Entries.{entries_within, length-entries_more, parts_more}

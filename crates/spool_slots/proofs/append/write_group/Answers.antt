@@ -1,6 +1,6 @@
-use Rattle.std.proofs.Common.{◌≡◌, ◌+◌, ◌≤◌, ◌++◌, ◌∷◌, [], ℕ, List, length, sym, ◌∙◌, ap, subst, arith}
+use Rattle.std.proofs.Common.{◌+◌, ◌++◌, ◌∷◌, [], ℕ, List, length, ◌∙◌, ap, arith}
 use Rattle.foundation.specs.Bytes.{put}
-use Rattle.spool_state.specs.Segment.{entries_text, group_text}
+use Rattle.spool_state.specs.Segment.{entries_text}
 use Rattle.spool_state.proofs.Segments.{group_parts}
 use Rattle.spool_slots.proofs.Pens.{none_written, run_then, none_run}
 use Rattle.spool_slots.proofs.append.write_group.Goals as goal

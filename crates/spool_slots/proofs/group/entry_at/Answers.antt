@@ -1,4 +1,4 @@
-use Rattle.std.proofs.Common.{◌≡◌, ◌⊎◌, inl, inr, ◌+◌, ◌-◌, ◌<◌, ◌≤◌, ◌++◌, ℕ, List, take, drop, length, sym, ◌∙◌, ap, subst, arith}
+use Rattle.std.proofs.Common.{◌⊎◌, inl, inr, ◌+◌, ◌-◌, ◌<◌, ◌++◌, ℕ, List, take, drop, ◌∙◌, ap, subst, arith}
 use Rattle.std.specs.Int.{w32, from_be_bytes}
 use Rattle.foundation.specs.Bytes.{part}
 use Rattle.event_form.specs.Reading.{Begins, BeginsNoEntry}

@@ -1,9 +1,7 @@
-use Rattle.std.proofs.Common.{◌≡◌, ◌⊎◌, inl, inr, ◌+◌, ◌-◌, ◌^◌, ◌<◌, ◌≤◌, ℕ, List, take, drop, length, get_or, sym, ◌∙◌, ap, subst, arith}
+use Rattle.std.proofs.Common.{◌≡◌, ◌+◌, ◌-◌, ◌^◌, ◌<◌, ◌≤◌, ℕ, List, take, drop, length, sym, ◌∙◌, ap, subst, arith}
 use Rattle.std.specs.Int.{w32, from_be_bytes}
 use Rattle.foundation.specs.Bytes.{part}
-use Rattle.event_form.specs.declared.event.Entry.{Entry}
 use Rattle.edge_disk.proofs.Moments.{untouched_then}
-use Rattle.spool_state.specs.Broken.{BeginsGroup}
 use Rattle.spool_slots.specs.Groups.{AreEntries}
 use Rattle.spool_slots.proofs.Found.{gate_read, broken_short, broken_count, broken_long, broken_entries, group_found}
 use Rattle.spool_slots.proofs.group.look_at.Goals as goal

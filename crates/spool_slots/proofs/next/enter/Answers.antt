@@ -1,4 +1,4 @@
-use Rattle.std.proofs.Common.{◌≡◌, ◌+◌, ◌-◌, ◌^◌, ◌<◌, ◌≤◌, refl, ℕ, List, take, drop, length, get_or, sym, ◌∙◌, ap, subst, arith}
+use Rattle.std.proofs.Common.{◌+◌, ◌-◌, refl, ℕ, List, take, drop, get_or, ◌∙◌, ap, arith}
 use Rattle.std.specs.Int.{w32, from_be_bytes}
 use Rattle.foundation.specs.Bytes.{part}
 use Rattle.spool_slots.proofs.Found.{begins_long, gate_told, count_read}

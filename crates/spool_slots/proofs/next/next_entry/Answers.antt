@@ -1,4 +1,4 @@
-use Rattle.std.proofs.Common.{◌≡◌, ◌+◌, ◌-◌, ◌<◌, ◌≤◌, ℕ, List, refl, length, sym, ◌∙◌, ap, subst, arith}
+use Rattle.std.proofs.Common.{◌+◌, ◌-◌, ℕ, List, refl, sym, subst, arith}
 use Rattle.foundation.specs.Bytes.{part}
 use Rattle.event_form.specs.Reading.{Begins}
 use Rattle.edge_disk.proofs.Moments.{untouched_then}

@@ -1,9 +1,6 @@
-use Rattle.std.proofs.Common.{◌≡◌, ◌+◌, ◌-◌, ◌<◌, ◌≤◌, ◌++◌, [], ℕ, List, take, drop, length, sym, ◌∙◌, ap, subst, arith, length-append}
+use Rattle.std.proofs.Common.{◌+◌, ◌-◌, [], ℕ, List, sym, ◌∙◌, ap, subst, arith}
 use Rattle.foundation.specs.Bytes.{part}
-use Rattle.event_form.specs.declared.event.Entry.{Entry}
-use Rattle.event_form.specs.Entry.{entry_text}
 use Rattle.event_form.specs.Reading.{Begins, IsRead}
-use Rattle.event_form.proofs.Fields.{length-entry_text}
 use Rattle.edge_disk.proofs.Moments.{untouched_then}
 use Rattle.spool_slots.proofs.Peeks.{short_none, exact_text, used_within}
 use Rattle.spool_slots.proofs.next.read_from.Goals as goal

@@ -55,4 +55,4 @@ pub returns-clause-any_moment : goal.returns-clause-any_moment
 returns-clause-any_moment g c = λ s tells from to stored.
     let knows = stored.knows in
     set_moments s c.args.self.now.register _ _ _ (c.requires.settled tells) stored.stands knows.ordinal knows.run knows.cursor
-      (sound-registered s c.args.run c.args.cursor stored.stands.sound c.requires.run (omega (arith, c.in_ok-set.ensures.worn, knows.ordinal)) from to) (c.set.ensures.any_moment tells)
+    (sound-registered s c.args.run c.args.cursor stored.stands.sound c.requires.run (omega (arith, c.in_ok-set.ensures.worn, knows.ordinal)) from to) (c.set.ensures.any_moment tells)

@@ -1,5 +1,4 @@
-use Rattle.std.proofs.Common.{◌≡◌, ◌+◌, ◌-◌, ◌≤◌, length, sym, ◌∙◌, ap, subst, arith}
-use Rattle.spool_slots.specs.Pen.{HasWritten}
+use Rattle.std.proofs.Common.{arith}
 use Rattle.spool_slots.proofs.Pens.{is_written, all_written}
 use Rattle.spool_slots.proofs.pen.Pen.finish.Goals as goal
 

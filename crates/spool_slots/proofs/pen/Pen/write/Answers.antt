@@ -1,4 +1,4 @@
-use Rattle.std.proofs.Common.{◌≡◌, ◌+◌, ◌-◌, ◌≤◌, ◌++◌, ℕ, List, [], length, take, drop, sym, ◌∙◌, ap, subst, arith, append_assoc, take-append-drop}
+use Rattle.std.proofs.Common.{◌++◌, ℕ, List, take, drop, ◌∙◌, ap, subst, arith, append_assoc, take-append-drop}
 use Rattle.spool_slots.specs.Pen.{HasWritten}
 use Rattle.spool_slots.proofs.Pens.{run_then}
 use Rattle.spool_slots.proofs.pen.Pen.write.Goals as goal

@@ -1,6 +1,5 @@
 use Rattle.std.proofs.Common.{◌≡◌, ◌+◌, ◌≤◌, ◌++◌, ℕ, List, length}
 use Rattle.foundation.specs.Bytes.{SameBut}
-use Rattle.foundation.specs.Faults.{Rose}
 use Rattle.edge_disk.specs.Disk.{LeavesOnly}
 use Rattle.edge_disk.specs.Gate.{ComesFrom}
 use Rattle.spool_slots.specs.Pen.{HasWritten}

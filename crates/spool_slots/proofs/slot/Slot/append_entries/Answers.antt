@@ -1,7 +1,7 @@
-use Rattle.std.proofs.Common.{◌≡◌, ◌+◌, ◌-◌, ◌<◌, ◌≤◌, ◌++◌, ◌∷◌, [], ℕ, List, length, sym, ◌∙◌, ap, arith, length-append}
+use Rattle.std.proofs.Common.{◌+◌, ◌-◌, ◌≤◌, ◌++◌, ◌∷◌, [], length, ◌∙◌, ap, arith, length-append}
 use Rattle.std.proofs.lemmas.List.Elements.{All-push}
 use Rattle.edge_disk.proofs.Moments.{untouched}
-use Rattle.spool_state.specs.Segment.{IsGroup, entries_of, entries_text, group_text, need_of, with_group}
+use Rattle.spool_state.specs.Segment.{IsGroup, entries_of, group_text, need_of}
 use Rattle.spool_state.proofs.Texts.{length-group_text, length-need, length-segment_text-with_group, entries_of-with_group}
 use Rattle.spool_slots.proofs.Steps.{append_run, append_holds, closed_behind, body_from, piece_from, gate_from}
 use Rattle.spool_slots.proofs.slot.Slot.append_entries.Goals as goal

@@ -1,4 +1,4 @@
-use Rattle.std.proofs.Common.{◌≡◌, ◌≢◌, ◌+◌, ◌<◌, ◌≤◌, ◌∷◌, ◌++◌, [], ℕ, List, get_or, length, sym, ◌∙◌, ap, subst, arith}
+use Rattle.std.proofs.Common.{◌≡◌, ◌≢◌, ◌+◌, ◌<◌, ◌≤◌, ◌∷◌, [], ℕ, List, get_or, length, sym, ◌∙◌, ap, subst, arith}
 use Rattle.foundation.specs.Bytes.{put}
 use Rattle.edge_disk.proofs.Moments.{untouched}
 use Rattle.edge_disk.proofs.GateSteps.{open_whole}

@@ -1,9 +1,7 @@
-use Rattle.std.proofs.Common.{◌≡◌, ◌+◌, ◌-◌, ◌<◌, ◌≤◌, ◌++◌, ◌∷◌, [], ℕ, List, min, length, take, drop, sym, ◌∙◌, ap, subst, arith, length-append}
+use Rattle.std.proofs.Common.{◌+◌, ◌∷◌, [], ℕ, length, sym, ◌∙◌, ap, subst, arith, length-append}
 use Rattle.edge_disk.proofs.Moments.{untouched_then}
-use Rattle.spool_state.specs.Segment.{Segment, entries_of, segment_text}
 use Rattle.spool_state.specs.Image.{HoldsSegment}
 use Rattle.spool_state.proofs.Segments.{holds_front}
-use Rattle.spool_slots.specs.Mark.{IsMark, IsNext}
 use Rattle.spool_slots.proofs.Marks.{mark_from, part_fault, read_all, read_more}
 use Rattle.spool_slots.proofs.slot.Slot.read_part.Goals as goal
 

@@ -1,4 +1,4 @@
-use Rattle.std.proofs.Common.{◌≡◌, ◌≢◌, ◌+◌, ◌-◌, ◌*◌, ◌<◌, ◌≤◌, ℕ, List, length, get_or, sym, ◌∙◌, ap, subst, arith, add-zero}
+use Rattle.std.proofs.Common.{◌+◌, ◌-◌, ℕ, List, get_or, sym, ◌∙◌, ap, subst, arith, add-zero}
 use Rattle.foundation.specs.Bytes.{part}
 use Rattle.foundation.proofs.Bytes.{get_or-part}
 use Rattle.edge_disk.proofs.Moments.{untouched_then}

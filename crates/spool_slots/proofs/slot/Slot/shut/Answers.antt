@@ -1,4 +1,4 @@
-use Rattle.std.proofs.Common.{◌+◌, ◌≤◌, length, arith}
+use Rattle.std.proofs.Common.{arith}
 use Rattle.edge_disk.proofs.Moments.{weaker}
 use Rattle.spool_slots.proofs.Steps.{shut_step}
 use Rattle.spool_slots.proofs.slot.Slot.shut.Goals as goal

@@ -1,4 +1,3 @@
-use Rattle.std.proofs.Common.{◌≡◌, ◌+◌, ◌-◌, ◌≤◌, take, drop, length, sym, ◌∙◌, ap, arith}
 use Rattle.spool_slots.proofs.Windows.{window_part}
 use Rattle.spool_slots.proofs.window.Window.bytes.Goals as goal
 
