@@ -16,7 +16,7 @@ use Rattle.lumber_frame.specs.declared.side.Side.{Side}
 use Rattle.stream_grammar.specs.FieldFaults.{IsFieldStream, IsFieldFault}
 use Rattle.stream_grammar.specs.Framing.{AreSpelled}
 use Rattle.stream_grammar.proofs.FieldFaults.{field_more, field_fault}
-use Rattle.stream_grammar.proofs.FieldReadings.{field_stays}
+use Rattle.stream_grammar.proofs.FieldReadings.{field_fault_stays}
 use Rattle.lumber_frame.specs.Broken.{Broken}
 use Rattle.lumber_frame.specs.Keeping.{Keeps}
 use Rattle.lumber_frame.specs.Machine.{size_of}
@@ -33,7 +33,7 @@ feeds_faulty old piece e q = (
   q,
   λ fed taken r.
       let k = subst (ReadsTo old.side fed (taken ++ old.waiting) old.at old.rest) q r in
-      subst (ReadsTo old.side (fed ++ piece) (taken ++ old.waiting) old.at old.rest) (sym q) (field_stays piece k.0, k.1),
+      subst (ReadsTo old.side (fed ++ piece) (taken ++ old.waiting) old.at old.rest) (sym q) (field_fault_stays piece k.0, k.1),
 )
 
 -- the piece is read to its end

@@ -39,6 +39,28 @@ pub record BeforeValue (pairs key h : List ℕ) : Type 0 where
   pub short : length pairs + length key + 4 ≤ 131072
   pub whole : h ≡ front ++ key
 
+-- the number n is too large where it stands behind the bytes h of its frame:
+
+-- a window size above 65,536
+abbrev pub IsLargeWindow : List ℕ → ℕ → Type 0
+IsLargeWindow h n = (h ≡ 50 ∷ 87 ∷ []) × (65536 < n)
+
+-- a pair count above 1,024
+abbrev pub IsLargeCount : List ℕ → ℕ → Type 0
+IsLargeCount h n = IsHead 68 h × (1024 < n)
+
+-- a payload length above 131,072
+abbrev pub IsLongPayload : List ℕ → ℕ → Type 0
+IsLongPayload h n = IsHead 74 h × (131072 < n)
+
+-- a key length by which the pair bytes before it, eight more and the key are above 131,072
+abbrev pub IsLongKey : List ℕ → ℕ → Type 0
+IsLongKey h n = (pairs : List ℕ) × BeforePair pairs h × (131072 < length pairs + 8 + n)
+
+-- a value length by which the sum so far and the value are
+abbrev pub IsLongValue : List ℕ → ℕ → Type 0
+IsLongValue h n = (pairs : List ℕ) × (key : List ℕ) × BeforeValue pairs key h × (131072 < length pairs + length key + 4 + n)
+
 -- The field behind the bytes h of its frame breaks this rule.
 abbrev pub Broken : Side → List ℕ → List ℕ → LumberWhy → Type 0
 -- the version isn't `2`
@@ -50,6 +72,6 @@ Broken side h field AckFromWriter = (side ≡ Receiver) × (h ≡ 50 ∷ []) × 
 -- the type is another one that doesn't come
 Broken side h field Kind = (h ≡ 50 ∷ []) × ((c : ℕ) × (field ≡ c ∷ []) × IsNoType side c)
 -- a window size, or a pair count
-Broken side h field TooMany = (side ≡ Receiver) × ((n : ℕ) × IsNumber n field × (((h ≡ 50 ∷ 87 ∷ []) × (65536 < n)) ⊎ (IsHead 68 h × (1024 < n))))
+Broken side h field TooMany = (side ≡ Receiver) × ((n : ℕ) × IsNumber n field × (IsLargeWindow h n ⊎ IsLargeCount h n))
 -- a payload length, a key length, or a value length
-Broken side h field TooLong = (side ≡ Receiver) × ((n : ℕ) × IsNumber n field × ((IsHead 74 h × (131072 < n)) ⊎ (((pairs : List ℕ) × BeforePair pairs h × (131072 < length pairs + 8 + n)) ⊎ ((pairs : List ℕ) × (key : List ℕ) × BeforeValue pairs key h × (131072 < length pairs + length key + 4 + n)))))
+Broken side h field TooLong = (side ≡ Receiver) × ((n : ℕ) × IsNumber n field × (IsLongPayload h n ⊎ (IsLongKey h n ⊎ IsLongValue h n)))

@@ -17,6 +17,7 @@ use Rattle.stream_grammar.specs.Automaton.{Step, Goes, Ends, Fails}
 pub data State : Type 0 where
   At : Field → List ℕ → List ℕ → State
 
+-- nothing has been read
 abbrev pub start : State
 start = At VersionByte [] []
 
@@ -52,6 +53,7 @@ value_of (Key seq left len) b = 0
 value_of (ValueLength seq left) b = from_be_bytes w32 b
 value_of (Value seq left len) b = 0
 
+-- what the machine does
 abbrev pub Turning : Type 0
 Turning = Step State LumberFrame LumberWhy
 
@@ -71,13 +73,15 @@ type_turn Sender text c =
 abbrev pub pairs_turn : ℕ → ℕ → List ℕ → Turning
 pairs_turn seq left text = if left == 0 then Ends (Pairs seq text) else Goes (At (KeyLength seq (left - 1)) text [])
 
--- the payload, the key or the value, or what stands behind it where it is empty
+-- the payload, or the frame's end where it is empty
 abbrev pub payload_turn : ℕ → List ℕ → ℕ → Turning
 payload_turn seq text len = if len == 0 then Ends (Json seq []) else Goes (At (Payload seq len) text [])
 
+-- the key, or the value's length where it is empty
 abbrev pub key_turn : ℕ → ℕ → List ℕ → ℕ → Turning
 key_turn seq left text len = if len == 0 then Goes (At (ValueLength seq left) text []) else Goes (At (Key seq left len) text [])
 
+-- the value, or what stands behind it where it is empty
 abbrev pub value_turn : ℕ → ℕ → List ℕ → ℕ → Turning
 value_turn seq left text len = if len == 0 then pairs_turn seq left text else Goes (At (Value seq left len) text [])
 
@@ -110,27 +114,35 @@ step side (At field text g) c =
 abbrev pub Four : (List ℕ → List ℕ → Type 0) → List ℕ → Type 0
 Four P b = (number : List ℕ) × (rest : List ℕ) × (length number ≡ 4) × (b ≡ number ++ rest) × P number rest
 
+-- so many more pairs behind the text so far, and the frame
 abbrev pub PairsEnd : ℕ → ℕ → List ℕ → LumberFrame → List ℕ → Type 0
 PairsEnd seq left text f b = ArePairsOf left b × (length (text ++ b) ≤ 131072) × (f ≡ Pairs seq (text ++ b))
 
+-- behind a pair count
 abbrev pub AfterCount : ℕ → List ℕ → List ℕ → LumberFrame → List ℕ → Type 0
 AfterCount seq text number f b = (from_be_bytes w32 number ≤ 1024) × PairsEnd seq (from_be_bytes w32 number) text f b
 
+-- behind a payload length
 abbrev pub AfterLength : ℕ → List ℕ → LumberFrame → List ℕ → Type 0
 AfterLength seq number f b = (from_be_bytes w32 number ≤ 131072) × (length b ≡ from_be_bytes w32 number) × (f ≡ Json seq b)
 
+-- behind the sequence number of a D frame
 abbrev pub AfterPairsSequence : List ℕ → List ℕ → LumberFrame → List ℕ → Type 0
 AfterPairsSequence text number f b = Four (λ n rest. AfterCount (from_be_bytes w32 number) text n f rest) b
 
+-- behind that of a J frame
 abbrev pub AfterJsonSequence : List ℕ → LumberFrame → List ℕ → Type 0
 AfterJsonSequence number f b = Four (λ n rest. AfterLength (from_be_bytes w32 number) n f rest) b
 
+-- behind a window size
 abbrev pub AfterSize : List ℕ → LumberFrame → List ℕ → Type 0
 AfterSize number f b = (from_be_bytes w32 number ≤ 65536) × (b ≡ []) × (f ≡ Window (from_be_bytes w32 number))
 
+-- behind the sequence number of an A frame
 abbrev pub AfterAck : List ℕ → LumberFrame → List ℕ → Type 0
 AfterAck number f b = (b ≡ []) × (f ≡ Ack (from_be_bytes w32 number))
 
+-- behind a type byte
 abbrev pub AfterType : Side → List ℕ → ℕ → LumberFrame → List ℕ → Type 0
 AfterType Receiver text c f b = ((c ≡ 87) × Four (λ n rest. AfterSize n f rest) b) ⊎ (((c ≡ 68) × Four (λ n rest. AfterPairsSequence text n f rest) b) ⊎ ((c ≡ 74) × Four (λ n rest. AfterJsonSequence n f rest) b))
 AfterType Sender text c f b = (c ≡ 65) × Four (λ n rest. AfterAck n f rest) b

@@ -47,5 +47,6 @@ abbrev pub ScansTo : Side → List ℕ → List ℕ → List LumberFrame → ℕ
 ScansTo side held piece frames end now None = Scan side held piece (length piece) frames end now
 ScansTo side held piece frames end now (Some why) = Breaks side held piece frames end now.at why
 
+-- what a scan of the piece brought
 abbrev pub Scans : Side → List ℕ → List ℕ → Scanned → Type 0
 Scans side held piece s = ScansTo side held piece s.frames.items s.end s.phase s.fault
