@@ -10,6 +10,7 @@ mod law;
 mod pairs;
 mod peek;
 mod reading;
+mod talk;
 mod writing;
 
 pub use blob::Blob;
@@ -18,6 +19,7 @@ pub use feed_fault::FeedFault;
 pub use law::one_reading;
 pub use peek::peek_entry;
 pub use reading::{EntryFault, Took, read_entry};
+pub use talk::{Attended, Talk, Why};
 pub use writing::{entry_head, entry_size, write_entry};
 
 #[cfg(test)]
