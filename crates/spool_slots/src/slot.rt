@@ -6,7 +6,7 @@ ghost use Rattle.spool_state.specs.Image.{HoldsSegment};
 ghost use Rattle.edge_disk.specs.Disk.{IsSettled, LeavesOnly};
 ghost use Rattle.edge_disk.specs.Gate.{ComesFrom};
 
-use edge_disk::{Disk, DiskFault, close_gate, open_gate};
+use edge_disk::{Disk, DiskFault, close_gate, write_behind};
 
 /// What memory knows of a slot whose gate is open.
 #[derive(Clone, Copy, Debug)]
@@ -61,9 +61,7 @@ impl Slot {
         ensures known { IfOk result (λ slot. D.tells → Knows slot (empty_segment ordinal first) (D.moment disk.new).reads) }
         ensures any_moment { D.tells → LeavesOnly (ComesFrom (D.moment disk.old) (IsClosedOrHolds at size (empty_segment ordinal first))) (D.moment disk.old) (D.moment disk.new) }
     {
-        disk.write_at(at + 1, &head(ordinal, first))?;
-        disk.sync()?;
-        open_gate(disk, at)?;
+        write_behind(disk, at, &head(ordinal, first))?;
         Ok(Slot {
             at,
             size,

@@ -2,6 +2,7 @@ use Rattle.std.proofs.Common.{◌≡◌, ◌≢◌, ◌+◌, ℕ, List, ◌∷�
 use Rattle.foundation.specs.Bytes.{put}
 use Rattle.edge_disk.specs.Gate.{IsGateStep}
 use Rattle.edge_disk.proofs.Moments.{reads_have}
+use Rattle.edge_disk.proofs.GateSteps.{step_settled}
 use Rattle.bridge_core.specs.Slot.{Adds}
 use Rattle.bridge_core.proofs.Storing.{full, adds, may_add, closed_behind}
 use Rattle.bridge_core.proofs.store.store_entry.Goals as goal
@@ -35,6 +36,6 @@ returns-clause-torn g c = λ failed tells.
     let group = c.in-Ok.group.items in
     let old = (g.D.Disk.moment c.args.disk.now).reads in
     let long : c.len-need.result ≡ length group = omega (arith, c.len-need.ensures) in
-    let step = reads_have (IsGateStep (12288 + slot.gate) c.deref.result.now old) _ _ (g.met.D.Disk.lawful c.write_behind.new.disk tells) (c.write_behind.ensures.any_moment tells) in
+    let step = reads_have (IsGateStep (12288 + slot.gate) c.deref.result.now old) _ _ (g.met.D.Disk.lawful c.write_behind.new.disk tells) (step_settled _ _ _ _ (c.requires.settled tells) (c.write_behind.ensures.any_moment tells)) in
     may_add c.args.entry.now slot group old c.requires.entry c.in-Ok.ensures (omega (arith, long, c.if-need-slot.false)) c.requires.placed.gate c.requires.placed.small _
     (subst (λ (l : List ℕ). IsGateStep (12288 + slot.gate) l old (g.D.Disk.moment c.write_behind.new.disk).reads) c.deref.ensures.value step)
