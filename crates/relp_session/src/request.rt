@@ -1,6 +1,7 @@
 //! What a frame asks for.
-ghost use Rattle.std.specs.Prelude.{◌≡◌, ◌↔◌, IsTrue, codes};
-ghost use Rattle.relp_session.specs.Request.{Asks, speaks};
+ghost use Rattle.std.specs.Prelude.{◌≡◌, find, codes};
+ghost use Rattle.std.specs.Option.{option_map};
+ghost use Rattle.relp_session.specs.Request.{Asks, lines, speaks, states_version};
 
 use relp_frame::Frame;
 
@@ -19,22 +20,30 @@ pub enum Request {
     Other,
 }
 
+// The first line of an offer that states a version.
+fn version_line(offer: &[u8]) -> Option<&[u8]>
+    ensures { option_map (λ line. line.now) result ≡ find states_version (lines offer.now) }
+{
+    offer
+        .split(|byte| *byte == b'\n')
+        .find(|line| line.starts_with(b"relp_version="))
+}
+
 // Whether an offer states no version, or states 0 first.
 fn speaks(offer: &[u8]) -> bool
     ensures { result ≡ speaks offer.now }
 {
-    for line in offer.split(|byte| *byte == b'\n') {
-        if line.starts_with(b"relp_version=") {
-            return line == b"relp_version=0".as_slice();
-        }
+    match version_line(offer) {
+        Some(line) => line == b"relp_version=0".as_slice(),
+        None => true,
     }
-    true
 }
 
-fn opening(offer: &[u8]) -> Request
-    ensures { (f : Frame) → f.command ≡ codes "open" → f.body ≡ offer.now → Asks f result }
+fn opening(frame: &Frame) -> Request
+    requires { frame.now.command ≡ codes "open" }
+    ensures { Asks frame.now result }
 {
-    if speaks(offer) {
+    if speaks(frame.body.bytes()) {
         Request::Open
     } else {
         Request::OpenOther
@@ -47,7 +56,7 @@ pub fn request_of(frame: &Frame) -> Request
 {
     let command = frame.command.bytes();
     if command == b"open".as_slice() {
-        opening(frame.body.bytes())
+        opening(frame)
     } else if command == b"syslog".as_slice() {
         Request::Syslog
     } else if command == b"close".as_slice() {
