@@ -21,10 +21,9 @@ pub fn closing_reply(alloc: Global, txnr: u32) -> Result<Blob, AllocError>
     ensures value { IfOk result (λ answer. answer ≡ reply txnr [] ++ hint) }
     ensures bytes { IfOk result (λ answer. 0 < length answer) }
 {
-    let mut out = Vec::new(alloc);
-    write_parts(alloc, txnr, b"rsp", b"", &mut out)?;
-    write_parts(alloc, 0, b"serverclose", b"", &mut out)?;
-    Ok(Blob::of(out))
+    let mut text = reply(alloc, txnr, b"")?.into_vec();
+    text.extend_from_slice(closing_hint(alloc)?.bytes())?;
+    Ok(Blob::of(text))
 }
 
 /// The answer to the `syslog` of that transaction number, once its event is durable: `TXNR rsp 6
