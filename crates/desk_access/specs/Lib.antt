@@ -1,0 +1,5 @@
+pub mod Call
+pub mod Desk
+pub mod Batch
+pub mod History
+pub mod Alone
