@@ -1,9 +1,10 @@
 -- A desk with one caller.
-use Rattle.std.specs.Prelude.{◌≡◌, ℕ, ◌≤◌, List, []}
+use Rattle.std.specs.Prelude.{◌≡◌, ℕ, ◌≤◌, Bool, List, []}
 use Rattle.foundation.specs.Faults.{Rose}
 use Rattle.spool_state.specs.SpoolState.{SpoolState, end}
-use Rattle.edge_disk.specs.Disk.{LeavesOnly}
-use Rattle.spool_log.specs.State.{View, IsIn}
+use Rattle.edge_disk.specs.Disk.{Moment, LeavesOnly}
+use Rattle.spool_log.specs.declared.known.Known.{Known}
+use Rattle.spool_log.specs.State.{View, view, IsIn}
 use Rattle.desk_access.specs.Call.{Call, Record, records_by, failures_of}
 use Rattle.desk_access.specs.Desk.{DeskState, desk_of, Goes, Stood}
 use Rattle.desk_access.specs.History.{IsDesk}
@@ -16,6 +17,9 @@ pub record AloneView : Type 1 where
 
 abbrev pub alone_view : View → ℕ → ℕ → AloneView
 alone_view spool end_known cursor_known = record { spool = spool; end_known = end_known; cursor_known = cursor_known }
+
+abbrev pub alone_at : Known → Bool → Moment → ℕ → ℕ → AloneView
+alone_at known in_doubt moment end_known cursor_known = alone_view (view known in_doubt moment) end_known cursor_known
 
 -- The desk is in this state.
 pub record IsAt (x : DeskState) (v : AloneView) : Type 0 where

@@ -2,6 +2,7 @@
 use Rattle.std.specs.Prelude.{◌≡◌, ◌⊎◌, ℕ, ◌+◌, ◌-◌, ◌<◌, ◌≤◌, List, [], ◌∷◌, ◌++◌, length, take, drop, All, Result, Ok, Err}
 use Rattle.event_form.specs.declared.event.Entry.{Entry}
 use Rattle.spool_state.specs.SpoolState.{SpoolState, list, base, end, entry_at, Follows, IsSound}
+use Rattle.spool_state.specs.Image.{StandsFor}
 use Rattle.spool_log.specs.declared.fault.Receipt.{Receipt}
 use Rattle.spool_log.specs.declared.fault.TakeFault.{TakeFault}
 use Rattle.spool_log.specs.declared.fault.TakeFault.TheVariants.{TooLarge, Spent, Full, NotSpool, NoMemory, DiskFault}
@@ -65,3 +66,30 @@ IsKept s number entry = (number < s.cursor) ⊎ (entry_at s number ≡ entry)
 -- the whole group, with numbers from the first on
 abbrev pub AreKept : SpoolState → ℕ → List Entry → Type 0
 AreKept s first group = (k : ℕ) → k < length group → IsKept s (first + k) (take 1 (drop k group))
+
+-- the group that a call asked to take
+abbrev pub asked_by : Call → List Entry
+asked_by (takes group result) = group
+asked_by (pends from most result) = []
+asked_by (confirms upto result) = []
+
+abbrev pub asked_first : List Record → List Entry
+asked_first [] = []
+asked_first (one ∷ records) = asked_by one.call
+
+-- At a moment of the calls these bytes stood for a later state. Its list grew by what the first of the calls had added,
+-- and perhaps by the group of the call that came next, whole.
+pub record Was (x : DeskState) (records : List Record) (c : List ℕ) : Type 0 where
+  pub state : SpoolState
+  pub stands : StandsFor state c
+  pub later : IsLater x.spool state
+  pub first : List Record
+  pub rest : List Record
+  pub parts : records ≡ first ++ rest
+  pub mended : SpoolState
+  pub one : IsOneOf x.spool x.doubt mended
+  pub more : List Entry
+  pub adds : AddsAll first more
+  pub next : List Entry
+  pub whole : (next ≡ []) ⊎ (next ≡ asked_first rest)
+  pub grown : Grown mended (more ++ next) state

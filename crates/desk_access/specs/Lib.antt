@@ -3,3 +3,4 @@ pub mod Desk
 pub mod Batch
 pub mod History
 pub mod Alone
+pub mod Journal

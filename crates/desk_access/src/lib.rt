@@ -8,5 +8,9 @@
 #![tactic(auto)]
 
 mod access;
+mod alone;
+mod desk;
 
 pub use access::Access;
+pub use alone::Alone;
+pub use desk::Desk;

@@ -1,0 +1,5 @@
+pub mod Growth
+pub mod Stages
+pub mod Steps
+pub mod Lasting
+pub mod Leading
