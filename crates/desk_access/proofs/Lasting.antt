@@ -8,10 +8,11 @@ use Rattle.spool_state.specs.SpoolState.{SpoolState, base, end, entry_at, Follow
 use Rattle.spool_state.specs.Image.{StandsFor}
 use Rattle.spool_log.specs.declared.fault.Receipt.{Receipt}
 use Rattle.spool_log.specs.Stages.{IsOneOf, StandsForOne, AllFollow, adding, confirming, last_of}
-use Rattle.desk_access.specs.Call.{Call, takes, pends, confirms, Record}
+use Rattle.spool_log.specs.State.{View, IsIn}
+use Rattle.desk_access.specs.Call.{Call, takes, pends, confirms, Record, records_by, calls_of}
 use Rattle.desk_access.specs.Desk.{DeskState, desk_of, Allowed, Goes, changing, StandsWithin, Stood}
-use Rattle.desk_access.specs.History.{IsLater, IsDesk, Grown, Adds, AddsAll, Grows, IsKept, AreKept, asked_by, Was}
-use Rattle.desk_access.specs.Journal.{goes_parts}
+use Rattle.desk_access.specs.History.{IsLater, IsDesk, Grown, Adds, AddsAll, Grows, IsKept, AreKept, IsCallKept, AllKept, asked_by, Was}
+use Rattle.desk_access.specs.Alone.{AloneView, alone_view, IsAt, LeadsFrom}
 use Rattle.desk_access.proofs.Growth.{grown_self, grown_then, grown_end, grown_entry}
 use Rattle.desk_access.proofs.Stages.{IsStage, AreStages, later_self, later_then, none_of, one_in, no_stages, adding_stages, confirming_stages, confirming_follow}
 use Rattle.spool_log.proofs.Adding.{adding_follow}
@@ -96,13 +97,26 @@ module _ (x w y : DeskState) (group : List Entry) (receipt : Receipt) (after : L
       λ k lt. subst (λ (n : ℕ). IsKept t (n + k) (take 1 (drop k group))) (sym there.1)
       (kept_later w.spool t (end m + k) (take 1 (drop k group)) later (omega (arith, lt, grown_end m w.spool group grown)) (λ ge. grown_entry m w.spool group k grown ge))
 
--- Each entry of a group that was taken among the calls stands at its number, or is confirmed, in each state behind them.
-pub took_kept : (x y : DeskState) (before after : List Record) (by : ℕ) (group : List Entry) (receipt : Receipt) (t : SpoolState) → IsDesk x → Goes x (before ++ record { by = by; call = takes group (Ok receipt) } ∷ after) y
-    → IsOneOf y.spool y.doubt t → AreKept t receipt.first group
-took_kept x y before after by group receipt t rules goes one =
-    let parts = goes_parts x y before (record { by = by; call = takes group (Ok receipt) } ∷ after) goes in
-    let met = goes_later x parts.0 before rules parts.1 in
-    λ k lt. kept_there parts.0 parts.2.0 y group receipt after t met.0 parts.2.1 parts.2.2 one (omega arith) k lt
+call_kept : (x w y : DeskState) (call : Call) (after : List Record) (t : SpoolState) → IsDesk x → Allowed x call w → Goes w after y → IsOneOf y.spool y.doubt t → IsCallKept t call
+call_kept x w y (takes group (Ok receipt)) after t rules allowed goes one = λ k lt. kept_there x w y group receipt after t rules allowed goes one (omega arith) k lt
+call_kept x w y (takes group (Err fault)) after t rules allowed goes one = tt
+call_kept x w y (pends from most result) after t rules allowed goes one = tt
+call_kept x w y (confirms upto result) after t rules allowed goes one = tt
+
+-- Each entry of each group that was taken stands at its number, or is confirmed, in each state behind the calls.
+pub goes_kept : (x y : DeskState) (records : List Record) (t : SpoolState) → IsDesk x → Goes x records y → IsOneOf y.spool y.doubt t → AllKept t (calls_of records)
+goes_kept x y [] t rules goes one = tt
+goes_kept x y (first ∷ records) t rules goes one =
+    let met = allowed_later x goes.0 first.call rules goes.1 in
+    (call_kept x goes.0 y first.call records t rules goes.1 goes.2 one, goes_kept goes.0 y records t met.0 goes.2 one)
+
+pub kept_parts : (t : SpoolState) (calls more : List Call) → AllKept t (calls ++ more) → AllKept t calls × AllKept t more
+kept_parts t [] more all = (tt, all)
+kept_parts t (call ∷ calls) more all = let rest = kept_parts t calls more all.1 in ((all.0, rest.0), rest.1)
+
+calls_by : (number : ℕ) (calls : List Call) → calls_of (records_by number calls) ≡ calls
+calls_by number [] = refl
+calls_by number (call ∷ calls) = ap (λ (l : List Call). call ∷ l) (calls_by number calls)
 
 -- ---- what a crash leaves
 
@@ -176,3 +190,24 @@ stood_was x records c rules h = subst (λ (l : List Record). Was x l c) (sym h.p
   | inl here ↦ was_there x h.met h.first h.rest c rules h.goes here
   | inr within ↦ was_within x h.met h.first h.rest c rules h.goes within
 ])
+
+-- Behind the calls of a desk with one caller, whatever a crash leaves stands for a later state, which has all groups that were taken.
+pub image_kept : (x : DeskState) (old new : AloneView) (calls : List Call) → IsAt x old → LeadsFrom x old calls new → (c : List ℕ) → new.spool.moment.image c
+    → (t : SpoolState) × StandsFor t c × IsLater x.spool t × AllKept t calls × Grows x (records_by 0 calls) t
+image_kept x old new calls at leads c image =
+    let records = records_by 0 calls in
+    let one = which_one leads.after.spool leads.after.doubt c (leads.reached.spool.each c image) in (
+      one.0,
+      one.2,
+      all_later x leads.after records one.0 at.rules leads.goes one.1,
+      subst (AllKept one.0) (calls_by 0 calls) (goes_kept x leads.after records one.0 at.rules leads.goes one.1),
+      goes_grows x leads.after records one.0 at.rules leads.goes one.1,
+    )
+
+-- And so at each moment of the calls it was a later one, with what the first of them had added.
+pub image_was : (x : DeskState) (old new : AloneView) (calls : List Call) → IsAt x old → LeadsFrom x old calls new → (c : List ℕ) → new.spool.moment.image_since old.spool.moment.clock c → Was x (records_by 0 calls) c
+image_was x old new calls at leads c since = stood_was x (records_by 0 calls) c at.rules (leads.any_moment.each c since)
+
+-- A desk is in the state that its spool is in.
+pub at_of : (s : SpoolState) (v : View) → IsIn s [] v → IsAt (desk_of s []) (alone_view v 0 0)
+at_of s v held = record { rules = record { sound = held.sound; later = none_of (IsLater s) }; spool = held; end_known = omega arith; cursor_known = omega arith }

@@ -3,3 +3,4 @@ pub mod Stages
 pub mod Steps
 pub mod Lasting
 pub mod Leading
+pub mod Taking

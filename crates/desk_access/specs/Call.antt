@@ -33,6 +33,11 @@ abbrev pub own_of : ℕ → List Record → List Call
 own_of number [] = []
 own_of number (one ∷ records) = if one.by == number then one.call ∷ own_of number records else own_of number records
 
+-- all calls of the records, in order
+abbrev pub calls_of : List Record → List Call
+calls_of [] = []
+calls_of (one ∷ records) = one.call ∷ calls_of records
+
 -- an answer with the list of what was read
 abbrev pub listed : Result (Vec Entry) PendFault → Result (List Entry) PendFault
 listed (Ok entries) = Ok entries.items

@@ -67,6 +67,18 @@ IsKept s number entry = (number < s.cursor) ⊎ (entry_at s number ≡ entry)
 abbrev pub AreKept : SpoolState → ℕ → List Entry → Type 0
 AreKept s first group = (k : ℕ) → k < length group → IsKept s (first + k) (take 1 (drop k group))
 
+-- a call's group is kept, where it was taken
+abbrev pub IsCallKept : SpoolState → Call → Type 0
+IsCallKept s (takes group (Ok receipt)) = AreKept s receipt.first group
+IsCallKept s (takes group (Err fault)) = Unit {0}
+IsCallKept s (pends from most result) = Unit {0}
+IsCallKept s (confirms upto result) = Unit {0}
+
+-- each group that was taken
+abbrev pub AllKept : SpoolState → List Call → Type 0
+AllKept s [] = Unit {0}
+AllKept s (call ∷ calls) = IsCallKept s call × AllKept s calls
+
 -- the group that a call asked to take
 abbrev pub asked_by : Call → List Entry
 asked_by (takes group result) = group
