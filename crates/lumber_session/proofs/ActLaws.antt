@@ -1,5 +1,5 @@
 -- The acts for a list of frames make its batches; and any list is cut in some way.
-use Rattle.std.proofs.Common.{◌≡◌, ℕ, ◌+◌, ◌-◌, ◌<◌, ◌≤◌, ◌⊎◌, ◌↔◌, inl, inr, ◌∙◌, Bool, true, false, List, [], ◌∷◌, ◌++◌, map, length, refl, sym, ap, subst, arith, append_assoc}
+use Rattle.std.proofs.Common.{◌≡◌, ℕ, ◌-◌, ◌<◌, ◌≤◌, ◌⊎◌, ◌↔◌, inl, inr, ◌∙◌, Bool, true, false, List, [], ◌∷◌, ◌++◌, map, length, refl, sym, ap, subst, arith, append_assoc}
 use Rattle.std.specs.Prelude.{IsTrue}
 use Rattle.std.proofs.lemmas.List.{append-nil}
 use Rattle.std.proofs.lemmas.List.Elements.{All-nil}
@@ -9,7 +9,7 @@ use Rattle.lumber_frame.specs.declared.frame.LumberFrame.TheVariants.{Window, Pa
 use Rattle.lumber_session.specs.declared.act.LumberAct.{LumberAct}
 use Rattle.lumber_session.specs.Staged.{Staged, staged_by, staged, bytes_of}
 use Rattle.lumber_session.specs.Windows.{BeginsNone, NextCompletes, HasLeft}
-use Rattle.lumber_session.specs.Batches.{AreEnough, EndsData, Ends, IsCut, SomeCut}
+use Rattle.lumber_session.specs.Batches.{EndsData, Ends, IsCut, SomeCut}
 use Rattle.lumber_session.specs.Acts.{Tells, AreTold, Batch, batch_of, act_of, stored, waiting, ActsMakeBatches}
 use Rattle.lumber_session.proofs.WindowLaws.{staged_push, completes, completes_only, left_on, left_new}
 use Rattle.lumber_session.proofs.CutLaws.{nowhere_none, cut_whole, cut_on, cut_end, one_cut}
@@ -164,8 +164,8 @@ known_next frames f k =
     let w = cut_whole [] frames k.batches k.rest k.cut in
     let l = known_left frames k.left f k.has_left in
     elim (decide_ends w.0 k.rest f k.left (subst (λ v. HasLeft v k.left) w.1 k.has_left)) [
-      inl i ↦ record { batches = k.batches ++ (k.rest ++ f ∷ []) ∷ []; rest = []; cut = cut_end [] frames k.batches k.rest w.0 f k.cut w.1 i; left = l.0; has_left = l.1 }
-    | inr n ↦ record { batches = k.batches; rest = k.rest ++ f ∷ []; cut = cut_on [] frames k.batches k.rest w.0 f k.cut w.1 n; left = l.0; has_left = l.1 }
+      | inl i ↦ record { batches = k.batches ++ (k.rest ++ f ∷ []) ∷ []; rest = []; cut = cut_end [] frames k.batches k.rest w.0 f k.cut w.1 i; left = l.0; has_left = l.1 }
+      | inr n ↦ record { batches = k.batches; rest = k.rest ++ f ∷ []; cut = cut_on [] frames k.batches k.rest w.0 f k.cut w.1 n; left = l.0; has_left = l.1 }
     ]
 
 known : (frames more : List LumberFrame) → Known frames → Known (frames ++ more)

@@ -1,16 +1,16 @@
 -- What a core tells of a frame, and what it counts behind it.
-use Rattle.std.proofs.Common.{◌≡◌, ℕ, zero, suc, ◌+◌, ◌-◌, ◌<◌, ◌≤◌, ◌⊎◌, ◌↔◌, inl, inr, ◌∙◌, Bool, true, false, List, [], ◌∷◌, ◌++◌, length, refl, sym, ap, subst, arith, length-append}
-use Rattle.std.specs.Prelude.{IsTrue, sum_by}
+use Rattle.std.proofs.Common.{◌≡◌, ℕ, zero, suc, ◌+◌, ◌-◌, ◌↔◌, inl, inr, ◌∙◌, Bool, true, false, List, [], ◌∷◌, ◌++◌, length, refl, sym, ap, subst, arith, length-append}
+use Rattle.std.specs.Prelude.{IsTrue}
 use Rattle.std.proofs.lemmas.List.{append-nil}
 use Rattle.std.proofs.lemmas.List.Elements.{All-nil}
 use Rattle.std.proofs.lemmas.List.Sums.{sum_by_push}
 use Rattle.std.proofs.lemmas.Bool.{false≢true}
 use Rattle.lumber_frame.specs.declared.frame.LumberFrame.{LumberFrame}
-use Rattle.lumber_frame.specs.declared.frame.LumberFrame.TheVariants.{Window, Pairs, Json, Ack}
+use Rattle.lumber_frame.specs.declared.frame.LumberFrame.TheVariants.{Window, Pairs, Json}
 use Rattle.lumber_session.specs.Staged.{Staged, data_event, json_event, staged_by, staged, bytes_of}
 use Rattle.lumber_session.specs.Windows.{BeginsNone, NextCompletes, HasLeft}
-use Rattle.lumber_session.specs.Batches.{Ends, EndsData, IsCut}
-use Rattle.lumber_session.specs.Counting.{Core, unused, emptied, CountsFor, IsBehind, Opened, Counted}
+use Rattle.lumber_session.specs.Batches.{Ends, EndsData}
+use Rattle.lumber_session.specs.Counting.{Core, unused, CountsFor, IsBehind, Opened, Counted}
 use Rattle.lumber_session.specs.Acts.{Tells, act_of}
 use Rattle.lumber_session.proofs.WindowLaws.{staged_push, completes, completes_only, left_on, left_new}
 use Rattle.lumber_session.proofs.CutLaws.{nowhere_none, cut_whole, cut_on, cut_end}
@@ -115,17 +115,17 @@ data_next frames old new f s ends b due d c =
       whole = w.1;
       exactly = (
         λ t. d.ends w.0 b.rest (elim (c.exactly.0 t) [
-          inl h ↦ inl (subst NextCompletes w.1 (completes frames old.left b.left h))
-        | inr h ↦ inr (elim h [
-            inl g ↦ inl (omega (arith, g, k.frames, c.frames))
-          | inr g ↦ inr (omega (arith, g, k.bytes, c.bytes))
+          | inl h ↦ inl (subst NextCompletes w.1 (completes frames old.left b.left h))
+          | inr h ↦ inr (elim h [
+            | inl g ↦ inl (omega (arith, g, k.frames, c.frames))
+            | inr g ↦ inr (omega (arith, g, k.bytes, c.bytes))
           ])
         ]),
         λ i. c.exactly.1 (elim (d.ends_only w.0 b.rest i) [
-          inl h ↦ inl (completes_only frames old.left b.left (subst NextCompletes (sym w.1) h))
-        | inr h ↦ inr (elim h [
-            inl g ↦ inl (omega (arith, g, k.frames, c.frames))
-          | inr g ↦ inr (omega (arith, g, k.bytes, c.bytes))
+          | inl h ↦ inl (completes_only frames old.left b.left (subst NextCompletes (sym w.1) h))
+          | inr h ↦ inr (elim h [
+            | inl g ↦ inl (omega (arith, g, k.frames, c.frames))
+            | inr g ↦ inr (omega (arith, g, k.bytes, c.bytes))
           ])
         ]),
       );

@@ -1,14 +1,13 @@
 -- How frames are cut into batches.
-use Rattle.std.proofs.Common.{◌≡◌, ℕ, ◌+◌, ◌<◌, ◌≤◌, ◌⊎◌, inl, inr, ◌∙◌, List, [], ◌∷◌, ◌++◌, length, refl, sym, ap, subst, arith, append_assoc, length-append}
+use Rattle.std.proofs.Common.{◌≡◌, ◌+◌, ◌<◌, ◌≤◌, inl, inr, ◌∙◌, List, [], ◌∷◌, ◌++◌, length, refl, sym, ap, subst, arith, append_assoc, length-append}
 use Rattle.std.specs.List.{All}
-use Rattle.std.proofs.lemmas.List.{append-nil, append_cancel_left, append_cancel_right}
+use Rattle.std.proofs.lemmas.List.{append-nil, append_cancel_right}
 use Rattle.std.proofs.lemmas.List.Elements.{All-nil, All-cons}
-use Rattle.std.proofs.lemmas.List.Sums.{sum_by-append}
 use Rattle.lumber_frame.specs.declared.frame.LumberFrame.{LumberFrame}
 use Rattle.lumber_frame.specs.declared.frame.LumberFrame.TheVariants.{Window, Pairs, Json, Ack}
 use Rattle.lumber_session.specs.Staged.{Staged, staged_by, staged, bytes_of}
-use Rattle.lumber_session.specs.Batches.{AreEnough, EndsData, Ends, EndsNowhere, IsBatch, AreBatches, IsCut, OneCut, HasEvents, BatchSizes}
-use Rattle.lumber_session.proofs.ListLaws.{TwoCuts, Same, Later, Earlier, two_cuts, not_empty}
+use Rattle.lumber_session.specs.Batches.{AreEnough, Ends, EndsNowhere, IsBatch, AreBatches, OneCut, HasEvents, BatchSizes}
+use Rattle.lumber_session.proofs.ListLaws.{Same, Later, Earlier, two_cuts, not_empty}
 use Rattle.lumber_session.proofs.WindowLaws.{staged_push}
 
 pub nowhere_none : (before : List LumberFrame) → EndsNowhere before []
@@ -18,9 +17,9 @@ nowhere_none before x f m e i = not_empty x f m e
 pub nowhere_on : (before rest : List LumberFrame) (f : LumberFrame) → EndsNowhere before rest → ¬ Ends before rest f → EndsNowhere before (rest ++ f ∷ [])
 nowhere_on before rest f nowhere n x g m e i =
     elim (two_cuts rest f [] x g m e) [
-      Same p q r ↦ n (subst (λ v. Ends before rest v) (sym q) (subst (λ v. Ends before v g) (sym p) i))
-    | Later z p q ↦ nowhere x g z p i
-    | Earlier z p q ↦ not_empty z g m q
+      | Same p q r ↦ n (subst (λ v. Ends before rest v) (sym q) (subst (λ v. Ends before v g) (sym p) i))
+      | Later z p q ↦ nowhere x g z p i
+      | Earlier z p q ↦ not_empty z g m q
     ]
 
 -- what stands before the rest
@@ -65,9 +64,9 @@ same_batch before b c m n i j e =
     let p : b ++ m ≡ i.front ++ i.last ∷ m = ap (λ v. v ++ m) i.whole ∙ append_assoc i.front (i.last ∷ []) m in
     let q : c ++ n ≡ j.front ++ j.last ∷ n = ap (λ v. v ++ n) j.whole ∙ append_assoc j.front (j.last ∷ []) n in
     elim (two_cuts i.front i.last m j.front j.last n (sym p ∙ e ∙ q)) [
-      Same x y z ↦ let u : b ≡ c = i.whole ∙ ap (λ v. v ++ i.last ∷ []) x ∙ ap (λ v. j.front ++ v ∷ []) y ∙ sym j.whole in (u, z)
-    | Later z x y ↦ absurd (i.open_before j.front j.last z x j.ends)
-    | Earlier z x y ↦ absurd (j.open_before i.front i.last z x i.ends)
+      | Same x y z ↦ let u : b ≡ c = i.whole ∙ ap (λ v. v ++ i.last ∷ []) x ∙ ap (λ v. j.front ++ v ∷ []) y ∙ sym j.whole in (u, z)
+      | Later z x y ↦ absurd (i.open_before j.front j.last z x j.ends)
+      | Earlier z x y ↦ absurd (j.open_before i.front i.last z x i.ends)
     ]
 
 batches_once : (before frames : List LumberFrame) (bs cs : List (List LumberFrame)) (r s : List LumberFrame) → AreBatches before frames bs r → AreBatches before frames cs s → (bs ≡ cs) × (r ≡ s)

@@ -1,5 +1,5 @@
 -- A list that is cut at two elements.
-use Rattle.std.proofs.Common.{◌≡◌, ℕ, ◌+◌, ◌≤◌, List, [], ◌∷◌, ◌++◌, length, refl, ap, arith, length-append}
+use Rattle.std.proofs.Common.{◌≡◌, List, [], ◌∷◌, ◌++◌, length, refl, ap, arith, length-append}
 use Rattle.std.specs.List.{All}
 use Rattle.std.proofs.lemmas.List.Elements.{All-head, All-tail}
 
@@ -31,9 +31,9 @@ two_cuts (a ∷ x) f m (b ∷ y) g n e =
     let h : a ≡ b = cons_head a b (x ++ f ∷ m) (y ++ g ∷ n) e in
     let t : x ++ f ∷ m ≡ y ++ g ∷ n = cons_tail a b (x ++ f ∷ m) (y ++ g ∷ n) e in
     elim (two_cuts x f m y g n t) [
-      Same p q r ↦ Same (cons_both a b x y h p) q r
-    | Later z p q ↦ Later z (cons_both a b x (y ++ g ∷ z) h p) q
-    | Earlier z p q ↦ let k : b ≡ a = cc in Earlier z (cons_both b a y (x ++ f ∷ z) k p) q
+      | Same p q r ↦ Same (cons_both a b x y h p) q r
+      | Later z p q ↦ Later z (cons_both a b x (y ++ g ∷ z) h p) q
+      | Earlier z p q ↦ let k : b ≡ a = cc in Earlier z (cons_both b a y (x ++ f ∷ z) k p) q
     ]
 
 -- what holds of all elements holds of the one at a cut

@@ -1,13 +1,13 @@
 -- What is to come in a window.
-use Rattle.std.proofs.Common.{◌≡◌, ℕ, ◌+◌, ◌-◌, ◌<◌, ◌≤◌, ◌⊎◌, inl, inr, ◌∙◌, List, [], ◌∷◌, ◌++◌, length, refl, sym, ap, subst, arith, append_assoc, length-append}
+use Rattle.std.proofs.Common.{◌≡◌, ℕ, ◌+◌, ◌-◌, ◌<◌, ◌≤◌, inl, inr, ◌∙◌, List, [], ◌∷◌, ◌++◌, length, refl, sym, ap, subst, arith, append_assoc, length-append}
 use Rattle.std.specs.List.{All}
 use Rattle.std.proofs.lemmas.List.{append-nil}
 use Rattle.std.proofs.lemmas.List.Elements.{All-nil, All-push}
 use Rattle.lumber_frame.specs.declared.frame.LumberFrame.{LumberFrame}
 use Rattle.lumber_frame.specs.declared.frame.LumberFrame.TheVariants.{Window}
-use Rattle.lumber_session.specs.Staged.{Staged, staged_by, staged}
+use Rattle.lumber_session.specs.Staged.{staged_by, staged}
 use Rattle.lumber_session.specs.Windows.{BeginsNone, HasWindow, NextCompletes, HasLeft}
-use Rattle.lumber_session.proofs.ListLaws.{TwoCuts, Same, Later, Earlier, two_cuts, all_at}
+use Rattle.lumber_session.proofs.ListLaws.{Same, Later, Earlier, two_cuts, all_at}
 
 pub staged-append : (a b : List LumberFrame) → staged (a ++ b) ≡ staged a ++ staged b
 staged-append [] b = refl
@@ -29,9 +29,9 @@ size_of_window a b e = cc
 window_once : (frames : List LumberFrame) (a b : ℕ) (x y : List LumberFrame) → HasWindow frames a x → HasWindow frames b y → (a ≡ b) × (x ≡ y)
 window_once frames a b x y v w =
     elim (two_cuts v.earlier (Window a) x w.earlier (Window b) y (sym v.whole ∙ w.whole)) [
-      Same p q r ↦ (size_of_window a b q, r)
-    | Later z p q ↦ let n : a ≡ 0 = all_at BeginsNone z (Window a) x (subst (All BeginsNone) q w.last) in absurd (omega (arith, n, v.above))
-    | Earlier z p q ↦ let n : b ≡ 0 = all_at BeginsNone z (Window b) y (subst (All BeginsNone) q v.last) in absurd (omega (arith, n, w.above))
+      | Same p q r ↦ (size_of_window a b q, r)
+      | Later z p q ↦ let n : a ≡ 0 = all_at BeginsNone z (Window a) x (subst (All BeginsNone) q w.last) in absurd (omega (arith, n, v.above))
+      | Earlier z p q ↦ let n : b ≡ 0 = all_at BeginsNone z (Window b) y (subst (All BeginsNone) q v.last) in absurd (omega (arith, n, w.above))
     ]
 
 -- with at most one frame to come the next one completes its window

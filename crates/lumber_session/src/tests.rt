@@ -28,7 +28,7 @@ fn letter(origin: Origin, commit: bool) -> u8 {
 }
 
 /// Steps a core over the frames of a stream, and does what it tells.
-fn heard(alloc: Global, stream: &[u8]) -> Result<Heard, AllocError>
+fn listen(alloc: Global, stream: &[u8]) -> Result<Heard, AllocError>
     requires { length stream.now ≤ 2 ^ 30 }
 {
     let mut reader = LumberReader::new(alloc, Side::Receiver);
@@ -150,7 +150,7 @@ fn connections(rt: HostRuntime) -> Result<(), AllocError> {
     ];
     for (stream, acts, texts, acks) in rows {
         assert!(rt; stream.len() <= 100);
-        let got = heard(rt.alloc(), stream)?;
+        let got = listen(rt.alloc(), stream)?;
         assert_eq!(rt; got.acts.as_slice(), acts.as_bytes(), "{stream:?}");
         assert_eq!(rt; got.texts.as_slice(), texts, "{stream:?}");
         assert_eq!(rt; got.acks.as_slice(), acks, "{stream:?}");
@@ -187,7 +187,7 @@ fn large_windows(rt: HostRuntime) -> Result<(), AllocError> {
     for (frames, len, want) in rows {
         let stream = window(rt.alloc(), frames, len)?;
         assert!(rt; stream.len() <= 1_000_000);
-        let got = heard(rt.alloc(), &stream)?;
+        let got = listen(rt.alloc(), &stream)?;
         let mut acks = Vec::new(rt.alloc());
         for seq in want {
             acks.extend_from_slice(&ack_for(*seq))?;

@@ -1,9 +1,7 @@
 -- A frame's act, and what is counted behind it.
-use Rattle.std.proofs.Common.{◌≡◌, List, false, true, sym, subst}
-use Rattle.lumber_frame.specs.declared.frame.LumberFrame.{LumberFrame}
+use Rattle.std.proofs.Common.{false, true, sym, subst}
 use Rattle.lumber_frame.specs.declared.frame.LumberFrame.TheVariants.{Window, Pairs, Json}
 use Rattle.lumber_session.specs.Acts.{Tells}
-use Rattle.lumber_session.specs.Staged.{data_event, json_event}
 use Rattle.lumber_session.proofs.CountLaws.{tells_next, window_next, window_behind, pairs_data, json_data, data_next, data_behind}
 use Rattle.lumber_session.proofs.lumber_core.LumberCore.step.Goals as goal
 
