@@ -103,6 +103,7 @@ fn within(bounds: Range, byte: u8) -> bool
 
 /// One byte more, if it belongs to the token.
 #[tactic(auto, unfolding(crate::specs::Machine::next))]
+#[inline(always)]
 pub(crate) fn next_token(token: Token, byte: u8) -> Option<Token>
     ensures { token_option result ≡ next (token_of token) byte }
 {
