@@ -70,10 +70,10 @@ const CHANGES: [Change<'static>; 5] = [
     },
     Change {
         before: &[Step::One(2000), Step::One(2003), Step::Confirm(1)],
-        step: Step::One(2000),
+        step: Step::One(2001),
         calls: 10,
         old: (1, 2, &[2003]),
-        new: (1, 3, &[2003, 2000]),
+        new: (1, 3, &[2003, 2001]),
     },
     // The other cell is closed, and open.
     Change {
