@@ -2,10 +2,12 @@
 ghost use Rattle.std.specs.Prelude.{◌≤◌, IfOk};
 ghost use Rattle.event_form.specs.Entry.{IsEntry};
 
+use crate::device_tests::overwrite;
 use crate::{ConfirmFault, Opening, Receipt, Spool, TakeFault, format};
-use edge_disk::MemDisk;
+use edge_disk::{Crash, MemDisk};
 use event_form::{Blob, Entry, Event, Origin};
 use std::alloc::{AllocError, Global};
+use std::process::Abort;
 use std::test::Fail;
 
 // A call of a spool. A group has one or two RELP events of so many bytes.
@@ -130,4 +132,53 @@ pub(crate) fn calls_to_open(alloc: Global, bytes: &[u8]) -> Result<u64, Fail> {
         }
     }
     Err("no spool".into())
+}
+
+// Calls of a spool on a device of so many slots with these pieces over it. One of the calls of the disk
+// behind its opening may fail.
+#[derive(Clone, Copy)]
+pub(crate) struct Case<'a> {
+    pub slots: u32,
+    pub pieces: &'a [(usize, &'a [u8])],
+    pub failing: u64,
+    pub steps: &'a [Step],
+    pub answers: &'a [Answer],
+    // base, cursor and end
+    pub numbers: (u64, u64, u64),
+    // the lengths of the pending texts
+    pub texts: &'a [usize],
+}
+
+pub(crate) const NEVER: u64 = 1000;
+
+pub(crate) const LOST: Answer = Answer::Refused(TakeFault::DiskFault);
+
+pub(crate) const UNMOVED: Answer = Answer::Unconfirmed(ConfirmFault::DiskFault);
+
+pub(crate) fn check(rt: &impl Abort, alloc: Global, case: &Case) -> Result<(), Fail> {
+    let mut bytes = device(alloc, case.slots, &[])?;
+    for (at, piece) in case.pieces {
+        overwrite(&mut bytes, *at, piece);
+    }
+    let failing = calls_to_open(alloc, &bytes)?.saturating_add(case.failing);
+    let disk = MemDisk::of(bytes, [failing].to_vec(alloc)?);
+    let mut spool = opened(alloc, disk, Opening::Keep)?;
+    for (step, answer) in case.steps.iter().zip(case.answers) {
+        let got = call(alloc, &mut spool, *step)?;
+        assert_eq!(rt; got, *answer);
+        assert_eq!(rt; spool.doubt(), is_disk_fault(got));
+    }
+    let texts = lengths(alloc, &mut spool, 0, 100)?;
+    assert_eq!(rt; texts.as_slice(), case.texts);
+    assert_eq!(rt; (spool.base(), spool.cursor(), spool.end()), case.numbers);
+    // The same is read from the device again.
+    let mut again = opened(alloc, spool.into_disk().crash(Crash::Synced), Opening::Keep)?;
+    let texts = lengths(alloc, &mut again, 0, 100)?;
+    assert_eq!(rt; texts.as_slice(), case.texts);
+    assert_eq!(rt; (again.base(), again.cursor(), again.end()), case.numbers);
+    Ok(())
+}
+
+fn is_disk_fault(answer: Answer) -> bool {
+    answer == LOST || answer == UNMOVED
 }
