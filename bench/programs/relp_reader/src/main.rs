@@ -5,8 +5,7 @@
 ghost use Rattle.std.specs.Prelude.{◌+◌, ◌≤◌, ◌^◌, length};
 
 use anyhow::bail;
-use event_form::FeedFault;
-use relp_frame::{RelpFault, RelpReader};
+use relp_frame::RelpReader;
 use std::alloc::{AllocError, Global};
 use std::hint::black_box;
 use std::num::nearest_usize_to_f64;
