@@ -35,7 +35,7 @@ fn take_both<A: Access>(
     ensures { MatchResult result
         (λ both. A.ran access.old (takes first.now (Ok both.0) ∷ takes second.now (Ok both.1) ∷ []) access.new)
         (λ fault. A.ran access.old (takes first.now (Err fault) ∷ []) access.new
-            ⊎ ((receipt : TheReceipt) × A.ran access.old (takes first.now (Ok receipt) ∷ takes second.now (Err fault) ∷ []) access.new)) }
+        ⊎ ((receipt : TheReceipt) × A.ran access.old (takes first.now (Ok receipt) ∷ takes second.now (Err fault) ∷ []) access.new)) }
 {
     let one = access.take(first)?;
     let two = access.take(second)?;
@@ -48,7 +48,9 @@ fn look_often<A: Access>(access: &mut A, times: u32) -> u32
 {
     let mut found = 0;
     for _ in 0..times {
-        if let Ok(entries) = access.pending(0, 1) && !entries.is_empty() {
+        if let Ok(entries) = access.pending(0, 1)
+            && !entries.is_empty()
+        {
             found += 1;
         }
     }
@@ -179,7 +181,8 @@ fn what_was_taken_stands_whichever_call_fails(rt: HostRuntime) -> Result<(), Fai
                 (Ok(_), Ok(receipt)) => receipt.first == 1 && found == [0, 1, 102, 103],
                 (Ok(_), Err(fault)) => {
                     failed = failed.saturating_add(1);
-                    fault == TakeFault::DiskFault && (found == [0, 101, 102, 103] || found == [0, 1, 102, 103])
+                    fault == TakeFault::DiskFault
+                        && (found == [0, 101, 102, 103] || found == [0, 1, 102, 103])
                 }
                 // The group that failed was found whole, or not at all.
                 (Err(_), Ok(receipt)) => {

@@ -1,9 +1,7 @@
 use Rattle.std.proofs.Common.{[], ◌∷◌}
 use Rattle.std.specs.Prelude.{Ok}
 use Rattle.std.proofs.lemmas.Result.{MatchResult-weaker}
-use Rattle.edge_disk.specs.MemDisk.{mem_moment}
 use Rattle.desk_access.specs.Call.{takes}
-use Rattle.desk_access.specs.Alone.{alone_at}
 use Rattle.desk_access.proofs.Lasting.{image_kept}
 use Rattle.desk_access.proofs.tests.take_both_alone.Goals as goal
 
