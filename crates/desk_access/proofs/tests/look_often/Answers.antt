@@ -1,5 +1,5 @@
-use Rattle.std.proofs.Common.{◌+◌, ◌≤◌, List, [], ◌∷◌, ◌++◌, refl, arith, length-append}
-use Rattle.desk_access.specs.Call.{Call, pends, listed}
+use Rattle.std.proofs.Common.{◌+◌, ◌≤◌, [], ◌∷◌, ◌++◌, refl, arith, length-append}
+use Rattle.desk_access.specs.Call.{pends, listed}
 use Rattle.desk_access.proofs.tests.look_often.Goals as goal
 use Rattle.desk_access.proofs.tests.look_often.Goals.{in-Ok+then-not-is_empty, in_default}
 

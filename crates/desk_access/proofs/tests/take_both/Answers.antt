@@ -1,7 +1,7 @@
-use Rattle.std.proofs.Common.{◌≡◌, ℕ, ◌+◌, List, [], ◌∷◌, length, inr, ap, subst}
+use Rattle.std.proofs.Common.{ℕ, ◌+◌, [], ◌∷◌, length, inr, subst}
 use Rattle.std.specs.Prelude.{Ok}
 use Rattle.std.proofs.lemmas.Result.{err_from_is_err_and}
-use Rattle.desk_access.specs.Call.{takes, taken_of}
+use Rattle.desk_access.specs.Call.{takes}
 use Rattle.desk_access.proofs.Taking.{may_next, took_surely, took_length, took_of_conn}
 use Rattle.desk_access.proofs.tests.take_both.Goals as goal
 
