@@ -21,7 +21,7 @@ unused = record { left = 0; frames = 0; bytes = 0; due = false }
 abbrev pub emptied : Core → Core
 emptied core = record { left = core.left; frames = 0; bytes = 0; due = false }
 
--- A core is fewer frames and bytes than a batch, unless a batch is due.
+-- A core counts less than a batch, unless one is due.
 abbrev pub Keeps : Core → Type 0
 Keeps core = core.due ≡ false → (core.frames < 256) × (core.bytes < 262144)
 

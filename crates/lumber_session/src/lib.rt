@@ -4,7 +4,7 @@
 //! the batch rule is this project's own.
 //!
 //! The one contract is that rule, said of whole lists of frames: they are cut into batches and a rest, in
-//! one way. A core sees one frame at a time and keeps four numbers, and its acts make these batches with
+//! one way. A core sees one frame at a time and keeps three counts, and its acts make these batches with
 //! their acknowledgments, in order.
 #![tactic(auto)]
 
