@@ -1,6 +1,6 @@
 -- What was done for an act.
 use Rattle.std.proofs.Common.{◌≡◌, ◌⊎◌, inl, inr, ℕ, ◌+◌, ◌<◌, List, [], ◌∷◌, ◌++◌, Option, length, take, refl, sym, ◌∙◌, ap, subst, arith}
-use Rattle.std.specs.Prelude.{Result, Ok, Err, IfErr, OnOk}
+use Rattle.std.specs.Prelude.{Result, Ok, Err, IfErr, OnOk, IsErrAnd}
 use Rattle.std.specs.Io.KnownBytes.{Appends}
 use Rattle.edge_io.proofs.Known.{appends_none}
 use Rattle.event_form.specs.declared.talk.Talk.{Talk}
@@ -71,3 +71,7 @@ unsaid ran w w' n conn index act answer text r none is same part =
 pub ok_then : {T E : Type 0} (r : Result T E) (P Q : Type 0) → OnOk r P → (P → Q) → OnOk r Q
 ok_then (Ok x) P Q p f = f p
 ok_then (Err e) P Q p f = tt
+
+pub err_is : {T E : Type 0} (r : Result T E) (e : E) (P : E → Type 0) → IsErrAnd r (λ x. x ≡ e) → P e → IfErr r P
+err_is (Ok x) e P h p = tt
+err_is (Err x) e P h p = subst P (sym h) p

@@ -1,5 +1,5 @@
 -- A connection from its first byte on.
-use Rattle.std.proofs.Common.{◌≡◌, ℕ, ◌+◌, ◌^◌, ◌≤◌, ◌∙◌, List, [], ◌++◌, Option, length, refl, sym, subst, arith, length-append}
+use Rattle.std.proofs.Common.{◌≡◌, ◌⊎◌, inl, inr, ℕ, ◌+◌, ◌^◌, ◌≤◌, ◌∙◌, List, [], ◌++◌, Option, length, refl, sym, subst, arith, length-append}
 use Rattle.std.proofs.lemmas.List.{append-nil}
 use Rattle.std.specs.Io.KnownBytes.{Appends, Consumes}
 use Rattle.edge_io.proofs.Known.{appends_none, appends_then, consumes_none, consumes_then}
@@ -102,3 +102,19 @@ progress_ends Served Served' start now ran taken total on p = record {
   sized = p.sized;
   served = on p.bytes p.calls p.text p.sized p.served;
 }
+
+-- a read failed, or no memory was found for what it brought
+pub serves_unread : (Served : List ℕ → List Call → List ℕ → Type 0) (Carried : List ℕ → List Call → List ℕ → Talk → Type 0) (start : Told) (given given' left left' written written' : Option (List ℕ)) (ran : List Call → Type 0) (taken total : ℕ) (talk : Talk)
+    → MayEnd Served Carried → Progress Served start (told given left written) ran taken total → written' ≡ written → (talk ≡ ReadFault) ⊎ (talk ≡ NoMemory)
+    → (talk ≡ ReadFault → Appends given given' [] × Consumes left left' []) → (talk ≡ NoMemory → (piece : List ℕ) × Appends given given' piece × Consumes left left' piece)
+    → Serves Carried start.given given' start.left left' start.written written' ran (record { talk = talk; taken = taken })
+serves_unread Served Carried start given given' left left' written written' ran taken total talk may p kept (inl is) unread starved =
+    let none = unread is in
+    serves Carried start (told given' left' written') ran taken (total + 0) talk
+    (progress_fed Served (λ bytes calls text. Carried bytes calls text talk) start given given' left left' written written' ran taken total 0 [] p refl none.0 none.1 kept
+    (λ fed calls text s. subst (λ (t : Talk). Carried (fed ++ []) calls text t) (sym is) (subst (λ (l : List ℕ). Carried l calls text ReadFault) (sym (append-nil fed)) (may.read_fault fed calls text s))))
+serves_unread Served Carried start given given' left left' written written' ran taken total talk may p kept (inr is) unread starved =
+    let more = starved is in
+    serves Carried start (told given' left' written') ran taken (total + length more.0) talk
+    (progress_fed Served (λ bytes calls text. Carried bytes calls text talk) start given given' left left' written written' ran taken total (length more.0) more.0 p refl more.1 more.2 kept
+    (λ fed calls text s. subst (λ (t : Talk). Carried (fed ++ more.0) calls text t) (sym is) (may.no_memory fed more.0 calls text s)))

@@ -1,6 +1,7 @@
 -- How a session of RELP goes on, and how it ends.
 use Rattle.std.proofs.Common.{◌≡◌, ◌⊎◌, inl, inr, ℕ, ◌+◌, ◌^◌, ◌<◌, ◌≤◌, ◌∙◌, Bool, List, [], ◌∷◌, ◌++◌, Option, Some, None, length, refl, sym, ap, subst, arith, append_assoc, length-append}
 use Rattle.std.proofs.lemmas.List.{append-nil}
+use Rattle.std.specs.Prelude.{IfNone}
 use Rattle.event_form.specs.declared.talk.Talk.{Talk}
 use Rattle.event_form.specs.declared.talk.Talk.TheVariants.{Ended, Closed, Fault, Truncated, Full, TooLarge, Busy, Spent, NoMore, TooMuch, ReadFault, WriteFault, DiskFault, NotSpool, NoMemory}
 use Rattle.relp_frame.specs.declared.frame.Frame.{Frame}
@@ -212,3 +213,7 @@ none_by (x ∷ l) h = absurd (omega (arith, h))
 pub no_fault : (o : Option RelpFault) → ((e : RelpFault) → o ≡ Some e → ⊥) → o ≡ None
 no_fault None h = refl
 no_fault (Some e) h = absurd (h e refl)
+
+pub if_none : {A : Type 0} (o : Option A) (P : Type 0) → P → IfNone o P
+if_none None P p = p
+if_none (Some x) P p = tt
