@@ -1,9 +1,9 @@
-use Rattle.std.proofs.Common.{◌≡◌, ◌≢◌, ℕ, ◌+◌, ◌<◌, ◌≤◌, List, get_or, length, sym, subst, arith}
+use Rattle.std.proofs.Common.{◌≡◌, ◌≢◌, ℕ, ◌+◌, ◌≤◌, List, get_or, length, sym, subst, arith}
 use Rattle.std.proofs.lemmas.List.Elements.{All-nil}
 use Rattle.spool_state.specs.Segment.{empty_segment, IsGroup}
 use Rattle.spool_state.specs.Image.{HoldsSegment}
 use Rattle.spool_state.proofs.Segments.{empty_length}
-use Rattle.spool_slots.proofs.Steps.{begin_run, head_put, head_length, closed_known}
+use Rattle.spool_slots.proofs.Steps.{begin_run, head_put, closed_known}
 use Rattle.spool_slots.proofs.slot.Slot.begin.Goals as goal
 
 pub returns-in_err-write_behind-clause-any_moment : goal.returns-in_err-write_behind-clause-any_moment
