@@ -1,4 +1,4 @@
-use Rattle.std.proofs.Common.{leb, cond, refl, arith}
+use Rattle.std.proofs.Common.{leb, cond, refl}
 use Rattle.std.proofs.lemmas.Simd.{zip2_splat, zip2_of_maps, zip2_splat_left, length-chunk}
 use lib.Lanes.{chunk}
 use Rattle.json_span.proofs.LaneLaws.{run_in}
