@@ -14,6 +14,7 @@ pub mod Confirming
 pub mod Going
 pub mod Recovering
 pub mod Listing
+pub mod ReadOn
 pub mod Begun
 pub mod Shut
 pub mod Added

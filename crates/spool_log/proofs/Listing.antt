@@ -44,14 +44,17 @@ from_two m k xs ys = elim (cases_lt k (length xs)) [
       ∙ ap (λ (j : ℕ). take j (drop (k - length xs) ys)) all ∙ ap (λ (l : List Entry). l ++ take (m - length (take m (drop k xs))) (drop (k - length xs) ys)) (sym empty)
 ]
 
+abbrev no_entry : List Entry
+no_entry = []
+
+pub from_none : (m k : ℕ) → take m (drop k no_entry) ≡ no_entry
+from_none m k = ap (λ (l : List Entry). take m l) (drop_all k no_entry (omega arith)) ∙ take_all m no_entry (omega arith)
+
 -- the first number of the slot at a place of the list
 first_at : (slots : List OpenSlot) (ordinal first : ℕ) (i : ℕ) (d : OpenSlot) → AreConsecutive slots ordinal first → i < length slots → (get_or slots i d).segment.first ≡ first_of slots first + length (entries_in (take i slots))
 first_at [] ordinal first i d h lt = absurd (omega arith)
 first_at (slot ∷ slots) ordinal first zero d h lt = omega arith
-first_at (slot ∷ slots) ordinal first (suc i) d h lt = omega (arith, first_at slots ordinal first i d h.3 (omega arith), h.1, length-append (entries_of slot.segment) (entries_in (take i slots)), first_same slots ordinal first i h.3 (omega arith))
-  where
-    first_same : (slots : List OpenSlot) (ordinal first i : ℕ) → AreConsecutive slots ordinal first → i < length slots → first_of slots first ≡ first_of slots first
-    first_same slots ordinal first i h lt = refl
+first_at (slot ∷ slots) ordinal first (suc i) d h lt = omega (arith, first_at slots ordinal first i d h.3 (omega arith), h.1, length-append (entries_of slot.segment) (entries_in (take i slots)))
 
 knows_at : (size : ℕ) (slots : List OpenSlot) (known : List Slot) (i : ℕ) (d : OpenSlot) (k : Slot) → KnowsSlots size slots known → i < length known → KnowsSlot size (get_or slots i d) (get_or known i k)
 knows_at size [] [] i d k h lt = absurd (omega arith)
@@ -114,3 +117,14 @@ module _ (s : SpoolState) (older : List Slot) (c : List ℕ) (stands : StandsFor
       let whole : read ≡ take most (drop (from - base s) (entries_in s.older)) = is ∙ ap (λ (l : List OpenSlot). take most (drop (from - base s) (entries_in l))) all in
       (λ j. whole j ++ take (most - length (whole j)) (drop (same j) (entries_of s.active.segment)))
       ∙ sym (from_two most (from - base s) (entries_in s.older) (entries_of s.active.segment))
+
+  -- the active slot in memory
+  pub knows_active : (k : Slot) → KnowsSlot s.size s.active k → Slots.Knows k s.active.segment c
+  knows_active k number = record {
+    holds = holds_from (slot_at s.size s.active.place) s.size s.active.segment k c number.at_is number.size_is stands.active;
+    sound = stands.sound.active.groups;
+    ordinal = number.ordinal_is;
+    first = number.first_is;
+    gate = number.gate_is;
+    count = number.count_is;
+  }

@@ -4,6 +4,7 @@ use Rattle.spool_state.specs.SpoolState.{SpoolState, Follows}
 use Rattle.edge_disk.specs.Disk.{LeavesOnly}
 use Rattle.spool_log.specs.declared.fault.ConfirmFault.{ConfirmFault}
 use Rattle.spool_log.specs.declared.fault.ConfirmFault.TheVariants.{Worn, NotSpool, DiskFault, NoMemory}
+use Rattle.spool_log.specs.declared.known.Known.{Known}
 use Rattle.spool_log.specs.Stages.{last_of, confirming, StandsForOne}
 use Rattle.spool_log.specs.State.{View, IsIn}
 
@@ -41,3 +42,10 @@ IsAnswered (Worn ordinal) = Unit {0}
 IsAnswered (NotSpool at) = ⊥
 IsAnswered DiskFault = Unit {0}
 IsAnswered NoMemory = ⊥
+
+-- Worn comes only at the last ordinal that memory has, also of a disk that doesn't tell what it reads.
+abbrev pub WornBy : Known → ConfirmFault → Type 0
+WornBy known (Worn ordinal) = (ordinal ≡ known.register.ordinal) × (known.register.ordinal ≡ 2 ^ 63)
+WornBy known (NotSpool at) = Unit {0}
+WornBy known DiskFault = Unit {0}
+WornBy known NoMemory = Unit {0}

@@ -20,6 +20,11 @@ KnowsSlots size [] (known ∷ more) = ⊥
 KnowsSlots size (slot ∷ slots) [] = ⊥
 KnowsSlots size (slot ∷ slots) (known ∷ more) = KnowsSlot size slot known × KnowsSlots size slots more
 
+-- the number of the first entry of the first of these slots, or this one where there is none
+abbrev pub first_known : List Slot → ℕ → ℕ
+first_known [] first = first
+first_known (known ∷ more) first = known.first
+
 -- Memory has the numbers of the state. Of its entries it has none.
 pub record Knows (s : SpoolState) (known : Known) : Type 0 where
   pub size : known.size ≡ s.size

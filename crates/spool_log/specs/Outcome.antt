@@ -1,5 +1,6 @@
 -- A call that mends the spool before it goes on.
-use Rattle.std.specs.Prelude.{◌≡◌, ◌⊎◌, ℕ, ◌-◌, true, max, List, [], take, drop, Vec, Result, Ok, Err}
+use Rattle.std.specs.Prelude.{◌≡◌, ◌⊎◌, ℕ, ◌-◌, true, max, List, [], take, drop, Result, Ok, Err}
+use Rattle.std.specs.Global.{Vec}
 use Rattle.event_form.specs.declared.event.Entry.{Entry}
 use Rattle.spool_state.specs.SpoolState.{SpoolState, base, list, Follows}
 use Rattle.edge_disk.specs.Disk.{LeavesOnly}
@@ -58,9 +59,13 @@ ConfirmsFrom s doubt upto result old new =
     ((fault : PendFault) × (result ≡ Err (as_confirm fault)) × StaysInDoubt s doubt fault old new)
     ⊎ ((m : SpoolState) × Confirms m upto result × GoesOn s doubt m (confirming m upto) (confirmed m upto result) (confirm_doubt m upto result) old new)
 
--- Outside doubt these entries are read: the first ones from the number and from the cursor on. Or the disk failed, or no memory was found.
+-- the first so many entries with numbers from this one and from the cursor on
+abbrev pub pending_from : SpoolState → ℕ → ℕ → List Entry
+pending_from s from most = take most (drop (max from s.cursor - base s) (list s))
+
+-- Outside doubt these are read. Or the disk failed, or no memory was found.
 abbrev pub Pends : SpoolState → ℕ → ℕ → Result (Vec Entry) PendFault → Type 0
-Pends s from most (Ok entries) = entries.items ≡ take most (drop (max from s.cursor - base s) (list s))
+Pends s from most (Ok entries) = entries.items ≡ pending_from s from most
 Pends s from most (Err fault) = IsNotBroken fault
 
 -- a reading of entries

@@ -1,5 +1,5 @@
 -- What a take of a group answers, and what comes of it.
-use Rattle.std.specs.Prelude.{◌≡◌, ◌+◌, ◌^◌, ◌<◌, ◌≤◌, List, [], length, Result, Ok, Err}
+use Rattle.std.specs.Prelude.{◌≡◌, ◌+◌, ◌-◌, ◌^◌, ◌<◌, ◌≤◌, List, [], length, Result, Ok, Err}
 use Rattle.event_form.specs.declared.event.Entry.{Entry}
 use Rattle.spool_state.specs.Segment.{need_of}
 use Rattle.spool_state.specs.SpoolState.{SpoolState, end, room, most_room, Follows}
@@ -51,6 +51,15 @@ IsRefusal (Full need free) = Unit {0}
 IsRefusal (NotSpool at) = ⊥
 IsRefusal NoMemory = ⊥
 IsRefusal DiskFault = ⊥
+
+-- A refusal by the numbers that memory has, also of a disk that doesn't tell what it reads.
+abbrev pub RefusedBy : Known → List Entry → TakeFault → Type 0
+RefusedBy known group (TooLarge need most) = (need ≡ need_of group) × (most ≡ known.size - 18) × (most < need)
+RefusedBy known group (Spent at) = (need_of group ≤ known.size - 18) × (at ≡ known.active.first + known.active.count) × (2 ^ 63 < at + length group)
+RefusedBy known group (Full need free) = (need_of group ≤ known.size - 18) × (need ≡ need_of group) × (free ≡ known.active.size - known.active.gate - 1) × (free < need)
+RefusedBy known group (NotSpool at) = Unit {0}
+RefusedBy known group NoMemory = Unit {0}
+RefusedBy known group DiskFault = Unit {0}
 
 -- or the disk failed
 abbrev pub IsAnswered : TakeFault → Type 0

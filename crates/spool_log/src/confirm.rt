@@ -1,5 +1,5 @@
 //! Entries confirmed.
-ghost use Rattle.std.specs.Prelude.{◌≡◌, ◌+◌, ◌<◌, ◌≤◌, List, [], false, true, IfErr, IsErrOf};
+ghost use Rattle.std.specs.Prelude.{◌≡◌, ℕ, ◌+◌, ◌<◌, ◌≤◌, List, [], false, true, IfErr, IsErrOf};
 ghost use Rattle.foundation.specs.Faults.{Rose};
 ghost use Rattle.spool_state.specs.SpoolState.{SpoolState, end};
 
@@ -9,7 +9,7 @@ use edge_disk::Disk;
 
 impl<D: Disk> Spool<D> {
     ghost use Rattle.spool_log.specs.State.{view, IsIn};
-    ghost use Rattle.spool_log.specs.Confirm.{ConfirmsTo, IsAnswered};
+    ghost use Rattle.spool_log.specs.Confirm.{ConfirmsTo, IsAnswered, WornBy};
     ghost use Rattle.spool_log.specs.Outcome.{ConfirmsFrom};
 
     /// Moves the cursor forward outside doubt.
@@ -19,6 +19,7 @@ impl<D: Disk> Spool<D> {
         requires number { upto ≤ self.old.known.active.first + self.old.known.active.count }
 
         ensures told { IfErr result IsAnswered }
+        ensures worn { IfErr result (WornBy self.new.known) }
         ensures later { (D.moment self.old.disk).faults ≤ (D.moment self.new.disk).faults }
         ensures cause { IsErrOf result ConfirmFault.DiskFault → Rose 1 (D.moment self.old.disk).faults (D.moment self.new.disk).faults }
         ensures size { (D.moment self.new.disk).size ≡ (D.moment self.old.disk).size }
@@ -40,7 +41,7 @@ impl<D: Disk> Spool<D> {
         }
     }
 
-    /// Confirms the entries with numbers below `upto`: where the cursor isn't there or further yet, it is
+    /// Confirms the entries with numbers below `upto`, which is at most the end: where the cursor isn't there or further yet, it is
     /// moved there, durable. In doubt the spool is mended first. `Worn` comes exactly where the cursor would
     /// be moved and the register was written 2^63 times; `NotSpool` and `NoMemory` only where the spool was in
     /// doubt; `DiskFault` only where a call of the disk failed. Where it came of the move, the spool is in
@@ -49,6 +50,8 @@ impl<D: Disk> Spool<D> {
         requires number { upto ≤ self.old.known.active.first + self.old.known.active.count }
 
         ensures met { IsErrOf result ConfirmFault.NoMemory → self.old.doubt ≡ true }
+        ensures read_again { (at : ℕ) → IsErrOf result (ConfirmFault.NotSpool at) → self.old.doubt ≡ true }
+        ensures worn { IfErr result (WornBy self.new.known) }
         ensures later { (D.moment self.old.disk).faults ≤ (D.moment self.new.disk).faults }
         ensures cause { IsErrOf result ConfirmFault.DiskFault → Rose 1 (D.moment self.old.disk).faults (D.moment self.new.disk).faults }
         ensures size { (D.moment self.new.disk).size ≡ (D.moment self.old.disk).size }

@@ -11,8 +11,8 @@ impl<D: Disk> Spool<D> {
     ghost use Rattle.spool_log.specs.State.{view, IsIn};
     ghost use Rattle.spool_log.specs.Outcome.{PendsFrom};
 
-    /// The first `most` entries with numbers from `from` and from the cursor on, or all where they are fewer,
-    /// read from the device. In doubt the spool is mended first; nothing else changes. `NotSpool` comes only
+    /// The first `most` entries with numbers from `from`, which is at most the end, and from the cursor on, or
+    /// all where they are fewer, read from the device. In doubt the spool is mended first; nothing else changes. `NotSpool` comes only
     /// where the device reads as no spool, and never on a disk that tells what it reads; `DiskFault` only
     /// where a call of the disk failed.
     pub fn pending(&mut self, from: u64, most: u32) -> Result<Vec<Entry>, PendFault>

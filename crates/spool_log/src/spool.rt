@@ -2,6 +2,7 @@
 ghost use Rattle.std.specs.Prelude.{◌≡◌, ◌+◌, false, length};
 ghost use Rattle.spool_state.specs.Image.{slot_at};
 ghost use Rattle.edge_disk.specs.Disk.{IsSettled};
+ghost use Rattle.spool_log.specs.Knows.{first_known};
 ghost use Rattle.spool_log.specs.State.{KnowsDevice};
 
 use crate::Known;
@@ -29,6 +30,17 @@ pub struct Spool<D: Disk> {
 }
 
 impl<D: Disk> Spool<D> {
+    /// The number of the first entry, or the end where there is none. In doubt it is as before the call that
+    /// failed.
+    pub fn base(&self) -> u64
+        ensures { result ≡ first_known self.now.known.older.items self.now.known.active.first }
+    {
+        match self.known.older.as_slice() {
+            [first, ..] => first.first,
+            [] => self.known.active.first,
+        }
+    }
+
     /// The number behind the last entry. In doubt it is as before the call that failed.
     pub fn end(&self) -> u64
         ensures { result ≡ self.now.known.active.first + self.now.known.active.count }

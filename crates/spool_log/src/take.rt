@@ -19,7 +19,7 @@ use event_form::Entry;
 const LAST_NUMBER: u64 = 9_223_372_036_854_775_808;
 
 impl Known {
-    ghost use Rattle.spool_log.specs.Take.{Fits, Takes, IsRefusal};
+    ghost use Rattle.spool_log.specs.Take.{Fits, Takes, IsRefusal, RefusedBy};
 
     /// Where the entries go, or why they can't be taken.
     fn place_for(&self, entries: &[Entry]) -> Result<Target, TakeFault>
@@ -27,6 +27,7 @@ impl Known {
         requires limits { All IsEntry entries.now }
 
         ensures refusal { IfErr result IsRefusal }
+        ensures refused { IfErr result (RefusedBy self.now entries.now) }
         ensures fits { MatchResult result (λ target. (need_of entries.now ≤ self.now.size - 18) × (self.now.active.first + self.now.active.count + length entries.now ≤ 2 ^ 63) × Suits self.now (need_of entries.now) target) (λ _. ℕ) }
         ensures answers { (s : SpoolState) → Knows s self.now → IsSound s
             → MatchResult result (λ target. Fits s entries.now × (adding s entries.now ≡ stages_at target s entries.now) × IsFreeIn target s) (λ fault. Takes s entries.now (Err fault)) }
@@ -52,7 +53,7 @@ impl Known {
 
 impl<D: Disk> Spool<D> {
     ghost use Rattle.spool_log.specs.State.{view, IsIn, Changes};
-    ghost use Rattle.spool_log.specs.Take.{Takes, IsAnswered, StoresTo, TakesNothing};
+    ghost use Rattle.spool_log.specs.Take.{Takes, IsAnswered, RefusedBy, StoresTo, TakesNothing};
     ghost use Rattle.spool_log.specs.Outcome.{TakesFrom};
 
     /// Adds the entries where they go. It is in doubt meanwhile, and after a fault.
@@ -86,6 +87,7 @@ impl<D: Disk> Spool<D> {
         requires limits { All IsEntry entries.now }
 
         ensures told { IfErr result IsAnswered }
+        ensures refused { IfErr result (RefusedBy self.new.known entries.now) }
         ensures later { (D.moment self.old.disk).faults ≤ (D.moment self.new.disk).faults }
         ensures cause { IsErrOf result TakeFault.DiskFault → Rose 1 (D.moment self.old.disk).faults (D.moment self.new.disk).faults }
         ensures size { (D.moment self.new.disk).size ≡ (D.moment self.old.disk).size }
@@ -102,7 +104,7 @@ impl<D: Disk> Spool<D> {
     }
 
     /// Takes the entries as one group: on `Ok` they are the last ones, durable, and the receipt has their
-    /// numbers. Without entries nothing is done: `Ok` with the end as it is known, also in doubt. Else, in
+    /// numbers. They are fewer than 2^32, each within its limits. Without entries nothing is done: `Ok` with the end as it is known, also in doubt. Else, in
     /// doubt, the spool is mended first.
     ///
     /// The group is added to the active slot where it has room. Else a segment is begun for it in a free
@@ -119,6 +121,8 @@ impl<D: Disk> Spool<D> {
         requires limits { All IsEntry entries.now }
 
         ensures met { IsErrOf result TakeFault.NoMemory → self.old.doubt ≡ true }
+        ensures read_again { (at : ℕ) → IsErrOf result (TakeFault.NotSpool at) → self.old.doubt ≡ true }
+        ensures refused { IfErr result (RefusedBy self.new.known entries.now) }
         ensures later { (D.moment self.old.disk).faults ≤ (D.moment self.new.disk).faults }
         ensures cause { IsErrOf result TakeFault.DiskFault → Rose 1 (D.moment self.old.disk).faults (D.moment self.new.disk).faults }
         ensures size { (D.moment self.new.disk).size ≡ (D.moment self.old.disk).size }
