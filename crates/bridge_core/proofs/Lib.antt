@@ -4,3 +4,6 @@ pub mod Reading
 pub mod Running
 pub mod Stopping
 pub mod Storing
+pub mod Printing
+pub mod Sure
+pub mod Doing

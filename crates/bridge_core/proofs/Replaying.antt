@@ -6,8 +6,8 @@ use Rattle.relp_frame.specs.declared.frame.Frame.{Frame}
 use Rattle.spool_state.specs.Segment.{segment_text}
 use Rattle.spool_state.specs.SpoolState.{SpoolState}
 use Rattle.spool_state.specs.Image.{HoldsSegment, StandsFor}
-use Rattle.bridge_core.specs.declared.note.Note.{Note}
-use Rattle.bridge_core.specs.declared.note.Note.TheVariants.{Fine, Usage, NoMemory, ReadFault, WriteFault, DiskFault, NotBuilt}
+use Rattle.bridge_core.specs.declared.stop.Stop.{Stop}
+use Rattle.bridge_core.specs.declared.stop.Stop.TheVariants.{Fine, NoMemory, ReadFault, WriteFault, DiskFault, NotBuilt}
 use Rattle.bridge_core.specs.declared.slot.OnlySlot.{OnlySlot}
 use Rattle.bridge_core.specs.Slot.{IsKnown, Empty}
 use Rattle.bridge_core.specs.Carried.{place}
@@ -31,7 +31,7 @@ gate_closed s slot c known one =
     holds.closed (sym here ∙ one)
 
 -- another way to say that an entry has no room
-too_long : (P Q : Frame → Type 0) (note : Note) (ended : Type 0) (read : List ℕ) (frames : List Frame) (tail : List ℕ) → ((f : Frame) → P f → Q f) → IsEnd note ended P read frames tail → IsEnd note ended Q read frames tail
+too_long : (P Q : Frame → Type 0) (note : Stop) (ended : Type 0) (read : List ℕ) (frames : List Frame) (tail : List ℕ) → ((f : Frame) → P f → Q f) → IsEnd note ended P read frames tail → IsEnd note ended Q read frames tail
 too_long P Q Fine ended read frames tail more e = e
 too_long P Q NotBuilt ended read frames tail more (inl e) = inl e
 too_long P Q NotBuilt ended read frames tail more (inr e) = inr (e.0, e.1, more e.0 e.2)
@@ -39,10 +39,9 @@ too_long P Q ReadFault ended read frames tail more e = e
 too_long P Q WriteFault ended read frames tail more e = e
 too_long P Q DiskFault ended read frames tail more e = e
 too_long P Q NoMemory ended read frames tail more e = e
-too_long P Q Usage ended read frames tail more e = e
 
 -- the run over the spool that was found, as one over what the device read at the start
-pub replayed : (tells ended : Type 0) (before found after : List ℕ) (given given' taken taken' : Option (List ℕ)) (slot : OnlySlot) (note : Note) → (tells → found ≡ before) → (tells → Empty slot found) → Ran tells ended given given' (place taken slot found) taken' after note
+pub replayed : (tells ended : Type 0) (before found after : List ℕ) (given given' taken taken' : Option (List ℕ)) (slot : OnlySlot) (note : Stop) → (tells → found ≡ before) → (tells → Empty slot found) → Ran tells ended given given' (place taken slot found) taken' after note
     → Replayed tells ended before after given given' taken taken' note
 replayed tells ended before found after given given' taken taken' slot note same empty r =
     let holds : tells → Holds before after note r.frames r.cut = λ t.

@@ -11,8 +11,8 @@ use Rattle.relp_frame.specs.Reading.{Reader}
 use Rattle.spool_state.specs.SpoolState.{SpoolState}
 use Rattle.spool_state.specs.Image.{StandsFor}
 use Rattle.bridge_core.specs.declared.next.Next.{Next}
-use Rattle.bridge_core.specs.declared.note.Note.{Note}
-use Rattle.bridge_core.specs.declared.note.Note.TheVariants.{Fine, Usage, NoMemory, ReadFault, WriteFault, DiskFault, NotBuilt}
+use Rattle.bridge_core.specs.declared.stop.Stop.{Stop}
+use Rattle.bridge_core.specs.declared.stop.Stop.TheVariants.{Fine, NoMemory, ReadFault, WriteFault, DiskFault, NotBuilt}
 use Rattle.bridge_core.specs.declared.slot.OnlySlot.{OnlySlot}
 use Rattle.bridge_core.specs.Slot.{IsKnown}
 use Rattle.bridge_core.specs.Input.{MayCome, next_of}
@@ -45,11 +45,11 @@ module _ (tells : Type 0) (given given' : Option (List ℕ)) (start now : Place)
   taken_whole : Appends start.taken now.taken (answers p.frames ++ [])
   taken_whole = subst (Appends start.taken now.taken) (sym (append-nil (answers p.frames))) p.is_taken
 
-  stands_whole : (note : Note) → IsLate note p.frames None [] → tells → (s : SpoolState) → IsKnown s start.slot start.reads → (late : List Entry) × IsLate note p.frames None late × StandsFor (with_entries s (stored p.frames ++ late)) now.reads
+  stands_whole : (note : Stop) → IsLate note p.frames None [] → tells → (s : SpoolState) → IsKnown s start.slot start.reads → (late : List Entry) × IsLate note p.frames None late × StandsFor (with_entries s (stored p.frames ++ late)) now.reads
   stands_whole note none t s known = ([], none, none_late s p.frames now.reads (p.stores t s known).stands)
 
   -- the parts put together
-  ran : (ended : Type 0) (new : Place) (note : Note) (tail : List ℕ) (cut : Option Frame) (part : List ℕ) → Split p.read p.frames tail → Appends start.taken new.taken (answers p.frames ++ part) → IsCut note p.frames tail cut part
+  ran : (ended : Type 0) (new : Place) (note : Stop) (tail : List ℕ) (cut : Option Frame) (part : List ℕ) → Split p.read p.frames tail → Appends start.taken new.taken (answers p.frames ++ part) → IsCut note p.frames tail cut part
       → (tells → (s : SpoolState) → IsKnown s start.slot start.reads → (late : List Entry) × IsLate note p.frames cut late × StandsFor (with_entries s (stored p.frames ++ late)) new.reads)
       → IsEnd note ended (λ f. tells → (s : SpoolState) → IsKnown s start.slot start.reads → Overfull s p.frames f) p.read p.frames tail
       → Ran tells ended given given' start new.taken new.reads note
@@ -71,7 +71,7 @@ module _ (tells : Type 0) (given given' : Option (List ℕ)) (start now : Place)
   }
 
   -- nothing changed behind the frames carried
-  at_rest : (ended : Type 0) (note : Note) (tail : List ℕ) → Split p.read p.frames tail → IsCut note p.frames tail None [] → IsLate note p.frames None [] → IsEnd note ended (λ f. tells → (s : SpoolState) → IsKnown s start.slot start.reads → Overfull s p.frames f) p.read p.frames tail
+  at_rest : (ended : Type 0) (note : Stop) (tail : List ℕ) → Split p.read p.frames tail → IsCut note p.frames tail None [] → IsLate note p.frames None [] → IsEnd note ended (λ f. tells → (s : SpoolState) → IsKnown s start.slot start.reads → Overfull s p.frames f) p.read p.frames tail
       → Ran tells ended given given' start now.taken now.reads note
   at_rest ended note tail split is_cut none ends = ran ended now note tail None [] split taken_whole is_cut (stands_whole note none) ends
 
@@ -81,11 +81,11 @@ module _ (tells : Type 0) (given given' : Option (List ℕ)) (start now : Place)
   due_here : (f : Frame) (text more : List ℕ) → IsSpelling f text → MayCome next f → IsDue p.frames f (text ++ more)
   due_here f text more spelled may = record { may = may_here f may; text = text; more = more; spelled = spelled; front = refl }
 
-  as_new : (ended : Type 0) (new : Place) (note : Note) → new ≡ now → Ran tells ended given given' start now.taken now.reads note → Ran tells ended given given' start new.taken new.reads note
+  as_new : (ended : Type 0) (new : Place) (note : Stop) → new ≡ now → Ran tells ended given given' start now.taken now.reads note → Ran tells ended given given' start new.taken new.reads note
   as_new ended new note same r = subst (λ (q : Place). Ran tells ended given given' start q.taken q.reads note) (sym same) r
 
   -- a frame that waited was not carried whole
-  pub stopped : (ended : Type 0) (new : Place) (note : Note) (f : Frame) (ws : List Frame) → reader.waiting ≡ f ∷ ws → StopsAt next f tells now new note → Ran tells ended given given' start new.taken new.reads note
+  pub stopped : (ended : Type 0) (new : Place) (note : Stop) (f : Frame) (ws : List Frame) → reader.waiting ≡ f ∷ ws → StopsAt next f tells now new note → Ran tells ended given given' start new.taken new.reads note
   stopped ended new NotBuilt f ws is (same, inl wrong) =
       let d = split_due p.read p.frames f ws reader p.reads is in
       let never : MayCome (next_of p.frames) f → ⊥ = λ may. wrong (subst (λ (n : Next). MayCome n f) (sym p.next_is) may) in
@@ -109,7 +109,6 @@ module _ (tells : Type 0) (given given' : Option (List ℕ)) (start now : Place)
       ran ended new WriteFault (d.0 ++ d.1) (Some f) part d.3 (appends_then start.taken now.taken new.taken (answers p.frames) part p.is_taken cut.2) (due_here f d.0 d.1 d.2 stop.0, (cut.0, short, part_is))
       (λ t s known. (entries_for (next_of p.frames) f, refl, subst (λ (es : List Entry). StandsFor (with_entries s es) new.reads) (stored_push p.frames f) (stores_then s p.frames f next now new p.next_is (stop.1 t) (p.stores t s known)).stands)) tt
   stopped ended new Fine f ws is stop = absurd stop
-  stopped ended new Usage f ws is stop = absurd stop
   stopped ended new ReadFault f ws is stop = absurd stop
 
   -- a fault of the stream
@@ -180,7 +179,7 @@ module _ (tells : Type 0) (given given' : Option (List ℕ)) (start now : Place)
       }
 
 -- whether the input has ended is of no account where a frame was not carried
-ended_or : (ended : Type 0) (note : Note) (TooLong : Frame → Type 0) (read : List ℕ) (frames : List Frame) (tail : List ℕ) → IsEnd note ⊥ TooLong read frames tail → IsEnd note ended TooLong read frames tail
+ended_or : (ended : Type 0) (note : Stop) (TooLong : Frame → Type 0) (read : List ℕ) (frames : List Frame) (tail : List ℕ) → IsEnd note ⊥ TooLong read frames tail → IsEnd note ended TooLong read frames tail
 ended_or ended Fine TooLong read frames tail e = absurd e.0
 ended_or ended NotBuilt TooLong read frames tail (inl e) = inl (e.0, elim e.1 [ inl never ↦ inl never | inr over ↦ absurd over.0 ])
 ended_or ended NotBuilt TooLong read frames tail (inr e) = inr e
@@ -188,9 +187,8 @@ ended_or ended ReadFault TooLong read frames tail e = e
 ended_or ended WriteFault TooLong read frames tail e = e
 ended_or ended DiskFault TooLong read frames tail e = e
 ended_or ended NoMemory TooLong read frames tail e = e
-ended_or ended Usage TooLong read frames tail e = e
 
-pub ran_or : (tells ended : Type 0) (given given' : Option (List ℕ)) (start : Place) (taken' : Option (List ℕ)) (c : List ℕ) (note : Note) → Ran tells ⊥ given given' start taken' c note → Ran tells ended given given' start taken' c note
+pub ran_or : (tells ended : Type 0) (given given' : Option (List ℕ)) (start : Place) (taken' : Option (List ℕ)) (c : List ℕ) (note : Stop) → Ran tells ⊥ given given' start taken' c note → Ran tells ended given given' start taken' c note
 ran_or tells ended given given' start taken' c note r = record {
   read = r.read;
   frames = r.frames;
@@ -214,16 +212,16 @@ count_next (f ∷ fs) = omega arith
 
 -- at the end of the input
 pub at_end : (tells : Type 0) (given given' : Option (List ℕ)) (start now : Place) (reader : Reader) (next : Next) (total : ℕ) → Progress tells given given' start now reader next total → (ended : Type 0) → ended → reader.waiting ≡ [] → reader.fault ≡ None → total < 2 ^ 40
-    → (note : Note) → ((note ≡ Fine) × (length reader.rest ≡ 0)) ⊎ ((note ≡ NotBuilt) × (0 < length reader.rest)) → Ran tells ended given given' start now.taken now.reads note
+    → (note : Stop) → ((note ≡ Fine) × (length reader.rest ≡ 0)) ⊎ ((note ≡ NotBuilt) × (0 < length reader.rest)) → Ran tells ended given given' start now.taken now.reads note
 at_end tells given given' start now reader next total p ended over none sound short note (inl whole) =
-    subst (λ (n : Note). Ran tells ended given given' start now.taken now.reads n) (sym whole.0) (finished tells given given' start now reader next total p ended over none sound whole.1 short)
+    subst (λ (n : Stop). Ran tells ended given given' start now.taken now.reads n) (sym whole.0) (finished tells given given' start now reader next total p ended over none sound whole.1 short)
 at_end tells given given' start now reader next total p ended over none sound short note (inr rest) =
-    subst (λ (n : Note). Ran tells ended given given' start now.taken now.reads n) (sym rest.0) (cut_off tells given given' start now reader next total p ended over none sound rest.1)
+    subst (λ (n : Stop). Ran tells ended given given' start now.taken now.reads n) (sym rest.0) (cut_off tells given given' start now reader next total p ended over none sound rest.1)
 
 -- nothing was fed
 pub not_fed : (tells : Type 0) (given given' given'' : Option (List ℕ)) (start now : Place) (reader : Reader) (next : Next) (total : ℕ) → Progress tells given given' start now reader next total → (ended : Type 0) → reader.waiting ≡ [] → reader.fault ≡ None
-    → (note : Note) → (note ≡ ReadFault) ⊎ (note ≡ NoMemory) → (note ≡ ReadFault → Appends given' given'' []) → (note ≡ NoMemory → (piece : List ℕ) × Appends given' given'' piece) → Ran tells ended given given'' start now.taken now.reads note
+    → (note : Stop) → (note ≡ ReadFault) ⊎ (note ≡ NoMemory) → (note ≡ ReadFault → Appends given' given'' []) → (note ≡ NoMemory → (piece : List ℕ) × Appends given' given'' piece) → Ran tells ended given given'' start now.taken now.reads note
 not_fed tells given given' given'' start now reader next total p ended none sound note (inl is) nothing piece =
-    subst (λ (n : Note). Ran tells ended given given'' start now.taken now.reads n) (sym is) (unread tells given given' start now reader next total p ended given'' (nothing is) none sound)
+    subst (λ (n : Stop). Ran tells ended given given'' start now.taken now.reads n) (sym is) (unread tells given given' start now reader next total p ended given'' (nothing is) none sound)
 not_fed tells given given' given'' start now reader next total p ended none sound note (inr is) nothing piece =
-    subst (λ (n : Note). Ran tells ended given given'' start now.taken now.reads n) (sym is) (starved tells given given' start now reader next total p ended given'' (piece is).0 (piece is).1)
+    subst (λ (n : Stop). Ran tells ended given given'' start now.taken now.reads n) (sym is) (starved tells given given' start now reader next total p ended given'' (piece is).0 (piece is).1)

@@ -9,8 +9,8 @@ use Rattle.spool_state.specs.Change.{added}
 use Rattle.bridge_core.specs.declared.next.Next.{Next}
 use Rattle.bridge_core.specs.declared.next.Next.TheVariants.{Open, Syslog}
 use Rattle.std.specs.Io.KnownBytes.{Appends}
-use Rattle.bridge_core.specs.declared.note.Note.{Note}
-use Rattle.bridge_core.specs.declared.note.Note.TheVariants.{Fine, Usage, NoMemory, ReadFault, WriteFault, DiskFault, NotBuilt}
+use Rattle.bridge_core.specs.declared.stop.Stop.{Stop}
+use Rattle.bridge_core.specs.declared.stop.Stop.TheVariants.{Fine, NoMemory, ReadFault, WriteFault, DiskFault, NotBuilt}
 use Rattle.bridge_core.specs.declared.slot.OnlySlot.{OnlySlot}
 use Rattle.bridge_core.specs.Slot.{IsKnown, Adds, MayAdd, IsFull}
 use Rattle.bridge_core.specs.Input.{MayCome, next_of}
@@ -111,11 +111,10 @@ pub record Carries (next : Next) (f : Frame) (tells : Type 0) (old new : Place) 
   pub stores : tells → Stores (entries_for next f) old.slot old.reads new.slot new.reads
 
 -- Why the frame was not carried whole, and what then stands.
-abbrev pub StopsAt : Next → Frame → Type 0 → Place → Place → Note → Type 0
+abbrev pub StopsAt : Next → Frame → Type 0 → Place → Place → Stop → Type 0
 StopsAt next f tells old new NotBuilt = (new ≡ old) × ((MayCome next f → ⊥) ⊎ (MayCome next f × (tells → Overflows (entries_for next f) old.slot old.reads)))
 StopsAt next f tells old new NoMemory = new ≡ old
 StopsAt next f tells old new DiskFault = MayCome next f × (new.taken ≡ old.taken) × (tells → MayStore (entries_for next f) old.slot old.reads new.reads)
 StopsAt next f tells old new WriteFault = MayCome next f × (tells → Stores (entries_for next f) old.slot old.reads new.slot new.reads) × ((k : ℕ) × (k < length (answer next f)) × Appends old.taken new.taken (take k (answer next f)))
 StopsAt next f tells old new Fine = ⊥
-StopsAt next f tells old new Usage = ⊥
 StopsAt next f tells old new ReadFault = ⊥

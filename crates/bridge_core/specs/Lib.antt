@@ -1,8 +1,12 @@
-pub mod Words
+pub mod Written
+pub mod Refused
+pub mod Formatted
+pub mod Listed
 pub mod Input
 pub mod Carried
-pub mod Notes
+pub mod Stops
 pub mod Empty
 pub mod Slot
 pub mod Progress
 pub mod Replayed
+pub mod Done

@@ -10,8 +10,8 @@ use Rattle.spool_state.specs.SpoolState.{SpoolState, room}
 use Rattle.spool_state.specs.Segment.{need_of}
 use Rattle.spool_state.specs.Image.{StandsFor}
 use Rattle.bridge_core.specs.declared.next.Next.{Next}
-use Rattle.bridge_core.specs.declared.note.Note.{Note}
-use Rattle.bridge_core.specs.declared.note.Note.TheVariants.{Fine, Usage, NoMemory, ReadFault, WriteFault, DiskFault, NotBuilt}
+use Rattle.bridge_core.specs.declared.stop.Stop.{Stop}
+use Rattle.bridge_core.specs.declared.stop.Stop.TheVariants.{Fine, NoMemory, ReadFault, WriteFault, DiskFault, NotBuilt}
 use Rattle.bridge_core.specs.Slot.{IsKnown}
 use Rattle.bridge_core.specs.Input.{next_of, AreInOrder, IsInput, BeginsInput}
 use Rattle.bridge_core.specs.Carried.{answer, answers, entries_for, stored, with_entries, IsDue, Place}
@@ -29,7 +29,7 @@ pub record Progress (tells : Type 0) (given given' : Option (List ℕ)) (start n
   pub stores : tells → (s : SpoolState) → IsKnown s start.slot start.reads → IsKnown (with_entries s (stored frames)) now.slot now.reads
 
 -- the frame that was in hand as the run ended, and the bytes of its answer that were written
-abbrev pub IsCut : Note → List Frame → List ℕ → Option Frame → List ℕ → Type 0
+abbrev pub IsCut : Stop → List Frame → List ℕ → Option Frame → List ℕ → Type 0
 IsCut WriteFault frames tail None part = ⊥
 IsCut WriteFault frames tail (Some f) part = IsDue frames f tail × ((k : ℕ) × (k < length (answer (next_of frames) f)) × (part ≡ take k (answer (next_of frames) f)))
 IsCut DiskFault frames tail None part = ⊥
@@ -38,7 +38,7 @@ IsCut note frames tail None part = part ≡ []
 IsCut note frames tail (Some f) part = ⊥
 
 -- the entries that stand behind those of the frames carried
-abbrev pub IsLate : Note → List Frame → Option Frame → List Entry → Type 0
+abbrev pub IsLate : Stop → List Frame → Option Frame → List Entry → Type 0
 IsLate WriteFault frames None late = ⊥
 IsLate WriteFault frames (Some f) late = late ≡ entries_for (next_of frames) f
 IsLate DiskFault frames None late = ⊥
@@ -54,21 +54,20 @@ abbrev pub IsNoInput : Type 0 → List ℕ → Type 0
 IsNoInput ended read = (BeginsInput read → ⊥) ⊎ (ended × (IsInput read → ⊥))
 
 -- Why the run ended. `Ended` says that the input has ended, `TooLong f` that the frame's entry needs more than the slot's room.
-abbrev pub IsEnd : Note → Type 0 → (Frame → Type 0) → List ℕ → List Frame → List ℕ → Type 0
+abbrev pub IsEnd : Stop → Type 0 → (Frame → Type 0) → List ℕ → List Frame → List ℕ → Type 0
 IsEnd Fine ended TooLong read frames tail = ended × IsInput read × (tail ≡ [])
 IsEnd NotBuilt ended TooLong read frames tail = (NoneDue frames tail × IsNoInput ended read) ⊎ ((f : Frame) × IsDue frames f tail × TooLong f)
 IsEnd ReadFault ended TooLong read frames tail = NoneDue frames tail
 IsEnd WriteFault ended TooLong read frames tail = Unit {0}
 IsEnd DiskFault ended TooLong read frames tail = Unit {0}
 IsEnd NoMemory ended TooLong read frames tail = Unit {0}
-IsEnd Usage ended TooLong read frames tail = ⊥
 
 -- the entry of the frame needs more than the room of the slot, behind those of the frames carried
 abbrev pub Overfull : SpoolState → List Frame → Frame → Type 0
 Overfull s frames f = room (with_entries s (stored frames)) < need_of (entries_for (next_of frames) f)
 
 -- What the run has done from its first frame to its end, over a spool that stood there.
-pub record Ran (tells ended : Type 0) (given given' : Option (List ℕ)) (start : Place) (taken' : Option (List ℕ)) (after : List ℕ) (note : Note) : Type 0 where
+pub record Ran (tells ended : Type 0) (given given' : Option (List ℕ)) (start : Place) (taken' : Option (List ℕ)) (after : List ℕ) (note : Stop) : Type 0 where
   pub read : List ℕ
   pub frames : List Frame
   pub front : List ℕ

@@ -7,8 +7,8 @@ use Rattle.relp_frame.specs.Spelling.{IsSpelling}
 use Rattle.stream_grammar.specs.Framing.{AreSpelled}
 use Rattle.spool_state.specs.SpoolState.{SpoolState}
 use Rattle.spool_state.specs.Image.{StandsFor}
-use Rattle.bridge_core.specs.declared.note.Note.{Note}
-use Rattle.bridge_core.specs.declared.note.Note.TheVariants.{DiskFault, NotBuilt}
+use Rattle.bridge_core.specs.declared.stop.Stop.{Stop}
+use Rattle.bridge_core.specs.declared.stop.Stop.TheVariants.{DiskFault, NotBuilt}
 use Rattle.bridge_core.specs.Empty.{IsEmptySpool}
 use Rattle.bridge_core.specs.Slot.{IsNoEmptySpool}
 use Rattle.bridge_core.specs.Input.{AreInOrder}
@@ -17,7 +17,7 @@ use Rattle.bridge_core.specs.Progress.{IsCut, IsLate, IsEnd, Overfull}
 
 -- The device stood for an empty spool of one slot. It now stands for that spool with the entries of the
 -- frames carried, each as one group, and then with those of the frame at which the run stopped, if any.
-pub record Holds (before after : List ℕ) (note : Note) (frames : List Frame) (cut : Option Frame) : Type 0 where
+pub record Holds (before after : List ℕ) (note : Stop) (frames : List Frame) (cut : Option Frame) : Type 0 where
   pub state : SpoolState
   pub empty : IsEmptySpool state
   pub stood : StandsFor state before
@@ -27,7 +27,7 @@ pub record Holds (before after : List ℕ) (note : Note) (frames : List Frame) (
 
 -- The bytes read begin with the spellings of the frames carried, the first ones and none skipped. The
 -- bytes written are their answers, and then a part of the answer to the frame at which the run stopped.
-pub record Replayed (tells ended : Type 0) (before after : List ℕ) (given given' taken taken' : Option (List ℕ)) (note : Note) : Type 0 where
+pub record Replayed (tells ended : Type 0) (before after : List ℕ) (given given' taken taken' : Option (List ℕ)) (note : Stop) : Type 0 where
   pub read : List ℕ
   pub frames : List Frame
   pub front : List ℕ
@@ -45,5 +45,5 @@ pub record Replayed (tells ended : Type 0) (before after : List ℕ) (given give
 
 -- The run ended before it read any input: a call of the disk failed, or the device doesn't hold an empty
 -- spool of one slot.
-abbrev pub IsUnopened : Type 0 → List ℕ → Note → Type 0
+abbrev pub IsUnopened : Type 0 → List ℕ → Stop → Type 0
 IsUnopened tells before note = (note ≡ DiskFault) ⊎ ((note ≡ NotBuilt) × (tells → IsNoEmptySpool before))

@@ -7,7 +7,7 @@ ghost use Rattle.bridge_core.specs.Carried.{IsEarly, place, entries_for, Stores,
 ghost use Rattle.bridge_core.specs.Slot.{IsPlaced};
 
 use crate::next::Next;
-use crate::note::Note;
+use crate::stop::Stop;
 use crate::reply::{answer, may_come};
 use crate::slot::OnlySlot;
 use crate::store::{StoreFault, store_entry};
@@ -73,7 +73,7 @@ pub fn carry_frame<D: Disk, K: Sink>(
     output: &mut K,
     next: Next,
     frame: Frame,
-) -> Result<(), Note>
+) -> Result<(), Stop>
     requires frame { IsFrame frame }
     requires early { IsEarly next }
     requires placed { IsPlaced (D.moment disk.old).size slot.old }
@@ -81,7 +81,7 @@ pub fn carry_frame<D: Disk, K: Sink>(
     requires closed { D.tells → slice_index (D.moment disk.old).reads (12288 + slot.old.gate) ≢ 1 }
 
     ensures later { (D.moment disk.old).faults ≤ (D.moment disk.new).faults }
-    ensures disk_cause { IsErrOf result Note.DiskFault → Rose 1 (D.moment disk.old).faults (D.moment disk.new).faults }
+    ensures disk_cause { IsErrOf result Stop.DiskFault → Rose 1 (D.moment disk.old).faults (D.moment disk.new).faults }
     ensures size { (D.moment disk.new).size ≡ (D.moment disk.old).size }
     ensures placed { IsPlaced (D.moment disk.new).size slot.new }
     ensures settled { OnOk result (D.tells → IsSettled (D.moment disk.new)) }
@@ -89,27 +89,27 @@ pub fn carry_frame<D: Disk, K: Sink>(
 
     ensures same { K.same output.old output.new }
     ensures later_writes { K.write_faults output.old ≤ K.write_faults output.new }
-    ensures write_cause { IsErrOf result Note.WriteFault → Rose 1 (K.write_faults output.old) (K.write_faults output.new) }
+    ensures write_cause { IsErrOf result Stop.WriteFault → Rose 1 (K.write_faults output.old) (K.write_faults output.new) }
 
-    ensures unread { IsErrOf result Note.ReadFault → ⊥ }
+    ensures unread { IsErrOf result Stop.ReadFault → ⊥ }
 
     ensures carried { OnOk result (Carries next frame D.tells (place (K.taken output.old) slot.old (D.moment disk.old).reads) (place (K.taken output.new) slot.new (D.moment disk.new).reads)) }
     ensures stopped { IfErr result (StopsAt next frame D.tells (place (K.taken output.old) slot.old (D.moment disk.old).reads) (place (K.taken output.new) slot.new (D.moment disk.new).reads)) }
 {
     if !may_come(next, &frame) {
-        return Err(Note::NotBuilt);
+        return Err(Stop::NotBuilt);
     }
     let Ok(reply) = answer(alloc, next, frame.txnr) else {
-        return Err(Note::NoMemory);
+        return Err(Stop::NoMemory);
     };
     match store_frame(alloc, disk, slot, next, frame) {
         Ok(()) => {}
-        Err(StoreFault::NoRoom) => return Err(Note::NotBuilt),
-        Err(StoreFault::NoMemory) => return Err(Note::NoMemory),
-        Err(StoreFault::DiskFault) => return Err(Note::DiskFault),
+        Err(StoreFault::NoRoom) => return Err(Stop::NotBuilt),
+        Err(StoreFault::NoMemory) => return Err(Stop::NoMemory),
+        Err(StoreFault::DiskFault) => return Err(Stop::DiskFault),
     }
     match write_whole(output, &reply) {
         Ok(()) => Ok(()),
-        Err(_) => Err(Note::WriteFault),
+        Err(_) => Err(Stop::WriteFault),
     }
 }

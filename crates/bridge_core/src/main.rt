@@ -5,17 +5,19 @@
 mod bridge;
 mod carry;
 mod ended;
+mod formatting;
+mod listing;
 mod next;
-mod note;
 mod opening;
 mod program;
 mod replay;
+mod refused;
 mod reply;
 mod slot;
+mod stop;
 mod store;
 #[cfg(test)]
 mod tests;
-mod words;
 
 use std::process::ExitCode;
 

@@ -11,7 +11,7 @@ ghost use Rattle.bridge_core.specs.Progress.{Progress, Ran};
 
 use crate::carry::carry_frame;
 use crate::next::Next;
-use crate::note::Note;
+use crate::stop::Stop;
 use crate::slot::OnlySlot;
 use edge_disk::Disk;
 use edge_io::{Sink, Source};
@@ -35,7 +35,7 @@ struct Fed {
 }
 
 // Reads once, at most `room` bytes, and feeds the reader what came.
-fn read_piece<S: Source>(input: &mut S, reader: &mut RelpReader, room: usize) -> Result<Fed, Note>
+fn read_piece<S: Source>(input: &mut S, reader: &mut RelpReader, room: usize) -> Result<Fed, Stop>
     requires some { 0 < room }
     requires few { room ≤ 8192 }
     requires fits { reader.old.at + length reader.old.rest + room ≤ 2 ^ 40 }
@@ -45,16 +45,16 @@ fn read_piece<S: Source>(input: &mut S, reader: &mut RelpReader, room: usize) ->
     ensures sound { IfOk result (λ fed. fed.is_faulty ≡ false → reader.new.fault ≡ None) }
     ensures faulty { IfOk result (λ fed. fed.is_faulty ≡ true → (e : RelpFault) × (reader.new.fault ≡ Some e)) }
     ensures end { IfOk result (λ fed. fed.len ≡ 0 → IsAtEnd (S.left input.new)) }
-    ensures unread { IsErrOf result Note.ReadFault → Appends (S.given input.old) (S.given input.new) [] × (reader.new ≡ reader.old) × Rose 1 (S.read_faults input.old) (S.read_faults input.new) }
-    ensures starved { IsErrOf result Note.NoMemory → (reader.new ≡ reader.old) × ((piece : List ℕ) × Appends (S.given input.old) (S.given input.new) piece) }
-    ensures only { IfErr result (λ note. (note ≡ Note.ReadFault) ⊎ (note ≡ Note.NoMemory)) }
+    ensures unread { IsErrOf result Stop.ReadFault → Appends (S.given input.old) (S.given input.new) [] × (reader.new ≡ reader.old) × Rose 1 (S.read_faults input.old) (S.read_faults input.new) }
+    ensures starved { IsErrOf result Stop.NoMemory → (reader.new ≡ reader.old) × ((piece : List ℕ) × Appends (S.given input.old) (S.given input.new) piece) }
+    ensures only { IfErr result (λ note. (note ≡ Stop.ReadFault) ⊎ (note ≡ Stop.NoMemory)) }
     ensures later { S.read_faults input.old ≤ S.read_faults input.new }
     ensures same { S.same input.old input.new }
 {
     let mut buf = [0; PIECE];
     let len = match input.read(&mut buf[..room]) {
         Ok(len) => len,
-        Err(_) => return Err(Note::ReadFault),
+        Err(_) => return Err(Stop::ReadFault),
     };
     match reader.feed(&buf[..len]) {
         Ok(()) => Ok(Fed {
@@ -65,7 +65,7 @@ fn read_piece<S: Source>(input: &mut S, reader: &mut RelpReader, room: usize) ->
             len,
             is_faulty: true,
         }),
-        Err(FeedFault::NoMemory) => Err(Note::NoMemory),
+        Err(FeedFault::NoMemory) => Err(Stop::NoMemory),
     }
 }
 
@@ -77,22 +77,22 @@ fn carry_waiting<D: Disk, K: Sink>(
     output: &mut K,
     reader: &mut RelpReader,
     next: &mut Next,
-) -> Result<(), Note>
+) -> Result<(), Stop>
     requires early { count_of next.old + length reader.old.waiting < 2 ^ 41 }
     requires placed { IsPlaced (D.moment disk.old).size slot.old }
     requires settled { D.tells → IsSettled (D.moment disk.old) }
     requires closed { D.tells → slice_index (D.moment disk.old).reads (12288 + slot.old.gate) ≢ 1 }
 
     ensures later { (D.moment disk.old).faults ≤ (D.moment disk.new).faults }
-    ensures disk_cause { IsErrOf result Note.DiskFault → Rose 1 (D.moment disk.old).faults (D.moment disk.new).faults }
+    ensures disk_cause { IsErrOf result Stop.DiskFault → Rose 1 (D.moment disk.old).faults (D.moment disk.new).faults }
     ensures size { (D.moment disk.new).size ≡ (D.moment disk.old).size }
     ensures placed { IsPlaced (D.moment disk.new).size slot.new }
     ensures settled { OnOk result (D.tells → IsSettled (D.moment disk.new)) }
     ensures closed { OnOk result (D.tells → slice_index (D.moment disk.new).reads (12288 + slot.new.gate) ≢ 1) }
     ensures same { K.same output.old output.new }
     ensures later_writes { K.write_faults output.old ≤ K.write_faults output.new }
-    ensures write_cause { IsErrOf result Note.WriteFault → Rose 1 (K.write_faults output.old) (K.write_faults output.new) }
-    ensures unread { IsErrOf result Note.ReadFault → ⊥ }
+    ensures write_cause { IsErrOf result Stop.WriteFault → Rose 1 (K.write_faults output.old) (K.write_faults output.new) }
+    ensures unread { IsErrOf result Stop.ReadFault → ⊥ }
 
     ensures none { OnOk result (reader.new.waiting ≡ []) }
     ensures reader { reader.new ≡ record reader.old { waiting = reader.new.waiting } }
@@ -118,15 +118,15 @@ pub fn replay<D: Disk, S: Source, K: Sink>(
     slot: OnlySlot,
     input: &mut S,
     output: &mut K,
-) -> Note
+) -> Stop
     requires placed { IsPlaced (D.moment disk.old).size slot }
     requires settled { D.tells → IsSettled (D.moment disk.old) }
     requires closed { D.tells → slice_index (D.moment disk.old).reads (12288 + slot.gate) ≢ 1 }
 
     ensures disk_later { (D.moment disk.old).faults ≤ (D.moment disk.new).faults }
-    ensures disk_cause { result ≡ Note.DiskFault → Rose 1 (D.moment disk.old).faults (D.moment disk.new).faults }
-    ensures read_cause { result ≡ Note.ReadFault → Rose 1 (S.read_faults input.old) (S.read_faults input.new) }
-    ensures write_cause { result ≡ Note.WriteFault → Rose 1 (K.write_faults output.old) (K.write_faults output.new) }
+    ensures disk_cause { result ≡ Stop.DiskFault → Rose 1 (D.moment disk.old).faults (D.moment disk.new).faults }
+    ensures read_cause { result ≡ Stop.ReadFault → Rose 1 (S.read_faults input.old) (S.read_faults input.new) }
+    ensures write_cause { result ≡ Stop.WriteFault → Rose 1 (K.write_faults output.old) (K.write_faults output.new) }
     ensures ran { Ran D.tells (IsAtEnd (S.left input.new)) (S.given input.old) (S.given input.new) (place (K.taken output.old) slot (D.moment disk.old).reads) (K.taken output.new) (D.moment disk.new).reads result }
 {
     let mut slot = slot;
@@ -144,22 +144,22 @@ pub fn replay<D: Disk, S: Source, K: Sink>(
             return note;
         }
         if fed.is_faulty {
-            return Note::NotBuilt;
+            return Stop::NotBuilt;
         }
         if fed.len == 0 {
             return at_end(&reader);
         }
     }
-    Note::NotBuilt
+    Stop::NotBuilt
 }
 
 // What the end of the input means: it is whole, or a frame is unfinished.
-fn at_end(reader: &RelpReader) -> Note
+fn at_end(reader: &RelpReader) -> Stop
     requires { reader.now.fault ≡ None }
-    ensures { (result ≡ Note.Fine × (length reader.now.rest ≡ 0)) ⊎ (result ≡ Note.NotBuilt × (0 < length reader.now.rest)) }
+    ensures { (result ≡ Stop.Fine × (length reader.now.rest ≡ 0)) ⊎ (result ≡ Stop.NotBuilt × (0 < length reader.now.rest)) }
 {
     match reader.rest_at() {
-        None => Note::Fine,
-        Some(_) => Note::NotBuilt,
+        None => Stop::Fine,
+        Some(_) => Stop::NotBuilt,
     }
 }

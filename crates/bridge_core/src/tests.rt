@@ -2,7 +2,7 @@ ghost use Rattle.std.specs.Prelude.{◌<◌, ◌^◌};
 
 use crate::bridge::bridge;
 use crate::ended::Ended;
-use crate::note::{Note, note_text};
+use crate::stop::{Stop, note_text};
 use crate::program::empty_device;
 use edge_disk::MemDisk;
 use edge_io::{MemSink, MemSource};
@@ -18,7 +18,7 @@ const OPENED: &[u8] =
 // What a run over a device left: its note, what it wrote, and the device.
 #[derive(Drop)]
 struct Left {
-    note: Note,
+    note: Stop,
     written: Vec<u8>,
     device: Vec<u8>,
 }
@@ -100,7 +100,7 @@ fn with_event(alloc: Global, size: usize) -> Result<Vec<u8>, Fail>
     Ok(input)
 }
 
-fn check(rt: &impl Abort, left: &Left, note: Note, written: &[u8]) {
+fn check(rt: &impl Abort, left: &Left, note: Stop, written: &[u8]) {
     assert_eq!(rt; left.note, note);
     assert_eq!(rt; left.written.as_slice(), written);
 }
@@ -118,7 +118,7 @@ fn one_event_in_any_pieces(rt: HostRuntime) -> Result<(), Fail> {
     ];
     for step in 1..=80 {
         let left = replay(alloc, &input, step, NONE)?;
-        check(&rt, &left, Note::Fine, &answers);
+        check(&rt, &left, Stop::Fine, &answers);
         assert_eq!(rt; left.device.len(), 16_384);
         assert_eq!(rt; &left.device[12_288..12_349], slot.as_slice());
     }
@@ -129,35 +129,35 @@ fn one_event_in_any_pieces(rt: HostRuntime) -> Result<(), Fail> {
 #[test]
 fn inputs(rt: HostRuntime) -> Result<(), Fail> {
     let alloc = rt.alloc();
-    let rows: [(&[u8], Note, &[u8]); 9] = [
+    let rows: [(&[u8], Stop, &[u8]); 9] = [
         (
             b"2 syslog 5 hello\n3 close 0\n",
-            Note::NotBuilt,
+            Stop::NotBuilt,
             b"2 rsp 6 200 OK\n",
         ),
-        (b"002 syslog 0 \n", Note::Fine, b"2 rsp 6 200 OK\n"),
+        (b"002 syslog 0 \n", Stop::Fine, b"2 rsp 6 200 OK\n"),
         (
             b"2 syslog 0\n999999999 syslog 1 x\n",
-            Note::Fine,
+            Stop::Fine,
             b"2 rsp 6 200 OK\n999999999 rsp 6 200 OK\n",
         ),
-        (b"2 syslog 5 hel", Note::NotBuilt, b""),
-        (b"2 syslog 5 helloX", Note::NotBuilt, b""),
-        (b"2 syslog 131073", Note::NotBuilt, b""),
-        (b"2 open 0\n", Note::NotBuilt, b""),
-        (b"2 syslogs 1 x\n", Note::NotBuilt, b""),
-        (b"", Note::Fine, b""),
+        (b"2 syslog 5 hel", Stop::NotBuilt, b""),
+        (b"2 syslog 5 helloX", Stop::NotBuilt, b""),
+        (b"2 syslog 131073", Stop::NotBuilt, b""),
+        (b"2 open 0\n", Stop::NotBuilt, b""),
+        (b"2 syslogs 1 x\n", Stop::NotBuilt, b""),
+        (b"", Stop::Fine, b""),
     ];
     for (behind, note, written) in rows {
         let left = replay(alloc, &joined(alloc, &[OPEN, behind])?, 8192, NONE)?;
         check(&rt, &left, note, &joined(alloc, &[OPENED, written])?);
     }
     let left = replay(alloc, b"", 1, NONE)?;
-    check(&rt, &left, Note::Fine, b"");
+    check(&rt, &left, Stop::Fine, b"");
     let left = replay(alloc, b"1 syslog 1 x\n", 1, NONE)?;
-    check(&rt, &left, Note::NotBuilt, b"");
+    check(&rt, &left, Stop::NotBuilt, b"");
     let left = replay(alloc, b"1 open 14 relp_version=0\n", 1, NONE)?;
-    check(&rt, &left, Note::NotBuilt, b"");
+    check(&rt, &left, Stop::NotBuilt, b"");
     Ok(())
 }
 
@@ -169,11 +169,11 @@ fn an_exact_fit(rt: HostRuntime) -> Result<(), Fail> {
     check(
         &rt,
         &left,
-        Note::Fine,
+        Stop::Fine,
         &joined(alloc, &[OPENED, b"2 rsp 6 200 OK\n"])?,
     );
     let left = replay(alloc, &with_event(alloc, 4041)?, 8192, NONE)?;
-    check(&rt, &left, Note::NotBuilt, OPENED);
+    check(&rt, &left, Stop::NotBuilt, OPENED);
     Ok(())
 }
 
@@ -200,7 +200,7 @@ fn calls_that_fail(rt: HostRuntime) -> Result<(), Fail> {
                 ..NONE
             },
         )?;
-        check(&rt, &left, Note::DiskFault, written);
+        check(&rt, &left, Stop::DiskFault, written);
     }
     let left = replay(
         alloc,
@@ -211,7 +211,7 @@ fn calls_that_fail(rt: HostRuntime) -> Result<(), Fail> {
             ..NONE
         },
     )?;
-    check(&rt, &left, Note::ReadFault, OPENED);
+    check(&rt, &left, Stop::ReadFault, OPENED);
     let left = replay(
         alloc,
         &input,
@@ -221,7 +221,7 @@ fn calls_that_fail(rt: HostRuntime) -> Result<(), Fail> {
             ..NONE
         },
     )?;
-    check(&rt, &left, Note::WriteFault, OPENED);
+    check(&rt, &left, Stop::WriteFault, OPENED);
     assert_eq!(rt; left.device.len(), 16_384);
     assert_eq!(rt; left.device[12_343], b'h');
     Ok(())
@@ -240,7 +240,7 @@ fn nothing_is_done(rt: HostRuntime) -> Result<(), Fail> {
         &["relp", "replay"],
     ] {
         let left = run_on(alloc, empty_device(alloc)?, words, &input, 1, NONE)?;
-        check(&rt, &left, Note::Usage, b"");
+        check(&rt, &left, Stop::Usage, b"");
         assert_eq!(rt; left.device.as_slice(), empty_device(alloc)?.as_slice());
     }
     let zeros = vec![in alloc; 0; 20_480]?;
@@ -255,23 +255,23 @@ fn nothing_is_done(rt: HostRuntime) -> Result<(), Fail> {
             ..NONE
         },
     )?;
-    check(&rt, &left, Note::NotBuilt, b"");
+    check(&rt, &left, Stop::NotBuilt, b"");
     Ok(())
 }
 
 #[test]
 fn texts(rt: HostRuntime) -> Result<(), Fail> {
     let rows = [
-        (Note::Fine, ""),
+        (Stop::Fine, ""),
         (
-            Note::Usage,
+            Stop::Usage,
             "usage: bridge FILE format|replay|list|drain|serve|load",
         ),
-        (Note::NoMemory, "no memory"),
-        (Note::ReadFault, "read fault"),
-        (Note::WriteFault, "write fault"),
-        (Note::DiskFault, "disk fault"),
-        (Note::NotBuilt, "not built yet"),
+        (Stop::NoMemory, "no memory"),
+        (Stop::ReadFault, "read fault"),
+        (Stop::WriteFault, "write fault"),
+        (Stop::DiskFault, "disk fault"),
+        (Stop::NotBuilt, "not built yet"),
     ];
     for (note, text) in rows {
         assert_eq!(rt; note_text(rt.alloc(), &note)?.bytes(), text.as_bytes());

@@ -155,7 +155,10 @@ fn texts(rt: HostRuntime) -> Result<(), Fail> {
 #[test]
 fn lines(rt: HostRuntime) -> Result<(), Fail> {
     let alloc = rt.alloc();
-    assert_eq!(rt; spool_line(alloc, 2, 4096)?.as_str(), "2 slots of 4096 bytes\n");
+    assert_eq!(rt;
+        spool_line(alloc, 2, 4096)?.as_str(),
+        "2 slots of 4096 bytes\n"
+    );
     let rows = [
         (Origin::Relp, "7 4294967296 1 2 relp 5\n"),
         (Origin::LumberData, "7 4294967296 1 2 pairs 5\n"),
