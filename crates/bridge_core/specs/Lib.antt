@@ -2,11 +2,5 @@ pub mod Written
 pub mod Refused
 pub mod Formatted
 pub mod Listed
-pub mod Input
-pub mod Carried
-pub mod Stops
-pub mod Empty
-pub mod Slot
-pub mod Progress
 pub mod Replayed
 pub mod Done

@@ -4,7 +4,7 @@ use Rattle.spool_state.specs.SpoolState.{SpoolState, pending}
 use Rattle.spool_state.specs.Image.{StandsFor}
 use Rattle.spool_state.specs.Rules.{Breaks}
 use Rattle.bridge_words.specs.declared.note.Note.{Note}
-use Rattle.bridge_words.specs.declared.note.Note.TheVariants.{NotSpool, NoMemory, DiskFault}
+use Rattle.bridge_words.specs.declared.note.Note.TheVariants.{Fine, NotSpool, NoMemory, WriteFault, DiskFault}
 use Rattle.bridge_words.specs.Lines.{entry_lines}
 use Rattle.bridge_core.specs.Written.{IsWritten}
 
@@ -23,3 +23,12 @@ IsUnreadable before note = ⊥
 -- much was written as the note says.
 abbrev pub IsListed : List ℕ → Option (List ℕ) → Option (List ℕ) → Note → Type 0
 IsListed before old new note = (IsUnreadable before note × (new ≡ old)) ⊎ ((s : SpoolState) × StandsFor s before × IsWritten note (pending_lines s) old new)
+
+-- how the printing of a spool that was opened may end
+abbrev pub IsListNote : Note → Type 0
+IsListNote Fine = Unit {0}
+IsListNote (NotSpool at) = Unit {0}
+IsListNote NoMemory = Unit {0}
+IsListNote WriteFault = Unit {0}
+IsListNote DiskFault = Unit {0}
+IsListNote note = ⊥

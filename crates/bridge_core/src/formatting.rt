@@ -8,6 +8,7 @@ ghost use Rattle.bridge_words.specs.Lines.{spool_line};
 ghost use Rattle.bridge_words.specs.Words.{IsSize};
 ghost use Rattle.bridge_core.specs.Written.{IsWritten};
 ghost use Rattle.bridge_core.specs.Formatted.{IsFormatted};
+ghost use Rattle.bridge_core.specs.Done.{IsRefusedFirst};
 
 use bridge_words::{Note, spool_line};
 use edge_disk::Disk;
@@ -48,7 +49,8 @@ pub fn format<D: Disk, K: Sink>(
     ensures disk_cause { result ≡ DiskFault → Rose 1 (D.moment disk.old).faults (D.moment disk.new).faults }
     ensures write_cause { result ≡ WriteFault → Rose 1 (K.write_faults output.old) (K.write_faults output.new) }
     ensures known { (result ≢ Usage) × (result ≢ ReadFault) }
-    ensures unchanged { (have want : ℕ) → result ≡ WrongLength have want → (disk.new ≡ disk.old) × (output.new ≡ output.old) }
+    ensures unchanged { (have want : ℕ) → result ≡ WrongLength have want → disk.new ≡ disk.old }
+    ensures unused { IsRefusedFirst result → output.new ≡ output.old }
     ensures formatted { IsFormatted slots size D.tells (D.moment disk.old) (D.moment disk.new) (K.taken output.old) (K.taken output.new) result }
     ensures any_moment { D.tells → LeavesOnly (IsFormatStep slots size (D.moment disk.old)) (D.moment disk.old) (D.moment disk.new) }
 {

@@ -1,5 +1,5 @@
 //! The command `list`: the entries that are not confirmed are printed.
-ghost use Rattle.std.specs.Prelude.{◌≡◌, ◌≢◌, ◌+◌, ◌^◌, ◌≤◌, ◌<◌, [], length, IfOk};
+ghost use Rattle.std.specs.Prelude.{◌≡◌, ◌≢◌, ℕ, ◌+◌, ◌^◌, ◌≤◌, ◌<◌, [], length, IfOk};
 ghost use Rattle.foundation.specs.Faults.{Rose};
 ghost use Rattle.spool_state.specs.SpoolState.{SpoolState};
 ghost use Rattle.spool_state.specs.Image.{StandsFor};
@@ -8,11 +8,12 @@ ghost use Rattle.spool_log.specs.State.{view, IsIn};
 ghost use Rattle.spool_log.specs.Outcome.{pending_from};
 ghost use Rattle.spool_log.specs.Opening.{IsOpening};
 ghost use Rattle.spool_log.specs.declared.opening.Opening.TheVariants.{Keep};
-ghost use Rattle.bridge_words.specs.declared.note.Note.TheVariants.{Usage, ReadFault, WriteFault, DiskFault};
+ghost use Rattle.bridge_words.specs.declared.note.Note.TheVariants.{Usage, WrongLength, ReadFault, WriteFault, DiskFault};
 ghost use Rattle.bridge_words.specs.Lines.{entry_lines};
 ghost use Rattle.bridge_words.specs.Notes.{status_of};
 ghost use Rattle.bridge_core.specs.Written.{IsWritten};
-ghost use Rattle.bridge_core.specs.Listed.{pending_lines, IsListed};
+ghost use Rattle.bridge_core.specs.Listed.{pending_lines, IsListNote, IsListed};
+ghost use Rattle.bridge_core.specs.Done.{IsRefusedFirst};
 
 use crate::ended::Ended;
 use crate::refused::{pend_note, recover_note};
@@ -43,7 +44,7 @@ fn lines_of(alloc: Global, first: u64, entries: &[Entry]) -> Result<Vec<u8>, All
 fn print_entries<K: Sink>(alloc: Global, output: &mut K, first: u64, entries: &[Entry]) -> Note
     requires { first ≤ 2 ^ 63 }
 
-    ensures known { (result ≢ Usage) × (result ≢ ReadFault) × (result ≢ DiskFault) }
+    ensures known { IsListNote result × (result ≢ DiskFault) }
     ensures later { K.write_faults output.old ≤ K.write_faults output.new }
     ensures cause { result ≡ WriteFault → Rose 1 (K.write_faults output.old) (K.write_faults output.new) }
     ensures printed { IsWritten result (entry_lines first entries.now) (K.taken output.old) (K.taken output.new) }
@@ -67,7 +68,7 @@ fn print_part<D: Disk, K: Sink>(
 ) -> Note
     requires { number ≤ spool.old.known.active.first + spool.old.known.active.count }
 
-    ensures known { (result ≢ Usage) × (result ≢ ReadFault) }
+    ensures known { IsListNote result }
     ensures later { (D.moment spool.old.disk).faults ≤ (D.moment spool.new.disk).faults }
     ensures later_writes { K.write_faults output.old ≤ K.write_faults output.new }
     ensures disk_cause { result ≡ DiskFault → Rose 1 (D.moment spool.old.disk).faults (D.moment spool.new.disk).faults }
@@ -85,7 +86,7 @@ fn print_part<D: Disk, K: Sink>(
 
 // Prints all entries that are not confirmed.
 fn print_pending<D: Disk, K: Sink>(alloc: Global, spool: &mut Spool<D>, output: &mut K) -> Note
-    ensures known { (result ≢ Usage) × (result ≢ ReadFault) }
+    ensures known { IsListNote result }
     ensures later { (D.moment spool.old.disk).faults ≤ (D.moment spool.new.disk).faults }
     ensures disk_cause { result ≡ DiskFault → Rose 1 (D.moment spool.old.disk).faults (D.moment spool.new.disk).faults }
     ensures write_cause { result ≡ WriteFault → Rose 1 (K.write_faults output.old) (K.write_faults output.new) }
@@ -113,7 +114,8 @@ fn print_pending<D: Disk, K: Sink>(alloc: Global, spool: &mut Spool<D>, output: 
 /// leaves of the device is what it could leave before, or stands for the same spool.
 pub fn list<D: Disk, K: Sink>(alloc: Global, disk: D, output: &mut K) -> Ended<D>
     ensures status { result.status ≡ status_of result.note }
-    ensures known { (result.note ≢ Usage) × (result.note ≢ ReadFault) }
+    ensures known { (result.note ≢ Usage) × (result.note ≢ ReadFault) × ((have want : ℕ) → result.note ≢ WrongLength have want) }
+    ensures unused { IsRefusedFirst result.note → output.new ≡ output.old }
     ensures disk_cause { result.note ≡ DiskFault → Rose 1 (D.moment disk).faults (D.moment result.disk).faults }
     ensures write_cause { result.note ≡ WriteFault → Rose 1 (K.write_faults output.old) (K.write_faults output.new) }
     ensures listed { D.tells → IsListed (D.moment disk).reads (K.taken output.old) (K.taken output.new) result.note }

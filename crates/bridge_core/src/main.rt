@@ -1,21 +1,14 @@
 //! bridge: takes log events by RELP and keeps them in a spool on a device of a fixed length. The one
-//! contract is that of `bridge`, the top call: what it stores and answers for the frames that it reads.
+//! contract is that of `bridge`, the top call: what it makes, lists, stores and answers for its words.
 #![tactic(auto)]
 
 mod bridge;
-mod carry;
 mod ended;
 mod formatting;
 mod listing;
-mod next;
-mod opening;
 mod program;
-mod replay;
 mod refused;
-mod reply;
-mod slot;
-mod stop;
-mod store;
+mod replaying;
 #[cfg(test)]
 mod tests;
 

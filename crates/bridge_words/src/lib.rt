@@ -8,6 +8,7 @@ mod line;
 mod need;
 mod note;
 mod number;
+mod why;
 
 pub use command::Command;
 pub use line::{entry_line, spool_line};

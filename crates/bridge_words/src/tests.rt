@@ -1,5 +1,5 @@
 use crate::{Command, Need, Note, entry_line, need_of, note_text, spool_line};
-use event_form::{Blob, Entry, Event, Origin};
+use event_form::{Blob, Entry, Event, Origin, Why};
 use std::alloc::Global;
 use std::test::Fail;
 
@@ -15,7 +15,7 @@ fn words_of(alloc: Global, words: &[&str]) -> Result<Vec<String>, Fail> {
 #[test]
 fn commands(rt: HostRuntime) -> Result<(), Fail> {
     let alloc = rt.alloc();
-    let rows: [(&[&str], Command, Need); 6] = [
+    let rows: [(&[&str], Command, Need); 5] = [
         (
             &["format", "2", "4096"],
             Command::Format {
@@ -43,7 +43,6 @@ fn commands(rt: HostRuntime) -> Result<(), Fail> {
             },
         ),
         (&["list"], Command::List, Need::Existing),
-        (&["replay", "relp"], Command::ReplayRelp, Need::Existing),
         (&["replay", "relp"], Command::ReplayRelp, Need::Existing),
     ];
     for (words, command, need) in rows {
@@ -143,7 +142,36 @@ fn texts(rt: HostRuntime) -> Result<(), Fail> {
             77,
             "register spent at 9223372036854775808",
         ),
-        (Note::NotBuilt, 78, "not built yet"),
+        (
+            Note::Fault {
+                at: 75,
+                why: Why::TooLong,
+            },
+            66,
+            "fault at 75: too long",
+        ),
+        (
+            Note::Fault {
+                at: 0,
+                why: Why::AckFromWriter,
+            },
+            66,
+            "fault at 0: ack from writer",
+        ),
+        (Note::Busy { held: 10_000 }, 67, "id table full: 10000 held"),
+        (
+            Note::Truncated { at: 61 },
+            75,
+            "input ended in a frame at 61",
+        ),
+        (Note::NoMore { run: 1 }, 77, "ids of run 1 spent"),
+        (
+            Note::TooMuch {
+                at: 1_099_511_627_776,
+            },
+            77,
+            "connection spent at 1099511627776",
+        ),
     ];
     for (note, status, text) in rows {
         assert_eq!(rt; note.status(), status);
