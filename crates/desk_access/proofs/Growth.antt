@@ -1,5 +1,5 @@
 -- Lists that grow, and lose first entries.
-use Rattle.std.proofs.Common.{◌≡◌, ◌⊎◌, inl, inr, ℕ, ◌+◌, ◌-◌, ◌≤◌, ◌<◌, List, [], ◌∷◌, ◌++◌, length, take, drop, refl, sym, ◌∙◌, ap, subst, arith, append_assoc, length-append}
+use Rattle.std.proofs.Common.{◌≡◌, ℕ, ◌+◌, ◌-◌, ◌≤◌, List, [], ◌∷◌, ◌++◌, length, take, drop, refl, sym, ◌∙◌, ap, arith, append_assoc, length-append}
 use Rattle.std.proofs.lemmas.List.{append-nil, drop-drop, drop-append-le, length-drop}
 use Rattle.std.proofs.Math.Seq.{drop-append-add, drop-append_seam}
 use Rattle.event_form.specs.declared.event.Entry.{Entry}
@@ -42,9 +42,9 @@ grown_shut s slot rest is sound =
       base_rises = omega (arith, gone);
       within = omega (arith, gone, ap length whole, length-append (entries_of slot.segment) (list (shut s rest)));
       list_is = sym (
-      ap (λ (k : ℕ). drop k (list s ++ [])) many
-      ∙ ap (λ (l : List Entry). drop (length (entries_of slot.segment)) l) (append-nil (list s) ∙ whole)
-      ∙ drop-append_seam (entries_of slot.segment) (list (shut s rest)));
+          ap (λ (k : ℕ). drop k (list s ++ [])) many
+          ∙ ap (λ (l : List Entry). drop (length (entries_of slot.segment)) l) (append-nil (list s) ∙ whole)
+          ∙ drop-append_seam (entries_of slot.segment) (list (shut s rest)));
     }
 
 -- where the list ends then

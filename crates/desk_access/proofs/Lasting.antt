@@ -1,6 +1,6 @@
 -- What lasts behind the calls of a journal.
-use Rattle.std.proofs.Common.{◌≡◌, ◌⊎◌, inl, inr, ℕ, ◌+◌, ◌≤◌, ◌<◌, List, [], ◌∷◌, ◌++◌, length, take, drop, refl, sym, ◌∙◌, ap, subst, arith, append_assoc}
-use Rattle.std.specs.Prelude.{All, Result, Ok, Err}
+use Rattle.std.proofs.Common.{◌≡◌, ◌⊎◌, inl, inr, ℕ, ◌+◌, ◌≤◌, ◌<◌, List, [], ◌∷◌, ◌++◌, length, take, drop, refl, sym, ◌∙◌, ap, subst, arith}
+use Rattle.std.specs.Prelude.{Ok, Err}
 use Rattle.std.proofs.lemmas.Bool.{cases_lt}
 use Rattle.std.proofs.lemmas.List.{append-nil}
 use Rattle.event_form.specs.declared.event.Entry.{Entry}
@@ -11,13 +11,13 @@ use Rattle.spool_log.specs.Stages.{IsOneOf, StandsForOne, AllFollow, adding, con
 use Rattle.spool_log.specs.State.{View, IsIn}
 use Rattle.desk_access.specs.Call.{Call, takes, pends, confirms, Record, records_by, calls_of}
 use Rattle.desk_access.specs.Desk.{DeskState, desk_of, Allowed, Goes, changing, StandsWithin, Stood}
-use Rattle.desk_access.specs.History.{IsLater, IsDesk, Grown, Adds, AddsAll, Grows, IsKept, AreKept, IsCallKept, AllKept, asked_by, Was}
+use Rattle.desk_access.specs.History.{IsLater, IsDesk, Grown, Grows, IsKept, AreKept, IsCallKept, AllKept, asked_by, Was}
 use Rattle.desk_access.specs.Alone.{AloneView, alone_view, IsAt, LeadsFrom}
 use Rattle.desk_access.proofs.Growth.{grown_self, grown_then, grown_end, grown_entry}
 use Rattle.desk_access.proofs.Stages.{IsStage, AreStages, later_self, later_then, none_of, one_in, no_stages, adding_stages, confirming_stages, confirming_follow}
 use Rattle.spool_log.proofs.Adding.{adding_follow}
 use Rattle.spool_state.proofs.Following.{follows_self}
-use Rattle.desk_access.proofs.Steps.{Steps, Moves, one_later, steps, stage_adds}
+use Rattle.desk_access.proofs.Steps.{Steps, one_later, steps, stage_adds}
 
 step_later : (x y : DeskState) (call : Call) → IsDesk x → Steps x call y → IsDesk y × IsLater x.spool y.spool
 step_later x y call rules (inl stayed) = (subst IsDesk (sym stayed.1) rules, subst (λ (d : DeskState). IsLater x.spool d.spool) (sym stayed.1) (later_self x.spool rules.sound))

@@ -1,12 +1,12 @@
 -- What one call of the spool leads to, for a desk with one caller.
-use Rattle.std.proofs.Common.{◌≡◌, ◌⊎◌, inl, inr, ℕ, ◌+◌, ◌-◌, ◌≤◌, ◌<◌, Bool, List, [], ◌∷◌, ◌++◌, length, take, drop, refl, sym, ◌∙◌, ap, subst, arith}
-use Rattle.std.specs.Prelude.{All, max, Result, Ok, Err, IsErrOf}
+use Rattle.std.proofs.Common.{◌≡◌, ◌⊎◌, inl, inr, ℕ, ◌+◌, ◌≤◌, ◌<◌, Bool, List, [], ◌∷◌, length, refl, sym, ◌∙◌, ap, subst, arith}
+use Rattle.std.specs.Prelude.{All, Result, Ok, Err, IsErrOf}
 use Rattle.std.specs.Global.{Vec}
 use Rattle.std.proofs.lemmas.Grind.{common_steps}
 use Rattle.foundation.specs.Faults.{Rose}
 use Rattle.event_form.specs.declared.event.Entry.{Entry}
 use Rattle.event_form.specs.Entry.{IsEntry}
-use Rattle.spool_state.specs.SpoolState.{SpoolState, base, end, list}
+use Rattle.spool_state.specs.SpoolState.{SpoolState, end}
 use Rattle.edge_disk.specs.Disk.{Moment, IsLawful, LeavesOnly}
 use Rattle.edge_disk.proofs.Moments.{started, weaker}
 use Rattle.spool_log.specs.declared.fault.Receipt.{Receipt}
@@ -23,9 +23,9 @@ use Rattle.spool_log.specs.Take.{taken, take_doubt, TakesNothing}
 use Rattle.spool_log.specs.Confirm.{confirmed, confirm_doubt}
 use Rattle.spool_log.specs.Outcome.{StaysInDoubt, GoesOn, TakesFrom, Pends, PendsFrom, ConfirmsFrom}
 use Rattle.spool_log.proofs.Numbers.{end_known}
-use Rattle.desk_access.specs.Call.{Call, takes, pends, confirms, Record, records_by, listed, failures_of, failures_in}
-use Rattle.desk_access.specs.Desk.{DeskState, desk_of, Allowed, Goes, StandsWithin, Stood, StaysDoubtful, Reads}
-use Rattle.desk_access.specs.Alone.{AloneView, alone_view, IsAt, LeadsFrom, RunsTo}
+use Rattle.desk_access.specs.Call.{Call, takes, pends, confirms, Record, records_by, listed, failures_of}
+use Rattle.desk_access.specs.Desk.{DeskState, desk_of, Allowed, StandsWithin, Stood, StaysDoubtful, Reads}
+use Rattle.desk_access.specs.Alone.{alone_view, IsAt, LeadsFrom, RunsTo}
 use Rattle.desk_access.specs.Journal.{stood_here}
 use Rattle.desk_access.proofs.Lasting.{allowed_later}
 

@@ -1,10 +1,10 @@
 -- The stages of a change.
-use Rattle.std.proofs.Common.{◌≡◌, ◌⊎◌, inl, inr, ℕ, zero, suc, ◌+◌, ◌-◌, ◌^◌, ◌≤◌, ◌<◌, List, [], ◌∷◌, ◌++◌, length, flat_map, get_or, Option, None, Some, refl, sym, ◌∙◌, ap, subst, arith, length-append}
+use Rattle.std.proofs.Common.{◌≡◌, ◌⊎◌, inl, inr, ℕ, zero, suc, ◌+◌, ◌-◌, ◌^◌, ◌≤◌, ◌<◌, List, [], ◌∷◌, length, flat_map, get_or, Option, None, Some, refl, sym, ◌∙◌, subst, arith, length-append}
 use Rattle.std.specs.Prelude.{All, nat_le}
 use Rattle.std.proofs.lemmas.Bool.{cond_both, leb-true, leb-false}
 use Rattle.event_form.specs.declared.event.Entry.{Entry}
-use Rattle.spool_state.specs.Segment.{IsGroup, Segment, entries_of, need_of, segment_text}
-use Rattle.spool_state.specs.SpoolState.{OpenSlot, SpoolState, base, end, room, most_room, Follows, IsSound}
+use Rattle.spool_state.specs.Segment.{IsGroup, entries_of, need_of, segment_text}
+use Rattle.spool_state.specs.SpoolState.{OpenSlot, SpoolState, end, room, Follows, IsSound}
 use Rattle.spool_state.specs.Change.{added, begun, shut, registered}
 use Rattle.spool_state.proofs.Segments.{empty_length}
 use Rattle.spool_state.proofs.Adding.{sound-added}

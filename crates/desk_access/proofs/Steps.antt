@@ -1,8 +1,7 @@
 -- What one call leads to.
-use Rattle.std.proofs.Common.{◌≡◌, ◌⊎◌, inl, inr, ℕ, ◌+◌, ◌≤◌, ◌<◌, List, [], ◌∷◌, ◌++◌, length, get_or, refl, sym, ◌∙◌, ap, subst, arith}
+use Rattle.std.proofs.Common.{◌≡◌, ◌⊎◌, inl, inr, ℕ, ◌≤◌, ◌<◌, List, [], ◌∷◌, length, get_or, refl, sym, subst, arith}
 use Rattle.std.specs.Prelude.{All, Result, Ok, Err}
 use Rattle.event_form.specs.declared.event.Entry.{Entry}
-use Rattle.event_form.specs.Entry.{IsEntry}
 use Rattle.spool_state.specs.Segment.{IsGroup}
 use Rattle.spool_state.specs.SpoolState.{SpoolState, end, IsSound}
 use Rattle.spool_log.specs.declared.fault.Receipt.{Receipt}
@@ -18,10 +17,10 @@ use Rattle.spool_log.specs.Stages.{IsOneOf, adding, confirming, last_of}
 use Rattle.spool_log.specs.Take.{Takes, taken, take_doubt}
 use Rattle.spool_log.specs.Confirm.{Confirms, confirmed, confirm_doubt}
 use Rattle.desk_access.specs.Call.{Call, takes, pends, confirms}
-use Rattle.desk_access.specs.Desk.{DeskState, desk_of, Allowed, IsEmptyReceipt, StaysDoubtful, TakesOn}
+use Rattle.desk_access.specs.Desk.{DeskState, desk_of, Allowed, TakesOn}
 use Rattle.desk_access.specs.History.{IsLater, IsDesk, Grown, Adds, TakeAdds}
 use Rattle.desk_access.proofs.Growth.{grown_self}
-use Rattle.desk_access.proofs.Stages.{IsStage, AreStages, later_self, later_then, none_of, last_in, one_in, adding_stages, adding_later, confirming_stages, confirming_later}
+use Rattle.desk_access.proofs.Stages.{AreStages, later_self, none_of, last_in, one_in, adding_stages, adding_later, confirming_stages, confirming_later}
 
 -- a state that is one of those of a desk is later than the first
 pub one_later : (x : DeskState) (m : SpoolState) → IsDesk x → IsOneOf x.spool x.doubt m → IsLater x.spool m

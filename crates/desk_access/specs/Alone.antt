@@ -1,12 +1,12 @@
 -- A desk with one caller.
-use Rattle.std.specs.Prelude.{◌≡◌, ℕ, ◌≤◌, Bool, List, []}
+use Rattle.std.specs.Prelude.{◌≡◌, ℕ, ◌≤◌, Bool, List}
 use Rattle.foundation.specs.Faults.{Rose}
-use Rattle.spool_state.specs.SpoolState.{SpoolState, end}
+use Rattle.spool_state.specs.SpoolState.{end}
 use Rattle.edge_disk.specs.Disk.{Moment, LeavesOnly}
 use Rattle.spool_log.specs.declared.known.Known.{Known}
 use Rattle.spool_log.specs.State.{View, view, IsIn}
 use Rattle.desk_access.specs.Call.{Call, Record, records_by, failures_of}
-use Rattle.desk_access.specs.Desk.{DeskState, desk_of, Goes, Stood}
+use Rattle.desk_access.specs.Desk.{DeskState, Goes, Stood}
 use Rattle.desk_access.specs.History.{IsDesk}
 
 -- The desk at a moment: its spool, and the greatest end and cursor that were answered.

@@ -1,5 +1,5 @@
 -- The calls of a desk that change it or read its entries, each with its answer.
-use Rattle.std.specs.Prelude.{◌≡◌, ◌≢◌, ℕ, ◌+◌, ◌==◌, Bool, if◌then◌else◌, List, [], ◌∷◌, ◌++◌, Result, Ok, Err}
+use Rattle.std.specs.Prelude.{◌≡◌, ℕ, ◌+◌, ◌==◌, if◌then◌else◌, List, [], ◌∷◌, ◌++◌, Result, Ok, Err}
 use Rattle.std.specs.Global.{Vec}
 use Rattle.event_form.specs.declared.event.Entry.{Entry}
 use Rattle.spool_log.specs.declared.fault.Receipt.{Receipt}

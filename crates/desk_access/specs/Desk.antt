@@ -2,11 +2,10 @@
 use Rattle.std.specs.Prelude.{◌≡◌, ◌⊎◌, ℕ, ◌-◌, ◌<◌, ◌≤◌, max, List, [], ◌∷◌, ◌++◌, length, take, drop, All, Result, Ok, Err}
 use Rattle.event_form.specs.declared.event.Entry.{Entry}
 use Rattle.event_form.specs.Entry.{IsEntry}
-use Rattle.spool_state.specs.SpoolState.{SpoolState, base, end, list, Follows, IsSound}
+use Rattle.spool_state.specs.SpoolState.{SpoolState, base, end, list}
 use Rattle.spool_log.specs.declared.fault.Receipt.{Receipt}
 use Rattle.spool_log.specs.declared.fault.TakeFault.{TakeFault}
 use Rattle.spool_log.specs.declared.fault.PendFault.{PendFault}
-use Rattle.spool_log.specs.declared.fault.ConfirmFault.{ConfirmFault}
 use Rattle.spool_log.specs.Fault.{as_take, as_confirm}
 use Rattle.spool_log.specs.Stages.{IsOneOf, StandsForOne, adding, confirming}
 use Rattle.spool_log.specs.Take.{Takes, taken, take_doubt}

@@ -1,18 +1,16 @@
 -- Calls one after another.
-use Rattle.std.proofs.Common.{◌≡◌, ◌⊎◌, inl, inr, ℕ, ◌+◌, ◌-◌, ◌^◌, ◌≤◌, ◌==◌, List, [], ◌∷◌, ◌++◌, refl, sym, ◌∙◌, ap, subst, arith, append_assoc, if◌then◌else◌}
-use Rattle.std.specs.Prelude.{min, Result, Ok, Err}
+use Rattle.std.proofs.Common.{◌≡◌, inl, inr, ℕ, ◌+◌, ◌≤◌, ◌==◌, List, [], ◌∷◌, ◌++◌, refl, sym, ◌∙◌, ap, subst, arith, append_assoc}
 use Rattle.std.proofs.lemmas.Bool.{cond-true, eq-eqb}
-use Rattle.std.proofs.lemmas.List.{append-nil}
 use Rattle.std.proofs.lemmas.Grind.{common_steps}
 use Rattle.foundation.specs.Faults.{Rose}
-use Rattle.edge_disk.specs.Disk.{Moment, IsLawful, LeavesOnly}
+use Rattle.edge_disk.specs.Disk.{IsLawful, LeavesOnly}
 use Rattle.edge_disk.proofs.Moments.{started, both}
 use Rattle.spool_log.specs.Stages.{StandsForOne}
 use Rattle.spool_state.specs.SpoolState.{end}
 use Rattle.desk_access.specs.History.{IsDesk}
-use Rattle.desk_access.specs.Call.{Call, Record, records_by, own_of, failures_in, failures_of}
+use Rattle.desk_access.specs.Call.{Call, Record, records_by, own_of, failures_of}
 use Rattle.desk_access.specs.Desk.{DeskState, Goes, StandsWithin, Stood}
-use Rattle.desk_access.specs.Alone.{AloneView, IsAt, LeadsFrom, RunsTo, HasSeen}
+use Rattle.desk_access.specs.Alone.{AloneView, LeadsFrom, RunsTo, HasSeen}
 
 pub goes_then : (x y z : DeskState) (first more : List Record) → Goes x first y → Goes y more z → Goes x (first ++ more) z
 goes_then x y z [] more p q = subst (λ (d : DeskState). Goes d more z) p q

@@ -14,3 +14,6 @@ mod desk;
 pub use access::Access;
 pub use alone::Alone;
 pub use desk::Desk;
+
+#[cfg(test)]
+mod tests;

@@ -3,12 +3,13 @@ use Rattle.std.specs.Prelude.{◌≡◌, ℕ, Bool, true, false, ◌||◌, List,
 use Rattle.std.proofs.Math.Bool.{or_assoc}
 use Rattle.std.proofs.Common.{refl, sym, ◌∙◌, ap, subst, zero, suc, arith}
 use Rattle.std.proofs.lemmas.Option.{slice_get_within}
+use Rattle.std.proofs.lemmas.Bool.{false≢true}
 use Rattle.std.proofs.lemmas.List.Folds.{list_any-append}
 use Rattle.relp_frame.specs.declared.frame.Frame.{Frame}
 use Rattle.relp_session.specs.declared.act.RelpAct.{RelpAct}
 use Rattle.relp_session.specs.Request.{is_opening}
 use Rattle.relp_session.specs.Answer.{IsAnswer}
-use Rattle.relp_session.specs.Session.{opened, after, Steps, ActsByFrames, OpenedOn}
+use Rattle.relp_session.specs.Session.{opened, after, Steps, ActsByFrames, OpenedOn, OpenedByOne}
 
 or_false : (b : Bool) → (b || false) ≡ b
 or_false true = refl
@@ -40,3 +41,18 @@ steps_at was (g ∷ frames) (a ∷ acts) s (suc i) f act p q = subst (λ b. IsAn
 
 pub acts_by_frames : ActsByFrames
 acts_by_frames frames acts s = record { count = steps_count false frames acts s; each = steps_at false frames acts s }
+
+-- the frame that opened the session
+abbrev Opener : List Frame → Type 0
+Opener frames = (i : ℕ) × (f : Frame) × (slice_get frames i ≡ Some f) × (opened (take i frames) ≡ false) × (is_opening f ≡ true)
+
+opener_behind : (f : Frame) (fs : List Frame) → is_opening f ≡ false → Opener fs → Opener (f ∷ fs)
+opener_behind f fs h o = (suc o.0, o.1, o.2, ap (λ b. b || opened (take o.0 fs)) h ∙ o.3, o.4)
+
+opener_among : (f : Frame) (fs : List Frame) (b : Bool) → is_opening f ≡ b → (b || opened fs) ≡ true → (opened fs ≡ true → Opener fs) → Opener (f ∷ fs)
+opener_among f fs true h e later = (0, f, refl, refl, h)
+opener_among f fs false h e later = opener_behind f fs h (later e)
+
+pub opened_by_one : OpenedByOne
+opened_by_one [] e = absurd (false≢true e)
+opened_by_one (f ∷ fs) e = opener_among f fs (is_opening f) refl e (opened_by_one fs)

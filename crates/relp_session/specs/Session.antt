@@ -1,13 +1,13 @@
 -- A session over a list of frames.
-use Rattle.std.specs.Prelude.{◌≡◌, ℕ, Bool, false, ◌||◌, List, [], ◌∷◌, ◌++◌, length, take, slice_get, Some}
+use Rattle.std.specs.Prelude.{◌≡◌, ℕ, Bool, true, false, ◌||◌, List, [], ◌∷◌, ◌++◌, length, take, slice_get, Some}
 use Rattle.std.specs.List.{list_any}
 use Rattle.relp_frame.specs.declared.frame.Frame.{Frame}
 use Rattle.relp_session.specs.declared.act.RelpAct.{RelpAct}
 use Rattle.relp_session.specs.Request.{is_opening}
 use Rattle.relp_session.specs.Answer.{IsAnswer}
 
--- One of the frames is an `open` that is accepted where it stands: one in the version that is spoken
--- here. The first of them finds the session not open, so it is accepted.
+-- One of the frames is an `open` in the version that is spoken here. The first of these is accepted
+-- where it stands, since it finds the session not open.
 abbrev pub opened : List Frame → Bool
 opened frames = list_any is_opening frames
 
@@ -35,3 +35,8 @@ ActsByFrames = (frames : List Frame) (acts : List RelpAct) → Steps false frame
 -- The state before a frame is `opened` of those before it.
 abbrev pub OpenedOn : Type 0
 OpenedOn = (before : List Frame) (f : Frame) → opened (before ++ f ∷ []) ≡ after (opened before) f
+
+-- Frames that have opened a session have the one among them that did: an `open` in the version that is
+-- spoken here, behind frames that had not opened it.
+abbrev pub OpenedByOne : Type 0
+OpenedByOne = (frames : List Frame) → opened frames ≡ true → (i : ℕ) × (f : Frame) × (slice_get frames i ≡ Some f) × (opened (take i frames) ≡ false) × (is_opening f ≡ true)

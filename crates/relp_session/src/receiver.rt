@@ -16,7 +16,8 @@ use std::marker::Model;
 
 const OFFERS: &[u8] = b"200 OK\nrelp_version=0\nrelp_software=bridge,1,local\ncommands=syslog";
 
-/// The receiver's side of one session. Contracts see whether the session is open.
+/// The receiver's side of one session (rsyslog's RELP specification, COMMAND SEMANTICS). Contracts see
+/// whether the session is open.
 #[derive(Drop, Debug)]
 pub struct RelpCore {
     open: bool,

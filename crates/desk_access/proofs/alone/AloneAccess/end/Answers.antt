@@ -1,4 +1,4 @@
-use Rattle.std.proofs.Common.{◌≤◌, arith}
+use Rattle.std.proofs.Common.{arith}
 use Rattle.spool_log.specs.State.{view}
 use Rattle.desk_access.proofs.Leading.{end_is, told}
 use Rattle.desk_access.proofs.alone.AloneAccess.end.Goals as goal

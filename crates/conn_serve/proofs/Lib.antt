@@ -1,0 +1,6 @@
+mod Acting
+mod Counting
+mod Leading
+mod Splitting
+mod Sessions
+mod Running
