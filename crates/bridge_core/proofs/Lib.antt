@@ -1,6 +1,4 @@
-pub mod Emptiness
-pub mod Replaying
-pub mod Reading
-pub mod Running
-pub mod Stopping
-pub mod Storing
+pub mod Printing
+pub mod Sure
+pub mod Replays
+pub mod Doing

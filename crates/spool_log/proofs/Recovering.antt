@@ -18,7 +18,7 @@ use Rattle.spool_log.specs.Fault.{as_recover}
 use Rattle.spool_log.specs.Knows.{IsStored}
 use Rattle.spool_log.specs.Stages.{StandsForOne}
 use Rattle.spool_log.specs.State.{view}
-use Rattle.spool_log.specs.Opening.{raising, opened, CanOpen, Refuses, IsBrokenAs, IsOpening, Opens}
+use Rattle.spool_log.specs.Opening.{raising, opened, CanOpen, Refuses, IsRefusedAs, IsOpening, Opens}
 use Rattle.spool_log.proofs.Stored.{in_stored}
 
 -- a device that is read
@@ -31,10 +31,10 @@ open_raised opening s m mid new lawful call stands run =
     both _ _ (IsOpening opening m) m mid new (untouched_run m.image m mid lawful (λ c image. image) call) run (λ c h. inl h) (λ c h. inr (s, stands, h))
 
 -- a fault of reading
-pub read_broken : (c : List ℕ) (fault : ReadFault) → IsReadFault c fault → IsBrokenAs c (as_recover fault)
-read_broken c (NotSpool at) is = is
-read_broken c DiskFault is = tt
-read_broken c NoMemory is = tt
+pub read_broken : (opening : Opening) (c : List ℕ) (fault : ReadFault) → IsReadFault c fault → IsRefusedAs opening c (as_recover fault)
+read_broken opening c (NotSpool at) is = is
+read_broken opening c DiskFault is = tt
+read_broken opening c NoMemory is = tt
 
 pub read_refused : (opening : Opening) (s : SpoolState) (c : List ℕ) (fault : ReadFault) → IsReadFault c fault → StandsFor s c → Refuses opening s (as_recover fault)
 read_refused opening s c (NotSpool at) is stands = stands_unbroken s c stands at is
@@ -58,12 +58,12 @@ opens opening s device known new stands left settled stored = record {
 }
 
 -- a fault of raising the run is none of reading
-pub refused_unbroken : (opening : Opening) (s : SpoolState) (c : List ℕ) (fault : RecoverFault) → Refuses opening s fault → IsBrokenAs c fault
-refused_unbroken opening s c (Recover.NotSpool at) is = absurd is
-refused_unbroken opening s c (Recover.RunsSpent run) is = tt
-refused_unbroken opening s c (Recover.Worn ordinal) is = tt
-refused_unbroken opening s c Recover.DiskFault is = tt
-refused_unbroken opening s c Recover.NoMemory is = tt
+pub refused_unbroken : (opening : Opening) (s : SpoolState) (c : List ℕ) (fault : RecoverFault) → StandsFor s c → Refuses opening s fault → IsRefusedAs opening c fault
+refused_unbroken opening s c (Recover.NotSpool at) stands is = absurd is
+refused_unbroken opening s c (Recover.RunsSpent run) stands is = (s, stands, is)
+refused_unbroken opening s c (Recover.Worn ordinal) stands is = (s, stands, is)
+refused_unbroken opening s c Recover.DiskFault stands is = tt
+refused_unbroken opening s c Recover.NoMemory stands is = tt
 
 pub open_raised_as : (opening : Opening) → opening ≡ Raise → (s : SpoolState) (m mid new : Moment) → IsLawful m → IsUntouched m mid → StandsFor s m.reads → LeavesOnly (StandsForOne s (raising Raise s)) mid new → LeavesOnly (IsOpening opening m) m new
 open_raised_as opening is s m mid new lawful call stands run = subst (λ (o : Opening). LeavesOnly (IsOpening o m) m new) (sym is) (open_raised Raise s m mid new lawful call stands run)

@@ -34,13 +34,14 @@ Refuses opening s (Worn ordinal) = (opening ≡ Raise) × (s.run < 2097151) × (
 Refuses opening s DiskFault = Unit {0}
 Refuses opening s NoMemory = Unit {0}
 
--- where the device is said to be no spool, it breaks a rule, the first one at that place
-abbrev pub IsBrokenAs : List ℕ → RecoverFault → Type 0
-IsBrokenAs c (NotSpool at) = Breaks at c
-IsBrokenAs c (RunsSpent run) = Unit {0}
-IsBrokenAs c (Worn ordinal) = Unit {0}
-IsBrokenAs c DiskFault = Unit {0}
-IsBrokenAs c NoMemory = Unit {0}
+-- Why a device with these bytes is refused: it breaks a rule, the first one at that place; or it stands for a state
+-- whose run or register can't be raised.
+abbrev pub IsRefusedAs : Opening → List ℕ → RecoverFault → Type 0
+IsRefusedAs opening c (NotSpool at) = Breaks at c
+IsRefusedAs opening c (RunsSpent run) = (s : SpoolState) × StandsFor s c × Refuses opening s (RunsSpent run)
+IsRefusedAs opening c (Worn ordinal) = (s : SpoolState) × StandsFor s c × Refuses opening s (Worn ordinal)
+IsRefusedAs opening c DiskFault = Unit {0}
+IsRefusedAs opening c NoMemory = Unit {0}
 
 -- What a crash leaves of a device while it is opened: what it could leave before, or what stands for the state
 -- that the device stood for, with the run raised or not.

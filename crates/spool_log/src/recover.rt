@@ -7,7 +7,7 @@ ghost use Rattle.edge_disk.specs.Disk.{IsSettled, LeavesOnly};
 ghost use Rattle.spool_log.specs.Knows.{IsStored};
 ghost use Rattle.spool_log.specs.State.{KnowsDevice};
 ghost use Rattle.spool_log.specs.Stages.{StandsForOne};
-ghost use Rattle.spool_log.specs.Opening.{raising, opened, CanOpen, Refuses, IsBrokenAs, IsOpening};
+ghost use Rattle.spool_log.specs.Opening.{raising, opened, CanOpen, Refuses, IsRefusedAs, IsOpening};
 
 use crate::read::read_known;
 use crate::{Known, Opening, RecoverFault, Spool};
@@ -51,7 +51,7 @@ fn open<D: Disk>(alloc: Global, disk: &mut D, opening: Opening) -> Result<Known,
     ensures durable { OnOk result (D.tells → IsSettled (D.moment disk.new)) }
     ensures found { IfOk result (λ known. D.tells → (s : SpoolState) × StandsFor s (D.moment disk.old).reads × CanOpen opening s × IsStored (opened opening s) known (D.moment disk.new).reads) }
     ensures refused { IfErr result (λ fault. (s : SpoolState) → D.tells → StandsFor s (D.moment disk.old).reads → Refuses opening s fault) }
-    ensures broken { IfErr result (λ fault. D.tells → IsBrokenAs (D.moment disk.old).reads fault) }
+    ensures broken { IfErr result (λ fault. D.tells → IsRefusedAs opening (D.moment disk.old).reads fault) }
     ensures any_moment { D.tells → LeavesOnly (IsOpening opening (D.moment disk.old)) (D.moment disk.old) (D.moment disk.new) }
 {
     disk.sync()?;
@@ -91,7 +91,7 @@ impl<D: Disk> Spool<D> {
 
         ensures opened { IfOk result (λ spool. D.tells → (s : SpoolState) × Opens opening s (D.moment disk).reads (view spool.known spool.doubt (D.moment spool.disk))) }
         ensures refused { IfErr result (λ refusal. (s : SpoolState) → D.tells → StandsFor s (D.moment disk).reads → Refuses opening s refusal.fault) }
-        ensures broken { IfErr result (λ refusal. D.tells → IsBrokenAs (D.moment disk).reads refusal.fault) }
+        ensures broken { IfErr result (λ refusal. D.tells → IsRefusedAs opening (D.moment disk).reads refusal.fault) }
         ensures any_moment { D.tells → MatchResult result (λ spool. LeavesOnly (IsOpening opening (D.moment disk)) (D.moment disk) (D.moment spool.disk)) (λ refusal. LeavesOnly (IsOpening opening (D.moment disk)) (D.moment disk) (D.moment refusal.disk)) }
     {
         let Ok(buffer) = vec![in alloc; 0; 65_536] else {

@@ -8,7 +8,7 @@ use Rattle.spool_log.specs.declared.opening.Opening.TheVariants.{Raise}
 use Rattle.spool_log.specs.declared.known.Known.{Known}
 use Rattle.spool_log.specs.Fault.{as_recover}
 use Rattle.spool_log.specs.Knows.{IsStored}
-use Rattle.spool_log.specs.Opening.{Refuses, IsBrokenAs}
+use Rattle.spool_log.specs.Opening.{Refuses, IsRefusedAs}
 use Rattle.spool_log.proofs.Mending.{err_is}
 use Rattle.spool_log.proofs.Recovering.{open_read, open_raised_as, read_broken, read_refused, refused_as, found_as, same_stored, refused_unbroken}
 use Rattle.spool_log.proofs.recover.open.Goals as goal
@@ -20,8 +20,8 @@ returns-in_err-known-clause-refused g c =
 
 pub returns-in_err-known-clause-broken : goal.returns-in_err-known-clause-broken
 returns-in_err-known-clause-broken g c =
-    subst (λ (r : Result Known RecoverFault). IfErr r (λ fault. g.D.Disk.tells → IsBrokenAs (g.D.Disk.moment c.args.disk.now).reads fault)) (sym (err_is _ _ c.from_residual-in_err-known.ensures.1))
-    (λ tells. subst (λ (d : List ℕ). IsBrokenAs d (as_recover c.in_err-known.field-0.0)) (c.sync.ensures.told tells).same (read_broken _ c.in_err-known.field-0.0 (c.in_err-known.ensures.broken tells)))
+    subst (λ (r : Result Known RecoverFault). IfErr r (λ fault. g.D.Disk.tells → IsRefusedAs c.args.opening (g.D.Disk.moment c.args.disk.now).reads fault)) (sym (err_is _ _ c.from_residual-in_err-known.ensures.1))
+    (λ tells. subst (λ (d : List ℕ). IsRefusedAs c.args.opening d (as_recover c.in_err-known.field-0.0)) (c.sync.ensures.told tells).same (read_broken c.args.opening _ c.in_err-known.field-0.0 (c.in_err-known.ensures.broken tells)))
 
 pub raise-requires-clause-settled : goal.raise-requires-clause-settled
 raise-requires-clause-settled g c = λ tells. still_settled _ _ (c.in_ok-sync.ensures.durable tells) (c.read_known.ensures.told tells)
@@ -41,11 +41,12 @@ returns-in_err-raise-in-Raise-clause-refused g c =
 
 pub returns-in_err-raise-in-Raise-clause-broken : goal.returns-in_err-raise-in-Raise-clause-broken
 returns-in_err-raise-in-Raise-clause-broken g c =
-    subst (λ (r : Result Known RecoverFault). IfErr r (λ fault. g.D.Disk.tells → IsBrokenAs (g.D.Disk.moment c.args.disk.now).reads fault)) (sym (err_is _ _ c.from_residual-in_err-raise-in-Raise.ensures.1))
+    subst (λ (r : Result Known RecoverFault). IfErr r (λ fault. g.D.Disk.tells → IsRefusedAs c.args.opening (g.D.Disk.moment c.args.disk.now).reads fault)) (sym (err_is _ _ c.from_residual-in_err-raise-in-Raise.ensures.1))
     (λ tells.
     let state = c.in_ok-known.ensures.found tells in
     let stored = subst (IsStored state.0 c.in_ok-known.known) (sym (c.read_known.ensures.told tells).same) state.1 in
-    refused_unbroken Raise state.0 _ c.in_err-raise-in-Raise.field-0.0 (c.in_err-raise-in-Raise.ensures.refused state.0 tells stored))
+    let stands = subst (StandsFor state.0) (c.sync.ensures.told tells).same state.1.stands in
+    refused_unbroken c.args.opening state.0 _ c.in_err-raise-in-Raise.field-0.0 stands (refused_as c.args.opening c.in-Raise.is state.0 c.in_err-raise-in-Raise.field-0.0 (c.in_err-raise-in-Raise.ensures.refused state.0 tells stored)))
 
 pub returns-in_err-raise-in-Raise-clause-any_moment : goal.returns-in_err-raise-in-Raise-clause-any_moment
 returns-in_err-raise-in-Raise-clause-any_moment g c = λ tells.

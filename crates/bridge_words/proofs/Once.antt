@@ -1,0 +1,24 @@
+-- Words are one command at most.
+use Rattle.std.proofs.Common.{◌≡◌, ℕ, List, refl, sym, ◌∙◌, ap}
+use Rattle.bridge_words.specs.declared.command.Command.{Command}
+use Rattle.bridge_words.specs.declared.command.Command.TheVariants.{Format, List as ListCommand, ReplayRelp}
+use Rattle.bridge_words.specs.Words.{IsNumber, IsCommand}
+
+one_number : (n m : ℕ) (a b : List ℕ) → a ≡ b → IsNumber n a → IsNumber m b → n ≡ m
+one_number n m a b same x y = let p = x.value in let q = y.value in cc
+
+pub one_command : (c d : Command) (words : List (List ℕ)) → IsCommand c words → IsCommand d words → c ≡ d
+one_command (Format slots size) (Format slots' size') words x y =
+    let is = x.2 in
+    let is' = y.2 in
+    let s : slots ≡ slots' = one_number slots slots' x.0 y.0 (cc) x.3.slots_is y.3.slots_is in
+    let z : size ≡ size' = one_number size size' x.1 y.1 (cc) x.3.size_is y.3.size_is in
+    cc
+one_command (Format slots size) ListCommand words x y = let is = x.2 in absurd (cc)
+one_command (Format slots size) ReplayRelp words x y = let is = x.2 in absurd (cc)
+one_command ListCommand (Format slots size) words x y = let is = y.2 in absurd (cc)
+one_command ListCommand ListCommand words x y = refl
+one_command ListCommand ReplayRelp words x y = absurd (cc)
+one_command ReplayRelp (Format slots size) words x y = let is = y.2 in absurd (cc)
+one_command ReplayRelp ListCommand words x y = absurd (cc)
+one_command ReplayRelp ReplayRelp words x y = refl
