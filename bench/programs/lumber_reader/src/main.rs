@@ -15,7 +15,7 @@ use std::time::{Duration, Instant};
 const FRAMES: u32 = 2048;
 
 /// How many windows the stream has.
-const WINDOWS: u32 = 64;
+const WINDOWS: u32 = 4;
 
 /// How many bytes a payload has.
 const PAYLOAD: usize = 100;
@@ -23,8 +23,8 @@ const PAYLOAD: usize = 100;
 /// How many bytes come at a time.
 const PIECE: usize = 8192;
 
-/// How often the stream is read.
-const ROUNDS: u32 = 20;
+/// How often the stream is read: short runs say more where other work goes on beside.
+const ROUNDS: u32 = 400;
 
 /// A reader, and how many bytes it was fed.
 #[derive(Drop)]
