@@ -128,14 +128,21 @@ fn pieces_are_cut_anywhere(rt: HostRuntime) -> Result<(), Fail> {
     )?;
     let want = joined(
         alloc,
-        &[OPENED, b"2 rsp 6 200 OK\n3 rsp 6 200 OK\n4 rsp 0\n0 serverclose 0\n"],
+        &[
+            OPENED,
+            b"2 rsp 6 200 OK\n3 rsp 6 200 OK\n4 rsp 0\n0 serverclose 0\n",
+        ],
     )?;
     for step in [1, 2, 61, 1000] {
         let left = run(alloc, &input, step, NONE)?;
         assert_eq!(rt; left.attended.talk, Talk::Closed, "step {step}");
         assert_eq!(rt; left.attended.taken, 2, "step {step}");
         assert_eq!(rt; left.written, want, "step {step}");
-        assert_eq!(rt; left.entries.as_slice(), b"7 0 2 first\n7 1 3 second\n".as_slice(), "step {step}");
+        assert_eq!(rt;
+            left.entries.as_slice(),
+            b"7 0 2 first\n7 1 3 second\n".as_slice(),
+            "step {step}"
+        );
     }
     Ok(())
 }
@@ -160,7 +167,13 @@ fn each_frame_is_answered_by_the_state(rt: HostRuntime) -> Result<(), Fail> {
         ],
     )?;
     let left = run(alloc, &input, 1000, NONE)?;
-    assert_eq!(rt; left.attended, Attended { talk: Talk::Ended, taken: 1 });
+    assert_eq!(rt;
+        left.attended,
+        Attended {
+            talk: Talk::Ended,
+            taken: 1
+        }
+    );
     assert_eq!(rt; left.written, want);
     assert_eq!(rt; left.entries.as_slice(), b"7 0 5 \n".as_slice());
     Ok(())
@@ -173,7 +186,14 @@ fn an_ending_tells_its_place(rt: HostRuntime) -> Result<(), Fail> {
         (b"", Talk::Ended, 0),
         (b"2 syslog 5 first\n", Talk::Ended, 1),
         (b"2 syslog 5 first\n3 sys", Talk::Truncated { at: 78 }, 1),
-        (b"2 syslog 5 first\n3 sys-log", Talk::Fault { at: 83, why: Why::Command }, 1),
+        (
+            b"2 syslog 5 first\n3 sys-log",
+            Talk::Fault {
+                at: 83,
+                why: Why::Command,
+            },
+            1,
+        ),
         (b"2 syslog 5 first\n3 close 0\n-", Talk::Closed, 1),
     ];
     for (behind, talk, taken) in rows {
@@ -184,7 +204,13 @@ fn an_ending_tells_its_place(rt: HostRuntime) -> Result<(), Fail> {
         }
     }
     let left = run(alloc, b"", 1, NONE)?;
-    assert_eq!(rt; left.attended, Attended { talk: Talk::Ended, taken: 0 });
+    assert_eq!(rt;
+        left.attended,
+        Attended {
+            talk: Talk::Ended,
+            taken: 0
+        }
+    );
     Ok(())
 }
 
@@ -192,15 +218,36 @@ fn an_ending_tells_its_place(rt: HostRuntime) -> Result<(), Fail> {
 fn a_failed_read_or_write_ends_the_connection(rt: HostRuntime) -> Result<(), Fail> {
     let alloc = rt.alloc();
     let input = joined(alloc, &[OPEN, b"2 syslog 5 first\n3 syslog 6 second\n"])?;
-    let writes = Failing { writes: &[1], ..NONE };
+    let writes = Failing {
+        writes: &[1],
+        ..NONE
+    };
     let left = run(alloc, &input, 1000, writes)?;
-    assert_eq!(rt; left.attended, Attended { talk: Talk::WriteFault, taken: 1 });
+    assert_eq!(rt;
+        left.attended,
+        Attended {
+            talk: Talk::WriteFault,
+            taken: 1
+        }
+    );
     assert_eq!(rt; left.written.as_slice(), OPENED);
     assert_eq!(rt; left.entries.as_slice(), b"7 0 2 first\n".as_slice());
-    let reads = Failing { reads: &[1], ..NONE };
+    let reads = Failing {
+        reads: &[1],
+        ..NONE
+    };
     let left = run(alloc, &input, 78, reads)?;
-    assert_eq!(rt; left.attended, Attended { talk: Talk::ReadFault, taken: 1 });
-    assert_eq!(rt; left.written, joined(alloc, &[OPENED, b"2 rsp 6 200 OK\n"])?);
+    assert_eq!(rt;
+        left.attended,
+        Attended {
+            talk: Talk::ReadFault,
+            taken: 1
+        }
+    );
+    assert_eq!(rt;
+        left.written,
+        joined(alloc, &[OPENED, b"2 rsp 6 200 OK\n"])?
+    );
     Ok(())
 }
 
@@ -209,22 +256,60 @@ fn a_refused_event_is_not_answered(rt: HostRuntime) -> Result<(), Fail> {
     let alloc = rt.alloc();
     let hint: &[u8] = b"0 serverclose 0\n";
     // 3,038 bytes of 4,078 are taken, and 1,040 are left.
-    let input = joined(alloc, &[OPEN, &syslog(alloc, 2, 3000)?, &syslog(alloc, 3, 1003)?, b"4 close 0\n"])?;
-    let full = Talk::Full { need: 1041, room: 1040 };
+    let (first, second) = (syslog(alloc, 2, 3000)?, syslog(alloc, 3, 1003)?);
+    let input = joined(alloc, &[OPEN, &first, &second, b"4 close 0\n"])?;
+    let full = Talk::Full {
+        need: 1041,
+        room: 1040,
+    };
     let left = run(alloc, &input, 1000, NONE)?;
-    assert_eq!(rt; left.attended, Attended { talk: full, taken: 1 });
-    assert_eq!(rt; left.written, joined(alloc, &[OPENED, b"2 rsp 6 200 OK\n", hint])?);
+    assert_eq!(rt;
+        left.attended,
+        Attended {
+            talk: full,
+            taken: 1
+        }
+    );
+    assert_eq!(rt;
+        left.written,
+        joined(alloc, &[OPENED, b"2 rsp 6 200 OK\n", hint])?
+    );
     // The hint is not written.
-    let writes = Failing { writes: &[2], ..NONE };
+    let writes = Failing {
+        writes: &[2],
+        ..NONE
+    };
     let left = run(alloc, &input, 1000, writes)?;
-    assert_eq!(rt; left.attended, Attended { talk: Talk::WriteFault, taken: 1 });
-    assert_eq!(rt; left.written, joined(alloc, &[OPENED, b"2 rsp 6 200 OK\n"])?);
+    assert_eq!(rt;
+        left.attended,
+        Attended {
+            talk: Talk::WriteFault,
+            taken: 1
+        }
+    );
+    assert_eq!(rt;
+        left.written,
+        joined(alloc, &[OPENED, b"2 rsp 6 200 OK\n"])?
+    );
     // An exact fit, and a group that no slot takes.
-    let input = joined(alloc, &[OPEN, &syslog(alloc, 2, 4040)?, &syslog(alloc, 3, 4041)?])?;
-    let large = Talk::TooLarge { need: 4079, most: 4078 };
+    let (first, second) = (syslog(alloc, 2, 4040)?, syslog(alloc, 3, 4041)?);
+    let input = joined(alloc, &[OPEN, &first, &second])?;
+    let large = Talk::TooLarge {
+        need: 4079,
+        most: 4078,
+    };
     let left = run(alloc, &input, 1000, NONE)?;
-    assert_eq!(rt; left.attended, Attended { talk: large, taken: 1 });
-    assert_eq!(rt; left.written, joined(alloc, &[OPENED, b"2 rsp 6 200 OK\n", hint])?);
+    assert_eq!(rt;
+        left.attended,
+        Attended {
+            talk: large,
+            taken: 1
+        }
+    );
+    assert_eq!(rt;
+        left.written,
+        joined(alloc, &[OPENED, b"2 rsp 6 200 OK\n", hint])?
+    );
     Ok(())
 }
 
@@ -234,20 +319,38 @@ fn a_refused_event_is_not_answered(rt: HostRuntime) -> Result<(), Fail> {
 fn a_failed_call_of_the_disk_ends_the_connection(rt: HostRuntime) -> Result<(), Fail> {
     let alloc = rt.alloc();
     let input = joined(alloc, &[OPEN, b"2 syslog 5 first\n3 syslog 6 second\n"])?;
-    let answers: [&[u8]; 3] = [b"", b"2 rsp 6 200 OK\n", b"2 rsp 6 200 OK\n3 rsp 6 200 OK\n"];
+    let answers: [&[u8]; 3] = [
+        b"",
+        b"2 rsp 6 200 OK\n",
+        b"2 rsp 6 200 OK\n3 rsp 6 200 OK\n",
+    ];
     let mut ended = [0_u32; 3];
     let mut whole = false;
     for call in 0..40 {
-        let failing = Failing { disk: &[call], ..NONE };
+        let failing = Failing {
+            disk: &[call],
+            ..NONE
+        };
         let Some(left) = serve(alloc, device(alloc)?, &input, 1000, failing)? else {
             continue;
         };
         let taken = left.attended.taken.min(2) as usize;
-        assert_eq!(rt; left.written, joined(alloc, &[OPENED, answers[taken]])?, "call {call}");
+        assert_eq!(rt;
+            left.written,
+            joined(alloc, &[OPENED, answers[taken]])?,
+            "call {call}"
+        );
         if left.attended.talk == Talk::DiskFault {
-            ended[taken] += 1;
+            ended[taken] = ended[taken].saturating_add(1);
         } else {
-            assert_eq!(rt; left.attended, Attended { talk: Talk::Ended, taken: 2 }, "call {call}");
+            assert_eq!(rt;
+                left.attended,
+                Attended {
+                    talk: Talk::Ended,
+                    taken: 2
+                },
+                "call {call}"
+            );
             whole = true;
         }
     }
