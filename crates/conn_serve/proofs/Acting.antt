@@ -11,7 +11,7 @@ use Rattle.desk_access.specs.Call.{Call}
 use Rattle.conn_serve.specs.Step.{count}
 use Rattle.conn_serve.specs.Done.{Done}
 use Rattle.conn_serve.specs.Relp.{Carries, IsDue, EndsAtAct}
-use Rattle.conn_serve.specs.Serving.{HaltsAtAct}
+use Rattle.conn_serve.specs.RelpServing.{HaltsAtAct}
 
 -- a fact of an error follows from another
 pub err_then : {T E : Type 0} (r : Result T E) (P Q : E → Type 0) → IfErr r P → ((e : E) → P e → Q e) → IfErr r Q

@@ -4,3 +4,4 @@ mod Leading
 mod Splitting
 mod Sessions
 mod Running
+mod Acks

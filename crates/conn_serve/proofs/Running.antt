@@ -8,7 +8,7 @@ use Rattle.event_form.specs.declared.talk.Talk.TheVariants.{ReadFault, TooMuch, 
 use Rattle.desk_access.specs.Call.{Call}
 use Rattle.conn_serve.specs.Step.{count}
 use Rattle.conn_serve.specs.Done.{Done, Leads}
-use Rattle.conn_serve.specs.Serving.{MayEnd}
+use Rattle.conn_serve.specs.Endings.{MayEnd}
 use Rattle.conn_serve.specs.Serves.{Serves}
 use Rattle.conn_serve.proofs.Counting.{count_then}
 

@@ -16,7 +16,8 @@ use Rattle.conn_serve.specs.Step.{Step, frames_of, calls_of, text_of, count}
 use Rattle.conn_serve.specs.Protocol.{Protocol, IsNothing, EndsAtFrame, Ending, Carried}
 use Rattle.conn_serve.specs.Relp.{relp, CarriesFrame, StopsAtFrame, why_of}
 use Rattle.conn_serve.specs.Done.{Done, Leads}
-use Rattle.conn_serve.specs.Serving.{Served, MayEnd, IsAtFrame, HaltsAtFrame}
+use Rattle.conn_serve.specs.Endings.{MayEnd, IsAtFrame}
+use Rattle.conn_serve.specs.RelpServing.{Served, HaltsAtFrame}
 use Rattle.conn_serve.proofs.Counting.{frames_then, calls_then, text_then, moves_push, count_moves}
 use Rattle.conn_serve.proofs.Splitting.{Split, split, split_next, none_waits, frames_count}
 

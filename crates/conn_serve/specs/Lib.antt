@@ -2,5 +2,7 @@ pub mod Step
 pub mod Protocol
 pub mod Relp
 pub mod Done
-pub mod Serving
+pub mod Endings
+pub mod RelpServing
 pub mod Serves
+pub mod Acked

@@ -8,12 +8,16 @@
 #![tactic(auto)]
 
 mod connection;
+mod laws;
 mod relp;
 mod relp_act;
 mod rules;
 mod serve;
 mod session;
+#[cfg(test)]
+mod tests;
 mod text;
 
+pub use laws::acked_is_taken;
 pub use rules::Rules;
 pub use serve::attend;

@@ -3,7 +3,7 @@ ghost use Rattle.std.specs.Prelude.{◌≡◌, ◌+◌, ◌≤◌, ◌^◌, [], 
 ghost use Rattle.relp_frame.specs.Reading.{Reads, unfed};
 ghost use Rattle.conn_serve.specs.Relp.{relp, why_of};
 ghost use Rattle.conn_serve.specs.Protocol.{Carried};
-ghost use Rattle.conn_serve.specs.Serving.{Served};
+ghost use Rattle.conn_serve.specs.RelpServing.{Served};
 
 use crate::connection::Connection;
 use crate::relp_act::serve_frame;

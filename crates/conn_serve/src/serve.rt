@@ -4,7 +4,7 @@ ghost use Rattle.std.specs.Io.KnownBytes.{Appends, Consumes, IsAtEnd};
 ghost use Rattle.foundation.specs.Faults.{Rose};
 ghost use Rattle.desk_access.specs.Call.{Call};
 ghost use Rattle.conn_serve.specs.Step.{count};
-ghost use Rattle.conn_serve.specs.Serving.{MayEnd, IsAtEndOfInput};
+ghost use Rattle.conn_serve.specs.Endings.{MayEnd, IsAtEndOfInput};
 ghost use Rattle.conn_serve.specs.Serves.{CarriedBy, Serves};
 
 use crate::connection::Connection;

@@ -5,7 +5,7 @@ ghost use Rattle.event_form.specs.declared.talk.Talk.{Talk};
 ghost use Rattle.desk_access.specs.Call.{Call};
 ghost use Rattle.conn_serve.specs.Step.{count};
 ghost use Rattle.conn_serve.specs.Done.{Done, Leads};
-ghost use Rattle.conn_serve.specs.Serving.{MayEnd, IsAtFrame, IsByFault, IsAtEndOfInput};
+ghost use Rattle.conn_serve.specs.Endings.{MayEnd, IsAtFrame, IsByFault, IsAtEndOfInput};
 
 use crate::connection::Connection;
 use desk_access::Access;

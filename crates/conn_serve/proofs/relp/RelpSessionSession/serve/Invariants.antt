@@ -1,6 +1,6 @@
 use Rattle.std.proofs.Common.{◌≡◌, ◌+◌, ◌^◌, ◌≤◌, length}
 use Rattle.conn_serve.specs.Done.{Done, Leads}
-use Rattle.conn_serve.specs.Serving.{Served}
+use Rattle.conn_serve.specs.RelpServing.{Served}
 use Rattle.conn_serve.proofs.relp.RelpSessionSession.serve.Given as goal
 
 abbrev pub invariant-loop-frame : goal.invariant-loop-frame
