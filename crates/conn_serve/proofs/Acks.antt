@@ -1,5 +1,5 @@
 -- The answers in the text of a connection are those to the entries taken.
-use Rattle.std.proofs.Common.{◌≡◌, ◌⊎◌, inl, inr, ℕ, ◌+◌, ◌<◌, ◌≤◌, ◌∙◌, Bool, true, false, if◌then◌else◌, List, [], ◌∷◌, ◌++◌, length, take, drop, refl, sym, ap, subst, arith, append_assoc}
+use Rattle.std.proofs.Common.{◌≡◌, inl, inr, ℕ, ◌≤◌, ◌∙◌, Bool, true, false, if◌then◌else◌, List, [], ◌∷◌, ◌++◌, length, drop, refl, sym, ap, subst, arith, append_assoc}
 use Rattle.std.specs.Prelude.{codes}
 use Rattle.std.proofs.lemmas.List.{append-nil, take-append-drop}
 use Rattle.event_form.specs.declared.event.Entry.{Entry}
@@ -20,7 +20,7 @@ use Rattle.spool_log.specs.declared.fault.TakeFault.{TakeFault}
 use Rattle.spool_log.specs.declared.fault.TakeFault.TheVariants as fault
 use Rattle.desk_access.specs.Call.{Call, taken_of}
 use Rattle.conn_serve.specs.Step.{Step, frames_of, calls_of, text_of}
-use Rattle.conn_serve.specs.Protocol.{IsNothing, EndsAtFrame, Ending, AreMoves, Carried}
+use Rattle.conn_serve.specs.Protocol.{IsNothing, EndsAtFrame, Ending, AreMoves}
 use Rattle.conn_serve.specs.Relp.{relp, last_text, Carries, IsDue, IsRefused, IsStarved, EndsAtAct}
 use Rattle.conn_serve.specs.Acked.{is_success, successes, units, AckedIsTaken}
 use Rattle.conn_serve.proofs.Counting.{taken_then}

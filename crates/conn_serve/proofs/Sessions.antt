@@ -1,5 +1,5 @@
 -- How a session of RELP goes on, and how it ends.
-use Rattle.std.proofs.Common.{◌≡◌, ◌⊎◌, inl, inr, ℕ, ◌+◌, ◌^◌, ◌<◌, ◌≤◌, ◌∙◌, Bool, List, [], ◌∷◌, ◌++◌, Option, Some, None, length, refl, sym, ap, subst, arith, append_assoc, length-append}
+use Rattle.std.proofs.Common.{◌≡◌, inl, inr, ℕ, ◌+◌, ◌^◌, ◌<◌, ◌≤◌, ◌∙◌, Bool, List, [], ◌∷◌, ◌++◌, Option, Some, None, length, refl, sym, ap, subst, arith, append_assoc}
 use Rattle.std.proofs.lemmas.List.{append-nil}
 use Rattle.std.specs.Prelude.{IfNone}
 use Rattle.event_form.specs.declared.talk.Talk.{Talk}
@@ -13,13 +13,13 @@ use Rattle.relp_session.specs.Session.{opened}
 use Rattle.stream_grammar.specs.Framing.{IsStream, IsFaulty}
 use Rattle.desk_access.specs.Call.{Call}
 use Rattle.conn_serve.specs.Step.{Step, frames_of, calls_of, text_of, count}
-use Rattle.conn_serve.specs.Protocol.{Protocol, IsNothing, EndsAtFrame, Ending, Carried}
+use Rattle.conn_serve.specs.Protocol.{Protocol, EndsAtFrame, Ending, Carried}
 use Rattle.conn_serve.specs.Relp.{relp, CarriesFrame, StopsAtFrame, why_of}
 use Rattle.conn_serve.specs.Done.{Done, Leads}
 use Rattle.conn_serve.specs.Endings.{MayEnd, IsAtFrame}
 use Rattle.conn_serve.specs.RelpServing.{Served, HaltsAtFrame}
 use Rattle.conn_serve.proofs.Counting.{frames_then, calls_then, text_then, moves_push, count_moves}
-use Rattle.conn_serve.proofs.Splitting.{Split, split, split_next, none_waits, frames_count}
+use Rattle.conn_serve.proofs.Splitting.{split, split_next, none_waits, frames_count}
 
 -- nothing was served
 pub served_none : (conn : ℕ) (reader : Reader) (is_open : Bool) (fault : Option RelpFault) → Reads [] [] reader → is_open ≡ opened [] → fault ≡ reader.fault → Served conn reader is_open fault [] [] []

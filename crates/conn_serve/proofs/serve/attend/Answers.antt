@@ -1,4 +1,4 @@
-use Rattle.std.proofs.Common.{◌≡◌, ◌∙◌, ap, sym, subst, arith, length}
+use Rattle.std.proofs.Common.{◌∙◌, ap, sym, arith, length}
 use Rattle.relp_frame.specs.Reading.{Reader}
 use Rattle.conn_serve.proofs.Sessions.{served_none, may_end}
 use Rattle.conn_serve.proofs.serve.attend.Goals as goal

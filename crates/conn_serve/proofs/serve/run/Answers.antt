@@ -1,6 +1,5 @@
-use Rattle.std.proofs.Common.{◌≡◌, ◌∙◌, ℕ, List, arith}
+use Rattle.std.proofs.Common.{◌∙◌, arith}
 use Rattle.std.specs.Prelude.{Err}
-use Rattle.desk_access.specs.Call.{Call}
 use Rattle.conn_serve.proofs.Running.{told, serves, serves_unread, progress_fed, progress_served, progress_ends}
 use Rattle.conn_serve.proofs.serve.run.Goals as goal
 
