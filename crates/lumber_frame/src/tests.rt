@@ -47,7 +47,7 @@ fn fault(at: u64, why: LumberWhy) -> Option<LumberFault> {
 fn streams(rt: HostRuntime) -> Result<(), AllocError> {
     let receiver = Side::Receiver;
     let sender = Side::Sender;
-    let rows: [(Side, &[u8], usize, Option<LumberFault>); 41] = [
+    let rows: [(Side, &[u8], usize, Option<LumberFault>); 48] = [
         // Whole frames.
         (receiver, b"", 0, None),
         (
@@ -82,7 +82,14 @@ fn streams(rt: HostRuntime) -> Result<(), AllocError> {
         (receiver, b"2J\0\0\0\x01\0\x02\0\0x", 0, None),
         (receiver, b"2J\0\0\0\x01\xff\xff\xff", 0, None),
         (sender, b"2A\0\0\0", 0, None),
+        (
+            receiver,
+            b"2W\0\0\0\x012J\0\0\0\x01\0\0\0\x02{}2W\0\0\0",
+            18,
+            None,
+        ),
         // The version.
+        (receiver, b"1", 0, fault(0, LumberWhy::Version)),
         (receiver, b"1W", 0, fault(0, LumberWhy::Version)),
         (
             receiver,
@@ -99,6 +106,13 @@ fn streams(rt: HostRuntime) -> Result<(), AllocError> {
             fault(19, LumberWhy::Compressed),
         ),
         (receiver, b"2A", 0, fault(1, LumberWhy::AckFromWriter)),
+        (
+            receiver,
+            b"2A\0\0\0\x01",
+            0,
+            fault(1, LumberWhy::AckFromWriter),
+        ),
+        (receiver, b"2X", 0, fault(1, LumberWhy::Kind)),
         (receiver, b"2j", 0, fault(1, LumberWhy::Kind)),
         (sender, b"2C", 0, fault(1, LumberWhy::Compressed)),
         (
@@ -119,11 +133,23 @@ fn streams(rt: HostRuntime) -> Result<(), AllocError> {
         ),
         (
             receiver,
+            b"2D\0\0\0\x01\0\0\x04\x01",
+            0,
+            fault(6, LumberWhy::TooMany),
+        ),
+        (
+            receiver,
             b"2D\0\0\0\x01\0\0\x04\x01\0\0",
             0,
             fault(6, LumberWhy::TooMany),
         ),
         // The payload length.
+        (
+            receiver,
+            b"2J\0\0\0\x01\0\x02\0\x01",
+            0,
+            fault(6, LumberWhy::TooLong),
+        ),
         (
             receiver,
             b"2J\0\0\0\x01\0\x02\0\x01{",
@@ -141,6 +167,12 @@ fn streams(rt: HostRuntime) -> Result<(), AllocError> {
         (
             receiver,
             b"2D\0\0\0\x01\0\0\0\x01\0\x01\xff\xf9",
+            0,
+            fault(10, LumberWhy::TooLong),
+        ),
+        (
+            receiver,
+            b"2D\0\0\0\x01\0\0\0\x01\0\x02\0\0",
             0,
             fault(10, LumberWhy::TooLong),
         ),

@@ -42,5 +42,5 @@ reads_on s doubt m from most first r old known d mid new mended lawful stored re
     let reached = mended.reached in (
       pends_of m from most first r (is ∙ ap (max from) reached.knows.cursor) (reads m (stored_of m known d mid reached lawful stored)),
       goes_on s doubt m [] m [] old (view known d mid) (view known d new) mended (follows_self m reached.sound.from_base) (still_in m known d mid new reached read)
-      (untouched_run (StandsForOne m []) mid new lawful reached.each read),
+          (untouched_run (StandsForOne m []) mid new lawful reached.each read),
     )

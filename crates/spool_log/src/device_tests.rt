@@ -1,5 +1,4 @@
-use crate::read::read_known;
-use crate::{FormatFault, ReadFault, format};
+use crate::{FormatFault, Opening, RecoverFault, Spool, format};
 use edge_disk::{Crash, MemDisk};
 use std::alloc::{AllocError, Global};
 use std::process::Abort;
@@ -19,7 +18,7 @@ const FIRST: &[u8] = b"\x01\x00\x00\x00\x00\x00\x00\x00\x01\x00\x00\x00\x00\x00\
 const SECOND: &[u8] = b"\x01\x00\x00\x00\x00\x00\x00\x00\x02\x00\x00\x00\x00\x00\x00\x00\x01";
 
 // Writes the piece over the bytes, as far as it lies in them.
-fn overwrite(bytes: &mut [u8], at: usize, piece: &[u8]) {
+pub(crate) fn overwrite(bytes: &mut [u8], at: usize, piece: &[u8]) {
     for (place, byte) in bytes.iter_mut().skip(at).zip(piece) {
         *place = *byte;
     }
@@ -41,21 +40,23 @@ fn device(alloc: Global) -> Result<Vec<u8>, AllocError> {
 // entries, how many other slots are open, and the cursor. Or the place of the broken rule; 1: no memory.
 type Seen = Result<(u64, u64, u64, u64, usize, u64), u64>;
 
-fn seen(alloc: Global, disk: &mut MemDisk) -> Seen {
-    match read_known(alloc, disk) {
-        Ok(known) => {
-            let active = known.active;
+fn seen(alloc: Global, disk: MemDisk) -> Seen {
+    match Spool::recover(alloc, disk, Opening::Keep) {
+        Ok(spool) => {
+            let active = spool.known.active;
             Ok((
                 active.at,
                 active.gate,
                 active.first,
                 active.count,
-                known.older.len(),
-                known.register.content.cursor,
+                spool.known.older.len(),
+                spool.cursor(),
             ))
         }
-        Err(ReadFault::NotSpool { at }) => Err(at),
-        Err(_) => Err(1),
+        Err(refusal) => match refusal.fault {
+            RecoverFault::NotSpool { at } => Err(at),
+            _ => Err(1),
+        },
     }
 }
 
@@ -138,8 +139,8 @@ fn each_rule_has_its_place(rt: HostRuntime) -> Result<(), Fail> {
         let mut bytes = device(rt.alloc())?;
         overwrite(&mut bytes, *at, piece);
         overwrite(&mut bytes, *other, more);
-        let mut disk = MemDisk::of(bytes, Vec::new(rt.alloc()));
-        assert_eq!(rt; seen(rt.alloc(), &mut disk), *want, "row {i}");
+        let disk = MemDisk::of(bytes, Vec::new(rt.alloc()));
+        assert_eq!(rt; seen(rt.alloc(), disk), *want, "row {i}");
     }
     Ok(())
 }
@@ -149,8 +150,8 @@ fn other_bytes_are_no_spool(rt: HostRuntime) -> Result<(), Fail> {
     let mut short = vec![in rt.alloc(); 0; 12_287]?;
     overwrite(&mut short, 0, HEADER);
     for bytes in [vec![in rt.alloc(); 0; 20_480]?, short, Vec::new(rt.alloc())] {
-        let mut disk = MemDisk::of(bytes, Vec::new(rt.alloc()));
-        assert_eq!(rt; seen(rt.alloc(), &mut disk), Err(0));
+        let disk = MemDisk::of(bytes, Vec::new(rt.alloc()));
+        assert_eq!(rt; seen(rt.alloc(), disk), Err(0));
     }
     Ok(())
 }
@@ -172,7 +173,7 @@ fn a_new_device_byte_for_byte(rt: HostRuntime) -> Result<(), Fail> {
     );
     overwrite(&mut want, 12_288, b"\x01\x00\x00\x00\x00\x00\x00\x00\x01");
     assert_eq!(rt; disk.bytes(), want.as_slice());
-    assert_eq!(rt; seen(rt.alloc(), &mut disk), EMPTY);
+    assert_eq!(rt; seen(rt.alloc(), disk), EMPTY);
     Ok(())
 }
 
@@ -194,8 +195,8 @@ fn another_length_is_told(rt: HostRuntime) -> Result<(), Fail> {
 fn after_stop(alloc: Global, calls: u64, choice: Crash) -> Result<(bool, Seen), AllocError> {
     let mut disk = MemDisk::stopped(device(alloc)?, calls);
     let outcome = format(&mut disk, 2, 4096);
-    let mut left = disk.crash(choice);
-    Ok((outcome == Ok(()), seen(alloc, &mut left)))
+    let left = disk.crash(choice);
+    Ok((outcome == Ok(()), seen(alloc, left)))
 }
 
 #[test]

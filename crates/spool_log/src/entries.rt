@@ -22,7 +22,12 @@ const PASSED: u64 = 256;
 
 /// The mark of the slot's entry with this number, or of its first one where that is greater. The entries
 /// before it are read and let go.
-fn mark_of<D: Disk>(slot: &Slot, alloc: Global, disk: &mut D, number: u64) -> Result<Mark, PendFault>
+fn mark_of<D: Disk>(
+    slot: &Slot,
+    alloc: Global,
+    disk: &mut D,
+    number: u64,
+) -> Result<Mark, PendFault>
     requires place { slot.now.at + slot.now.size ≤ (D.moment disk.old).size }
     requires ends { slot.now.first + slot.now.count ≤ 2 ^ 63 }
     requires number { number ≤ slot.now.first + slot.now.count }
@@ -80,7 +85,13 @@ fn read_slot<D: Disk>(
 
 impl Known {
     /// Reads the first `most` entries with numbers from `from` on, over all slots.
-    pub(crate) fn read_from<D: Disk>(&self, alloc: Global, disk: &mut D, from: u64, most: u32) -> Result<Vec<Entry>, PendFault>
+    pub(crate) fn read_from<D: Disk>(
+        &self,
+        alloc: Global,
+        disk: &mut D,
+        from: u64,
+        most: u32,
+    ) -> Result<Vec<Entry>, PendFault>
         requires long { (D.moment disk.old).size ≡ slot_at self.now.size self.now.slots }
 
         ensures later { (D.moment disk.old).faults ≤ (D.moment disk.new).faults }

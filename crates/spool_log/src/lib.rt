@@ -37,3 +37,11 @@ pub use spool::Spool;
 
 #[cfg(test)]
 mod device_tests;
+#[cfg(test)]
+mod opening_tests;
+#[cfg(test)]
+mod spool_tests;
+#[cfg(test)]
+mod stop_tests;
+#[cfg(test)]
+mod test_calls;

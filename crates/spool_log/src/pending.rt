@@ -26,6 +26,7 @@ impl<D: Disk> Spool<D> {
     {
         self.mend()?;
         let first = from.max(self.cursor());
-        self.known.read_from(self.alloc, &mut self.disk, first, most)
+        self.known
+            .read_from(self.alloc, &mut self.disk, first, most)
     }
 }

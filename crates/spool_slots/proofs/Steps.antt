@@ -4,10 +4,10 @@ use Rattle.std.proofs.lemmas.List.{take_at, get_or-drop, get_or_at, append-nil}
 use Rattle.std.proofs.lemmas.Grind.{common_steps}
 use Rattle.foundation.specs.Bytes.{part, put, SameBut}
 use Rattle.foundation.proofs.Bytes.{same_but_wider, get_or-part, length-part, put_at}
-use Rattle.edge_disk.specs.Disk.{Moment, IsTorn, IsLawful, LeavesOnly}
+use Rattle.edge_disk.specs.Disk.{Moment, IsLawful, LeavesOnly}
 use Rattle.edge_disk.specs.Gate.{IsGateStep, ComesFrom}
-use Rattle.edge_disk.proofs.Moments.{both, weaker, torn_from}
-use Rattle.edge_disk.proofs.GateSteps.{behind, opening, open_whole, closed_or_before}
+use Rattle.edge_disk.proofs.Moments.{weaker}
+use Rattle.edge_disk.proofs.GateSteps.{open_whole, closed_or_before}
 use Rattle.event_form.specs.declared.event.Entry.{Entry}
 use Rattle.spool_state.specs.Segment.{Segment, empty_segment, with_group, group_text, head_text, need_of, segment_text}
 use Rattle.spool_state.specs.Image.{HoldsSegment}
@@ -16,21 +16,6 @@ use Rattle.spool_state.proofs.Texts.{length-head_text, length-group_text, length
 use Rattle.spool_slots.specs.Slot.{Knows, IsClosedOrHolds, HoldsOldOrNew}
 use Rattle.spool_slots.specs.declared.slot.Slot.{Slot}
 use Rattle.spool_slots.proofs.Parts.{take-part, part-put, part-put_front}
-
--- ---- a piece written behind a closed gate, and its gate opened
-
--- while it is written
-pub piece_from : (gate : ℕ) (piece : List ℕ) (m new : Moment) → ((c : List ℕ) → m.image c → get_or c gate 0 ≢ 1)
-    → LeavesOnly (ComesFrom m (SameBut (gate + 1) (length piece))) m new → LeavesOnly (ComesFrom m (IsGateStep gate piece)) m new
-piece_from gate piece m new closed run = weaker _ _ m new run (λ c from. (from.0, from.1, behind gate piece from.0 c (closed from.0 from.1) from.2))
-
--- while its gate is opened
-pub gate_from : (gate : ℕ) (piece : List ℕ) (m mid new : Moment) → IsLawful m → gate + length piece + 1 ≤ m.size → ((c : List ℕ) → m.image c → get_or c gate 0 ≢ 1)
-    → LeavesOnly (ComesFrom m (SameBut (gate + 1) (length piece))) m mid → mid.reads ≡ put (gate + 1) piece m.reads → LeavesOnly (IsGateStep gate [] mid.reads) mid new
-    → LeavesOnly (ComesFrom m (IsGateStep gate piece)) m new
-gate_from gate piece m mid new lawful room closed run is opened =
-    both _ _ (ComesFrom m (IsGateStep gate piece)) m mid new (piece_from gate piece m mid closed run) opened (λ c p. p)
-    (λ c q. (m.reads, lawful.reads_image, opening gate piece m.reads c (omega (arith, room, lawful.reads_size)) (subst (λ b. IsGateStep gate [] b c) is q)))
 
 -- ---- a group behind a segment
 
@@ -116,10 +101,6 @@ shut_step at size segment old c room large holds step = record {
 }
 
 -- ---- whole runs
-
--- the write of a piece
-pub piece_run : (at n : ℕ) (m new : Moment) → IsLawful m → IsTorn at n m new → LeavesOnly (ComesFrom m (SameBut at n)) m new
-piece_run at n m new lawful call = torn_from (SameBut at n) m new at n lawful call (λ d c i same. same)
 
 -- `begin`
 pub begin_run : (at size ordinal first : ℕ) (piece : List ℕ) (m new : Moment) → IsLawful m → at + size ≤ m.size → 18 < size → 1 ∷ piece ≡ head_text ordinal first ++ 0 ∷ []

@@ -22,6 +22,7 @@ fn entries_size(entries: &[Entry]) -> u64
     requires limits { All IsEntry entries.now }
     ensures size { result ≡ length (entries_text entries.now) }
     ensures small { result < 2 ^ 50 }
+    ensures many { length entries.now ≤ result }
 {
     let mut size = 0;
     for entry in entries {
@@ -96,8 +97,10 @@ fn write_group<D: Disk>(
 impl Slot {
     /// Adds a group of these entries: writes it behind the slot's closed gate by way of the buffer, in
     /// pieces of 65,536 bytes and a last one of the rest, with a closed gate behind it; syncs; and opens the
-    /// gate before it: a write, a sync. It takes no memory. After an error the slot is as it was, and after
-    /// `DiskFault` the device holds the segment as it was or with the group more.
+    /// gate before it: a write, a sync. So a group that needs at most 65,536 bytes takes four calls of the
+    /// disk. It takes no memory. `NoRoom` comes exactly where the group needs more than `room`, before any
+    /// call, and `DiskFault` only where a call of the disk failed. After an error the slot is as it was, and
+    /// after `DiskFault` the device holds the segment as it was or with the group more.
     pub fn append_entries<D: Disk>(
         &mut self,
         disk: &mut D,
@@ -109,7 +112,6 @@ impl Slot {
         requires limits { All IsEntry entries.now }
         requires buffer { length buffer.old ≡ 65536 }
         requires place { self.old.at + self.old.size ≤ (D.moment disk.old).size }
-        requires count { self.old.count + length entries.now < 2 ^ 64 }
         requires closed { D.tells → (c : List ℕ) → (D.moment disk.old).image c → slice_index c (self.old.at + self.old.gate) ≢ 1 }
 
         // NoRoom comes exactly where the group needs more than there is room, with these numbers and before

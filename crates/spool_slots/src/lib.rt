@@ -23,4 +23,8 @@ pub use part::Part;
 pub use slot::Slot;
 
 #[cfg(test)]
+mod call_tests;
+#[cfg(test)]
+mod test_slots;
+#[cfg(test)]
 mod tests;

@@ -4,7 +4,10 @@
 /// is 0 a gate stands there: that of the entry's group, or the closed gate behind the slot's last one.
 #[derive(Clone, Copy, Debug, PartialEq, Eq)]
 pub struct Mark {
+    /// The entry's number.
     pub number: u64,
+    /// The offset in the slot, in bytes.
     pub at: u64,
+    /// How many entries of the group are left, this one among them.
     pub rest: u32,
 }

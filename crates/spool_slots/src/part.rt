@@ -14,6 +14,7 @@ use std::alloc::Global;
 /// Some entries of a slot, in order.
 #[derive(Drop, Debug)]
 pub struct Part {
+    /// The entries, the one of the lowest number first.
     pub entries: Vec<Entry>,
     /// The mark behind them.
     pub mark: Mark,
@@ -36,8 +37,11 @@ impl Slot {
         }
     }
 
-    /// The entries from the mark on: `most` of them, or all where they are fewer, and the mark behind them.
-    /// The mark is one of this slot, and stays one after `append_entries`.
+    /// The entries from the mark on: the first `most` of them, or all where they are fewer, and the mark
+    /// behind them. The mark is one of this slot, and stays one after `append_entries`. `NotSpool` comes only
+    /// where the bytes that were read break a rule of the slot's groups, with the device's offset of what is
+    /// at fault; `DiskFault` only where a call of the disk failed; `NoMemory` where the entries, or the piece
+    /// of 262,144 bytes by which they are read, found none. Nothing is written.
     pub fn read_part<D: Disk>(
         &self,
         alloc: Global,

@@ -15,8 +15,11 @@ use std::alloc::Global;
 
 impl Slot {
     /// Reads the slot in the `size` bytes from offset `at` of the device on: its numbers, and how many
-    /// entries it has in how many bytes. Nothing where its gate is closed. It reads the slot once, in large
-    /// pieces, up to its first gate that isn't open, and takes the memory of one piece.
+    /// entries it has in how many bytes. Nothing comes exactly where its gate isn't open. It reads the slot
+    /// in pieces of 262,144 bytes up to its first gate that isn't open, and takes the memory of one piece.
+    /// `NotSpool` comes exactly where the slot breaks the rule of its groups, with the device's offset of
+    /// the first gate at fault; `DiskFault` only where a call of the disk failed; `NoMemory` where that
+    /// piece found none. Nothing is written.
     pub fn scan<D: Disk>(
         alloc: Global,
         disk: &mut D,

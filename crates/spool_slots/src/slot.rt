@@ -6,24 +6,27 @@ ghost use Rattle.spool_state.specs.Image.{HoldsSegment};
 ghost use Rattle.edge_disk.specs.Disk.{IsSettled, LeavesOnly};
 ghost use Rattle.edge_disk.specs.Gate.{ComesFrom};
 
-use edge_disk::{Disk, DiskFault, close_gate, open_gate};
+use edge_disk::{Disk, DiskFault, close_gate, write_behind};
 
-/// What memory knows of a slot whose gate is open.
+/// What memory knows of a slot whose gate is open. `begin` and `scan` give one, and `append_entries` keeps
+/// it true; each later call is given the same device.
 #[derive(Clone, Copy, Debug)]
 pub struct Slot {
-    /// Where on the device it begins.
+    /// The offset on the device at which it begins, in bytes.
     pub at: u64,
-    /// How many bytes it has.
+    /// How many bytes it has, 4,096 to 1,073,741,824.
     pub size: u64,
+    /// Its place in the order of the open slots, whose ordinals go on one by one.
     pub ordinal: u64,
     /// The number of its first entry.
     pub first: u64,
-    /// The offset in the slot of the closed gate behind its last group.
+    /// The offset in the slot, in bytes, of the closed gate behind its last group.
     pub gate: u64,
     /// How many entries it has.
     pub count: u64,
     ghost inside: { gate < size },
     ghost small: { size ≤ 1073741824 },
+    ghost counted: { count ≤ gate },
 }
 
 /// The ordinal and the first number of a slot, and the closed gate of its first group.
@@ -40,7 +43,8 @@ impl Slot {
     ghost use Rattle.spool_slots.specs.Slot.{IsSlot, Knows, IsClosedOrHolds};
 
     /// Begins an empty segment in the `size` bytes from offset `at` of the device on, where a closed slot
-    /// lies: a write, a sync, and the same of its gate. It takes no memory.
+    /// lies: a write, a sync, and the same of its gate. It takes no memory. An error comes only where a call
+    /// of the disk failed; the slot is then closed, or holds the empty segment.
     pub fn begin<D: Disk>(
         disk: &mut D,
         at: u64,
@@ -61,9 +65,7 @@ impl Slot {
         ensures known { IfOk result (λ slot. D.tells → Knows slot (empty_segment ordinal first) (D.moment disk.new).reads) }
         ensures any_moment { D.tells → LeavesOnly (ComesFrom (D.moment disk.old) (IsClosedOrHolds at size (empty_segment ordinal first))) (D.moment disk.old) (D.moment disk.new) }
     {
-        disk.write_at(at + 1, &head(ordinal, first))?;
-        disk.sync()?;
-        open_gate(disk, at)?;
+        write_behind(disk, at, &head(ordinal, first))?;
         Ok(Slot {
             at,
             size,
@@ -74,14 +76,16 @@ impl Slot {
         })
     }
 
-    /// How many bytes a group may need: its length, its count, its entries and the closed gate behind it.
+    /// How many bytes a group may need: its length (4), its count (4), its entries and the closed gate
+    /// behind it (1). It takes no memory.
     pub fn room(&self) -> u64
         ensures { result ≡ self.now.size - self.now.gate - 1 }
     {
         self.size - self.gate - 1
     }
 
-    /// Closes the slot's gate: a write, a sync. It takes no memory.
+    /// Closes the slot's gate: a write, a sync. It takes no memory. An error comes only where a call of the
+    /// disk failed; the slot is then closed, or holds what it held.
     pub fn shut<D: Disk>(self, disk: &mut D) -> Result<(), DiskFault>
         requires place { self.at + self.size ≤ (D.moment disk.old).size }
 

@@ -1,113 +1,8 @@
-ghost use Rattle.std.specs.Prelude.{◌≡◌, ◌≢◌, ◌+◌, ◌^◌, ◌<◌, ◌≤◌, ℕ, List, length, slice_index, All, IfOk, IsTrue};
-ghost use Rattle.event_form.specs.Entry.{IsEntry};
-ghost use Rattle.edge_disk.specs.MemDisk.{mem_moment};
-
-use crate::{Mark, ScanFault, Slot, SlotFault};
+use crate::test_slots::{Bench, add, begun, event, event_of, fits, try_add};
+use crate::{ScanFault, Slot, SlotFault};
 use edge_disk::{Crash, MemDisk};
-use event_form::{Blob, Entry, Event, Origin};
-use std::alloc::{AllocError, Global};
+use std::alloc::Global;
 use std::test::Fail;
-
-// A RELP event of these bytes.
-fn event(alloc: Global, conn: u64, unit: u64, text: &[u8]) -> Result<Entry, AllocError>
-    requires { length text.now ≤ 131072 }
-    ensures { IfOk result IsEntry }
-{
-    let text = Blob::of(text.to_vec(alloc)?);
-    Ok(Entry {
-        conn,
-        index: 0,
-        unit,
-        event: Event {
-            origin: Origin::Relp,
-            text,
-        },
-    })
-}
-
-// A RELP event of so many bytes.
-fn event_of(alloc: Global, unit: u64, len: usize) -> Result<Entry, AllocError>
-    requires { len ≤ 131072 }
-    ensures { IfOk result IsEntry }
-{
-    let text = vec![in alloc; 120; len]?;
-    event(alloc, 7, unit, &text)
-}
-
-// Whether the slot lies in the disk, with small numbers.
-fn fits(slot: &Slot, disk: &MemDisk) -> bool
-    ensures place { IsTrue result → slot.now.at + slot.now.size ≤ (mem_moment disk.now).size }
-    ensures first { IsTrue result → slot.now.first ≤ 1000 }
-    ensures count { IsTrue result → slot.now.count ≤ 1000 }
-{
-    if slot.at > 10_000_000 || slot.size > 10_000_000 || slot.first > 1000 || slot.count > 1000 {
-        return false;
-    }
-    slot.at + slot.size <= disk.bytes().len() as u64
-}
-
-// A slot of a disk in memory that awaits a group.
-#[derive(Drop)]
-struct Bench {
-    disk: MemDisk,
-    slot: Slot,
-    ghost closed: { (c : List ℕ) → (mem_moment disk).image c → slice_index c (slot.at + slot.gate) ≢ 1 },
-}
-
-// A slot begun at offset 100 of a disk of zeros, of which a call fails.
-fn begun(alloc: Global, size: usize, failing: u64, stop: u64) -> Result<Bench, Fail>
-    requires { size ≤ 5000000 }
-{
-    if size < 4096 {
-        return Err("size".into());
-    }
-    let zeros = vec![in alloc; 0; size + 200]?;
-    let mut disk = if stop > 0 {
-        MemDisk::stopped(zeros, stop)
-    } else {
-        MemDisk::of(zeros, [failing].to_vec(alloc)?)
-    };
-    match Slot::begin(&mut disk, 100, size as u64, 1, 0) {
-        Ok(slot) => Ok(Bench { disk, slot }),
-        Err(_) => Err("begin".into()),
-    }
-}
-
-// What becomes of a group, and the slot and the disk after it.
-fn try_add(
-    alloc: Global,
-    bench: Bench,
-    entries: &[Entry],
-) -> Result<(Result<(), SlotFault>, Slot, MemDisk), Fail>
-    requires some { 0 < length entries.now }
-    requires few { length entries.now < 100 }
-    requires limits { All IsEntry entries.now }
-{
-    let Bench { mut disk, mut slot } = bench;
-    if !fits(&slot, &disk) {
-        return Err("slot".into());
-    }
-    let mut buffer = vec![in alloc; 9; 65_536]?;
-    let outcome = slot.append_entries(&mut disk, entries, &mut buffer);
-    Ok((outcome, slot, disk))
-}
-
-// The slot with a group more.
-fn add(alloc: Global, bench: Bench, entries: &[Entry]) -> Result<Bench, Fail>
-    requires some { 0 < length entries.now }
-    requires few { length entries.now < 100 }
-    requires limits { All IsEntry entries.now }
-{
-    let Bench { mut disk, mut slot } = bench;
-    if !fits(&slot, &disk) {
-        return Err("slot".into());
-    }
-    let mut buffer = vec![in alloc; 9; 65_536]?;
-    match slot.append_entries(&mut disk, entries, &mut buffer) {
-        Ok(()) => Ok(Bench { disk, slot }),
-        Err(_) => Err("append".into()),
-    }
-}
 
 // The units of all entries, read in parts of so many.
 fn units(alloc: Global, disk: &mut MemDisk, slot: &Slot, most: u32) -> Result<Vec<u64>, Fail> {
@@ -224,33 +119,6 @@ fn an_exact_fit_and_a_byte_more(rt: HostRuntime) -> Result<(), Fail> {
     let (_, slot, _) = try_add(alloc, one, &exact)?;
     assert_eq!(rt; (slot.gate, slot.count), (4095, 2));
     assert_eq!(rt; slot.room(), 0);
-    Ok(())
-}
-
-#[test]
-fn a_large_group_takes_ten_calls(rt: HostRuntime) -> Result<(), Fail> {
-    let alloc = rt.alloc();
-    let entries = [
-        event_of(alloc, 1, 131_072)?,
-        event_of(alloc, 2, 131_072)?,
-        event_of(alloc, 3, 131_072)?,
-    ];
-    // the first four calls are those of `begin`; the last byte of the third text stands at 393,328
-    for (call, outcome, gate, last) in [
-        (10, Err(SlotFault::DiskFault), 0, 0),
-        (11, Err(SlotFault::DiskFault), 0, 120),
-        (13, Err(SlotFault::DiskFault), 1, 120),
-        (14, Ok(()), 1, 120),
-    ] {
-        let (got, _, disk) = try_add(alloc, begun(alloc, 2_097_152, call, 0)?, &entries)?;
-        assert_eq!(rt; got, outcome);
-        let bytes = disk.bytes();
-        assert_eq!(rt; bytes.len(), 2_097_352);
-        assert_eq!(rt;
-            (bytes[117], bytes[393_428], bytes[393_429]),
-            (gate, last, 0)
-        );
-    }
     Ok(())
 }
 

@@ -3,7 +3,7 @@
 #![tactic(auto)]
 
 use anyhow::bail;
-use json_span::{Span, first_value};
+use json_span::first_value;
 use serde::Deserialize;
 use serde_json::Value;
 use std::alloc::{AllocError, Global};
@@ -11,10 +11,11 @@ use std::hint::black_box;
 use std::num::nearest_usize_to_f64;
 use std::time::{Duration, Instant};
 
-// How many objects the array has, which makes it about 64 MiB, and how often it is read.
-const OBJECTS: u32 = 300_000;
+// How many objects an array has, and how often it is read: one of about 64 MiB, and one of 1 MiB, whose
+// short runs say more where other work goes on beside.
+const LONG: (u32, u32) = (315_000, 5);
 
-const ROUNDS: u32 = 5;
+const SHORT: (u32, u32) = (5_000, 200);
 
 /// An object of a log of which no member is kept.
 #[derive(Debug, Drop, Deserialize)]
@@ -42,10 +43,10 @@ fn log_object(alloc: Global, number: u16) -> Result<String, AllocError> {
     )
 }
 
-/// An array of such objects.
-fn log_array(alloc: Global) -> Result<Vec<u8>, AllocError> {
+/// An array of so many of these objects.
+fn log_array(alloc: Global, objects: u32) -> Result<Vec<u8>, AllocError> {
     let mut bytes = Vec::from_slice(alloc, b"[")?;
-    for number in 0..OBJECTS {
+    for number in 0..objects {
         if number > 0 {
             bytes.push(b',')?;
         }
@@ -61,47 +62,47 @@ fn rate(bytes: &[u8], taken: Duration) -> f64 {
     nearest_usize_to_f64(bytes.len()) / taken.as_secs_f64() / 1e6
 }
 
-fn main(rt: HostRuntime) -> anyhow::Result<()> {
-    let alloc = rt.alloc();
-    let bytes = log_array(alloc)?;
+/// The best rate of `first_value` over the bytes, and that of `serde_json` passing over them.
+fn measure(rt: &HostRuntime, bytes: &[u8], rounds: u32) -> anyhow::Result<(f64, f64)> {
     let mut ours = Duration::MAX;
     let mut passing = Duration::MAX;
-    for _ in 0..ROUNDS {
-        let start = Instant::now(&rt)?;
-        let span = black_box(first_value(&bytes, 0));
-        ours = ours.min(start.elapsed(&rt)?);
-        if span
-            != Ok(Span {
-                start: 0,
-                end: bytes.len(),
-            })
-        {
+    for _ in 0..rounds {
+        let start = Instant::now(rt)?;
+        let span = black_box(first_value(bytes, 0));
+        ours = ours.min(start.elapsed(rt)?);
+        if span.map(|span| span.end) != Ok(bytes.len()) {
             bail!("first_value: {span:?}");
         }
-        let start = Instant::now(&rt)?;
-        let objects: Vec<Passed> = serde_json::from_slice(alloc, &bytes)?;
-        passing = passing.min(start.elapsed(&rt)?);
+        let start = Instant::now(rt)?;
+        let objects: Vec<Passed> = serde_json::from_slice(rt.alloc(), bytes)?;
+        passing = passing.min(start.elapsed(rt)?);
         black_box(objects.len());
     }
-    let start = Instant::now(&rt)?;
-    let value = Value::from_slice(alloc, &bytes)?;
-    let building = start.elapsed(&rt)?;
-    black_box(value.is_array());
-    let ours = rate(&bytes, ours);
-    let passing = rate(&bytes, passing);
-    let building = rate(&bytes, building);
-    println!(rt;
-        "{} bytes, {OBJECTS} log objects; the best of {ROUNDS} runs each",
-        bytes.len()
-    )?;
-    println!(rt; "first_value: {ours:.0} MB/s")?;
-    println!(rt;
-        "serde_json, members passed over: {passing:.0} MB/s, ratio {:.2}",
-        ours / passing
-    )?;
-    println!(rt;
-        "serde_json, the value built (one run): {building:.0} MB/s, ratio {:.2}",
-        ours / building
-    )?;
+    Ok((rate(bytes, ours), rate(bytes, passing)))
+}
+
+fn main(rt: HostRuntime) -> anyhow::Result<()> {
+    let alloc = rt.alloc();
+    for (objects, rounds) in [SHORT, LONG] {
+        let bytes = log_array(alloc, objects)?;
+        let (ours, passing) = measure(&rt, &bytes, rounds)?;
+        println!(rt;
+            "{objects} log objects of {} bytes, the best of {rounds} runs each",
+            bytes.len()
+        )?;
+        println!(rt; "    first_value: {ours:.0} MB/s")?;
+        println!(rt;
+            "    serde_json, members passed over: {passing:.0} MB/s, ratio {:.2}",
+            ours / passing
+        )?;
+        let start = Instant::now(&rt)?;
+        let value = Value::from_slice(alloc, &bytes)?;
+        let building = rate(&bytes, start.elapsed(&rt)?);
+        black_box(value.is_array());
+        println!(rt;
+            "    serde_json, the value built, one run: {building:.0} MB/s, ratio {:.2}",
+            ours / building
+        )?;
+    }
     Ok(())
 }

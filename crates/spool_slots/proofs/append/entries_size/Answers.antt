@@ -11,4 +11,5 @@ loop-entry-preserved c =
     record {
       so_far = omega (arith, c.loop-entry.invariant.so_far, c.entry_size-size.ensures, more);
       small = omega (arith, c.loop-entry.invariant.small, c.entry_size-size.ensures, limits.event.short);
+      many = omega (arith, c.loop-entry.invariant.many, c.entry_size-size.ensures);
     }

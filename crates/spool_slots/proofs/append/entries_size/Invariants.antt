@@ -6,4 +6,5 @@ abbrev pub invariant-loop-entry : goal.invariant-loop-entry
 invariant-loop-entry l = record {
   so_far : l.size ≡ length (entries_text (take l.entry-index l.entries));
   small : l.size ≤ 131101 * l.entry-index;
+  many : l.entry-index ≤ l.size;
 }

@@ -19,5 +19,5 @@ returns-clause-pends g c = λ s doubt tells held.
     let mid = g.D.Disk.moment c.mend.new.self.disk in
     let first : c.max-first.result ≡ max c.args.from known.register.content.cursor = c.max-first.ensures ∙ ap (max c.args.from) c.cursor.ensures in
     let read = reads_on s doubt mended.0 c.args.from c.args.most c.max-first.result c.read_from.result _ known c.mend.new.self.doubt mid _ mended.1 (g.met.D.Disk.lawful c.mend.new.self.disk tells)
-      (c.mend.new.self.stored c.in_ok-mend.ensures.sure tells) (c.read_from.ensures.told tells) first (λ t stored. c.read_from.ensures.read t tells stored) in
+    (c.mend.new.self.stored c.in_ok-mend.ensures.sure tells) (c.read_from.ensures.told tells) first (λ t stored. c.read_from.ensures.read t tells stored) in
     inr (mended.0, read.0, read.1)

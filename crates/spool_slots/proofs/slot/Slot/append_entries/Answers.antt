@@ -3,7 +3,8 @@ use Rattle.std.proofs.lemmas.List.Elements.{All-push}
 use Rattle.edge_disk.proofs.Moments.{untouched}
 use Rattle.spool_state.specs.Segment.{IsGroup, entries_of, group_text, need_of}
 use Rattle.spool_state.proofs.Texts.{length-group_text, length-need, length-segment_text-with_group, entries_of-with_group}
-use Rattle.spool_slots.proofs.Steps.{append_run, append_holds, closed_behind, body_from, piece_from, gate_from}
+use Rattle.edge_disk.proofs.GateSteps.{piece_written, gate_opened}
+use Rattle.spool_slots.proofs.Steps.{append_run, append_holds, closed_behind, body_from}
 use Rattle.spool_slots.proofs.slot.Slot.append_entries.Goals as goal
 
 pub returns-in_err-write_group-clause-any_moment : goal.returns-in_err-write_group-clause-any_moment
@@ -13,7 +14,7 @@ returns-in_err-write_group-clause-any_moment g c = λ segment tells known.
     let entries = c.args.entries.now in
     let fits : need_of entries ≤ slot.size - slot.gate - 1 = omega (arith, c.if-need-room.false, c.room-room.ensures, c.entries_size-size.ensures.size) in
     let one = body_from (slot.at + slot.gate) entries _ _ (c.write_group.ensures.any_moment tells) in
-    append_run slot segment entries _ _ lawful c.requires.place fits known (piece_from (slot.at + slot.gate) (group_text entries ++ 0 ∷ []) _ _ (c.requires.closed tells) one)
+    append_run slot segment entries _ _ lawful c.requires.place fits known (piece_written (slot.at + slot.gate) (group_text entries ++ 0 ∷ []) _ _ (c.requires.closed tells) one)
 
 pub returns-in_err-sync-clause-any_moment : goal.returns-in_err-sync-clause-any_moment
 returns-in_err-sync-clause-any_moment g c = λ segment tells known.
@@ -22,7 +23,7 @@ returns-in_err-sync-clause-any_moment g c = λ segment tells known.
     let entries = c.args.entries.now in
     let fits : need_of entries ≤ slot.size - slot.gate - 1 = omega (arith, c.if-need-room.false, c.room-room.ensures, c.entries_size-size.ensures.size) in
     let two = untouched _ _ _ _ (body_from (slot.at + slot.gate) entries _ _ (c.write_group.ensures.any_moment tells)) (c.sync.ensures.told tells) in
-    append_run slot segment entries _ _ lawful c.requires.place fits known (piece_from (slot.at + slot.gate) (group_text entries ++ 0 ∷ []) _ _ (c.requires.closed tells) two)
+    append_run slot segment entries _ _ lawful c.requires.place fits known (piece_written (slot.at + slot.gate) (group_text entries ++ 0 ∷ []) _ _ (c.requires.closed tells) two)
 
 pub returns-in_err-open_gate-clause-any_moment : goal.returns-in_err-open_gate-clause-any_moment
 returns-in_err-open_gate-clause-any_moment g c = λ segment tells known.
@@ -33,7 +34,7 @@ returns-in_err-open_gate-clause-any_moment g c = λ segment tells known.
     let two = untouched _ _ _ _ (body_from (slot.at + slot.gate) entries _ _ (c.write_group.ensures.any_moment tells)) (c.sync.ensures.told tells) in
     let is = (c.sync.ensures.told tells).same ∙ c.in_ok-write_group.ensures.written tells in
     append_run slot segment entries _ _ lawful c.requires.place fits known
-    (gate_from (slot.at + slot.gate) (group_text entries ++ 0 ∷ []) _ _ _ lawful (omega (arith, c.requires.place, fits, slot.inside, length-need entries)) (c.requires.closed tells) two is (c.open_gate.ensures.any_moment tells))
+    (gate_opened (slot.at + slot.gate) (group_text entries ++ 0 ∷ []) _ _ _ lawful (omega (arith, c.requires.place, fits, slot.inside, length-need entries)) (c.requires.closed tells) two is (c.open_gate.ensures.any_moment tells))
 
 pub returns-clause-any_moment : goal.returns-clause-any_moment
 returns-clause-any_moment g c = λ segment tells known.
@@ -44,7 +45,7 @@ returns-clause-any_moment g c = λ segment tells known.
     let two = untouched _ _ _ _ (body_from (slot.at + slot.gate) entries _ _ (c.write_group.ensures.any_moment tells)) (c.sync.ensures.told tells) in
     let is = (c.sync.ensures.told tells).same ∙ c.in_ok-write_group.ensures.written tells in
     append_run slot segment entries _ _ lawful c.requires.place fits known
-    (gate_from (slot.at + slot.gate) (group_text entries ++ 0 ∷ []) _ _ _ lawful (omega (arith, c.requires.place, fits, slot.inside, length-need entries)) (c.requires.closed tells) two is (c.open_gate.ensures.any_moment tells))
+    (gate_opened (slot.at + slot.gate) (group_text entries ++ 0 ∷ []) _ _ _ lawful (omega (arith, c.requires.place, fits, slot.inside, length-need entries)) (c.requires.closed tells) two is (c.open_gate.ensures.any_moment tells))
 
 pub returns-clause-known : goal.returns-clause-known
 returns-clause-known g c = λ segment tells known.
