@@ -51,9 +51,15 @@ pub fn bridge<D: Disk, S: Source, K: Sink>(
 
     // What was done.
     ensures done { (command : Command) → IsCommand command (map string_bytes words.now) → Does command (record {
-        tells = D.tells; disk = D.moment disk; disk_after = D.moment result.disk;
-        given = S.given input.old; given_after = S.given input.new; left = S.left input.old; left_after = S.left input.new;
-        taken = K.taken output.old; taken_after = K.taken output.new;
+      tells = D.tells;
+      disk = D.moment disk;
+      disk_after = D.moment result.disk;
+      given = S.given input.old;
+      given_after = S.given input.new;
+      left = S.left input.old;
+      left_after = S.left input.new;
+      taken = K.taken output.old;
+      taken_after = K.taken output.new;
     }) result.note }
 {
     let mut disk = disk;

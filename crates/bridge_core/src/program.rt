@@ -36,7 +36,11 @@ fn read_arguments(rt: &(impl Env + AllocGlobal)) -> Result<Arguments, Note> {
 }
 
 // Runs the words over standard input and output and this device.
-fn run_over<D: Disk + Drop>(rt: &HostRuntime, words: &[String], disk: Result<D, DiskFault>) -> Note {
+fn run_over<D: Disk + Drop>(
+    rt: &HostRuntime,
+    words: &[String],
+    disk: Result<D, DiskFault>,
+) -> Note {
     let Ok(disk) = disk else {
         return Note::DiskFault;
     };

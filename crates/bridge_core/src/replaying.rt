@@ -1,17 +1,11 @@
 //! The command `replay`: the input is served as one connection, over the spool that the device holds.
-ghost use Rattle.std.specs.Prelude.{◌≡◌, ◌≢◌, ◌⊎◌, ℕ, ◌*◌, ◌^◌, List, [], false};
-ghost use Rattle.std.specs.Io.KnownBytes.{IsAtEnd};
+ghost use Rattle.std.specs.Prelude.{◌≡◌, ◌≢◌, ◌⊎◌, ℕ, ◌*◌, ◌^◌, [], false};
 ghost use Rattle.foundation.specs.Faults.{Rose};
-ghost use Rattle.event_form.specs.declared.talk.Attended.{Attended};
-ghost use Rattle.edge_io.specs.declared.proto.Proto.TheVariants.{Relp};
 ghost use Rattle.spool_state.specs.SpoolState.{SpoolState};
 ghost use Rattle.spool_log.specs.State.{view, IsIn};
-ghost use Rattle.desk_access.specs.Call.{Call};
-ghost use Rattle.conn_serve.specs.Serving.{IsAtEndOfInput};
-ghost use Rattle.conn_serve.specs.Serves.{CarriedBy, Serves};
 ghost use Rattle.bridge_words.specs.declared.note.Note.TheVariants.{Usage, WrongLength, ReadFault, WriteFault, DiskFault};
-ghost use Rattle.bridge_words.specs.Notes.{status_of, note_of_talk};
-ghost use Rattle.bridge_core.specs.Replayed.{Keeps, IsUnopened, IsReplayed};
+ghost use Rattle.bridge_words.specs.Notes.{status_of};
+ghost use Rattle.bridge_core.specs.Replayed.{Keeps, IsServed, IsUnopened, IsReplayed};
 ghost use Rattle.bridge_core.specs.Done.{IsRefusedFirst};
 
 use crate::ended::Ended;
@@ -20,7 +14,7 @@ use bridge_words::Note;
 use conn_serve::{Rules, attend};
 use desk_access::{Alone, Desk};
 use edge_disk::Disk;
-use edge_io::{Both, Proto, Sink, Source};
+use edge_io::{Both, Link, Proto, Sink, Source};
 use spool_log::{Opening, Refusal, Spool};
 use std::alloc::Global;
 
@@ -30,6 +24,29 @@ const RELP: Rules = Rules {
     token: None,
     ack_token: None,
 };
+
+/// How many numbers the connections of a run have.
+const CONNECTIONS: u64 = 1 << 32;
+
+// Serves the link as the first connection of the spool's run.
+fn attend_relp<D: Disk, L: Link>(alloc: Global, spool: Spool<D>, link: &mut L) -> Ended<D>
+    requires { spool.doubt ≡ false }
+
+    ensures status { result.status ≡ status_of result.note }
+    ensures known { IsRefusedFirst result.note → ⊥ }
+    ensures read_cause { result.note ≡ ReadFault → Rose 1 (L.read_faults link.old) (L.read_faults link.new) }
+    ensures write_cause { result.note ≡ WriteFault → Rose 1 (L.write_faults link.old) (L.write_faults link.new) }
+    ensures disk_cause { result.note ≡ DiskFault → Rose 1 (D.moment spool.disk).faults (D.moment result.disk).faults }
+    ensures same { L.same link.old link.new }
+    ensures served { IsServed (spool.known.register.content.run * 2 ^ 32) (L.given link.old) (L.given link.new) (L.left link.old) (L.left link.new) (L.taken link.old) (L.taken link.new)
+        (λ calls. (s : SpoolState) → D.tells → IsIn s [] (view spool.known spool.doubt (D.moment spool.disk)) → Keeps s (D.moment spool.disk) (D.moment result.disk) calls) result.note }
+{
+    let conn = u64::from(spool.run()) * CONNECTIONS;
+    let mut access = Alone::new(Desk { spool });
+    let attended = attend(alloc, link, &RELP, &mut access, conn);
+    let desk = access.into_desk();
+    Ended::of(Note::of_talk(attended.talk), desk.spool.into_disk())
+}
 
 // Serves the input as the first connection of the spool's run.
 fn serve_relp<D: Disk, S: Source, K: Sink>(
@@ -41,23 +58,18 @@ fn serve_relp<D: Disk, S: Source, K: Sink>(
     requires { spool.doubt ≡ false }
 
     ensures status { result.status ≡ status_of result.note }
+    ensures known { IsRefusedFirst result.note → ⊥ }
     ensures read_cause { result.note ≡ ReadFault → Rose 1 (S.read_faults input.old) (S.read_faults input.new) }
     ensures write_cause { result.note ≡ WriteFault → Rose 1 (K.write_faults output.old) (K.write_faults output.new) }
     ensures disk_cause { result.note ≡ DiskFault → Rose 1 (D.moment spool.disk).faults (D.moment result.disk).faults }
-    ensures served { (attended : Attended) × (result.note ≡ note_of_talk attended.talk)
-        × Serves (CarriedBy Relp (spool.known.register.content.run * 2 ^ 32)) (S.given input.old) (S.given input.new) (S.left input.old) (S.left input.new) (K.taken output.old) (K.taken output.new)
-            (λ calls. (s : SpoolState) → D.tells → IsIn s [] (view spool.known spool.doubt (D.moment spool.disk)) → Keeps s (D.moment spool.disk) (D.moment result.disk) calls) attended
-        × (IsAtEndOfInput attended.talk → IsAtEnd (S.left input.new)) }
+    ensures served { IsServed (spool.known.register.content.run * 2 ^ 32) (S.given input.old) (S.given input.new) (S.left input.old) (S.left input.new) (K.taken output.old) (K.taken output.new)
+        (λ calls. (s : SpoolState) → D.tells → IsIn s [] (view spool.known spool.doubt (D.moment spool.disk)) → Keeps s (D.moment spool.disk) (D.moment result.disk) calls) result.note }
 {
-    let conn = u64::from(spool.run()) << 32;
-    let mut access = Alone::new(Desk { spool });
     let mut link = Both {
         source: &mut *input,
         sink: &mut *output,
     };
-    let attended = attend(alloc, &mut link, &RELP, &mut access, conn);
-    let desk = access.into_desk();
-    Ended::of(Note::of_talk(attended.talk), desk.spool.into_disk())
+    attend_relp(alloc, spool, &mut link)
 }
 
 /// Serves the input as one connection by RELP, over the spool that the device holds, of which the run is
