@@ -6,9 +6,12 @@ mod bridge;
 mod ended;
 mod formatting;
 mod listing;
+mod printing;
 mod program;
 mod refused;
 mod replaying;
+#[cfg(test)]
+mod list_tests;
 #[cfg(test)]
 mod tests;
 

@@ -1,5 +1,5 @@
 -- Words are one command at most.
-use Rattle.std.proofs.Common.{◌≡◌, ℕ, List, refl, sym, ◌∙◌, ap}
+use Rattle.std.proofs.Common.{◌≡◌, ℕ, List, ◌∷◌, get_or, codes, refl, sym, ◌∙◌, ap, arith}
 use Rattle.bridge_words.specs.declared.command.ListForm.{ListForm}
 use Rattle.bridge_words.specs.declared.command.ListForm.TheVariants.{Plain, Text, JsonObject, HecObject}
 use Rattle.bridge_words.specs.declared.command.Command.{Command}
@@ -9,6 +9,10 @@ use Rattle.bridge_words.specs.Words.{IsNumber, form_words, IsCommand}
 one_number : (n m : ℕ) (a b : List ℕ) → a ≡ b → IsNumber n a → IsNumber m b → n ≡ m
 one_number n m a b same x y = let p = x.value in let q = y.value in cc
 
+-- they differ in their first bytes
+relp_json : form_words Text ≡ form_words JsonObject → ⊥
+relp_json is = let words : codes "relp" ≡ codes "json" = cc in let letter : 114 ≡ 106 = ap (λ (word : List ℕ). get_or word 0 0) words in omega (arith, letter)
+
 one_form : (f g : ListForm) → form_words f ≡ form_words g → f ≡ g
 one_form Plain Plain is = refl
 one_form Plain Text is = absurd (cc)
@@ -16,10 +20,10 @@ one_form Plain JsonObject is = absurd (cc)
 one_form Plain HecObject is = absurd (cc)
 one_form Text Plain is = absurd (cc)
 one_form Text Text is = refl
-one_form Text JsonObject is = absurd (cc)
+one_form Text JsonObject is = absurd (relp_json is)
 one_form Text HecObject is = absurd (cc)
 one_form JsonObject Plain is = absurd (cc)
-one_form JsonObject Text is = absurd (cc)
+one_form JsonObject Text is = absurd (relp_json (sym is))
 one_form JsonObject JsonObject is = refl
 one_form JsonObject HecObject is = absurd (cc)
 one_form HecObject Plain is = absurd (cc)
