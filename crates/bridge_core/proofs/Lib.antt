@@ -1,3 +1,4 @@
+pub mod Forms
 pub mod Printing
 pub mod Sure
 pub mod Replays
