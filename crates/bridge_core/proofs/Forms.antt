@@ -46,11 +46,11 @@ line_is HecObject number e limits = (hec_object_of e.event, hec_object_of-is e.e
 only_lines : (form : ListForm) (number : ℕ) (es : List Entry) (text : List ℕ) → All IsEntry es → AreLines form number es text → text ≡ lines_in form number es
 only_lines form number [] text limits are = are
 only_lines form number (e ∷ es) text limits are =
-    are.4 ∙ ap (λ (l : List ℕ). l ++ are.1) (only_line form number e are.0 (limits 0 e (omega arith)) are.2) ∙ ap (λ (l : List ℕ). line_in form number e ++ l) (only_lines form (number + 1) es are.1 (All-tail IsEntry e es limits) are.3)
+    are.4 ∙ ap (λ (l : List ℕ). l ++ are.1) (only_line form number e are.0 (All-head IsEntry e es limits) are.2) ∙ ap (λ (l : List ℕ). line_in form number e ++ l) (only_lines form (number + 1) es are.1 (All-tail IsEntry e es limits) are.3)
 
 lines_are : (form : ListForm) (number : ℕ) (es : List Entry) → All IsEntry es → AreLines form number es (lines_in form number es)
 lines_are form number [] limits = refl
-lines_are form number (e ∷ es) limits = (line_in form number e, lines_in form (number + 1) es, line_is form number e (limits 0 e (omega arith)), lines_are form (number + 1) es (All-tail IsEntry e es limits), refl)
+lines_are form number (e ∷ es) limits = (line_in form number e, lines_in form (number + 1) es, line_is form number e (All-head IsEntry e es limits), lines_are form (number + 1) es (All-tail IsEntry e es limits), refl)
 
 pub as_written : (form : ListForm) (number : ℕ) (es : List Entry) (note : Note) (old new : Option (List ℕ)) → All IsEntry es → ArePrinted form number es note old new → IsWritten note (lines_in form number es) old new
 as_written form number es note old new limits are = subst (λ (text : List ℕ). IsWritten note text old new) (only_lines form number es are.0 limits are.1) are.2
@@ -78,11 +78,11 @@ lines_more form first entries i e lt is =
 
 groups_limits : (groups : List (List Entry)) → All IsGroup groups → All IsEntry (flat_map (λ group. group) groups)
 groups_limits [] all = All-nil IsEntry
-groups_limits (g ∷ groups) all = All-append IsEntry g (flat_map (λ group. group) groups) (all 0 g (omega arith)).entries (groups_limits groups (All-tail IsGroup g groups all))
+groups_limits (g ∷ groups) all = All-append IsEntry g (flat_map (λ group. group) groups) (All-head IsGroup g groups all).entries (groups_limits groups (All-tail IsGroup g groups all))
 
 slots_limits : (n : ℕ) (slots : List OpenSlot) → All (IsOpenSlot n) slots → All IsEntry (entries_in slots)
 slots_limits n [] all = All-nil IsEntry
-slots_limits n (slot ∷ slots) all = All-append IsEntry (entries_of slot.segment) (entries_in slots) (groups_limits slot.segment.groups (all 0 slot (omega arith)).groups) (slots_limits n slots (All-tail (IsOpenSlot n) slot slots all))
+slots_limits n (slot ∷ slots) all = All-append IsEntry (entries_of slot.segment) (entries_in slots) (groups_limits slot.segment.groups (All-head (IsOpenSlot n) slot slots all).groups) (slots_limits n slots (All-tail (IsOpenSlot n) slot slots all))
 
 list_limits : (s : SpoolState) → IsSound s → All IsEntry (list s)
 list_limits s sound = All-append IsEntry (entries_in s.older) (entries_of s.active.segment) (slots_limits s.slots s.older sound.older) (groups_limits s.active.segment.groups sound.active.groups)

@@ -14,7 +14,7 @@ ghost use Rattle.bridge_core.specs.Listed.{ArePrinted, IsListNote, IsListed};
 ghost use Rattle.bridge_core.specs.Done.{IsRefusedFirst};
 
 use crate::ended::Ended;
-use crate::printing::print_entries;
+use crate::lines::print_entries;
 use crate::refused::{pend_note, recover_note};
 use bridge_words::{ListForm, Note};
 use edge_disk::Disk;

@@ -5,8 +5,8 @@
 mod bridge;
 mod ended;
 mod formatting;
+mod lines;
 mod listing;
-mod printing;
 mod program;
 mod refused;
 mod replaying;
