@@ -1,4 +1,6 @@
+pub mod Forms
 pub mod Printing
+pub mod Gathered
 pub mod Sure
 pub mod Replays
 pub mod Doing

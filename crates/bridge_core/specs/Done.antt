@@ -37,8 +37,8 @@ abbrev pub Does : Command → Run → Note → Type 0
 Does (Format slots size) run note =
     IsFormatted slots size run.tells run.disk run.disk_after run.taken run.taken_after note
     × (run.tells → LeavesOnly (IsFormatStep slots size run.disk) run.disk run.disk_after)
-Does ListCommand run note =
-    run.tells → IsListed run.disk.reads run.taken run.taken_after note × LeavesOnly (IsOpening Keep run.disk) run.disk run.disk_after
+Does (ListCommand form) run note =
+    run.tells → IsListed form run.disk.reads run.taken run.taken_after note × LeavesOnly (IsOpening Keep run.disk) run.disk run.disk_after
 Does ReplayRelp run note =
     (IsUnopened run.tells run.disk run.disk_after note × IsSilent run)
     ⊎ IsReplayed run.tells run.disk run.disk_after run.given run.given_after run.left run.left_after run.taken run.taken_after note

@@ -20,7 +20,7 @@ use std::alloc::Global;
 /// Does all that the program does with these words, over this disk, input and output.
 ///
 /// `format SLOTS SIZE` makes the device an empty spool, and prints a line. `list` prints a line for each
-/// entry that is not confirmed. `replay relp` serves the input as one connection by RELP, version 0: what is
+/// entry that is not confirmed, and with `--as` its event in that form. `replay relp` serves the input as one connection by RELP, version 0: what is
 /// stored is durable before it is answered, and an entry that was answered stands in the spool whatever a
 /// crash leaves from then on.
 ///
@@ -69,7 +69,7 @@ pub fn bridge<D: Disk, S: Source, K: Sink>(
             let note = format(alloc, &mut disk, output, slots, size);
             Ended::of(note, disk)
         }
-        Some(Command::List) => list(alloc, disk, output),
+        Some(Command::List { form }) => list(alloc, disk, output, form),
         Some(Command::ReplayRelp) => replay_relp(alloc, disk, input, output),
     }
 }

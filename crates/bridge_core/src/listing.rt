@@ -1,7 +1,7 @@
 //! The command `list`: the entries that are not confirmed are printed.
-ghost use Rattle.std.specs.Prelude.{◌≡◌, ◌≢◌, ℕ, ◌+◌, ◌^◌, ◌≤◌, ◌<◌, [], length, IfOk};
+ghost use Rattle.std.specs.Prelude.{◌≡◌, ◌≢◌, ℕ, ◌+◌, ◌≤◌, []};
 ghost use Rattle.foundation.specs.Faults.{Rose};
-ghost use Rattle.spool_state.specs.SpoolState.{SpoolState};
+ghost use Rattle.spool_state.specs.SpoolState.{SpoolState, pending};
 ghost use Rattle.spool_state.specs.Image.{StandsFor};
 ghost use Rattle.edge_disk.specs.Disk.{LeavesOnly};
 ghost use Rattle.spool_log.specs.State.{view, IsIn};
@@ -9,60 +9,28 @@ ghost use Rattle.spool_log.specs.Outcome.{pending_from};
 ghost use Rattle.spool_log.specs.Opening.{IsOpening};
 ghost use Rattle.spool_log.specs.declared.opening.Opening.TheVariants.{Keep};
 ghost use Rattle.bridge_words.specs.declared.note.Note.TheVariants.{Usage, WrongLength, ReadFault, WriteFault, DiskFault};
-ghost use Rattle.bridge_words.specs.Lines.{entry_lines};
 ghost use Rattle.bridge_words.specs.Notes.{status_of};
-ghost use Rattle.bridge_core.specs.Written.{IsWritten};
-ghost use Rattle.bridge_core.specs.Listed.{pending_lines, IsListNote, IsListed};
+ghost use Rattle.bridge_core.specs.Listed.{ArePrinted, IsListNote, IsListed};
 ghost use Rattle.bridge_core.specs.Done.{IsRefusedFirst};
 
 use crate::ended::Ended;
+use crate::lines::print_entries;
 use crate::refused::{pend_note, recover_note};
-use bridge_words::{Note, entry_line};
+use bridge_words::{ListForm, Note};
 use edge_disk::Disk;
-use edge_io::{Sink, write_whole};
-use event_form::Entry;
+use edge_io::Sink;
 use spool_log::{Opening, Refusal, Spool};
-use std::alloc::{AllocError, Global};
+use std::alloc::Global;
 
 /// How many entries are read at a time.
 const PART: u64 = 128;
-
-// The lines of the entries, of which the first has this number.
-fn lines_of(alloc: Global, first: u64, entries: &[Entry]) -> Result<Vec<u8>, AllocError>
-    requires { first ≤ 2 ^ 63 }
-    ensures { IfOk result (λ lines. lines.items ≡ entry_lines first entries.now) }
-{
-    let mut lines = Vec::new(alloc);
-    for (i, entry) in entries.iter().enumerate() {
-        let line = entry_line(alloc, first + i as u64, entry)?;
-        lines.extend_from_slice(line.as_bytes())?;
-    }
-    Ok(lines)
-}
-
-// Writes the lines of the entries, of which the first has this number.
-fn print_entries<K: Sink>(alloc: Global, output: &mut K, first: u64, entries: &[Entry]) -> Note
-    requires { first ≤ 2 ^ 63 }
-
-    ensures known { IsListNote result × (result ≢ DiskFault) }
-    ensures later { K.write_faults output.old ≤ K.write_faults output.new }
-    ensures cause { result ≡ WriteFault → Rose 1 (K.write_faults output.old) (K.write_faults output.new) }
-    ensures printed { IsWritten result (entry_lines first entries.now) (K.taken output.old) (K.taken output.new) }
-{
-    let Ok(lines) = lines_of(alloc, first, entries) else {
-        return Note::NoMemory;
-    };
-    match write_whole(output, &lines) {
-        Ok(()) => Note::Fine,
-        Err(_) => Note::WriteFault,
-    }
-}
 
 // Prints so many entries with numbers from this one on.
 fn print_part<D: Disk, K: Sink>(
     alloc: Global,
     spool: &mut Spool<D>,
     output: &mut K,
+    form: ListForm,
     number: u64,
     most: u32,
 ) -> Note
@@ -74,31 +42,36 @@ fn print_part<D: Disk, K: Sink>(
     ensures disk_cause { result ≡ DiskFault → Rose 1 (D.moment spool.old.disk).faults (D.moment spool.new.disk).faults }
     ensures write_cause { result ≡ WriteFault → Rose 1 (K.write_faults output.old) (K.write_faults output.new) }
     ensures printed { (s : SpoolState) → D.tells → IsIn s [] (view spool.old.known spool.old.doubt (D.moment spool.old.disk))
-        → IsWritten result (entry_lines number (pending_from s number most)) (K.taken output.old) (K.taken output.new) }
+        → ArePrinted form number (pending_from s number most) result (K.taken output.old) (K.taken output.new) }
     ensures kept { (s : SpoolState) → D.tells → IsIn s [] (view spool.old.known spool.old.doubt (D.moment spool.old.disk))
         → IsIn s [] (view spool.new.known spool.new.doubt (D.moment spool.new.disk)) × LeavesOnly (StandsFor s) (D.moment spool.old.disk) (D.moment spool.new.disk) }
 {
     match spool.pending(number, most) {
-        Ok(entries) => print_entries(alloc, output, number, &entries),
+        Ok(entries) => print_entries(alloc, output, form, number, &entries),
         Err(fault) => pend_note(fault),
     }
 }
 
 // Prints all entries that are not confirmed.
-fn print_pending<D: Disk, K: Sink>(alloc: Global, spool: &mut Spool<D>, output: &mut K) -> Note
+fn print_pending<D: Disk, K: Sink>(
+    alloc: Global,
+    spool: &mut Spool<D>,
+    output: &mut K,
+    form: ListForm,
+) -> Note
     ensures known { IsListNote result }
     ensures later { (D.moment spool.old.disk).faults ≤ (D.moment spool.new.disk).faults }
     ensures disk_cause { result ≡ DiskFault → Rose 1 (D.moment spool.old.disk).faults (D.moment spool.new.disk).faults }
     ensures write_cause { result ≡ WriteFault → Rose 1 (K.write_faults output.old) (K.write_faults output.new) }
     ensures printed { (s : SpoolState) → D.tells → IsIn s [] (view spool.old.known spool.old.doubt (D.moment spool.old.disk))
-        → IsWritten result (pending_lines s) (K.taken output.old) (K.taken output.new) }
+        → ArePrinted form s.cursor (pending s) result (K.taken output.old) (K.taken output.new) }
     ensures kept { (s : SpoolState) → D.tells → IsIn s [] (view spool.old.known spool.old.doubt (D.moment spool.old.disk))
         → LeavesOnly (StandsFor s) (D.moment spool.old.disk) (D.moment spool.new.disk) }
 {
     let mut number = spool.cursor();
     while number < spool.end() {
         let most = (spool.end() - number).min(PART);
-        match print_part(alloc, spool, output, number, most as u32) {
+        match print_part(alloc, spool, output, form, number, most as u32) {
             Note::Fine => number += most,
             note => return note,
         }
@@ -106,24 +79,33 @@ fn print_pending<D: Disk, K: Sink>(alloc: Global, spool: &mut Spool<D>, output: 
     Note::Fine
 }
 
-/// Prints a line for each entry that is not confirmed, in order, from the spool that the device holds.
+/// Prints a line for each entry that is not confirmed, in order, from the spool that the device holds: in the
+/// plain form its number, connection, index, unit, origin and length, and else its event in that form and LF.
+/// At a time 128 entries at most are held, each with a text of at most 131,072 bytes, the piece of 262,144
+/// bytes by which they are read, and of their lines those that aren't written yet: fewer than 65,536 bytes, and
+/// one line.
 ///
 /// `NotSpool` comes exactly where the device breaks a rule of the layout, with the place of the first one,
 /// and then nothing is written. `DiskFault` and `WriteFault` come only where a call of the disk or a write
 /// failed in this call; then the first lines are written, the last one perhaps in part. Whatever a crash
 /// leaves of the device is what it could leave before, or stands for the same spool.
-pub fn list<D: Disk, K: Sink>(alloc: Global, disk: D, output: &mut K) -> Ended<D>
+pub fn list<D: Disk, K: Sink>(
+    alloc: Global,
+    disk: D,
+    output: &mut K,
+    form: ListForm,
+) -> Ended<D>
     ensures status { result.status ≡ status_of result.note }
     ensures known { (result.note ≢ Usage) × (result.note ≢ ReadFault) × ((have want : ℕ) → result.note ≢ WrongLength have want) }
     ensures unused { IsRefusedFirst result.note → output.new ≡ output.old }
     ensures disk_cause { result.note ≡ DiskFault → Rose 1 (D.moment disk).faults (D.moment result.disk).faults }
     ensures write_cause { result.note ≡ WriteFault → Rose 1 (K.write_faults output.old) (K.write_faults output.new) }
-    ensures listed { D.tells → IsListed (D.moment disk).reads (K.taken output.old) (K.taken output.new) result.note }
+    ensures listed { D.tells → IsListed form (D.moment disk).reads (K.taken output.old) (K.taken output.new) result.note }
     ensures any_moment { D.tells → LeavesOnly (IsOpening Keep (D.moment disk)) (D.moment disk) (D.moment result.disk) }
 {
     match Spool::recover(alloc, disk, Opening::Keep) {
         Ok(mut spool) => {
-            let note = print_pending(alloc, &mut spool, output);
+            let note = print_pending(alloc, &mut spool, output, form);
             Ended::of(note, spool.into_disk())
         }
         Err(Refusal { fault, disk }) => Ended::of(recover_note(fault), disk),

@@ -5,10 +5,13 @@
 mod bridge;
 mod ended;
 mod formatting;
+mod lines;
 mod listing;
 mod program;
 mod refused;
 mod replaying;
+#[cfg(test)]
+mod list_tests;
 #[cfg(test)]
 mod tests;
 

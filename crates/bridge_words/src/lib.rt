@@ -10,7 +10,7 @@ mod note;
 mod number;
 mod why;
 
-pub use command::Command;
+pub use command::{Command, ListForm};
 pub use line::{entry_line, spool_line};
 pub use need::{Need, need_of};
 pub use note::{Note, note_text};

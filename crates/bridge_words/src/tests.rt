@@ -1,4 +1,4 @@
-use crate::{Command, Need, Note, entry_line, need_of, note_text, spool_line};
+use crate::{Command, ListForm, Need, Note, entry_line, need_of, note_text, spool_line};
 use event_form::{Blob, Entry, Event, Origin, Why};
 use std::alloc::Global;
 use std::test::Fail;
@@ -15,7 +15,7 @@ fn words_of(alloc: Global, words: &[&str]) -> Result<Vec<String>, Fail> {
 #[test]
 fn commands(rt: HostRuntime) -> Result<(), Fail> {
     let alloc = rt.alloc();
-    let rows: [(&[&str], Command, Need); 5] = [
+    let rows: [(&[&str], Command, Need); 8] = [
         (
             &["format", "2", "4096"],
             Command::Format {
@@ -42,7 +42,34 @@ fn commands(rt: HostRuntime) -> Result<(), Fail> {
                 len: 1_099_511_640_064,
             },
         ),
-        (&["list"], Command::List, Need::Existing),
+        (
+            &["list"],
+            Command::List {
+                form: ListForm::Plain,
+            },
+            Need::Existing,
+        ),
+        (
+            &["list", "--as", "relp"],
+            Command::List {
+                form: ListForm::Text,
+            },
+            Need::Existing,
+        ),
+        (
+            &["list", "--as", "json"],
+            Command::List {
+                form: ListForm::JsonObject,
+            },
+            Need::Existing,
+        ),
+        (
+            &["list", "--as", "hec"],
+            Command::List {
+                form: ListForm::HecObject,
+            },
+            Need::Existing,
+        ),
         (&["replay", "relp"], Command::ReplayRelp, Need::Existing),
     ];
     for (words, command, need) in rows {
@@ -57,7 +84,7 @@ fn commands(rt: HostRuntime) -> Result<(), Fail> {
 #[test]
 fn no_commands(rt: HostRuntime) -> Result<(), Fail> {
     let alloc = rt.alloc();
-    let rows: [&[&str]; 18] = [
+    let rows: [&[&str]; 25] = [
         &[],
         &["format"],
         &["format", "0", "4096"],
@@ -71,6 +98,13 @@ fn no_commands(rt: HostRuntime) -> Result<(), Fail> {
         &["format", "1", "4096", "x"],
         &["format", "1", "0x1000"],
         &["list", "--as"],
+        &["list", "relp"],
+        &["list", "--as", "lumberjack"],
+        &["list", "--as", ""],
+        &["list", "--as", "RELP"],
+        &["list", "--as=json"],
+        &["list", "--as", "hec", "x"],
+        &["--as", "hec", "list"],
         &["List"],
         &["replay"],
         &["replay", "hec"],

@@ -1,7 +1,8 @@
 //! Entries read from the slots.
-ghost use Rattle.std.specs.Prelude.{◌≡◌, ℕ, ◌+◌, ◌-◌, ◌^◌, ◌<◌, ◌≤◌, ◌++◌, List, length, take, drop, min, max, IfOk, IsErrOf, MatchResult};
+ghost use Rattle.std.specs.Prelude.{◌≡◌, ℕ, ◌+◌, ◌-◌, ◌^◌, ◌<◌, ◌≤◌, ◌++◌, List, length, take, drop, min, max, All, IfOk, IsErrOf, MatchResult};
 ghost use Rattle.foundation.specs.Faults.{Rose};
 ghost use Rattle.event_form.specs.declared.event.Entry.{Entry};
+ghost use Rattle.event_form.specs.Entry.{IsEntry};
 ghost use Rattle.spool_state.specs.Segment.{Segment, entries_of};
 ghost use Rattle.spool_state.specs.SpoolState.{SpoolState, base, list};
 ghost use Rattle.spool_state.specs.Image.{slot_at};
@@ -60,12 +61,14 @@ fn read_slot<D: Disk>(
     requires place { slot.now.at + slot.now.size ≤ (D.moment disk.old).size }
     requires ends { slot.now.first + slot.now.count ≤ 2 ^ 63 }
     requires few { length entries.old.items ≤ most }
+    requires limits { All IsEntry entries.old.items }
 
     ensures later { (D.moment disk.old).faults ≤ (D.moment disk.new).faults }
     ensures cause { IsErrOf result PendFault.DiskFault → Rose 1 (D.moment disk.old).faults (D.moment disk.new).faults }
     ensures same_size { (D.moment disk.new).size ≡ (D.moment disk.old).size }
     ensures told { D.tells → IsUntouched (D.moment disk.old) (D.moment disk.new) }
     ensures few { length entries.new.items ≤ most }
+    ensures limits { All IsEntry entries.new.items }
     ensures read { (segment : Segment) → D.tells → Slots.Knows slot.now segment (D.moment disk.old).reads
         → MatchResult result (λ _. entries.new.items ≡ entries.old.items ++ take (most - length entries.old.items) (drop (from - segment.first) (entries_of segment))) IsNotBroken }
 {
@@ -98,6 +101,7 @@ impl Known {
         ensures cause { IsErrOf result PendFault.DiskFault → Rose 1 (D.moment disk.old).faults (D.moment disk.new).faults }
         ensures same_size { (D.moment disk.new).size ≡ (D.moment disk.old).size }
         ensures told { D.tells → IsUntouched (D.moment disk.old) (D.moment disk.new) }
+        ensures limits { IfOk result (λ entries. All IsEntry entries.items) }
         ensures read { (s : SpoolState) → D.tells → IsStored s self.now (D.moment disk.old).reads → MatchResult result (λ entries. entries.items ≡ take most (drop (from - base s) (list s))) IsNotBroken }
     {
         let mut entries = Vec::new(alloc);

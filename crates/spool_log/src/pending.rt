@@ -1,5 +1,6 @@
 //! Entries that are not confirmed.
-ghost use Rattle.std.specs.Prelude.{◌≡◌, ◌+◌, ◌≤◌, List, IsErrOf};
+ghost use Rattle.std.specs.Prelude.{◌≡◌, ◌+◌, ◌≤◌, List, All, IfOk, IsErrOf};
+ghost use Rattle.event_form.specs.Entry.{IsEntry};
 ghost use Rattle.foundation.specs.Faults.{Rose};
 ghost use Rattle.spool_state.specs.SpoolState.{SpoolState};
 
@@ -21,6 +22,8 @@ impl<D: Disk> Spool<D> {
         ensures later { (D.moment self.old.disk).faults ≤ (D.moment self.new.disk).faults }
         ensures cause { IsErrOf result PendFault.DiskFault → Rose 1 (D.moment self.old.disk).faults (D.moment self.new.disk).faults }
         ensures size { (D.moment self.new.disk).size ≡ (D.moment self.old.disk).size }
+        // Whatever the device held, each entry keeps its limits.
+        ensures limits { IfOk result (λ entries. All IsEntry entries.items) }
         ensures pends { (s : SpoolState) (doubt : List SpoolState) → D.tells → IsIn s doubt (view self.old.known self.old.doubt (D.moment self.old.disk))
             → PendsFrom s doubt from most result (view self.old.known self.old.doubt (D.moment self.old.disk)) (view self.new.known self.new.doubt (D.moment self.new.disk)) }
     {

@@ -3,6 +3,7 @@ ghost use Rattle.std.specs.Prelude.{◌≡◌, ℕ, ◌+◌, ◌-◌, ◌^◌, �
 ghost use Rattle.foundation.specs.Bytes.{part};
 ghost use Rattle.foundation.specs.Faults.{Rose};
 ghost use Rattle.event_form.specs.declared.event.Entry.{Entry};
+ghost use Rattle.event_form.specs.Entry.{IsEntry};
 ghost use Rattle.event_form.specs.Reading.{Begins};
 ghost use Rattle.spool_state.specs.Segment.{IsGroup, Segment, entries_of};
 ghost use Rattle.spool_state.specs.Image.{HoldsSegment};
@@ -77,6 +78,7 @@ fn read_from<D: Disk>(
     ensures told { D.tells → IsUntouched (D.moment disk.old) (D.moment disk.new) }
     ensures window { OnOk result (D.tells → IsWindow at window.new (D.moment disk.new).reads) }
     ensures inside { IfOk result (λ took. from + took.used ≤ size) }
+    ensures limits { IfOk result (λ took. IsEntry took.entry) }
     ensures read { (e : Entry) (rest : List ℕ) → D.tells → Begins e (part (at + from) (size - from) (D.moment disk.old).reads) rest → IsReading e result }
 {
     if from > size {
@@ -115,6 +117,7 @@ pub(crate) fn next_entry<D: Disk>(
     ensures told { D.tells → IsUntouched (D.moment disk.old) (D.moment disk.new) }
     ensures window { OnOk result (D.tells → IsWindow at window.new (D.moment disk.new).reads) }
     ensures number { IfOk result (λ next. next.1.number ≡ mark.number + 1) }
+    ensures limits { IfOk result (λ next. IsEntry next.0) }
     ensures next { (segment : Segment) → D.tells → HoldsSegment at size segment (D.moment disk.old).reads → All IsGroup segment.groups → IsMark segment mark → mark.number < segment.first + length (entries_of segment) → IsNextOf segment mark result }
 {
     let entered = enter(window, disk, at, size, mark)?;

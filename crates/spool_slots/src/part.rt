@@ -1,6 +1,7 @@
 //! The entries of a slot, read in parts.
-ghost use Rattle.std.specs.Prelude.{◌≡◌, ℕ, ◌+◌, ◌-◌, ◌^◌, ◌<◌, ◌≤◌, List, length, min, IfOk, IsErrOf};
+ghost use Rattle.std.specs.Prelude.{◌≡◌, ℕ, ◌+◌, ◌-◌, ◌^◌, ◌<◌, ◌≤◌, List, length, min, All, IfOk, IsErrOf};
 ghost use Rattle.foundation.specs.Faults.{Rose};
+ghost use Rattle.event_form.specs.Entry.{IsEntry};
 ghost use Rattle.spool_state.specs.Segment.{Segment};
 ghost use Rattle.edge_disk.specs.Disk.{IsUntouched};
 
@@ -59,6 +60,8 @@ impl Slot {
 
         ensures count { IfOk result (λ part. length part.entries.items ≡ min most (self.now.first + self.now.count - mark.number)) }
         ensures number { IfOk result (λ part. part.mark.number ≡ mark.number + length part.entries.items) }
+        // Whatever the device held, each entry keeps its limits.
+        ensures limits { IfOk result (λ part. All IsEntry part.entries.items) }
         // Of a segment that the slot knows it gives these entries, and never says NotSpool.
         ensures part { (segment : Segment) → D.tells → Knows self.now segment (D.moment disk.old).reads → IsMark segment mark → IsPartOf segment mark most result }
     {

@@ -18,4 +18,4 @@ pub returns-in-Err-clause-listed : goal.returns-in-Err-clause-listed
 returns-in-Err-clause-listed g c = λ tells.
     let reads = (g.D.Disk.moment c.args.disk).reads in
     let taken = g.K.Sink.taken c.args.output.now in
-    subst (λ (note : Note). IsListed reads taken taken note) (sym (c.of-in-Err.ensures.note ∙ c.recover_note.ensures)) (inl (unreadable reads c.in-Err.field-0.fault (c.in-Err.ensures.broken tells), refl))
+    subst (λ (note : Note). IsListed c.args.form reads taken taken note) (sym (c.of-in-Err.ensures.note ∙ c.recover_note.ensures)) (inl (unreadable reads c.in-Err.field-0.fault (c.in-Err.ensures.broken tells), refl))

@@ -16,5 +16,5 @@ invariant-loop-number g l = record {
   goes : (s : SpoolState) → g.D.Disk.tells → IsIn s [] (view l.initial.spool.known l.initial.spool.doubt (g.D.Disk.moment l.initial.spool.disk))
       → IsIn s [] (view l.spool.known l.spool.doubt (g.D.Disk.moment l.spool.disk))
       × LeavesOnly (StandsFor s) (g.D.Disk.moment l.initial.spool.disk) (g.D.Disk.moment l.spool.disk)
-      × Printed s l.number (g.K.Sink.taken l.initial.output) (g.K.Sink.taken l.output);
+      × Printed l.form s l.number (g.K.Sink.taken l.initial.output) (g.K.Sink.taken l.output);
 }

@@ -1,8 +1,10 @@
-use Rattle.std.proofs.Common.{◌≡◌, ℕ, ◌-◌, ◌<◌, List, length, take, drop, get_or, sym, ◌∙◌, ap, subst, arith}
+use Rattle.std.proofs.Common.{◌≡◌, ℕ, ◌+◌, ◌-◌, ◌<◌, List, All, length, take, drop, get_or, sym, ◌∙◌, ap, subst, arith}
 use Rattle.std.specs.Prelude.{Result, MatchResult}
 use Rattle.std.specs.Global.{Vec}
+use Rattle.std.proofs.lemmas.List.Elements.{All-nil}
 use Rattle.event_form.specs.declared.event.Entry.{Entry}
-use Rattle.spool_state.specs.SpoolState.{base, list, entries_in}
+use Rattle.event_form.specs.Entry.{IsEntry}
+use Rattle.spool_state.specs.SpoolState.{SpoolState, base, list, entries_in}
 use Rattle.edge_disk.proofs.Moments.{untouched_refl, untouched_then}
 use Rattle.spool_log.specs.declared.fault.PendFault.{PendFault}
 use Rattle.spool_log.specs.Knows.{IsStored}
@@ -17,6 +19,7 @@ loop-slot-init g c = record {
   same_size = omega arith;
   told = λ tells. untouched_refl _;
   few = omega (arith, ap length c.new-entries.ensures.items);
+  limits = subst (All IsEntry) (sym c.new-entries.ensures.items) (All-nil IsEntry);
   read = λ s tells stored. c.new-entries.ensures.items ∙ sym (from_none c.args.most (c.args.from - base s));
 }
 
@@ -40,6 +43,7 @@ loop-slot-preserved g c =
       same_size = c.read_slot.ensures.same_size ∙ c.loop-slot.invariant.same_size;
       told = λ tells. untouched_then _ _ _ (g.met.D.Disk.lawful c.args.disk.now tells) (c.loop-slot.invariant.told tells) (c.read_slot.ensures.told tells);
       few = c.read_slot.ensures.few;
+      limits = c.read_slot.ensures.limits;
       read = λ s tells stored.
           let here = subst (λ (d : List ℕ). IsStored s known d) (sym (c.loop-slot.invariant.told tells).same) stored in
           let slot = knows_slot s known.older.items _ here.stands here.knows.older c.args.from c.args.most c.loop-slot.slot-index c.slot-item.result lt is in

@@ -1,4 +1,5 @@
-use Rattle.std.proofs.Common.{◌≡◌, ◌-◌, ◌≤◌, length, take, drop}
+use Rattle.std.proofs.Common.{◌≡◌, ℕ, ◌+◌, ◌-◌, ◌≤◌, List, All, length, take, drop}
+use Rattle.event_form.specs.Entry.{IsEntry}
 use Rattle.spool_state.specs.SpoolState.{SpoolState, base, entries_in}
 use Rattle.edge_disk.specs.Disk.{IsUntouched}
 use Rattle.spool_log.specs.Knows.{IsStored}
@@ -12,5 +13,6 @@ invariant-loop-slot g l =
       same_size : (moment l.disk).size ≡ (moment l.fn.disk).size;
       told : g.D.Disk.tells → IsUntouched (moment l.fn.disk) (moment l.disk);
       few : length l.entries.items ≤ l.most;
+      limits : All IsEntry l.entries.items;
       read : (s : SpoolState) → g.D.Disk.tells → IsStored s l.self (moment l.fn.disk).reads → l.entries.items ≡ take l.most (drop (l.from - base s) (entries_in (take l.slot-index s.older)));
     }

@@ -1,4 +1,6 @@
-use Rattle.std.proofs.Common.{◌+◌, ◌∷◌, [], ℕ, length, sym, ◌∙◌, ap, subst, arith, length-append}
+use Rattle.std.proofs.Common.{◌+◌, ◌∷◌, [], ℕ, All, length, sym, ◌∙◌, ap, subst, arith, length-append}
+use Rattle.std.proofs.lemmas.List.Elements.{All-push}
+use Rattle.event_form.specs.Entry.{IsEntry}
 use Rattle.edge_disk.proofs.Moments.{untouched_then}
 use Rattle.spool_state.specs.Image.{HoldsSegment}
 use Rattle.spool_state.proofs.Segments.{holds_front}
@@ -27,6 +29,7 @@ loop-i-preserved g c =
       window = λ tells. c.in_ok-entry.ensures.window tells;
       number = omega (arith, c.in_ok-entry.ensures.number, c.loop-i.invariant.number);
       counted = omega (arith, c.loop-i.invariant.counted, ap length pushed, length-append c.loop-i.entries.items (c.in_ok-entry.entry ∷ []));
+      limits = subst (All IsEntry) (sym pushed) (All-push IsEntry c.loop-i.entries.items c.in_ok-entry.entry c.loop-i.invariant.limits c.in_ok-entry.ensures.limits);
       read = λ segment tells knows mark.
           let lawful = g.met.D.Disk.lawful c.args.disk.now tells in
           let reads = (g.D.Disk.moment c.args.disk.now).reads in
