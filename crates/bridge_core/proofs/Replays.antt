@@ -37,6 +37,8 @@ use Rattle.bridge_core.specs.Replayed.{IsCallStep, IsKeptIn, Keeps, IsStored, Is
 pub runs_keep : (s : SpoolState) (tells : Type 0) (old new : AloneView) (calls : List Call) → tells → IsAt (desk_of s []) old → RunsTo tells old calls new → Keeps s old.spool.moment new.spool.moment calls
 runs_keep s tells old new calls told at runs =
     let leads = runs.leads (desk_of s []) told at in record {
+      after = leads.after;
+      goes = leads.goes;
       each = λ c image. let kept = image_kept (desk_of s []) old new calls at leads c image in record { state = kept.0; stands = kept.1; later = kept.2; kept = kept.3; grows = kept.4 };
       any_moment = weaker _ (IsCallStep s calls) _ _ leads.any_moment (λ c stood. stood_was (desk_of s []) (records_by 0 calls) c at.rules stood);
     }
@@ -73,6 +75,8 @@ stored_from s m mid new calls run v now is first opens keeps = record {
   stood = opens.stood;
   could = opens.left;
   conn_is = ap (λ (n : ℕ). n * 2 ^ 32) (sym is ∙ opens.reached.knows.run);
+  after = keeps.after;
+  goes = keeps.goes;
   each = keeps.each;
   any_moment = opened_and_kept s m mid new calls first keeps.any_moment;
 }

@@ -10,7 +10,7 @@ use Rattle.spool_log.specs.declared.fault.RecoverFault.{RecoverFault}
 use Rattle.spool_log.specs.declared.opening.Opening.TheVariants.{Raise}
 use Rattle.spool_log.specs.Opening.{opened, CanOpen, IsOpening, IsRefusedAs}
 use Rattle.desk_access.specs.Call.{Call, records_by}
-use Rattle.desk_access.specs.Desk.{desk_of}
+use Rattle.desk_access.specs.Desk.{DeskState, desk_of, Goes}
 use Rattle.desk_access.specs.History.{IsLater, Grows, AllKept, Was}
 use Rattle.conn_serve.specs.Serving.{IsAtEndOfInput}
 use Rattle.conn_serve.specs.Serves.{CarriedBy, Serves}
@@ -33,19 +33,25 @@ pub record IsKeptIn (s : SpoolState) (calls : List Call) (c : List ℕ) : Type 0
 abbrev pub IsCallStep : SpoolState → List Call → List ℕ → Type 0
 IsCallStep s calls c = Was (desk_of s []) (records_by 0 calls) c
 
--- The calls on a spool in that state, from the one moment of its disk to the other.
+-- The calls on a spool in that state, from the one moment of its disk to the other. Each has an answer that the
+-- spool gives in the state behind those before it: so a refusal comes exactly where the spool is full or spent.
 pub record Keeps (s : SpoolState) (old new : Moment) (calls : List Call) : Type 0 where
+  pub after : DeskState
+  pub goes : Goes (desk_of s []) (records_by 0 calls) after
   pub each : (c : List ℕ) → new.image c → IsKeptIn s calls c
   pub any_moment : LeavesOnly (IsCallStep s calls) old new
 
 -- The device stood for a state, and was opened for storing: its run was raised by one, and the connection has
 -- the number that begins the new run. Whatever a crash left meanwhile is what it could leave as the call began,
--- or stands for that state with the run raised or not, or for one that follows from the calls.
+-- or stands for that state with the run raised or not, or for one that follows from the calls. The calls have
+-- the answers of a spool in that state.
 pub record IsStored (old new : Moment) (conn : ℕ) (calls : List Call) : Type 0 where
   pub state : SpoolState
   pub stood : StandsFor state old.reads
   pub could : CanOpen Raise state
   pub conn_is : conn ≡ (state.run + 1) * 2 ^ 32
+  pub after : DeskState
+  pub goes : Goes (desk_of (opened Raise state) []) (records_by 0 calls) after
   pub each : (c : List ℕ) → new.image c → IsKeptIn (opened Raise state) calls c
   pub any_moment : LeavesOnly (λ c. IsOpening Raise old c ⊎ IsCallStep (opened Raise state) calls c) old new
 

@@ -319,7 +319,8 @@ fn entries_of_two_runs_in_three_slots(rt: HostRuntime) -> Result<(), Fail> {
 fn many_entries(rt: HostRuntime) -> Result<(), Fail> {
     let alloc = rt.alloc();
     let device = formatted(alloc, "1", "16384", 28_672)?;
-    let left = run(alloc, &device, REPLAY, &with_events(alloc, &[1; 300])?)?;
+    let sizes = vec![in alloc; 1; 300]?;
+    let left = run(alloc, &device, REPLAY, &with_events(alloc, &sizes)?)?;
     assert_eq!(rt; left.note, Note::Fine);
     let mut lines = Vec::new(alloc);
     for number in 0..300_u64 {
