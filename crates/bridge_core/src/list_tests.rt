@@ -167,10 +167,10 @@ fn each_origin_in_each_form(rt: HostRuntime) -> Result<(), Fail> {
             (HEC_EVENT, b"{ \"event\":\"x\",\"time\":1}"),
         ],
     )?;
-    let rows: [(&[&str], &str); 4] = [
+    let rows: [(&[&str], &str); 3] = [
         (
             &["list"],
-            "0 0 0 0 pairs 20\n1 0 0 0 pairs 0\n2 0 0 0 relp 7\n3 0 0 0 raw 2\n4 0 0 0 json 9\n5 0 0 0 json 3\n6 0 0 0 event 24\n",
+            "0 0 0 0 pairs 20\n1 0 0 0 pairs 0\n2 0 0 0 relp 7\n3 0 0 0 raw 2\n4 0 0 0 json 9\n5 0 0 0 json 3\n6 0 0 0 event 23\n",
         ),
         (
             JSON,
@@ -180,15 +180,35 @@ fn each_origin_in_each_form(rt: HostRuntime) -> Result<(), Fail> {
             HEC,
             "{\"event\":{\"a\":\"x\",\"a\":\"y\"}}\n{\"event\":{}}\n{\"event\":\"a \\\"b\\\"\\n\u{FFFD}\"}\n{\"event\":\"{}\"}\n{\"event\": {\"k\": 1}}\n{\"event\":\"[1]\"}\n{ \"event\":\"x\",\"time\":1}\n",
         ),
-        (&["list", "--as", "lumberjack"], ""),
     ];
     for (words, lines) in rows {
-        let (note, written, _) = run(alloc, &device, words, b"", &[])?;
-        assert_eq!(rt; note == Note::Usage, lines.is_empty());
-        assert_eq!(rt; written.as_slice(), lines.as_bytes());
+        assert_eq!(rt;
+            listed(alloc, &device, words)?.as_slice(),
+            lines.as_bytes()
+        );
     }
     let texts = b"{\"a\":\"x\",\"a\":\"y\"}\n{}\na \"b\"\n\xff\n{}\n {\"k\": 1}\n[1]\n{ \"event\":\"x\",\"time\":1}\n".as_slice();
     assert_eq!(rt; listed(alloc, &device, TEXT)?.as_slice(), texts);
+    Ok(())
+}
+
+// Another word behind `--as` is no command, and nothing is printed.
+#[test]
+fn another_form(rt: HostRuntime) -> Result<(), Fail> {
+    let alloc = rt.alloc();
+    let device = replayed(alloc, b"2 syslog 5 hello\n")?;
+    let rows: [&[&str]; 4] = [
+        &["list", "--as", "lumberjack"],
+        &["list", "--as"],
+        &["list", "json"],
+        &["list", "--as", "json", "hec"],
+    ];
+    for words in rows {
+        let (note, written, after) = run(alloc, &device, words, b"", &[])?;
+        assert_eq!(rt; note, Note::Usage);
+        assert_eq!(rt; written.len(), 0);
+        assert_eq!(rt; after.as_slice(), device.as_slice());
+    }
     Ok(())
 }
 
