@@ -7,8 +7,8 @@ mod answers;
 mod device;
 mod reading;
 
-use anyhow::bail;
 use answers::Answers;
+use anyhow::bail;
 use conn_serve::{Rules, attend};
 use desk_access::{Alone, Desk};
 use edge_disk::MemDisk;
@@ -24,8 +24,7 @@ const FRAMES: u32 = 1_000_000;
 
 const ROUNDS: u32 = 5;
 
-const OPEN: &[u8] =
-    b"1 open 54 relp_version=0\nrelp_software=bench,1,x\ncommands=syslog\n";
+const OPEN: &[u8] = b"1 open 54 relp_version=0\nrelp_software=bench,1,x\ncommands=syslog\n";
 
 const DATA: &[u8] =
     b"<13>Nov 27 02:00:00 host7 app[4711]: connection from 192.0.2.17:40312 closed, 48213 bytes in 0.187 s";
