@@ -6,12 +6,12 @@ mod bridge;
 mod ended;
 mod formatting;
 mod lines;
+#[cfg(test)]
+mod list_tests;
 mod listing;
 mod program;
 mod refused;
 mod replaying;
-#[cfg(test)]
-mod list_tests;
 #[cfg(test)]
 mod tests;
 
