@@ -12,7 +12,7 @@ use Rattle.spool_log.specs.Opening.{opened, CanOpen, IsOpening, IsRefusedAs}
 use Rattle.desk_access.specs.Call.{Call, records_by}
 use Rattle.desk_access.specs.Desk.{DeskState, desk_of, Goes}
 use Rattle.desk_access.specs.History.{IsLater, Grows, AllKept, Was}
-use Rattle.conn_serve.specs.Serving.{IsAtEndOfInput}
+use Rattle.conn_serve.specs.Endings.{IsAtEndOfInput}
 use Rattle.conn_serve.specs.Serves.{CarriedBy, Serves}
 use Rattle.bridge_words.specs.declared.note.Note.{Note}
 use Rattle.bridge_words.specs.Notes.{note_of_talk}
