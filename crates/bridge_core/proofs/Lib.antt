@@ -1,6 +1,6 @@
-pub mod Emptiness
-pub mod Replaying
-pub mod Reading
-pub mod Running
-pub mod Stopping
-pub mod Storing
+pub mod Forms
+pub mod Printing
+pub mod Gathered
+pub mod Sure
+pub mod Replays
+pub mod Doing

@@ -1,8 +1,6 @@
-pub mod Words
-pub mod Input
-pub mod Carried
-pub mod Notes
-pub mod Empty
-pub mod Slot
-pub mod Progress
+pub mod Written
+pub mod Refused
+pub mod Formatted
+pub mod Listed
 pub mod Replayed
+pub mod Done

@@ -1,49 +1,78 @@
--- What the top call has done with the words `replay relp`.
-use Rattle.std.specs.Prelude.{◌≡◌, ◌⊎◌, List, ℕ, ◌++◌, Option}
-use Rattle.std.specs.Io.KnownBytes.{Appends}
-use Rattle.event_form.specs.declared.event.Entry.{Entry}
-use Rattle.relp_frame.specs.declared.frame.Frame.{Frame}
-use Rattle.relp_frame.specs.Spelling.{IsSpelling}
-use Rattle.stream_grammar.specs.Framing.{AreSpelled}
+-- What the top call does with the words `replay relp`.
+use Rattle.std.specs.Prelude.{◌≡◌, ◌⊎◌, ℕ, ◌+◌, ◌*◌, ◌^◌, List, [], Option}
+use Rattle.std.specs.Io.KnownBytes.{IsAtEnd}
+use Rattle.event_form.specs.declared.talk.Attended.{Attended}
+use Rattle.edge_io.specs.declared.proto.Proto.TheVariants.{Relp}
+use Rattle.edge_disk.specs.Disk.{Moment, LeavesOnly}
 use Rattle.spool_state.specs.SpoolState.{SpoolState}
 use Rattle.spool_state.specs.Image.{StandsFor}
-use Rattle.bridge_core.specs.declared.note.Note.{Note}
-use Rattle.bridge_core.specs.declared.note.Note.TheVariants.{DiskFault, NotBuilt}
-use Rattle.bridge_core.specs.Empty.{IsEmptySpool}
-use Rattle.bridge_core.specs.Slot.{IsNoEmptySpool}
-use Rattle.bridge_core.specs.Input.{AreInOrder}
-use Rattle.bridge_core.specs.Carried.{answers, stored, with_entries}
-use Rattle.bridge_core.specs.Progress.{IsCut, IsLate, IsEnd, Overfull}
+use Rattle.spool_log.specs.declared.fault.RecoverFault.{RecoverFault}
+use Rattle.spool_log.specs.declared.opening.Opening.TheVariants.{Raise}
+use Rattle.spool_log.specs.Opening.{opened, CanOpen, IsOpening, IsRefusedAs}
+use Rattle.desk_access.specs.Call.{Call, records_by}
+use Rattle.desk_access.specs.Desk.{DeskState, desk_of, Goes}
+use Rattle.desk_access.specs.History.{IsLater, Grows, AllKept, Was}
+use Rattle.conn_serve.specs.Endings.{IsAtEndOfInput}
+use Rattle.conn_serve.specs.Serves.{CarriedBy, Serves}
+use Rattle.bridge_words.specs.declared.note.Note.{Note}
+use Rattle.bridge_words.specs.Notes.{note_of_talk}
+use Rattle.bridge_core.specs.Refused.{note_of_recover}
 
--- The device stood for an empty spool of one slot. It now stands for that spool with the entries of the
--- frames carried, each as one group, and then with those of the frame at which the run stopped, if any.
-pub record Holds (before after : List ℕ) (note : Note) (frames : List Frame) (cut : Option Frame) : Type 0 where
+-- What stands behind calls on the spool from a state: whatever a crash leaves now stands for a later state of
+-- the same run. Each entry that was taken, so each that was answered, is there at its number or is below the
+-- cursor. The list grew by the groups that were taken, in order, each whole.
+pub record IsKeptIn (s : SpoolState) (calls : List Call) (c : List ℕ) : Type 0 where
   pub state : SpoolState
-  pub empty : IsEmptySpool state
-  pub stood : StandsFor state before
-  pub late : List Entry
-  pub is_late : IsLate note frames cut late
-  pub stands : StandsFor (with_entries state (stored frames ++ late)) after
+  pub stands : StandsFor state c
+  pub later : IsLater s state
+  pub kept : AllKept state calls
+  pub grows : Grows (desk_of s []) (records_by 0 calls) state
 
--- The bytes read begin with the spellings of the frames carried, the first ones and none skipped. The
--- bytes written are their answers, and then a part of the answer to the frame at which the run stopped.
-pub record Replayed (tells ended : Type 0) (before after : List ℕ) (given given' taken taken' : Option (List ℕ)) (note : Note) : Type 0 where
-  pub read : List ℕ
-  pub frames : List Frame
-  pub front : List ℕ
-  pub tail : List ℕ
-  pub cut : Option Frame
-  pub part : List ℕ
-  pub is_given : Appends given given' read
-  pub is_taken : Appends taken taken' (answers frames ++ part)
-  pub in_order : AreInOrder frames
-  pub spelled : AreSpelled IsSpelling frames front
-  pub whole : read ≡ front ++ tail
-  pub is_cut : IsCut note frames tail cut part
-  pub holds : tells → Holds before after note frames cut
-  pub ends : IsEnd note ended (λ f. (t : tells) → Overfull (holds t).state frames f) read frames tail
+-- What a crash left at a moment of these calls stands for a later state, which holds the groups of the first of
+-- them, none skipped and none in part.
+abbrev pub IsCallStep : SpoolState → List Call → List ℕ → Type 0
+IsCallStep s calls c = Was (desk_of s []) (records_by 0 calls) c
 
--- The run ended before it read any input: a call of the disk failed, or the device doesn't hold an empty
--- spool of one slot.
-abbrev pub IsUnopened : Type 0 → List ℕ → Note → Type 0
-IsUnopened tells before note = (note ≡ DiskFault) ⊎ ((note ≡ NotBuilt) × (tells → IsNoEmptySpool before))
+-- The calls on a spool in that state, from the one moment of its disk to the other. Each has an answer that the
+-- spool gives in the state behind those before it: so a refusal comes exactly where the spool is full or spent.
+pub record Keeps (s : SpoolState) (old new : Moment) (calls : List Call) : Type 0 where
+  pub after : DeskState
+  pub goes : Goes (desk_of s []) (records_by 0 calls) after
+  pub each : (c : List ℕ) → new.image c → IsKeptIn s calls c
+  pub any_moment : LeavesOnly (IsCallStep s calls) old new
+
+-- The device stood for a state, and was opened for storing: its run was raised by one, and the connection has
+-- the number that begins the new run. Whatever a crash left meanwhile is what it could leave as the call began,
+-- or stands for that state with the run raised or not, or for one that follows from the calls. The calls have
+-- the answers of a spool in that state.
+pub record IsStored (old new : Moment) (conn : ℕ) (calls : List Call) : Type 0 where
+  pub state : SpoolState
+  pub stood : StandsFor state old.reads
+  pub could : CanOpen Raise state
+  pub conn_is : conn ≡ (state.run + 1) * 2 ^ 32
+  pub after : DeskState
+  pub goes : Goes (desk_of (opened Raise state) []) (records_by 0 calls) after
+  pub each : (c : List ℕ) → new.image c → IsKeptIn (opened Raise state) calls c
+  pub any_moment : LeavesOnly (λ c. IsOpening Raise old c ⊎ IsCallStep (opened Raise state) calls c) old new
+
+-- The device was not opened: it breaks a rule, the first one at that place; or its run or its register can't be
+-- raised; or a call of the disk failed, or no memory was found.
+pub record IsUnopened (tells : Type 0) (old new : Moment) (note : Note) : Type 0 where
+  pub fault : RecoverFault
+  pub note_is : note ≡ note_of_recover fault
+  pub why : tells → IsRefusedAs Raise old.reads fault
+  pub any_moment : tells → LeavesOnly (IsOpening Raise old) old new
+
+-- The input was served as one connection of this number: the bytes read are frames, from the first one, none
+-- skipped; the calls on the spool and the bytes written are those that they ask for; and the note is that of
+-- the connection's ending.
+pub record IsServed (conn : ℕ) (given given' left left' taken taken' : Option (List ℕ)) (Made : List Call → Type 0) (note : Note) : Type 0 where
+  pub attended : Attended
+  pub note_is : note ≡ note_of_talk attended.talk
+  pub serves : Serves (CarriedBy Relp conn) given given' left left' taken taken' Made attended
+  pub ended : IsAtEndOfInput attended.talk → IsAtEnd left'
+
+-- And that was done over the spool that the device stood for.
+pub record IsReplayed (tells : Type 0) (old new : Moment) (given given' left left' taken taken' : Option (List ℕ)) (note : Note) : Type 0 where
+  pub conn : ℕ
+  pub served : IsServed conn given given' left left' taken taken' (λ calls. tells → IsStored old new conn calls) note

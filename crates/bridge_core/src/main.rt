@@ -1,21 +1,19 @@
 //! bridge: takes log events by RELP and keeps them in a spool on a device of a fixed length. The one
-//! contract is that of `bridge`, the top call: what it stores and answers for the frames that it reads.
+//! contract is that of `bridge`, the top call: what it makes, lists, stores and answers for its words.
 #![tactic(auto)]
 
 mod bridge;
-mod carry;
 mod ended;
-mod next;
-mod note;
-mod opening;
+mod formatting;
+mod lines;
+#[cfg(test)]
+mod list_tests;
+mod listing;
 mod program;
-mod replay;
-mod reply;
-mod slot;
-mod store;
+mod refused;
+mod replaying;
 #[cfg(test)]
 mod tests;
-mod words;
 
 use std::process::ExitCode;
 

@@ -2,10 +2,10 @@ ghost use Rattle.std.specs.Prelude.{◌<◌, ◌^◌};
 
 use crate::bridge::bridge;
 use crate::ended::Ended;
-use crate::note::{Note, note_text};
-use crate::program::empty_device;
-use edge_disk::MemDisk;
+use bridge_words::Note;
+use edge_disk::{Crash, MemDisk};
 use edge_io::{MemSink, MemSource};
+use event_form::Why;
 use std::alloc::Global;
 use std::process::Abort;
 use std::test::Fail;
@@ -15,45 +15,53 @@ const OPEN: &[u8] = b"1 open 50 relp_version=0\nrelp_software=a,1,b\ncommands=sy
 const OPENED: &[u8] =
     b"1 rsp 66 200 OK\nrelp_version=0\nrelp_software=bridge,1,local\ncommands=syslog\n";
 
-// What a run over a device left: its note, what it wrote, and the device.
+const HINT: &[u8] = b"0 serverclose 0\n";
+
+const REPLAY: &[&str] = &["replay", "relp"];
+
+const LIST: &[&str] = &["list"];
+
+// What a run left: its note, what it wrote, and the disk.
 #[derive(Drop)]
 struct Left {
     note: Note,
     written: Vec<u8>,
-    device: Vec<u8>,
+    disk: MemDisk,
 }
 
-// Which calls of the disk, the input and the output fail.
+// How a run's streams behave: the most bytes of a read, and which reads and writes fail.
 #[derive(Clone, Copy)]
-struct Failing<'a> {
-    disk: &'a [u64],
+struct Streams<'a> {
+    step: usize,
     reads: &'a [u64],
     writes: &'a [u64],
 }
 
-const NONE: Failing<'static> = Failing {
-    disk: &[],
+const SOUND: Streams<'static> = Streams {
+    step: 8192,
     reads: &[],
     writes: &[],
 };
 
 fn run_on(
     alloc: Global,
-    device: Vec<u8>,
+    disk: MemDisk,
     words: &[&str],
     input: &[u8],
-    step: usize,
-    failing: Failing,
+    streams: Streams,
 ) -> Result<Left, Fail>
-    requires { 0 < step }
+    requires { 0 < streams.step }
 {
     let mut texts = Vec::new(alloc);
     for word in words {
         texts.push(String::from_str(alloc, word)?)?;
     }
-    let disk = MemDisk::of(device, failing.disk.to_vec(alloc)?);
-    let mut source = MemSource::of(input.to_vec(alloc)?, step, failing.reads.to_vec(alloc)?);
-    let mut sink = MemSink::of(alloc, failing.writes.to_vec(alloc)?);
+    let mut source = MemSource::of(
+        input.to_vec(alloc)?,
+        streams.step,
+        streams.reads.to_vec(alloc)?,
+    );
+    let mut sink = MemSink::of(alloc, streams.writes.to_vec(alloc)?);
     let Ended { status, note, disk } = bridge(alloc, &texts, disk, &mut source, &mut sink);
     if status != note.status() {
         return Err("status".into());
@@ -61,21 +69,27 @@ fn run_on(
     Ok(Left {
         note,
         written: sink.taken().to_vec(alloc)?,
-        device: disk.bytes().to_vec(alloc)?,
+        disk,
     })
 }
 
-fn replay(alloc: Global, input: &[u8], step: usize, failing: Failing) -> Result<Left, Fail>
-    requires { 0 < step }
-{
-    run_on(
-        alloc,
-        empty_device(alloc)?,
-        &["replay", "relp"],
-        input,
-        step,
-        failing,
-    )
+// A device of these bytes on which no call fails.
+fn sound(alloc: Global, device: &[u8]) -> Result<MemDisk, Fail> {
+    Ok(MemDisk::of(device.to_vec(alloc)?, Vec::new(alloc)))
+}
+
+fn run(alloc: Global, device: &[u8], words: &[&str], input: &[u8]) -> Result<Left, Fail> {
+    run_on(alloc, sound(alloc, device)?, words, input, SOUND)
+}
+
+// A device on which the program has made a spool.
+fn formatted(alloc: Global, slots: &str, size: &str, len: usize) -> Result<Vec<u8>, Fail> {
+    let zeros = vec![in alloc; 0; len]?;
+    let left = run(alloc, &zeros, &["format", slots, size], b"")?;
+    if left.note != Note::Fine {
+        return Err("format".into());
+    }
+    Ok(left.disk.bytes().to_vec(alloc)?)
 }
 
 fn joined(alloc: Global, parts: &[&[u8]]) -> Result<Vec<u8>, Fail> {
@@ -86,17 +100,18 @@ fn joined(alloc: Global, parts: &[&[u8]]) -> Result<Vec<u8>, Fail> {
     Ok(all)
 }
 
-// An `open`, and a `syslog` with an event of so many bytes.
-fn with_event(alloc: Global, size: usize) -> Result<Vec<u8>, Fail>
-    requires { size < 2 ^ 20 }
-{
-    let mut input = joined(alloc, &[OPEN, b"2 syslog "])?;
-    input.extend_from_slice(size.to_string(alloc)?.as_bytes())?;
-    input.push(b' ')?;
-    for _ in 0..size {
-        input.push(b'x')?;
+// An `open`, and a `syslog` for each size with an event of so many bytes. Transaction numbers go from 2 on.
+fn with_events(alloc: Global, sizes: &[usize]) -> Result<Vec<u8>, Fail> {
+    let mut input = OPEN.to_vec(alloc)?;
+    for (i, size) in sizes.iter().enumerate() {
+        let txnr = i.saturating_add(2);
+        let head = format!(in alloc; "{txnr} syslog {size} ")?;
+        input.extend_from_slice(head.as_bytes())?;
+        for _ in 0..*size {
+            input.push(b'x')?;
+        }
+        input.push(b'\n')?;
     }
-    input.push(b'\n')?;
     Ok(input)
 }
 
@@ -105,176 +120,407 @@ fn check(rt: &impl Abort, left: &Left, note: Note, written: &[u8]) {
     assert_eq!(rt; left.written.as_slice(), written);
 }
 
+// What `list` prints of a device that holds a spool.
+fn listed(alloc: Global, device: &[u8]) -> Result<Vec<u8>, Fail> {
+    let left = run(alloc, device, LIST, b"")?;
+    if left.note != Note::Fine || left.disk.bytes() != device {
+        return Err("list".into());
+    }
+    Ok(left.written)
+}
+
 // The first event is stored as the layout says, whatever the pieces.
 #[test]
 fn one_event_in_any_pieces(rt: HostRuntime) -> Result<(), Fail> {
     let alloc = rt.alloc();
-    let input = joined(alloc, &[OPEN, b"2 syslog 5 hello\n"])?;
-    let answers = joined(alloc, &[OPENED, b"2 rsp 6 200 OK\n"])?;
+    let device = formatted(alloc, "1", "4096", 16_384)?;
+    let input = joined(alloc, &[OPEN, b"2 syslog 5 hello\n3 close 0\n"])?;
+    let answers = joined(alloc, &[OPENED, b"2 rsp 6 200 OK\n3 rsp 0\n", HINT])?;
+    let cell = [
+        1, 0, 0, 0, 0, 0, 0, 0, 2, 0, 0, 0, 0x11, 1, 0, 0, 0, 0, 0, 0, 0, 1, 0, 0, 0, 0, 0, 0, 0, 0,
+    ];
     let slot = [
         1, 0, 0, 0, 0, 0, 0, 0, 1, 0, 0, 0, 0, 0, 0, 0, 0, 1, 0, 0, 0, 0x22, 0, 0, 0, 1, 1, 0, 0,
         0, 1, 0, 0, 0, 0, 0, 0, 0, 0, 0, 0, 0, 0, 0, 0, 0, 0, 0, 0, 0, 2, 0, 0, 0, 5, b'h', b'e',
         b'l', b'l', b'o', 0,
     ];
-    for step in 1..=80 {
-        let left = replay(alloc, &input, step, NONE)?;
+    for step in 1..=90 {
+        let disk = sound(alloc, &device)?;
+        let left = run_on(alloc, disk, REPLAY, &input, Streams { step, ..SOUND })?;
         check(&rt, &left, Note::Fine, &answers);
-        assert_eq!(rt; left.device.len(), 16_384);
-        assert_eq!(rt; &left.device[12_288..12_349], slot.as_slice());
+        let bytes = left.disk.bytes();
+        assert_eq!(rt; bytes.len(), 16_384);
+        assert_eq!(rt; &bytes[8192..8222], cell.as_slice());
+        assert_eq!(rt; &bytes[12_288..12_349], slot.as_slice());
+        assert_eq!(rt;
+            listed(alloc, bytes)?.as_slice(),
+            b"0 4294967296 0 2 relp 5\n".as_slice()
+        );
     }
     Ok(())
 }
 
-// Inputs that end well and such that are not built yet, each with what is answered first.
+// The bytes from one offset up to another, or none where there are not so many.
+fn part(bytes: &[u8], from: usize, to: usize) -> &[u8] {
+    if from <= to && to <= bytes.len() {
+        return &bytes[from..to];
+    }
+    &[]
+}
+
+// An empty input changes the register alone: the run is raised.
 #[test]
-fn inputs(rt: HostRuntime) -> Result<(), Fail> {
+fn no_input(rt: HostRuntime) -> Result<(), Fail> {
     let alloc = rt.alloc();
-    let rows: [(&[u8], Note, &[u8]); 9] = [
-        (
-            b"2 syslog 5 hello\n3 close 0\n",
-            Note::NotBuilt,
-            b"2 rsp 6 200 OK\n",
-        ),
+    let device = formatted(alloc, "2", "4096", 20_480)?;
+    let left = run(alloc, &device, REPLAY, b"")?;
+    check(&rt, &left, Note::Fine, b"");
+    let bytes = left.disk.bytes();
+    assert_eq!(rt; bytes.len(), 20_480);
+    assert_eq!(rt; device.len(), 20_480);
+    assert_eq!(rt; part(bytes, 0, 8192), part(&device, 0, 8192));
+    assert_eq!(rt; bytes[8192], 1);
+    assert_eq!(rt; bytes[8213], 1);
+    assert_eq!(rt; part(bytes, 12_288, 20_480), part(&device, 12_288, 20_480));
+    assert_eq!(rt; listed(alloc, bytes)?.len(), 0);
+    Ok(())
+}
+
+// How a connection ends, and what is answered before.
+#[test]
+fn endings(rt: HostRuntime) -> Result<(), Fail> {
+    let alloc = rt.alloc();
+    let device = formatted(alloc, "2", "4096", 20_480)?;
+    let rows: [(&[u8], Note, &[u8]); 7] = [
         (b"002 syslog 0 \n", Note::Fine, b"2 rsp 6 200 OK\n"),
         (
-            b"2 syslog 0\n999999999 syslog 1 x\n",
-            Note::Fine,
-            b"2 rsp 6 200 OK\n999999999 rsp 6 200 OK\n",
+            b"2 syslog 131073",
+            Note::Fault {
+                at: 75,
+                why: Why::TooLong,
+            },
+            b"",
         ),
-        (b"2 syslog 5 hel", Note::NotBuilt, b""),
-        (b"2 syslog 5 helloX", Note::NotBuilt, b""),
-        (b"2 syslog 131073", Note::NotBuilt, b""),
-        (b"2 open 0\n", Note::NotBuilt, b""),
-        (b"2 syslogs 1 x\n", Note::NotBuilt, b""),
+        (
+            b"2 syslog 5 helloX",
+            Note::Fault {
+                at: 77,
+                why: Why::Trailer,
+            },
+            b"",
+        ),
+        (b"2 syslog ", Note::Truncated { at: 61 }, b""),
+        (
+            b"2 foo 0\n3 open 0\n",
+            Note::Fine,
+            b"2 rsp 19 500 unknown command\n3 rsp 16 500 already open\n",
+        ),
+        (
+            b"2 close 0\nno frame",
+            Note::Fine,
+            b"2 rsp 0\n0 serverclose 0\n",
+        ),
         (b"", Note::Fine, b""),
     ];
     for (behind, note, written) in rows {
-        let left = replay(alloc, &joined(alloc, &[OPEN, behind])?, 8192, NONE)?;
+        let left = run(alloc, &device, REPLAY, &joined(alloc, &[OPEN, behind])?)?;
         check(&rt, &left, note, &joined(alloc, &[OPENED, written])?);
     }
-    let left = replay(alloc, b"", 1, NONE)?;
-    check(&rt, &left, Note::Fine, b"");
-    let left = replay(alloc, b"1 syslog 1 x\n", 1, NONE)?;
-    check(&rt, &left, Note::NotBuilt, b"");
-    let left = replay(alloc, b"1 open 14 relp_version=0\n", 1, NONE)?;
-    check(&rt, &left, Note::NotBuilt, b"");
     Ok(())
 }
 
-// An event that fits the slot to its last byte, and one with a byte more.
+// Events that fill slots: what is answered, and how the run ends.
+#[test]
+fn events_that_fill_slots(rt: HostRuntime) -> Result<(), Fail> {
+    let alloc = rt.alloc();
+    let one = formatted(alloc, "1", "4096", 16_384)?;
+    let two = formatted(alloc, "2", "4096", 20_480)?;
+    let rows: [(&[u8], &[usize], Note, usize); 6] = [
+        (
+            &one,
+            &[2000, 2003],
+            Note::Full {
+                need: 2041,
+                room: 2040,
+            },
+            1,
+        ),
+        (&two, &[2000, 2002], Note::Fine, 2),
+        (&two, &[2000, 2003], Note::Fine, 2),
+        (
+            &two,
+            &[2000, 2003, 2000],
+            Note::Full {
+                need: 2038,
+                room: 2037,
+            },
+            2,
+        ),
+        (&two, &[4040], Note::Fine, 1),
+        (
+            &two,
+            &[4041],
+            Note::TooLarge {
+                need: 4079,
+                most: 4078,
+            },
+            0,
+        ),
+    ];
+    for (device, sizes, note, taken) in rows {
+        let left = run(alloc, device, REPLAY, &with_events(alloc, sizes)?)?;
+        let mut written = OPENED.to_vec(alloc)?;
+        for i in 0..taken {
+            let txnr = i.saturating_add(2);
+            written.extend_from_slice(format!(in alloc; "{txnr} rsp 6 200 OK\n")?.as_bytes())?;
+        }
+        if note != Note::Fine {
+            written.extend_from_slice(HINT)?;
+        }
+        check(&rt, &left, note, &written);
+        let lines = listed(alloc, left.disk.bytes())?;
+        assert_eq!(rt; lines.iter().filter(|c| **c == b'\n').count(), taken);
+    }
+    Ok(())
+}
+
+// Two events that fill a slot to its last byte, which is the closed gate; with a byte more the second one
+// stands in the next slot.
 #[test]
 fn an_exact_fit(rt: HostRuntime) -> Result<(), Fail> {
     let alloc = rt.alloc();
-    let left = replay(alloc, &with_event(alloc, 4040)?, 8192, NONE)?;
-    check(
-        &rt,
-        &left,
-        Note::Fine,
-        &joined(alloc, &[OPENED, b"2 rsp 6 200 OK\n"])?,
-    );
-    let left = replay(alloc, &with_event(alloc, 4041)?, 8192, NONE)?;
-    check(&rt, &left, Note::NotBuilt, OPENED);
+    let device = formatted(alloc, "2", "4096", 20_480)?;
+    for (size, next) in [(2002, 0), (2003, 1)] {
+        let left = run(alloc, &device, REPLAY, &with_events(alloc, &[2000, size])?)?;
+        assert_eq!(rt; left.note, Note::Fine);
+        let bytes = left.disk.bytes();
+        assert_eq!(rt; bytes.len(), 20_480);
+        assert_eq!(rt; bytes[16_383], 0);
+        assert_eq!(rt; bytes[16_384], next);
+    }
     Ok(())
 }
 
-// One call fails: of the disk (a sync, the read of the device, and the four calls of the group), of the
-// input and of the output.
+// Two groups in one slot, one in each of two others, and one of the next run: entries follow one another.
 #[test]
-fn calls_that_fail(rt: HostRuntime) -> Result<(), Fail> {
+fn entries_of_two_runs_in_three_slots(rt: HostRuntime) -> Result<(), Fail> {
     let alloc = rt.alloc();
-    let input = joined(alloc, &[OPEN, b"2 syslog 5 hello\n"])?;
-    for (call, written) in [
-        (0, b"".as_slice()),
-        (1, b""),
-        (2, OPENED),
-        (3, OPENED),
-        (4, OPENED),
-        (5, OPENED),
-    ] {
-        let left = replay(
+    let device = formatted(alloc, "3", "4096", 24_576)?;
+    let input = with_events(alloc, &[2000, 2000, 4000, 4000])?;
+    let first = run(alloc, &device, REPLAY, &input)?;
+    assert_eq!(rt; first.note, Note::Fine);
+    let second = run(
+        alloc,
+        first.disk.bytes(),
+        REPLAY,
+        &with_events(alloc, &[1])?,
+    )?;
+    assert_eq!(rt; second.note, Note::Fine);
+    assert_eq!(rt;
+        listed(alloc, second.disk.bytes())?.as_slice(),
+        b"0 4294967296 0 2 relp 2000\n1 4294967296 1 3 relp 2000\n2 4294967296 2 4 relp 4000\n3 4294967296 3 5 relp 4000\n4 8589934592 0 2 relp 1\n".as_slice()
+    );
+    Ok(())
+}
+
+// More entries than are read at a time.
+#[test]
+fn many_entries(rt: HostRuntime) -> Result<(), Fail> {
+    let alloc = rt.alloc();
+    let device = formatted(alloc, "1", "16384", 28_672)?;
+    let sizes = vec![in alloc; 1; 300]?;
+    let left = run(alloc, &device, REPLAY, &with_events(alloc, &sizes)?)?;
+    assert_eq!(rt; left.note, Note::Fine);
+    let mut lines = Vec::new(alloc);
+    for number in 0..300_u64 {
+        let unit = number.saturating_add(2);
+        let line = format!(in alloc; "{number} 4294967296 {number} {unit} relp 1\n")?;
+        lines.extend_from_slice(line.as_bytes())?;
+    }
+    assert_eq!(rt;
+        listed(alloc, left.disk.bytes())?.as_slice(),
+        lines.as_slice()
+    );
+    let disk = sound(alloc, left.disk.bytes())?;
+    let cut = run_on(
+        alloc,
+        disk,
+        LIST,
+        b"",
+        Streams {
+            writes: &[1],
+            ..SOUND
+        },
+    )?;
+    assert_eq!(rt; cut.note, Note::WriteFault);
+    assert!(rt; lines.starts_with(&cut.written));
+    assert_eq!(rt; cut.written.iter().filter(|c| **c == b'\n').count(), 128);
+    Ok(())
+}
+
+// Words and devices that are refused: nothing is written or changed.
+#[test]
+fn refusals(rt: HostRuntime) -> Result<(), Fail> {
+    let alloc = rt.alloc();
+    let zeros = vec![in alloc; 0; 20_480]?;
+    let mut spent = formatted(alloc, "2", "4096", 20_480)?;
+    let mut worn = spent.to_vec(alloc)?;
+    assert!(rt; spent.len() == 20_480 && worn.len() == 20_480);
+    let short = part(&spent, 0, 20_479).to_vec(alloc)?;
+    spent[4110..4118].copy_from_slice(&2_097_151_u64.to_be_bytes());
+    worn[4097..4105].copy_from_slice(&9_223_372_036_854_775_808_u64.to_be_bytes());
+    let rows: [(&[u8], &[&str], Note); 11] = [
+        (&zeros, &["format", "0", "4096"], Note::Usage),
+        (&zeros, &[], Note::Usage),
+        (&zeros, &["replay", "hec"], Note::Usage),
+        (&zeros, REPLAY, Note::NotSpool { at: 0 }),
+        (&zeros, LIST, Note::NotSpool { at: 0 }),
+        (
+            &zeros[..100],
+            &["format", "2", "4096"],
+            Note::WrongLength {
+                have: 100,
+                want: 20_480,
+            },
+        ),
+        (&short, LIST, Note::NotSpool { at: 8 }),
+        (&spent, REPLAY, Note::RunsSpent { run: 2_097_151 }),
+        (&spent, LIST, Note::Fine),
+        (
+            &worn,
+            REPLAY,
+            Note::Worn {
+                ordinal: 9_223_372_036_854_775_808,
+            },
+        ),
+        (&worn, LIST, Note::Fine),
+    ];
+    for (device, words, note) in rows {
+        let left = run_on(
             alloc,
-            &input,
-            8192,
-            Failing {
-                disk: &[call],
-                ..NONE
+            sound(alloc, device)?,
+            words,
+            OPEN,
+            Streams {
+                reads: &[0],
+                ..SOUND
             },
         )?;
-        check(&rt, &left, Note::DiskFault, written);
+        check(&rt, &left, note, b"");
+        assert_eq!(rt; left.disk.bytes(), device);
     }
-    let left = replay(
-        alloc,
-        &input,
-        61,
-        Failing {
-            reads: &[1],
-            ..NONE
-        },
-    )?;
-    check(&rt, &left, Note::ReadFault, OPENED);
-    let left = replay(
-        alloc,
-        &input,
-        8192,
-        Failing {
-            writes: &[1],
-            ..NONE
-        },
-    )?;
-    check(&rt, &left, Note::WriteFault, OPENED);
-    assert_eq!(rt; left.device.len(), 16_384);
-    assert_eq!(rt; left.device[12_343], b'h');
     Ok(())
 }
 
-// Other words and other devices: nothing is read, written or changed.
+// A device is made a spool whatever it held, and the spool stands where its line isn't printed.
 #[test]
-fn nothing_is_done(rt: HostRuntime) -> Result<(), Fail> {
+fn a_device_is_made_a_spool(rt: HostRuntime) -> Result<(), Fail> {
     let alloc = rt.alloc();
-    let input = joined(alloc, &[OPEN, b"2 syslog 5 hello\n"])?;
-    for words in [
-        ["replay", "hec"].as_slice(),
-        &["replay"],
-        &[],
-        &["replay", "relp", "x"],
-        &["relp", "replay"],
-    ] {
-        let left = run_on(alloc, empty_device(alloc)?, words, &input, 1, NONE)?;
-        check(&rt, &left, Note::Usage, b"");
-        assert_eq!(rt; left.device.as_slice(), empty_device(alloc)?.as_slice());
-    }
-    let zeros = vec![in alloc; 0; 20_480]?;
-    let left = run_on(
+    let words: &[&str] = &["format", "02", "4096"];
+    let full = run(
         alloc,
-        zeros,
-        &["replay", "relp"],
-        &input,
-        1,
-        Failing {
-            reads: &[0],
-            ..NONE
-        },
+        &formatted(alloc, "2", "4096", 20_480)?,
+        REPLAY,
+        &with_events(alloc, &[5])?,
     )?;
-    check(&rt, &left, Note::NotBuilt, b"");
+    for device in [full.disk.bytes(), vec![in alloc; 1; 20_480]?.as_slice()] {
+        let left = run(alloc, device, words, OPEN)?;
+        check(&rt, &left, Note::Fine, b"2 slots of 4096 bytes\n");
+        assert_eq!(rt; listed(alloc, left.disk.bytes())?.len(), 0);
+        let streams = Streams {
+            writes: &[0],
+            ..SOUND
+        };
+        let left = run_on(alloc, sound(alloc, device)?, words, OPEN, streams)?;
+        check(&rt, &left, Note::WriteFault, b"");
+        assert_eq!(rt; listed(alloc, left.disk.bytes())?.len(), 0);
+    }
     Ok(())
 }
 
+// One read or write of a stream fails.
 #[test]
-fn texts(rt: HostRuntime) -> Result<(), Fail> {
-    let rows = [
-        (Note::Fine, ""),
-        (
-            Note::Usage,
-            "usage: bridge FILE format|replay|list|drain|serve|load",
-        ),
-        (Note::NoMemory, "no memory"),
-        (Note::ReadFault, "read fault"),
-        (Note::WriteFault, "write fault"),
-        (Note::DiskFault, "disk fault"),
-        (Note::NotBuilt, "not built yet"),
-    ];
-    for (note, text) in rows {
-        assert_eq!(rt; note_text(rt.alloc(), &note)?.bytes(), text.as_bytes());
-    }
+fn streams_that_fail(rt: HostRuntime) -> Result<(), Fail> {
+    let alloc = rt.alloc();
+    let device = formatted(alloc, "1", "4096", 16_384)?;
+    let input = with_events(alloc, &[5])?;
+    let read = Streams {
+        step: 1,
+        reads: &[1],
+        ..SOUND
+    };
+    let left = run_on(alloc, sound(alloc, &device)?, REPLAY, &input, read)?;
+    check(&rt, &left, Note::ReadFault, b"");
+    let write = Streams {
+        writes: &[1],
+        ..SOUND
+    };
+    let left = run_on(alloc, sound(alloc, &device)?, REPLAY, &input, write)?;
+    check(&rt, &left, Note::WriteFault, OPENED);
+    assert_eq!(rt;
+        listed(alloc, left.disk.bytes())?.as_slice(),
+        b"0 4294967296 0 2 relp 5\n".as_slice()
+    );
     Ok(())
+}
+
+// One call of the disk fails, each in turn: the event is not answered, and the run says so.
+#[test]
+fn each_call_of_the_disk_fails_once(rt: HostRuntime) -> Result<(), Fail> {
+    let alloc = rt.alloc();
+    let device = formatted(alloc, "1", "4096", 16_384)?;
+    let input = with_events(alloc, &[5])?;
+    let mut opened = 0_u32;
+    for call in 0..100 {
+        let failing = vec![in alloc; call]?;
+        let disk = MemDisk::of(device.to_vec(alloc)?, failing);
+        let left = run_on(alloc, disk, REPLAY, &input, SOUND)?;
+        if left.note == Note::Fine {
+            assert_eq!(rt; opened, 4);
+            return Ok(());
+        }
+        assert_eq!(rt; left.note, Note::DiskFault);
+        if left.written.as_slice() == OPENED {
+            opened = opened.saturating_add(1);
+        } else {
+            assert_eq!(rt; left.written.len(), 0);
+        }
+    }
+    Err("a run always fails".into())
+}
+
+// The machine stops at each call of the disk in turn, and what a crash leaves is listed: an entry that was
+// answered is there, and one that wasn't is there whole or not at all.
+#[test]
+fn a_stop_at_each_call(rt: HostRuntime) -> Result<(), Fail> {
+    let alloc = rt.alloc();
+    let device = formatted(alloc, "1", "4096", 16_384)?;
+    let input = with_events(alloc, &[5])?;
+    let answered = joined(alloc, &[OPENED, b"2 rsp 6 200 OK\n"])?;
+    let line = b"0 4294967296 0 2 relp 5\n".as_slice();
+    for calls in 0..100 {
+        let mut fine = false;
+        for choice in [
+            Crash::Synced,
+            Crash::Written,
+            Crash::Filled(0),
+            Crash::Filled(1),
+            Crash::Filled(255),
+        ] {
+            let disk = MemDisk::stopped(device.to_vec(alloc)?, calls);
+            let left = run_on(alloc, disk, REPLAY, &input, SOUND)?;
+            fine = left.note == Note::Fine;
+            let was_answered = left.written.as_slice() == answered.as_slice();
+            assert_eq!(rt; was_answered, fine);
+            let crashed = left.disk.crash(choice);
+            let lines = listed(alloc, crashed.bytes())?;
+            if was_answered || !lines.is_empty() {
+                assert_eq!(rt; lines.as_slice(), line);
+            }
+        }
+        if fine {
+            return Ok(());
+        }
+    }
+    Err("a run always stops".into())
 }

@@ -4,7 +4,6 @@
 //! leaves the old content or the new one, and nothing else of the disk is touched.
 #![tactic(auto)]
 
-mod behind;
 mod cell;
 mod content;
 mod fault;

@@ -5,10 +5,9 @@ ghost use Rattle.foundation.specs.Faults.{HasCause, Rose};
 ghost use Rattle.edge_disk.specs.Disk.{IsSettled, IsUntouched, LeavesOnly};
 ghost use Rattle.edge_disk.specs.Gate.{ComesFrom};
 
-use crate::behind::write_behind;
 use crate::fields::Fields;
 use crate::{Cell, Content, LoadFault, SetFault};
-use edge_disk::{Disk, DiskFault, close_gate};
+use edge_disk::{Disk, DiskFault, close_gate, write_behind};
 
 /// What is known of a register on a disk. It is read by `load`, and changed by `set` alone.
 #[derive(Drop, Debug)]

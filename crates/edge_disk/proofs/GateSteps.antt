@@ -6,7 +6,7 @@ use Rattle.foundation.specs.Bytes.{put, SameBut}
 use Rattle.foundation.proofs.Bytes.{same_but_refl, same_but_wider, length-put, put_below, put_above, put_at, put_head, put_same}
 use Rattle.edge_disk.specs.Disk.{Moment, IsSettled, IsTorn, IsLawful, LeavesOnly}
 use Rattle.edge_disk.specs.Gate.{IsGateStep, ComesFrom}
-use Rattle.edge_disk.proofs.Moments.{started_settled, torn, both, torn_from}
+use Rattle.edge_disk.proofs.Moments.{started_settled, torn, both, torn_from, weaker, from_settled}
 
 -- a change of the gate alone is told by the gate's byte
 pub only_gate : (gate x : ℕ) (old c : List ℕ) → gate < length old → SameBut gate 1 old c → get_or c gate 0 ≡ x → c ≡ put gate (x ∷ []) old
@@ -80,17 +80,22 @@ opening gate piece old c room step =
       ];
     }
 
--- the write of the piece
-pub piece_written : (gate : ℕ) (piece : List ℕ) (m m1 : Moment) → IsLawful m → IsSettled m → get_or m.reads gate 0 ≢ 1 → IsTorn (gate + 1) (length piece) m m1 → LeavesOnly (IsGateStep gate piece m.reads) m m1
-piece_written gate piece m m1 lawful settled closed call =
-    let P = IsGateStep gate piece m.reads in
-    let at_start = started_settled P m lawful settled (behind gate piece m.reads m.reads closed (same_but_refl (gate + 1) (length piece) m.reads)) in
-    torn P m m m1 (gate + 1) (length piece) at_start settled call (λ c t. behind gate piece m.reads c closed t)
+-- a piece that is written behind a gate that is closed in each image
+pub piece_written : (gate : ℕ) (piece : List ℕ) (m new : Moment) → ((c : List ℕ) → m.image c → get_or c gate 0 ≢ 1)
+    → LeavesOnly (ComesFrom m (SameBut (gate + 1) (length piece))) m new → LeavesOnly (ComesFrom m (IsGateStep gate piece)) m new
+piece_written gate piece m new closed run = weaker _ _ m new run (λ c from. (from.0, from.1, behind gate piece from.0 c (closed from.0 from.1) from.2))
 
--- the opening of the gate before it
-pub gate_opened : (gate : ℕ) (piece : List ℕ) (m m2 m3 : Moment) → gate + length piece + 1 ≤ length m.reads → LeavesOnly (IsGateStep gate piece m.reads) m m2 → m2.reads ≡ put (gate + 1) piece m.reads → LeavesOnly (IsGateStep gate [] m2.reads) m2 m3 → LeavesOnly (IsGateStep gate piece m.reads) m m3
-gate_opened gate piece m m2 m3 room so_far is run =
-    both (IsGateStep gate piece m.reads) (IsGateStep gate [] m2.reads) (IsGateStep gate piece m.reads) m m2 m3 so_far run (λ c p. p) (λ c q. opening gate piece m.reads c room (subst (λ b. IsGateStep gate [] b c) is q))
+-- and the opening of the gate before it
+pub gate_opened : (gate : ℕ) (piece : List ℕ) (m mid new : Moment) → IsLawful m → gate + length piece + 1 ≤ m.size → ((c : List ℕ) → m.image c → get_or c gate 0 ≢ 1)
+    → LeavesOnly (ComesFrom m (SameBut (gate + 1) (length piece))) m mid → mid.reads ≡ put (gate + 1) piece m.reads → LeavesOnly (IsGateStep gate [] mid.reads) mid new
+    → LeavesOnly (ComesFrom m (IsGateStep gate piece)) m new
+gate_opened gate piece m mid new lawful room closed run is opened =
+    both _ _ (ComesFrom m (IsGateStep gate piece)) m mid new (piece_written gate piece m mid closed run) opened (λ c p. p)
+    (λ c q. (m.reads, lawful.reads_image, opening gate piece m.reads c (omega (arith, room, lawful.reads_size)) (subst (λ b. IsGateStep gate [] b c) is q)))
+
+-- on a settled disk the step starts from what is read
+pub step_settled : (gate : ℕ) (piece : List ℕ) (m new : Moment) → IsSettled m → LeavesOnly (ComesFrom m (IsGateStep gate piece)) m new → LeavesOnly (IsGateStep gate piece m.reads) m new
+step_settled gate piece m new settled run = from_settled (IsGateStep gate piece) m new settled run
 
 -- the write of a gate on a settled disk
 pub gate_written : (gate : ℕ) (m m1 : Moment) → gate < m.size → IsLawful m → IsSettled m → IsTorn gate 1 m m1 → LeavesOnly (IsGateStep gate [] m.reads) m m1

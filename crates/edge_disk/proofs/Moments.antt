@@ -44,6 +44,10 @@ pub torn_from : (Q : List ℕ → List ℕ → Type 0) (m new : Moment) (at n : 
 torn_from Q m new at n lawful call here =
     goes_on (ComesFrom m Q) m m new (started (ComesFrom m Q) m lawful (λ c i. (c, i, here c c i (same_but_refl at n c)))) call.time (λ c i. let from = call.images c i in (from.0, from.1, here from.0 c from.1 from.2))
 
+-- a write on any disk changes nothing outside its range
+pub written_from : (m new : Moment) (at n : ℕ) → IsLawful m → IsTorn at n m new → LeavesOnly (ComesFrom m (SameBut at n)) m new
+written_from m new at n lawful call = torn_from (SameBut at n) m new at n lawful call (λ d c i same. same)
+
 -- one run behind another
 pub both : (P Q R : List ℕ → Type 0) (old mid new : Moment) → LeavesOnly P old mid → LeavesOnly Q mid new → ((c : List ℕ) → P c → R c) → ((c : List ℕ) → Q c → R c) → LeavesOnly R old new
 both P Q R old mid new first second p q = record {

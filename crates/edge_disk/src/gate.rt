@@ -1,6 +1,6 @@
 //! A piece that comes to stand on the disk whole or not at all: it is written behind a closed gate, one
 //! byte that is open where it is 1, and the gate is opened once the piece is durable.
-ghost use Rattle.std.specs.Prelude.{◌≡◌, ◌≢◌, ◌+◌, ◌<◌, ◌≤◌, [], ◌∷◌, length, slice_index, OnOk};
+ghost use Rattle.std.specs.Prelude.{◌≡◌, ◌≢◌, List, ℕ, ◌+◌, ◌<◌, ◌≤◌, [], ◌∷◌, length, slice_index, OnOk};
 ghost use Rattle.foundation.specs.Bytes.{put};
 ghost use Rattle.foundation.specs.Faults.{HasCause};
 ghost use Rattle.edge_disk.specs.Disk.{IsSettled, LeavesOnly};
@@ -8,13 +8,13 @@ ghost use Rattle.edge_disk.specs.Gate.{IsGateStep, ComesFrom};
 
 use crate::{Disk, DiskFault};
 
-/// Writes `piece` behind the closed gate at offset `gate`, and opens the gate: a write, a sync, a write, a
-/// sync. At each moment the gate is closed, or the piece stands behind it whole. After a fault, too, so a
-/// sync and a read of the gate tell which it is.
+/// Writes `piece` behind the gate at offset `gate`, and opens the gate: a write, a sync, a write, a sync. The
+/// disk may have writes that are not durable yet, but the gate is closed in every image. At each moment it
+/// still is, or the piece stands behind it whole, and no other byte of an image changed. After a fault, too,
+/// so a sync and a read of the gate tell which it is.
 pub fn write_behind<D: Disk>(disk: &mut D, gate: u64, piece: &[u8]) -> Result<(), DiskFault>
     requires room { gate + length piece.now + 1 ≤ (D.moment disk.old).size }
-    requires settled { D.tells → IsSettled (D.moment disk.old) }
-    requires closed { D.tells → slice_index (D.moment disk.old).reads gate ≢ 1 }
+    requires closed { D.tells → (c : List ℕ) → (D.moment disk.old).image c → slice_index c gate ≢ 1 }
 
     ensures cause { HasCause (D.moment disk.old).faults (D.moment disk.new).faults result }
     ensures size { (D.moment disk.new).size ≡ (D.moment disk.old).size }
@@ -22,7 +22,7 @@ pub fn write_behind<D: Disk>(disk: &mut D, gate: u64, piece: &[u8]) -> Result<()
     ensures written { OnOk result (D.tells
         → (D.moment disk.new).reads ≡ put gate (1 ∷ piece.now) (D.moment disk.old).reads) }
     ensures any_moment { D.tells
-        → LeavesOnly (IsGateStep gate piece.now (D.moment disk.old).reads) (D.moment disk.old) (D.moment disk.new) }
+        → LeavesOnly (ComesFrom (D.moment disk.old) (IsGateStep gate piece.now)) (D.moment disk.old) (D.moment disk.new) }
 {
     disk.write_at(gate + 1, piece)?;
     disk.sync()?;

@@ -8,14 +8,18 @@ mod event;
 mod feed_fault;
 mod law;
 mod pairs;
+mod peek;
 mod reading;
+mod talk;
 mod writing;
 
 pub use blob::Blob;
 pub use event::{Entry, Event, Origin};
 pub use feed_fault::FeedFault;
 pub use law::one_reading;
+pub use peek::peek_entry;
 pub use reading::{EntryFault, Took, read_entry};
+pub use talk::{Attended, Talk, Why};
 pub use writing::{entry_head, entry_size, write_entry};
 
 #[cfg(test)]

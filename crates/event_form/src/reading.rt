@@ -43,7 +43,7 @@ impl From<AllocError> for EntryFault {
 
 /// What an entry's head tells.
 #[derive(Clone, Copy)]
-struct Head {
+pub(crate) struct Head {
     origin: Origin,
     conn: u64,
     index: u64,
@@ -115,7 +115,7 @@ fn may_have(origin: Origin, text: &[u8]) -> bool
 }
 
 /// The head and the text of the entry that the bytes begin with, or the place of the fault.
-fn read_parts(bytes: &[u8]) -> Result<(Head, &[u8]), usize>
+pub(crate) fn read_parts(bytes: &[u8]) -> Result<(Head, &[u8]), usize>
     ensures ok { IfOk result (λ found. (rest : List ℕ) × Begins (entry_of found.0 found.1.now) bytes.now rest) }
     ensures err { IfErr result (IsBadAt bytes.now) }
 {

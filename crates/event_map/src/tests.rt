@@ -48,6 +48,45 @@ fn each_event_has_its_forms(rt: HostRuntime) -> Result<(), Fail> {
             r#"{"message":" {} x"}"#,
             r#"{"event":" {} x"}"#,
         ),
+        // Another value than an object, white space alone, no UTF-8 in a string, a comma too many.
+        (
+            LUMBER_JSON,
+            b"\"x\"",
+            r#"{"message":"\"x\""}"#,
+            r#"{"event":"\"x\""}"#,
+        ),
+        (
+            LUMBER_JSON,
+            b" \n",
+            r#"{"message":" \n"}"#,
+            r#"{"event":" \n"}"#,
+        ),
+        (
+            LUMBER_JSON,
+            b"{\"a\":\"\xff\"}",
+            "{\"message\":\"{\\\"a\\\":\\\"\u{FFFD}\\\"}\"}",
+            "{\"event\":\"{\\\"a\\\":\\\"\u{FFFD}\\\"}\"}",
+        ),
+        (
+            LUMBER_JSON,
+            br#"{"a":1,}"#,
+            r#"{"message":"{\"a\":1,}"}"#,
+            r#"{"event":"{\"a\":1,}"}"#,
+        ),
+        // An escape of a lone surrogate is one of RFC 8259's.
+        (
+            LUMBER_JSON,
+            br#"{"a":"\ud800"}"#,
+            r#"{"a":"\ud800"}"#,
+            r#"{"event":{"a":"\ud800"}}"#,
+        ),
+        // Pairs: one key twice, with values that need escapes.
+        (
+            LUMBER_DATA,
+            b"\0\0\0\x01a\0\0\0\x01\"\0\0\0\x01a\0\0\0\x02\\\n",
+            r#"{"a":"\"","a":"\\\n"}"#,
+            r#"{"event":{"a":"\"","a":"\\\n"}}"#,
+        ),
         // Pairs: a=x and a=y, none, an empty one, and a quote and no UTF-8.
         (
             LUMBER_DATA,
@@ -81,6 +120,12 @@ fn each_event_has_its_forms(rt: HostRuntime) -> Result<(), Fail> {
             b"a\xe2\x80\xa8b",
             "{\"message\":\"a\u{2028}b\"}",
             "{\"event\":\"a\u{2028}b\"}",
+        ),
+        (
+            RELP,
+            b"\xed\xa0\x80",
+            "{\"message\":\"\u{FFFD}\u{FFFD}\u{FFFD}\"}",
+            "{\"event\":\"\u{FFFD}\u{FFFD}\u{FFFD}\"}",
         ),
         (
             RELP,

@@ -26,5 +26,6 @@ pub mod CalmLaws
 pub mod NumberLaws
 pub mod MembersOnly
 pub mod PlainLaws
+pub mod LaneLaws
 pub mod ListForms
 pub mod MembersExist

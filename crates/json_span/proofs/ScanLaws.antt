@@ -1,8 +1,10 @@
 -- The scan for the first value goes on, and ends.
-use Rattle.std.proofs.Common.{◌≡◌, ℕ, ◌+◌, ◌≤◌, ◌<◌, Bool, true, false, List, [], ◌∷◌, ◌++◌, length, get_or, refl, sym, ap, ◌∙◌, subst, arith, Option, Some, None}
+use Rattle.std.proofs.Common.{◌≡◌, ℕ, zero, suc, ◌+◌, ◌≤◌, ◌<◌, Bool, true, false, List, [], ◌∷◌, ◌++◌, length, get_or, refl, sym, ap, ◌∙◌, subst, arith, Option, Some, None}
 use Rattle.std.specs.Prelude.{slice_range}
 use Rattle.std.proofs.lemmas.List.Edits.{between_more}
+use Rattle.json_span.specs.Strings.{is_plain}
 use Rattle.json_span.specs.Json.{is_space, AreSpaces, Json}
+use Rattle.json_span.specs.Plain.{ArePlain}
 use Rattle.json_span.specs.Machine.{State, Value, Goes, Fails, Why, Bad, Deep, step, accepts, Going, Stopped, onward, run}
 use Rattle.json_span.specs.Spans.{Stretch, Begins, NoValue, IsFirst, IsCut, IsFault, IsFaultPlace, IsNotJson, IsTooDeep}
 use Rattle.json_span.specs.Reading.{Fits, HasTop, brackets, state_of}
@@ -22,6 +24,7 @@ pub record Found (bytes : List ℕ) (start i : ℕ) (end : Option ℕ) : Type 0 
 -- how far the scan from `start` has come
 pub record Scan (bytes : List ℕ) (start i : ℕ) (reading : Reading) (end : Option ℕ) : Type 0 where
   pub order : start ≤ i
+  pub bound : i ≤ length bytes
   pub fits : Fits reading
   pub top : HasTop reading.place (brackets reading.depth reading.bits)
   pub runs : run (Value 127 []) (slice_range bytes start i) ≡ Going (state_of reading)
@@ -151,3 +154,24 @@ deep_here bytes at start i s w u a b r f = record {
 -- where the state is none that accepts, the longest value stays
 pub found_stays : (bytes : List ℕ) (start i : ℕ) (t : State) (end : Option ℕ) → start ≤ i → i < length bytes → is_space (get_or bytes start 0) ≡ false → run (Value 127 []) (slice_range bytes start (i + 1)) ≡ Going t → Found bytes start i end → accepts t ≡ false → Found bytes start (i + 1) end
 found_stays bytes start i t end a b f e h n = found_more bytes start i t end end a b f e h (λ y. let q : true ≡ false = sym y ∙ n in cc) (λ _. refl)
+
+-- so it is over bytes that change nothing
+pub scan_stays : (bytes : List ℕ) (start i : ℕ) (reading : Reading) (end : Option ℕ) (n : ℕ) → i + n ≤ length bytes → ArePlain bytes i (i + n)
+    → (start < length bytes → is_space (get_or bytes start 0) ≡ false) → ((c : ℕ) → is_plain c ≡ true → Goes (state_of reading) ≡ step (state_of reading) c)
+    → accepts (state_of reading) ≡ false → Scan bytes start i reading end → Scan bytes start (i + n) reading end
+scan_stays bytes start i reading end zero a p w f h v = let q : i ≡ i + 0 = omega arith in subst (λ m. Scan bytes start m reading end) q v
+scan_stays bytes start i reading end (suc n) a p w f h v =
+    let u = scan_stays bytes start i reading end n (omega (arith, a)) (λ k from to. p k from (omega (arith, to))) w f h v in
+    let s = state_of reading in
+    let b : start ≤ i + n = u.order in
+    let l : i + n < length bytes = omega (arith, a) in
+    let r = runs_more bytes start (i + n) s s b l u.runs (f (get_or bytes (i + n) 0) (p (i + n) (omega arith) (omega arith))) in
+    let q : i + n + 1 ≡ i + suc n = omega arith in
+    subst (λ m. Scan bytes start m reading end) q (record {
+      order = omega (arith, b);
+      bound = omega (arith, l);
+      fits = u.fits;
+      top = u.top;
+      runs = r;
+      found = found_stays bytes start (i + n) s end b l (w (omega (arith, b, l))) r u.found h;
+    })

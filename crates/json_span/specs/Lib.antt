@@ -5,4 +5,5 @@ pub mod Spans
 pub mod Members
 pub mod Machine
 pub mod Reading
+pub mod Plain
 pub mod Walk

@@ -9,6 +9,7 @@
 #![tactic(auto)]
 
 mod bytes;
+mod characters;
 mod object;
 mod reading;
 mod scan;

@@ -1,5 +1,6 @@
 //! A reading of a value as far as some bytes have come, and one byte more.
-ghost use Rattle.std.specs.Prelude.{◌≡◌, ℕ, ◌+◌, ◌<◌, List, ◌∷◌, IsTrue, false};
+ghost use Rattle.std.specs.Prelude.{◌≡◌, ℕ, ◌+◌, ◌<◌, List, ◌∷◌, IsTrue, true, false};
+ghost use Rattle.json_span.specs.Strings.{is_plain};
 ghost use Rattle.json_span.specs.Machine.{begin, behind, step, accepts, begin_array, begin_object, First as FirstState, Names as NamesState, Name as NameState, InName as InNameState, Value as ValueState, Goes, In, Closed, Array, Object, Bracket};
 ghost use Rattle.json_span.specs.Reading.{token_of, brackets, state_of, step_of, Fits, FitsTurn, HasTop, TopTurn, state_at};
 ghost use Rattle.json_span.specs.declared.reading.Place.TheVariants.{First, Names};
@@ -283,11 +284,13 @@ pub(crate) fn may_end(r: Reading) -> bool
     }
 }
 
-/// Whether the byte stands for itself in a string, so that it changes nothing.
+/// Whether the byte stands for itself in a string. Then neither it nor any such byte behind it changes the
+/// reading.
 #[tactic(auto, unfolding(crate::specs::Machine::step))]
 pub(crate) fn stays(r: Reading, byte: u8) -> bool
     requires { HasTop r.place (brackets r.depth r.bits) }
-    ensures step { IsTrue result → Goes (state_of r) ≡ step (state_of r) byte }
+    ensures plain { IsTrue result → is_plain byte ≡ true }
+    ensures step { IsTrue result → (c : ℕ) → is_plain c ≡ true → Goes (state_of r) ≡ step (state_of r) c }
     ensures inside { IsTrue result → accepts (state_of r) ≡ false }
 {
     match r.place {

@@ -6,6 +6,7 @@ ghost use Rattle.json_span.specs.Spans.{IsWithin, IsFirst, IsCut, IsNotJson, IsT
 ghost use Rattle.json_span.specs.declared.span.JsonFault.TheVariants.{Cut, NotJson, TooDeep};
 
 use crate::bytes::behind_space;
+use crate::characters::behind_plain;
 use crate::reading::{Place, Reading, Turn, after_byte, may_end, stays};
 use crate::span::{JsonFault, Span};
 use crate::token::Token;
@@ -69,15 +70,18 @@ pub fn first_value(bytes: &[u8], at: usize) -> Result<Span, JsonFault>
         bits: 0,
     };
     let mut end = None;
-    for i in start..bytes.len() {
+    let mut i = start;
+    while i < bytes.len() {
         let byte = bytes[i];
         if stays(reading, byte) {
+            i = behind_plain(bytes, i + 1);
             continue;
         }
         match after_byte(reading, byte) {
             Turn::Go(next) => {
                 end = longest(next, end, i + 1);
                 reading = next;
+                i += 1;
             }
             Turn::Bad => {
                 return match end {

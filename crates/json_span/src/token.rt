@@ -1,6 +1,6 @@
 //! Strings, numbers and literals, byte by byte.
-ghost use Rattle.std.specs.Prelude.{◌≡◌, if◌then◌else◌, IsTrue, false, Some, None};
-ghost use Rattle.json_span.specs.Strings.{lead, within as in_bounds};
+ghost use Rattle.std.specs.Prelude.{◌≡◌, ℕ, if◌then◌else◌, IsTrue, true, false, Some, None};
+ghost use Rattle.json_span.specs.Strings.{lead, is_plain, within as in_bounds};
 ghost use Rattle.json_span.specs.Machine.{next, first, Zero, done as may_end, wide_token};
 ghost use Rattle.json_span.specs.Reading.{token_of, token_option, bounds_of};
 
@@ -103,6 +103,7 @@ fn within(bounds: Range, byte: u8) -> bool
 
 /// One byte more, if it belongs to the token.
 #[tactic(auto, unfolding(crate::specs::Machine::next))]
+#[inline(always)]
 pub(crate) fn next_token(token: Token, byte: u8) -> Option<Token>
     ensures { token_option result ≡ next (token_of token) byte }
 {
@@ -236,10 +237,11 @@ pub(crate) fn done(token: Token) -> bool
     }
 }
 
-/// Whether the byte stands for itself in a string.
+/// Whether the byte stands for itself in a string. Then no such byte behind it changes the token either.
 #[tactic(auto, using(crate::proofs::PlainLaws::plain_next))]
 pub(crate) fn same_token(token: Token, byte: u8) -> bool
-    ensures same { IsTrue result → next (token_of token) byte ≡ Some (token_of token) }
+    ensures plain { IsTrue result → is_plain byte ≡ true }
+    ensures same { IsTrue result → (c : ℕ) → is_plain c ≡ true → next (token_of token) c ≡ Some (token_of token) }
     ensures inside { IsTrue result → may_end (token_of token) ≡ false }
 {
     match token {

@@ -19,7 +19,7 @@ use Rattle.relp_frame.specs.Spelling.{IsFrame, IsSpelling}
 use Rattle.relp_frame.specs.Machine.{InBody, step, start}
 use Rattle.relp_frame.specs.Places.{state_of, frame_of, due_of, past, Fits}
 use Rattle.relp_frame.specs.Scanning.{Scan}
-use Rattle.relp_frame.proofs.FrameLaws.{relp, relp_laws}
+use Rattle.relp_frame.proofs.FrameLaws.{relp, relp_laws, live}
 use Rattle.relp_frame.proofs.PlaceLaws.{range_more}
 use Rattle.relp_frame.proofs.ReasonLaws.{reason_of}
 use Rattle.relp_frame.proofs.RunLaws.{run_body}
@@ -125,7 +125,7 @@ scan_done held piece i frames end now parts f l s turn is =
 pub scan_stream : (held piece : List ℕ) (i : ℕ) (frames : List Frame) (end : ℕ) (now : Phase) (s : Scan held piece i frames end now) → i ≡ length piece → (fed : List ℕ) (before : List Frame) (at : ℕ) → IsStream IsSpelling fed before at held → IsStream IsSpelling (fed ++ piece) (before ++ frames) (at + end) s.rest
 scan_stream held piece i frames end now s e fed before at b =
     let w : held ++ piece ≡ s.spelt ++ s.rest = ap (λ v. held ++ v) (sym (take_all i piece (omega arith))) ∙ s.joined in
-    let r = stream_more relp (state_of now s.rest) fed piece s.spelt s.rest held before frames at b s.spelled w s.runs in
+    let r = stream_more relp live (state_of now s.rest) fed piece s.spelt s.rest held before frames at b s.spelled w s.runs in
     subst (λ n. IsStream IsSpelling (fed ++ piece) (before ++ frames) (at + n) s.rest) s.ends r
 
 -- the piece is read to a fault
@@ -137,5 +137,5 @@ scan_fault held piece i frames end now why s l f fed before at b =
     let k : piece ≡ take i piece ++ c ∷ more = sym (take-append-drop i piece) ∙ ap (λ v. take i piece ++ v) (rw add-one (drop-cons piece i 0 l)) in
     let v : held ++ piece ≡ s.spelt ++ (h ++ c ∷ more) = ap (λ v. held ++ v) k ∙ sym (append_assoc held (take i piece) (c ∷ more)) ∙ ap (λ v. v ++ c ∷ more) s.joined ∙ append_assoc s.spelt h (c ∷ more) in
     let p : at + length s.spelt + length h ≡ at + (length held + i) = omega (arith, s.ends, s.count) in
-    let r = stream_fault relp (state_of now h) fed piece s.spelt h more held c why before frames at b s.spelled v s.runs f (reason_of h c why (state_of now h) s.runs f) in
+    let r = stream_fault relp live (state_of now h) fed piece s.spelt h more held c why before frames at b s.spelled v s.runs f (reason_of h c why (state_of now h) s.runs f) in
     subst (λ q. IsFaulty IsSpelling IsReason (fed ++ piece) (before ++ frames) (at + end) q why) p (subst (λ n. IsFaulty IsSpelling IsReason (fed ++ piece) (before ++ frames) (at + n) (at + length s.spelt + length h) why) s.ends r)

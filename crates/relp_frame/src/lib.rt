@@ -20,7 +20,8 @@ mod write;
 pub use fault::{RelpFault, RelpWhy};
 pub use frame::Frame;
 pub use laws::{
-    canonical_spells, one_reading, one_reason, some_reading, spells_once, written_is_read,
+    canonical_spells, one_reading, one_reason, reason_is_fault, some_reading, spells_once,
+    written_is_read,
 };
 pub use reader::RelpReader;
 pub use write::{write_frame, write_parts};

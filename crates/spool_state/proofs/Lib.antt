@@ -1,7 +1,16 @@
 pub mod Adding
+pub mod Chains
+pub mod Emptied
+pub mod Entries
 pub mod Following
 pub mod Frames
+pub mod Laws
+pub mod Making
+pub mod Once
 pub mod Places
 pub mod Registers
+pub mod Segments
+pub mod Sorting
+pub mod Standing
 pub mod Steps
 pub mod Texts

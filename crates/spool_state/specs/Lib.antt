@@ -3,3 +3,7 @@ pub mod SpoolState
 pub mod Change
 pub mod Cells
 pub mod Image
+pub mod Broken
+pub mod Order
+pub mod Rules
+pub mod Empty

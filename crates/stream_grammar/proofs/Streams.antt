@@ -3,7 +3,7 @@ use Rattle.std.proofs.Common.{◌≡◌, ℕ, ◌+◌, length-append, List, [], 
 use Rattle.std.proofs.lemmas.List.{append-nil, append_cancel_right}
 use Rattle.stream_grammar.specs.Automaton.{Step, Fails, Going, Done, Bad, then, run}
 use Rattle.stream_grammar.specs.Framing.{AreSpelled, BeginsAList, HasNoFrame, IsStream, IsFaulty}
-use Rattle.stream_grammar.proofs.Machine.{Format, run_completed, going_back, good_run, run_push, run_bad}
+use Rattle.stream_grammar.proofs.Machine.{Format, Live, run_completed, going_back, good_run, run_push, run_bad}
 
 module _ {S F W : Type 0} {step : S → ℕ → Step S F W} {C : S → F → List ℕ → Type 0} {Good : S → Type 0} {s : S} {Spells : F → List ℕ → Type 0} (format : Format step C Good s Spells) where
   pub spelled_run : (f : F) (b y : List ℕ) → Spells f b → run step s (b ++ y) ≡ Done f y
@@ -40,9 +40,9 @@ module _ {S F W : Type 0} {step : S → ℕ → Step S F W} {C : S → F → Lis
       (r.0, cc, r.2)
 
   -- frames and a going rest begin a list
-  pub begins : (t : S) (fs : List F) (x h : List ℕ) → AreSpelled Spells fs x → run step s h ≡ Going t → BeginsAList Spells (x ++ h)
-  begins t fs x h a e =
-      let l = format.laws.live t (good_run format.laws s t h format.good e) in
+  pub begins : Live C Good → (t : S) (fs : List F) (x h : List ℕ) → AreSpelled Spells fs x → run step s h ≡ Going t → BeginsAList Spells (x ++ h)
+  begins live t fs x h a e =
+      let l = live t (good_run format.laws s t h format.good e) in
       let k : Spells l.0 (h ++ l.1) = (format.same l.0 (h ++ l.1)).1 (going_back format.laws s t l.0 h l.1 format.good e l.2) in
       record { frames = fs ++ l.0 ∷ []; more = l.1; spelled = rw append_assoc (spelled_append fs (l.0 ∷ []) x (h ++ l.1) a (spelled_one l.0 (h ++ l.1) k)) }
 
@@ -60,15 +60,15 @@ module _ {S F W : Type 0} {step : S → ℕ → Step S F W} {C : S → F → Lis
           cc
 
   -- More bytes, of which frames were read and a going rest is left.
-  pub stream_more : (t : S) (b piece x h rest : List ℕ) (frames fs : List F) (at : ℕ) → IsStream Spells b frames at rest → AreSpelled Spells fs x → rest ++ piece ≡ x ++ h → run step s h ≡ Going t → IsStream Spells (b ++ piece) (frames ++ fs) (at + length x) h
-  stream_more t b piece x h rest frames fs at i a w e =
+  pub stream_more : Live C Good → (t : S) (b piece x h rest : List ℕ) (frames fs : List F) (at : ℕ) → IsStream Spells b frames at rest → AreSpelled Spells fs x → rest ++ piece ≡ x ++ h → run step s h ≡ Going t → IsStream Spells (b ++ piece) (frames ++ fs) (at + length x) h
+  stream_more live t b piece x h rest frames fs at i a w e =
       let sp : AreSpelled Spells (frames ++ fs) (i.front ++ x) = spelled_append frames fs i.front x i.spelled a in
       let q : b ++ piece ≡ (i.front ++ x) ++ h = ap (λ v. v ++ piece) i.whole ∙ append_assoc i.front rest piece ∙ ap (λ v. i.front ++ v) w ∙ sym (append_assoc i.front x h) in
-      record { front = i.front ++ x; spelled = sp; ends = length-append i.front x ∙ ap (λ n. n + length x) i.ends; whole = q; no_more = going_no_frame t h e; begins = rw q (begins t (frames ++ fs) (i.front ++ x) h sp e) }
+      record { front = i.front ++ x; spelled = sp; ends = length-append i.front x ∙ ap (λ n. n + length x) i.ends; whole = q; no_more = going_no_frame t h e; begins = rw q (begins live t (frames ++ fs) (i.front ++ x) h sp e) }
 
   -- The same, and then a byte at which the machine fails.
-  pub stream_fault : {Reason : List ℕ → ℕ → W → Type 0} (t : S) (b piece x h more rest : List ℕ) (c : ℕ) (w : W) (frames fs : List F) (at : ℕ) → IsStream Spells b frames at rest → AreSpelled Spells fs x → rest ++ piece ≡ x ++ (h ++ c ∷ more) → run step s h ≡ Going t → step t c ≡ Fails w → Reason h c w → IsFaulty Spells Reason (b ++ piece) (frames ++ fs) (at + length x) (at + length x + length h) w
-  stream_fault t b piece x h more rest c w frames fs at i a v e f r =
+  pub stream_fault : {Reason : List ℕ → ℕ → W → Type 0} → Live C Good → (t : S) (b piece x h more rest : List ℕ) (c : ℕ) (w : W) (frames fs : List F) (at : ℕ) → IsStream Spells b frames at rest → AreSpelled Spells fs x → rest ++ piece ≡ x ++ (h ++ c ∷ more) → run step s h ≡ Going t → step t c ≡ Fails w → Reason h c w → IsFaulty Spells Reason (b ++ piece) (frames ++ fs) (at + length x) (at + length x + length h) w
+  stream_fault live t b piece x h more rest c w frames fs at i a v e f r =
       let sp : AreSpelled Spells (frames ++ fs) (i.front ++ x) = spelled_append frames fs i.front x i.spelled a in
       let q : b ++ piece ≡ ((i.front ++ x) ++ h) ++ c ∷ more = ap (λ v. v ++ piece) i.whole ∙ append_assoc i.front rest piece ∙ ap (λ v. i.front ++ v) v ∙ sym (append_assoc i.front x (h ++ c ∷ more)) ∙ sym (append_assoc (i.front ++ x) h (c ∷ more)) in
       let n : length (i.front ++ x) ≡ at + length x = length-append i.front x ∙ ap (λ n. n + length x) i.ends in
@@ -80,7 +80,7 @@ module _ {S F W : Type 0} {step : S → ℕ → Step S F W} {C : S → F → Lis
         rest = h;
         whole = q;
         ends = length-append (i.front ++ x) h ∙ ap (λ n. n + length h) n;
-        stream = record { front = i.front ++ x; spelled = sp; ends = n; whole = refl; no_more = going_no_frame t h e; begins = begins t (frames ++ fs) (i.front ++ x) h sp e };
+        stream = record { front = i.front ++ x; spelled = sp; ends = n; whole = refl; no_more = going_no_frame t h e; begins = begins live t (frames ++ fs) (i.front ++ x) h sp e };
         fault = λ k'. stops w (frames ++ fs) (i.front ++ x) (h ++ c ∷ []) [] sp k (rw (← append_assoc (i.front ++ x) h (c ∷ [])) k');
         reason = r;
       }

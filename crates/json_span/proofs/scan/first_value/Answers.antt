@@ -1,10 +1,13 @@
 -- The scan's exits.
-use Rattle.std.proofs.Common.{◌≡◌, length, arith, subst, None}
+use Rattle.std.proofs.Common.{◌≡◌, ◌+◌, ◌-◌, length, get_or, true, arith, subst, None, inl, inr}
+use Rattle.std.proofs.lemmas.Bool.{cases_eq}
 use Rattle.std.specs.Prelude.{Ok, Err}
+use Rattle.json_span.specs.Strings.{is_plain}
+use Rattle.json_span.specs.Plain.{ArePlain}
 use Rattle.json_span.specs.Reading.{state_of}
 use Rattle.json_span.specs.Spans.{IsFaultPlace}
 use Rattle.json_span.specs.declared.span.JsonFault.TheVariants.{Cut, NotJson, TooDeep}
-use Rattle.json_span.proofs.ScanLaws.{Found, runs_more, found_more, found_stays, first_bad, first_end, cut_here, not_json_here, deep_here}
+use Rattle.json_span.proofs.ScanLaws.{Found, Scan, scan_stays, runs_more, found_more, first_bad, first_end, cut_here, not_json_here, deep_here}
 use Rattle.json_span.proofs.Values.{first_within}
 use Rattle.json_span.proofs.FaultPlaces.{fault_found}
 use Rattle.json_span.proofs.Exact.{exact}
@@ -59,7 +62,7 @@ returns-in-None-end c =
     let v = l.invariant in
     let b = c.args.bytes.now in
     let w = c.behind_space-start in
-    let q : l.i ≡ length b = omega (arith, c.loop-i-test.false, l.auto.i-end, w.ensures.spaces.bound) in
+    let q : l.i ≡ length b = omega (arith, c.loop-i-test.false, v.bound) in
     let f = cut_here b c.args.at w.result l.i (state_of l.reading) w.ensures.spaces w.ensures.stops q v.runs (subst (Found b w.result l.i) c.in-None-end.is v.found) in
     let e = exact b c.args.at (Err Cut) in
     record { ok = λ x. e (Ok x) f; within = tt; cut = e (Err Cut) f; not_json = λ p. e (Err (NotJson p)) f; too_deep = λ p. e (Err (TooDeep p)) f }
@@ -74,6 +77,7 @@ loop-i-preserved c =
     let r = runs_more b w.result l.i (state_of l.reading) (state_of n) v.order c.loop-i-test.true v.runs c.in-Go.ensures.turn in
     record {
       order = omega (arith, v.order);
+      bound = omega (arith, c.loop-i-test.true);
       fits = c.in-Go.ensures.fits;
       top = c.in-Go.ensures.top;
       runs = r;
@@ -83,15 +87,12 @@ loop-i-preserved c =
 pub loop-i-preserved-then-stays : goal.loop-i-preserved-then-stays
 loop-i-preserved-then-stays c =
     let l = c.loop-i in
-    let v = l.invariant in
     let b = c.args.bytes.now in
-    let w = c.behind_space-start in
-    let s = state_of l.reading in
-    let r = runs_more b w.result l.i s s v.order c.loop-i-test.true v.runs (c.stays.ensures.step c.if-stays.true) in
-    record {
-      order = omega (arith, v.order);
-      fits = v.fits;
-      top = v.top;
-      runs = r;
-      found = found_stays b w.result l.i s l.end v.order c.loop-i-test.true (w.ensures.stops (omega (arith, v.order, c.loop-i-test.true))) r v.found (c.stays.ensures.inside c.if-stays.true);
-    }
+    let p = c.behind_plain-i.ensures in
+    let n : l.i + (c.behind_plain-i.result - l.i) ≡ c.behind_plain-i.result = omega (arith, p.order) in
+    let plain : ArePlain b l.i (l.i + (c.behind_plain-i.result - l.i)) = λ k from to. elim (cases_eq l.i k) [
+      | inl here ↦ subst (λ j. is_plain (get_or b j 0) ≡ true) here (c.stays.ensures.plain c.if-stays.true)
+      | inr other ↦ p.plain k (omega (arith, from, other)) (omega (arith, to, n))
+    ] in
+    subst (λ m. Scan b c.behind_space-start.result m l.reading l.end) n
+    (scan_stays b c.behind_space-start.result l.i l.reading l.end (c.behind_plain-i.result - l.i) (omega (arith, n, p.bound)) plain c.behind_space-start.ensures.stops (c.stays.ensures.step c.if-stays.true) (c.stays.ensures.inside c.if-stays.true) l.invariant)

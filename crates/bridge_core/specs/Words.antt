@@ -1,6 +1,0 @@
--- Which words are a command.
-use Rattle.std.specs.Prelude.{◌≡◌, ℕ, List, [], ◌∷◌, codes}
-
--- `replay relp`, and nothing else
-abbrev pub IsReplay : List (List ℕ) → Type 0
-IsReplay words = words ≡ codes "replay" ∷ codes "relp" ∷ []

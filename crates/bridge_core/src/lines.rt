@@ -1,0 +1,102 @@
+//! The lines of entries: made in the form that is wanted, and written.
+ghost use Rattle.std.specs.Prelude.{◌≡◌, ◌≢◌, ℕ, ◌^◌, ◌≤◌, ◌<◌, List, [], ◌∷◌, ◌++◌, length, All, IfOk, IfErr, OnOk};
+ghost use Rattle.std.specs.Io.KnownBytes.{Appends};
+ghost use Rattle.foundation.specs.Faults.{Rose, HasCause};
+ghost use Rattle.event_form.specs.Entry.{IsEntry};
+ghost use Rattle.bridge_words.specs.declared.note.Note.TheVariants.{WriteFault, DiskFault};
+ghost use Rattle.bridge_core.specs.Written.{WritesFront};
+ghost use Rattle.bridge_core.specs.Listed.{IsLine, ArePrinted, IsListNote};
+
+use bridge_words::{ListForm, Note, entry_line};
+use edge_io::{Sink, Stopped, write_whole};
+use event_form::{Blob, Entry};
+use event_map::{as_hec_object, as_json_object, as_text};
+use std::alloc::{AllocError, Global};
+
+/// From how many bytes on lines are written, and no more lines are made before.
+const PIECE: usize = 65_536;
+
+// The bytes and LF.
+fn with_line_end(bytes: Blob) -> Result<Vec<u8>, AllocError>
+    ensures { IfOk result (λ line. line.items ≡ bytes ++ 10 ∷ []) }
+{
+    let mut line = bytes.into_vec();
+    line.push(b'\n')?;
+    Ok(line)
+}
+
+// The line of the entry with this number.
+fn line_of(alloc: Global, form: ListForm, number: u64, entry: &Entry) -> Result<Vec<u8>, AllocError>
+    requires { IsEntry entry.now }
+    ensures { IfOk result (λ line. IsLine form number entry.now line.items) }
+{
+    match form {
+        ListForm::Plain => Ok(entry_line(alloc, number, entry)?.into_bytes()),
+        ListForm::Text => with_line_end(as_text(alloc, &entry.event)?),
+        ListForm::JsonObject => with_line_end(as_json_object(alloc, &entry.event)?),
+        ListForm::HecObject => with_line_end(as_hec_object(alloc, &entry.event)?),
+    }
+}
+
+// Puts the line of the entry with this number behind the lines.
+fn add_line(
+    alloc: Global,
+    form: ListForm,
+    number: u64,
+    entry: &Entry,
+    lines: &mut Vec<u8>,
+) -> Result<(), AllocError>
+    requires { IsEntry entry.now }
+    ensures { OnOk result ((line : List ℕ) × IsLine form number entry.now line × (lines.new.items ≡ lines.old.items ++ line)) }
+{
+    let line = line_of(alloc, form, number, entry)?;
+    lines.extend_from_slice(&line)?;
+    Ok(())
+}
+
+// Writes the lines where they are many, and then none is left.
+fn write_many<K: Sink>(output: &mut K, lines: &mut Vec<u8>) -> Result<(), Stopped>
+    ensures later { K.write_faults output.old ≤ K.write_faults output.new }
+    ensures cause { HasCause (K.write_faults output.old) (K.write_faults output.new) result }
+    ensures done { OnOk result ((front : List ℕ) × Appends (K.taken output.old) (K.taken output.new) front × (lines.old.items ≡ front ++ lines.new.items)) }
+    ensures part { IfErr result (λ _. (part : WritesFront lines.old.items (K.taken output.old) (K.taken output.new)) × (0 < length part.rest)) }
+{
+    if lines.len() < PIECE {
+        return Ok(());
+    }
+    write_whole(output, lines)?;
+    lines.clear();
+    Ok(())
+}
+
+/// Writes the lines of the entries, of which the first has this number. Of the lines fewer than 65,536 bytes
+/// and one line are held at a time.
+pub(crate) fn print_entries<K: Sink>(
+    alloc: Global,
+    output: &mut K,
+    form: ListForm,
+    first: u64,
+    entries: &[Entry],
+) -> Note
+    requires number { first ≤ 2 ^ 63 }
+    requires limits { All IsEntry entries.now }
+
+    ensures known { IsListNote result × (result ≢ DiskFault) }
+    ensures later { K.write_faults output.old ≤ K.write_faults output.new }
+    ensures cause { result ≡ WriteFault → Rose 1 (K.write_faults output.old) (K.write_faults output.new) }
+    ensures printed { ArePrinted form first entries.now result (K.taken output.old) (K.taken output.new) }
+{
+    let mut lines = Vec::new(alloc);
+    for (i, entry) in entries.iter().enumerate() {
+        let Ok(()) = add_line(alloc, form, first + i as u64, entry, &mut lines) else {
+            return Note::NoMemory;
+        };
+        let Ok(()) = write_many(output, &mut lines) else {
+            return Note::WriteFault;
+        };
+    }
+    match write_whole(output, &lines) {
+        Ok(()) => Note::Fine,
+        Err(_) => Note::WriteFault,
+    }
+}

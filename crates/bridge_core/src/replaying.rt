@@ -1,0 +1,101 @@
+//! The command `replay`: the input is served as one connection, over the spool that the device holds.
+ghost use Rattle.std.specs.Prelude.{◌≡◌, ◌≢◌, ◌⊎◌, ℕ, ◌*◌, ◌^◌, [], false};
+ghost use Rattle.foundation.specs.Faults.{Rose};
+ghost use Rattle.spool_state.specs.SpoolState.{SpoolState};
+ghost use Rattle.spool_log.specs.State.{view, IsIn};
+ghost use Rattle.bridge_words.specs.declared.note.Note.TheVariants.{Usage, WrongLength, ReadFault, WriteFault, DiskFault};
+ghost use Rattle.bridge_words.specs.Notes.{status_of};
+ghost use Rattle.bridge_core.specs.Replayed.{Keeps, IsServed, IsUnopened, IsReplayed};
+ghost use Rattle.bridge_core.specs.Done.{IsRefusedFirst};
+
+use crate::ended::Ended;
+use crate::refused::recover_note;
+use bridge_words::Note;
+use conn_serve::{Rules, attend};
+use desk_access::{Alone, Desk};
+use edge_disk::Disk;
+use edge_io::{Both, Link, Proto, Sink, Source};
+use spool_log::{Opening, Refusal, Spool};
+use std::alloc::Global;
+
+/// The rules of a RELP connection.
+const RELP: Rules = Rules {
+    proto: Proto::Relp,
+    token: None,
+    ack_token: None,
+};
+
+/// How many numbers the connections of a run have.
+const CONNECTIONS: u64 = 1 << 32;
+
+// Serves the link as the first connection of the spool's run.
+fn attend_relp<D: Disk, L: Link>(alloc: Global, spool: Spool<D>, link: &mut L) -> Ended<D>
+    requires { spool.doubt ≡ false }
+
+    ensures status { result.status ≡ status_of result.note }
+    ensures known { IsRefusedFirst result.note → ⊥ }
+    ensures read_cause { result.note ≡ ReadFault → Rose 1 (L.read_faults link.old) (L.read_faults link.new) }
+    ensures write_cause { result.note ≡ WriteFault → Rose 1 (L.write_faults link.old) (L.write_faults link.new) }
+    ensures disk_cause { result.note ≡ DiskFault → Rose 1 (D.moment spool.disk).faults (D.moment result.disk).faults }
+    ensures same { L.same link.old link.new }
+    ensures served { IsServed (spool.known.register.content.run * 2 ^ 32) (L.given link.old) (L.given link.new) (L.left link.old) (L.left link.new) (L.taken link.old) (L.taken link.new)
+        (λ calls. (s : SpoolState) → D.tells → IsIn s [] (view spool.known spool.doubt (D.moment spool.disk)) → Keeps s (D.moment spool.disk) (D.moment result.disk) calls) result.note }
+{
+    let conn = u64::from(spool.run()) * CONNECTIONS;
+    let mut access = Alone::new(Desk { spool });
+    let attended = attend(alloc, link, &RELP, &mut access, conn);
+    let desk = access.into_desk();
+    Ended::of(Note::of_talk(attended.talk), desk.spool.into_disk())
+}
+
+// Serves the input as the first connection of the spool's run.
+fn serve_relp<D: Disk, S: Source, K: Sink>(
+    alloc: Global,
+    spool: Spool<D>,
+    input: &mut S,
+    output: &mut K,
+) -> Ended<D>
+    requires { spool.doubt ≡ false }
+
+    ensures status { result.status ≡ status_of result.note }
+    ensures known { IsRefusedFirst result.note → ⊥ }
+    ensures read_cause { result.note ≡ ReadFault → Rose 1 (S.read_faults input.old) (S.read_faults input.new) }
+    ensures write_cause { result.note ≡ WriteFault → Rose 1 (K.write_faults output.old) (K.write_faults output.new) }
+    ensures disk_cause { result.note ≡ DiskFault → Rose 1 (D.moment spool.disk).faults (D.moment result.disk).faults }
+    ensures served { IsServed (spool.known.register.content.run * 2 ^ 32) (S.given input.old) (S.given input.new) (S.left input.old) (S.left input.new) (K.taken output.old) (K.taken output.new)
+        (λ calls. (s : SpoolState) → D.tells → IsIn s [] (view spool.known spool.doubt (D.moment spool.disk)) → Keeps s (D.moment spool.disk) (D.moment result.disk) calls) result.note }
+{
+    let mut link = Both {
+        source: &mut *input,
+        sink: &mut *output,
+    };
+    attend_relp(alloc, spool, &mut link)
+}
+
+/// Serves the input as one connection by RELP, over the spool that the device holds, of which the run is
+/// raised by one first. The connection has the number run * 2^32.
+///
+/// Where the device can't be opened nothing is read or written: `NotSpool` comes exactly where it breaks a
+/// rule of the layout, with the place of the first one; then `RunsSpent` exactly where the run is 2,097,151;
+/// then `Worn` exactly where the register was written 2^63 times. Else the note is that of the connection's
+/// ending.
+pub fn replay_relp<D: Disk, S: Source, K: Sink>(
+    alloc: Global,
+    disk: D,
+    input: &mut S,
+    output: &mut K,
+) -> Ended<D>
+    ensures status { result.status ≡ status_of result.note }
+    ensures known { (result.note ≢ Usage) × ((have want : ℕ) → result.note ≢ WrongLength have want) }
+    ensures read_cause { result.note ≡ ReadFault → Rose 1 (S.read_faults input.old) (S.read_faults input.new) }
+    ensures write_cause { result.note ≡ WriteFault → Rose 1 (K.write_faults output.old) (K.write_faults output.new) }
+    ensures disk_cause { result.note ≡ DiskFault → Rose 1 (D.moment disk).faults (D.moment result.disk).faults }
+    ensures unused { IsRefusedFirst result.note → (input.new ≡ input.old) × (output.new ≡ output.old) }
+    ensures replayed { (IsUnopened D.tells (D.moment disk) (D.moment result.disk) result.note × (input.new ≡ input.old) × (output.new ≡ output.old))
+        ⊎ IsReplayed D.tells (D.moment disk) (D.moment result.disk) (S.given input.old) (S.given input.new) (S.left input.old) (S.left input.new) (K.taken output.old) (K.taken output.new) result.note }
+{
+    match Spool::recover(alloc, disk, Opening::Raise) {
+        Ok(spool) => serve_relp(alloc, spool, input, output),
+        Err(Refusal { fault, disk }) => Ended::of(recover_note(fault), disk),
+    }
+}

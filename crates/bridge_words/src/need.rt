@@ -1,0 +1,47 @@
+//! Which device the words want.
+ghost use Rattle.std.specs.Prelude.{◌≡◌, ℕ, IfOk, map, string_bytes};
+ghost use Rattle.bridge_words.specs.Words.{IsNeed};
+
+use crate::Command;
+use std::alloc::{AllocError, Global};
+
+/// Which device the words want.
+#[derive(Clone, Copy, PartialEq, Eq, Debug)]
+pub enum Need {
+    /// The words are no command, and no device is opened.
+    NoCommand,
+    /// The command does its work in memory. No command of today is such.
+    Nothing,
+    /// A device that exists.
+    Existing,
+    /// A device of `len` bytes, made where there is none.
+    Make { len: u64 },
+}
+
+impl Command {
+    ghost use Rattle.bridge_words.specs.Words.{need_for, IsSize};
+    ghost use Rattle.bridge_words.specs.declared.command.Command.TheVariants.{Format};
+
+    // Which device it wants.
+    fn need(self) -> Need
+        requires { (slots size : ℕ) → self ≡ Format slots size → IsSize slots size }
+        ensures { result ≡ need_for self }
+    {
+        match self {
+            Command::Format { slots, size } => Need::Make {
+                len: 12_288 + u64::from(slots) * size,
+            },
+            Command::List { .. } | Command::ReplayRelp => Need::Existing,
+        }
+    }
+}
+
+/// Which device the words want. Words without options are read without memory, so none is wanted yet.
+pub fn need_of(_alloc: Global, words: &[String]) -> Result<Need, AllocError>
+    ensures { IfOk result (IsNeed (map string_bytes words.now)) }
+{
+    match Command::of(words) {
+        Some(command) => Ok(command.need()),
+        None => Ok(Need::NoCommand),
+    }
+}

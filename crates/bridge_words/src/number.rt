@@ -1,0 +1,27 @@
+//! Numbers on the command line.
+ghost use Rattle.std.specs.Prelude.{◌≡◌, ◌↔◌, ℕ, IsTrue, IfSome, IfNone, slice_index};
+ghost use Rattle.bridge_words.specs.Words.{IsNumber};
+
+// Whether the word begins with a plus, which `from_str_radix` takes.
+fn has_plus(word: &str) -> bool
+    ensures { IsTrue result ↔ (slice_index word.now 0 ≡ 43) }
+{
+    match word.as_bytes() {
+        [first, ..] => *first == b'+',
+        [] => false,
+    }
+}
+
+/// The number that a word of 1 to 10 decimal digits writes. Leading zeros are allowed.
+pub(crate) fn number_of(word: &str) -> Option<u64>
+    ensures some { IfSome result (λ n. IsNumber n word.now) }
+    ensures none { IfNone result ((n : ℕ) → IsNumber n word.now → ⊥) }
+{
+    if word.len() > 10 || has_plus(word) {
+        return None;
+    }
+    match u64::from_str_radix(word, 10) {
+        Ok(number) => Some(number),
+        Err(_) => None,
+    }
+}

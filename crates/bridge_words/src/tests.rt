@@ -1,0 +1,244 @@
+use crate::{Command, ListForm, Need, Note, entry_line, need_of, note_text, spool_line};
+use event_form::{Blob, Entry, Event, Origin, Why};
+use std::alloc::Global;
+use std::test::Fail;
+
+fn words_of(alloc: Global, words: &[&str]) -> Result<Vec<String>, Fail> {
+    let mut texts = Vec::new(alloc);
+    for word in words {
+        texts.push(String::from_str(alloc, word)?)?;
+    }
+    Ok(texts)
+}
+
+// Each command, and the device that it wants.
+#[test]
+fn commands(rt: HostRuntime) -> Result<(), Fail> {
+    let alloc = rt.alloc();
+    let rows: [(&[&str], Command, Need); 8] = [
+        (
+            &["format", "2", "4096"],
+            Command::Format {
+                slots: 2,
+                size: 4096,
+            },
+            Need::Make { len: 20_480 },
+        ),
+        (
+            &["format", "01", "0000004096"],
+            Command::Format {
+                slots: 1,
+                size: 4096,
+            },
+            Need::Make { len: 16_384 },
+        ),
+        (
+            &["format", "1024", "1073741824"],
+            Command::Format {
+                slots: 1024,
+                size: 1_073_741_824,
+            },
+            Need::Make {
+                len: 1_099_511_640_064,
+            },
+        ),
+        (
+            &["list"],
+            Command::List {
+                form: ListForm::Plain,
+            },
+            Need::Existing,
+        ),
+        (
+            &["list", "--as", "relp"],
+            Command::List {
+                form: ListForm::Text,
+            },
+            Need::Existing,
+        ),
+        (
+            &["list", "--as", "json"],
+            Command::List {
+                form: ListForm::JsonObject,
+            },
+            Need::Existing,
+        ),
+        (
+            &["list", "--as", "hec"],
+            Command::List {
+                form: ListForm::HecObject,
+            },
+            Need::Existing,
+        ),
+        (&["replay", "relp"], Command::ReplayRelp, Need::Existing),
+    ];
+    for (words, command, need) in rows {
+        let words = words_of(alloc, words)?;
+        assert_eq!(rt; Command::of(&words), Some(command));
+        assert_eq!(rt; need_of(alloc, &words)?, need);
+    }
+    Ok(())
+}
+
+// Words that are no command.
+#[test]
+fn no_commands(rt: HostRuntime) -> Result<(), Fail> {
+    let alloc = rt.alloc();
+    let rows: [&[&str]; 25] = [
+        &[],
+        &["format"],
+        &["format", "0", "4096"],
+        &["format", "1025", "4096"],
+        &["format", "1", "4095"],
+        &["format", "1", "1073741825"],
+        &["format", "1", "00000004096"],
+        &["format", "+1", "4096"],
+        &["format", "1", "-4096"],
+        &["format", "", "4096"],
+        &["format", "1", "4096", "x"],
+        &["format", "1", "0x1000"],
+        &["list", "--as"],
+        &["list", "relp"],
+        &["list", "--as", "lumberjack"],
+        &["list", "--as", ""],
+        &["list", "--as", "RELP"],
+        &["list", "--as=json"],
+        &["list", "--as", "hec", "x"],
+        &["--as", "hec", "list"],
+        &["List"],
+        &["replay"],
+        &["replay", "hec"],
+        &["relp", "replay"],
+        &["replay", "relp", "x"],
+    ];
+    for words in rows {
+        let words = words_of(alloc, words)?;
+        assert_eq!(rt; Command::of(&words), None);
+        assert_eq!(rt; need_of(alloc, &words)?, Need::NoCommand);
+    }
+    Ok(())
+}
+
+#[test]
+fn texts(rt: HostRuntime) -> Result<(), Fail> {
+    let rows = [
+        (Note::Fine, 0, ""),
+        (
+            Note::Usage,
+            64,
+            "usage: bridge FILE format|replay|list|drain|serve|load",
+        ),
+        (Note::NotSpool { at: 4096 }, 65, "not a spool at 4096"),
+        (
+            Note::WrongLength {
+                have: 100,
+                want: 20_480,
+            },
+            65,
+            "device has 100 bytes, 20480 wanted",
+        ),
+        (
+            Note::Full {
+                need: 2038,
+                room: 2037,
+            },
+            67,
+            "spool full: 2038 needed, 2037 free",
+        ),
+        (
+            Note::TooLarge {
+                need: 4079,
+                most: 4078,
+            },
+            67,
+            "group too large: 4079 needed, 4078 at most",
+        ),
+        (Note::NoMemory, 70, "no memory"),
+        (Note::ReadFault, 71, "read fault"),
+        (Note::WriteFault, 72, "write fault"),
+        (Note::DiskFault, 73, "disk fault"),
+        (
+            Note::RunsSpent { run: 2_097_151 },
+            76,
+            "run 2097151 was the last",
+        ),
+        (
+            Note::Spent {
+                end: 9_223_372_036_854_775_808,
+            },
+            77,
+            "history spent at 9223372036854775808",
+        ),
+        (
+            Note::Worn {
+                ordinal: 9_223_372_036_854_775_808,
+            },
+            77,
+            "register spent at 9223372036854775808",
+        ),
+        (
+            Note::Fault {
+                at: 75,
+                why: Why::TooLong,
+            },
+            66,
+            "fault at 75: too long",
+        ),
+        (
+            Note::Fault {
+                at: 0,
+                why: Why::AckFromWriter,
+            },
+            66,
+            "fault at 0: ack from writer",
+        ),
+        (Note::Busy { held: 10_000 }, 67, "id table full: 10000 held"),
+        (
+            Note::Truncated { at: 61 },
+            75,
+            "input ended in a frame at 61",
+        ),
+        (Note::NoMore { run: 1 }, 77, "ids of run 1 spent"),
+        (
+            Note::TooMuch {
+                at: 1_099_511_627_776,
+            },
+            77,
+            "connection spent at 1099511627776",
+        ),
+    ];
+    for (note, status, text) in rows {
+        assert_eq!(rt; note.status(), status);
+        assert_eq!(rt; note_text(rt.alloc(), &note)?.bytes(), text.as_bytes());
+    }
+    Ok(())
+}
+
+#[test]
+fn lines(rt: HostRuntime) -> Result<(), Fail> {
+    let alloc = rt.alloc();
+    assert_eq!(rt;
+        spool_line(alloc, 2, 4096)?.as_str(),
+        "2 slots of 4096 bytes\n"
+    );
+    let rows = [
+        (Origin::Relp, "7 4294967296 1 2 relp 5\n"),
+        (Origin::LumberData, "7 4294967296 1 2 pairs 5\n"),
+        (Origin::LumberJson, "7 4294967296 1 2 json 5\n"),
+        (Origin::HecEvent, "7 4294967296 1 2 event 5\n"),
+        (Origin::HecRaw, "7 4294967296 1 2 raw 5\n"),
+    ];
+    for (origin, line) in rows {
+        let entry = Entry {
+            conn: 4_294_967_296,
+            index: 1,
+            unit: 2,
+            event: Event {
+                origin,
+                text: Blob::of(Vec::from_slice(alloc, b"hello")?),
+            },
+        };
+        assert_eq!(rt; entry_line(alloc, 7, &entry)?.as_str(), line);
+    }
+    Ok(())
+}

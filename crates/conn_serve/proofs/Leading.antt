@@ -1,0 +1,32 @@
+-- What was done goes on, from one moment to the next.
+use Rattle.std.proofs.Common.{◌≡◌, ℕ, List, [], ◌++◌, Option, sym, subst, arith, append_assoc}
+use Rattle.std.proofs.lemmas.List.{append-nil}
+use Rattle.edge_io.proofs.Known.{appends_none, appends_then}
+use Rattle.desk_access.specs.Call.{Call}
+use Rattle.conn_serve.specs.Step.{count}
+use Rattle.conn_serve.specs.Done.{Done, Leads}
+use Rattle.conn_serve.proofs.Counting.{count_then}
+
+-- where nothing was done, what was so is so
+pub leads_start : (n : ℕ) (From : List ℕ → List Call → List ℕ → Type 0) → Leads n From From [] []
+leads_start n From fed called said is from =
+    subst (λ (l : List Call). From fed l (said ++ [])) (sym (append-nil called)) (subst (λ (l : List ℕ). From fed called l) (sym (append-nil said)) from)
+
+pub done_start : (ran : List Call → Type 0) (w : Option (List ℕ)) (n : ℕ) (From : List ℕ → List Call → List ℕ → Type 0) → ran [] → Done ran w w n n (Leads n From From)
+done_start ran w n From none = record { calls = []; text = []; made = none; wrote = appends_none w; counted = omega arith; is = leads_start n From }
+
+pub done_then : (first second both : List Call → Type 0) (u v w : Option (List ℕ)) (l m n : ℕ) (From Between To : List ℕ → List Call → List ℕ → Type 0)
+    → ((xs ys : List Call) → first xs → second ys → both (xs ++ ys)) → Done first u v l m (Leads l From Between) → Done second v w m n (Leads m Between To) → Done both u w l n (Leads l From To)
+done_then first second both u v w l m n From Between To join p q = record {
+  calls = p.calls ++ q.calls;
+  text = p.text ++ q.text;
+  made = join p.calls q.calls p.made q.made;
+  wrote = appends_then u v w p.text q.text p.wrote q.wrote;
+  counted = omega (arith, p.counted, q.counted, count_then p.calls q.calls);
+  is = λ fed called said is from.
+      let between = p.is fed called said is from in
+      let counted : m ≡ count (called ++ p.calls) = omega (arith, is, p.counted, count_then called p.calls) in
+      let to = q.is fed (called ++ p.calls) (said ++ p.text) counted between in
+      subst (λ (calls : List Call). To fed calls (said ++ (p.text ++ q.text))) (append_assoc called p.calls q.calls)
+      (subst (λ (text : List ℕ). To fed ((called ++ p.calls) ++ q.calls) text) (append_assoc said p.text q.text) to);
+}

@@ -1,0 +1,30 @@
+-- What a connection has done from its first byte to its ending.
+use Rattle.std.specs.Prelude.{◌≡◌, ℕ, List, Option}
+use Rattle.std.specs.Io.KnownBytes.{Appends, Consumes}
+use Rattle.event_form.specs.declared.talk.Talk.{Talk}
+use Rattle.event_form.specs.declared.talk.Attended.{Attended}
+use Rattle.edge_io.specs.declared.proto.Proto.{Proto}
+use Rattle.edge_io.specs.declared.proto.Proto.TheVariants.{Relp, Lumberjack, Hec}
+use Rattle.desk_access.specs.Call.{Call}
+use Rattle.conn_serve.specs.Step.{count}
+use Rattle.conn_serve.specs.Protocol.{Carried}
+use Rattle.conn_serve.specs.Relp.{relp}
+
+-- What was carried, by the protocol of the rules. Lumberjack and HEC are not served yet.
+abbrev pub CarriedBy : Proto → ℕ → List ℕ → List Call → List ℕ → Talk → Type 0
+CarriedBy Relp conn b calls text talk = Carried (relp conn) b calls text talk
+CarriedBy Lumberjack conn b calls text talk = ⊥
+CarriedBy Hec conn b calls text talk = ⊥
+
+-- Some bytes were read, calls made on the desk and a text written, and of these this was carried. The
+-- entries that were taken are counted.
+pub record Serves (Is : List ℕ → List Call → List ℕ → Talk → Type 0) (given given' left left' written written' : Option (List ℕ)) (ran : List Call → Type 0) (attended : Attended) : Type 0 where
+  pub bytes : List ℕ
+  pub calls : List Call
+  pub text : List ℕ
+  pub read : Appends given given' bytes
+  pub consumed : Consumes left left' bytes
+  pub wrote : Appends written written' text
+  pub made : ran calls
+  pub counted : attended.taken ≡ count calls
+  pub carried : Is bytes calls text attended.talk

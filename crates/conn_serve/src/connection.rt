@@ -1,0 +1,44 @@
+//! A connection's entries.
+ghost use Rattle.std.specs.Prelude.{◌≡◌, ◌+◌, ◌<◌, ◌^◌, OnOk, OnErr};
+ghost use Rattle.event_form.specs.Event.{IsEvent};
+ghost use Rattle.conn_serve.specs.Relp.{one_take};
+
+use desk_access::Access;
+use event_form::{Entry, Event};
+use spool_log::{Receipt, TakeFault};
+
+/// A connection, as the entries of the spool know it.
+#[derive(Clone, Copy)]
+pub struct Connection {
+    /// Its number.
+    pub number: u64,
+    /// How many entries were taken from it.
+    pub taken: u64,
+}
+
+/// Takes one event into the spool, as the connection's next entry. The unit is the number in which its
+/// sender counts. The answers are those of the desk's `take`.
+pub fn take_event<A: Access>(
+    access: &mut A,
+    connection: &mut Connection,
+    unit: u64,
+    event: Event,
+) -> Result<Receipt, TakeFault>
+    requires event { IsEvent event }
+    requires early { connection.old.taken < 2 ^ 63 }
+    requires may { A.may_take access.old connection.old.number connection.old.taken }
+
+    ensures ran { A.ran access.old (one_take connection.old.number connection.old.taken unit event result) access.new }
+    ensures next { OnOk result (connection.new ≡ record connection.old { taken = connection.old.taken + 1 }) }
+    ensures stays { OnErr result (connection.new ≡ connection.old) }
+{
+    let entry = Entry {
+        conn: connection.number,
+        index: connection.taken,
+        unit,
+        event,
+    };
+    let receipt = access.take(&[entry])?;
+    connection.taken += 1;
+    Ok(receipt)
+}

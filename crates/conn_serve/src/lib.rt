@@ -1,0 +1,23 @@
+//! Serves one connection of a sender, from its first byte to its ending: reads it, stores the events that
+//! its protocol brings, answers them once they are durable, and says how the connection ended. The
+//! protocols' frames are those of their standards; today RELP is served.
+//!
+//! The one contract is `Carried`: the bytes read are frames, none skipped, and a tail; the calls on the
+//! desk and the bytes written are those that the protocol's table gives for these frames, in order, and
+//! then what belongs to the ending.
+#![tactic(auto)]
+
+mod connection;
+mod laws;
+mod relp;
+mod relp_act;
+mod rules;
+mod serve;
+mod session;
+#[cfg(test)]
+mod tests;
+mod text;
+
+pub use laws::acked_is_taken;
+pub use rules::Rules;
+pub use serve::attend;

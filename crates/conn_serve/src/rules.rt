@@ -1,0 +1,13 @@
+//! The rules of a connection.
+use edge_io::Proto;
+
+/// By which rules a connection is served.
+#[derive(Clone, Copy, Debug, PartialEq, Eq)]
+pub struct Rules {
+    /// The protocol that its sender speaks.
+    pub proto: Proto,
+    /// The token of the HTTP Event Collector whose requests are answered once they are durable.
+    pub token: Option<u128>,
+    /// The token whose requests are answered with an id, which the sender asks about.
+    pub ack_token: Option<u128>,
+}

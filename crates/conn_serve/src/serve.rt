@@ -1,0 +1,146 @@
+//! Serving one connection.
+ghost use Rattle.std.specs.Prelude.{◌≡◌, ◌⊎◌, ◌+◌, ◌<◌, ◌≤◌, ◌^◌, ℕ, List, [], ◌++◌, length, IfOk, IfErr, OnErr, IsErrOf};
+ghost use Rattle.std.specs.Io.KnownBytes.{Appends, Consumes, IsAtEnd};
+ghost use Rattle.foundation.specs.Faults.{Rose};
+ghost use Rattle.desk_access.specs.Call.{Call};
+ghost use Rattle.conn_serve.specs.Step.{count};
+ghost use Rattle.conn_serve.specs.Endings.{MayEnd, IsAtEndOfInput};
+ghost use Rattle.conn_serve.specs.Serves.{CarriedBy, Serves};
+
+use crate::connection::Connection;
+use crate::relp::RelpSession;
+use crate::rules::Rules;
+use crate::session::Session;
+use desk_access::Access;
+use edge_io::{Link, Proto};
+use event_form::{Attended, Talk};
+use std::alloc::Global;
+
+/// How many bytes a connection may have.
+const LIMIT: u64 = 1 << 40;
+
+/// How many bytes a read asks for at most.
+const PIECE: usize = 8192;
+
+// Reads once, at most `room` bytes, and feeds the session what came. Answers how many bytes it was; 0 is
+// the end of the input. The error is the ending: `ReadFault` or `NoMemory`.
+fn read_piece<L: Link, S: Session>(
+    link: &mut L,
+    session: &mut S,
+    room: usize,
+) -> Result<usize, Talk>
+    requires some { 0 < room }
+    requires few { room ≤ 8192 }
+    requires fits { S.extent session.old + room ≤ 2 ^ 40 }
+
+    ensures room { IfOk result (λ len. len ≤ room) }
+    ensures fed { IfOk result (λ len. (piece : List ℕ) × (length piece ≡ len) × Appends (L.given link.old) (L.given link.new) piece × Consumes (L.left link.old) (L.left link.new) piece
+        × ((number : ℕ) (fed : List ℕ) (calls : List Call) (text : List ℕ) → S.served number session.old fed calls text → S.served number session.new (fed ++ piece) calls text × (count calls + S.waiting session.new ≤ length fed + len))) }
+    ensures extent { IfOk result (λ len. S.extent session.new ≤ S.extent session.old + len) }
+    ensures end { IfOk result (λ len. len ≡ 0 → IsAtEnd (L.left link.new)) }
+    ensures unread { IsErrOf result Talk.ReadFault → Appends (L.given link.old) (L.given link.new) [] × Consumes (L.left link.old) (L.left link.new) [] × Rose 1 (L.read_faults link.old) (L.read_faults link.new) }
+    ensures starved { IsErrOf result Talk.NoMemory → (piece : List ℕ) × Appends (L.given link.old) (L.given link.new) piece × Consumes (L.left link.old) (L.left link.new) piece }
+    ensures only { IfErr result (λ talk. (talk ≡ Talk.ReadFault) ⊎ (talk ≡ Talk.NoMemory)) }
+    ensures same_session { OnErr result (session.new ≡ session.old) }
+    ensures later { L.read_faults link.old ≤ L.read_faults link.new }
+    ensures same { L.same link.old link.new }
+    ensures apart { L.read_apart link.old link.new }
+{
+    let mut buf = [0; PIECE];
+    let len = match link.read(&mut buf[..room]) {
+        Ok(len) => len,
+        Err(_) => return Err(Talk::ReadFault),
+    };
+    match session.feed(&buf[..len]) {
+        Ok(()) => Ok(len),
+        Err(_) => Err(Talk::NoMemory),
+    }
+}
+
+// Serves the connection to its end. The order in which endings are judged stands here: what a frame
+// that waits asks for, then the fault of the bytes, the end of the input, a read that fails, and the
+// most bytes that a connection may have.
+fn run<L: Link, A: Access, S: Session>(
+    alloc: Global,
+    link: &mut L,
+    access: &mut A,
+    connection: &mut Connection,
+    session: &mut S,
+) -> Talk
+    requires start { S.served connection.old.number session.old [] [] [] }
+    requires unfed { S.extent session.old ≡ 0 }
+    requires may_end { MayEnd (S.served connection.old.number session.old) (S.carried connection.old.number) }
+    requires first { connection.old.taken ≡ 0 }
+    requires may { A.may_take access.old connection.old.number 0 }
+
+    ensures serves { Serves (S.carried connection.old.number) (L.given link.old) (L.given link.new) (L.left link.old) (L.left link.new) (L.taken link.old) (L.taken link.new) (λ calls. A.ran access.old calls access.new) (record { talk = result; taken = connection.new.taken }) }
+    ensures read_cause { result ≡ Talk.ReadFault → Rose 1 (L.read_faults link.old) (L.read_faults link.new) }
+    ensures write_cause { result ≡ Talk.WriteFault → Rose 1 (L.write_faults link.old) (L.write_faults link.new) }
+    ensures later_reads { L.read_faults link.old ≤ L.read_faults link.new }
+    ensures later_writes { L.write_faults link.old ≤ L.write_faults link.new }
+    ensures same { L.same link.old link.new }
+    ensures end { IsAtEndOfInput result → IsAtEnd (L.left link.new) }
+{
+    let mut total = 0;
+    while total < LIMIT {
+        let room = (LIMIT - total).min(PIECE as u64) as usize;
+        let len = match read_piece(link, session, room) {
+            Ok(len) => len,
+            Err(talk) => return talk,
+        };
+        total += len as u64;
+        if let Err(talk) = session.serve(alloc, link, access, connection) {
+            return talk;
+        }
+        if let Some(talk) = session.fault() {
+            return talk;
+        }
+        if len == 0 {
+            return session.end();
+        }
+    }
+    Talk::TooMuch { at: LIMIT }
+}
+
+/// Serves one connection to its end, by the protocol of the rules. It reads pieces of at most 8,192 bytes
+/// and does what the protocol's table says for each whole frame, one after another: of RELP, as rsyslog's
+/// RELP specification, version 0, has it, a `syslog` is taken into the spool as one group of one entry,
+/// and answered once it is durable. `conn` is the connection's number in the spool; its entries are
+/// counted from 0, and the unit of an entry is its frame's transaction number. Each text is written as
+/// one piece.
+///
+/// Endings, in the order in which they are judged: what the first whole frame asks for that isn't carried
+/// whole (`WriteFault`; `Full`, `TooLarge` and `Spent`, with the hint written and no answer; `DiskFault`,
+/// `NotSpool` and `NoMemory`, with nothing written; a `close`, which is answered, with the hint: `Closed`,
+/// and bytes behind it are dropped); the fault of the bytes; the end of the input, `Ended` at a frame's end
+/// and else `Truncated`; a read that fails; and `TooMuch` once 2^40 bytes were read. `ReadFault` and
+/// `WriteFault` come only where the link's count rose. `NoMemory` may come at any frame and any read.
+pub fn attend<L: Link, A: Access>(
+    alloc: Global,
+    link: &mut L,
+    rules: &Rules,
+    access: &mut A,
+    conn: u64,
+) -> Attended
+    requires relp { rules.now.proto ≡ Proto.Relp }
+    requires may { A.may_take access.old conn 0 }
+
+    ensures carried { Serves (CarriedBy rules.now.proto conn) (L.given link.old) (L.given link.new) (L.left link.old) (L.left link.new) (L.taken link.old) (L.taken link.new) (λ calls. A.ran access.old calls access.new) result }
+    ensures read_cause { result.talk ≡ Talk.ReadFault → Rose 1 (L.read_faults link.old) (L.read_faults link.new) }
+    ensures write_cause { result.talk ≡ Talk.WriteFault → Rose 1 (L.write_faults link.old) (L.write_faults link.new) }
+    ensures later_reads { L.read_faults link.old ≤ L.read_faults link.new }
+    ensures later_writes { L.write_faults link.old ≤ L.write_faults link.new }
+    ensures same { L.same link.old link.new }
+    ensures end { IsAtEndOfInput result.talk → IsAtEnd (L.left link.new) }
+{
+    let mut connection = Connection {
+        number: conn,
+        taken: 0,
+    };
+    let mut session = RelpSession::new(alloc);
+    let talk = run(alloc, link, access, &mut connection, &mut session);
+    Attended {
+        talk,
+        taken: connection.taken,
+    }
+}

@@ -1,0 +1,107 @@
+-- What calls leave of the list of entries.
+use Rattle.std.specs.Prelude.{◌≡◌, ◌⊎◌, ℕ, ◌+◌, ◌-◌, ◌<◌, ◌≤◌, List, [], ◌∷◌, ◌++◌, length, take, drop, All, Result, Ok, Err}
+use Rattle.event_form.specs.declared.event.Entry.{Entry}
+use Rattle.spool_state.specs.SpoolState.{SpoolState, list, base, end, entry_at, Follows, IsSound}
+use Rattle.spool_state.specs.Image.{StandsFor}
+use Rattle.spool_log.specs.declared.fault.Receipt.{Receipt}
+use Rattle.spool_log.specs.declared.fault.TakeFault.{TakeFault}
+use Rattle.spool_log.specs.declared.fault.TakeFault.TheVariants.{TooLarge, Spent, Full, NotSpool, NoMemory, DiskFault}
+use Rattle.spool_log.specs.Stages.{IsOneOf}
+use Rattle.desk_access.specs.Call.{Call, takes, pends, confirms, Record}
+use Rattle.desk_access.specs.Desk.{DeskState}
+
+-- a later state of the same device in the same run
+pub record IsLater (s later : SpoolState) : Type 0 where
+  pub sound : IsSound later
+  pub follows : Follows s later
+  pub slots : later.slots ≡ s.slots
+  pub size : later.size ≡ s.size
+  pub run : later.run ≡ s.run
+
+-- the rules of a desk's state
+pub record IsDesk (x : DeskState) : Type 0 where
+  pub sound : IsSound x.spool
+  pub later : All (IsLater x.spool) x.doubt
+
+-- The later list is the earlier one with these entries behind it, but for first ones that are gone.
+pub record Grown (s : SpoolState) (more : List Entry) (later : SpoolState) : Type 0 where
+  pub base_rises : base s ≤ base later
+  pub within : base later ≤ end s + length more
+  pub list_is : list later ≡ drop (base later - base s) (list s ++ more)
+
+-- what an answered take adds: its group, or nothing, and after a fault of the disk one of both
+abbrev pub TakeAdds : List Entry → Result Receipt TakeFault → List Entry → Type 0
+TakeAdds group (Ok receipt) more = more ≡ group
+TakeAdds group (Err (TooLarge need most)) more = more ≡ []
+TakeAdds group (Err (Spent at)) more = more ≡ []
+TakeAdds group (Err (Full need room)) more = more ≡ []
+TakeAdds group (Err (NotSpool at)) more = more ≡ []
+TakeAdds group (Err NoMemory) more = more ≡ []
+TakeAdds group (Err DiskFault) more = (more ≡ []) ⊎ (more ≡ group)
+
+abbrev pub Adds : Call → List Entry → Type 0
+Adds (takes group result) more = TakeAdds group result more
+Adds (pends from most result) more = more ≡ []
+Adds (confirms upto result) more = more ≡ []
+
+-- These are the entries that the calls added, in order: the groups of all takes that were answered Ok, each whole,
+-- and of those that were answered DiskFault each whole or not at all.
+abbrev pub AddsAll : List Record → List Entry → Type 0
+AddsAll [] more = more ≡ []
+AddsAll (one ∷ records) more =
+    (here : List Entry) × (rest : List Entry) × Adds one.call here × AddsAll records rest × (more ≡ here ++ rest)
+
+-- The calls of the records led from the desk to this state: mending reached one of its states, and the list grew by what the calls added.
+pub record Grows (x : DeskState) (records : List Record) (later : SpoolState) : Type 0 where
+  pub mended : SpoolState
+  pub one : IsOneOf x.spool x.doubt mended
+  pub more : List Entry
+  pub adds : AddsAll records more
+  pub grown : Grown mended more later
+
+-- the entry of that number is confirmed, or it stands there
+abbrev pub IsKept : SpoolState → ℕ → List Entry → Type 0
+IsKept s number entry = (number < s.cursor) ⊎ (entry_at s number ≡ entry)
+
+-- the whole group, with numbers from the first on
+abbrev pub AreKept : SpoolState → ℕ → List Entry → Type 0
+AreKept s first group = (k : ℕ) → k < length group → IsKept s (first + k) (take 1 (drop k group))
+
+-- a call's group is kept, where it was taken
+abbrev pub IsCallKept : SpoolState → Call → Type 0
+IsCallKept s (takes group (Ok receipt)) = AreKept s receipt.first group
+IsCallKept s (takes group (Err fault)) = Unit {0}
+IsCallKept s (pends from most result) = Unit {0}
+IsCallKept s (confirms upto result) = Unit {0}
+
+-- each group that was taken
+abbrev pub AllKept : SpoolState → List Call → Type 0
+AllKept s [] = Unit {0}
+AllKept s (call ∷ calls) = IsCallKept s call × AllKept s calls
+
+-- the group that a call asked to take
+abbrev pub asked_by : Call → List Entry
+asked_by (takes group result) = group
+asked_by (pends from most result) = []
+asked_by (confirms upto result) = []
+
+abbrev pub asked_first : List Record → List Entry
+asked_first [] = []
+asked_first (one ∷ records) = asked_by one.call
+
+-- At a moment of the calls these bytes stood for a later state. Its list grew by what the first of the calls had added,
+-- and perhaps by the group of the call that came next, whole.
+pub record Was (x : DeskState) (records : List Record) (c : List ℕ) : Type 0 where
+  pub state : SpoolState
+  pub stands : StandsFor state c
+  pub later : IsLater x.spool state
+  pub first : List Record
+  pub rest : List Record
+  pub parts : records ≡ first ++ rest
+  pub mended : SpoolState
+  pub one : IsOneOf x.spool x.doubt mended
+  pub more : List Entry
+  pub adds : AddsAll first more
+  pub next : List Entry
+  pub whole : (next ≡ []) ⊎ (next ≡ asked_first rest)
+  pub grown : Grown mended (more ++ next) state

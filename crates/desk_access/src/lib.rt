@@ -1,0 +1,19 @@
+//! The desk: the spool as its callers see it, and the calls that a caller makes there.
+//!
+//! A call with its answer is a `Call` of `specs`, and the calls of all callers, one after another, are a
+//! journal. `Goes` says which journals lead from one state of the desk to another; `Stood` what a crash
+//! leaves meanwhile. Code that takes and confirms entries is generic over [`Access`]: its contract says
+//! which calls it made, as `ran` from the value at its start to the value at its end. [`Alone`] is the
+//! desk of a program with one thread.
+#![tactic(auto)]
+
+mod access;
+mod alone;
+mod desk;
+
+pub use access::Access;
+pub use alone::Alone;
+pub use desk::Desk;
+
+#[cfg(test)]
+mod tests;

@@ -1,0 +1,13 @@
+pub mod TextLaws
+pub mod JoinedLaws
+pub mod TurnLaws
+pub mod BackLaws
+pub mod FrameLaws
+pub mod BeforeLaws
+pub mod RunLaws
+pub mod BytesLaws
+pub mod ScanLaws
+pub mod FeedLaws
+pub mod ReadingLaws
+pub mod WriteLaws
+pub mod CountLaws

@@ -1,0 +1,5 @@
+use Rattle.lumber_frame.proofs.ReadingLaws as laws
+use Rattle.lumber_frame.proofs.laws.one_reading.Goals as goal
+
+pub returns : goal.returns
+returns c = laws.one_reading

@@ -1,0 +1,5 @@
+pub mod ListLaws
+pub mod WindowLaws
+pub mod CutLaws
+pub mod CountLaws
+pub mod ActLaws

@@ -1,0 +1,5 @@
+pub mod Staged
+pub mod Windows
+pub mod Batches
+pub mod Counting
+pub mod Acts

@@ -1,0 +1,82 @@
+use Rattle.std.proofs.Common.{ℕ, List, sym, subst}
+use Rattle.std.specs.Prelude.{Result, IfErr}
+use Rattle.spool_state.specs.SpoolState.{SpoolState}
+use Rattle.spool_state.specs.Image.{StandsFor}
+use Rattle.edge_disk.proofs.Moments.{still_settled, untouched_then}
+use Rattle.spool_log.specs.declared.fault.RecoverFault.{RecoverFault}
+use Rattle.spool_log.specs.declared.opening.Opening.TheVariants.{Raise}
+use Rattle.spool_log.specs.declared.known.Known.{Known}
+use Rattle.spool_log.specs.Fault.{as_recover}
+use Rattle.spool_log.specs.Knows.{IsStored}
+use Rattle.spool_log.specs.Opening.{Refuses, IsRefusedAs}
+use Rattle.spool_log.proofs.Mending.{err_is}
+use Rattle.spool_log.proofs.Recovering.{open_read, open_raised_as, read_broken, read_refused, refused_as, found_as, same_stored, refused_unbroken}
+use Rattle.spool_log.proofs.recover.open.Goals as goal
+
+pub returns-in_err-known-clause-refused : goal.returns-in_err-known-clause-refused
+returns-in_err-known-clause-refused g c =
+    subst (λ (r : Result Known RecoverFault). IfErr r (λ fault. (s : SpoolState) → g.D.Disk.tells → StandsFor s (g.D.Disk.moment c.args.disk.now).reads → Refuses c.args.opening s fault)) (sym (err_is _ _ c.from_residual-in_err-known.ensures.1))
+    (λ s tells stands. read_refused c.args.opening s _ c.in_err-known.field-0.0 (c.in_err-known.ensures.broken tells) (subst (StandsFor s) (sym (c.sync.ensures.told tells).same) stands))
+
+pub returns-in_err-known-clause-broken : goal.returns-in_err-known-clause-broken
+returns-in_err-known-clause-broken g c =
+    subst (λ (r : Result Known RecoverFault). IfErr r (λ fault. g.D.Disk.tells → IsRefusedAs c.args.opening (g.D.Disk.moment c.args.disk.now).reads fault)) (sym (err_is _ _ c.from_residual-in_err-known.ensures.1))
+    (λ tells. subst (λ (d : List ℕ). IsRefusedAs c.args.opening d (as_recover c.in_err-known.field-0.0)) (c.sync.ensures.told tells).same (read_broken c.args.opening _ c.in_err-known.field-0.0 (c.in_err-known.ensures.broken tells)))
+
+pub raise-requires-clause-settled : goal.raise-requires-clause-settled
+raise-requires-clause-settled g c = λ tells. still_settled _ _ (c.in_ok-sync.ensures.durable tells) (c.read_known.ensures.told tells)
+
+pub raise-requires-clause-stored : goal.raise-requires-clause-stored
+raise-requires-clause-stored g c = λ tells.
+    let state = c.in_ok-known.ensures.found tells in
+    ∣ (state.0, subst (IsStored state.0 c.in_ok-known.known) (sym (c.read_known.ensures.told tells).same) state.1) ∣₁
+
+pub returns-in_err-raise-in-Raise-clause-refused : goal.returns-in_err-raise-in-Raise-clause-refused
+returns-in_err-raise-in-Raise-clause-refused g c =
+    subst (λ (r : Result Known RecoverFault). IfErr r (λ fault. (s : SpoolState) → g.D.Disk.tells → StandsFor s (g.D.Disk.moment c.args.disk.now).reads → Refuses c.args.opening s fault)) (sym (err_is _ _ c.from_residual-in_err-raise-in-Raise.ensures.1))
+    (λ s tells stands.
+    let here = subst (StandsFor s) (sym (c.sync.ensures.told tells).same) stands in
+    let stored = subst (IsStored s c.in_ok-known.known) (sym (c.read_known.ensures.told tells).same) (same_stored s c.in_ok-known.known _ (c.in_ok-known.ensures.found tells) here) in
+    refused_as c.args.opening c.in-Raise.is s c.in_err-raise-in-Raise.field-0.0 (c.in_err-raise-in-Raise.ensures.refused s tells stored))
+
+pub returns-in_err-raise-in-Raise-clause-broken : goal.returns-in_err-raise-in-Raise-clause-broken
+returns-in_err-raise-in-Raise-clause-broken g c =
+    subst (λ (r : Result Known RecoverFault). IfErr r (λ fault. g.D.Disk.tells → IsRefusedAs c.args.opening (g.D.Disk.moment c.args.disk.now).reads fault)) (sym (err_is _ _ c.from_residual-in_err-raise-in-Raise.ensures.1))
+    (λ tells.
+    let state = c.in_ok-known.ensures.found tells in
+    let stored = subst (IsStored state.0 c.in_ok-known.known) (sym (c.read_known.ensures.told tells).same) state.1 in
+    let stands = subst (StandsFor state.0) (c.sync.ensures.told tells).same state.1.stands in
+    refused_unbroken c.args.opening state.0 _ c.in_err-raise-in-Raise.field-0.0 stands (refused_as c.args.opening c.in-Raise.is state.0 c.in_err-raise-in-Raise.field-0.0 (c.in_err-raise-in-Raise.ensures.refused state.0 tells stored)))
+
+pub returns-in_err-raise-in-Raise-clause-any_moment : goal.returns-in_err-raise-in-Raise-clause-any_moment
+returns-in_err-raise-in-Raise-clause-any_moment g c = λ tells.
+    let state = c.in_ok-known.ensures.found tells in
+    let stored = subst (IsStored state.0 c.in_ok-known.known) (sym (c.read_known.ensures.told tells).same) state.1 in
+    let lawful = g.met.D.Disk.lawful c.args.disk.now tells in
+    let read = untouched_then _ _ _ lawful (c.sync.ensures.told tells) (c.read_known.ensures.told tells) in
+    let stands = subst (StandsFor state.0) (c.sync.ensures.told tells).same state.1.stands in
+    open_raised_as c.args.opening c.in-Raise.is state.0 _ _ _ lawful read stands (c.raise.ensures.any_moment state.0 tells stored)
+
+pub returns-in-Keep-clause-durable : goal.returns-in-Keep-clause-durable
+returns-in-Keep-clause-durable g c = λ tells. still_settled _ _ (c.in_ok-sync.ensures.durable tells) (c.read_known.ensures.told tells)
+
+pub returns-in-Keep-clause-any_moment : goal.returns-in-Keep-clause-any_moment
+returns-in-Keep-clause-any_moment g c = λ tells.
+    let lawful = g.met.D.Disk.lawful c.args.disk.now tells in
+    open_read c.args.opening _ _ lawful (untouched_then _ _ _ lawful (c.sync.ensures.told tells) (c.read_known.ensures.told tells))
+
+pub returns-in_ok-raise-in-Raise-clause-any_moment : goal.returns-in_ok-raise-in-Raise-clause-any_moment
+returns-in_ok-raise-in-Raise-clause-any_moment g c = λ tells.
+    let state = c.in_ok-known.ensures.found tells in
+    let stored = subst (IsStored state.0 c.in_ok-known.known) (sym (c.read_known.ensures.told tells).same) state.1 in
+    let lawful = g.met.D.Disk.lawful c.args.disk.now tells in
+    let read = untouched_then _ _ _ lawful (c.sync.ensures.told tells) (c.read_known.ensures.told tells) in
+    let stands = subst (StandsFor state.0) (c.sync.ensures.told tells).same state.1.stands in
+    open_raised_as c.args.opening c.in-Raise.is state.0 _ _ _ lawful read stands (c.raise.ensures.any_moment state.0 tells stored)
+
+pub returns-in_ok-raise-in-Raise-clause-found : goal.returns-in_ok-raise-in-Raise-clause-found
+returns-in_ok-raise-in-Raise-clause-found g c = λ tells.
+    let state = c.in_ok-known.ensures.found tells in
+    let stored = subst (IsStored state.0 c.in_ok-known.known) (sym (c.read_known.ensures.told tells).same) state.1 in
+    let stands = subst (StandsFor state.0) (c.sync.ensures.told tells).same state.1.stands in
+    found_as c.args.opening c.in-Raise.is state.0 _ _ _ stands (c.in_ok-raise-in-Raise.ensures.stored state.0 tells stored)

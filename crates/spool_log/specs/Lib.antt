@@ -1,0 +1,16 @@
+pub mod Device
+pub mod Fault
+pub mod Knows
+pub mod Judging
+pub mod Reading
+pub mod Header
+pub mod Free
+pub mod Stages
+pub mod State
+pub mod Next
+pub mod Target
+pub mod Format
+pub mod Take
+pub mod Confirm
+pub mod Outcome
+pub mod Opening

@@ -1,0 +1,82 @@
+-- What a take of a group answers, and what comes of it.
+use Rattle.std.specs.Prelude.{◌≡◌, ◌+◌, ◌-◌, ◌^◌, ◌<◌, ◌≤◌, List, [], length, Result, Ok, Err}
+use Rattle.event_form.specs.declared.event.Entry.{Entry}
+use Rattle.spool_state.specs.Segment.{need_of}
+use Rattle.spool_state.specs.SpoolState.{SpoolState, end, room, most_room, Follows}
+use Rattle.edge_disk.specs.Disk.{LeavesOnly}
+use Rattle.spool_log.specs.declared.fault.Receipt.{Receipt}
+use Rattle.spool_log.specs.declared.fault.TakeFault.{TakeFault}
+use Rattle.spool_log.specs.declared.fault.TakeFault.TheVariants.{TooLarge, Spent, Full, NotSpool, NoMemory, DiskFault}
+use Rattle.spool_log.specs.declared.known.Known.{Known}
+use Rattle.spool_log.specs.Stages.{last_of, adding, StandsForOne}
+use Rattle.spool_log.specs.State.{View, IsIn}
+
+-- nothing but the disk stands in the way of the group
+pub record Fits (s : SpoolState) (group : List Entry) : Type 0 where
+  pub small : need_of group ≤ most_room s
+  pub numbers : end s + length group ≤ 2 ^ 63
+  pub place : 0 < length (adding s group)
+
+-- This is the answer in that state: the reasons to refuse a group in the order of the table.
+abbrev pub Takes : SpoolState → List Entry → Result Receipt TakeFault → Type 0
+Takes s group (Ok receipt) = Fits s group × (receipt.first ≡ end s) × (receipt.count ≡ length group)
+Takes s group (Err (TooLarge need most)) = (need ≡ need_of group) × (most ≡ most_room s) × (most < need)
+Takes s group (Err (Spent at)) = (need_of group ≤ most_room s) × (at ≡ end s) × (2 ^ 63 < at + length group)
+Takes s group (Err (Full need free)) =
+    (need_of group ≤ most_room s) × (end s + length group ≤ 2 ^ 63) × (need ≡ need_of group) × (free ≡ room s) × (free < need) × (adding s group ≡ [])
+Takes s group (Err (NotSpool at)) = ⊥
+Takes s group (Err NoMemory) = ⊥
+Takes s group (Err DiskFault) = Fits s group
+
+-- the state after it
+abbrev pub taken : SpoolState → List Entry → Result Receipt TakeFault → SpoolState
+taken s group (Ok receipt) = last_of s (adding s group)
+taken s group (Err fault) = s
+
+-- the doubt after it
+abbrev pub take_doubt : SpoolState → List Entry → Result Receipt TakeFault → List SpoolState
+take_doubt s group (Ok receipt) = []
+take_doubt s group (Err (TooLarge need most)) = []
+take_doubt s group (Err (Spent at)) = []
+take_doubt s group (Err (Full need free)) = []
+take_doubt s group (Err (NotSpool at)) = []
+take_doubt s group (Err NoMemory) = []
+take_doubt s group (Err DiskFault) = adding s group
+
+-- the group was refused: for want of room or of numbers
+abbrev pub IsRefusal : TakeFault → Type 0
+IsRefusal (TooLarge need most) = Unit {0}
+IsRefusal (Spent at) = Unit {0}
+IsRefusal (Full need free) = Unit {0}
+IsRefusal (NotSpool at) = ⊥
+IsRefusal NoMemory = ⊥
+IsRefusal DiskFault = ⊥
+
+-- A refusal by the numbers that memory has, also of a disk that doesn't tell what it reads.
+abbrev pub RefusedBy : Known → List Entry → TakeFault → Type 0
+RefusedBy known group (TooLarge need most) = (need ≡ need_of group) × (most ≡ known.size - 18) × (most < need)
+RefusedBy known group (Spent at) = (need_of group ≤ known.size - 18) × (at ≡ known.active.first + known.active.count) × (2 ^ 63 < at + length group)
+RefusedBy known group (Full need free) = (need_of group ≤ known.size - 18) × (need ≡ need_of group) × (free ≡ known.active.size - known.active.gate - 1) × (free < need)
+RefusedBy known group (NotSpool at) = Unit {0}
+RefusedBy known group NoMemory = Unit {0}
+RefusedBy known group DiskFault = Unit {0}
+
+-- or the disk failed
+abbrev pub IsAnswered : TakeFault → Type 0
+IsAnswered (TooLarge need most) = Unit {0}
+IsAnswered (Spent at) = Unit {0}
+IsAnswered (Full need free) = Unit {0}
+IsAnswered (NotSpool at) = ⊥
+IsAnswered NoMemory = ⊥
+IsAnswered DiskFault = Unit {0}
+
+-- What a take outside doubt leads to.
+pub record StoresTo (s : SpoolState) (group : List Entry) (result : Result Receipt TakeFault) (old new : View) : Type 0 where
+  pub follows : Follows s (taken s group result)
+  pub reached : IsIn (taken s group result) (take_doubt s group result) new
+  pub any_moment : LeavesOnly (StandsForOne s (adding s group)) old.moment new.moment
+
+-- no entries were taken: the receipt has the end, as memory knows it
+abbrev pub TakesNothing : Known → Result Receipt TakeFault → Type 0
+TakesNothing known (Ok receipt) = (receipt.first ≡ known.active.first + known.active.count) × (receipt.count ≡ 0)
+TakesNothing known (Err fault) = ⊥

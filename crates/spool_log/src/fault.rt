@@ -1,0 +1,204 @@
+//! What the calls of a spool answer.
+ghost use Rattle.std.specs.Prelude.{◌≡◌};
+ghost use Rattle.spool_log.specs.Fault.{as_pend, as_take, as_confirm, as_recover, of_set, of_part};
+
+use crate::ReadFault;
+use disk_cell::SetFault;
+use edge_disk::DiskFault;
+use spool_slots::ScanFault;
+use std::alloc::AllocError;
+use thiserror::Error;
+
+/// The numbers of the entries that were taken.
+#[derive(Clone, Copy, Debug, PartialEq, Eq)]
+pub struct Receipt {
+    /// The number of the first.
+    pub first: u64,
+    /// How many they are.
+    pub count: u64,
+}
+
+/// Why a group of entries was not taken. After all but `DiskFault` the spool has what it had.
+#[derive(Clone, Copy, Debug, PartialEq, Eq, Error)]
+pub enum TakeFault {
+    /// The group needs `need` bytes, and an empty slot has room for `most`, which is less.
+    #[error("the group needs {need} bytes, and a slot has room for {most}")]
+    TooLarge { need: u64, most: u64 },
+    /// Numbers end at 2^63, and with this group the end, which is `end`, would pass that.
+    #[error("{end} entries were numbered, and the group has too many")]
+    Spent { end: u64 },
+    /// The group needs `need` bytes, the active slot has room for `room`, which is less, and no slot is free.
+    #[error("the group needs {need} bytes, {room} are free")]
+    Full { need: u64, room: u64 },
+    /// The device read as no spool. `at` is the offset of the first byte, field, slot or group at fault.
+    #[error("the device is no spool at {at}")]
+    NotSpool { at: u64 },
+    /// No memory was found to read the device again.
+    #[error("no memory")]
+    NoMemory,
+    /// A call of the disk failed. Whether the group was stored is found out by the next call.
+    #[error("the disk failed")]
+    DiskFault,
+}
+
+/// Why entries were not read, or the device not read again.
+#[derive(Clone, Copy, Debug, PartialEq, Eq, Error)]
+pub enum PendFault {
+    /// The device read as no spool. `at` is the offset of the first byte, field, slot or group at fault.
+    #[error("the device is no spool at {at}")]
+    NotSpool { at: u64 },
+    /// A call of the disk failed.
+    #[error("the disk failed")]
+    DiskFault,
+    /// No memory was found.
+    #[error("no memory")]
+    NoMemory,
+}
+
+/// Why the cursor was not moved.
+#[derive(Clone, Copy, Debug, PartialEq, Eq, Error)]
+pub enum ConfirmFault {
+    /// The register was written as often as it can be. `ordinal` is its ordinal, 2^63.
+    #[error("the register was written {ordinal} times")]
+    Worn { ordinal: u64 },
+    /// The device read as no spool. `at` is the offset of the first byte, field, slot or group at fault.
+    #[error("the device is no spool at {at}")]
+    NotSpool { at: u64 },
+    /// A call of the disk failed. Whether the cursor was moved is found out by the next call.
+    #[error("the disk failed")]
+    DiskFault,
+    /// No memory was found to read the device again.
+    #[error("no memory")]
+    NoMemory,
+}
+
+/// Why a device was not opened.
+#[derive(Clone, Copy, Debug, PartialEq, Eq, Error)]
+pub enum RecoverFault {
+    /// The device read as no spool. `at` is the offset of the first byte, field, slot or group at fault.
+    #[error("the device is no spool at {at}")]
+    NotSpool { at: u64 },
+    /// The spool was opened for storing as often as it can be: `run` is 2,097,151.
+    #[error("run {run} was the last")]
+    RunsSpent { run: u32 },
+    /// The register was written as often as it can be. `ordinal` is its ordinal, 2^63.
+    #[error("the register was written {ordinal} times")]
+    Worn { ordinal: u64 },
+    /// A call of the disk failed.
+    #[error("the disk failed")]
+    DiskFault,
+    /// No memory was found.
+    #[error("no memory")]
+    NoMemory,
+}
+
+impl From<PendFault> for TakeFault {
+    ghost from_gives = { λ fault taken. taken ≡ as_take fault };
+
+    fn from(fault: PendFault) -> TakeFault {
+        match fault {
+            PendFault::NotSpool { at } => TakeFault::NotSpool { at },
+            PendFault::DiskFault => TakeFault::DiskFault,
+            PendFault::NoMemory => TakeFault::NoMemory,
+        }
+    }
+}
+
+impl From<PendFault> for ConfirmFault {
+    ghost from_gives = { λ fault confirmed. confirmed ≡ as_confirm fault };
+
+    fn from(fault: PendFault) -> ConfirmFault {
+        match fault {
+            PendFault::NotSpool { at } => ConfirmFault::NotSpool { at },
+            PendFault::DiskFault => ConfirmFault::DiskFault,
+            PendFault::NoMemory => ConfirmFault::NoMemory,
+        }
+    }
+}
+
+impl From<ReadFault> for PendFault {
+    ghost from_gives = { λ fault pending. pending ≡ as_pend fault };
+
+    fn from(fault: ReadFault) -> PendFault {
+        match fault {
+            ReadFault::NotSpool { at } => PendFault::NotSpool { at },
+            ReadFault::DiskFault => PendFault::DiskFault,
+            ReadFault::NoMemory => PendFault::NoMemory,
+        }
+    }
+}
+
+impl From<ReadFault> for RecoverFault {
+    ghost from_gives = { λ fault recovered. recovered ≡ as_recover fault };
+
+    fn from(fault: ReadFault) -> RecoverFault {
+        match fault {
+            ReadFault::NotSpool { at } => RecoverFault::NotSpool { at },
+            ReadFault::DiskFault => RecoverFault::DiskFault,
+            ReadFault::NoMemory => RecoverFault::NoMemory,
+        }
+    }
+}
+
+impl From<DiskFault> for PendFault {
+    ghost use Rattle.spool_log.specs.declared.fault.PendFault.TheVariants.{DiskFault as Failed};
+
+    ghost from_gives = { λ _ fault. fault ≡ Failed };
+
+    fn from(_: DiskFault) -> PendFault {
+        PendFault::DiskFault
+    }
+}
+
+impl From<DiskFault> for TakeFault {
+    ghost use Rattle.spool_log.specs.declared.fault.TakeFault.TheVariants.{DiskFault as Failed};
+
+    ghost from_gives = { λ _ fault. fault ≡ Failed };
+
+    fn from(_: DiskFault) -> TakeFault {
+        TakeFault::DiskFault
+    }
+}
+
+impl From<DiskFault> for RecoverFault {
+    ghost use Rattle.spool_log.specs.declared.fault.RecoverFault.TheVariants.{DiskFault as Failed};
+
+    ghost from_gives = { λ _ fault. fault ≡ Failed };
+
+    fn from(_: DiskFault) -> RecoverFault {
+        RecoverFault::DiskFault
+    }
+}
+
+impl From<SetFault> for RecoverFault {
+    ghost from_gives = { λ fault recovered. recovered ≡ of_set fault };
+
+    fn from(fault: SetFault) -> RecoverFault {
+        match fault {
+            SetFault::Worn { ordinal } => RecoverFault::Worn { ordinal },
+            SetFault::DiskFault => RecoverFault::DiskFault,
+        }
+    }
+}
+
+impl From<ScanFault> for PendFault {
+    ghost from_gives = { λ fault pending. pending ≡ of_part fault };
+
+    fn from(fault: ScanFault) -> PendFault {
+        match fault {
+            ScanFault::NotSpool { at } => PendFault::NotSpool { at },
+            ScanFault::DiskFault => PendFault::DiskFault,
+            ScanFault::NoMemory => PendFault::NoMemory,
+        }
+    }
+}
+
+impl From<AllocError> for PendFault {
+    ghost use Rattle.spool_log.specs.declared.fault.PendFault.TheVariants.{NoMemory};
+
+    ghost from_gives = { λ _ fault. fault ≡ NoMemory };
+
+    fn from(_: AllocError) -> PendFault {
+        PendFault::NoMemory
+    }
+}

@@ -1,0 +1,9 @@
+pub mod Parts
+pub mod Steps
+pub mod Pens
+pub mod Windows
+pub mod Peeks
+pub mod Walks
+pub mod Found
+pub mod Scans
+pub mod Marks

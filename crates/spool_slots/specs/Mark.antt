@@ -1,0 +1,67 @@
+-- Where an entry of a segment begins in its slot.
+use Rattle.std.specs.Prelude.{◌≡◌, ◌⊎◌, ◌+◌, ◌<◌, List, ◌∷◌, ◌++◌, length, Result, Ok, Err}
+use Rattle.event_form.specs.declared.event.Entry.{Entry}
+use Rattle.event_form.specs.declared.reading.Took.{Took}
+use Rattle.event_form.specs.Entry.{size_of}
+use Rattle.spool_state.specs.Segment.{Segment, entries_of, entries_text, segment_text}
+use Rattle.spool_slots.specs.declared.fault.ScanFault.{ScanFault}
+use Rattle.spool_slots.specs.declared.fault.ScanFault.TheVariants.{NotSpool, DiskFault, NoMemory}
+use Rattle.spool_slots.specs.declared.mark.Mark.{Mark}
+
+-- the segment with these groups alone
+abbrev pub with_groups : Segment → List (List Entry) → Segment
+with_groups segment groups = record { ordinal = segment.ordinal; first = segment.first; groups = groups }
+
+-- The mark stands at the gate behind some of the segment's groups, and its entry is the next behind theirs.
+pub record IsAtGate (segment : Segment) (mark : Mark) : Type 0 where
+  pub before : List (List Entry)
+  pub behind : List (List Entry)
+  pub whole : segment.groups ≡ before ++ behind
+  pub none_left : mark.rest ≡ 0
+  pub place : mark.at ≡ length (segment_text (with_groups segment before))
+  pub counted : mark.number ≡ segment.first + length (entries_of (with_groups segment before))
+
+-- The mark stands in a group, at the first of the entries that are left of it.
+pub record IsInGroup (segment : Segment) (mark : Mark) : Type 0 where
+  pub before : List (List Entry)
+  pub passed : List Entry
+  pub left : List Entry
+  pub behind : List (List Entry)
+  pub whole : segment.groups ≡ before ++ (passed ++ left) ∷ behind
+  pub some : 0 < length left
+  pub rest_is : mark.rest ≡ length left
+  pub place : mark.at ≡ length (segment_text (with_groups segment before)) + 9 + length (entries_text passed)
+  pub counted : mark.number ≡ segment.first + length (entries_of (with_groups segment before)) + length passed
+
+-- the mark is one of the segment
+abbrev pub IsMark : Segment → Mark → Type 0
+IsMark segment mark = IsAtGate segment mark ⊎ IsInGroup segment mark
+
+-- The segment's entry of the first mark's number, and the mark of the next one.
+pub record IsNext (segment : Segment) (mark : Mark) (entry : Entry) (next : Mark) : Type 0 where
+  pub before : List Entry
+  pub behind : List Entry
+  pub whole : entries_of segment ≡ before ++ entry ∷ behind
+  pub counted : mark.number ≡ segment.first + length before
+  pub goes_on : IsMark segment next
+
+-- From a mark of the segment the mark of its entry was found, behind the head of a group; or there was a fault or no memory.
+abbrev pub IsEntered : Segment → Mark → Result Mark ScanFault → Type 0
+IsEntered segment mark (Ok entered) = IsInGroup segment entered × (entered.number ≡ mark.number)
+IsEntered segment mark (Err (NotSpool place)) = ⊥
+IsEntered segment mark (Err DiskFault) = Unit {0}
+IsEntered segment mark (Err NoMemory) = Unit {0}
+
+-- The entry was read; or there was a fault or no memory.
+abbrev pub IsReading : Entry → Result Took ScanFault → Type 0
+IsReading e (Ok took) = (took.entry ≡ e) × (took.used ≡ size_of e)
+IsReading e (Err (NotSpool place)) = ⊥
+IsReading e (Err DiskFault) = Unit {0}
+IsReading e (Err NoMemory) = Unit {0}
+
+-- The next entry was read; or there was a fault or no memory.
+abbrev pub IsNextOf : Segment → Mark → Result (Entry × Mark) ScanFault → Type 0
+IsNextOf segment mark (Ok next) = IsNext segment mark next.0 next.1
+IsNextOf segment mark (Err (NotSpool place)) = ⊥
+IsNextOf segment mark (Err DiskFault) = Unit {0}
+IsNextOf segment mark (Err NoMemory) = Unit {0}

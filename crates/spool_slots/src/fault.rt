@@ -1,0 +1,57 @@
+//! Why a call of a slot was refused.
+use edge_disk::DiskFault;
+use std::alloc::AllocError;
+
+/// Why a group was not added.
+#[derive(Clone, Copy, Debug, PartialEq, Eq)]
+pub enum SlotFault {
+    /// The group needs `need` bytes and the slot has room for `room`, which is less. No call was made.
+    NoRoom { need: u64, room: u64 },
+    /// A call of the disk failed.
+    DiskFault,
+}
+
+impl From<DiskFault> for SlotFault {
+    ghost use Rattle.std.specs.Prelude.{◌≡◌};
+    ghost use Rattle.spool_slots.specs.declared.fault.SlotFault.TheVariants.{DiskFault as DiskFailed};
+
+    ghost from_gives = { λ _ e. e ≡ DiskFailed };
+
+    fn from(_: DiskFault) -> SlotFault {
+        SlotFault::DiskFault
+    }
+}
+
+/// Why a slot was not read.
+#[derive(Clone, Copy, Debug, PartialEq, Eq)]
+pub enum ScanFault {
+    /// At this offset of the device an open gate stands, and behind it no group that ends with its closing
+    /// gate inside the slot and holds exactly its count of entries, at least one.
+    NotSpool { at: u64 },
+    /// A call of the disk failed.
+    DiskFault,
+    /// No memory was found.
+    NoMemory,
+}
+
+impl From<DiskFault> for ScanFault {
+    ghost use Rattle.std.specs.Prelude.{◌≡◌};
+    ghost use Rattle.spool_slots.specs.declared.fault.ScanFault.TheVariants.{DiskFault as DiskFailed};
+
+    ghost from_gives = { λ _ e. e ≡ DiskFailed };
+
+    fn from(_: DiskFault) -> ScanFault {
+        ScanFault::DiskFault
+    }
+}
+
+impl From<AllocError> for ScanFault {
+    ghost use Rattle.std.specs.Prelude.{◌≡◌};
+    ghost use Rattle.spool_slots.specs.declared.fault.ScanFault.TheVariants.{NoMemory};
+
+    ghost from_gives = { λ _ e. e ≡ NoMemory };
+
+    fn from(_: AllocError) -> ScanFault {
+        ScanFault::NoMemory
+    }
+}
