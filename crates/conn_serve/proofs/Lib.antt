@@ -2,5 +2,9 @@ mod Acting
 mod Counting
 mod Leading
 mod Splitting
+mod Moving
+mod Batching
 mod Sessions
+mod LumberActing
+mod LumberSessions
 mod Running

@@ -1,6 +1,9 @@
 pub mod Step
 pub mod Protocol
 pub mod Relp
+pub mod Lumber
 pub mod Done
-pub mod Serving
+pub mod Endings
+pub mod RelpServing
+pub mod LumberServing
 pub mod Serves

@@ -12,7 +12,8 @@ ghost use Rattle.relp_session.specs.declared.act.RelpAct.TheVariants.{Store};
 ghost use Rattle.spool_log.specs.Take.{IsRefusal};
 ghost use Rattle.conn_serve.specs.Relp.{Carries, CarriesFrame, talk_of};
 ghost use Rattle.conn_serve.specs.Done.{Done};
-ghost use Rattle.conn_serve.specs.Serving.{IsAtFrame, EndsByFault, HaltsAtAct, HaltsAtFrame};
+ghost use Rattle.conn_serve.specs.Endings.{IsAtFrame};
+ghost use Rattle.conn_serve.specs.RelpServing.{EndsByFault, HaltsAtAct, HaltsAtFrame};
 
 use crate::connection::{Connection, take_event};
 use crate::text::say;
@@ -24,8 +25,8 @@ use relp_session::{RelpAct, RelpCore, closing_hint, stored_reply};
 use spool_log::TakeFault;
 use std::alloc::Global;
 
-// The ending by a take that wasn't answered Ok.
-fn talk_of(fault: TakeFault) -> Talk
+/// The ending by a take that wasn't answered Ok.
+pub fn talk_of(fault: TakeFault) -> Talk
     ensures { result ≡ talk_of fault }
 {
     match fault {

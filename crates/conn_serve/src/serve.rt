@@ -1,13 +1,14 @@
 //! Serving one connection.
-ghost use Rattle.std.specs.Prelude.{◌≡◌, ◌⊎◌, ◌+◌, ◌<◌, ◌≤◌, ◌^◌, ℕ, List, [], ◌++◌, length, IfOk, IfErr, OnErr, IsErrOf};
+ghost use Rattle.std.specs.Prelude.{◌≡◌, ◌⊎◌, ◌+◌, ◌<◌, ◌≤◌, ◌^◌, ℕ, List, [], ◌++◌, length, IfOk, IfErr, IfSome, IfNone, OnErr, IsErrOf};
 ghost use Rattle.std.specs.Io.KnownBytes.{Appends, Consumes, IsAtEnd};
 ghost use Rattle.foundation.specs.Faults.{Rose};
 ghost use Rattle.desk_access.specs.Call.{Call};
 ghost use Rattle.conn_serve.specs.Step.{count};
-ghost use Rattle.conn_serve.specs.Serving.{MayEnd, IsAtEndOfInput};
+ghost use Rattle.conn_serve.specs.Endings.{MayEnd, IsByFault, IsAtEndOfInput};
 ghost use Rattle.conn_serve.specs.Serves.{CarriedBy, Serves};
 
 use crate::connection::Connection;
+use crate::lumber::LumberSession;
 use crate::relp::RelpSession;
 use crate::rules::Rules;
 use crate::session::Session;
@@ -57,6 +58,22 @@ fn read_piece<L: Link, S: Session>(
     }
 }
 
+// Where no frame waits, and the last read brought so many bytes: how the connection is to end if its input
+// is over, by a fault of the bytes or because nothing came.
+fn over<S: Session>(session: &S, len: usize) -> Option<Talk>
+    requires idle { S.idle session.now }
+
+    ensures closing { IfSome result (λ talk. (number : ℕ) (fed : List ℕ) (calls : List Call) (text : List ℕ) → S.served number session.now fed calls text → S.closing number session.now talk fed calls text) }
+    ensures only { IfSome result (λ talk. IsByFault talk ⊎ ((len ≡ 0) × IsAtEndOfInput talk)) }
+    ensures may_end { IfNone result ((number : ℕ) → MayEnd (S.served number session.now) (S.carried number)) }
+    ensures more { IfNone result (0 < len) }
+{
+    if let Some(talk) = session.fault() {
+        return Some(talk);
+    }
+    if len == 0 { Some(session.end()) } else { None }
+}
+
 // Serves the connection to its end. The order in which endings are judged stands here: what a frame
 // that waits asks for, then the fault of the bytes, the end of the input, a read that fails, and the
 // most bytes that a connection may have.
@@ -92,11 +109,11 @@ fn run<L: Link, A: Access, S: Session>(
         if let Err(talk) = session.serve(alloc, link, access, connection) {
             return talk;
         }
-        if let Some(talk) = session.fault() {
-            return talk;
-        }
-        if len == 0 {
-            return session.end();
+        if let Some(talk) = over(session, len) {
+            return match session.finish(link, access, connection) {
+                Ok(()) => talk,
+                Err(other) => other,
+            };
         }
     }
     Talk::TooMuch { at: LIMIT }
@@ -122,7 +139,7 @@ pub fn attend<L: Link, A: Access>(
     access: &mut A,
     conn: u64,
 ) -> Attended
-    requires relp { rules.now.proto ≡ Proto.Relp }
+    requires proto { (rules.now.proto ≡ Proto.Relp) ⊎ (rules.now.proto ≡ Proto.Lumberjack) }
     requires may { A.may_take access.old conn 0 }
 
     ensures carried { Serves (CarriedBy rules.now.proto conn) (L.given link.old) (L.given link.new) (L.left link.old) (L.left link.new) (L.taken link.old) (L.taken link.new) (λ calls. A.ran access.old calls access.new) result }
@@ -137,8 +154,17 @@ pub fn attend<L: Link, A: Access>(
         number: conn,
         taken: 0,
     };
-    let mut session = RelpSession::new(alloc);
-    let talk = run(alloc, link, access, &mut connection, &mut session);
+    let talk = match rules.proto {
+        Proto::Relp => {
+            let mut session = RelpSession::new(alloc);
+            run(alloc, link, access, &mut connection, &mut session)
+        }
+        Proto::Lumberjack => {
+            let mut session = LumberSession::new(alloc);
+            run(alloc, link, access, &mut connection, &mut session)
+        }
+        Proto::Hec => unreachable!(),
+    };
     Attended {
         talk,
         taken: connection.taken,

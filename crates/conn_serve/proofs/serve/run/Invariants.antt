@@ -1,5 +1,5 @@
 use Rattle.std.proofs.Common.{◌-◌, ◌≡◌, ◌≤◌}
-use Rattle.conn_serve.specs.Serving.{MayEnd}
+use Rattle.conn_serve.specs.Endings.{MayEnd}
 use Rattle.conn_serve.proofs.Running.{Progress, told}
 use Rattle.conn_serve.proofs.serve.run.Given as goal
 

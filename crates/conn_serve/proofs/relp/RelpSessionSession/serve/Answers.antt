@@ -2,7 +2,7 @@ use Rattle.std.proofs.Common.{◌≡◌, ◌∙◌, ℕ, ◌+◌, ◌≤◌, len
 use Rattle.relp_frame.specs.Reading.{Reader}
 use Rattle.conn_serve.specs.Protocol.{Carried}
 use Rattle.conn_serve.specs.Relp.{relp}
-use Rattle.conn_serve.specs.Serving.{Served}
+use Rattle.conn_serve.specs.RelpServing.{Served}
 use Rattle.conn_serve.proofs.Acting.{err_is}
 use Rattle.conn_serve.proofs.Counting.{count_carries}
 use Rattle.conn_serve.proofs.Leading.{done_start, done_then}
@@ -12,7 +12,7 @@ use Rattle.conn_serve.proofs.relp.RelpSessionSession.serve.Goals as goal
 pub loop-frame-init : goal.loop-frame-init
 loop-frame-init g c = record {
   done = done_start _ _ _ _ (g.met.A.Access.ran_none _);
-  early = omega (arith, c.requires.early);
+  early = omega arith;
   same_number = refl;
   may = c.requires.may;
   extent = omega arith;
