@@ -1,7 +1,6 @@
 -- What was done goes on, from one moment to the next.
-use Rattle.std.proofs.Common.{◌≡◌, ℕ, ◌+◌, ◌∙◌, List, [], ◌++◌, Option, refl, sym, ap, subst, arith, append_assoc}
+use Rattle.std.proofs.Common.{◌≡◌, ℕ, List, [], ◌++◌, Option, sym, subst, arith, append_assoc}
 use Rattle.std.proofs.lemmas.List.{append-nil}
-use Rattle.std.specs.Io.KnownBytes.{Appends}
 use Rattle.edge_io.proofs.Known.{appends_none, appends_then}
 use Rattle.desk_access.specs.Call.{Call}
 use Rattle.conn_serve.specs.Step.{count}

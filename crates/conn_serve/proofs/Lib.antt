@@ -8,3 +8,4 @@ mod Sessions
 mod LumberActing
 mod LumberSessions
 mod Running
+mod Acks

@@ -7,3 +7,4 @@ pub mod Endings
 pub mod RelpServing
 pub mod LumberServing
 pub mod Serves
+pub mod Acked

@@ -21,7 +21,7 @@ use Rattle.spool_log.specs.declared.fault.TakeFault.{TakeFault}
 use Rattle.spool_log.specs.declared.fault.TakeFault.TheVariants.{TooLarge, Spent, Full, NotSpool, NoMemory, DiskFault}
 use Rattle.spool_log.specs.Take.{IsRefusal}
 use Rattle.desk_access.specs.Call.{Call, takes}
-use Rattle.conn_serve.specs.Step.{Step, frames_of, calls_of, count}
+use Rattle.conn_serve.specs.Step.{frames_of, calls_of, count}
 use Rattle.conn_serve.specs.Protocol.{Protocol, IsNothing}
 
 -- the entry of an event of the connection, which has so many entries before it

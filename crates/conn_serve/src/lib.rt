@@ -8,14 +8,20 @@
 #![tactic(auto)]
 
 mod connection;
+mod laws;
 mod lumber;
 mod lumber_act;
+#[cfg(test)]
+mod lumber_tests;
 mod relp;
 mod relp_act;
 mod rules;
 mod serve;
 mod session;
+#[cfg(test)]
+mod tests;
 mod text;
 
+pub use laws::acked_is_taken;
 pub use rules::Rules;
 pub use serve::attend;

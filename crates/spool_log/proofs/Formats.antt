@@ -1,9 +1,9 @@
 -- What a device goes through while it is made an empty spool.
-use Rattle.std.proofs.Common.{◌≡◌, ◌≢◌, ◌⊎◌, inl, inr, ℕ, ◌≤◌, List, length, refl, sym, ◌∙◌, subst, arith}
-use Rattle.foundation.specs.Bytes.{part, put}
+use Rattle.std.proofs.Common.{◌≡◌, inl, inr, ℕ, ◌≤◌, List, length, sym, ◌∙◌, subst, arith}
+use Rattle.foundation.specs.Bytes.{put}
 use Rattle.edge_disk.specs.Disk.{Moment, IsLawful, IsUntouched, LeavesOnly}
 use Rattle.edge_disk.proofs.Moments.{started, untouched, both, reads_have}
-use Rattle.spool_state.specs.Image.{slot_at, magic, StandsFor}
+use Rattle.spool_state.specs.Image.{magic, StandsFor}
 use Rattle.spool_state.specs.Rules.{IsLayout}
 use Rattle.spool_state.specs.Empty.{empty_state, IsBody}
 use Rattle.spool_state.proofs.Emptied.{body_stands}

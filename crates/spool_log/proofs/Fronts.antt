@@ -1,5 +1,5 @@
 -- Writes behind the first bytes of a device.
-use Rattle.std.proofs.Common.{◌≡◌, ◌≢◌, ◌⊎◌, inl, inr, ℕ, ◌+◌, ◌*◌, ◌<◌, ◌≤◌, List, [], ◌∷◌, ◌++◌, length, get_or, refl, sym, ◌∙◌, ap, subst, arith}
+use Rattle.std.proofs.Common.{◌≡◌, ◌≢◌, inl, inr, ℕ, ◌+◌, ◌<◌, ◌≤◌, List, [], ◌∷◌, ◌++◌, length, get_or, refl, sym, ◌∙◌, ap, arith}
 use Rattle.std.specs.Int.{to_be_bytes}
 use mir.Syntax.{w32, w64}
 use Rattle.std.proofs.lemmas.Bool.{cases_lt}
@@ -7,14 +7,13 @@ use Rattle.std.proofs.lemmas.List.{get_or_past}
 use Rattle.std.proofs.lemmas.Nat.{row_fits}
 use Rattle.foundation.specs.Bytes.{part, put, SameBut}
 use Rattle.foundation.proofs.Bytes.{same_part, part_put, put_same, length-put, put_at, put_below}
-use Rattle.edge_disk.specs.Disk.{Moment, IsLawful, IsSettled, IsTorn, IsUntouched, LeavesOnly}
+use Rattle.edge_disk.specs.Disk.{Moment, IsLawful, IsTorn, LeavesOnly}
 use Rattle.edge_disk.specs.Gate.{ComesFrom}
-use Rattle.edge_disk.proofs.Moments.{started, torn_more, both, from_settled}
+use Rattle.edge_disk.proofs.Moments.{started, torn_more, both}
 use Rattle.spool_state.specs.Segment.{head_text}
 use Rattle.spool_state.specs.Cells.{content_text, cell_text}
 use Rattle.spool_state.specs.Image.{slot_at}
-use Rattle.spool_state.specs.Rules.{IsLayout}
-use Rattle.spool_state.specs.Empty.{IsFront, IsBody}
+use Rattle.spool_state.specs.Empty.{IsFront}
 use Rattle.spool_log.specs.Format.{KeepsFront}
 
 pub keeps_refl : (n : ℕ) (b : List ℕ) → KeepsFront n b b

@@ -1,19 +1,17 @@
 -- Entries read slot by slot.
-use Rattle.std.proofs.Common.{◌≡◌, inl, inr, ℕ, zero, suc, ◌+◌, ◌-◌, ◌<◌, ◌≤◌, List, [], ◌∷◌, ◌++◌, length, take, drop, get_or, flat_map, refl, sym, ◌∙◌, ap, subst, arith, length-append, append_assoc}
-use Rattle.std.specs.Prelude.{All}
+use Rattle.std.proofs.Common.{◌≡◌, inl, inr, ℕ, zero, suc, ◌+◌, ◌-◌, ◌<◌, ◌≤◌, List, [], ◌∷◌, ◌++◌, length, take, drop, get_or, sym, ◌∙◌, ap, subst, arith, length-append}
 use Rattle.std.proofs.lemmas.Bool.{cases_lt}
-use Rattle.std.proofs.lemmas.Grind.{common_steps}
 use Rattle.std.proofs.lemmas.List.{append-nil, take-append-le, drop-append-le, take_all, drop_all, take_more, length-take}
 use Rattle.std.proofs.lemmas.List.Concat.{flat_map-append}
 use Rattle.std.proofs.Math.Seq.{take-append-add, drop-append-add}
 use Rattle.event_form.specs.declared.event.Entry.{Entry}
 use Rattle.spool_state.specs.Segment.{entries_of}
-use Rattle.spool_state.specs.SpoolState.{OpenSlot, SpoolState, entries_in, list, first_of, base, end, AreConsecutive}
-use Rattle.spool_state.specs.Image.{slot_at, HoldsSlot, StandsFor}
+use Rattle.spool_state.specs.SpoolState.{OpenSlot, SpoolState, entries_in, list, first_of, base, AreConsecutive}
+use Rattle.spool_state.specs.Image.{slot_at, StandsFor}
 use Rattle.spool_state.proofs.Texts.{end_active}
 use Rattle.spool_slots.specs.declared.slot.Slot.{Slot}
 use Rattle.spool_slots.specs.Slot as Slots
-use Rattle.spool_log.specs.Knows.{KnowsSlot, KnowsSlots, IsStored}
+use Rattle.spool_log.specs.Knows.{KnowsSlot, KnowsSlots}
 use Rattle.spool_log.proofs.Added.{holds_from}
 use Rattle.spool_log.proofs.Lowest.{length-knows}
 

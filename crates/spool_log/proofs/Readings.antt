@@ -1,15 +1,14 @@
 -- What the parts of a device that were read say of the whole.
-use Rattle.std.proofs.Common.{◌≡◌, ◌⊎◌, inl, inr, ℕ, ◌+◌, ◌^◌, ◌<◌, ◌≤◌, List, [], ◌∷◌, ◌++◌, length, Option, Some, None, refl, sym, ◌∙◌, ap, subst, arith}
+use Rattle.std.proofs.Common.{◌≡◌, inl, inr, ℕ, ◌+◌, ◌^◌, ◌<◌, ◌≤◌, List, [], ◌∷◌, ◌++◌, Some, None, refl, sym, ◌∙◌, ap, subst, arith}
 use Rattle.std.specs.Prelude.{All}
-use Rattle.foundation.specs.Bytes.{part}
 use Rattle.std.proofs.lemmas.List.Elements.{All-head, All-same}
 use Rattle.edge_disk.specs.Disk.{Moment, IsLawful, IsUntouched}
 use Rattle.edge_disk.proofs.Moments.{untouched_then}
 use Rattle.spool_state.specs.SpoolState.{OpenSlot, SpoolState, ordinal_of, first_of}
 use Rattle.spool_state.specs.Cells.{first_cell, second_cell, content_text, Counts, RegisterHolds}
-use Rattle.spool_state.specs.Image.{slot_at, StandsFor}
+use Rattle.spool_state.specs.Image.{StandsFor}
 use Rattle.spool_state.specs.Order.{AreOpenSlots, AreInOrder}
-use Rattle.spool_state.specs.Rules.{slots_told, size_told, IsNamed, IsLayout, IsMeasured, IsRegister, RegisterIsAt, cursor_at, HasHead, GroupBreaks, OrderBreaks, IsChain, CursorBreaks, Breaks}
+use Rattle.spool_state.specs.Rules.{slots_told, size_told, IsNamed, IsLayout, IsMeasured, RegisterIsAt, cursor_at, HasHead, GroupBreaks, OrderBreaks, CursorBreaks, Breaks}
 use Rattle.spool_state.proofs.Standing.{state_of, counts_cursor, counts_register}
 use Rattle.spool_state.proofs.Making.{AreNumbers, state_stands}
 use Rattle.spool_state.proofs.Laws.{stands_unbroken, one_state}

@@ -1,12 +1,11 @@
 -- A device opened.
-use Rattle.std.proofs.Common.{false, ◌≡◌, ◌⊎◌, inl, inr, ℕ, ◌+◌, ◌≤◌, ◌<◌, ◌^◌, List, [], ◌∷◌, refl, sym, ◌∙◌, subst, arith}
+use Rattle.std.proofs.Common.{false, ◌≡◌, inl, inr, ℕ, ◌+◌, List, sym, subst, arith}
 use Rattle.spool_state.specs.SpoolState.{SpoolState, Follows}
 use Rattle.spool_state.specs.Image.{StandsFor}
-use Rattle.spool_state.specs.Rules.{Breaks}
 use Rattle.spool_state.proofs.Following.{follows_self, follows_registered}
 use Rattle.spool_state.proofs.Laws.{one_state, stands_unbroken}
 use Rattle.edge_disk.specs.Disk.{Moment, IsLawful, IsSettled, IsUntouched, LeavesOnly}
-use Rattle.edge_disk.proofs.Moments.{started, untouched, untouched_run, still_settled, both}
+use Rattle.edge_disk.proofs.Moments.{untouched_run, both}
 use Rattle.spool_log.specs.declared.fault.RecoverFault.{RecoverFault}
 use Rattle.spool_log.specs.declared.fault.RecoverFault.TheVariants as Recover
 use Rattle.spool_log.specs.declared.opening.Opening.{Opening}
@@ -18,7 +17,7 @@ use Rattle.spool_log.specs.Reading.{IsReadFault, KnowsState}
 use Rattle.spool_log.specs.Fault.{as_recover}
 use Rattle.spool_log.specs.Knows.{IsStored}
 use Rattle.spool_log.specs.Stages.{StandsForOne}
-use Rattle.spool_log.specs.State.{KnowsDevice, View, view, IsIn}
+use Rattle.spool_log.specs.State.{view}
 use Rattle.spool_log.specs.Opening.{raising, opened, CanOpen, Refuses, IsBrokenAs, IsOpening, Opens}
 use Rattle.spool_log.proofs.Stored.{in_stored}
 

@@ -1,4 +1,4 @@
-use Rattle.std.proofs.Common.{◌≡◌, inl, inr, refl}
+use Rattle.std.proofs.Common.{inl, inr}
 use Rattle.std.specs.Prelude.{Err}
 use Rattle.conn_serve.proofs.Acting.{ok_then, said, closed, unsaid}
 use Rattle.conn_serve.proofs.relp_act.carry_out.Goals as goal

@@ -1,4 +1,4 @@
-use Rattle.std.proofs.Common.{◌≡◌, ◌∙◌, ap, sym, subst, arith, length}
+use Rattle.std.proofs.Common.{◌∙◌, ap, sym, arith, length}
 use Rattle.relp_frame.specs.Reading.{Reader}
 use Rattle.lumber_frame.specs.Reading.{Reader as LumberReader}
 use Rattle.lumber_session.specs.Counting.{Core}

@@ -1,4 +1,4 @@
-use Rattle.std.proofs.Common.{◌≡◌, ℕ, arith}
+use Rattle.std.proofs.Common.{arith}
 use Rattle.edge_disk.proofs.Moments.{untouched_refl}
 use Rattle.spool_log.proofs.entries.mark_of.Goals as goal
 

@@ -1,4 +1,4 @@
-use Rattle.std.proofs.Common.{◌≡◌, ℕ, ◌+◌, ◌-◌, ◌≤◌, max}
+use Rattle.std.proofs.Common.{◌≡◌, ◌-◌, ◌≤◌, max}
 use Rattle.spool_state.specs.Segment.{Segment}
 use Rattle.edge_disk.specs.Disk.{IsUntouched}
 use Rattle.spool_slots.specs.Slot as Slots

@@ -1,4 +1,4 @@
-use Rattle.std.proofs.Common.{◌≡◌, ℕ, ◌+◌, ◌*◌, ◌<◌, ◌≤◌, List, [], ◌∷◌, length, sym, ◌∙◌, ap, arith}
+use Rattle.std.proofs.Common.{◌≡◌, ℕ, ◌+◌, ◌*◌, ◌<◌, ◌≤◌, [], ◌∷◌, ◌∙◌, ap, arith}
 use Rattle.std.proofs.lemmas.Nat.{row_fits}
 use Rattle.foundation.specs.Bytes.{put}
 use Rattle.spool_state.specs.Image.{slot_at}

@@ -1,5 +1,4 @@
 use Rattle.std.proofs.Common.{rules, ◌≡◌, sym, ◌∙◌}
-use Rattle.foundation.specs.Bytes.{part}
 use Rattle.edge_disk.proofs.Moments.{untouched}
 use Rattle.spool_state.specs.Image.{magic}
 use Rattle.spool_log.proofs.Naming.{name_erased}

@@ -1,4 +1,4 @@
-use Rattle.std.proofs.Common.{◌≡◌, List, sym, ◌∙◌, subst}
+use Rattle.std.proofs.Common.{sym, ◌∙◌, subst}
 use Rattle.spool_state.specs.Image.{StandsFor}
 use Rattle.spool_state.specs.Empty.{empty_state}
 use Rattle.spool_log.proofs.Faults.{on_ok}

@@ -1,4 +1,4 @@
-use Rattle.std.proofs.Common.{◌≡◌, ℕ, ◌≤◌, List, length, refl, sym, ◌∙◌, ap, subst, arith}
+use Rattle.std.proofs.Common.{◌≡◌, ◌≤◌, length, sym, ◌∙◌, subst, arith}
 use Rattle.std.proofs.lemmas.Nat.{row_fits}
 use Rattle.edge_disk.proofs.Moments.{from_settled, untouched}
 use Rattle.spool_state.specs.Image.{slot_at}

@@ -1,6 +1,5 @@
-use Rattle.std.proofs.Common.{◌≡◌, ℕ, ◌≤◌, List, [], ◌∷◌, length, refl, sym, ◌∙◌, ap, subst, arith}
+use Rattle.std.proofs.Common.{ℕ, ◌≤◌, List, [], ◌∷◌, length, refl, sym, ◌∙◌, ap, subst, arith}
 use Rattle.foundation.specs.Bytes.{put}
-use Rattle.edge_disk.specs.Disk.{LeavesOnly}
 use Rattle.spool_state.specs.Segment.{head_text}
 use Rattle.spool_state.specs.Cells.{content_text, body_text}
 use Rattle.spool_state.specs.Empty.{IsFront}

@@ -1,14 +1,10 @@
-use Rattle.std.proofs.Common.{rules, ◌≡◌, ℕ, ◌^◌, ◌<◌, List, Option, Some, None, refl, sym, ◌∙◌, ap, subst, arith}
+use Rattle.std.proofs.Common.{rules, ℕ, ◌^◌, ◌<◌, List, Option, Some, None, refl, sym, ◌∙◌, subst, arith}
 use Rattle.std.specs.Prelude.{All}
-use Rattle.edge_disk.proofs.Moments.{untouched_then}
-use Rattle.spool_state.specs.Rules.{IsLayout}
-use Rattle.spool_state.specs.SpoolState.{OpenSlot}
 use Rattle.disk_cell.specs.Fault.{IsBroken}
 use Rattle.disk_cell.specs.Register as Cells
-use Rattle.spool_slots.specs.declared.slot.Slot.{Slot}
 use Rattle.spool_log.specs.Knows.{KnowsSlots}
 use Rattle.spool_log.specs.Judging.{HasSoundNumbers, IsJudgementOf}
-use Rattle.spool_log.specs.Reading.{IsReadFault, IsSlotsFault, KnowsOpened}
+use Rattle.spool_log.specs.Reading.{IsSlotsFault, KnowsOpened}
 use Rattle.spool_log.proofs.Faults.{if_err}
 use Rattle.spool_log.proofs.Readings.{load_breaks, slots_break, judged_breaks, state_known, all_lie, three_told}
 use Rattle.spool_log.proofs.read.read_known.Goals as goal

@@ -1,17 +1,14 @@
-use Rattle.std.proofs.Common.{◌≡◌, ℕ, ◌+◌, ◌<◌, List, sym, ◌∙◌, subst}
+use Rattle.std.proofs.Common.{ℕ, List, sym, subst}
 use Rattle.std.specs.Prelude.{Result, IfErr}
 use Rattle.spool_state.specs.SpoolState.{SpoolState}
 use Rattle.spool_state.specs.Image.{StandsFor}
 use Rattle.edge_disk.proofs.Moments.{still_settled, untouched_then}
 use Rattle.spool_log.specs.declared.fault.RecoverFault.{RecoverFault}
-use Rattle.spool_log.specs.declared.opening.Opening.{Opening}
-use Rattle.spool_log.specs.declared.opening.Opening.TheVariants.{Keep, Raise}
+use Rattle.spool_log.specs.declared.opening.Opening.TheVariants.{Raise}
 use Rattle.spool_log.specs.declared.known.Known.{Known}
 use Rattle.spool_log.specs.Fault.{as_recover}
 use Rattle.spool_log.specs.Knows.{IsStored}
-use Rattle.spool_log.specs.Opening.{opened, raising, CanOpen, Refuses, IsBrokenAs, IsOpening}
-use Rattle.edge_disk.specs.Disk.{LeavesOnly}
-use Rattle.spool_log.specs.Stages.{StandsForOne}
+use Rattle.spool_log.specs.Opening.{Refuses, IsBrokenAs}
 use Rattle.spool_log.proofs.Mending.{err_is}
 use Rattle.spool_log.proofs.Recovering.{open_read, open_raised_as, read_broken, read_refused, refused_as, found_as, same_stored, refused_unbroken}
 use Rattle.spool_log.proofs.recover.open.Goals as goal

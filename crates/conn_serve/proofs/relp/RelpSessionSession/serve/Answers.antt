@@ -1,4 +1,4 @@
-use Rattle.std.proofs.Common.{◌≡◌, ◌∙◌, ℕ, ◌+◌, ◌≤◌, length, refl, sym, ap, arith}
+use Rattle.std.proofs.Common.{◌∙◌, length, refl, ap, arith}
 use Rattle.relp_frame.specs.Reading.{Reader}
 use Rattle.conn_serve.specs.Protocol.{Carried}
 use Rattle.conn_serve.specs.Relp.{relp}

@@ -1,4 +1,4 @@
-use Rattle.std.proofs.Common.{◌≡◌, ◌+◌, ◌^◌, ◌≤◌, length}
+use Rattle.std.proofs.Common.{◌≡◌, ◌+◌, ◌≤◌, length}
 use Rattle.conn_serve.specs.Done.{Done, Leads}
 use Rattle.conn_serve.specs.RelpServing.{Served}
 use Rattle.conn_serve.proofs.relp.RelpSessionSession.serve.Given as goal

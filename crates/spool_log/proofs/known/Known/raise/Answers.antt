@@ -1,7 +1,6 @@
-use Rattle.std.proofs.Common.{◌≡◌, ℕ, ◌+◌, ◌≤◌, ◌<◌, List, [], ◌∷◌, sym, ◌∙◌, ap, subst, arith}
-use Rattle.spool_state.specs.SpoolState.{SpoolState}
+use Rattle.std.proofs.Common.{◌≡◌, ℕ, ◌+◌, [], ◌∷◌, ◌∙◌, ap, subst, arith}
 use Rattle.spool_state.specs.Change.{registered}
-use Rattle.edge_disk.specs.Disk.{Moment, LeavesOnly}
+use Rattle.edge_disk.specs.Disk.{LeavesOnly}
 use Rattle.disk_cell.specs.declared.content.Content.{Content}
 use Rattle.spool_log.specs.Stages.{StandsForOne}
 use Rattle.spool_log.proofs.Stored.{stays}

@@ -1,15 +1,13 @@
-use Rattle.std.proofs.Common.{◌≡◌, ℕ, ◌+◌, ◌-◌, ◌<◌, List, length, take, drop, get_or, sym, ◌∙◌, ap, subst, arith}
+use Rattle.std.proofs.Common.{◌≡◌, ℕ, ◌-◌, ◌<◌, List, length, take, drop, get_or, sym, ◌∙◌, ap, subst, arith}
 use Rattle.std.specs.Prelude.{Result, MatchResult}
 use Rattle.std.specs.Global.{Vec}
 use Rattle.event_form.specs.declared.event.Entry.{Entry}
-use Rattle.spool_state.specs.SpoolState.{SpoolState, base, list, entries_in}
+use Rattle.spool_state.specs.SpoolState.{base, list, entries_in}
 use Rattle.edge_disk.proofs.Moments.{untouched_refl, untouched_then}
-use Rattle.spool_slots.specs.Slot as Slots
 use Rattle.spool_log.specs.declared.fault.PendFault.{PendFault}
 use Rattle.spool_log.specs.Knows.{IsStored}
 use Rattle.spool_log.specs.Outcome.{IsNotBroken}
 use Rattle.spool_log.proofs.Listing.{from_none, knows_slot, knows_active, read_next, read_last}
-use Rattle.spool_log.proofs.Lowest.{length-knows}
 use Rattle.spool_log.proofs.Mending.{err_is}
 use Rattle.spool_log.proofs.known.Known.read_from.Goals as goal
 

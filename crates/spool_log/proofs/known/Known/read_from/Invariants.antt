@@ -1,4 +1,4 @@
-use Rattle.std.proofs.Common.{◌≡◌, ℕ, ◌+◌, ◌-◌, ◌≤◌, List, length, take, drop}
+use Rattle.std.proofs.Common.{◌≡◌, ◌-◌, ◌≤◌, length, take, drop}
 use Rattle.spool_state.specs.SpoolState.{SpoolState, base, entries_in}
 use Rattle.edge_disk.specs.Disk.{IsUntouched}
 use Rattle.spool_log.specs.Knows.{IsStored}

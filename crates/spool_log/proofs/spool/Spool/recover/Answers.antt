@@ -1,6 +1,5 @@
-use Rattle.std.proofs.Common.{◌≡◌, false, List, ap}
+use Rattle.std.proofs.Common.{ap}
 use Rattle.std.specs.Prelude.{Err}
-use Rattle.spool_state.specs.SpoolState.{SpoolState}
 use Rattle.spool_log.specs.Opening.{opened}
 use Rattle.spool_log.proofs.Recovering.{opens}
 use Rattle.spool_log.proofs.spool.Spool.recover.Goals as goal

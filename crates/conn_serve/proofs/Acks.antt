@@ -1,0 +1,227 @@
+-- The answers in the text of a connection are those to the entries taken.
+use Rattle.std.proofs.Common.{◌≡◌, inl, inr, ℕ, ◌≤◌, ◌∙◌, Bool, true, false, if◌then◌else◌, List, [], ◌∷◌, ◌++◌, length, drop, refl, sym, ap, subst, arith, append_assoc}
+use Rattle.std.specs.Prelude.{codes}
+use Rattle.std.proofs.lemmas.List.{append-nil, take-append-drop}
+use Rattle.event_form.specs.declared.event.Entry.{Entry}
+use Rattle.event_form.specs.declared.talk.Talk.{Talk}
+use Rattle.event_form.specs.declared.talk.Talk.TheVariants.{Ended, Closed, Fault, Truncated, Full, TooLarge, Busy, Spent, NoMore, TooMuch, ReadFault, WriteFault, DiskFault, NotSpool, NoMemory}
+use Rattle.relp_frame.specs.declared.frame.Frame.{Frame}
+use Rattle.relp_frame.specs.Spelling.{IsSpelling}
+use Rattle.relp_frame.proofs.FrameLaws as frames
+use Rattle.relp_frame.proofs.WriteLaws.{canonical_spells, spelling_fits}
+use Rattle.relp_session.specs.declared.act.RelpAct.{RelpAct}
+use Rattle.relp_session.specs.declared.act.RelpAct.TheVariants.{Store, Say, End}
+use Rattle.relp_session.specs.declared.request.Request.{Request}
+use Rattle.relp_session.specs.declared.request.Request.TheVariants as ask
+use Rattle.relp_session.specs.Answer.{act_of, reply, offers, stored, hint}
+use Rattle.stream_grammar.specs.Framing.{AreSpelled}
+use Rattle.stream_grammar.proofs.Streams.{spelled_append, spelled_strip}
+use Rattle.spool_log.specs.declared.fault.TakeFault.{TakeFault}
+use Rattle.spool_log.specs.declared.fault.TakeFault.TheVariants as fault
+use Rattle.desk_access.specs.Call.{Call, taken_of}
+use Rattle.conn_serve.specs.Step.{Step, frames_of, calls_of, text_of}
+use Rattle.conn_serve.specs.Protocol.{IsNothing, EndsAtFrame, EndsAtMove, Ending, AreMoves}
+use Rattle.conn_serve.specs.Relp.{relp, last_text, Carries, IsDue, IsRefused, IsStarved, EndsAtAct}
+use Rattle.conn_serve.specs.Acked.{is_success, successes, units, AckedIsTaken}
+use Rattle.conn_serve.proofs.Counting.{taken_then}
+use Rattle.conn_serve.proofs.Splitting.{spelled_parts}
+
+pushed : (b : Bool) (t : ℕ) (xs ys : List ℕ) → (if b then t ∷ xs else xs) ++ ys ≡ (if b then t ∷ (xs ++ ys) else (xs ++ ys))
+pushed true t xs ys = refl
+pushed false t xs ys = refl
+
+successes_then : (fs gs : List Frame) → successes (fs ++ gs) ≡ successes fs ++ successes gs
+successes_then [] gs = refl
+successes_then (f ∷ fs) gs = ap (λ (l : List ℕ). if is_success f then f.txnr ∷ l else l) (successes_then fs gs) ∙ sym (pushed (is_success f) f.txnr (successes fs) (successes gs))
+
+units_then : (xs ys : List Entry) → units (xs ++ ys) ≡ units xs ++ units ys
+units_then [] ys = refl
+units_then (x ∷ xs) ys = ap (λ (l : List ℕ). x.unit ∷ l) (units_then xs ys)
+
+-- the units of the entries that the calls took
+abbrev units_of : List Call → List ℕ
+units_of calls = units (taken_of calls)
+
+units_of_then : (xs ys : List Call) → units_of (xs ++ ys) ≡ units_of xs ++ units_of ys
+units_of_then xs ys = ap units (taken_then xs ys) ∙ units_then (taken_of xs) (taken_of ys)
+
+-- entries whose units are two lists are two lists
+units_parts : (xs : List Entry) (us vs : List ℕ) → units xs ≡ us ++ vs → (entries : List Entry) × (more : List Entry) × (xs ≡ entries ++ more) × (us ≡ units entries)
+units_parts xs [] vs e = ([], xs, refl, refl)
+units_parts [] (u ∷ us) vs e = cc
+units_parts (x ∷ xs) (u ∷ us) vs e =
+    let rest : units xs ≡ us ++ vs = cc in
+    let r = units_parts xs us vs rest in
+    let first : u ≡ x.unit = cc in
+    let units_is : us ≡ units r.0 = r.3 in
+    (x ∷ r.0, r.1, ap (λ (l : List Entry). x ∷ l) r.2, cc)
+
+-- the text is frames of which those that say 200 OK have the units of the entries taken
+record Answers (calls : List Call) (text : List ℕ) : Type 0 where
+  frames : List Frame
+  spelled : AreSpelled IsSpelling frames text
+  own : successes frames ≡ units_of calls
+
+-- a `rsp` frame
+abbrev rsp : ℕ → List ℕ → Frame
+rsp txnr body = record { txnr = txnr; command = codes "rsp"; body = body }
+
+abbrev closing : Frame
+closing = record { txnr = 0; command = codes "serverclose"; body = [] }
+
+rsp_spells : (txnr : ℕ) (body : List ℕ) → txnr ≤ 999999999 → length body ≤ 131072 → IsSpelling (rsp txnr body) (reply txnr body)
+rsp_spells txnr body low short = canonical_spells (rsp txnr body) (record { txnr = low; command = record { letters = (refl, (refl, (refl, tt))); some = omega arith; few = omega arith }; body = short })
+
+hint_spells : IsSpelling closing hint
+hint_spells = canonical_spells closing (record { txnr = omega arith; command = record { letters = (refl, (refl, (refl, (refl, (refl, (refl, (refl, (refl, (refl, (refl, (refl, tt))))))))))); some = omega arith; few = omega arith }; body = omega arith })
+
+one_answer : (f : Frame) (calls : List Call) (text spelt : List ℕ) → IsSpelling f spelt → text ≡ spelt → successes (f ∷ []) ≡ units_of calls → Answers calls text
+one_answer f calls text spelt s e own = record { frames = f ∷ []; spelled = (text, [], subst (IsSpelling f) (sym e) s, sym (append-nil text), refl); own = own }
+
+none_said : (calls : List Call) → calls ≡ [] → [] ≡ units_of calls
+none_said calls e = ap units_of (sym e)
+
+said : (txnr : ℕ) (body : List ℕ) (calls : List Call) (text : List ℕ) → txnr ≤ 999999999 → length body ≤ 131072 → successes (rsp txnr body ∷ []) ≡ [] → (calls ≡ []) × (text ≡ reply txnr body) → Answers calls text
+said txnr body calls text low short none d = one_answer (rsp txnr body) calls text (reply txnr body) (rsp_spells txnr body low short) d.1 (none ∙ none_said calls d.0)
+
+closes : (txnr : ℕ) (calls : List Call) (text : List ℕ) → txnr ≤ 999999999 → (calls ≡ []) × (text ≡ reply txnr [] ++ hint) → Answers calls text
+closes txnr calls text low d = record {
+  frames = rsp txnr [] ∷ closing ∷ [];
+  spelled = (reply txnr [], hint, rsp_spells txnr [] low (omega arith), d.1, (hint, [], hint_spells, sym (append-nil hint), refl));
+  own = none_said calls d.0;
+}
+
+-- the answers in the text that is due
+due_answers : (is_open : Bool) (r : Request) (f : Frame) (conn index : ℕ) (calls : List Call) (text : List ℕ) → f.txnr ≤ 999999999 → IsDue conn index (act_of is_open r f) calls text → Answers calls text
+due_answers false ask.Open f conn index calls text low d = said f.txnr offers calls text low (omega arith) refl d
+due_answers false ask.OpenOther f conn index calls text low d = said f.txnr (codes "500 unsupported relp_version") calls text low (omega arith) refl d
+due_answers false ask.Syslog f conn index calls text low d = said f.txnr (codes "500 not open") calls text low (omega arith) refl d
+due_answers false ask.Close f conn index calls text low d = closes f.txnr calls text low d
+due_answers false ask.Other f conn index calls text low d = said f.txnr (codes "500 not open") calls text low (omega arith) refl d
+due_answers true ask.Open f conn index calls text low d = said f.txnr (codes "500 already open") calls text low (omega arith) refl d
+due_answers true ask.OpenOther f conn index calls text low d = said f.txnr (codes "500 already open") calls text low (omega arith) refl d
+due_answers true ask.Syslog f conn index calls text low (inl d) = one_answer (rsp f.txnr (codes "200 OK")) calls text (stored f.txnr) (rsp_spells f.txnr (codes "200 OK") low (omega arith)) d.2 (ap units_of (sym d.1))
+due_answers true ask.Syslog f conn index calls text low (inr d) = one_answer closing calls text hint hint_spells d.3 (ap units_of (sym d.2))
+due_answers true ask.Close f conn index calls text low d = closes f.txnr calls text low d
+due_answers true ask.Other f conn index calls text low d = said f.txnr (codes "500 unknown command") calls text low (omega arith) refl d
+
+-- what is done for an act writes the text that is due
+carries_due : (conn index : ℕ) (act : RelpAct) (calls : List Call) (text : List ℕ) → Carries conn index act calls text → IsDue conn index act calls text
+carries_due conn index (Store event txnr) calls text c = inl c
+carries_due conn index (Say answer) calls text c = c
+carries_due conn index (End answer) calls text c = absurd c
+
+-- the answers of the steps
+step_answers : (conn : ℕ) (before steps : List (Step Frame)) (front : List ℕ) → AreMoves (relp conn) before steps → AreSpelled IsSpelling (frames_of steps) front → Answers (calls_of steps) (text_of steps)
+step_answers conn before [] front m s = record { frames = []; spelled = refl; own = refl }
+step_answers conn before (x ∷ steps) front m s =
+    let move = m.0 in
+    let f = move.0 in
+    let row = move.2 in
+    let here = subst (λ (l : List Frame). AreSpelled IsSpelling (l ++ frames_of steps) front) move.1 s in
+    let low : f.txnr ≤ 999999999 = (spelling_fits f here.0 here.2).txnr in
+    let due = subst (λ (a : RelpAct). IsDue conn _ a x.calls x.text) row.1.2 (carries_due conn _ row.0 x.calls x.text row.2) in
+    let first = due_answers _ row.1.0 f conn _ x.calls x.text low due in
+    let rest = step_answers conn (before ++ x ∷ []) steps here.1 m.1 here.4 in record {
+      frames = first.frames ++ rest.frames;
+      spelled = spelled_append frames.relp first.frames rest.frames x.text (text_of steps) first.spelled rest.spelled;
+      own = successes_then first.frames rest.frames ∙ ap (λ (l : List ℕ). l ++ successes rest.frames) first.own ∙ ap (λ (l : List ℕ). units_of x.calls ++ l) rest.own ∙ sym (units_of_then x.calls (calls_of steps));
+    }
+
+-- the answers in the text of an ending, and in what would have followed
+record LastAnswers (late : List Call) (part : List ℕ) : Type 0 where
+  behind : List ℕ
+  answers : Answers late (part ++ behind)
+
+nothing_said : (late : List Call) (part : List ℕ) → [] ≡ units_of late → part ≡ [] → LastAnswers late part
+nothing_said late part none e = record { behind = []; answers = record { frames = []; spelled = append-nil part ∙ e; own = none } }
+
+nothing : (late : List Call) (part : List ℕ) → IsNothing late part → LastAnswers late part
+nothing late part n = nothing_said late part (none_said late n.0) n.1
+
+all_said : (late : List Call) (part : List ℕ) → Answers late part → LastAnswers late part
+all_said late part a = record { behind = []; answers = subst (Answers late) (sym (append-nil part)) a }
+
+by_fault : (late : List Call) (part : List ℕ) (fault : TakeFault) → [] ≡ units_of late → part ≡ last_text fault → LastAnswers late part
+by_fault late part (fault.TooLarge need most) none e = all_said late part (one_answer closing late part hint hint_spells e none)
+by_fault late part (fault.Spent end) none e = all_said late part (one_answer closing late part hint hint_spells e none)
+by_fault late part (fault.Full need room) none e = all_said late part (one_answer closing late part hint hint_spells e none)
+by_fault late part (fault.NotSpool at) none e = nothing_said late part none e
+by_fault late part fault.NoMemory none e = nothing_said late part none e
+by_fault late part fault.DiskFault none e = nothing_said late part none e
+
+refusal_said : (conn index : ℕ) (act : RelpAct) (late : List Call) (part : List ℕ) (talk : Talk) → IsRefused conn index act late part talk → LastAnswers late part
+refusal_said conn index (Store event txnr) late part talk r = by_fault late part r.0 (ap units_of (sym r.1)) r.3
+refusal_said conn index (Say answer) late part talk r = absurd r
+refusal_said conn index (End answer) late part talk r = absurd r
+
+starved_said : (conn index : ℕ) (act : RelpAct) (late : List Call) (part : List ℕ) → IsStarved conn index act late → part ≡ [] → LastAnswers late part
+starved_said conn index (Store event txnr) late part s e = nothing_said late part (ap units_of (sym s.2)) e
+starved_said conn index (Say answer) late part s e = absurd s
+starved_said conn index (End answer) late part s e = absurd s
+
+act_answers : (is_open : Bool) (r : Request) (f : Frame) (conn index : ℕ) (late : List Call) (part : List ℕ) (talk : Talk) → f.txnr ≤ 999999999 → EndsAtAct conn index (act_of is_open r f) late part talk → LastAnswers late part
+act_answers is_open r f conn index late part Closed low e =
+    let due = subst (λ (a : RelpAct). IsDue conn index a late part) (sym e.0) (e.1, refl) in
+    all_said late part (due_answers is_open r f conn index late part low due)
+act_answers is_open r f conn index late part WriteFault low e =
+    let is : e.0 ≡ part ++ drop e.1 e.0 = sym (take-append-drop e.1 e.0) ∙ ap (λ (l : List ℕ). l ++ drop e.1 e.0) (sym e.4) in
+    record { behind = drop e.1 e.0; answers = subst (Answers late) is (due_answers is_open r f conn index late e.0 low e.2) }
+act_answers is_open r f conn index late part NoMemory low e = starved_said conn index (act_of is_open r f) late part e.0 e.1
+act_answers is_open r f conn index late part Ended low e = refusal_said conn index (act_of is_open r f) late part Ended e
+act_answers is_open r f conn index late part (Fault at why) low e = refusal_said conn index (act_of is_open r f) late part (Fault at why) e
+act_answers is_open r f conn index late part (Truncated at) low e = refusal_said conn index (act_of is_open r f) late part (Truncated at) e
+act_answers is_open r f conn index late part (Full need room) low e = refusal_said conn index (act_of is_open r f) late part (Full need room) e
+act_answers is_open r f conn index late part (TooLarge need most) low e = refusal_said conn index (act_of is_open r f) late part (TooLarge need most) e
+act_answers is_open r f conn index late part (Busy held) low e = refusal_said conn index (act_of is_open r f) late part (Busy held) e
+act_answers is_open r f conn index late part (Spent end) low e = refusal_said conn index (act_of is_open r f) late part (Spent end) e
+act_answers is_open r f conn index late part (NoMore run) low e = refusal_said conn index (act_of is_open r f) late part (NoMore run) e
+act_answers is_open r f conn index late part (TooMuch at) low e = refusal_said conn index (act_of is_open r f) late part (TooMuch at) e
+act_answers is_open r f conn index late part ReadFault low e = refusal_said conn index (act_of is_open r f) late part ReadFault e
+act_answers is_open r f conn index late part DiskFault low e = refusal_said conn index (act_of is_open r f) late part DiskFault e
+act_answers is_open r f conn index late part (NotSpool at) low e = refusal_said conn index (act_of is_open r f) late part (NotSpool at) e
+
+frame_answers : (conn : ℕ) (steps : List (Step Frame)) (held : List Frame) (tail : List ℕ) (late : List Call) (part : List ℕ) (talk : Talk) → EndsAtFrame (relp conn) steps held tail late part talk → LastAnswers late part
+frame_answers conn steps held tail late part talk e =
+    let f = e.0 in
+    let stops = e.5 in
+    let low : f.txnr ≤ 999999999 = (spelling_fits f e.1 e.3).txnr in
+    let at = subst (λ (a : RelpAct). EndsAtAct conn _ a late part talk) stops.1.2 stops.2 in
+    act_answers _ stops.1.0 f conn _ late part talk low at
+
+move_answers : (conn : ℕ) (b : List ℕ) (steps : List (Step Frame)) (held : List Frame) (at : ℕ) (tail : List ℕ) (late : List Call) (part : List ℕ) (talk : Talk) → EndsAtMove (relp conn) b steps held at tail late part talk → LastAnswers late part
+move_answers conn b steps held at tail late part talk (inl e) = frame_answers conn steps held tail late part talk e
+move_answers conn b steps held at tail late part talk (inr e) = absurd e.2
+
+end_answers : (conn : ℕ) (b : List ℕ) (steps : List (Step Frame)) (held : List Frame) (at : ℕ) (tail : List ℕ) (late : List Call) (part : List ℕ) (talk : Talk) → Ending (relp conn) b steps held at tail late part talk → LastAnswers late part
+end_answers conn b steps held at tail late part Ended e = nothing late part e.1
+end_answers conn b steps held at tail late part (Truncated place) e = nothing late part e.1
+end_answers conn b steps held at tail late part (Fault place why) e = nothing late part e.1
+end_answers conn b steps held at tail late part ReadFault e = nothing late part e.1
+end_answers conn b steps held at tail late part (TooMuch place) e = nothing late part e.3
+end_answers conn b steps held at tail late part NoMemory (inl e) = nothing late part e
+end_answers conn b steps held at tail late part NoMemory (inr e) = move_answers conn b steps held at tail late part NoMemory e
+end_answers conn b steps held at tail late part Closed e = move_answers conn b steps held at tail late part Closed e
+end_answers conn b steps held at tail late part (Full need room) e = move_answers conn b steps held at tail late part (Full need room) e
+end_answers conn b steps held at tail late part (TooLarge need most) e = move_answers conn b steps held at tail late part (TooLarge need most) e
+end_answers conn b steps held at tail late part (Busy count) e = move_answers conn b steps held at tail late part (Busy count) e
+end_answers conn b steps held at tail late part (Spent end) e = move_answers conn b steps held at tail late part (Spent end) e
+end_answers conn b steps held at tail late part (NoMore run) e = move_answers conn b steps held at tail late part (NoMore run) e
+end_answers conn b steps held at tail late part WriteFault e = move_answers conn b steps held at tail late part WriteFault e
+end_answers conn b steps held at tail late part DiskFault e = move_answers conn b steps held at tail late part DiskFault e
+end_answers conn b steps held at tail late part (NotSpool place) e = move_answers conn b steps held at tail late part (NotSpool place) e
+
+pub acked_is_taken : AckedIsTaken
+acked_is_taken conn b calls text talk c answers front rest spelled whole =
+    let own_front = spelled_parts IsSpelling (frames_of c.steps) c.held c.front c.spelled in
+    let first = step_answers conn [] c.steps own_front.0 c.each own_front.2 in
+    let last = end_answers conn b c.steps c.held (length c.front) c.tail c.late c.part talk c.ending in
+    let behind = last.answers in
+    let all = spelled_append frames.relp first.frames behind.frames (text_of c.steps) (c.part ++ last.behind) first.spelled behind.spelled in
+    let same : text_of c.steps ++ (c.part ++ last.behind) ≡ front ++ (rest ++ last.behind) =
+    sym (append_assoc (text_of c.steps) c.part last.behind) ∙ ap (λ (l : List ℕ). l ++ last.behind) (sym c.wrote ∙ whole) ∙ append_assoc front rest last.behind in
+    let cut = spelled_strip frames.relp answers (first.frames ++ behind.frames) front (rest ++ last.behind) spelled (subst (AreSpelled IsSpelling (first.frames ++ behind.frames)) same all) in
+    let own : units_of calls ≡ successes answers ++ successes cut.0 =
+    ap units_of c.made ∙ units_of_then (calls_of c.steps) c.late ∙ ap (λ (l : List ℕ). l ++ units_of c.late) (sym first.own) ∙ ap (λ (l : List ℕ). successes first.frames ++ l) (sym behind.own)
+    ∙ sym (successes_then first.frames behind.frames) ∙ ap successes cut.1 ∙ successes_then answers cut.0 in
+    units_parts (taken_of calls) (successes answers) (successes cut.0) own
