@@ -1,6 +1,6 @@
 -- The batches of a connection, and the entries of what is staged.
-use Rattle.std.proofs.Common.{◌≡◌, ◌⊎◌, ◌↔◌, inl, inr, ℕ, ◌+◌, ◌<◌, ◌≤◌, ◌∙◌, Bool, true, false, List, [], ◌∷◌, ◌++◌, map, length, refl, sym, ap, subst, arith, append_assoc, length-append}
-use Rattle.std.specs.Prelude.{IsTrue, Ok}
+use Rattle.std.proofs.Common.{◌≡◌, ◌↔◌, ℕ, ◌+◌, ◌<◌, ◌∙◌, Bool, true, false, List, [], ◌∷◌, ◌++◌, map, length, refl, sym, ap, subst, arith, append_assoc, length-append}
+use Rattle.std.specs.Prelude.{IsTrue}
 use Rattle.std.specs.List.{All}
 use Rattle.std.proofs.lemmas.List.{append-nil, append_cancel_right}
 use Rattle.std.proofs.lemmas.List.Elements.{All-nil, All-cons}
@@ -100,7 +100,7 @@ told conn steps held frames f act m k whole t =
     }
 
 -- where a batch ends, something is staged
-some_staged : (before held : List LumberFrame) (f : LumberFrame) → Ends before held f → 0 < length (staged (held ++ f ∷ []))
+pub some_staged : (before held : List LumberFrame) (f : LumberFrame) → Ends before held f → 0 < length (staged (held ++ f ∷ []))
 some_staged before held (Window size) e = omega (arith, e.1, ap length (staged_push held (Window size)), length-append (staged held) [])
 some_staged before held (Pairs seq text) e = omega (arith, ap length (staged_push held (Pairs seq text)), length-append (staged held) (staged_by (Pairs seq text)))
 some_staged before held (Json seq text) e = omega (arith, ap length (staged_push held (Json seq text)), length-append (staged held) (staged_by (Json seq text)))

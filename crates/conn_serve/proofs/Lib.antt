@@ -9,3 +9,4 @@ mod LumberActing
 mod LumberSessions
 mod Running
 mod Acks
+mod LumberAcks

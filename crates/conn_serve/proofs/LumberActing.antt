@@ -1,8 +1,7 @@
 -- What was done for a frame of Lumberjack.
-use Rattle.std.proofs.Common.{◌≡◌, inl, inr, ℕ, ◌+◌, ◌<◌, ◌≤◌, ◌∙◌, true, false, List, [], ◌∷◌, ◌++◌, Option, length, refl, sym, ap, subst, arith, length-append}
+use Rattle.std.proofs.Common.{◌≡◌, inr, ℕ, ◌+◌, ◌≤◌, ◌∙◌, true, false, List, [], ◌∷◌, ◌++◌, Option, length, refl, sym, ap, subst, arith, length-append}
 use Rattle.std.specs.Prelude.{Result, Ok, Err, OnOk}
 use Rattle.std.specs.List.{All}
-use Rattle.std.specs.Io.KnownBytes.{Appends}
 use Rattle.std.proofs.lemmas.List.{append-nil}
 use Rattle.std.proofs.lemmas.List.Elements.{All-nil, All-cons}
 use Rattle.edge_io.proofs.Known.{appends_none}
@@ -20,7 +19,6 @@ use Rattle.spool_log.specs.declared.fault.TakeFault.{TakeFault}
 use Rattle.spool_log.specs.declared.fault.TakeFault.TheVariants.{TooLarge, Spent, Full, NotSpool, NoMemory, DiskFault}
 use Rattle.desk_access.specs.Batch.{AreNext}
 use Rattle.desk_access.specs.Call.{Call, takes, taken_of, TookSurely}
-use Rattle.conn_serve.specs.Step.{count}
 use Rattle.conn_serve.specs.Done.{Done, Leads, SoFar}
 use Rattle.conn_serve.specs.Relp.{talk_of}
 use Rattle.conn_serve.specs.Lumber.{StoresGroup, EndsAtGroup, entries_of}

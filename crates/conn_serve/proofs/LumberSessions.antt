@@ -1,5 +1,5 @@
 -- How a session of Lumberjack goes on, and how it ends.
-use Rattle.std.proofs.Common.{◌≡◌, ◌⊎◌, inl, inr, ℕ, ◌+◌, ◌^◌, ◌<◌, ◌≤◌, ◌∙◌, List, [], ◌∷◌, ◌++◌, Option, Some, None, length, refl, sym, ap, subst, arith, append_assoc, length-append}
+use Rattle.std.proofs.Common.{◌≡◌, inl, inr, ℕ, ◌+◌, ◌^◌, ◌<◌, ◌≤◌, ◌∙◌, List, [], ◌∷◌, ◌++◌, Option, Some, None, length, refl, sym, ap, subst, arith, append_assoc, length-append}
 use Rattle.std.proofs.lemmas.List.{append-nil}
 use Rattle.event_form.specs.declared.event.Entry.{Entry}
 use Rattle.event_form.specs.declared.talk.Talk.{Talk}
@@ -12,14 +12,14 @@ use Rattle.lumber_frame.specs.declared.side.Side.TheVariants.{Receiver}
 use Rattle.lumber_frame.specs.Broken.{Broken}
 use Rattle.lumber_frame.specs.Spelling.{IsSpelling, Spells}
 use Rattle.lumber_frame.specs.Reading.{Reader, Reads, ReadsTo, ReadsOn}
-use Rattle.lumber_session.specs.Staged.{Staged, staged_by, staged}
+use Rattle.lumber_session.specs.Staged.{Staged, staged}
 use Rattle.lumber_session.specs.Acts.{last_seq}
 use Rattle.lumber_session.specs.Counting.{Core}
 use Rattle.stream_grammar.specs.Framing.{AreSpelled}
 use Rattle.stream_grammar.specs.FieldFaults.{IsFieldStream, IsFieldFault}
 use Rattle.desk_access.specs.Call.{Call}
-use Rattle.conn_serve.specs.Step.{Step, frames_of, calls_of, text_of, count}
-use Rattle.conn_serve.specs.Protocol.{AreMoves, IsNothing, IsOver, Ending, Carried}
+use Rattle.conn_serve.specs.Step.{Step, frames_of, calls_of, count}
+use Rattle.conn_serve.specs.Protocol.{AreMoves, IsOver, Ending, Carried}
 use Rattle.conn_serve.specs.Lumber.{lumberjack, why_of, entries_of, StoresGroup, EndsAtGroup, StoresLast}
 use Rattle.conn_serve.specs.Done.{Done, Leads, SoFar}
 use Rattle.conn_serve.specs.Endings.{MayEnd, IsAtFrame}
@@ -27,7 +27,7 @@ use Rattle.conn_serve.specs.LumberServing.{Handled, Served, Closing, HaltsAtFram
 use Rattle.conn_serve.proofs.Counting.{count_then}
 use Rattle.conn_serve.proofs.Splitting.{spelled_parts}
 use Rattle.conn_serve.proofs.Moving.{at_move}
-use Rattle.conn_serve.proofs.Batching.{entries_count, handled_none}
+use Rattle.conn_serve.proofs.Batching.{entries_count}
 
 -- The bytes are the spelt frames, those that wait, and what stands behind them.
 pub record Parts (b : List ℕ) (frames waiting : List LumberFrame) : Type 0 where
@@ -85,8 +85,21 @@ pub served_count : (conn : ℕ) (reader : Reader) (core : Core) (entries : List 
 served_count conn reader core entries last fault fed calls text s =
     let h = s.handled in
     let p = parts fed s.frames reader s.side s.reads in
-    omega (arith, ap count h.made, count_moves conn [] h.steps h.each, ap length h.entries_are, entries_count conn (count calls) (staged h.held), staged_few h.held, ap length h.whole, length-append (frames_of h.steps) h.held,
-    spelled_count s.frames p.front p.spelled, spelled_count reader.waiting p.next p.waits, ap length p.whole, length-append p.front (p.next ++ p.behind), length-append p.next p.behind)
+    omega (
+      arith,
+      ap count h.made,
+      count_moves conn [] h.steps h.each,
+      ap length h.entries_are,
+      entries_count conn (count calls) (staged h.held),
+      staged_few h.held,
+      ap length h.whole,
+      length-append (frames_of h.steps) h.held,
+      spelled_count s.frames p.front p.spelled,
+      spelled_count reader.waiting p.next p.waits,
+      ap length p.whole,
+      length-append p.front (p.next ++ p.behind),
+      length-append p.next p.behind,
+    )
 
 -- more bytes
 pub served_fed : (conn : ℕ) (reader reader' : Reader) (core : Core) (entries : List Entry) (last : ℕ) (fault fault' : Option LumberFault) (fed piece : List ℕ) (calls : List Call) (text : List ℕ)
@@ -112,13 +125,13 @@ served_frame ran w w' n n' conn reader reader' core core' entries entries' last 
   wrote = d.wrote;
   counted = d.counted;
   is = λ fed called said counted s. record {
-      frames = s.frames ++ f ∷ [];
-      handled = subst (λ (c : ℕ). Handled c core' entries' last' (s.frames ++ f ∷ []) (called ++ d.calls) (said ++ d.text)) same
-          (d.is s.frames fed called said counted (subst (λ (c : ℕ). Handled c core entries last s.frames called said) (sym same) s.handled));
-      side = side ∙ s.side;
-      reads = took fed s.frames s.reads;
-      told = s.told ∙ sym kept;
-    };
+    frames = s.frames ++ f ∷ [];
+    handled = subst (λ (c : ℕ). Handled c core' entries' last' (s.frames ++ f ∷ []) (called ++ d.calls) (said ++ d.text)) same
+        (d.is s.frames fed called said counted (subst (λ (c : ℕ). Handled c core entries last s.frames called said) (sym same) s.handled));
+    side = side ∙ s.side;
+    reads = took fed s.frames s.reads;
+    told = s.told ∙ sym kept;
+  };
 }
 
 module _ (conn : ℕ) (core : Core) (entries : List Entry) (last : ℕ) (frames : List LumberFrame) (called : List Call) (said : List ℕ) (h : Handled conn core entries last frames called said) where

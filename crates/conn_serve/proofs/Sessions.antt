@@ -3,7 +3,7 @@ use Rattle.std.proofs.Common.{◌≡◌, inl, inr, ℕ, ◌+◌, ◌^◌, ◌<�
 use Rattle.std.proofs.lemmas.List.{append-nil}
 use Rattle.std.specs.Prelude.{IfNone}
 use Rattle.event_form.specs.declared.talk.Talk.{Talk}
-use Rattle.event_form.specs.declared.talk.Talk.TheVariants.{Ended, Closed, Fault, Truncated, Full, TooLarge, Busy, Spent, NoMore, TooMuch, ReadFault, WriteFault, DiskFault, NotSpool, NoMemory}
+use Rattle.event_form.specs.declared.talk.Talk.TheVariants.{Ended, Fault, Truncated, TooMuch, ReadFault, NoMemory}
 use Rattle.relp_frame.specs.declared.frame.Frame.{Frame}
 use Rattle.relp_frame.specs.declared.fault.RelpFault.{RelpFault}
 use Rattle.relp_frame.specs.Spelling.{IsSpelling}
@@ -13,14 +13,14 @@ use Rattle.relp_session.specs.Session.{opened}
 use Rattle.stream_grammar.specs.Framing.{IsStream, IsFaulty}
 use Rattle.desk_access.specs.Call.{Call}
 use Rattle.conn_serve.specs.Step.{Step, frames_of, calls_of, text_of, count}
-use Rattle.conn_serve.specs.Protocol.{Protocol, IsNothing, EndsAtMove, Ending, Carried}
+use Rattle.conn_serve.specs.Protocol.{Ending, Carried}
 use Rattle.conn_serve.specs.Relp.{relp, CarriesFrame, StopsAtFrame, why_of}
 use Rattle.conn_serve.specs.Done.{Done, Leads}
 use Rattle.conn_serve.specs.Endings.{MayEnd, IsAtFrame}
 use Rattle.conn_serve.specs.RelpServing.{Served, HaltsAtFrame}
 use Rattle.conn_serve.proofs.Moving.{at_move}
 use Rattle.conn_serve.proofs.Counting.{frames_then, calls_then, text_then, moves_push, count_moves}
-use Rattle.conn_serve.proofs.Splitting.{Split, spelled_none, split, split_next, none_waits, frames_count}
+use Rattle.conn_serve.proofs.Splitting.{spelled_none, split, split_next, none_waits, frames_count}
 
 -- nothing was served
 pub served_none : (conn : ℕ) (reader : Reader) (is_open : Bool) (fault : Option RelpFault) → Reads [] [] reader → is_open ≡ opened [] → fault ≡ reader.fault → Served conn reader is_open fault [] [] []

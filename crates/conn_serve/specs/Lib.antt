@@ -8,3 +8,4 @@ pub mod RelpServing
 pub mod LumberServing
 pub mod Serves
 pub mod Acked
+pub mod LumberAcked

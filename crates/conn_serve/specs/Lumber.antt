@@ -1,5 +1,5 @@
 -- What a connection does for the frames of Lumberjack.
-use Rattle.std.specs.Prelude.{◌≡◌, ℕ, ◌+◌, ◌<◌, List, [], ◌∷◌, ◌++◌, length, take, Result, Ok, Err}
+use Rattle.std.specs.Prelude.{◌≡◌, ℕ, ◌+◌, ◌<◌, List, [], ◌∷◌, ◌++◌, length, take, Ok, Err}
 use Rattle.event_form.specs.declared.event.Entry.{Entry}
 use Rattle.event_form.specs.declared.talk.Talk.{Talk}
 use Rattle.event_form.specs.declared.talk.Talk.TheVariants.{WriteFault}
@@ -18,7 +18,7 @@ use Rattle.stream_grammar.specs.FieldFaults.{IsFieldStream, IsFieldFault}
 use Rattle.spool_log.specs.declared.fault.Receipt.{Receipt}
 use Rattle.spool_log.specs.declared.fault.TakeFault.{TakeFault}
 use Rattle.desk_access.specs.Call.{Call, takes}
-use Rattle.conn_serve.specs.Step.{Step, frames_of, calls_of, count}
+use Rattle.conn_serve.specs.Step.{frames_of, calls_of, count}
 use Rattle.conn_serve.specs.Protocol.{Protocol, IsNothing}
 use Rattle.conn_serve.specs.Relp.{entry_of, talk_of}
 

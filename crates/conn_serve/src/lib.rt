@@ -22,6 +22,6 @@ mod session;
 mod tests;
 mod text;
 
-pub use laws::acked_is_taken;
+pub use laws::{acked_is_taken, acks_are_of_groups};
 pub use rules::Rules;
 pub use serve::attend;

@@ -95,7 +95,14 @@ impl Session for LumberSession {
         connection: &mut Connection,
     ) -> Result<(), Talk> {
         while let Some(frame) = self.reader.take() {
-            serve_frame(link, access, connection, &mut self.core, &mut self.staged, frame)?;
+            serve_frame(
+                link,
+                access,
+                connection,
+                &mut self.core,
+                &mut self.staged,
+                frame,
+            )?;
         }
         Ok(())
     }

@@ -43,7 +43,8 @@ struct Left {
 
 // An empty spool of one slot of so many bytes.
 fn device(alloc: Global, slot: u64) -> Result<Vec<u8>, Fail>
-    requires { slot ≤ 1000000 }
+    requires large { 4096 ≤ slot }
+    requires small { slot ≤ 1000000 }
 {
     let len = 12_288 + slot as usize;
     let mut disk = MemDisk::of(vec![in alloc; 0; len]?, Vec::new(alloc));
@@ -179,7 +180,11 @@ fn batches_are_stored_and_acknowledged(rt: HostRuntime) -> Result<(), Fail> {
         for step in [1, 7, 1000] {
             let left = run(alloc, input, step, NONE)?;
             let talk = Talk::Ended;
-            assert_eq!(rt; left.attended, Attended { talk, taken }, "{input:?}, step {step}");
+            assert_eq!(rt;
+                left.attended,
+                Attended { talk, taken },
+                "{input:?}, step {step}"
+            );
             assert_eq!(rt; left.written.as_slice(), written, "{input:?}, step {step}");
             assert_eq!(rt; left.entries.as_slice(), entries, "{input:?}, step {step}");
         }
@@ -238,8 +243,16 @@ fn an_ending_tells_its_place(rt: HostRuntime) -> Result<(), Fail> {
         for step in [1, 1000] {
             let left = run(alloc, &input, step, NONE)?;
             assert_eq!(rt; left.attended, Attended { talk, taken: 1 }, "{behind:?}");
-            assert_eq!(rt; left.written.as_slice(), b"2A\0\0\0\x01".as_slice(), "{behind:?}");
-            assert_eq!(rt; left.entries.as_slice(), b"7 0 1 j{}\n".as_slice(), "{behind:?}");
+            assert_eq!(rt;
+                left.written.as_slice(),
+                b"2A\0\0\0\x01".as_slice(),
+                "{behind:?}"
+            );
+            assert_eq!(rt;
+                left.entries.as_slice(),
+                b"7 0 1 j{}\n".as_slice(),
+                "{behind:?}"
+            );
         }
     }
     Ok(())
@@ -276,7 +289,10 @@ fn a_failed_read_gives_up_what_is_staged(rt: HostRuntime) -> Result<(), Fail> {
         reads: &[1],
         ..NONE
     };
-    for (step, taken, written) in [(18, 0, b"".as_slice()), (1000, 2, b"2A\0\0\0\x02".as_slice())] {
+    for (step, taken, written) in [
+        (18, 0, b"".as_slice()),
+        (1000, 2, b"2A\0\0\0\x02".as_slice()),
+    ] {
         let left = run(alloc, input, step, failing)?;
         assert_eq!(rt; left.attended, Attended { talk, taken }, "step {step}");
         assert_eq!(rt; left.written.as_slice(), written, "step {step}");
@@ -307,7 +323,11 @@ fn a_failed_write_leaves_the_batch_stored(rt: HostRuntime) -> Result<(), Fail> {
         let left = run(alloc, input, 1000, failing)?;
         let talk = Talk::WriteFault;
         assert_eq!(rt; left.attended, Attended { talk, taken: 2 }, "{input:?}");
-        assert_eq!(rt; left.written.as_slice(), b"2A\0\0\0\x01".as_slice(), "{input:?}");
+        assert_eq!(rt;
+            left.written.as_slice(),
+            b"2A\0\0\0\x01".as_slice(),
+            "{input:?}"
+        );
         assert_eq!(rt; left.entries.as_slice(), entries, "{input:?}");
     }
     Ok(())

@@ -119,19 +119,28 @@ fn run<L: Link, A: Access, S: Session>(
     Talk::TooMuch { at: LIMIT }
 }
 
-/// Serves one connection to its end, by the protocol of the rules. It reads pieces of at most 8,192 bytes
-/// and does what the protocol's table says for each whole frame, one after another: of RELP, as rsyslog's
-/// RELP specification, version 0, has it, a `syslog` is taken into the spool as one group of one entry,
-/// and answered once it is durable. `conn` is the connection's number in the spool; its entries are
-/// counted from 0, and the unit of an entry is its frame's transaction number. Each text is written as
-/// one piece.
+/// Serves one connection to its end, by the protocol of the rules, which is RELP or Lumberjack. It reads
+/// pieces of at most 8,192 bytes and does what the protocol's table says for each whole frame, one after
+/// another. `conn` is the connection's number in the spool; its entries are counted from 0. Each text is
+/// written as one piece.
 ///
-/// Endings, in the order in which they are judged: what the first whole frame asks for that isn't carried
-/// whole (`WriteFault`; `Full`, `TooLarge` and `Spent`, with the hint written and no answer; `DiskFault`,
-/// `NotSpool` and `NoMemory`, with nothing written; a `close`, which is answered, with the hint: `Closed`,
-/// and bytes behind it are dropped); the fault of the bytes; the end of the input, `Ended` at a frame's end
-/// and else `Truncated`; a read that fails; and `TooMuch` once 2^40 bytes were read. `ReadFault` and
-/// `WriteFault` come only where the link's count rose. `NoMemory` may come at any frame and any read.
+/// - RELP, as rsyslog's RELP specification, version 0, has it: a `syslog` is taken into the spool as one
+///   group of one entry, and answered once it is durable. The unit of an entry is its frame's transaction
+///   number.
+/// - Lumberjack, as Elastic's protocol document, version 2, has it: events are staged, and each batch of
+///   them is taken as one group and then acknowledged with the sequence number of its last frame. The
+///   unit of an entry is its frame's sequence number. Where the input is over, by its end or by a fault,
+///   what is staged is one last batch. At `ReadFault`, `WriteFault`, `TooMuch` and `NoMemory` it is given
+///   up.
+///
+/// Endings, in the order in which they are judged: what a whole frame asks for that isn't carried whole
+/// (`WriteFault`; `Full`, `TooLarge` and `Spent`, with RELP's hint written and no answer; `DiskFault`,
+/// `NotSpool` and `NoMemory`, with nothing written; a `close` of RELP, which is answered, with the hint:
+/// `Closed`, and bytes behind it are dropped); the fault of the bytes; the end of the input, `Ended` at a
+/// frame's end and else `Truncated`; a read that fails; and `TooMuch` once 2^40 bytes were read. Where the
+/// last batch isn't stored or acknowledged whole, that is the ending in place of the fault or the end.
+/// `ReadFault` and `WriteFault` come only where the link's count rose. `NoMemory` may come at any frame
+/// and any read.
 pub fn attend<L: Link, A: Access>(
     alloc: Global,
     link: &mut L,

@@ -1,6 +1,4 @@
-use Rattle.std.proofs.Common.{◌≡◌, refl, ap}
-use Rattle.std.proofs.lemmas.List.Elements.{All-nil, All-cons}
-use Rattle.std.proofs.lemmas.List.{append-nil}
+use Rattle.std.proofs.Common.{refl}
 use Rattle.conn_serve.proofs.LumberActing.{may_behind, group_conn, group_sure}
 use Rattle.conn_serve.proofs.connection.take_group.Goals as goal
 

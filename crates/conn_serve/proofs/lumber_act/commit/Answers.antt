@@ -1,4 +1,4 @@
-use Rattle.std.proofs.Common.{◌≡◌, ap, refl}
+use Rattle.std.proofs.Common.{ap, refl}
 use Rattle.conn_serve.specs.declared.connection.Connection.{Connection}
 use Rattle.conn_serve.proofs.LumberActing.{done_refused}
 use Rattle.conn_serve.proofs.lumber_act.commit.Goals as goal

@@ -1,5 +1,5 @@
-use Rattle.std.proofs.Common.{◌≡◌, ◌∙◌, inl, refl, sym, arith}
-use Rattle.conn_serve.proofs.Acting.{done_nothing, err_is, err_then, ok_then}
+use Rattle.std.proofs.Common.{◌∙◌, inl, refl, sym, arith}
+use Rattle.conn_serve.proofs.Acting.{done_nothing, err_is, err_then}
 use Rattle.conn_serve.proofs.LumberActing.{staged_few, staged_next, frame_on, frame_batch, frame_halt, batch_then}
 use Rattle.conn_serve.proofs.lumber_act.serve_frame.Goals as goal
 

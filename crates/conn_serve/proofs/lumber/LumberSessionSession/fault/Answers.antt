@@ -1,4 +1,3 @@
-use Rattle.std.proofs.Common.{◌≡◌}
 use Rattle.conn_serve.proofs.Sessions.{if_none}
 use Rattle.conn_serve.proofs.LumberSessions.{may_end, closing_faulty}
 use Rattle.conn_serve.proofs.lumber.LumberSessionSession.fault.Goals as goal

@@ -1,8 +1,4 @@
 use Rattle.std.proofs.Common.{◌≡◌, ◌∙◌, Some, None, sym, arith, length-append}
-use Rattle.std.specs.Prelude.{Result, Ok, Err}
-use Rattle.lumber_frame.specs.declared.fault.LumberFault.{LumberFault}
-use Rattle.event_form.specs.declared.feed_fault.FeedFault.{FeedFault}
-use Rattle.event_form.specs.declared.feed_fault.FeedFault.TheVariants.{Fault}
 use Rattle.conn_serve.proofs.LumberSessions.{served_fed, served_count, no_fault}
 use Rattle.conn_serve.proofs.lumber.LumberSessionSession.feed.Goals as goal
 

@@ -1,4 +1,4 @@
-use Rattle.std.proofs.Common.{rules, ◌≡◌, ◌∙◌, ◌<◌, ◌≤◌, ◌+◌, refl, sym, ap, subst, arith, length}
+use Rattle.std.proofs.Common.{rules, arith}
 use Rattle.conn_serve.proofs.Acting.{done_nothing, ok_then, err_both}
 use Rattle.conn_serve.proofs.Leading.{done_map}
 use Rattle.conn_serve.proofs.Batching.{handled_few, handled_next}

@@ -1,12 +1,10 @@
-use Rattle.std.proofs.Common.{◌≡◌, ◌∙◌, ℕ, List, ◌+◌, ◌≤◌, length, refl, sym, ap, subst, arith}
+use Rattle.std.proofs.Common.{◌∙◌, length, refl, ap, arith}
 use Rattle.lumber_frame.specs.Reading.{Reader}
-use Rattle.lumber_frame.specs.declared.side.Side.TheVariants.{Receiver}
-use Rattle.desk_access.specs.Call.{Call}
 use Rattle.conn_serve.specs.Protocol.{Carried}
 use Rattle.conn_serve.specs.Lumber.{lumberjack}
-use Rattle.conn_serve.specs.LumberServing.{Served, Handled}
+use Rattle.conn_serve.specs.LumberServing.{Served}
 use Rattle.conn_serve.proofs.Acting.{err_is}
-use Rattle.conn_serve.proofs.Leading.{done_start, done_then, so_far_then, so_far_map}
+use Rattle.conn_serve.proofs.Leading.{done_start, done_then, so_far_then}
 use Rattle.conn_serve.proofs.LumberSessions.{served_frame, served_halt, so_far_handled}
 use Rattle.conn_serve.proofs.lumber.LumberSessionSession.serve.Goals as goal
 

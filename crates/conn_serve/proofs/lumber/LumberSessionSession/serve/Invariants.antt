@@ -1,4 +1,4 @@
-use Rattle.std.proofs.Common.{◌≡◌, ◌+◌, ◌^◌, ◌≤◌, length}
+use Rattle.std.proofs.Common.{◌≡◌, ◌+◌, ◌≤◌, length}
 use Rattle.conn_serve.specs.Done.{Done, Leads, SoFar}
 use Rattle.conn_serve.specs.LumberServing.{Served}
 use Rattle.conn_serve.proofs.lumber.LumberSessionSession.serve.Given as goal

@@ -1,4 +1,3 @@
-use Rattle.std.proofs.Common.{◌≡◌}
 use Rattle.conn_serve.proofs.Sessions.{may_end, carried_faulty, if_none}
 use Rattle.conn_serve.proofs.relp.RelpSessionSession.fault.Goals as goal
 
