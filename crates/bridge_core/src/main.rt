@@ -1,5 +1,5 @@
-//! bridge: takes log events by RELP and keeps them in a spool on a device of a fixed length. The one
-//! contract is that of `bridge`, the top call: what it makes, lists, stores and answers for its words.
+//! bridge: takes log events by RELP and by Lumberjack, and keeps them in a spool on a device of a fixed length.
+//! The one contract is that of `bridge`, the top call: what it makes, lists, stores and answers for its words.
 #![tactic(auto)]
 
 mod bridge;
@@ -12,6 +12,8 @@ mod refused;
 mod replaying;
 #[cfg(test)]
 mod list_tests;
+#[cfg(test)]
+mod lumber_tests;
 #[cfg(test)]
 mod tests;
 
