@@ -26,12 +26,7 @@ fn with_line_end(bytes: Blob) -> Result<Vec<u8>, AllocError>
 }
 
 // The line of the entry with this number.
-fn line_of(
-    alloc: Global,
-    form: ListForm,
-    number: u64,
-    entry: &Entry,
-) -> Result<Vec<u8>, AllocError>
+fn line_of(alloc: Global, form: ListForm, number: u64, entry: &Entry) -> Result<Vec<u8>, AllocError>
     requires { IsEntry entry.now }
     ensures { IfOk result (λ line. IsLine form number entry.now line.items) }
 {

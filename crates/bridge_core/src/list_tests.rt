@@ -182,12 +182,10 @@ fn each_origin_in_each_form(rt: HostRuntime) -> Result<(), Fail> {
         ),
     ];
     for (words, lines) in rows {
-        assert_eq!(rt;
-            listed(alloc, &device, words)?.as_slice(),
-            lines.as_bytes()
-        );
+        assert_eq!(rt; listed(alloc, &device, words)?.as_slice(), lines.as_bytes());
     }
-    let texts = b"{\"a\":\"x\",\"a\":\"y\"}\n{}\na \"b\"\n\xff\n{}\n {\"k\": 1}\n[1]\n{ \"event\":\"x\",\"time\":1}\n".as_slice();
+    let texts =
+        b"{\"a\":\"x\",\"a\":\"y\"}\n{}\na \"b\"\n\xff\n{}\n {\"k\": 1}\n[1]\n{ \"event\":\"x\",\"time\":1}\n".as_slice();
     assert_eq!(rt; listed(alloc, &device, TEXT)?.as_slice(), texts);
     Ok(())
 }
@@ -218,7 +216,10 @@ fn another_form(rt: HostRuntime) -> Result<(), Fail> {
 fn long_lines(rt: HostRuntime) -> Result<(), Fail> {
     let alloc = rt.alloc();
     let text = vec![in alloc; 1; 131_072]?;
-    let device = stored(alloc, &[(RELP, text.as_slice()), (RELP, b"x"), (RELP, &text)])?;
+    let device = stored(
+        alloc,
+        &[(RELP, text.as_slice()), (RELP, b"x"), (RELP, &text)],
+    )?;
     let mut long = b"{\"message\":\"".to_vec(alloc)?;
     for _ in 0..131_072 {
         long.extend_from_slice(b"\\u0001")?;

@@ -89,12 +89,7 @@ fn print_pending<D: Disk, K: Sink>(
 /// and then nothing is written. `DiskFault` and `WriteFault` come only where a call of the disk or a write
 /// failed in this call; then the first lines are written, the last one perhaps in part. Whatever a crash
 /// leaves of the device is what it could leave before, or stands for the same spool.
-pub fn list<D: Disk, K: Sink>(
-    alloc: Global,
-    disk: D,
-    output: &mut K,
-    form: ListForm,
-) -> Ended<D>
+pub fn list<D: Disk, K: Sink>(alloc: Global, disk: D, output: &mut K, form: ListForm) -> Ended<D>
     ensures status { result.status ≡ status_of result.note }
     ensures known { (result.note ≢ Usage) × (result.note ≢ ReadFault) × ((have want : ℕ) → result.note ≢ WrongLength have want) }
     ensures unused { IsRefusedFirst result.note → output.new ≡ output.old }

@@ -6,14 +6,14 @@ mod bridge;
 mod ended;
 mod formatting;
 mod lines;
+#[cfg(test)]
+mod list_tests;
 mod listing;
+#[cfg(test)]
+mod lumber_tests;
 mod program;
 mod refused;
 mod replaying;
-#[cfg(test)]
-mod list_tests;
-#[cfg(test)]
-mod lumber_tests;
 #[cfg(test)]
 mod tests;
 

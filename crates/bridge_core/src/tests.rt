@@ -78,12 +78,22 @@ pub(crate) fn sound(alloc: Global, device: &[u8]) -> Result<MemDisk, Fail> {
     Ok(MemDisk::of(device.to_vec(alloc)?, Vec::new(alloc)))
 }
 
-pub(crate) fn run(alloc: Global, device: &[u8], words: &[&str], input: &[u8]) -> Result<Left, Fail> {
+pub(crate) fn run(
+    alloc: Global,
+    device: &[u8],
+    words: &[&str],
+    input: &[u8],
+) -> Result<Left, Fail> {
     run_on(alloc, sound(alloc, device)?, words, input, SOUND)
 }
 
 // A device on which the program has made a spool.
-pub(crate) fn formatted(alloc: Global, slots: &str, size: &str, len: usize) -> Result<Vec<u8>, Fail> {
+pub(crate) fn formatted(
+    alloc: Global,
+    slots: &str,
+    size: &str,
+    len: usize,
+) -> Result<Vec<u8>, Fail> {
     let zeros = vec![in alloc; 0; len]?;
     let left = run(alloc, &zeros, &["format", slots, size], b"")?;
     if left.note != Note::Fine {
