@@ -174,7 +174,7 @@ fn no_input(rt: HostRuntime) -> Result<(), Fail> {
     let left = run(alloc, &device, REPLAY, b"")?;
     check(&rt, &left, Note::Fine, b"");
     let bytes = left.disk.bytes();
-    assert_eq!(rt; bytes.len(), 20_480);
+    assert!(rt; bytes.len() == 20_480 && device.len() == 20_480);
     assert_eq!(rt; &bytes[..8192], &device[..8192]);
     assert_eq!(rt; bytes[8192], 1);
     assert_eq!(rt; bytes[8213], 1);
@@ -279,8 +279,8 @@ fn each_call_of_the_disk_fails_once(rt: HostRuntime) -> Result<(), Fail> {
     let device = formatted(alloc, "1", "4096", 16_384)?;
     let input = joined(alloc, TWO_BATCHES)?;
     let both = joined(alloc, &[ACK_2, ACK_3])?;
-    let mut first = 0;
-    let mut second = 0;
+    let mut first = 0_u32;
+    let mut second = 0_u32;
     for call in 0..100 {
         let failing = vec![in alloc; call]?;
         let disk = MemDisk::of(device.to_vec(alloc)?, failing);
@@ -295,9 +295,9 @@ fn each_call_of_the_disk_fails_once(rt: HostRuntime) -> Result<(), Fail> {
         }
         assert_eq!(rt; left.note, Note::DiskFault);
         if left.written.is_empty() {
-            first += 1;
+            first = first.saturating_add(1);
         } else {
-            second += 1;
+            second = second.saturating_add(1);
         }
     }
     Err("a run always fails".into())
