@@ -178,7 +178,7 @@ fn no_input(rt: HostRuntime) -> Result<(), Fail> {
     let left = run(alloc, &device, REPLAY, b"")?;
     check(&rt, &left, Note::Fine, b"");
     let bytes = left.disk.bytes();
-    assert!(rt; bytes.len() == 20_480 && device.len() == 20_480);
+    assert_eq!(rt; bytes.len(), 20_480);
     assert_eq!(rt; &bytes[..8192], &device[..8192]);
     assert_eq!(rt; bytes[8192], 1);
     assert_eq!(rt; bytes[8213], 1);
@@ -367,7 +367,6 @@ fn refusals(rt: HostRuntime) -> Result<(), Fail> {
     let mut spent = formatted(alloc, "2", "4096", 20_480)?;
     let mut worn = spent.to_vec(alloc)?;
     assert!(rt; spent.len() == 20_480 && worn.len() == 20_480);
-    let short = spent[..20_479].to_vec(alloc)?;
     spent[4110..4118].copy_from_slice(&2_097_151_u64.to_be_bytes());
     worn[4097..4105].copy_from_slice(&9_223_372_036_854_775_808_u64.to_be_bytes());
     let rows: [(&[u8], &[&str], Note); 11] = [
@@ -384,7 +383,7 @@ fn refusals(rt: HostRuntime) -> Result<(), Fail> {
                 want: 20_480,
             },
         ),
-        (&short, LIST, Note::NotSpool { at: 8 }),
+        (&spent[..20_479], LIST, Note::NotSpool { at: 8 }),
         (&spent, REPLAY, Note::RunsSpent { run: 2_097_151 }),
         (&spent, LIST, Note::Fine),
         (
@@ -471,7 +470,7 @@ fn each_call_of_the_disk_fails_once(rt: HostRuntime) -> Result<(), Fail> {
     let alloc = rt.alloc();
     let device = formatted(alloc, "1", "4096", 16_384)?;
     let input = with_events(alloc, &[5])?;
-    let mut opened = 0_u32;
+    let mut opened = 0;
     for call in 0..100 {
         let failing = vec![in alloc; call]?;
         let disk = MemDisk::of(device.to_vec(alloc)?, failing);
@@ -482,7 +481,7 @@ fn each_call_of_the_disk_fails_once(rt: HostRuntime) -> Result<(), Fail> {
         }
         assert_eq!(rt; left.note, Note::DiskFault);
         if left.written.as_slice() == OPENED {
-            opened = opened.saturating_add(1);
+            opened += 1;
         } else {
             assert_eq!(rt; left.written.len(), 0);
         }
