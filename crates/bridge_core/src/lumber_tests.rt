@@ -1,4 +1,6 @@
-use crate::tests::{LIST, SOUND, Streams, check, formatted, joined, listed, run, run_on, sound};
+use crate::tests::{
+    LIST, SOUND, Streams, check, formatted, joined, listed, part, run, run_on, sound,
+};
 use bridge_words::{Note, note_text};
 use edge_disk::{Crash, MemDisk};
 use event_form::Why;
@@ -174,11 +176,12 @@ fn no_input(rt: HostRuntime) -> Result<(), Fail> {
     let left = run(alloc, &device, REPLAY, b"")?;
     check(&rt, &left, Note::Fine, b"");
     let bytes = left.disk.bytes();
-    assert!(rt; bytes.len() == 20_480 && device.len() == 20_480);
-    assert_eq!(rt; &bytes[..8192], &device[..8192]);
+    assert_eq!(rt; bytes.len(), 20_480);
+    assert_eq!(rt; device.len(), 20_480);
+    assert_eq!(rt; part(bytes, 0, 8192), part(&device, 0, 8192));
     assert_eq!(rt; bytes[8192], 1);
     assert_eq!(rt; bytes[8213], 1);
-    assert_eq!(rt; &bytes[12_288..], &device[12_288..]);
+    assert_eq!(rt; part(bytes, 12_288, 20_480), part(&device, 12_288, 20_480));
     Ok(())
 }
 
