@@ -9,7 +9,7 @@ use Rattle.bridge_words.specs.declared.command.ListForm.TheVariants.{Plain, Text
 use Rattle.bridge_words.specs.declared.command.Command.{Command}
 use Rattle.bridge_words.specs.declared.command.Command.TheVariants.{Format, List as ListCommand, Replay}
 use Rattle.bridge_words.specs.declared.need.Need.{Need}
-use Rattle.bridge_words.specs.declared.need.Need.TheVariants.{NoCommand, Nothing, Existing, Make}
+use Rattle.bridge_words.specs.declared.need.Need.TheVariants.{NoCommand, Existing, Make}
 
 -- one to ten decimal digits, leading zeros allowed, that write the number
 pub record IsNumber (n : ℕ) (word : List ℕ) : Type 0 where
