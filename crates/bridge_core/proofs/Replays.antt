@@ -1,26 +1,22 @@
 -- A connection served over a spool with one caller.
-use Rattle.std.proofs.Common.{◌≡◌, ◌⊎◌, inl, inr, ℕ, ◌+◌, ◌-◌, ◌*◌, ◌≤◌, ◌^◌, List, [], ◌∷◌, ◌++◌, refl, sym, ◌∙◌, ap, subst, arith}
-use Rattle.std.specs.Prelude.{Option, Result, Ok, Err, min}
+use Rattle.std.proofs.Common.{◌≡◌, ◌⊎◌, inl, inr, ℕ, ◌+◌, ◌*◌, ◌≤◌, ◌^◌, List, [], ◌∷◌, refl, sym, ◌∙◌, ap, subst, arith}
+use Rattle.std.specs.Prelude.{Option, Err}
 use Rattle.foundation.specs.Faults.{Rose}
-use Rattle.event_form.specs.declared.talk.Attended.{Attended}
 use Rattle.event_form.specs.declared.talk.Talk.{Talk}
-use Rattle.event_form.specs.declared.talk.Talk.TheVariants as Talk
 use Rattle.event_form.specs.declared.event.Entry.{Entry}
 use Rattle.edge_io.specs.declared.proto.Proto.{Proto}
 use Rattle.edge_io.specs.declared.proto.Proto.TheVariants.{Relp, Lumberjack, Hec}
 use Rattle.edge_disk.specs.Disk.{Moment, LeavesOnly}
 use Rattle.edge_disk.proofs.Moments.{both, weaker}
 use Rattle.spool_state.specs.SpoolState.{SpoolState}
-use Rattle.spool_state.specs.Image.{StandsFor}
-use Rattle.spool_log.specs.declared.fault.Receipt.{Receipt}
 use Rattle.spool_log.specs.declared.fault.TakeFault.{TakeFault}
 use Rattle.spool_log.specs.declared.fault.TakeFault.TheVariants as Take
 use Rattle.spool_log.specs.declared.opening.Opening.TheVariants.{Raise}
-use Rattle.spool_log.specs.State.{View, IsIn}
+use Rattle.spool_log.specs.State.{View}
 use Rattle.spool_log.specs.Opening.{opened, IsOpening, Opens}
 use Rattle.desk_access.specs.Call.{Call, takes, records_by, failures_of}
 use Rattle.desk_access.specs.Desk.{desk_of}
-use Rattle.desk_access.specs.Alone.{AloneView, IsAt, LeadsFrom, RunsTo}
+use Rattle.desk_access.specs.Alone.{AloneView, IsAt, RunsTo}
 use Rattle.desk_access.specs.Journal.{failures_then}
 use Rattle.desk_access.proofs.Lasting.{image_kept, stood_was}
 use Rattle.relp_frame.specs.declared.frame.Frame.{Frame}
@@ -31,12 +27,11 @@ use Rattle.conn_serve.specs.Step.{Step, calls_of}
 use Rattle.conn_serve.specs.Protocol.{Protocol, Carried, EndsAtMove}
 use Rattle.conn_serve.specs.Relp.{relp, one_take, talk_of, IsRefused}
 use Rattle.conn_serve.specs.Lumber.{lumberjack, EndsAtGroup}
-use Rattle.conn_serve.specs.Serves.{CarriedBy, Serves}
+use Rattle.conn_serve.specs.Serves.{CarriedBy}
 use Rattle.bridge_words.specs.declared.note.Note.{Note}
-use Rattle.bridge_words.specs.declared.note.Note.TheVariants as Note
 use Rattle.bridge_words.specs.Notes.{note_of_talk}
 use Rattle.bridge_core.specs.Done.{IsRefusedFirst}
-use Rattle.bridge_core.specs.Replayed.{IsCallStep, IsKeptIn, Keeps, IsStored, IsServed}
+use Rattle.bridge_core.specs.Replayed.{IsCallStep, Keeps, IsStored, IsServed}
 
 -- the calls of a desk with one caller keep what they took
 pub runs_keep : (s : SpoolState) (tells : Type 0) (old new : AloneView) (calls : List Call) → tells → IsAt (desk_of s []) old → RunsTo tells old calls new → Keeps s old.spool.moment new.spool.moment calls

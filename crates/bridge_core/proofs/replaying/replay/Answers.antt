@@ -1,5 +1,4 @@
-use Rattle.std.proofs.Common.{◌≡◌, ℕ, ◌*◌, ◌^◌, List, inr, refl}
-use Rattle.desk_access.specs.Call.{Call}
+use Rattle.std.proofs.Common.{◌*◌, ◌^◌, inr, refl}
 use Rattle.spool_log.specs.declared.opening.Opening.TheVariants.{Raise}
 use Rattle.spool_log.specs.Opening.{opened}
 use Rattle.bridge_core.specs.Replayed.{IsStored}
