@@ -1,5 +1,5 @@
 -- The words are one command, so what is done for it is done for each command that they are.
-use Rattle.std.proofs.Common.{◌≡◌, List, ℕ, subst}
+use Rattle.std.proofs.Common.{List, ℕ, subst}
 use Rattle.bridge_words.specs.declared.command.Command.{Command}
 use Rattle.bridge_words.specs.Words.{IsCommand}
 use Rattle.bridge_words.proofs.Once.{one_command}

@@ -7,8 +7,8 @@ use Rattle.event_form.specs.declared.event.Entry.{Entry}
 use Rattle.event_form.specs.Entry.{IsEntry}
 use Rattle.event_map.proofs.Functions.{text_of, json_object_of, hec_object_of}
 use Rattle.event_map.proofs.Exact.{only_text, only_json_object, only_hec_object, text_of-is, json_object_of-is, hec_object_of-is}
-use Rattle.spool_state.specs.Segment.{IsGroup, Segment, entries_of}
-use Rattle.spool_state.specs.SpoolState.{OpenSlot, SpoolState, IsOpenSlot, IsSound, base, entries_in, list, pending}
+use Rattle.spool_state.specs.Segment.{IsGroup, entries_of}
+use Rattle.spool_state.specs.SpoolState.{OpenSlot, SpoolState, IsOpenSlot, IsSound, entries_in, list, pending}
 use Rattle.spool_log.specs.Outcome.{pending_from}
 use Rattle.bridge_words.specs.declared.command.ListForm.{ListForm}
 use Rattle.bridge_words.specs.declared.command.ListForm.TheVariants.{Plain, Text, JsonObject, HecObject}

@@ -1,8 +1,7 @@
 -- Lines printed part by part.
-use Rattle.std.proofs.Common.{◌≡◌, ℕ, ◌+◌, ◌-◌, ◌<◌, ◌≤◌, List, [], ◌∷◌, ◌++◌, Option, length, take, drop, get_or, refl, sym, ◌∙◌, ap, subst, arith, append_assoc, length-append, length-drop, take-append-drop}
-use Rattle.std.specs.Prelude.{max}
+use Rattle.std.proofs.Common.{◌≡◌, ℕ, ◌+◌, ◌-◌, ◌<◌, ◌≤◌, List, [], ◌++◌, Option, length, take, drop, refl, sym, ◌∙◌, ap, subst, arith, append_assoc, length-append, length-drop, take-append-drop}
 use Rattle.std.specs.Io.KnownBytes.{Appends}
-use Rattle.std.proofs.lemmas.List.{append-nil, take_more, take_all, drop-drop, length-take}
+use Rattle.std.proofs.lemmas.List.{take_all, drop-drop, length-take}
 use Rattle.std.proofs.Math.Seq.{take-add}
 use Rattle.edge_io.proofs.Known.{appends_none, appends_then}
 use Rattle.event_form.specs.declared.event.Entry.{Entry}

@@ -1,37 +1,37 @@
 -- A connection served over a spool with one caller.
-use Rattle.std.proofs.Common.{◌≡◌, ◌⊎◌, inl, inr, ℕ, ◌+◌, ◌-◌, ◌*◌, ◌≤◌, ◌^◌, List, [], ◌∷◌, ◌++◌, refl, sym, ◌∙◌, ap, subst, arith}
-use Rattle.std.specs.Prelude.{Option, Result, Ok, Err, min}
+use Rattle.std.proofs.Common.{◌≡◌, ◌⊎◌, inl, inr, ℕ, ◌+◌, ◌*◌, ◌≤◌, ◌^◌, List, [], ◌∷◌, refl, sym, ◌∙◌, ap, subst, arith}
+use Rattle.std.specs.Prelude.{Option, Err}
 use Rattle.foundation.specs.Faults.{Rose}
-use Rattle.event_form.specs.declared.talk.Attended.{Attended}
 use Rattle.event_form.specs.declared.talk.Talk.{Talk}
-use Rattle.event_form.specs.declared.talk.Talk.TheVariants as Talk
+use Rattle.event_form.specs.declared.event.Entry.{Entry}
+use Rattle.edge_io.specs.declared.proto.Proto.{Proto}
+use Rattle.edge_io.specs.declared.proto.Proto.TheVariants.{Relp, Lumberjack, Hec}
 use Rattle.edge_disk.specs.Disk.{Moment, LeavesOnly}
 use Rattle.edge_disk.proofs.Moments.{both, weaker}
 use Rattle.spool_state.specs.SpoolState.{SpoolState}
-use Rattle.spool_state.specs.Image.{StandsFor}
-use Rattle.spool_log.specs.declared.fault.Receipt.{Receipt}
 use Rattle.spool_log.specs.declared.fault.TakeFault.{TakeFault}
 use Rattle.spool_log.specs.declared.fault.TakeFault.TheVariants as Take
 use Rattle.spool_log.specs.declared.opening.Opening.TheVariants.{Raise}
-use Rattle.spool_log.specs.State.{View, IsIn}
+use Rattle.spool_log.specs.State.{View}
 use Rattle.spool_log.specs.Opening.{opened, IsOpening, Opens}
-use Rattle.desk_access.specs.Call.{Call, records_by, failures_of}
+use Rattle.desk_access.specs.Call.{Call, takes, records_by, failures_of}
 use Rattle.desk_access.specs.Desk.{desk_of}
-use Rattle.desk_access.specs.Alone.{AloneView, IsAt, LeadsFrom, RunsTo}
+use Rattle.desk_access.specs.Alone.{AloneView, IsAt, RunsTo}
 use Rattle.desk_access.specs.Journal.{failures_then}
 use Rattle.desk_access.proofs.Lasting.{image_kept, stood_was}
 use Rattle.relp_frame.specs.declared.frame.Frame.{Frame}
 use Rattle.relp_session.specs.declared.act.RelpAct.{RelpAct}
 use Rattle.relp_session.specs.declared.act.RelpAct.TheVariants.{Store, Say, End}
-use Rattle.conn_serve.specs.Step.{calls_of}
-use Rattle.conn_serve.specs.Protocol.{Carried}
+use Rattle.lumber_frame.specs.declared.frame.LumberFrame.{LumberFrame}
+use Rattle.conn_serve.specs.Step.{Step, calls_of}
+use Rattle.conn_serve.specs.Protocol.{Protocol, Carried, EndsAtMove}
 use Rattle.conn_serve.specs.Relp.{relp, one_take, talk_of, IsRefused}
-use Rattle.conn_serve.specs.Serves.{Serves}
+use Rattle.conn_serve.specs.Lumber.{lumberjack, EndsAtGroup}
+use Rattle.conn_serve.specs.Serves.{CarriedBy}
 use Rattle.bridge_words.specs.declared.note.Note.{Note}
-use Rattle.bridge_words.specs.declared.note.Note.TheVariants as Note
 use Rattle.bridge_words.specs.Notes.{note_of_talk}
 use Rattle.bridge_core.specs.Done.{IsRefusedFirst}
-use Rattle.bridge_core.specs.Replayed.{IsCallStep, IsKeptIn, Keeps, IsStored, IsServed}
+use Rattle.bridge_core.specs.Replayed.{IsCallStep, Keeps, IsStored, IsServed}
 
 -- the calls of a desk with one caller keep what they took
 pub runs_keep : (s : SpoolState) (tells : Type 0) (old new : AloneView) (calls : List Call) → tells → IsAt (desk_of s []) old → RunsTo tells old calls new → Keeps s old.spool.moment new.spool.moment calls
@@ -44,9 +44,9 @@ runs_keep s tells old new calls told at runs =
     }
 
 -- what was served, where the calls made mean something else too
-pub served_as : (conn : ℕ) (given given' left left' taken taken' : Option (List ℕ)) (Made Also : List Call → Type 0) (note : Note) → ((calls : List Call) → Made calls → Also calls)
-    → IsServed conn given given' left left' taken taken' Made note → IsServed conn given given' left left' taken taken' Also note
-served_as conn given given' left left' taken taken' Made Also note also served = record {
+pub served_as : (proto : Proto) (conn : ℕ) (given given' left left' taken taken' : Option (List ℕ)) (Made Also : List Call → Type 0) (note : Note) → ((calls : List Call) → Made calls → Also calls)
+    → IsServed proto conn given given' left left' taken taken' Made note → IsServed proto conn given given' left left' taken taken' Also note
+served_as proto conn given given' left left' taken taken' Made Also note also served = record {
   attended = served.attended;
   note_is = served.note_is;
   serves = record {
@@ -97,13 +97,29 @@ refused_by_disk conn index (Store event txnr) late part r =
 refused_by_disk conn index (Say answer) late part r = absurd r
 refused_by_disk conn index (End answer) late part r = absurd r
 
--- a connection that ended by a fault of the disk made a call that was answered so
-pub disk_failed : (conn : ℕ) (b : List ℕ) (calls : List Call) (text : List ℕ) → Carried (relp conn) b calls text Talk.DiskFault → 1 ≤ failures_of calls
-disk_failed conn b calls text carried =
-    let at = carried.ending in
-    let one = refused_by_disk conn _ at.5.0 carried.late carried.part at.5.2 in
+-- RELP: at an event of a frame
+relp_by_disk : (conn : ℕ) (b : List ℕ) (steps : List (Step Frame)) (held : List Frame) (at : ℕ) (tail : List ℕ) (late : List Call) (part : List ℕ) → EndsAtMove (relp conn) b steps held at tail late part Talk.DiskFault → failures_of late ≡ 1
+relp_by_disk conn b steps held at tail late part (inl frame) = refused_by_disk conn _ frame.5.0 late part frame.5.2
+relp_by_disk conn b steps held at tail late part (inr last) = absurd last.2
+
+group_by_disk : (group : List Entry) (late : List Call) (part : List ℕ) → EndsAtGroup group 0 late part Talk.DiskFault → failures_of late ≡ 1
+group_by_disk group late part e = ap failures_of e.1 ∙ ap (λ (fault : TakeFault). failures_of (takes group (Err fault) ∷ [])) (fault_of_disk e.0 e.2)
+
+-- Lumberjack: at a batch, at its last frame or where the input is over
+lumber_by_disk : (conn : ℕ) (b : List ℕ) (steps : List (Step LumberFrame)) (held : List LumberFrame) (at : ℕ) (tail : List ℕ) (late : List Call) (part : List ℕ) → EndsAtMove (lumberjack conn) b steps held at tail late part Talk.DiskFault → failures_of late ≡ 1
+lumber_by_disk conn b steps held at tail late part (inl frame) = group_by_disk _ late part frame.5.1
+lumber_by_disk conn b steps held at tail late part (inr last) = group_by_disk _ late part last.2.1
+
+failed_late : {F : Type 0} (p : Protocol F) (b : List ℕ) (calls : List Call) (text : List ℕ) (talk : Talk) (carried : Carried p b calls text talk) → failures_of carried.late ≡ 1 → 1 ≤ failures_of calls
+failed_late p b calls text talk carried one =
     let sum : failures_of calls ≡ failures_of (calls_of carried.steps) + failures_of carried.late = ap failures_of carried.made ∙ failures_then (calls_of carried.steps) carried.late in
     omega (arith, sum, one)
+
+-- a connection that ended by a fault of the disk made a call that was answered so
+pub disk_failed : (proto : Proto) (conn : ℕ) (b : List ℕ) (calls : List Call) (text : List ℕ) → CarriedBy proto conn b calls text Talk.DiskFault → 1 ≤ failures_of calls
+disk_failed Relp conn b calls text carried = failed_late (relp conn) b calls text Talk.DiskFault carried (relp_by_disk conn b carried.steps carried.held _ carried.tail carried.late carried.part carried.ending)
+disk_failed Lumberjack conn b calls text carried = failed_late (lumberjack conn) b calls text Talk.DiskFault carried (lumber_by_disk conn b carried.steps carried.held _ carried.tail carried.late carried.part carried.ending)
+disk_failed Hec conn b calls text carried = absurd carried
 
 pub rose_once : (n before now : ℕ) → 1 ≤ n → Rose n before now → Rose 1 before now
 rose_once n before now some rose = omega arith
@@ -126,9 +142,9 @@ talk_by_disk (Talk.NotSpool at) is = absurd (cc)
 talk_by_disk Talk.NoMemory is = absurd (cc)
 
 -- a note of the disk's fault comes of a call of the disk that failed
-pub disk_rose : (conn : ℕ) (b : List ℕ) (calls : List Call) (text : List ℕ) (talk : Talk) (note : Note) (before now : ℕ) → note ≡ note_of_talk talk → Carried (relp conn) b calls text talk → Rose (failures_of calls) before now → note ≡ Note.DiskFault → Rose 1 before now
-disk_rose conn b calls text talk note before now is carried rose by_disk =
-    rose_once (failures_of calls) before now (disk_failed conn b calls text (subst (Carried (relp conn) b calls text) (talk_by_disk talk (sym is ∙ by_disk)) carried)) rose
+pub disk_rose : (proto : Proto) (conn : ℕ) (b : List ℕ) (calls : List Call) (text : List ℕ) (talk : Talk) (note : Note) (before now : ℕ) → note ≡ note_of_talk talk → CarriedBy proto conn b calls text talk → Rose (failures_of calls) before now → note ≡ Note.DiskFault → Rose 1 before now
+disk_rose proto conn b calls text talk note before now is carried rose by_disk =
+    rose_once (failures_of calls) before now (disk_failed proto conn b calls text (subst (CarriedBy proto conn b calls text) (talk_by_disk talk (sym is ∙ by_disk)) carried)) rose
 
 -- the notes of words and devices that are refused are no endings of a connection
 pub no_ending : (talk : Talk) (note : Note) → note ≡ note_of_talk talk → IsRefusedFirst note → ⊥

@@ -1,6 +1,6 @@
 -- Calls of a spool that isn't in doubt, and refusals, as the top call tells them.
-use Rattle.std.proofs.Common.{◌≡◌, ℕ, ◌<◌, List, [], refl, sym, subst, arith, inl, inr}
-use Rattle.std.specs.Prelude.{Option, Result, Ok, Err}
+use Rattle.std.proofs.Common.{ℕ, List, [], sym, subst, arith, inl, inr}
+use Rattle.std.specs.Prelude.{Option, Result}
 use Rattle.std.specs.Global.{Vec}
 use Rattle.edge_disk.specs.Disk.{Moment, LeavesOnly}
 use Rattle.edge_disk.proofs.Moments.{weaker, both}
@@ -15,7 +15,6 @@ use Rattle.spool_log.specs.declared.opening.Opening.TheVariants.{Keep}
 use Rattle.spool_log.specs.State.{View, IsIn}
 use Rattle.spool_log.specs.Opening.{IsOpening, IsRefusedAs}
 use Rattle.spool_log.specs.Outcome.{IsNotBroken, Pends, PendsFrom}
-use Rattle.bridge_words.specs.declared.note.Note.{Note}
 use Rattle.bridge_core.specs.Written.{IsWritten}
 use Rattle.bridge_core.specs.Refused.{note_of_pend, note_of_recover}
 use Rattle.bridge_core.specs.Listed.{IsUnreadable}

@@ -5,7 +5,7 @@ use Rattle.spool_log.specs.Format.{IsFormatStep}
 use Rattle.spool_log.specs.Opening.{IsOpening}
 use Rattle.spool_log.specs.declared.opening.Opening.TheVariants.{Keep}
 use Rattle.bridge_words.specs.declared.command.Command.{Command}
-use Rattle.bridge_words.specs.declared.command.Command.TheVariants.{Format, List as ListCommand, ReplayRelp}
+use Rattle.bridge_words.specs.declared.command.Command.TheVariants.{Format, List as ListCommand, Replay}
 use Rattle.bridge_words.specs.declared.note.Note.{Note}
 use Rattle.bridge_words.specs.declared.note.Note.TheVariants.{Usage, WrongLength, RunsSpent, Worn}
 use Rattle.bridge_core.specs.Formatted.{IsFormatted}
@@ -32,16 +32,17 @@ pub record IsSilent (run : Run) : Type 0 where
   pub left : run.left_after ≡ run.left
   pub taken : run.taken_after ≡ run.taken
 
--- The device is made an empty spool; or the entries are listed that aren't confirmed; or the input is served as one connection.
+-- The device is made an empty spool; or the entries are listed that aren't confirmed; or the input is served as one connection
+-- of a protocol.
 abbrev pub Does : Command → Run → Note → Type 0
 Does (Format slots size) run note =
     IsFormatted slots size run.tells run.disk run.disk_after run.taken run.taken_after note
     × (run.tells → LeavesOnly (IsFormatStep slots size run.disk) run.disk run.disk_after)
 Does (ListCommand form) run note =
     run.tells → IsListed form run.disk.reads run.taken run.taken_after note × LeavesOnly (IsOpening Keep run.disk) run.disk run.disk_after
-Does ReplayRelp run note =
+Does (Replay proto) run note =
     (IsUnopened run.tells run.disk run.disk_after note × IsSilent run)
-    ⊎ IsReplayed run.tells run.disk run.disk_after run.given run.given_after run.left run.left_after run.taken run.taken_after note
+    ⊎ IsReplayed proto run.tells run.disk run.disk_after run.given run.given_after run.left run.left_after run.taken run.taken_after note
 
 -- the words or the device were refused, before the input or the output was met
 abbrev pub IsRefusedFirst : Note → Type 0

@@ -1,8 +1,8 @@
--- What the top call does with the words `replay relp`.
+-- What the top call does with the words of `replay`.
 use Rattle.std.specs.Prelude.{◌≡◌, ◌⊎◌, ℕ, ◌+◌, ◌*◌, ◌^◌, List, [], Option}
 use Rattle.std.specs.Io.KnownBytes.{IsAtEnd}
 use Rattle.event_form.specs.declared.talk.Attended.{Attended}
-use Rattle.edge_io.specs.declared.proto.Proto.TheVariants.{Relp}
+use Rattle.edge_io.specs.declared.proto.Proto.{Proto}
 use Rattle.edge_disk.specs.Disk.{Moment, LeavesOnly}
 use Rattle.spool_state.specs.SpoolState.{SpoolState}
 use Rattle.spool_state.specs.Image.{StandsFor}
@@ -63,16 +63,16 @@ pub record IsUnopened (tells : Type 0) (old new : Moment) (note : Note) : Type 0
   pub why : tells → IsRefusedAs Raise old.reads fault
   pub any_moment : tells → LeavesOnly (IsOpening Raise old) old new
 
--- The input was served as one connection of this number: the bytes read are frames, from the first one, none
--- skipped; the calls on the spool and the bytes written are those that they ask for; and the note is that of
--- the connection's ending.
-pub record IsServed (conn : ℕ) (given given' left left' taken taken' : Option (List ℕ)) (Made : List Call → Type 0) (note : Note) : Type 0 where
+-- The input was served by this protocol, as one connection of this number: the bytes read are its frames, from
+-- the first one, none skipped; the calls on the spool and the bytes written are those that they ask for; and the
+-- note is that of the connection's ending.
+pub record IsServed (proto : Proto) (conn : ℕ) (given given' left left' taken taken' : Option (List ℕ)) (Made : List Call → Type 0) (note : Note) : Type 0 where
   pub attended : Attended
   pub note_is : note ≡ note_of_talk attended.talk
-  pub serves : Serves (CarriedBy Relp conn) given given' left left' taken taken' Made attended
+  pub serves : Serves (CarriedBy proto conn) given given' left left' taken taken' Made attended
   pub ended : IsAtEndOfInput attended.talk → IsAtEnd left'
 
 -- And that was done over the spool that the device stood for.
-pub record IsReplayed (tells : Type 0) (old new : Moment) (given given' left left' taken taken' : Option (List ℕ)) (note : Note) : Type 0 where
+pub record IsReplayed (proto : Proto) (tells : Type 0) (old new : Moment) (given given' left left' taken taken' : Option (List ℕ)) (note : Note) : Type 0 where
   pub conn : ℕ
-  pub served : IsServed conn given given' left left' taken taken' (λ calls. tells → IsStored old new conn calls) note
+  pub served : IsServed proto conn given given' left left' taken taken' (λ calls. tells → IsStored old new conn calls) note

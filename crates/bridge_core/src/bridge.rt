@@ -1,8 +1,9 @@
 //! The top call.
 ghost use Rattle.std.specs.Prelude.{◌≡◌, ◌↔◌, ℕ, map, string_bytes};
 ghost use Rattle.foundation.specs.Faults.{Rose};
+ghost use Rattle.edge_io.specs.declared.proto.Proto.{Proto};
 ghost use Rattle.bridge_words.specs.declared.command.Command.{Command};
-ghost use Rattle.bridge_words.specs.declared.command.Command.TheVariants.{ReplayRelp};
+ghost use Rattle.bridge_words.specs.declared.command.Command.TheVariants.{Replay};
 ghost use Rattle.bridge_words.specs.declared.note.Note.TheVariants.{Usage, WrongLength, ReadFault, WriteFault, DiskFault};
 ghost use Rattle.bridge_words.specs.Notes.{status_of};
 ghost use Rattle.bridge_words.specs.Words.{IsCommand, IsNoCommand};
@@ -11,7 +12,7 @@ ghost use Rattle.bridge_core.specs.Done.{Does, IsRefusedFirst};
 use crate::ended::Ended;
 use crate::formatting::format;
 use crate::listing::list;
-use crate::replaying::replay_relp;
+use crate::replaying::replay;
 use bridge_words::{Command, Note};
 use edge_disk::Disk;
 use edge_io::{Sink, Source};
@@ -20,9 +21,10 @@ use std::alloc::Global;
 /// Does all that the program does with these words, over this disk, input and output.
 ///
 /// `format SLOTS SIZE` makes the device an empty spool, and prints a line. `list` prints a line for each
-/// entry that is not confirmed, and with `--as` its event in that form. `replay relp` serves the input as one connection by RELP, version 0: what is
-/// stored is durable before it is answered, and an entry that was answered stands in the spool whatever a
-/// crash leaves from then on.
+/// entry that is not confirmed, and with `--as` its event in that form. `replay relp` serves the input as one
+/// connection by RELP, version 0, and `replay lumberjack` by Lumberjack, version 2: what is stored is durable
+/// before it is answered, and an entry that was answered stands in the spool whatever a crash leaves from
+/// then on.
 ///
 /// `Usage` comes exactly where the words are no command, and then nothing is done. `ReadFault`,
 /// `WriteFault` and `DiskFault` come only where a read of the input, a write of the output or a call of
@@ -42,7 +44,7 @@ pub fn bridge<D: Disk, S: Source, K: Sink>(
     ensures unchanged { result.note ≡ Usage → result.disk ≡ disk }
     ensures wrong_length { (have want : ℕ) → result.note ≡ WrongLength have want → result.disk ≡ disk }
     ensures unused { IsRefusedFirst result.note → (input.new ≡ input.old) × (output.new ≡ output.old) }
-    ensures unread { (IsCommand ReplayRelp (map string_bytes words.now) → ⊥) → input.new ≡ input.old }
+    ensures unread { ((proto : Proto) → IsCommand (Replay proto) (map string_bytes words.now) → ⊥) → input.new ≡ input.old }
 
     // What failed.
     ensures read_cause { result.note ≡ ReadFault → Rose 1 (S.read_faults input.old) (S.read_faults input.new) }
@@ -70,6 +72,6 @@ pub fn bridge<D: Disk, S: Source, K: Sink>(
             Ended::of(note, disk)
         }
         Some(Command::List { form }) => list(alloc, disk, output, form),
-        Some(Command::ReplayRelp) => replay_relp(alloc, disk, input, output),
+        Some(Command::Replay { proto }) => replay(alloc, proto, disk, input, output),
     }
 }

@@ -1,5 +1,5 @@
-//! bridge: takes log events by RELP and keeps them in a spool on a device of a fixed length. The one
-//! contract is that of `bridge`, the top call: what it makes, lists, stores and answers for its words.
+//! bridge: takes log events by RELP and by Lumberjack, and keeps them in a spool on a device of a fixed length.
+//! The one contract is that of `bridge`, the top call: what it makes, lists, stores and answers for its words.
 #![tactic(auto)]
 
 mod bridge;
@@ -9,6 +9,8 @@ mod lines;
 #[cfg(test)]
 mod list_tests;
 mod listing;
+#[cfg(test)]
+mod lumber_tests;
 mod program;
 mod refused;
 mod replaying;

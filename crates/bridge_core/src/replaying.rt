@@ -18,19 +18,18 @@ use edge_io::{Both, Link, Proto, Sink, Source};
 use spool_log::{Opening, Refusal, Spool};
 use std::alloc::Global;
 
-/// The rules of a RELP connection.
-const RELP: Rules = Rules {
-    proto: Proto::Relp,
-    token: None,
-    ack_token: None,
-};
-
 /// How many numbers the connections of a run have.
 const CONNECTIONS: u64 = 1 << 32;
 
-// Serves the link as the first connection of the spool's run.
-fn attend_relp<D: Disk, L: Link>(alloc: Global, spool: Spool<D>, link: &mut L) -> Ended<D>
-    requires { spool.doubt ≡ false }
+// Serves the link by this protocol, as the first connection of the spool's run.
+fn serve_link<D: Disk, L: Link>(
+    alloc: Global,
+    proto: Proto,
+    spool: Spool<D>,
+    link: &mut L,
+) -> Ended<D>
+    requires proto { (proto ≡ Proto.Relp) ⊎ (proto ≡ Proto.Lumberjack) }
+    requires sure { spool.doubt ≡ false }
 
     ensures status { result.status ≡ status_of result.note }
     ensures known { IsRefusedFirst result.note → ⊥ }
@@ -38,53 +37,63 @@ fn attend_relp<D: Disk, L: Link>(alloc: Global, spool: Spool<D>, link: &mut L) -
     ensures write_cause { result.note ≡ WriteFault → Rose 1 (L.write_faults link.old) (L.write_faults link.new) }
     ensures disk_cause { result.note ≡ DiskFault → Rose 1 (D.moment spool.disk).faults (D.moment result.disk).faults }
     ensures same { L.same link.old link.new }
-    ensures served { IsServed (spool.known.register.content.run * 2 ^ 32) (L.given link.old) (L.given link.new) (L.left link.old) (L.left link.new) (L.taken link.old) (L.taken link.new)
+    ensures served { IsServed proto (spool.known.register.content.run * 2 ^ 32) (L.given link.old) (L.given link.new) (L.left link.old) (L.left link.new) (L.taken link.old) (L.taken link.new)
         (λ calls. (s : SpoolState) → D.tells → IsIn s [] (view spool.known spool.doubt (D.moment spool.disk)) → Keeps s (D.moment spool.disk) (D.moment result.disk) calls) result.note }
 {
     let conn = u64::from(spool.run()) * CONNECTIONS;
     let mut access = Alone::new(Desk { spool });
-    let attended = attend(alloc, link, &RELP, &mut access, conn);
+    let rules = Rules {
+        proto,
+        token: None,
+        ack_token: None,
+    };
+    let attended = attend(alloc, link, &rules, &mut access, conn);
     let desk = access.into_desk();
     Ended::of(Note::of_talk(attended.talk), desk.spool.into_disk())
 }
 
-// Serves the input as the first connection of the spool's run.
-fn serve_relp<D: Disk, S: Source, K: Sink>(
+// Serves the input by this protocol, as the first connection of the spool's run.
+fn serve_input<D: Disk, S: Source, K: Sink>(
     alloc: Global,
+    proto: Proto,
     spool: Spool<D>,
     input: &mut S,
     output: &mut K,
 ) -> Ended<D>
-    requires { spool.doubt ≡ false }
+    requires proto { (proto ≡ Proto.Relp) ⊎ (proto ≡ Proto.Lumberjack) }
+    requires sure { spool.doubt ≡ false }
 
     ensures status { result.status ≡ status_of result.note }
     ensures known { IsRefusedFirst result.note → ⊥ }
     ensures read_cause { result.note ≡ ReadFault → Rose 1 (S.read_faults input.old) (S.read_faults input.new) }
     ensures write_cause { result.note ≡ WriteFault → Rose 1 (K.write_faults output.old) (K.write_faults output.new) }
     ensures disk_cause { result.note ≡ DiskFault → Rose 1 (D.moment spool.disk).faults (D.moment result.disk).faults }
-    ensures served { IsServed (spool.known.register.content.run * 2 ^ 32) (S.given input.old) (S.given input.new) (S.left input.old) (S.left input.new) (K.taken output.old) (K.taken output.new)
+    ensures served { IsServed proto (spool.known.register.content.run * 2 ^ 32) (S.given input.old) (S.given input.new) (S.left input.old) (S.left input.new) (K.taken output.old) (K.taken output.new)
         (λ calls. (s : SpoolState) → D.tells → IsIn s [] (view spool.known spool.doubt (D.moment spool.disk)) → Keeps s (D.moment spool.disk) (D.moment result.disk) calls) result.note }
 {
     let mut link = Both {
         source: &mut *input,
         sink: &mut *output,
     };
-    attend_relp(alloc, spool, &mut link)
+    serve_link(alloc, proto, spool, &mut link)
 }
 
-/// Serves the input as one connection by RELP, over the spool that the device holds, of which the run is
-/// raised by one first. The connection has the number run * 2^32.
+/// Serves the input as one connection by this protocol, RELP or Lumberjack, over the spool that the device
+/// holds, of which the run is raised by one first. The connection has the number run * 2^32.
 ///
 /// Where the device can't be opened nothing is read or written: `NotSpool` comes exactly where it breaks a
 /// rule of the layout, with the place of the first one; then `RunsSpent` exactly where the run is 2,097,151;
 /// then `Worn` exactly where the register was written 2^63 times. Else the note is that of the connection's
 /// ending.
-pub fn replay_relp<D: Disk, S: Source, K: Sink>(
+pub fn replay<D: Disk, S: Source, K: Sink>(
     alloc: Global,
+    proto: Proto,
     disk: D,
     input: &mut S,
     output: &mut K,
 ) -> Ended<D>
+    requires proto { (proto ≡ Proto.Relp) ⊎ (proto ≡ Proto.Lumberjack) }
+
     ensures status { result.status ≡ status_of result.note }
     ensures known { (result.note ≢ Usage) × ((have want : ℕ) → result.note ≢ WrongLength have want) }
     ensures read_cause { result.note ≡ ReadFault → Rose 1 (S.read_faults input.old) (S.read_faults input.new) }
@@ -92,10 +101,10 @@ pub fn replay_relp<D: Disk, S: Source, K: Sink>(
     ensures disk_cause { result.note ≡ DiskFault → Rose 1 (D.moment disk).faults (D.moment result.disk).faults }
     ensures unused { IsRefusedFirst result.note → (input.new ≡ input.old) × (output.new ≡ output.old) }
     ensures replayed { (IsUnopened D.tells (D.moment disk) (D.moment result.disk) result.note × (input.new ≡ input.old) × (output.new ≡ output.old))
-        ⊎ IsReplayed D.tells (D.moment disk) (D.moment result.disk) (S.given input.old) (S.given input.new) (S.left input.old) (S.left input.new) (K.taken output.old) (K.taken output.new) result.note }
+        ⊎ IsReplayed proto D.tells (D.moment disk) (D.moment result.disk) (S.given input.old) (S.given input.new) (S.left input.old) (S.left input.new) (K.taken output.old) (K.taken output.new) result.note }
 {
     match Spool::recover(alloc, disk, Opening::Raise) {
-        Ok(spool) => serve_relp(alloc, spool, input, output),
+        Ok(spool) => serve_input(alloc, proto, spool, input, output),
         Err(Refusal { fault, disk }) => Ended::of(recover_note(fault), disk),
     }
 }

@@ -19,31 +19,31 @@ const HINT: &[u8] = b"0 serverclose 0\n";
 
 const REPLAY: &[&str] = &["replay", "relp"];
 
-const LIST: &[&str] = &["list"];
+pub(crate) const LIST: &[&str] = &["list"];
 
 // What a run left: its note, what it wrote, and the disk.
 #[derive(Drop)]
-struct Left {
-    note: Note,
-    written: Vec<u8>,
-    disk: MemDisk,
+pub(crate) struct Left {
+    pub(crate) note: Note,
+    pub(crate) written: Vec<u8>,
+    pub(crate) disk: MemDisk,
 }
 
 // How a run's streams behave: the most bytes of a read, and which reads and writes fail.
 #[derive(Clone, Copy)]
-struct Streams<'a> {
-    step: usize,
-    reads: &'a [u64],
-    writes: &'a [u64],
+pub(crate) struct Streams<'a> {
+    pub(crate) step: usize,
+    pub(crate) reads: &'a [u64],
+    pub(crate) writes: &'a [u64],
 }
 
-const SOUND: Streams<'static> = Streams {
+pub(crate) const SOUND: Streams<'static> = Streams {
     step: 8192,
     reads: &[],
     writes: &[],
 };
 
-fn run_on(
+pub(crate) fn run_on(
     alloc: Global,
     disk: MemDisk,
     words: &[&str],
@@ -74,16 +74,26 @@ fn run_on(
 }
 
 // A device of these bytes on which no call fails.
-fn sound(alloc: Global, device: &[u8]) -> Result<MemDisk, Fail> {
+pub(crate) fn sound(alloc: Global, device: &[u8]) -> Result<MemDisk, Fail> {
     Ok(MemDisk::of(device.to_vec(alloc)?, Vec::new(alloc)))
 }
 
-fn run(alloc: Global, device: &[u8], words: &[&str], input: &[u8]) -> Result<Left, Fail> {
+pub(crate) fn run(
+    alloc: Global,
+    device: &[u8],
+    words: &[&str],
+    input: &[u8],
+) -> Result<Left, Fail> {
     run_on(alloc, sound(alloc, device)?, words, input, SOUND)
 }
 
 // A device on which the program has made a spool.
-fn formatted(alloc: Global, slots: &str, size: &str, len: usize) -> Result<Vec<u8>, Fail> {
+pub(crate) fn formatted(
+    alloc: Global,
+    slots: &str,
+    size: &str,
+    len: usize,
+) -> Result<Vec<u8>, Fail> {
     let zeros = vec![in alloc; 0; len]?;
     let left = run(alloc, &zeros, &["format", slots, size], b"")?;
     if left.note != Note::Fine {
@@ -92,7 +102,7 @@ fn formatted(alloc: Global, slots: &str, size: &str, len: usize) -> Result<Vec<u
     Ok(left.disk.bytes().to_vec(alloc)?)
 }
 
-fn joined(alloc: Global, parts: &[&[u8]]) -> Result<Vec<u8>, Fail> {
+pub(crate) fn joined(alloc: Global, parts: &[&[u8]]) -> Result<Vec<u8>, Fail> {
     let mut all = Vec::new(alloc);
     for part in parts {
         all.extend_from_slice(part)?;
@@ -115,13 +125,13 @@ fn with_events(alloc: Global, sizes: &[usize]) -> Result<Vec<u8>, Fail> {
     Ok(input)
 }
 
-fn check(rt: &impl Abort, left: &Left, note: Note, written: &[u8]) {
+pub(crate) fn check(rt: &impl Abort, left: &Left, note: Note, written: &[u8]) {
     assert_eq!(rt; left.note, note);
     assert_eq!(rt; left.written.as_slice(), written);
 }
 
 // What `list` prints of a device that holds a spool.
-fn listed(alloc: Global, device: &[u8]) -> Result<Vec<u8>, Fail> {
+pub(crate) fn listed(alloc: Global, device: &[u8]) -> Result<Vec<u8>, Fail> {
     let left = run(alloc, device, LIST, b"")?;
     if left.note != Note::Fine || left.disk.bytes() != device {
         return Err("list".into());
@@ -161,7 +171,7 @@ fn one_event_in_any_pieces(rt: HostRuntime) -> Result<(), Fail> {
 }
 
 // The bytes from one offset up to another, or none where there are not so many.
-fn part(bytes: &[u8], from: usize, to: usize) -> &[u8] {
+pub(crate) fn part(bytes: &[u8], from: usize, to: usize) -> &[u8] {
     if from <= to && to <= bytes.len() {
         return &bytes[from..to];
     }

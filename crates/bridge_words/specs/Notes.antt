@@ -2,9 +2,7 @@
 use Rattle.std.specs.Prelude.{ℕ, List, [], ◌++◌, codes}
 use Rattle.std.specs.Fmt.{decimal}
 use Rattle.event_form.specs.declared.talk.Talk.{Talk}
-use Rattle.event_form.specs.declared.talk.Talk.TheVariants as Talk
 use Rattle.event_form.specs.declared.talk.Why.{Why}
-use Rattle.event_form.specs.declared.talk.Why.TheVariants as Why
 use Rattle.bridge_words.specs.declared.note.Note.{Note}
 use Rattle.bridge_words.specs.declared.note.Note.TheVariants.{Fine, Usage, NotSpool, WrongLength, Fault, Full, TooLarge, Busy, NoMemory, ReadFault, WriteFault, DiskFault, Truncated, RunsSpent, Spent, Worn, NoMore, TooMuch}
 

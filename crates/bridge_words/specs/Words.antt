@@ -1,13 +1,15 @@
 -- Which words are which command, and which device they want.
 use Rattle.std.specs.Prelude.{◌≡◌, ◌⊎◌, ℕ, ◌≤◌, List, [], ◌∷◌, length, codes}
 use Rattle.std.specs.Str.Parse.{IsNumeral, digits_value}
+use Rattle.edge_io.specs.declared.proto.Proto.{Proto}
+use Rattle.edge_io.specs.declared.proto.Proto.TheVariants.{Relp, Lumberjack, Hec}
 use Rattle.spool_state.specs.Image.{slot_at}
 use Rattle.bridge_words.specs.declared.command.ListForm.{ListForm}
 use Rattle.bridge_words.specs.declared.command.ListForm.TheVariants.{Plain, Text, JsonObject, HecObject}
 use Rattle.bridge_words.specs.declared.command.Command.{Command}
-use Rattle.bridge_words.specs.declared.command.Command.TheVariants.{Format, List as ListCommand, ReplayRelp}
+use Rattle.bridge_words.specs.declared.command.Command.TheVariants.{Format, List as ListCommand, Replay}
 use Rattle.bridge_words.specs.declared.need.Need.{Need}
-use Rattle.bridge_words.specs.declared.need.Need.TheVariants.{NoCommand, Nothing, Existing, Make}
+use Rattle.bridge_words.specs.declared.need.Need.TheVariants.{NoCommand, Existing, Make}
 
 -- one to ten decimal digits, leading zeros allowed, that write the number
 pub record IsNumber (n : ℕ) (word : List ℕ) : Type 0 where
@@ -35,12 +37,18 @@ form_words Text = codes "--as" ∷ codes "relp" ∷ []
 form_words JsonObject = codes "--as" ∷ codes "json" ∷ []
 form_words HecObject = codes "--as" ∷ codes "hec" ∷ []
 
--- The words are `format SLOTS SIZE`, `list`, `list --as relp`, `list --as json`, `list --as hec` or `replay relp`,
--- in this order and with no other.
+-- the words ask for a replay by the protocol; none ask for one by HEC yet
+abbrev pub AreReplay : Proto → List (List ℕ) → Type 0
+AreReplay Relp words = words ≡ codes "replay" ∷ codes "relp" ∷ []
+AreReplay Lumberjack words = words ≡ codes "replay" ∷ codes "lumberjack" ∷ []
+AreReplay Hec words = ⊥
+
+-- The words are `format SLOTS SIZE`, `list`, `list --as relp`, `list --as json`, `list --as hec`, `replay relp` or
+-- `replay lumberjack`, in this order and with no other.
 abbrev pub IsCommand : Command → List (List ℕ) → Type 0
 IsCommand (Format slots size) words = (slots_word : List ℕ) × (size_word : List ℕ) × (words ≡ codes "format" ∷ slots_word ∷ size_word ∷ []) × IsLayout slots size slots_word size_word
 IsCommand (ListCommand form) words = words ≡ codes "list" ∷ form_words form
-IsCommand ReplayRelp words = words ≡ codes "replay" ∷ codes "relp" ∷ []
+IsCommand (Replay proto) words = AreReplay proto words
 
 -- the words are none of them
 abbrev pub IsNoCommand : List (List ℕ) → Type 0
@@ -50,7 +58,7 @@ IsNoCommand words = (command : Command) → IsCommand command words → ⊥
 abbrev pub need_for : Command → Need
 need_for (Format slots size) = Make (slot_at size slots)
 need_for (ListCommand form) = Existing
-need_for ReplayRelp = Existing
+need_for (Replay proto) = Existing
 
 -- the words want this
 abbrev pub IsNeed : List (List ℕ) → Need → Type 0

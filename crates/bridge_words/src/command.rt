@@ -1,9 +1,11 @@
 //! The commands.
 ghost use Rattle.std.specs.Prelude.{◌≡◌, ◌↔◌, ℕ, [], ◌∷◌, IsTrue, IfSome, IfNone, map, codes, string_bytes};
+ghost use Rattle.edge_io.specs.declared.proto.Proto.{Proto};
 ghost use Rattle.bridge_words.specs.declared.command.ListForm.{ListForm};
-ghost use Rattle.bridge_words.specs.Words.{form_words, IsLayout};
+ghost use Rattle.bridge_words.specs.Words.{form_words, IsLayout, AreReplay};
 
 use crate::number::number_of;
+use edge_io::Proto;
 
 /// How `list` prints an entry.
 #[derive(Clone, Copy, PartialEq, Eq, Debug)]
@@ -25,8 +27,8 @@ pub enum Command {
     Format { slots: u32, size: u64 },
     /// Print the entries that are not confirmed, each in this form.
     List { form: ListForm },
-    /// Store and answer the RELP frames of the input.
-    ReplayRelp,
+    /// Store and answer the frames of the input, which are those of this protocol. No words ask for HEC yet.
+    Replay { proto: Proto },
 }
 
 // Whether the word is this text.
@@ -65,12 +67,26 @@ fn form_of(word: &String) -> Option<ListForm>
     }
 }
 
+// The protocol that the word behind `replay` names.
+fn proto_of(word: &String) -> Option<Proto>
+    ensures some { IfSome result (λ proto. AreReplay proto (codes "replay" ∷ string_bytes word.now ∷ [])) }
+    ensures none { IfNone result ((proto : Proto) → AreReplay proto (codes "replay" ∷ string_bytes word.now ∷ []) → ⊥) }
+{
+    if is_word(word, "relp") {
+        Some(Proto::Relp)
+    } else if is_word(word, "lumberjack") {
+        Some(Proto::Lumberjack)
+    } else {
+        None
+    }
+}
+
 impl Command {
     ghost use Rattle.bridge_words.specs.Words.{IsCommand, IsNoCommand};
 
     /// The command that the words are, or nothing where they are none: `format SLOTS SIZE`, `list`,
-    /// `list --as relp`, `list --as json`, `list --as hec` or `replay relp`, in this order and with no other
-    /// word. SLOTS and SIZE are 1 to 10 decimal digits, leading zeros allowed.
+    /// `list --as relp`, `list --as json`, `list --as hec`, `replay relp` or `replay lumberjack`, in this order
+    /// and with no other word. SLOTS and SIZE are 1 to 10 decimal digits, leading zeros allowed.
     pub fn of(words: &[String]) -> Option<Command>
         ensures some { IfSome result (λ command. IsCommand command (map string_bytes words.now)) }
         ensures none { IfNone result (IsNoCommand (map string_bytes words.now)) }
@@ -85,9 +101,10 @@ impl Command {
                     None => None,
                 }
             }
-            [word, protocol] if is_word(word, "replay") && is_word(protocol, "relp") => {
-                Some(Command::ReplayRelp)
-            }
+            [word, protocol] if is_word(word, "replay") => match proto_of(protocol) {
+                Some(proto) => Some(Command::Replay { proto }),
+                None => None,
+            },
             [word, slots, size] if is_word(word, "format") => match layout_of(slots, size) {
                 Some((slots, size)) => Some(Command::Format { slots, size }),
                 None => None,

@@ -31,7 +31,7 @@ impl Command {
             Command::Format { slots, size } => Need::Make {
                 len: 12_288 + u64::from(slots) * size,
             },
-            Command::List { .. } | Command::ReplayRelp => Need::Existing,
+            Command::List { .. } | Command::Replay { .. } => Need::Existing,
         }
     }
 }

@@ -1,4 +1,5 @@
 use crate::{Command, ListForm, Need, Note, entry_line, need_of, note_text, spool_line};
+use edge_io::Proto;
 use event_form::{Blob, Entry, Event, Origin, Why};
 use std::alloc::Global;
 use std::test::Fail;
@@ -15,7 +16,7 @@ fn words_of(alloc: Global, words: &[&str]) -> Result<Vec<String>, Fail> {
 #[test]
 fn commands(rt: HostRuntime) -> Result<(), Fail> {
     let alloc = rt.alloc();
-    let rows: [(&[&str], Command, Need); 8] = [
+    let rows: [(&[&str], Command, Need); 9] = [
         (
             &["format", "2", "4096"],
             Command::Format {
@@ -70,7 +71,18 @@ fn commands(rt: HostRuntime) -> Result<(), Fail> {
             },
             Need::Existing,
         ),
-        (&["replay", "relp"], Command::ReplayRelp, Need::Existing),
+        (
+            &["replay", "relp"],
+            Command::Replay { proto: Proto::Relp },
+            Need::Existing,
+        ),
+        (
+            &["replay", "lumberjack"],
+            Command::Replay {
+                proto: Proto::Lumberjack,
+            },
+            Need::Existing,
+        ),
     ];
     for (words, command, need) in rows {
         let words = words_of(alloc, words)?;
@@ -84,7 +96,7 @@ fn commands(rt: HostRuntime) -> Result<(), Fail> {
 #[test]
 fn no_commands(rt: HostRuntime) -> Result<(), Fail> {
     let alloc = rt.alloc();
-    let rows: [&[&str]; 25] = [
+    let rows: [&[&str]; 28] = [
         &[],
         &["format"],
         &["format", "0", "4096"],
@@ -110,6 +122,9 @@ fn no_commands(rt: HostRuntime) -> Result<(), Fail> {
         &["replay", "hec"],
         &["relp", "replay"],
         &["replay", "relp", "x"],
+        &["replay", "lumber"],
+        &["replay", "Lumberjack"],
+        &["replay", "lumberjack", "relp"],
     ];
     for words in rows {
         let words = words_of(alloc, words)?;
@@ -191,6 +206,38 @@ fn texts(rt: HostRuntime) -> Result<(), Fail> {
             },
             66,
             "fault at 0: ack from writer",
+        ),
+        (
+            Note::Fault {
+                at: 19,
+                why: Why::Compressed,
+            },
+            66,
+            "fault at 19: compressed",
+        ),
+        (
+            Note::Fault {
+                at: 0,
+                why: Why::Version,
+            },
+            66,
+            "fault at 0: version",
+        ),
+        (
+            Note::Fault {
+                at: 1,
+                why: Why::Kind,
+            },
+            66,
+            "fault at 1: type",
+        ),
+        (
+            Note::Fault {
+                at: 2,
+                why: Why::TooMany,
+            },
+            66,
+            "fault at 2: too many",
         ),
         (Note::Busy { held: 10_000 }, 67, "id table full: 10000 held"),
         (

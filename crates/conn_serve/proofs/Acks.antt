@@ -20,10 +20,11 @@ use Rattle.spool_log.specs.declared.fault.TakeFault.{TakeFault}
 use Rattle.spool_log.specs.declared.fault.TakeFault.TheVariants as fault
 use Rattle.desk_access.specs.Call.{Call, taken_of}
 use Rattle.conn_serve.specs.Step.{Step, frames_of, calls_of, text_of}
-use Rattle.conn_serve.specs.Protocol.{IsNothing, EndsAtFrame, Ending, AreMoves}
+use Rattle.conn_serve.specs.Protocol.{IsNothing, EndsAtFrame, EndsAtMove, Ending, AreMoves}
 use Rattle.conn_serve.specs.Relp.{relp, last_text, Carries, IsDue, IsRefused, IsStarved, EndsAtAct}
 use Rattle.conn_serve.specs.Acked.{is_success, successes, units, AckedIsTaken}
 use Rattle.conn_serve.proofs.Counting.{taken_then}
+use Rattle.conn_serve.proofs.Splitting.{spelled_parts}
 
 pushed : (b : Bool) (t : ℕ) (xs ys : List ℕ) → (if b then t ∷ xs else xs) ++ ys ≡ (if b then t ∷ (xs ++ ys) else (xs ++ ys))
 pushed true t xs ys = refl
@@ -180,36 +181,41 @@ act_answers is_open r f conn index late part ReadFault low e = refusal_said conn
 act_answers is_open r f conn index late part DiskFault low e = refusal_said conn index (act_of is_open r f) late part DiskFault e
 act_answers is_open r f conn index late part (NotSpool at) low e = refusal_said conn index (act_of is_open r f) late part (NotSpool at) e
 
-frame_answers : (conn : ℕ) (steps : List (Step Frame)) (tail : List ℕ) (late : List Call) (part : List ℕ) (talk : Talk) → EndsAtFrame (relp conn) steps tail late part talk → LastAnswers late part
-frame_answers conn steps tail late part talk e =
+frame_answers : (conn : ℕ) (steps : List (Step Frame)) (held : List Frame) (tail : List ℕ) (late : List Call) (part : List ℕ) (talk : Talk) → EndsAtFrame (relp conn) steps held tail late part talk → LastAnswers late part
+frame_answers conn steps held tail late part talk e =
     let f = e.0 in
     let stops = e.5 in
     let low : f.txnr ≤ 999999999 = (spelling_fits f e.1 e.3).txnr in
     let at = subst (λ (a : RelpAct). EndsAtAct conn _ a late part talk) stops.1.2 stops.2 in
     act_answers _ stops.1.0 f conn _ late part talk low at
 
-end_answers : (conn : ℕ) (b : List ℕ) (steps : List (Step Frame)) (at : ℕ) (tail : List ℕ) (late : List Call) (part : List ℕ) (talk : Talk) → Ending (relp conn) b steps at tail late part talk → LastAnswers late part
-end_answers conn b steps at tail late part Ended e = nothing late part e.1
-end_answers conn b steps at tail late part (Truncated place) e = nothing late part e.3
-end_answers conn b steps at tail late part (Fault place why) e = nothing late part e.1
-end_answers conn b steps at tail late part ReadFault e = nothing late part e.1
-end_answers conn b steps at tail late part (TooMuch place) e = nothing late part e.3
-end_answers conn b steps at tail late part NoMemory (inl e) = nothing late part e
-end_answers conn b steps at tail late part NoMemory (inr e) = frame_answers conn steps tail late part NoMemory e
-end_answers conn b steps at tail late part Closed e = frame_answers conn steps tail late part Closed e
-end_answers conn b steps at tail late part (Full need room) e = frame_answers conn steps tail late part (Full need room) e
-end_answers conn b steps at tail late part (TooLarge need most) e = frame_answers conn steps tail late part (TooLarge need most) e
-end_answers conn b steps at tail late part (Busy held) e = frame_answers conn steps tail late part (Busy held) e
-end_answers conn b steps at tail late part (Spent end) e = frame_answers conn steps tail late part (Spent end) e
-end_answers conn b steps at tail late part (NoMore run) e = frame_answers conn steps tail late part (NoMore run) e
-end_answers conn b steps at tail late part WriteFault e = frame_answers conn steps tail late part WriteFault e
-end_answers conn b steps at tail late part DiskFault e = frame_answers conn steps tail late part DiskFault e
-end_answers conn b steps at tail late part (NotSpool place) e = frame_answers conn steps tail late part (NotSpool place) e
+move_answers : (conn : ℕ) (b : List ℕ) (steps : List (Step Frame)) (held : List Frame) (at : ℕ) (tail : List ℕ) (late : List Call) (part : List ℕ) (talk : Talk) → EndsAtMove (relp conn) b steps held at tail late part talk → LastAnswers late part
+move_answers conn b steps held at tail late part talk (inl e) = frame_answers conn steps held tail late part talk e
+move_answers conn b steps held at tail late part talk (inr e) = absurd e.2
+
+end_answers : (conn : ℕ) (b : List ℕ) (steps : List (Step Frame)) (held : List Frame) (at : ℕ) (tail : List ℕ) (late : List Call) (part : List ℕ) (talk : Talk) → Ending (relp conn) b steps held at tail late part talk → LastAnswers late part
+end_answers conn b steps held at tail late part Ended e = nothing late part e.1
+end_answers conn b steps held at tail late part (Truncated place) e = nothing late part e.1
+end_answers conn b steps held at tail late part (Fault place why) e = nothing late part e.1
+end_answers conn b steps held at tail late part ReadFault e = nothing late part e.1
+end_answers conn b steps held at tail late part (TooMuch place) e = nothing late part e.3
+end_answers conn b steps held at tail late part NoMemory (inl e) = nothing late part e
+end_answers conn b steps held at tail late part NoMemory (inr e) = move_answers conn b steps held at tail late part NoMemory e
+end_answers conn b steps held at tail late part Closed e = move_answers conn b steps held at tail late part Closed e
+end_answers conn b steps held at tail late part (Full need room) e = move_answers conn b steps held at tail late part (Full need room) e
+end_answers conn b steps held at tail late part (TooLarge need most) e = move_answers conn b steps held at tail late part (TooLarge need most) e
+end_answers conn b steps held at tail late part (Busy count) e = move_answers conn b steps held at tail late part (Busy count) e
+end_answers conn b steps held at tail late part (Spent end) e = move_answers conn b steps held at tail late part (Spent end) e
+end_answers conn b steps held at tail late part (NoMore run) e = move_answers conn b steps held at tail late part (NoMore run) e
+end_answers conn b steps held at tail late part WriteFault e = move_answers conn b steps held at tail late part WriteFault e
+end_answers conn b steps held at tail late part DiskFault e = move_answers conn b steps held at tail late part DiskFault e
+end_answers conn b steps held at tail late part (NotSpool place) e = move_answers conn b steps held at tail late part (NotSpool place) e
 
 pub acked_is_taken : AckedIsTaken
 acked_is_taken conn b calls text talk c answers front rest spelled whole =
-    let first = step_answers conn [] c.steps c.front c.each c.spelled in
-    let last = end_answers conn b c.steps (length c.front) c.tail c.late c.part talk c.ending in
+    let own_front = spelled_parts IsSpelling (frames_of c.steps) c.held c.front c.spelled in
+    let first = step_answers conn [] c.steps own_front.0 c.each own_front.2 in
+    let last = end_answers conn b c.steps c.held (length c.front) c.tail c.late c.part talk c.ending in
     let behind = last.answers in
     let all = spelled_append frames.relp first.frames behind.frames (text_of c.steps) (c.part ++ last.behind) first.spelled behind.spelled in
     let same : text_of c.steps ++ (c.part ++ last.behind) ≡ front ++ (rest ++ last.behind) =

@@ -75,3 +75,8 @@ ok_then (Err e) P Q p f = tt
 pub err_is : {T E : Type 0} (r : Result T E) (e : E) (P : E → Type 0) → IsErrAnd r (λ x. x ≡ e) → P e → IfErr r P
 err_is (Ok x) e P h p = tt
 err_is (Err x) e P h p = subst P (sym h) p
+
+-- a fact of an error follows from two others
+pub err_both : {T E : Type 0} (r : Result T E) (P Q R : E → Type 0) → IfErr r P → IfErr r Q → ((e : E) → P e → Q e → R e) → IfErr r R
+err_both (Ok x) P Q R p q f = tt
+err_both (Err e) P Q R p q f = f e p q

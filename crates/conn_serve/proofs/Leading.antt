@@ -4,7 +4,7 @@ use Rattle.std.proofs.lemmas.List.{append-nil}
 use Rattle.edge_io.proofs.Known.{appends_none, appends_then}
 use Rattle.desk_access.specs.Call.{Call}
 use Rattle.conn_serve.specs.Step.{count}
-use Rattle.conn_serve.specs.Done.{Done, Leads}
+use Rattle.conn_serve.specs.Done.{Done, Leads, SoFar}
 use Rattle.conn_serve.proofs.Counting.{count_then}
 
 -- where nothing was done, what was so is so
@@ -30,3 +30,20 @@ done_then first second both u v w l m n From Between To join p q = record {
       subst (λ (calls : List Call). To fed calls (said ++ (p.text ++ q.text))) (append_assoc called p.calls q.calls)
       (subst (λ (text : List ℕ). To fed ((called ++ p.calls) ++ q.calls) text) (append_assoc said p.text q.text) to);
 }
+
+-- what was so of all that was done so far is so of it now
+pub so_far_then : (ran : List Call → Type 0) (w w' : Option (List ℕ)) (n n' : ℕ) (From To : List ℕ → List Call → List ℕ → Type 0) → SoFar From n → Done ran w w' n n' (Leads n From To) → SoFar To n'
+so_far_then ran w w' n n' From To s d = record {
+  bytes = s.bytes;
+  calls = s.calls ++ d.calls;
+  text = s.text ++ d.text;
+  counted = omega (arith, s.counted, d.counted, count_then s.calls d.calls);
+  served = d.is s.bytes s.calls s.text s.counted s.served;
+}
+
+pub so_far_map : (n : ℕ) (From To : List ℕ → List Call → List ℕ → Type 0) → ((fed : List ℕ) (calls : List Call) (text : List ℕ) → From fed calls text → To fed calls text) → SoFar From n → SoFar To n
+so_far_map n From To on s = record { bytes = s.bytes; calls = s.calls; text = s.text; counted = s.counted; served = on s.bytes s.calls s.text s.served }
+
+-- what is so of what was done follows from what is
+pub done_map : (ran : List Call → Type 0) (w w' : Option (List ℕ)) (n n' : ℕ) (Is Is' : List Call → List ℕ → Type 0) → Done ran w w' n n' Is → ((calls : List Call) (text : List ℕ) → Is calls text → Is' calls text) → Done ran w w' n n' Is'
+done_map ran w w' n n' Is Is' d on = record { calls = d.calls; text = d.text; made = d.made; wrote = d.wrote; counted = d.counted; is = on d.calls d.text d.is }

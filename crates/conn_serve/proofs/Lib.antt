@@ -2,6 +2,11 @@ mod Acting
 mod Counting
 mod Leading
 mod Splitting
+mod Moving
+mod Batching
 mod Sessions
+mod LumberActing
+mod LumberSessions
 mod Running
 mod Acks
+mod LumberAcks

@@ -4,11 +4,11 @@ use Rattle.std.proofs.lemmas.List.{append-nil}
 use Rattle.std.specs.Io.KnownBytes.{Appends, Consumes}
 use Rattle.edge_io.proofs.Known.{appends_none, appends_then, consumes_none, consumes_then}
 use Rattle.event_form.specs.declared.talk.Talk.{Talk}
-use Rattle.event_form.specs.declared.talk.Talk.TheVariants.{ReadFault, NoMemory}
+use Rattle.event_form.specs.declared.talk.Talk.TheVariants.{Ended, Closed, Fault, Truncated, Full, TooLarge, Busy, Spent, NoMore, TooMuch, ReadFault, WriteFault, DiskFault, NotSpool, NoMemory}
 use Rattle.desk_access.specs.Call.{Call}
 use Rattle.conn_serve.specs.Step.{count}
-use Rattle.conn_serve.specs.Done.{Done, Leads}
-use Rattle.conn_serve.specs.Endings.{MayEnd}
+use Rattle.conn_serve.specs.Done.{Done, Leads, SoFar}
+use Rattle.conn_serve.specs.Endings.{MayEnd, IsByFault, IsAtEndOfInput}
 use Rattle.conn_serve.specs.Serves.{Serves}
 use Rattle.conn_serve.proofs.Counting.{count_then}
 
@@ -118,3 +118,26 @@ serves_unread Served Carried start given given' left left' written written' ran 
     serves Carried start (told given' left' written') ran taken (total + length more.0) talk
     (progress_fed Served (λ bytes calls text. Carried bytes calls text talk) start given given' left left' written written' ran taken total (length more.0) more.0 p refl more.1 more.2 kept
     (λ fed calls text s. subst (λ (t : Talk). Carried (fed ++ more.0) calls text t) (sym is) (may.no_memory fed more.0 calls text s)))
+
+-- all that was done so far, told of the same number
+pub so_far_of : (Served : ℕ → List ℕ → List Call → List ℕ → Type 0) (start now : Told) (ran : List Call → Type 0) (taken total k number : ℕ) → k ≡ number → Progress (Served number) start now ran taken total → SoFar (Served k) taken
+so_far_of Served start now ran taken total k number same p = record { bytes = p.bytes; calls = p.calls; text = p.text; counted = p.counted; served = subst (λ (n : ℕ). Served n p.bytes p.calls p.text) (sym same) p.served }
+
+-- an ending by the end of the input comes where nothing more came
+pub by_end : (talk : Talk) (len : ℕ) → IsByFault talk ⊎ ((len ≡ 0) × IsAtEndOfInput talk) → IsAtEndOfInput talk → len ≡ 0
+by_end talk len (inr e) at = e.0
+by_end Ended len (inl f) at = absurd f
+by_end (Truncated place) len (inl f) at = absurd f
+by_end (Fault place why) len (inl f) at = absurd at
+by_end Closed len (inl f) at = absurd at
+by_end (Full need room) len (inl f) at = absurd at
+by_end (TooLarge need most) len (inl f) at = absurd at
+by_end (Busy held) len (inl f) at = absurd at
+by_end (Spent end) len (inl f) at = absurd at
+by_end (NoMore run) len (inl f) at = absurd at
+by_end (TooMuch place) len (inl f) at = absurd at
+by_end ReadFault len (inl f) at = absurd at
+by_end WriteFault len (inl f) at = absurd at
+by_end DiskFault len (inl f) at = absurd at
+by_end (NotSpool place) len (inl f) at = absurd at
+by_end NoMemory len (inl f) at = absurd at

@@ -3,7 +3,7 @@ use Rattle.std.proofs.Common.{◌≡◌, inl, inr, ℕ, ◌+◌, ◌^◌, ◌<�
 use Rattle.std.proofs.lemmas.List.{append-nil}
 use Rattle.std.specs.Prelude.{IfNone}
 use Rattle.event_form.specs.declared.talk.Talk.{Talk}
-use Rattle.event_form.specs.declared.talk.Talk.TheVariants.{Ended, Closed, Fault, Truncated, Full, TooLarge, Busy, Spent, NoMore, TooMuch, ReadFault, WriteFault, DiskFault, NotSpool, NoMemory}
+use Rattle.event_form.specs.declared.talk.Talk.TheVariants.{Ended, Fault, Truncated, TooMuch, ReadFault, NoMemory}
 use Rattle.relp_frame.specs.declared.frame.Frame.{Frame}
 use Rattle.relp_frame.specs.declared.fault.RelpFault.{RelpFault}
 use Rattle.relp_frame.specs.Spelling.{IsSpelling}
@@ -13,13 +13,14 @@ use Rattle.relp_session.specs.Session.{opened}
 use Rattle.stream_grammar.specs.Framing.{IsStream, IsFaulty}
 use Rattle.desk_access.specs.Call.{Call}
 use Rattle.conn_serve.specs.Step.{Step, frames_of, calls_of, text_of, count}
-use Rattle.conn_serve.specs.Protocol.{Protocol, EndsAtFrame, Ending, Carried}
+use Rattle.conn_serve.specs.Protocol.{Ending, Carried}
 use Rattle.conn_serve.specs.Relp.{relp, CarriesFrame, StopsAtFrame, why_of}
 use Rattle.conn_serve.specs.Done.{Done, Leads}
 use Rattle.conn_serve.specs.Endings.{MayEnd, IsAtFrame}
 use Rattle.conn_serve.specs.RelpServing.{Served, HaltsAtFrame}
+use Rattle.conn_serve.proofs.Moving.{at_move}
 use Rattle.conn_serve.proofs.Counting.{frames_then, calls_then, text_then, moves_push, count_moves}
-use Rattle.conn_serve.proofs.Splitting.{split, split_next, none_waits, frames_count}
+use Rattle.conn_serve.proofs.Splitting.{spelled_none, split, split_next, none_waits, frames_count}
 
 -- nothing was served
 pub served_none : (conn : ℕ) (reader : Reader) (is_open : Bool) (fault : Option RelpFault) → Reads [] [] reader → is_open ≡ opened [] → fault ≡ reader.fault → Served conn reader is_open fault [] [] []
@@ -69,24 +70,6 @@ served_frame ran w w' n n' conn reader reader' is_open is_open' fault f took kep
       };
 }
 
--- the endings at a frame
-at_frame : {F : Type 0} (p : Protocol F) (b : List ℕ) (steps : List (Step F)) (at : ℕ) (tail : List ℕ) (late : List Call) (part : List ℕ) (talk : Talk) → IsAtFrame talk → EndsAtFrame p steps tail late part talk → Ending p b steps at tail late part talk
-at_frame p b steps at tail late part Ended is e = absurd is
-at_frame p b steps at tail late part Closed is e = e
-at_frame p b steps at tail late part (Fault place why) is e = absurd is
-at_frame p b steps at tail late part (Truncated place) is e = absurd is
-at_frame p b steps at tail late part (Full need room) is e = e
-at_frame p b steps at tail late part (TooLarge need most) is e = e
-at_frame p b steps at tail late part (Busy held) is e = e
-at_frame p b steps at tail late part (Spent end) is e = e
-at_frame p b steps at tail late part (NoMore run) is e = e
-at_frame p b steps at tail late part (TooMuch place) is e = absurd is
-at_frame p b steps at tail late part ReadFault is e = absurd is
-at_frame p b steps at tail late part WriteFault is e = e
-at_frame p b steps at tail late part DiskFault is e = e
-at_frame p b steps at tail late part (NotSpool place) is e = e
-at_frame p b steps at tail late part NoMemory is e = inr e
-
 -- the connection ends at the first frame that waits, or for want of memory
 pub served_halt : (ran : List Call → Type 0) (w w' : Option (List ℕ)) (n n' conn : ℕ) (reader : Reader) (is_open : Bool) (fault : Option RelpFault) (f : Frame) (ws : List Frame) (talk : Talk) → reader.waiting ≡ f ∷ ws → IsAtFrame talk
     → (k : ℕ) → k ≡ conn → Done ran w w' n n' (HaltsAtFrame k is_open n f talk) → Done ran w w' n n' (Leads n (Served conn reader is_open fault) (λ fed calls text. Carried (relp conn) fed calls text talk))
@@ -100,21 +83,23 @@ served_halt ran w w' n n' conn reader is_open fault f ws talk waits at k same d 
       let r = split_next fed (frames_of s.steps) f ws reader s.reads waits in record {
         steps = s.steps;
         each = s.each;
+        held = [];
+        kept = refl;
         front = r.3.front;
         tail = r.0 ++ r.1;
         late = d.calls;
         part = d.text;
-        spelled = r.3.spelled;
+        spelled = spelled_none IsSpelling (frames_of s.steps) r.3.front r.3.spelled;
         bytes = r.3.whole;
         made = ap (λ (l : List Call). l ++ d.calls) s.made;
         wrote = ap (λ (l : List ℕ). l ++ d.text) s.wrote;
         ending = elim d.is [
-          | inl starved ↦ subst (λ (t : Talk). Ending (relp conn) fed s.steps (length r.3.front) (r.0 ++ r.1) d.calls d.text t) (sym starved.1) (inl starved.0)
+          | inl starved ↦ subst (λ (t : Talk). Ending (relp conn) fed s.steps [] (length r.3.front) (r.0 ++ r.1) d.calls d.text t) (sym starved.1) (inl starved.0)
           | inr stops ↦
               let index : n ≡ count (calls_of s.steps) = counted ∙ ap count s.made in
               let here : StopsAtFrame conn (opened (frames_of s.steps)) n f d.calls d.text talk = subst (λ (b : Bool). StopsAtFrame conn b n f d.calls d.text talk) s.opens (subst (λ (c : ℕ). StopsAtFrame c is_open n f d.calls d.text talk) same stops) in
               let there : StopsAtFrame conn (opened (frames_of s.steps)) (count (calls_of s.steps)) f d.calls d.text talk = subst (λ (i : ℕ). StopsAtFrame conn (opened (frames_of s.steps)) i f d.calls d.text talk) index here in
-              at_frame (relp conn) fed s.steps (length r.3.front) (r.0 ++ r.1) d.calls d.text talk at (f, r.0, r.1, r.2, refl, there)
+              at_move (relp conn) fed s.steps [] (length r.3.front) (r.0 ++ r.1) d.calls d.text talk at (inl (f, r.0, r.1, r.2, refl, there))
         ];
       };
 }
@@ -125,14 +110,16 @@ whole_to b frames at rest None is r = r
 whole_to b frames at rest (Some e) is r = cc
 
 module _ (conn : ℕ) (reader : Reader) (is_open : Bool) (fault : Option RelpFault) (fed : List ℕ) (calls : List Call) (text : List ℕ) (s : Served conn reader is_open fault fed calls text) where
-  whole : reader.waiting ≡ [] → fault ≡ None → IsStream IsSpelling fed (frames_of s.steps) reader.at reader.rest
-  whole none sound = whole_to fed (frames_of s.steps) reader.at reader.rest reader.fault (sym s.told ∙ sound) (none_waits fed (frames_of s.steps) reader s.reads none)
+  whole : reader.waiting ≡ [] → fault ≡ None → IsStream IsSpelling fed (frames_of s.steps ++ []) reader.at reader.rest
+  whole none sound = whole_to fed (frames_of s.steps ++ []) reader.at reader.rest reader.fault (sym s.told ∙ sound) (none_waits fed (frames_of s.steps) reader s.reads none)
 
   -- an ending behind the frames served, with nothing done for it
-  carried_whole : (i : IsStream IsSpelling fed (frames_of s.steps) reader.at reader.rest) (talk : Talk) → Ending (relp conn) fed s.steps (length i.front) reader.rest [] [] talk → Carried (relp conn) fed calls text talk
+  carried_whole : (i : IsStream IsSpelling fed (frames_of s.steps ++ []) reader.at reader.rest) (talk : Talk) → Ending (relp conn) fed s.steps [] (length i.front) reader.rest [] [] talk → Carried (relp conn) fed calls text talk
   carried_whole i talk ending = record {
     steps = s.steps;
     each = s.each;
+    held = [];
+    kept = refl;
     front = i.front;
     tail = reader.rest;
     late = [];
@@ -144,14 +131,14 @@ module _ (conn : ℕ) (reader : Reader) (is_open : Bool) (fault : Option RelpFau
     ending = ending;
   }
 
-  there : (i : IsStream IsSpelling fed (frames_of s.steps) reader.at reader.rest) → IsStream IsSpelling fed (frames_of s.steps) (length i.front) reader.rest
-  there i = subst (λ (n : ℕ). IsStream IsSpelling fed (frames_of s.steps) n reader.rest) (sym i.ends) i
+  there : (i : IsStream IsSpelling fed (frames_of s.steps ++ []) reader.at reader.rest) → IsStream IsSpelling fed (frames_of s.steps ++ []) (length i.front) reader.rest
+  there i = subst (λ (n : ℕ). IsStream IsSpelling fed (frames_of s.steps ++ []) n reader.rest) (sym i.ends) i
 
   pub carried_ended : reader.waiting ≡ [] → fault ≡ None → reader.rest ≡ [] → Carried (relp conn) fed calls text Ended
   carried_ended none sound empty = let i = whole none sound in carried_whole i Ended (empty, (refl, refl))
 
   pub carried_truncated : reader.waiting ≡ [] → fault ≡ None → 0 < length reader.rest → Carried (relp conn) fed calls text (Truncated reader.at)
-  carried_truncated none sound some = let i = whole none sound in carried_whole i (Truncated reader.at) (there i, some, sym i.ends, (refl, refl))
+  carried_truncated none sound some = let i = whole none sound in carried_whole i (Truncated reader.at) ((there i, some, sym i.ends), (refl, refl))
 
   pub carried_unread : reader.waiting ≡ [] → fault ≡ None → Carried (relp conn) fed calls text ReadFault
   carried_unread none sound = let i = whole none sound in carried_whole i ReadFault (there i, (refl, refl))
@@ -165,22 +152,24 @@ module _ (conn : ℕ) (reader : Reader) (is_open : Bool) (fault : Option RelpFau
       let r = split fed (frames_of s.steps) reader s.reads in record {
         steps = s.steps;
         each = s.each;
+        held = [];
+        kept = refl;
         front = r.1.front;
         tail = r.0 ++ piece;
         late = [];
         part = [];
-        spelled = r.1.spelled;
+        spelled = spelled_none IsSpelling (frames_of s.steps) r.1.front r.1.spelled;
         bytes = ap (λ (l : List ℕ). l ++ piece) r.1.whole ∙ append_assoc r.1.front r.0 piece;
         made = s.made ∙ sym (append-nil (calls_of s.steps));
         wrote = s.wrote ∙ sym (append-nil (text_of s.steps));
         ending = inl (refl, refl);
       }
 
-  faulty_to : (e : RelpFault) (told : Option RelpFault) → told ≡ Some e → ReadsTo fed (frames_of s.steps) reader.at reader.rest told → IsFaulty IsSpelling IsReason fed (frames_of s.steps) reader.at e.at e.why
+  faulty_to : (e : RelpFault) (told : Option RelpFault) → told ≡ Some e → ReadsTo fed (frames_of s.steps ++ []) reader.at reader.rest told → IsFaulty IsSpelling IsReason fed (frames_of s.steps ++ []) reader.at e.at e.why
   faulty_to e None is r = cc
   faulty_to e (Some d) is r =
       let same : d ≡ e = cc in
-      subst (λ (x : RelpFault). IsFaulty IsSpelling IsReason fed (frames_of s.steps) reader.at x.at x.why) same r.0
+      subst (λ (x : RelpFault). IsFaulty IsSpelling IsReason fed (frames_of s.steps ++ []) reader.at x.at x.why) same r.0
 
   -- the bytes have a fault
   pub carried_faulty : (e : RelpFault) → reader.waiting ≡ [] → fault ≡ Some e → Carried (relp conn) fed calls text (Fault e.at (why_of e.why))
@@ -188,6 +177,8 @@ module _ (conn : ℕ) (reader : Reader) (is_open : Bool) (fault : Option RelpFau
       let i = faulty_to e reader.fault (sym s.told ∙ is) (none_waits fed (frames_of s.steps) reader s.reads none) in record {
         steps = s.steps;
         each = s.each;
+        held = [];
+        kept = refl;
         front = i.stream.front;
         tail = i.rest ++ i.byte ∷ i.more;
         late = [];

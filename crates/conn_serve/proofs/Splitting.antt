@@ -14,17 +14,21 @@ pub record Split (b : List ℕ) (frames : List Frame) (tail : List ℕ) : Type 0
   pub whole : b ≡ front ++ tail
 
 -- the spelling of two lists of frames is that of each
-spelled_parts : (fs gs : List Frame) (b : List ℕ) → AreSpelled IsSpelling (fs ++ gs) b → (x : List ℕ) × (y : List ℕ) × AreSpelled IsSpelling fs x × AreSpelled IsSpelling gs y × (b ≡ x ++ y)
-spelled_parts [] gs b s = ([], b, refl, s, refl)
-spelled_parts (f ∷ fs) gs b s =
-    let r = spelled_parts fs gs s.1 s.4 in
+pub spelled_parts : {F : Type 0} (Spells : F → List ℕ → Type 0) (fs gs : List F) (b : List ℕ) → AreSpelled Spells (fs ++ gs) b → (x : List ℕ) × (y : List ℕ) × AreSpelled Spells fs x × AreSpelled Spells gs y × (b ≡ x ++ y)
+spelled_parts Spells [] gs b s = ([], b, refl, s, refl)
+spelled_parts Spells (f ∷ fs) gs b s =
+    let r = spelled_parts Spells fs gs s.1 s.4 in
     (s.0 ++ r.0, r.1, (s.0, r.0, s.2, refl, r.2), r.3, s.3 ∙ ap (λ (l : List ℕ). s.0 ++ l) r.4 ∙ sym (append_assoc s.0 r.0 r.1))
+
+-- no frames behind others
+pub spelled_none : {F : Type 0} (Spells : F → List ℕ → Type 0) (fs : List F) (b : List ℕ) → AreSpelled Spells fs b → AreSpelled Spells (fs ++ []) b
+spelled_none {F} Spells fs b s = subst (λ (l : List F). AreSpelled Spells l b) (sym (append-nil fs)) s
 
 -- the frames taken, and behind them those that wait and the rest
 parts : (b : List ℕ) (frames waiting : List Frame) (front rest : List ℕ) → AreSpelled IsSpelling (frames ++ waiting) front → b ≡ front ++ rest
     → (x : List ℕ) × AreSpelled IsSpelling waiting x × Split b frames (x ++ rest)
 parts b frames waiting front rest s whole =
-    let r = spelled_parts frames waiting front s in
+    let r = spelled_parts IsSpelling frames waiting front s in
     (r.1, r.3, record { front = r.0; spelled = r.2; whole = whole ∙ ap (λ (l : List ℕ). l ++ rest) r.4 ∙ append_assoc r.0 r.1 rest })
 
 -- whatever was read, the frames taken stand at the front, and then those that wait
@@ -50,8 +54,8 @@ split_next b frames f ws r k is =
     (s.2.0, s.2.1 ++ s.1, s.2.2, subst (Split b frames) (ap (λ (l : List ℕ). l ++ s.1) s.2.3 ∙ append_assoc s.2.0 s.2.1 s.1) s.3)
 
 -- where no frame waits
-pub none_waits : (b : List ℕ) (frames : List Frame) (r : Reader) → Reads b frames r → r.waiting ≡ [] → ReadsTo b frames r.at r.rest r.fault
-none_waits b frames r k is = subst (λ (l : List Frame). ReadsTo b l r.at r.rest r.fault) (ap (λ (w : List Frame). frames ++ w) is ∙ append-nil frames) k
+pub none_waits : (b : List ℕ) (frames : List Frame) (r : Reader) → Reads b frames r → r.waiting ≡ [] → ReadsTo b (frames ++ []) r.at r.rest r.fault
+none_waits b frames r k is = subst (λ (l : List Frame). ReadsTo b l r.at r.rest r.fault) (ap (λ (w : List Frame). frames ++ w) is) k
 
 spelled_count : (fs : List Frame) (b : List ℕ) → AreSpelled IsSpelling fs b → length fs ≤ length b
 spelled_count [] b s = omega arith

@@ -18,3 +18,11 @@ pub record Done (ran : List Call → Type 0) (written written' : Option (List �
 -- entries, the other is so of them now.
 abbrev pub Leads : ℕ → (List ℕ → List Call → List ℕ → Type 0) → (List ℕ → List Call → List ℕ → Type 0) → List Call → List ℕ → Type 0
 Leads before From To calls text = (fed : List ℕ) (called : List Call) (said : List ℕ) → before ≡ count called → From fed called said → To fed (called ++ calls) (said ++ text)
+
+-- So far, some bytes were served, of which so many entries were taken.
+pub record SoFar (Served : List ℕ → List Call → List ℕ → Type 0) (taken : ℕ) : Type 0 where
+  pub bytes : List ℕ
+  pub calls : List Call
+  pub text : List ℕ
+  pub counted : taken ≡ count calls
+  pub served : Served bytes calls text

@@ -1,8 +1,11 @@
 pub mod Step
 pub mod Protocol
 pub mod Relp
+pub mod Lumber
 pub mod Done
 pub mod Endings
 pub mod RelpServing
+pub mod LumberServing
 pub mod Serves
 pub mod Acked
+pub mod LumberAcked

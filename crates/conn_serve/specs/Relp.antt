@@ -22,7 +22,7 @@ use Rattle.spool_log.specs.declared.fault.TakeFault.TheVariants.{TooLarge, Spent
 use Rattle.spool_log.specs.Take.{IsRefusal}
 use Rattle.desk_access.specs.Call.{Call, takes}
 use Rattle.conn_serve.specs.Step.{frames_of, calls_of, count}
-use Rattle.conn_serve.specs.Protocol.{Protocol}
+use Rattle.conn_serve.specs.Protocol.{Protocol, IsNothing}
 
 -- the entry of an event of the connection, which has so many entries before it
 abbrev pub entry_of : ℕ → ℕ → ℕ → Event → Entry
@@ -100,12 +100,16 @@ why_of TooLong = why.TooLong
 why_of Trailer = why.Trailer
 
 -- RELP, on the connection of this number. A step is for one frame. The session is open where a frame
--- before it opened it, and the index of an entry counts those that were taken before.
+-- before it opened it, and the index of an entry counts those that were taken before. No frame is held, and
+-- where the input is over nothing is left to be done.
 abbrev pub relp : ℕ → Protocol Frame
 relp conn = record {
   Spells = IsSpelling;
   IsWhole = IsStream IsSpelling;
   IsFaulty = λ b frames place why. (at : ℕ) × (reason : RelpWhy) × IsFaulty IsSpelling IsReason b frames at place reason × (why ≡ why_of reason);
   IsMove = λ before s. (f : Frame) × (s.frames ≡ f ∷ []) × CarriesFrame conn (opened (frames_of before)) (count (calls_of before)) f s.calls s.text;
-  Stops = λ before. StopsAtFrame conn (opened (frames_of before)) (count (calls_of before));
+  AreHeld = λ before held. held ≡ [];
+  Stops = λ before held. StopsAtFrame conn (opened (frames_of before)) (count (calls_of before));
+  IsLastMove = λ before held. IsNothing;
+  StopsLast = λ before held late part talk. ⊥;
 }

@@ -9,11 +9,12 @@ use Rattle.desk_access.specs.Call.{Call}
 use Rattle.conn_serve.specs.Step.{count}
 use Rattle.conn_serve.specs.Protocol.{Carried}
 use Rattle.conn_serve.specs.Relp.{relp}
+use Rattle.conn_serve.specs.Lumber.{lumberjack}
 
--- What was carried, by the protocol of the rules. Lumberjack and HEC are not served yet.
+-- What was carried, by the protocol of the rules. HEC is not served yet.
 abbrev pub CarriedBy : Proto → ℕ → List ℕ → List Call → List ℕ → Talk → Type 0
 CarriedBy Relp conn b calls text talk = Carried (relp conn) b calls text talk
-CarriedBy Lumberjack conn b calls text talk = ⊥
+CarriedBy Lumberjack conn b calls text talk = Carried (lumberjack conn) b calls text talk
 CarriedBy Hec conn b calls text talk = ⊥
 
 -- Some bytes were read, calls made on the desk and a text written, and of these this was carried. The

@@ -1,6 +1,9 @@
 //! A connection's entries.
-ghost use Rattle.std.specs.Prelude.{◌≡◌, ◌+◌, ◌<◌, ◌^◌, OnOk, OnErr};
+ghost use Rattle.std.specs.Prelude.{◌≡◌, ◌+◌, ◌<◌, ◌^◌, [], ◌∷◌, length, All, OnOk, OnErr};
+ghost use Rattle.event_form.specs.Entry.{IsEntry};
 ghost use Rattle.event_form.specs.Event.{IsEvent};
+ghost use Rattle.desk_access.specs.Batch.{AreNext};
+ghost use Rattle.desk_access.specs.Call.{takes};
 ghost use Rattle.conn_serve.specs.Relp.{one_take};
 
 use desk_access::Access;
@@ -40,5 +43,28 @@ pub fn take_event<A: Access>(
     };
     let receipt = access.take(&[entry])?;
     connection.taken += 1;
+    Ok(receipt)
+}
+
+/// Takes entries into the spool as one group: they are the connection's next ones. The answers are those
+/// of the desk's `take`.
+pub fn take_group<A: Access>(
+    access: &mut A,
+    connection: &mut Connection,
+    entries: &[Entry],
+) -> Result<Receipt, TakeFault>
+    requires few { length entries.now < 2 ^ 32 }
+    requires limits { All IsEntry entries.now }
+    requires next { AreNext connection.old.number connection.old.taken entries.now }
+    requires early { connection.old.taken + length entries.now < 2 ^ 63 }
+    requires may { A.may_take access.old connection.old.number connection.old.taken }
+
+    ensures ran { A.ran access.old (takes entries.now result ∷ []) access.new }
+    ensures next { OnOk result (connection.new ≡ record connection.old { taken = connection.old.taken + length entries.now }) }
+    ensures stays { OnErr result (connection.new ≡ connection.old) }
+    ensures may { OnOk result (A.may_take access.new connection.old.number connection.new.taken) }
+{
+    let receipt = access.take(entries)?;
+    connection.taken += entries.len() as u64;
     Ok(receipt)
 }

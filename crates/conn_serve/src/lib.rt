@@ -1,6 +1,6 @@
 //! Serves one connection of a sender, from its first byte to its ending: reads it, stores the events that
 //! its protocol brings, answers them once they are durable, and says how the connection ended. The
-//! protocols' frames are those of their standards; today RELP is served.
+//! protocols' frames are those of their standards; today RELP and Lumberjack are served.
 //!
 //! The one contract is `Carried`: the bytes read are frames, none skipped, and a tail; the calls on the
 //! desk and the bytes written are those that the protocol's table gives for these frames, in order, and
@@ -9,6 +9,10 @@
 
 mod connection;
 mod laws;
+mod lumber;
+mod lumber_act;
+#[cfg(test)]
+mod lumber_tests;
 mod relp;
 mod relp_act;
 mod rules;
@@ -18,6 +22,6 @@ mod session;
 mod tests;
 mod text;
 
-pub use laws::acked_is_taken;
+pub use laws::{acked_is_taken, acks_are_of_groups};
 pub use rules::Rules;
 pub use serve::attend;

@@ -56,7 +56,11 @@ impl Session for RelpSession {
 
     ghost carried = { λ number. Carried (relp number) };
 
+    ghost closing = { λ number _ talk fed calls text. Carried (relp number) fed calls text talk };
+
     ghost waiting = { λ s. length s.reader.waiting };
+
+    ghost idle = { λ s. s.reader.waiting ≡ [] };
 
     ghost settled = { λ s. (s.reader.waiting ≡ []) × (s.fault ≡ None) };
 
@@ -99,5 +103,14 @@ impl Session for RelpSession {
             None => Talk::Ended,
             Some(at) => Talk::Truncated { at },
         }
+    }
+
+    fn finish<L: Link, A: Access>(
+        &mut self,
+        link: &mut L,
+        access: &mut A,
+        connection: &mut Connection,
+    ) -> Result<(), Talk> {
+        Ok(())
     }
 }

@@ -25,8 +25,8 @@ use relp_session::{RelpAct, RelpCore, closing_hint, stored_reply};
 use spool_log::TakeFault;
 use std::alloc::Global;
 
-// The ending by a take that wasn't answered Ok.
-fn talk_of(fault: TakeFault) -> Talk
+/// The ending by a take that wasn't answered Ok.
+pub fn talk_of(fault: TakeFault) -> Talk
     ensures { result ≡ talk_of fault }
 {
     match fault {

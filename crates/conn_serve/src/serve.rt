@@ -1,13 +1,14 @@
 //! Serving one connection.
-ghost use Rattle.std.specs.Prelude.{◌≡◌, ◌⊎◌, ◌+◌, ◌<◌, ◌≤◌, ◌^◌, ℕ, List, [], ◌++◌, length, IfOk, IfErr, OnErr, IsErrOf};
+ghost use Rattle.std.specs.Prelude.{◌≡◌, ◌⊎◌, ◌+◌, ◌<◌, ◌≤◌, ◌^◌, ℕ, List, [], ◌++◌, length, IfOk, IfErr, IfSome, IfNone, OnErr, IsErrOf};
 ghost use Rattle.std.specs.Io.KnownBytes.{Appends, Consumes, IsAtEnd};
 ghost use Rattle.foundation.specs.Faults.{Rose};
 ghost use Rattle.desk_access.specs.Call.{Call};
 ghost use Rattle.conn_serve.specs.Step.{count};
-ghost use Rattle.conn_serve.specs.Endings.{MayEnd, IsAtEndOfInput};
+ghost use Rattle.conn_serve.specs.Endings.{MayEnd, IsByFault, IsAtEndOfInput};
 ghost use Rattle.conn_serve.specs.Serves.{CarriedBy, Serves};
 
 use crate::connection::Connection;
+use crate::lumber::LumberSession;
 use crate::relp::RelpSession;
 use crate::rules::Rules;
 use crate::session::Session;
@@ -57,6 +58,22 @@ fn read_piece<L: Link, S: Session>(
     }
 }
 
+// Where no frame waits, and the last read brought so many bytes: how the connection is to end if its input
+// is over, by a fault of the bytes or because nothing came.
+fn over<S: Session>(session: &S, len: usize) -> Option<Talk>
+    requires idle { S.idle session.now }
+
+    ensures closing { IfSome result (λ talk. (number : ℕ) (fed : List ℕ) (calls : List Call) (text : List ℕ) → S.served number session.now fed calls text → S.closing number session.now talk fed calls text) }
+    ensures only { IfSome result (λ talk. IsByFault talk ⊎ ((len ≡ 0) × IsAtEndOfInput talk)) }
+    ensures may_end { IfNone result ((number : ℕ) → MayEnd (S.served number session.now) (S.carried number)) }
+    ensures more { IfNone result (0 < len) }
+{
+    if let Some(talk) = session.fault() {
+        return Some(talk);
+    }
+    if len == 0 { Some(session.end()) } else { None }
+}
+
 // Serves the connection to its end. The order in which endings are judged stands here: what a frame
 // that waits asks for, then the fault of the bytes, the end of the input, a read that fails, and the
 // most bytes that a connection may have.
@@ -92,29 +109,38 @@ fn run<L: Link, A: Access, S: Session>(
         if let Err(talk) = session.serve(alloc, link, access, connection) {
             return talk;
         }
-        if let Some(talk) = session.fault() {
-            return talk;
-        }
-        if len == 0 {
-            return session.end();
+        if let Some(talk) = over(session, len) {
+            return match session.finish(link, access, connection) {
+                Ok(()) => talk,
+                Err(other) => other,
+            };
         }
     }
     Talk::TooMuch { at: LIMIT }
 }
 
-/// Serves one connection to its end, by the protocol of the rules. It reads pieces of at most 8,192 bytes
-/// and does what the protocol's table says for each whole frame, one after another: of RELP, as rsyslog's
-/// RELP specification, version 0, has it, a `syslog` is taken into the spool as one group of one entry,
-/// and answered once it is durable. `conn` is the connection's number in the spool; its entries are
-/// counted from 0, and the unit of an entry is its frame's transaction number. Each text is written as
-/// one piece.
+/// Serves one connection to its end, by the protocol of the rules, which is RELP or Lumberjack. It reads
+/// pieces of at most 8,192 bytes and does what the protocol's table says for each whole frame, one after
+/// another. `conn` is the connection's number in the spool; its entries are counted from 0. Each text is
+/// written as one piece.
 ///
-/// Endings, in the order in which they are judged: what the first whole frame asks for that isn't carried
-/// whole (`WriteFault`; `Full`, `TooLarge` and `Spent`, with the hint written and no answer; `DiskFault`,
-/// `NotSpool` and `NoMemory`, with nothing written; a `close`, which is answered, with the hint: `Closed`,
-/// and bytes behind it are dropped); the fault of the bytes; the end of the input, `Ended` at a frame's end
-/// and else `Truncated`; a read that fails; and `TooMuch` once 2^40 bytes were read. `ReadFault` and
-/// `WriteFault` come only where the link's count rose. `NoMemory` may come at any frame and any read.
+/// - RELP, as rsyslog's RELP specification, version 0, has it: a `syslog` is taken into the spool as one
+///   group of one entry, and answered once it is durable. The unit of an entry is its frame's transaction
+///   number.
+/// - Lumberjack, as Elastic's protocol document, version 2, has it: events are staged, and each batch of
+///   them is taken as one group and then acknowledged with the sequence number of its last frame. The
+///   unit of an entry is its frame's sequence number. Where the input is over, by its end or by a fault,
+///   what is staged is one last batch. At `ReadFault`, `WriteFault`, `TooMuch` and `NoMemory` it is given
+///   up.
+///
+/// Endings, in the order in which they are judged: what a whole frame asks for that isn't carried whole
+/// (`WriteFault`; `Full`, `TooLarge` and `Spent`, with RELP's hint written and no answer; `DiskFault`,
+/// `NotSpool` and `NoMemory`, with nothing written; a `close` of RELP, which is answered, with the hint:
+/// `Closed`, and bytes behind it are dropped); the fault of the bytes; the end of the input, `Ended` at a
+/// frame's end and else `Truncated`; a read that fails; and `TooMuch` once 2^40 bytes were read. Where the
+/// last batch isn't stored or acknowledged whole, that is the ending in place of the fault or the end.
+/// `ReadFault` and `WriteFault` come only where the link's count rose. `NoMemory` may come at any frame
+/// and any read.
 pub fn attend<L: Link, A: Access>(
     alloc: Global,
     link: &mut L,
@@ -122,7 +148,7 @@ pub fn attend<L: Link, A: Access>(
     access: &mut A,
     conn: u64,
 ) -> Attended
-    requires relp { rules.now.proto ≡ Proto.Relp }
+    requires proto { (rules.now.proto ≡ Proto.Relp) ⊎ (rules.now.proto ≡ Proto.Lumberjack) }
     requires may { A.may_take access.old conn 0 }
 
     ensures carried { Serves (CarriedBy rules.now.proto conn) (L.given link.old) (L.given link.new) (L.left link.old) (L.left link.new) (L.taken link.old) (L.taken link.new) (λ calls. A.ran access.old calls access.new) result }
@@ -137,8 +163,17 @@ pub fn attend<L: Link, A: Access>(
         number: conn,
         taken: 0,
     };
-    let mut session = RelpSession::new(alloc);
-    let talk = run(alloc, link, access, &mut connection, &mut session);
+    let talk = match rules.proto {
+        Proto::Relp => {
+            let mut session = RelpSession::new(alloc);
+            run(alloc, link, access, &mut connection, &mut session)
+        }
+        Proto::Lumberjack => {
+            let mut session = LumberSession::new(alloc);
+            run(alloc, link, access, &mut connection, &mut session)
+        }
+        Proto::Hec => unreachable!(),
+    };
     Attended {
         talk,
         taken: connection.taken,

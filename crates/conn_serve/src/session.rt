@@ -4,7 +4,7 @@ ghost use Rattle.foundation.specs.Faults.{Rose};
 ghost use Rattle.event_form.specs.declared.talk.Talk.{Talk};
 ghost use Rattle.desk_access.specs.Call.{Call};
 ghost use Rattle.conn_serve.specs.Step.{count};
-ghost use Rattle.conn_serve.specs.Done.{Done, Leads};
+ghost use Rattle.conn_serve.specs.Done.{Done, Leads, SoFar};
 ghost use Rattle.conn_serve.specs.Endings.{MayEnd, IsAtFrame, IsByFault, IsAtEndOfInput};
 
 use crate::connection::Connection;
@@ -23,8 +23,15 @@ pub trait Session {
     /// A connection of this number that ends so has carried this.
     ghost carried: { ℕ → List ℕ → List Call → List ℕ → Talk → Type 0 };
 
-    /// How many entries the frames that wait may bring.
+    /// These bytes were served so, the input is over, and would end the connection so: what is to be done
+    /// for frames that are held is still to be done.
+    ghost closing: { ℕ → Self → Talk → List ℕ → List Call → List ℕ → Type 0 };
+
+    /// How many entries the frames that wait or are held may bring.
     ghost waiting: { Self → ℕ };
+
+    /// No frame waits.
+    ghost idle: { Self → Type 0 };
 
     /// No frame waits, and the bytes have no fault.
     ghost settled: { Self → Type 0 };
@@ -49,12 +56,14 @@ pub trait Session {
         connection: &mut Connection,
     ) -> Result<(), Talk>
         requires early { connection.old.taken + waiting self.old ≤ 2 ^ 40 }
+        requires so_far { SoFar (served connection.old.number self.old) connection.old.taken }
         requires may { A.may_take access.old connection.old.number connection.old.taken }
 
         ensures goes { OnOk result (Done (λ calls. A.ran access.old calls access.new) (L.taken link.old) (L.taken link.new) connection.old.taken connection.new.taken (Leads connection.old.taken (served connection.old.number self.old) (served connection.old.number self.new))) }
         ensures halts { IfErr result (λ talk. Done (λ calls. A.ran access.old calls access.new) (L.taken link.old) (L.taken link.new) connection.old.taken connection.new.taken (Leads connection.old.taken (served connection.old.number self.old) (λ fed calls text. carried connection.old.number fed calls text talk))) }
         ensures only { IfErr result IsAtFrame }
-        ensures none { OnOk result (waiting self.new ≡ 0) }
+        ensures none { OnOk result (idle self.new) }
+        ensures few { OnOk result (connection.new.taken + waiting self.new ≤ connection.old.taken + waiting self.old) }
         ensures extent { extent self.new ≤ extent self.old }
         ensures number { connection.new.number ≡ connection.old.number }
         ensures may { OnOk result (A.may_take access.new connection.old.number connection.new.taken) }
@@ -65,8 +74,8 @@ pub trait Session {
 
     /// Where no frame waits: the ending by the fault of the bytes, if they have one.
     fn fault(&self) -> Option<Talk>
-        requires { waiting self.now ≡ 0 }
-        ensures faulty { IfSome result (λ talk. (number : ℕ) (fed : List ℕ) (calls : List Call) (text : List ℕ) → served number self.now fed calls text → carried number fed calls text talk) }
+        requires { idle self.now }
+        ensures faulty { IfSome result (λ talk. (number : ℕ) (fed : List ℕ) (calls : List Call) (text : List ℕ) → served number self.now fed calls text → closing number self.now talk fed calls text) }
         ensures only { IfSome result IsByFault }
         ensures settled { IfNone result (settled self.now) }
         ensures may_end { IfNone result ((number : ℕ) → MayEnd (served number self.now) (carried number)) };
@@ -74,6 +83,26 @@ pub trait Session {
     /// Where no frame waits and the bytes have no fault: the ending by the end of the input.
     fn end(&self) -> Talk
         requires { settled self.now }
-        ensures ends { (number : ℕ) (fed : List ℕ) (calls : List Call) (text : List ℕ) → served number self.now fed calls text → carried number fed calls text result }
+        ensures ends { (number : ℕ) (fed : List ℕ) (calls : List Call) (text : List ℕ) → served number self.now fed calls text → closing number self.now result fed calls text }
         ensures only { IsAtEndOfInput result };
+
+    /// Where the input is over: does what is to be done for frames that are held. The error is the ending
+    /// of the connection in place of the other one.
+    fn finish<L: Link, A: Access>(
+        &mut self,
+        link: &mut L,
+        access: &mut A,
+        connection: &mut Connection,
+    ) -> Result<(), Talk>
+        requires early { connection.old.taken + waiting self.old ≤ 2 ^ 40 }
+        requires so_far { SoFar (served connection.old.number self.old) connection.old.taken }
+        requires may { A.may_take access.old connection.old.number connection.old.taken }
+
+        ensures goes { OnOk result (Done (λ calls. A.ran access.old calls access.new) (L.taken link.old) (L.taken link.new) connection.old.taken connection.new.taken (λ calls text. (over : Talk) → Leads connection.old.taken (closing connection.old.number self.old over) (λ fed called said. carried connection.old.number fed called said over) calls text)) }
+        ensures halts { IfErr result (λ talk. Done (λ calls. A.ran access.old calls access.new) (L.taken link.old) (L.taken link.new) connection.old.taken connection.new.taken (λ calls text. (over : Talk) → Leads connection.old.taken (closing connection.old.number self.old over) (λ fed called said. carried connection.old.number fed called said talk) calls text)) }
+        ensures only { IfErr result IsAtFrame }
+        ensures later { L.write_faults link.old ≤ L.write_faults link.new }
+        ensures cause { IsErrOf result Talk.WriteFault → Rose 1 (L.write_faults link.old) (L.write_faults link.new) }
+        ensures same { L.same link.old link.new }
+        ensures apart { L.write_apart link.old link.new };
 }

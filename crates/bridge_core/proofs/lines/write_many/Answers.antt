@@ -1,4 +1,4 @@
-use Rattle.std.proofs.Common.{◌<◌, List, ℕ, length}
+use Rattle.std.proofs.Common.{◌<◌, length}
 use Rattle.edge_io.specs.declared.whole.Stopped.{Stopped}
 use Rattle.spool_log.proofs.Faults.{if_err}
 use Rattle.bridge_core.specs.Written.{WritesFront}

@@ -1,4 +1,4 @@
-use Rattle.std.proofs.Common.{◌≡◌, List, refl, sym, ◌∙◌, subst, inl}
+use Rattle.std.proofs.Common.{refl, sym, ◌∙◌, subst, inl}
 use Rattle.edge_disk.specs.Disk.{LeavesOnly}
 use Rattle.spool_log.specs.Opening.{IsOpening}
 use Rattle.spool_log.specs.declared.opening.Opening.TheVariants.{Keep}

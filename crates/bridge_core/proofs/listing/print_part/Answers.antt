@@ -1,4 +1,4 @@
-use Rattle.std.proofs.Common.{◌≡◌, List, [], sym, ◌∙◌, subst}
+use Rattle.std.proofs.Common.{List, [], sym, ◌∙◌, subst}
 use Rattle.event_form.specs.declared.event.Entry.{Entry}
 use Rattle.bridge_words.specs.declared.note.Note.{Note}
 use Rattle.spool_log.specs.Outcome.{pending_from}

@@ -1,4 +1,4 @@
-use Rattle.std.proofs.Common.{◌≡◌, ℕ, ◌+◌, ◌≤◌, [], refl, sym, ◌∙◌, arith}
+use Rattle.std.proofs.Common.{◌+◌, ◌≤◌, ◌∙◌, arith}
 use Rattle.spool_state.specs.SpoolState.{end}
 use Rattle.spool_state.specs.Image.{StandsFor}
 use Rattle.edge_disk.proofs.Moments.{both, started}

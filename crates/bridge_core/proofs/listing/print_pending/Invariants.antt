@@ -1,4 +1,4 @@
-use Rattle.std.proofs.Common.{◌≡◌, ℕ, ◌-◌, ◌^◌, ◌≤◌, []}
+use Rattle.std.proofs.Common.{◌-◌, ◌^◌, ◌≤◌, []}
 use Rattle.spool_state.specs.SpoolState.{SpoolState}
 use Rattle.spool_state.specs.Image.{StandsFor}
 use Rattle.edge_disk.specs.Disk.{LeavesOnly}

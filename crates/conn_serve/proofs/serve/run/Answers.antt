@@ -1,6 +1,9 @@
-use Rattle.std.proofs.Common.{◌∙◌, arith}
+use Rattle.std.proofs.Common.{◌∙◌, ℕ, List, arith, sym, subst}
 use Rattle.std.specs.Prelude.{Err}
-use Rattle.conn_serve.proofs.Running.{told, serves, serves_unread, progress_fed, progress_served, progress_ends}
+use Rattle.std.specs.Io.KnownBytes.{IsAtEnd}
+use Rattle.desk_access.specs.Call.{Call}
+use Rattle.conn_serve.proofs.Leading.{done_map}
+use Rattle.conn_serve.proofs.Running.{told, serves, serves_unread, progress_fed, progress_served, progress_ends, so_far_of, by_end}
 use Rattle.conn_serve.proofs.serve.run.Goals as goal
 
 pub returns-in-Err-clause-serves : goal.returns-in-Err-clause-serves
@@ -25,22 +28,19 @@ returns-in-Err-serve-clause-serves g c =
     serves (g.S.Session.carried number) start _ _ _ _ talk
     (progress_served (λ k. served k c.read_piece.new.session) (λ k b cs t. g.S.Session.carried k b cs t talk) start _ _ _ _ _ _ _ _ _ _ _ _ _ number (λ xs ys p q. g.met.A.Access.ran_more _ _ _ xs ys p q) inv.same_number writes.0 writes.1 p c.in-Err-serve.ensures.halts)
 
-pub returns-in-Some-clause-serves : goal.returns-in-Some-clause-serves
-returns-in-Some-clause-serves g c =
+pub serve-requires-clause-so_far : goal.serve-requires-clause-so_far
+serve-requires-clause-so_far g c =
     let inv = c.loop-total.invariant in
     let number = c.args.connection.now.number in
     let fed = c.in-Ok.ensures.fed in
     let served = g.S.Session.served in
     let start = told (g.L.Source.given c.args.link.now) (g.L.Source.left c.args.link.now) (g.L.Sink.taken c.args.link.now) in
     let reads = g.met.L.Link.reads_keep _ _ c.in-Ok.ensures.apart in
-    let writes = g.met.L.Link.writes_keep _ _ c.serve.ensures.apart in
-    let talk = c.in-Some.talk in
     let p = progress_fed (served number c.loop-total.session) (served number c.read_piece.new.session) start _ _ _ _ _ _ _ _ _ _ fed.0 inv.progress fed.1 fed.2 fed.3 reads.0 (λ b cs t s. (fed.4 number b cs t s).0) in
-    let q = progress_served (λ k. served k c.read_piece.new.session) (λ k. served k c.serve.new.self) start _ _ _ _ _ _ _ _ _ _ _ _ _ number (λ xs ys p q. g.met.A.Access.ran_more _ _ _ xs ys p q) inv.same_number writes.0 writes.1 p c.in_default.ensures.goes in
-    serves (g.S.Session.carried number) start _ _ _ _ talk (progress_ends _ (λ b cs t. g.S.Session.carried number b cs t talk) start _ _ _ _ (λ b cs t size s. c.in-Some.ensures.faulty number b cs t s) q)
+    so_far_of (λ k. served k c.read_piece.new.session) _ _ _ _ _ _ number inv.same_number p
 
-pub returns-then-len-eq0-clause-serves : goal.returns-then-len-eq0-clause-serves
-returns-then-len-eq0-clause-serves g c =
+pub finish-requires-clause-so_far : goal.finish-requires-clause-so_far
+finish-requires-clause-so_far g c =
     let inv = c.loop-total.invariant in
     let number = c.args.connection.now.number in
     let fed = c.in-Ok.ensures.fed in
@@ -48,10 +48,57 @@ returns-then-len-eq0-clause-serves g c =
     let start = told (g.L.Source.given c.args.link.now) (g.L.Source.left c.args.link.now) (g.L.Sink.taken c.args.link.now) in
     let reads = g.met.L.Link.reads_keep _ _ c.in-Ok.ensures.apart in
     let writes = g.met.L.Link.writes_keep _ _ c.serve.ensures.apart in
-    let talk = c.end.result in
+    let p = progress_fed (served number c.loop-total.session) (served number c.read_piece.new.session) start _ _ _ _ _ _ _ _ _ _ fed.0 inv.progress fed.1 fed.2 fed.3 reads.0 (λ b cs t s. (fed.4 number b cs t s).0) in
+    let q = progress_served (λ k. served k c.read_piece.new.session) (λ k. served k c.serve.new.self) start _ _ _ _ _ _ _ _ (λ calls. g.A.Access.ran c.args.access.now calls c.serve.new.access) _ _ _ _ number (λ xs ys p q. g.met.A.Access.ran_more _ _ _ xs ys p q) inv.same_number writes.0 writes.1 p c.in_default.ensures.goes in
+    so_far_of (λ k. served k c.serve.new.self) _ _ _ _ _ _ number (c.in_default.ensures.number ∙ inv.same_number) q
+
+pub returns-in-Ok-finish-clause-serves : goal.returns-in-Ok-finish-clause-serves
+returns-in-Ok-finish-clause-serves g c =
+    let inv = c.loop-total.invariant in
+    let number = c.args.connection.now.number in
+    let fed = c.in-Ok.ensures.fed in
+    let served = g.S.Session.served in
+    let start = told (g.L.Source.given c.args.link.now) (g.L.Source.left c.args.link.now) (g.L.Sink.taken c.args.link.now) in
+    let reads = g.met.L.Link.reads_keep _ _ c.in-Ok.ensures.apart in
+    let writes = g.met.L.Link.writes_keep _ _ c.serve.ensures.apart in
+    let ends = g.met.L.Link.writes_keep _ _ c.finish.ensures.apart in
+    let talk = c.in-Some.talk in
+    let closing = λ (k : ℕ). g.S.Session.closing k c.serve.new.self talk in
+    let carried = λ (k : ℕ) (b : List ℕ) (cs : List Call) (t : List ℕ). g.S.Session.carried k b cs t talk in
     let p = progress_fed (served number c.loop-total.session) (served number c.read_piece.new.session) start _ _ _ _ _ _ _ _ _ _ fed.0 inv.progress fed.1 fed.2 fed.3 reads.0 (λ b cs t s. (fed.4 number b cs t s).0) in
     let q = progress_served (λ k. served k c.read_piece.new.session) (λ k. served k c.serve.new.self) start _ _ _ _ _ _ _ _ _ _ _ _ _ number (λ xs ys p q. g.met.A.Access.ran_more _ _ _ xs ys p q) inv.same_number writes.0 writes.1 p c.in_default.ensures.goes in
-    serves (g.S.Session.carried number) start _ _ _ _ talk (progress_ends _ (λ b cs t. g.S.Session.carried number b cs t talk) start _ _ _ _ (λ b cs t size s. c.end.ensures.ends number b cs t s) q)
+    let r = progress_ends _ (closing number) start _ _ _ _ (λ b cs t size s. c.in-Some.ensures.closing number b cs t s) q in
+    serves (g.S.Session.carried number) start _ _ _ _ talk
+    (progress_served closing carried start _ _ _ _ _ _ _ _ _ _ _ _ _ number (λ xs ys p q. g.met.A.Access.ran_more _ _ _ xs ys p q) (c.in_default.ensures.number ∙ inv.same_number) ends.0 ends.1 r
+    (done_map _ _ _ _ _ _ _ c.in-Ok-finish.ensures.goes (λ cs t all. all talk)))
+
+pub returns-in-Err-finish-clause-serves : goal.returns-in-Err-finish-clause-serves
+returns-in-Err-finish-clause-serves g c =
+    let inv = c.loop-total.invariant in
+    let number = c.args.connection.now.number in
+    let fed = c.in-Ok.ensures.fed in
+    let served = g.S.Session.served in
+    let start = told (g.L.Source.given c.args.link.now) (g.L.Source.left c.args.link.now) (g.L.Sink.taken c.args.link.now) in
+    let reads = g.met.L.Link.reads_keep _ _ c.in-Ok.ensures.apart in
+    let writes = g.met.L.Link.writes_keep _ _ c.serve.ensures.apart in
+    let ends = g.met.L.Link.writes_keep _ _ c.finish.ensures.apart in
+    let talk = c.in-Some.talk in
+    let other = c.in-Err-finish.other in
+    let closing = λ (k : ℕ). g.S.Session.closing k c.serve.new.self talk in
+    let carried = λ (k : ℕ) (b : List ℕ) (cs : List Call) (t : List ℕ). g.S.Session.carried k b cs t other in
+    let p = progress_fed (served number c.loop-total.session) (served number c.read_piece.new.session) start _ _ _ _ _ _ _ _ _ _ fed.0 inv.progress fed.1 fed.2 fed.3 reads.0 (λ b cs t s. (fed.4 number b cs t s).0) in
+    let q = progress_served (λ k. served k c.read_piece.new.session) (λ k. served k c.serve.new.self) start _ _ _ _ _ _ _ _ _ _ _ _ _ number (λ xs ys p q. g.met.A.Access.ran_more _ _ _ xs ys p q) inv.same_number writes.0 writes.1 p c.in_default.ensures.goes in
+    let r = progress_ends _ (closing number) start _ _ _ _ (λ b cs t size s. c.in-Some.ensures.closing number b cs t s) q in
+    serves (g.S.Session.carried number) start _ _ _ _ other
+    (progress_served closing carried start _ _ _ _ _ _ _ _ _ _ _ _ _ number (λ xs ys p q. g.met.A.Access.ran_more _ _ _ xs ys p q) (c.in_default.ensures.number ∙ inv.same_number) ends.0 ends.1 r
+    (done_map _ _ _ _ _ _ _ c.in-Err-finish.ensures.halts (λ cs t all. all talk)))
+
+pub returns-in-Ok-finish-clause-end : goal.returns-in-Ok-finish-clause-end
+returns-in-Ok-finish-clause-end g c = λ at.
+    let writes = g.met.L.Link.writes_keep _ _ c.serve.ensures.apart in
+    let ends = g.met.L.Link.writes_keep _ _ c.finish.ensures.apart in
+    let nothing = by_end c.in-Some.talk _ c.in-Some.ensures.only at in
+    subst IsAtEnd (sym (ends.1 ∙ writes.1)) (c.in-Ok.ensures.end nothing)
 
 pub loop-total-preserved : goal.loop-total-preserved
 loop-total-preserved g c =
@@ -66,7 +113,7 @@ loop-total-preserved g c =
     let p = progress_fed (served number c.loop-total.session) (served number c.read_piece.new.session) start _ _ _ _ _ _ _ _ _ _ fed.0 inv.progress fed.1 fed.2 fed.3 reads.0 (λ b cs t s. (fed.4 number b cs t s).0) in
     record {
       progress = progress_served (λ k. served k c.read_piece.new.session) (λ k. served k c.serve.new.self) start _ _ _ _ _ _ _ _ _ _ _ _ _ number (λ xs ys p q. g.met.A.Access.ran_more _ _ _ xs ys p q) inv.same_number writes.0 writes.1 p call.goes;
-      may_end = c.in_default-fault.ensures.may_end number;
+      may_end = c.in_default-over.ensures.may_end number;
       same_number = call.number ∙ inv.same_number;
       may = rw (← inv.same_number) call.may;
       extent = omega (arith, inv.extent, c.in-Ok.ensures.extent, call.extent);

@@ -12,7 +12,7 @@ use Rattle.conn_serve.proofs.relp.RelpSessionSession.serve.Goals as goal
 pub loop-frame-init : goal.loop-frame-init
 loop-frame-init g c = record {
   done = done_start _ _ _ _ (g.met.A.Access.ran_none _);
-  early = omega (arith, c.requires.early);
+  early = omega arith;
   same_number = refl;
   may = c.requires.may;
   extent = omega arith;

@@ -11,7 +11,7 @@ invariant-loop-frame g l =
     record {
       done : Done (λ calls. g.A.Access.ran l.fn.access calls l.access) (g.L.Sink.taken l.fn.link) (g.L.Sink.taken l.link) l.fn.connection.taken l.connection.taken
           (Leads l.fn.connection.taken (Served number was.reader was.core was.fault) (Served number now.reader now.core now.fault));
-      early : l.connection.taken + length now.reader.waiting ≤ 1099511627776;
+      early : l.connection.taken + length now.reader.waiting ≤ l.fn.connection.taken + length was.reader.waiting;
       same_number : l.connection.number ≡ number;
       may : g.A.Access.may_take l.access number l.connection.taken;
       extent : now.reader.at + length now.reader.rest ≤ was.reader.at + length was.reader.rest;

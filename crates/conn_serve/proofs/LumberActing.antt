@@ -1,0 +1,121 @@
+-- What was done for a frame of Lumberjack.
+use Rattle.std.proofs.Common.{◌≡◌, inr, ℕ, ◌+◌, ◌≤◌, ◌∙◌, true, false, List, [], ◌∷◌, ◌++◌, Option, length, refl, sym, ap, subst, arith, length-append}
+use Rattle.std.specs.Prelude.{Result, Ok, Err, OnOk}
+use Rattle.std.specs.List.{All}
+use Rattle.std.proofs.lemmas.List.{append-nil}
+use Rattle.std.proofs.lemmas.List.Elements.{All-nil, All-cons}
+use Rattle.edge_io.proofs.Known.{appends_none}
+use Rattle.event_form.specs.declared.event.Entry.{Entry}
+use Rattle.event_form.specs.Entry.{IsEntry}
+use Rattle.event_form.specs.declared.talk.Talk.{Talk}
+use Rattle.lumber_frame.specs.declared.frame.LumberFrame.{LumberFrame}
+use Rattle.lumber_session.specs.declared.act.LumberAct.{LumberAct}
+use Rattle.lumber_session.specs.declared.act.LumberAct.TheVariants.{Nothing, Stage, CommitFirst}
+use Rattle.lumber_session.specs.Acts.{Tells, commits}
+use Rattle.lumber_session.specs.Counting.{Core, IsBehind}
+use Rattle.lumber_session.specs.Staged.{staged}
+use Rattle.spool_log.specs.declared.fault.Receipt.{Receipt}
+use Rattle.spool_log.specs.declared.fault.TakeFault.{TakeFault}
+use Rattle.spool_log.specs.declared.fault.TakeFault.TheVariants.{TooLarge, Spent, Full, NotSpool, NoMemory, DiskFault}
+use Rattle.desk_access.specs.Batch.{AreNext}
+use Rattle.desk_access.specs.Call.{Call, takes, taken_of, TookSurely}
+use Rattle.conn_serve.specs.Done.{Done, Leads, SoFar}
+use Rattle.conn_serve.specs.Relp.{talk_of}
+use Rattle.conn_serve.specs.Lumber.{StoresGroup, EndsAtGroup, entries_of}
+use Rattle.conn_serve.specs.LumberServing.{Handled, HaltsAtFrame, stages, last_behind}
+use Rattle.conn_serve.proofs.Batching.{next_conn, entries_count, entries_next, handled_few, handled_on, handled_batch, handled_stop, now_staged}
+
+-- behind a group that was taken, the next one may be
+pub may_behind : (may : ℕ → ℕ → Type 0) (conn index n : ℕ) (es : List Entry) (receipt : Receipt) → may conn (index + length (taken_of (takes es (Ok receipt) ∷ []))) → n ≡ index + length es → may conn n
+may_behind may conn index n es receipt m is = let same : index + length (taken_of (takes es (Ok receipt) ∷ [])) ≡ n = omega (arith, is, length-append es []) in subst (may conn) same m
+
+-- the group wasn't taken
+group_refused : (group : List Entry) (seq : ℕ) (fault : TakeFault) → EndsAtGroup group seq (takes group (Err fault) ∷ []) [] (talk_of fault)
+group_refused group seq (TooLarge need most) = (TooLarge need most, refl, refl, refl)
+group_refused group seq (Spent end) = (Spent end, refl, refl, refl)
+group_refused group seq (Full need room) = (Full need room, refl, refl, refl)
+group_refused group seq (NotSpool at) = (NotSpool at, refl, refl, refl)
+group_refused group seq NoMemory = (NoMemory, refl, refl, refl)
+group_refused group seq DiskFault = (DiskFault, refl, refl, refl)
+
+pub done_refused : (ran : List Call → Type 0) (w : Option (List ℕ)) (n n' : ℕ) (group group' : List Entry) → group' ≡ group → (seq : ℕ) (fault : TakeFault) (talk : Talk) → ran (takes group' (Err fault) ∷ []) → n' ≡ n → talk ≡ talk_of fault → Done ran w w n n' (λ late part. EndsAtGroup group seq late part talk)
+done_refused ran w n n' group group' handed seq fault talk made same is = record {
+  calls = takes group (Err fault) ∷ [];
+  text = [];
+  made = subst (λ (g : List Entry). ran (takes g (Err fault) ∷ [])) handed made;
+  wrote = appends_none w;
+  counted = omega (arith, same);
+  is = subst (λ (t : Talk). EndsAtGroup group seq (takes group (Err fault) ∷ []) [] t) (sym is) (group_refused group seq fault);
+}
+
+stages_few : (act : LumberAct) → length (stages act) ≤ 1
+stages_few Nothing = omega arith
+stages_few (Stage event seq commit) = omega arith
+stages_few CommitFirst = omega arith
+
+-- A frame is served behind what was handled: the core has stepped, and the event of its act is staged.
+module _ (n conn : ℕ) (core core' : Core) (entries entries' : List Entry) (last last' : ℕ) (f : LumberFrame) (act : LumberAct)
+    (tells : (frames : List LumberFrame) → IsBehind frames core → Tells frames f act)
+    (entries_are : entries' ≡ entries ++ entries_of conn (n + length entries) (stages act)) (last_is : last' ≡ last_behind last (stages act)) where
+  pub staged_few : SoFar (λ fed called said. (frames : List LumberFrame) × Handled conn core entries last frames called said) n → length entries' ≤ 256
+  staged_few so =
+      omega (arith, ap length entries_are, length-append entries (entries_of conn (n + length entries) (stages act)), entries_count conn (n + length entries) (stages act), stages_few act, handled_few conn core entries last so.served.0 so.calls so.text so.served.1)
+
+  pub staged_next : SoFar (λ fed called said. (frames : List LumberFrame) × Handled conn core entries last frames called said) n → AreNext conn n entries'
+  staged_next so =
+      let h = so.served.1 in
+      let is = now_staged conn core entries entries' last last' n so.served.0 so.calls so.text f act h (tells so.served.0 h.behind) so.counted entries_are last_is in
+      let events = staged (h.held ++ f ∷ []) in
+      subst (AreNext conn n) (sym is) (subst (λ (k : ℕ). AreNext conn n (entries_of conn k events)) so.counted (entries_next conn n events))
+
+  -- no batch ends with it
+  pub frame_on : (ran : List Call → Type 0) (w : Option (List ℕ)) → ran [] → ((frames : List LumberFrame) → IsBehind frames core → IsBehind (frames ++ f ∷ []) core') → core'.due ≡ commits act → commits act ≡ false → (All IsEntry entries → All IsEntry entries')
+      → Done ran w w n n (λ calls text. (frames : List LumberFrame) → Leads n (λ fed called said. Handled conn core entries last frames called said) (λ fed called said. Handled conn core' entries' last' (frames ++ f ∷ []) called said) calls text)
+  frame_on ran w none behind due on limits = record {
+    calls = [];
+    text = [];
+    made = none;
+    wrote = appends_none w;
+    counted = omega arith;
+    is = λ frames fed called said counted h.
+        subst (λ (l : List Call). Handled conn core' entries' last' (frames ++ f ∷ []) l (said ++ [])) (sym (append-nil called))
+        (subst (λ (l : List ℕ). Handled conn core' entries' last' (frames ++ f ∷ []) called l) (sym (append-nil said))
+        (handled_on conn core entries entries' last last' n frames called said f act h (tells frames h.behind) counted entries_are last_is core' (behind frames h.behind) (due ∙ on) on (limits h.limits)));
+  }
+
+  module _ (due : commits act ≡ true) (ran : List Call → Type 0) (w w' : Option (List ℕ)) (n' : ℕ) where
+    -- a batch ends with it, and was stored and acknowledged
+    pub frame_batch : (core'' : Core) (entries'' : List Entry) (last'' : ℕ) → ((frames : List LumberFrame) → IsBehind frames core → IsBehind (frames ++ f ∷ []) core'') → core''.due ≡ false → entries'' ≡ [] → Done ran w w' n n' (StoresGroup entries' last')
+        → Done ran w w' n n' (λ calls text. (frames : List LumberFrame) → Leads n (λ fed called said. Handled conn core entries last frames called said) (λ fed called said. Handled conn core'' entries'' last'' (frames ++ f ∷ []) called said) calls text)
+    frame_batch core'' entries'' last'' behind ready empty d = record {
+      calls = d.calls;
+      text = d.text;
+      made = d.made;
+      wrote = d.wrote;
+      counted = d.counted;
+      is = λ frames fed called said counted h.
+          subst (λ (es : List Entry). Handled conn core'' es last'' (frames ++ f ∷ []) (called ++ d.calls) (said ++ d.text)) (sym empty)
+          (handled_batch conn core entries entries' last last' n frames called said f act h (tells frames h.behind) counted entries_are last_is due core'' last'' d.calls d.text (behind frames h.behind) ready d.is);
+    }
+
+    -- it was not
+    pub frame_halt : (talk : Talk) → Done ran w w' n n' (λ late part. EndsAtGroup entries' last' late part talk) → Done ran w w' n n' (HaltsAtFrame conn core entries last n f talk)
+    frame_halt talk d = record {
+      calls = d.calls;
+      text = d.text;
+      made = d.made;
+      wrote = d.wrote;
+      counted = d.counted;
+      is = inr (λ frames called said counted h. handled_stop conn core entries entries' last last' n frames called said f act h (tells frames h.behind) counted entries_are last_is due d.calls d.text talk d.is);
+    }
+
+pub group_sure : (es : List Entry) (receipt : Receipt) → All TookSurely (takes es (Ok receipt) ∷ [])
+group_sure es receipt = All-cons TookSurely (takes es (Ok receipt)) [] refl (All-nil TookSurely)
+
+pub group_conn : (conn index : ℕ) (es : List Entry) (receipt : Receipt) → AreNext conn index es → All (λ (e : Entry). e.conn ≡ conn) (taken_of (takes es (Ok receipt) ∷ []))
+group_conn conn index es receipt next = subst (All (λ (e : Entry). e.conn ≡ conn)) (sym (append-nil es)) (next_conn conn index es next)
+
+-- what a stored batch leaves, all at once
+pub batch_then : {T E : Type 0} (r : Result T E) (P Q R S G : Type 0) → OnOk r P → OnOk r Q → OnOk r R → OnOk r S → (P → Q → R → S → G) → OnOk r G
+batch_then (Ok x) P Q R S G p q r s f = f p q r s
+batch_then (Err e) P Q R S G p q r s f = tt

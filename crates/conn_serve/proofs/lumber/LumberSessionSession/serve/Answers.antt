@@ -1,0 +1,59 @@
+use Rattle.std.proofs.Common.{◌∙◌, length, refl, ap, arith}
+use Rattle.lumber_frame.specs.Reading.{Reader}
+use Rattle.conn_serve.specs.Protocol.{Carried}
+use Rattle.conn_serve.specs.Lumber.{lumberjack}
+use Rattle.conn_serve.specs.LumberServing.{Served}
+use Rattle.conn_serve.proofs.Acting.{err_is}
+use Rattle.conn_serve.proofs.Leading.{done_start, done_then, so_far_then}
+use Rattle.conn_serve.proofs.LumberSessions.{served_frame, served_halt, so_far_handled}
+use Rattle.conn_serve.proofs.lumber.LumberSessionSession.serve.Goals as goal
+
+pub loop-frame-init : goal.loop-frame-init
+loop-frame-init g c = record {
+  done = done_start _ _ _ _ (g.met.A.Access.ran_none _);
+  so_far = c.requires.so_far;
+  early = omega arith;
+  same_number = refl;
+  may = c.requires.may;
+  extent = omega arith;
+  later = omega arith;
+  same = g.L.Object.same_refl _;
+  apart = g.met.L.Sink.apart_refl _;
+}
+
+pub serve_frame-requires-clause-so_far : goal.serve_frame-requires-clause-so_far
+serve_frame-requires-clause-so_far g c =
+    let inv = c.loop-frame.invariant in
+    so_far_handled _ _ _ _ _ _ _ c.loop-frame.connection.number inv.same_number inv.so_far
+
+pub loop-frame-preserved : goal.loop-frame-preserved
+loop-frame-preserved g c =
+    let inv = c.loop-frame.invariant in
+    let call = c.in_ok-serve_frame.ensures in
+    let took = c.in-Some.ensures in
+    let number = c.args.connection.now.number in
+    let now = c.serve_frame.new in
+    let frame = served_frame _ _ _ _ _ number c.loop-frame.self.reader c.take.new.self c.loop-frame.self.core now.core c.loop-frame.self.staged.entries.items now.staged.entries.items c.loop-frame.self.staged.last now.staged.last c.loop-frame.self.fault c.in-Some.frame
+    took.reads (ap (λ (r : Reader). r.side) took.same) (ap (λ (r : Reader). r.fault) took.same) c.loop-frame.connection.number inv.same_number call.goes in
+    record {
+      done = done_then _ _ _ _ _ _ _ _ _ _ _ (Served number c.take.new.self now.core now.staged.entries.items now.staged.last c.loop-frame.self.fault) (λ xs ys p q. g.met.A.Access.ran_more _ _ _ xs ys p q) inv.done frame;
+      so_far = so_far_then _ _ _ _ _ _ _ inv.so_far frame;
+      early = omega (arith, inv.early, ap length took.gives, call.few);
+      same_number = call.number ∙ inv.same_number;
+      may = rw (← inv.same_number) call.may;
+      extent = omega (arith, inv.extent, ap (λ (r : Reader). r.at) took.same, ap (λ (r : Reader). length r.rest) took.same);
+      later = omega (arith, inv.later, call.later);
+      same = g.L.Object.same_trans _ _ _ inv.same call.same;
+      apart = g.met.L.Sink.apart_trans _ _ _ inv.apart call.apart;
+    }
+
+pub returns-in_err-serve_frame-clause-halts : goal.returns-in_err-serve_frame-clause-halts
+returns-in_err-serve_frame-clause-halts g c =
+    let inv = c.loop-frame.invariant in
+    let call = c.in_err-serve_frame.ensures in
+    let took = c.in-Some.ensures in
+    let number = c.args.connection.now.number in
+    let talk = c.in_err-serve_frame.field-0.0 in
+    err_is c.from_residual.result talk _ c.from_residual.ensures.1
+    (done_then _ _ _ _ _ _ _ _ _ _ _ (λ fed calls text. Carried (lumberjack number) fed calls text talk) (λ xs ys p q. g.met.A.Access.ran_more _ _ _ xs ys p q) inv.done
+    (served_halt _ _ _ _ _ number c.loop-frame.self.reader c.loop-frame.self.core c.loop-frame.self.staged.entries.items c.loop-frame.self.staged.last c.loop-frame.self.fault c.in-Some.frame c.take.new.self.waiting talk took.gives call.only c.loop-frame.connection.number inv.same_number call.halts))

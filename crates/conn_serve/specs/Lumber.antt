@@ -1,0 +1,74 @@
+-- What a connection does for the frames of Lumberjack.
+use Rattle.std.specs.Prelude.{◌≡◌, ℕ, ◌+◌, ◌<◌, List, [], ◌∷◌, ◌++◌, length, take, Ok, Err}
+use Rattle.event_form.specs.declared.event.Entry.{Entry}
+use Rattle.event_form.specs.declared.talk.Talk.{Talk}
+use Rattle.event_form.specs.declared.talk.Talk.TheVariants.{WriteFault}
+use Rattle.event_form.specs.declared.talk.Why.{Why}
+use Rattle.event_form.specs.declared.talk.Why.TheVariants as why
+use Rattle.lumber_frame.specs.declared.frame.LumberFrame.{LumberFrame}
+use Rattle.lumber_frame.specs.declared.fault.LumberWhy.{LumberWhy}
+use Rattle.lumber_frame.specs.declared.fault.LumberWhy.TheVariants.{Version, Kind, Compressed, AckFromWriter, TooLong, TooMany}
+use Rattle.lumber_frame.specs.declared.side.Side.TheVariants.{Receiver}
+use Rattle.lumber_frame.specs.Broken.{Broken}
+use Rattle.lumber_frame.specs.Spelling.{Spells, ack_text}
+use Rattle.lumber_session.specs.Staged.{Staged, staged}
+use Rattle.lumber_session.specs.Acts.{last_seq}
+use Rattle.lumber_session.specs.Batches.{EndsNowhere, IsBatch}
+use Rattle.stream_grammar.specs.FieldFaults.{IsFieldStream, IsFieldFault}
+use Rattle.spool_log.specs.declared.fault.Receipt.{Receipt}
+use Rattle.spool_log.specs.declared.fault.TakeFault.{TakeFault}
+use Rattle.desk_access.specs.Call.{Call, takes}
+use Rattle.conn_serve.specs.Step.{frames_of, calls_of, count}
+use Rattle.conn_serve.specs.Protocol.{Protocol, IsNothing}
+use Rattle.conn_serve.specs.Relp.{entry_of, talk_of}
+
+-- the entries of staged events of the connection, which has so many entries before them
+abbrev pub entries_of : ℕ → ℕ → List Staged → List Entry
+entries_of conn index [] = []
+entries_of conn index (s ∷ more) = entry_of conn index s.seq s.event ∷ entries_of conn (index + 1) more
+
+-- these entries were taken as one group, and their batch was acknowledged with this number
+abbrev pub StoresGroup : List Entry → ℕ → List Call → List ℕ → Type 0
+StoresGroup group seq calls text = (receipt : Receipt) × (calls ≡ takes group (Ok receipt) ∷ []) × (text ≡ ack_text seq)
+
+-- the connection ends at that: the group was taken and its acknowledgment wasn't wholly written, or it
+-- wasn't taken, and nothing was written
+abbrev pub EndsAtGroup : List Entry → ℕ → List Call → List ℕ → Talk → Type 0
+EndsAtGroup group seq late part WriteFault = (receipt : Receipt) × (k : ℕ) × (late ≡ takes group (Ok receipt) ∷ []) × (k < length (ack_text seq)) × (part ≡ take k (ack_text seq))
+EndsAtGroup group seq late part talk = (fault : TakeFault) × (late ≡ takes group (Err fault) ∷ []) × (talk ≡ talk_of fault) × (part ≡ [])
+
+-- what is staged is stored as one batch, and acknowledged with the sequence number of its last frame
+abbrev pub StoresBatch : ℕ → ℕ → List Staged → List Call → List ℕ → Type 0
+StoresBatch conn index events = StoresGroup (entries_of conn index events) (last_seq events)
+
+abbrev pub EndsAtBatch : ℕ → ℕ → List Staged → List Call → List ℕ → Talk → Type 0
+EndsAtBatch conn index events = EndsAtGroup (entries_of conn index events) (last_seq events)
+
+-- where the input is over, what is staged is stored, if anything is
+abbrev pub StoresLast : ℕ → ℕ → List Staged → List Call → List ℕ → Type 0
+StoresLast conn index [] calls text = IsNothing calls text
+StoresLast conn index (s ∷ more) calls text = StoresBatch conn index (s ∷ more) calls text
+
+-- the reason, as a connection tells it
+abbrev pub why_of : LumberWhy → Why
+why_of Version = why.Version
+why_of Kind = why.Kind
+why_of Compressed = why.Compressed
+why_of AckFromWriter = why.AckFromWriter
+why_of TooLong = why.TooLong
+why_of TooMany = why.TooMany
+
+-- Lumberjack, on the connection of this number. A step is for one batch: its data frames, and the window
+-- frames that stand among them. The frames held are those behind the last batch. The index of an entry
+-- counts those that were taken before.
+abbrev pub lumberjack : ℕ → Protocol LumberFrame
+lumberjack conn = record {
+  Spells = Spells Receiver;
+  IsWhole = IsFieldStream (Spells Receiver) (Broken Receiver);
+  IsFaulty = λ b frames place why. (at : ℕ) × (reason : LumberWhy) × IsFieldFault (Spells Receiver) (Broken Receiver) b frames at place reason × (why ≡ why_of reason);
+  IsMove = λ before s. IsBatch (frames_of before) s.frames × StoresBatch conn (count (calls_of before)) (staged s.frames) s.calls s.text;
+  AreHeld = λ before held. EndsNowhere (frames_of before) held;
+  Stops = λ before held f late part talk. IsBatch (frames_of before) (held ++ f ∷ []) × EndsAtBatch conn (count (calls_of before)) (staged (held ++ f ∷ [])) late part talk;
+  IsLastMove = λ before held. StoresLast conn (count (calls_of before)) (staged held);
+  StopsLast = λ before held late part talk. (0 < length (staged held)) × EndsAtBatch conn (count (calls_of before)) (staged held) late part talk;
+}
