@@ -12,11 +12,13 @@ use Rattle.spool_log.specs.Opening.{opened, CanOpen, IsOpening, IsRefusedAs}
 use Rattle.desk_access.specs.Call.{Call, records_by}
 use Rattle.desk_access.specs.Desk.{DeskState, desk_of, Goes}
 use Rattle.desk_access.specs.History.{IsLater, Grows, AllKept, Was}
+use Rattle.conn_serve.specs.Acked.{Acknowledges}
 use Rattle.conn_serve.specs.Endings.{IsAtEndOfInput}
 use Rattle.conn_serve.specs.Serves.{CarriedBy, Serves}
 use Rattle.bridge_words.specs.declared.note.Note.{Note}
 use Rattle.bridge_words.specs.Notes.{note_of_talk}
 use Rattle.bridge_core.specs.Refused.{note_of_recover}
+use Rattle.bridge_core.specs.Acknowledged.{AckedIsDurable}
 
 -- What stands behind calls on the spool from a state: whatever a crash leaves now stands for a later state of
 -- the same run. Each entry that was taken, so each that was answered, is there at its number or is below the
@@ -72,7 +74,8 @@ pub record IsServed (proto : Proto) (conn : ℕ) (given given' left left' taken 
   pub serves : Serves (CarriedBy proto conn) given given' left left' taken taken' Made attended
   pub ended : IsAtEndOfInput attended.talk → IsAtEnd left'
 
--- And that was done over the spool that the device stood for.
+-- And that was done over the spool that the device stood for. Whatever the text that was written acknowledges is durable.
 pub record IsReplayed (proto : Proto) (tells : Type 0) (old new : Moment) (given given' left left' taken taken' : Option (List ℕ)) (note : Note) : Type 0 where
   pub conn : ℕ
   pub served : IsServed proto conn given given' left left' taken taken' (λ calls. tells → IsStored old new conn calls) note
+  pub acknowledged : (numbers : List ℕ) → tells → Acknowledges proto served.serves.text numbers → AckedIsDurable served.serves.calls new numbers

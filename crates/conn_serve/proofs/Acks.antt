@@ -1,8 +1,8 @@
--- The answers in the text of a connection are those to the entries taken.
+-- The answers in the text of a RELP connection are those to the entries taken.
 use Rattle.std.proofs.Common.{◌≡◌, inl, inr, ℕ, ◌≤◌, ◌∙◌, Bool, true, false, if◌then◌else◌, List, [], ◌∷◌, ◌++◌, length, drop, refl, sym, ap, subst, arith, append_assoc}
-use Rattle.std.specs.Prelude.{codes}
+use Rattle.std.specs.Prelude.{codes, Ok, Err}
 use Rattle.std.proofs.lemmas.List.{append-nil, take-append-drop}
-use Rattle.event_form.specs.declared.event.Entry.{Entry}
+use Rattle.event_form.specs.declared.event.Event.{Event}
 use Rattle.event_form.specs.declared.talk.Talk.{Talk}
 use Rattle.event_form.specs.declared.talk.Talk.TheVariants.{Ended, Closed, Fault, Truncated, Full, TooLarge, Busy, Spent, NoMore, TooMuch, ReadFault, WriteFault, DiskFault, NotSpool, NoMemory}
 use Rattle.relp_frame.specs.declared.frame.Frame.{Frame}
@@ -16,14 +16,16 @@ use Rattle.relp_session.specs.declared.request.Request.TheVariants as ask
 use Rattle.relp_session.specs.Answer.{act_of, reply, offers, stored, hint}
 use Rattle.stream_grammar.specs.Framing.{AreSpelled}
 use Rattle.stream_grammar.proofs.Streams.{spelled_append, spelled_strip}
+use Rattle.edge_io.specs.declared.proto.Proto.TheVariants.{Relp}
+use Rattle.spool_log.specs.declared.fault.Receipt.{Receipt}
 use Rattle.spool_log.specs.declared.fault.TakeFault.{TakeFault}
 use Rattle.spool_log.specs.declared.fault.TakeFault.TheVariants as fault
-use Rattle.desk_access.specs.Call.{Call, taken_of}
+use Rattle.desk_access.specs.Call.{Call}
 use Rattle.conn_serve.specs.Step.{Step, frames_of, calls_of, text_of}
-use Rattle.conn_serve.specs.Protocol.{IsNothing, EndsAtFrame, EndsAtMove, Ending, AreMoves}
-use Rattle.conn_serve.specs.Relp.{relp, last_text, Carries, IsDue, IsRefused, IsStarved, EndsAtAct}
-use Rattle.conn_serve.specs.Acked.{is_success, successes, units, AckedIsTaken}
-use Rattle.conn_serve.proofs.Counting.{taken_then}
+use Rattle.conn_serve.specs.Protocol.{Carried, IsNothing, EndsAtFrame, EndsAtMove, Ending, AreMoves}
+use Rattle.conn_serve.specs.Relp.{relp, one_take, entry_of, last_text, Carries, IsDue, IsRefused, IsStarved, EndsAtAct}
+use Rattle.conn_serve.specs.Acked.{is_success, successes, Acknowledges, AreOfFirst}
+use Rattle.conn_serve.proofs.Grouping.{Told, told_none, told_refused, told_taken, told_then, of_first}
 use Rattle.conn_serve.proofs.Splitting.{spelled_parts}
 
 pushed : (b : Bool) (t : ℕ) (xs ys : List ℕ) → (if b then t ∷ xs else xs) ++ ys ≡ (if b then t ∷ (xs ++ ys) else (xs ++ ys))
@@ -34,33 +36,11 @@ successes_then : (fs gs : List Frame) → successes (fs ++ gs) ≡ successes fs 
 successes_then [] gs = refl
 successes_then (f ∷ fs) gs = ap (λ (l : List ℕ). if is_success f then f.txnr ∷ l else l) (successes_then fs gs) ∙ sym (pushed (is_success f) f.txnr (successes fs) (successes gs))
 
-units_then : (xs ys : List Entry) → units (xs ++ ys) ≡ units xs ++ units ys
-units_then [] ys = refl
-units_then (x ∷ xs) ys = ap (λ (l : List ℕ). x.unit ∷ l) (units_then xs ys)
-
--- the units of the entries that the calls took
-abbrev units_of : List Call → List ℕ
-units_of calls = units (taken_of calls)
-
-units_of_then : (xs ys : List Call) → units_of (xs ++ ys) ≡ units_of xs ++ units_of ys
-units_of_then xs ys = ap units (taken_then xs ys) ∙ units_then (taken_of xs) (taken_of ys)
-
--- entries whose units are two lists are two lists
-units_parts : (xs : List Entry) (us vs : List ℕ) → units xs ≡ us ++ vs → (entries : List Entry) × (more : List Entry) × (xs ≡ entries ++ more) × (us ≡ units entries)
-units_parts xs [] vs e = ([], xs, refl, refl)
-units_parts [] (u ∷ us) vs e = cc
-units_parts (x ∷ xs) (u ∷ us) vs e =
-    let rest : units xs ≡ us ++ vs = cc in
-    let r = units_parts xs us vs rest in
-    let first : u ≡ x.unit = cc in
-    let units_is : us ≡ units r.0 = r.3 in
-    (x ∷ r.0, r.1, ap (λ (l : List Entry). x ∷ l) r.2, cc)
-
 -- the text is frames of which those that say 200 OK have the units of the entries taken
 record Answers (calls : List Call) (text : List ℕ) : Type 0 where
   frames : List Frame
   spelled : AreSpelled IsSpelling frames text
-  own : successes frames ≡ units_of calls
+  own : Told (successes frames) calls
 
 -- a `rsp` frame
 abbrev rsp : ℕ → List ℕ → Frame
@@ -75,20 +55,25 @@ rsp_spells txnr body low short = canonical_spells (rsp txnr body) (record { txnr
 hint_spells : IsSpelling closing hint
 hint_spells = canonical_spells closing (record { txnr = omega arith; command = record { letters = (refl, (refl, (refl, (refl, (refl, (refl, (refl, (refl, (refl, (refl, (refl, tt))))))))))); some = omega arith; few = omega arith }; body = omega arith })
 
-one_answer : (f : Frame) (calls : List Call) (text spelt : List ℕ) → IsSpelling f spelt → text ≡ spelt → successes (f ∷ []) ≡ units_of calls → Answers calls text
+one_answer : (f : Frame) (calls : List Call) (text spelt : List ℕ) → IsSpelling f spelt → text ≡ spelt → Told (successes (f ∷ [])) calls → Answers calls text
 one_answer f calls text spelt s e own = record { frames = f ∷ []; spelled = (text, [], subst (IsSpelling f) (sym e) s, sym (append-nil text), refl); own = own }
 
-none_said : (calls : List Call) → calls ≡ [] → [] ≡ units_of calls
-none_said calls e = ap units_of (sym e)
+-- the take of an event that was answered Ok
+took : (conn index txnr : ℕ) (event : Event) (receipt : Receipt) (calls : List Call) → calls ≡ one_take conn index txnr event (Ok receipt) → Told (txnr ∷ []) calls
+took conn index txnr event receipt calls is = told_taken calls (entry_of conn index txnr event ∷ []) receipt (omega arith) is
+
+-- or that was not
+refused : (conn index txnr : ℕ) (event : Event) (fault : TakeFault) (calls : List Call) → calls ≡ one_take conn index txnr event (Err fault) → Told [] calls
+refused conn index txnr event fault calls is = told_refused calls (entry_of conn index txnr event ∷ []) fault is
 
 said : (txnr : ℕ) (body : List ℕ) (calls : List Call) (text : List ℕ) → txnr ≤ 999999999 → length body ≤ 131072 → successes (rsp txnr body ∷ []) ≡ [] → (calls ≡ []) × (text ≡ reply txnr body) → Answers calls text
-said txnr body calls text low short none d = one_answer (rsp txnr body) calls text (reply txnr body) (rsp_spells txnr body low short) d.1 (none ∙ none_said calls d.0)
+said txnr body calls text low short none d = one_answer (rsp txnr body) calls text (reply txnr body) (rsp_spells txnr body low short) d.1 (subst (λ (l : List ℕ). Told l calls) (sym none) (told_none calls d.0))
 
 closes : (txnr : ℕ) (calls : List Call) (text : List ℕ) → txnr ≤ 999999999 → (calls ≡ []) × (text ≡ reply txnr [] ++ hint) → Answers calls text
 closes txnr calls text low d = record {
   frames = rsp txnr [] ∷ closing ∷ [];
   spelled = (reply txnr [], hint, rsp_spells txnr [] low (omega arith), d.1, (hint, [], hint_spells, sym (append-nil hint), refl));
-  own = none_said calls d.0;
+  own = told_none calls d.0;
 }
 
 -- the answers in the text that is due
@@ -100,8 +85,8 @@ due_answers false ask.Close f conn index calls text low d = closes f.txnr calls 
 due_answers false ask.Other f conn index calls text low d = said f.txnr (codes "500 not open") calls text low (omega arith) refl d
 due_answers true ask.Open f conn index calls text low d = said f.txnr (codes "500 already open") calls text low (omega arith) refl d
 due_answers true ask.OpenOther f conn index calls text low d = said f.txnr (codes "500 already open") calls text low (omega arith) refl d
-due_answers true ask.Syslog f conn index calls text low (inl d) = one_answer (rsp f.txnr (codes "200 OK")) calls text (stored f.txnr) (rsp_spells f.txnr (codes "200 OK") low (omega arith)) d.2 (ap units_of (sym d.1))
-due_answers true ask.Syslog f conn index calls text low (inr d) = one_answer closing calls text hint hint_spells d.3 (ap units_of (sym d.2))
+due_answers true ask.Syslog f conn index calls text low (inl d) = one_answer (rsp f.txnr (codes "200 OK")) calls text (stored f.txnr) (rsp_spells f.txnr (codes "200 OK") low (omega arith)) d.2 (took conn index f.txnr _ d.0 calls d.1)
+due_answers true ask.Syslog f conn index calls text low (inr d) = one_answer closing calls text hint hint_spells d.3 (refused conn index f.txnr _ d.0 calls d.2)
 due_answers true ask.Close f conn index calls text low d = closes f.txnr calls text low d
 due_answers true ask.Other f conn index calls text low d = said f.txnr (codes "500 unknown command") calls text low (omega arith) refl d
 
@@ -113,7 +98,7 @@ carries_due conn index (End answer) calls text c = absurd c
 
 -- the answers of the steps
 step_answers : (conn : ℕ) (before steps : List (Step Frame)) (front : List ℕ) → AreMoves (relp conn) before steps → AreSpelled IsSpelling (frames_of steps) front → Answers (calls_of steps) (text_of steps)
-step_answers conn before [] front m s = record { frames = []; spelled = refl; own = refl }
+step_answers conn before [] front m s = record { frames = []; spelled = refl; own = told_none [] refl }
 step_answers conn before (x ∷ steps) front m s =
     let move = m.0 in
     let f = move.0 in
@@ -125,7 +110,7 @@ step_answers conn before (x ∷ steps) front m s =
     let rest = step_answers conn (before ++ x ∷ []) steps here.1 m.1 here.4 in record {
       frames = first.frames ++ rest.frames;
       spelled = spelled_append frames.relp first.frames rest.frames x.text (text_of steps) first.spelled rest.spelled;
-      own = successes_then first.frames rest.frames ∙ ap (λ (l : List ℕ). l ++ successes rest.frames) first.own ∙ ap (λ (l : List ℕ). units_of x.calls ++ l) rest.own ∙ sym (units_of_then x.calls (calls_of steps));
+      own = subst (λ (l : List ℕ). Told l (x.calls ++ calls_of steps)) (sym (successes_then first.frames rest.frames)) (told_then (successes first.frames) (successes rest.frames) x.calls (calls_of steps) first.own rest.own);
     }
 
 -- the answers in the text of an ending, and in what would have followed
@@ -133,16 +118,16 @@ record LastAnswers (late : List Call) (part : List ℕ) : Type 0 where
   behind : List ℕ
   answers : Answers late (part ++ behind)
 
-nothing_said : (late : List Call) (part : List ℕ) → [] ≡ units_of late → part ≡ [] → LastAnswers late part
+nothing_said : (late : List Call) (part : List ℕ) → Told [] late → part ≡ [] → LastAnswers late part
 nothing_said late part none e = record { behind = []; answers = record { frames = []; spelled = append-nil part ∙ e; own = none } }
 
 nothing : (late : List Call) (part : List ℕ) → IsNothing late part → LastAnswers late part
-nothing late part n = nothing_said late part (none_said late n.0) n.1
+nothing late part n = nothing_said late part (told_none late n.0) n.1
 
 all_said : (late : List Call) (part : List ℕ) → Answers late part → LastAnswers late part
 all_said late part a = record { behind = []; answers = subst (Answers late) (sym (append-nil part)) a }
 
-by_fault : (late : List Call) (part : List ℕ) (fault : TakeFault) → [] ≡ units_of late → part ≡ last_text fault → LastAnswers late part
+by_fault : (late : List Call) (part : List ℕ) (fault : TakeFault) → Told [] late → part ≡ last_text fault → LastAnswers late part
 by_fault late part (fault.TooLarge need most) none e = all_said late part (one_answer closing late part hint hint_spells e none)
 by_fault late part (fault.Spent end) none e = all_said late part (one_answer closing late part hint hint_spells e none)
 by_fault late part (fault.Full need room) none e = all_said late part (one_answer closing late part hint hint_spells e none)
@@ -151,12 +136,12 @@ by_fault late part fault.NoMemory none e = nothing_said late part none e
 by_fault late part fault.DiskFault none e = nothing_said late part none e
 
 refusal_said : (conn index : ℕ) (act : RelpAct) (late : List Call) (part : List ℕ) (talk : Talk) → IsRefused conn index act late part talk → LastAnswers late part
-refusal_said conn index (Store event txnr) late part talk r = by_fault late part r.0 (ap units_of (sym r.1)) r.3
+refusal_said conn index (Store event txnr) late part talk r = by_fault late part r.0 (refused conn index txnr event r.0 late r.1) r.3
 refusal_said conn index (Say answer) late part talk r = absurd r
 refusal_said conn index (End answer) late part talk r = absurd r
 
 starved_said : (conn index : ℕ) (act : RelpAct) (late : List Call) (part : List ℕ) → IsStarved conn index act late → part ≡ [] → LastAnswers late part
-starved_said conn index (Store event txnr) late part s e = nothing_said late part (ap units_of (sym s.2)) e
+starved_said conn index (Store event txnr) late part s e = nothing_said late part (refused conn index txnr event s.0 late s.2) e
 starved_said conn index (Say answer) late part s e = absurd s
 starved_said conn index (End answer) late part s e = absurd s
 
@@ -211,8 +196,9 @@ end_answers conn b steps held at tail late part WriteFault e = move_answers conn
 end_answers conn b steps held at tail late part DiskFault e = move_answers conn b steps held at tail late part DiskFault e
 end_answers conn b steps held at tail late part (NotSpool place) e = move_answers conn b steps held at tail late part (NotSpool place) e
 
-pub acked_is_taken : AckedIsTaken
-acked_is_taken conn b calls text talk c answers front rest spelled whole =
+-- what is acknowledged was taken
+pub relp_acked : (conn : ℕ) (b : List ℕ) (calls : List Call) (text : List ℕ) (talk : Talk) → Carried (relp conn) b calls text talk → (numbers : List ℕ) → Acknowledges Relp text numbers → AreOfFirst calls numbers
+relp_acked conn b calls text talk c numbers (answers, front, rest, spelled, whole, are) =
     let own_front = spelled_parts IsSpelling (frames_of c.steps) c.held c.front c.spelled in
     let first = step_answers conn [] c.steps own_front.0 c.each own_front.2 in
     let last = end_answers conn b c.steps c.held (length c.front) c.tail c.late c.part talk c.ending in
@@ -221,7 +207,8 @@ acked_is_taken conn b calls text talk c answers front rest spelled whole =
     let same : text_of c.steps ++ (c.part ++ last.behind) ≡ front ++ (rest ++ last.behind) =
     sym (append_assoc (text_of c.steps) c.part last.behind) ∙ ap (λ (l : List ℕ). l ++ last.behind) (sym c.wrote ∙ whole) ∙ append_assoc front rest last.behind in
     let cut = spelled_strip frames.relp answers (first.frames ++ behind.frames) front (rest ++ last.behind) spelled (subst (AreSpelled IsSpelling (first.frames ++ behind.frames)) same all) in
-    let own : units_of calls ≡ successes answers ++ successes cut.0 =
-    ap units_of c.made ∙ units_of_then (calls_of c.steps) c.late ∙ ap (λ (l : List ℕ). l ++ units_of c.late) (sym first.own) ∙ ap (λ (l : List ℕ). successes first.frames ++ l) (sym behind.own)
-    ∙ sym (successes_then first.frames behind.frames) ∙ ap successes cut.1 ∙ successes_then answers cut.0 in
-    units_parts (taken_of calls) (successes answers) (successes cut.0) own
+    let own : successes first.frames ++ successes behind.frames ≡ numbers ++ successes cut.0 =
+    sym (successes_then first.frames behind.frames) ∙ ap successes cut.1 ∙ successes_then answers cut.0 ∙ ap (λ (l : List ℕ). l ++ successes cut.0) (sym are) in
+    let told : Told (successes first.frames ++ successes behind.frames) calls =
+    subst (Told (successes first.frames ++ successes behind.frames)) (sym c.made) (told_then (successes first.frames) (successes behind.frames) (calls_of c.steps) c.late first.own behind.own) in
+    of_first calls numbers (successes cut.0) (subst (λ (l : List ℕ). Told l calls) own told)

@@ -8,5 +8,7 @@ mod Sessions
 mod LumberActing
 mod LumberSessions
 mod Running
+mod Grouping
 mod Acks
 mod LumberAcks
+pub mod Acknowledged

@@ -1,16 +1,23 @@
--- Which entries are acknowledged: those whose own answers lie whole in the text written.
-use Rattle.std.specs.Prelude.{◌≡◌, ℕ, Bool, ◌&&◌, if◌then◌else◌, List, [], ◌∷◌, ◌++◌, map, codes}
-use Rattle.event_form.specs.declared.event.Entry.{Entry}
+-- What the text of a connection acknowledges, as its sender reads it.
+use Rattle.std.specs.Prelude.{◌≡◌, ℕ, Bool, ◌&&◌, if◌then◌else◌, List, [], ◌∷◌, ◌++◌, map, flat_map, codes}
+use Rattle.std.specs.List.{All}
 use Rattle.event_form.specs.declared.talk.Talk.{Talk}
+use Rattle.edge_io.specs.declared.proto.Proto.{Proto}
+use Rattle.edge_io.specs.declared.proto.Proto.TheVariants.{Relp, Lumberjack, Hec}
 use Rattle.relp_frame.specs.declared.frame.Frame.{Frame}
 use Rattle.relp_frame.specs.Spelling.{IsSpelling}
 use Rattle.relp_session.specs.Request.{is_word}
+use Rattle.lumber_frame.specs.declared.frame.LumberFrame.TheVariants.{Ack}
+use Rattle.lumber_frame.specs.declared.side.Side.TheVariants.{Sender}
+use Rattle.lumber_frame.specs.Spelling.{Spells, ack_text}
 use Rattle.stream_grammar.specs.Framing.{AreSpelled}
-use Rattle.desk_access.specs.Call.{Call, taken_of}
+use Rattle.desk_access.specs.Call.{Call}
 use Rattle.conn_serve.specs.Protocol.{Carried}
-use Rattle.conn_serve.specs.Relp.{relp}
+use Rattle.conn_serve.specs.Lumber.{lumberjack}
+use Rattle.conn_serve.specs.Serves.{CarriedBy}
+use Rattle.conn_serve.specs.Groups.{Group, HasEntries, groups_of, units}
 
--- an answer that says that an event is durable: a `rsp` frame whose data is 200 OK
+-- an answer of RELP that says that an event is durable: a `rsp` frame whose data is 200 OK
 abbrev pub is_success : Frame → Bool
 is_success f = is_word (codes "rsp") f.command && is_word (codes "200 OK") f.body
 
@@ -19,22 +26,34 @@ abbrev pub successes : List Frame → List ℕ
 successes [] = []
 successes (f ∷ fs) = if is_success f then f.txnr ∷ successes fs else successes fs
 
-abbrev pub units : List Entry → List ℕ
-units entries = map (λ e. e.unit) entries
+-- The whole frames at the front of the text acknowledge these numbers, in order.
+abbrev pub Acknowledges : Proto → List ℕ → List ℕ → Type 0
+-- the transaction numbers to which an answer says 200 OK
+Acknowledges Relp text numbers = (answers : List Frame) × (front : List ℕ) × (rest : List ℕ) × AreSpelled IsSpelling answers front × (text ≡ front ++ rest) × (numbers ≡ successes answers)
+-- the sequence numbers of A frames
+Acknowledges Lumberjack text numbers = (front : List ℕ) × (rest : List ℕ) × AreSpelled (Spells Sender) (map (λ seq. Ack seq) numbers) front × (text ≡ front ++ rest)
+-- not served yet
+Acknowledges Hec text numbers = ⊥
 
--- The text begins with whole frames of which those that say 200 OK answer these entries: as many, in
--- order, each with the unit of its entry as its transaction number.
-pub record AreAcked (text : List ℕ) (entries : List Entry) : Type 0 where
-  pub answers : List Frame
-  pub front : List ℕ
-  pub rest : List ℕ
-  pub spelled : AreSpelled IsSpelling answers front
-  pub whole : text ≡ front ++ rest
-  pub own : successes answers ≡ units entries
+-- The numbers are those of the first groups that these calls took, as many, in order.
+pub record AreOfFirst (calls : List Call) (numbers : List ℕ) : Type 0 where
+  pub groups : List Group
+  pub more : List Group
+  pub taken : groups_of calls ≡ groups ++ more
+  pub some : All HasEntries groups
+  pub own : numbers ≡ units groups
 
--- Whatever whole frames the text of a connection begins with: those that say 200 OK answer the first
--- entries of the takes that were answered Ok.
+-- Whatever numbers the text of a connection acknowledges, they are those of the first groups that were taken.
 abbrev pub AckedIsTaken : Type 0
-AckedIsTaken = (conn : ℕ) (b : List ℕ) (calls : List Call) (text : List ℕ) (talk : Talk) → Carried (relp conn) b calls text talk
-    → (answers : List Frame) (front rest : List ℕ) → AreSpelled IsSpelling answers front → text ≡ front ++ rest
-    → (entries : List Entry) × (more : List Entry) × (taken_of calls ≡ entries ++ more) × (successes answers ≡ units entries)
+AckedIsTaken = (proto : Proto) (conn : ℕ) (b : List ℕ) (calls : List Call) (text : List ℕ) (talk : Talk) → CarriedBy proto conn b calls text talk
+    → (numbers : List ℕ) → Acknowledges proto text numbers → AreOfFirst calls numbers
+
+-- acknowledgments of Lumberjack for these numbers, one after another
+abbrev pub acks_of : List ℕ → List ℕ
+acks_of numbers = flat_map (λ seq. ack_text seq) numbers
+
+-- The text of a Lumberjack connection is the acknowledgments of the groups that were taken, in order, one each, but the
+-- last one perhaps in part or not at all.
+abbrev pub AcksAreOfGroups : Type 0
+AcksAreOfGroups = (conn : ℕ) (b : List ℕ) (calls : List Call) (text : List ℕ) (talk : Talk) → Carried (lumberjack conn) b calls text talk
+    → (behind : List ℕ) × All HasEntries (groups_of calls) × (text ++ behind ≡ acks_of (units (groups_of calls)))

@@ -7,5 +7,5 @@ pub mod Endings
 pub mod RelpServing
 pub mod LumberServing
 pub mod Serves
+pub mod Groups
 pub mod Acked
-pub mod LumberAcked

@@ -1,5 +1,5 @@
 -- What a connection does for the frames of Lumberjack.
-use Rattle.std.specs.Prelude.{◌≡◌, ℕ, ◌+◌, ◌<◌, List, [], ◌∷◌, ◌++◌, length, take, Ok, Err}
+use Rattle.std.specs.Prelude.{◌≡◌, ℕ, ◌+◌, ◌<◌, ◌^◌, List, [], ◌∷◌, ◌++◌, length, take, Ok, Err}
 use Rattle.event_form.specs.declared.event.Entry.{Entry}
 use Rattle.event_form.specs.declared.talk.Talk.{Talk}
 use Rattle.event_form.specs.declared.talk.Talk.TheVariants.{WriteFault}
@@ -27,14 +27,14 @@ abbrev pub entries_of : ℕ → ℕ → List Staged → List Entry
 entries_of conn index [] = []
 entries_of conn index (s ∷ more) = entry_of conn index s.seq s.event ∷ entries_of conn (index + 1) more
 
--- these entries were taken as one group, and their batch was acknowledged with this number
+-- these entries were taken as one group, and their batch was acknowledged with this number of four bytes
 abbrev pub StoresGroup : List Entry → ℕ → List Call → List ℕ → Type 0
-StoresGroup group seq calls text = (receipt : Receipt) × (calls ≡ takes group (Ok receipt) ∷ []) × (text ≡ ack_text seq)
+StoresGroup group seq calls text = (receipt : Receipt) × (calls ≡ takes group (Ok receipt) ∷ []) × (text ≡ ack_text seq) × (seq < 2 ^ 32)
 
 -- the connection ends at that: the group was taken and its acknowledgment wasn't wholly written, or it
 -- wasn't taken, and nothing was written
 abbrev pub EndsAtGroup : List Entry → ℕ → List Call → List ℕ → Talk → Type 0
-EndsAtGroup group seq late part WriteFault = (receipt : Receipt) × (k : ℕ) × (late ≡ takes group (Ok receipt) ∷ []) × (k < length (ack_text seq)) × (part ≡ take k (ack_text seq))
+EndsAtGroup group seq late part WriteFault = (receipt : Receipt) × (k : ℕ) × (late ≡ takes group (Ok receipt) ∷ []) × (k < length (ack_text seq)) × (part ≡ take k (ack_text seq)) × (seq < 2 ^ 32)
 EndsAtGroup group seq late part talk = (fault : TakeFault) × (late ≡ takes group (Err fault) ∷ []) × (talk ≡ talk_of fault) × (part ≡ [])
 
 -- what is staged is stored as one batch, and acknowledged with the sequence number of its last frame

@@ -3,6 +3,7 @@ use Rattle.spool_log.specs.declared.opening.Opening.TheVariants.{Raise}
 use Rattle.spool_log.specs.Opening.{opened}
 use Rattle.bridge_core.specs.Replayed.{IsStored}
 use Rattle.bridge_core.proofs.Replays.{served_as, stored_from}
+use Rattle.bridge_core.proofs.Durable.{acked_is_durable}
 use Rattle.bridge_core.proofs.replaying.replay.Goals as goal
 
 pub returns-in-Ok-clause-replayed : goal.returns-in-Ok-clause-replayed
@@ -10,9 +11,12 @@ returns-in-Ok-clause-replayed g c =
     let run = c.in-Ok.spool.known.register.content.run in
     let old = g.D.Disk.moment c.args.disk in
     let new = g.D.Disk.moment c.serve_input.result.disk in
+    let served = served_as c.args.proto (run * 2 ^ 32) _ _ _ _ _ _ _ (λ calls. g.D.Disk.tells → IsStored old new (run * 2 ^ 32) calls) c.serve_input.result.note (λ calls made tells.
+        let found = c.in-Ok.ensures.opened tells in
+        stored_from found.0 old (g.D.Disk.moment c.in-Ok.spool.disk) new calls run _ refl refl (c.in-Ok.ensures.any_moment tells) found.1 (made (opened Raise found.0) tells found.1.reached)) c.serve_input.ensures.served in
+    let serves = served.serves in
     inr (record {
       conn = run * 2 ^ 32;
-      served = served_as c.args.proto (run * 2 ^ 32) _ _ _ _ _ _ _ (λ calls. g.D.Disk.tells → IsStored old new (run * 2 ^ 32) calls) c.serve_input.result.note (λ calls made tells.
-          let found = c.in-Ok.ensures.opened tells in
-          stored_from found.0 old (g.D.Disk.moment c.in-Ok.spool.disk) new calls run _ refl refl (c.in-Ok.ensures.any_moment tells) found.1 (made (opened Raise found.0) tells found.1.reached)) c.serve_input.ensures.served;
+      served = served;
+      acknowledged = λ numbers tells says. acked_is_durable c.args.proto (run * 2 ^ 32) serves.bytes serves.calls serves.text served.attended.talk old new numbers serves.carried (serves.made tells) says;
     })

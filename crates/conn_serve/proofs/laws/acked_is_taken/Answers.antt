@@ -1,4 +1,4 @@
-use Rattle.conn_serve.proofs.Acks.{acked_is_taken}
+use Rattle.conn_serve.proofs.Acknowledged.{acked_is_taken}
 use Rattle.conn_serve.proofs.laws.acked_is_taken.Goals as goal
 
 pub returns : goal.returns
