@@ -7,6 +7,7 @@ use crate::{Disk, DiskFault};
 use std::fs::{File, OpenOptions};
 use std::io;
 use std::os::unix::fs::FileExt;
+use std::path::Path;
 
 /// A file as a disk. Its length is the file's as it was opened. A read at which the file has become
 /// shorter is a fault.
@@ -32,7 +33,7 @@ impl FileDisk {
     }
 
     /// Opens the file, or makes it. A file that is new or empty gets the length of `len` zero bytes; the
-    /// bytes and the length of any other stay.
+    /// bytes and the length of any other stay. The file's name in its folder is made durable.
     pub fn make(rt: &HostRuntime, path: &str, len: u64) -> Result<FileDisk, DiskFault>
         ensures faults { IfOk result (λ disk. (file_moment disk).faults ≡ 0) }
         ensures size { IfOk result (λ disk. (file_moment disk).size ≡ len ⊎ 0 < (file_moment disk).size) }
@@ -69,13 +70,25 @@ fn open_file(rt: &HostRuntime, path: &str, create: bool) -> io::Result<(File, u6
 fn make_file(rt: &HostRuntime, path: &str, len: u64) -> io::Result<(File, u64)>
     ensures { IfOk result (λ made. made.1 ≡ len ⊎ 0 < made.1) }
 {
-    let (file, found) = open_file(rt, path, true)?;
-    if found > 0 {
-        return Ok((file, found));
+    let (file, mut size) = open_file(rt, path, true)?;
+    if size == 0 {
+        file.set_len(len)?;
+        file.sync_all()?;
+        size = len;
     }
-    file.set_len(len)?;
-    file.sync_all()?;
-    Ok((file, len))
+    sync_folder(rt, path)?;
+    Ok((file, size))
+}
+
+// The name of a file that was made is durable only once its folder is synced.
+fn sync_folder(rt: &HostRuntime, path: &str) -> io::Result<()> {
+    let folder = match Path::new(path).parent() {
+        Some(folder) if !folder.as_str().is_empty() => folder,
+        _ => Path::new("."),
+    };
+    let mut options = OpenOptions::new();
+    options.read(true);
+    options.open(rt, folder)?.sync_all()
 }
 
 // Counts a failure.

@@ -59,3 +59,15 @@ fn a_length_is_set_where_there_is_none(rt: HostRuntime) -> Result<(), Fail> {
     fs::remove_file(&rt, path)?;
     Ok(())
 }
+
+#[test]
+fn a_name_alone_is_one_in_the_current_folder(rt: HostRuntime) -> Result<(), Fail> {
+    let alloc = rt.alloc();
+    let path = format!(in alloc; "edge_disk_{}_alone", process::id(rt.process()))?;
+    let disk = FileDisk::make(&rt, &path, 2).ok().ok_or("make")?;
+    assert_eq!(rt; disk.len(), 2);
+    drop(disk);
+    assert_eq!(rt; fs::read(&rt, path.as_str())?.as_slice(), [0; 2].as_slice());
+    fs::remove_file(&rt, path.as_str())?;
+    Ok(())
+}
