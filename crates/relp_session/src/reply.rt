@@ -12,7 +12,7 @@ pub fn reply(alloc: Global, txnr: u32, text: &[u8]) -> Result<Blob, AllocError>
     ensures bytes { IfOk result (λ answer. 0 < length answer) }
 {
     let mut out = Vec::new(alloc);
-    write_parts(alloc, txnr, b"rsp", text, &mut out)?;
+    write_parts(txnr, b"rsp", text, &mut out)?;
     Ok(Blob::of(out))
 }
 
@@ -21,8 +21,9 @@ pub fn closing_reply(alloc: Global, txnr: u32) -> Result<Blob, AllocError>
     ensures value { IfOk result (λ answer. answer ≡ reply txnr [] ++ hint) }
     ensures bytes { IfOk result (λ answer. 0 < length answer) }
 {
-    let mut text = reply(alloc, txnr, b"")?.into_vec();
-    text.extend_from_slice(closing_hint(alloc)?.bytes())?;
+    let mut text = Vec::new(alloc);
+    write_parts(txnr, b"rsp", b"", &mut text)?;
+    write_parts(0, b"serverclose", b"", &mut text)?;
     Ok(Blob::of(text))
 }
 
@@ -42,6 +43,6 @@ pub fn closing_hint(alloc: Global) -> Result<Blob, AllocError>
     ensures bytes { IfOk result (λ text. 0 < length text) }
 {
     let mut out = Vec::new(alloc);
-    write_parts(alloc, 0, b"serverclose", b"", &mut out)?;
+    write_parts(0, b"serverclose", b"", &mut out)?;
     Ok(Blob::of(out))
 }
