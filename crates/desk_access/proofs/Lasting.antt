@@ -16,7 +16,7 @@ use Rattle.desk_access.specs.Desk.{DeskState, desk_of, Allowed, Goes, changing, 
 use Rattle.desk_access.specs.History.{IsLater, IsDesk, Grown, Grows, IsKept, AreKept, IsCallKept, AllKept, written_by, Was}
 use Rattle.desk_access.specs.Alone.{AloneView, alone_view, IsAt, LeadsFrom}
 use Rattle.desk_access.proofs.Growth.{grown_self, grown_then, grown_end, grown_entry}
-use Rattle.desk_access.proofs.Stages.{IsStage, AreStages, later_self, later_then, none_of, one_in, no_stages, adding_stages, confirming_stages, confirming_follow}
+use Rattle.desk_access.proofs.Stages.{IsStage, AreStages, later_self, later_then, none_of, one_in, adding_stages, confirming_stages, confirming_follow}
 use Rattle.spool_log.proofs.Adding.{adding_follow}
 use Rattle.spool_state.proofs.Following.{follows_self}
 use Rattle.desk_access.proofs.Steps.{Steps, one_later, steps, stage_adds}

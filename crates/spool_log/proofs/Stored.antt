@@ -39,7 +39,7 @@ stored_of s known d m held lawful some = record {
   register = register_known known.register m.reads (∥∥₁_elim some (hlevel props) (λ p. ∣ p.1.register ∣₁));
 }
 
-none_follow : (s : SpoolState) → AllFollow s []
+pub none_follow : (s : SpoolState) → AllFollow s []
 none_follow s = λ k d lt. absurd (omega arith)
 
 -- What the settled device stands for, and memory knows, is the state.

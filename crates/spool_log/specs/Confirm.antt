@@ -4,7 +4,7 @@ use Rattle.spool_state.specs.SpoolState.{SpoolState, Follows}
 use Rattle.spool_log.specs.declared.fault.ConfirmFault.{ConfirmFault}
 use Rattle.spool_log.specs.declared.fault.ConfirmFault.TheVariants.{Worn, NotSpool, DiskFault, NoMemory}
 use Rattle.spool_log.specs.declared.known.Known.{Known}
-use Rattle.spool_log.specs.Stages.{last_of, confirming}
+use Rattle.spool_log.specs.Stages.{last_of, confirming, AllFollow}
 use Rattle.spool_log.specs.State.{View, IsIn, LeavesStages}
 
 -- This is the answer in that state: the cursor is there or further, or can be moved; or the register is worn.
@@ -41,6 +41,7 @@ confirm_doubt s upto (Err NoMemory) = []
 pub record ConfirmsTo (s : SpoolState) (upto : ℕ) (result : Result Unit ConfirmFault) (old new : View) : Type 0 where
   pub answer : Confirms s upto result
   pub follows : Follows s (confirmed s upto result)
+  pub stages_follow : AllFollow s (confirm_stages s upto result)
   pub reached : IsIn (confirmed s upto result) (confirm_doubt s upto result) new
   pub any_moment : LeavesStages s (confirm_stages s upto result) old.moment new.moment
 

@@ -10,7 +10,7 @@ use Rattle.spool_log.specs.declared.fault.Receipt.{Receipt}
 use Rattle.spool_log.specs.declared.fault.TakeFault.{TakeFault}
 use Rattle.spool_log.specs.declared.fault.ConfirmFault.{ConfirmFault}
 use Rattle.spool_log.specs.Fault.{as_take, as_confirm}
-use Rattle.spool_log.specs.Stages.{IsOneOf}
+use Rattle.spool_log.specs.Stages.{IsOneOf, AllFollow}
 use Rattle.spool_log.specs.State.{View, IsIn, LeavesStages}
 use Rattle.spool_log.specs.Confirm.{Confirms, confirmed, confirm_stages, confirm_doubt}
 use Rattle.spool_log.specs.Take.{Takes, taken, take_stages, take_doubt}
@@ -43,9 +43,11 @@ Mends s doubt (Err fault) old new = StaysInDoubt s doubt fault old new
 
 -- Mending reached m. From there a change with these stages led to a state and a doubt; or none was made, where there
 -- is no stage. Whenever a crash came meanwhile, it left what it could leave before, or what stands for m or a stage.
+-- All of these follow the state.
 pub record GoesOn (s : SpoolState) (doubt : List SpoolState) (m : SpoolState) (stages : List SpoolState) (after : SpoolState) (later : List SpoolState) (old new : View) : Type 0 where
   pub one : IsOneOf s doubt m
   pub follows : Follows s after
+  pub stages_follow : AllFollow s stages
   pub reached : IsIn after later new
   pub any_moment : LeavesStages m stages old.moment new.moment
 

@@ -7,7 +7,7 @@ use Rattle.spool_log.specs.declared.fault.Receipt.{Receipt}
 use Rattle.spool_log.specs.declared.fault.TakeFault.{TakeFault}
 use Rattle.spool_log.specs.declared.fault.TakeFault.TheVariants.{TooLarge, Spent, Full, NotSpool, NoMemory, DiskFault}
 use Rattle.spool_log.specs.declared.known.Known.{Known}
-use Rattle.spool_log.specs.Stages.{last_of, adding}
+use Rattle.spool_log.specs.Stages.{last_of, adding, AllFollow}
 use Rattle.spool_log.specs.State.{View, IsIn, LeavesStages}
 
 -- nothing but the disk stands in the way of the group
@@ -82,6 +82,7 @@ IsAnswered DiskFault = Unit {0}
 -- What a take outside doubt leads to. Where it is refused, a crash leaves what it could leave before.
 pub record StoresTo (s : SpoolState) (group : List Entry) (result : Result Receipt TakeFault) (old new : View) : Type 0 where
   pub follows : Follows s (taken s group result)
+  pub stages_follow : AllFollow s (take_stages s group result)
   pub reached : IsIn (taken s group result) (take_doubt s group result) new
   pub any_moment : LeavesStages s (take_stages s group result) old.moment new.moment
 
