@@ -1,5 +1,5 @@
 -- Calls of a spool that isn't in doubt, and refusals, as the top call tells them.
-use Rattle.std.proofs.Common.{ℕ, List, [], sym, subst, arith, inl, inr}
+use Rattle.std.proofs.Common.{ℕ, List, [], subst, arith, inl, inr}
 use Rattle.std.specs.Prelude.{Option, Result}
 use Rattle.std.specs.Global.{Vec}
 use Rattle.edge_disk.specs.Disk.{Moment, LeavesOnly}
