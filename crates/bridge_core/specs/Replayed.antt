@@ -8,7 +8,7 @@ use Rattle.spool_state.specs.SpoolState.{SpoolState}
 use Rattle.spool_state.specs.Image.{StandsFor}
 use Rattle.spool_log.specs.declared.fault.RecoverFault.{RecoverFault}
 use Rattle.spool_log.specs.declared.opening.Opening.TheVariants.{Raise}
-use Rattle.spool_log.specs.Opening.{opened, CanOpen, IsOpening, IsRefusedAs}
+use Rattle.spool_log.specs.Opening.{opened, CanOpen, IsOpening, IsRefusing, IsRefusedAs}
 use Rattle.desk_access.specs.Call.{Call, records_by}
 use Rattle.desk_access.specs.Desk.{DeskState, desk_of, Goes}
 use Rattle.desk_access.specs.History.{IsLater, Grows, AllKept, Was}
@@ -31,7 +31,7 @@ pub record IsKeptIn (s : SpoolState) (calls : List Call) (c : List ℕ) : Type 0
   pub grows : Grows (desk_of s []) (records_by 0 calls) state
 
 -- What a crash left at a moment of these calls stands for a later state, which holds the groups of the first of
--- them, none skipped and none in part.
+-- them, none skipped and none in part, and perhaps that of the next one. A group that was refused is in none.
 abbrev pub IsCallStep : SpoolState → List Call → List ℕ → Type 0
 IsCallStep s calls c = Was (desk_of s []) (records_by 0 calls) c
 
@@ -58,12 +58,13 @@ pub record IsStored (old new : Moment) (conn : ℕ) (calls : List Call) : Type 0
   pub any_moment : LeavesOnly (λ c. IsOpening Raise old c ⊎ IsCallStep (opened Raise state) calls c) old new
 
 -- The device was not opened: it breaks a rule, the first one at that place; or its run or its register can't be
--- raised; or a call of the disk failed, or no memory was found.
+-- raised; or a call of the disk failed, or no memory was found. Unless the disk failed, a crash left what it could
+-- leave before.
 pub record IsUnopened (tells : Type 0) (old new : Moment) (note : Note) : Type 0 where
   pub fault : RecoverFault
   pub note_is : note ≡ note_of_recover fault
   pub why : tells → IsRefusedAs Raise old.reads fault
-  pub any_moment : tells → LeavesOnly (IsOpening Raise old) old new
+  pub any_moment : tells → LeavesOnly (IsRefusing Raise fault old) old new
 
 -- The input was served by this protocol, as one connection of this number: the bytes read are its frames, from
 -- the first one, none skipped; the calls on the spool and the bytes written are those that they ask for; and the

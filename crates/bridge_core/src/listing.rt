@@ -2,12 +2,9 @@
 ghost use Rattle.std.specs.Prelude.{◌≡◌, ◌≢◌, ℕ, ◌+◌, ◌≤◌, []};
 ghost use Rattle.foundation.specs.Faults.{Rose};
 ghost use Rattle.spool_state.specs.SpoolState.{SpoolState, pending};
-ghost use Rattle.spool_state.specs.Image.{StandsFor};
 ghost use Rattle.edge_disk.specs.Disk.{LeavesOnly};
 ghost use Rattle.spool_log.specs.State.{view, IsIn};
 ghost use Rattle.spool_log.specs.Outcome.{pending_from};
-ghost use Rattle.spool_log.specs.Opening.{IsOpening};
-ghost use Rattle.spool_log.specs.declared.opening.Opening.TheVariants.{Keep};
 ghost use Rattle.bridge_words.specs.declared.note.Note.TheVariants.{Usage, WrongLength, ReadFault, WriteFault, DiskFault};
 ghost use Rattle.bridge_words.specs.Notes.{status_of};
 ghost use Rattle.bridge_core.specs.Listed.{ArePrinted, IsListNote, IsListed};
@@ -44,7 +41,7 @@ fn print_part<D: Disk, K: Sink>(
     ensures printed { (s : SpoolState) → D.tells → IsIn s [] (view spool.old.known spool.old.doubt (D.moment spool.old.disk))
         → ArePrinted form number (pending_from s number most) result (K.taken output.old) (K.taken output.new) }
     ensures kept { (s : SpoolState) → D.tells → IsIn s [] (view spool.old.known spool.old.doubt (D.moment spool.old.disk))
-        → IsIn s [] (view spool.new.known spool.new.doubt (D.moment spool.new.disk)) × LeavesOnly (StandsFor s) (D.moment spool.old.disk) (D.moment spool.new.disk) }
+        → IsIn s [] (view spool.new.known spool.new.doubt (D.moment spool.new.disk)) × LeavesOnly (D.moment spool.old.disk).image (D.moment spool.old.disk) (D.moment spool.new.disk) }
 {
     match spool.pending(number, most) {
         Ok(entries) => print_entries(alloc, output, form, number, &entries),
@@ -66,7 +63,7 @@ fn print_pending<D: Disk, K: Sink>(
     ensures printed { (s : SpoolState) → D.tells → IsIn s [] (view spool.old.known spool.old.doubt (D.moment spool.old.disk))
         → ArePrinted form s.cursor (pending s) result (K.taken output.old) (K.taken output.new) }
     ensures kept { (s : SpoolState) → D.tells → IsIn s [] (view spool.old.known spool.old.doubt (D.moment spool.old.disk))
-        → LeavesOnly (StandsFor s) (D.moment spool.old.disk) (D.moment spool.new.disk) }
+        → LeavesOnly (D.moment spool.old.disk).image (D.moment spool.old.disk) (D.moment spool.new.disk) }
 {
     let mut number = spool.cursor();
     while number < spool.end() {
@@ -87,8 +84,8 @@ fn print_pending<D: Disk, K: Sink>(
 ///
 /// `NotSpool` comes exactly where the device breaks a rule of the layout, with the place of the first one,
 /// and then nothing is written. `DiskFault` and `WriteFault` come only where a call of the disk or a write
-/// failed in this call; then the first lines are written, the last one perhaps in part. Whatever a crash
-/// leaves of the device is what it could leave before, or stands for the same spool.
+/// failed in this call; then the first lines are written, the last one perhaps in part. Nothing is written to
+/// the device: whatever a crash leaves of it is what it could leave before.
 pub fn list<D: Disk, K: Sink>(alloc: Global, disk: D, output: &mut K, form: ListForm) -> Ended<D>
     ensures status { result.status ≡ status_of result.note }
     ensures known { (result.note ≢ Usage) × (result.note ≢ ReadFault) × ((have want : ℕ) → result.note ≢ WrongLength have want) }
@@ -96,7 +93,7 @@ pub fn list<D: Disk, K: Sink>(alloc: Global, disk: D, output: &mut K, form: List
     ensures disk_cause { result.note ≡ DiskFault → Rose 1 (D.moment disk).faults (D.moment result.disk).faults }
     ensures write_cause { result.note ≡ WriteFault → Rose 1 (K.write_faults output.old) (K.write_faults output.new) }
     ensures listed { D.tells → IsListed form (D.moment disk).reads (K.taken output.old) (K.taken output.new) result.note }
-    ensures any_moment { D.tells → LeavesOnly (IsOpening Keep (D.moment disk)) (D.moment disk) (D.moment result.disk) }
+    ensures any_moment { D.tells → LeavesOnly (D.moment disk).image (D.moment disk) (D.moment result.disk) }
 {
     match Spool::recover(alloc, disk, Opening::Keep) {
         Ok(mut spool) => {

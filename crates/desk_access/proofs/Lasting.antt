@@ -7,14 +7,16 @@ use Rattle.event_form.specs.declared.event.Entry.{Entry}
 use Rattle.spool_state.specs.SpoolState.{SpoolState, base, end, entry_at, Follows, IsSound}
 use Rattle.spool_state.specs.Image.{StandsFor}
 use Rattle.spool_log.specs.declared.fault.Receipt.{Receipt}
-use Rattle.spool_log.specs.Stages.{IsOneOf, StandsForOne, AllFollow, adding, confirming, last_of}
+use Rattle.spool_log.specs.declared.fault.TakeFault.TheVariants as Take
+use Rattle.spool_log.specs.declared.fault.ConfirmFault.TheVariants as Confirm
+use Rattle.spool_log.specs.Stages.{IsOneOf, StandsForOne, IsMidway, AllFollow, adding, confirming, last_of}
 use Rattle.spool_log.specs.State.{View, IsIn}
 use Rattle.desk_access.specs.Call.{Call, takes, pends, confirms, Record, records_by, calls_of}
 use Rattle.desk_access.specs.Desk.{DeskState, desk_of, Allowed, Goes, changing, StandsWithin, Stood}
-use Rattle.desk_access.specs.History.{IsLater, IsDesk, Grown, Grows, IsKept, AreKept, IsCallKept, AllKept, asked_by, Was}
+use Rattle.desk_access.specs.History.{IsLater, IsDesk, Grown, Grows, IsKept, AreKept, IsCallKept, AllKept, written_by, Was}
 use Rattle.desk_access.specs.Alone.{AloneView, alone_view, IsAt, LeadsFrom}
 use Rattle.desk_access.proofs.Growth.{grown_self, grown_then, grown_end, grown_entry}
-use Rattle.desk_access.proofs.Stages.{IsStage, AreStages, later_self, later_then, none_of, one_in, no_stages, adding_stages, confirming_stages, confirming_follow}
+use Rattle.desk_access.proofs.Stages.{IsStage, AreStages, later_self, later_then, none_of, one_in, adding_stages, confirming_stages, confirming_follow}
 use Rattle.spool_log.proofs.Adding.{adding_follow}
 use Rattle.spool_state.proofs.Following.{follows_self}
 use Rattle.desk_access.proofs.Steps.{Steps, one_later, steps, stage_adds}
@@ -126,31 +128,47 @@ which_one s (stage ∷ stages) c (inl h) = (s, inl refl, h)
 which_one s (stage ∷ stages) c (inr h) = let one = which_one stage stages c h in (one.0, inr one.1, one.2)
 
 -- a stage of a change, as it stands
-stage_of : (m t : SpoolState) (group : List Entry) (stages : List SpoolState) (c : List ℕ) → IsSound m → AreStages m group stages → AllFollow m stages → IsOneOf m stages t → StandsFor t c
-    → IsLater m t × ((here : List Entry) × ((here ≡ []) ⊎ (here ≡ group)) × Grown m here t)
-stage_of m t group stages c sound are follow one stands =
+stage_of : (m : SpoolState) (group : List Entry) (stages : List SpoolState) (c : List ℕ) → IsSound m → AreStages m group stages → AllFollow m stages → IsMidway m stages c
+    → (t : SpoolState) × StandsFor t c × IsLater m t × ((here : List Entry) × ((here ≡ []) ⊎ (here ≡ group)) × Grown m here t)
+stage_of m group [] c sound are follow midway = absurd midway
+stage_of m group (first ∷ stages) c sound are follow midway =
+    let met = which_one m (first ∷ stages) c midway in
+    let t = met.0 in
     let itself : IsStage m group m = record { grown = inl (grown_self m); slots = refl; size = refl; run = refl } in
-    let stage = one_in (IsStage m group) m t stages itself are.each one in
-    let follows = one_in (Follows m) m t stages (follows_self m sound.from_base) follow one in
-    (record { sound = stands.sound; follows = follows; slots = stage.slots; size = stage.size; run = stage.run }, stage_adds m t group stage.grown)
+    let stage = one_in (IsStage m group) m t (first ∷ stages) itself are.each met.1 in
+    let follows = one_in (Follows m) m t (first ∷ stages) (follows_self m sound.from_base) follow met.1 in
+    (t, met.2, record { sound = met.2.sound; follows = follows; slots = stage.slots; size = stage.size; run = stage.run }, stage_adds m t group stage.grown)
 
-stage_stands : (m t : SpoolState) (call : Call) (c : List ℕ) → IsSound m → IsOneOf m (changing m call) t → StandsFor t c → IsLater m t × ((here : List Entry) × ((here ≡ []) ⊎ (here ≡ asked_by call)) × Grown m here t)
-stage_stands m t (takes group result) c sound one stands = stage_of m t group (adding m group) c sound (adding_stages m group sound) (adding_follow m group sound) one stands
-stage_stands m t (pends from most result) c sound one stands = stage_of m t [] [] c sound (no_stages m []) (none_of (Follows m)) one stands
-stage_stands m t (confirms upto result) c sound one stands = stage_of m t [] (confirming m upto) c sound (confirming_stages m upto) (confirming_follow m upto sound) one stands
+-- a stage of the change of a call with its answer
+stage_stands : (m : SpoolState) (call : Call) (c : List ℕ) → IsSound m → IsMidway m (changing m call) c
+    → (t : SpoolState) × StandsFor t c × IsLater m t × ((here : List Entry) × ((here ≡ []) ⊎ (here ≡ written_by call)) × Grown m here t)
+stage_stands m (takes [] result) c sound midway = absurd midway
+stage_stands m (takes (entry ∷ entries) (Ok receipt)) c sound midway = stage_of m (entry ∷ entries) (adding m (entry ∷ entries)) c sound (adding_stages m (entry ∷ entries) sound) (adding_follow m (entry ∷ entries) sound) midway
+stage_stands m (takes (entry ∷ entries) (Err (Take.TooLarge need most))) c sound midway = absurd midway
+stage_stands m (takes (entry ∷ entries) (Err (Take.Spent at))) c sound midway = absurd midway
+stage_stands m (takes (entry ∷ entries) (Err (Take.Full need room))) c sound midway = absurd midway
+stage_stands m (takes (entry ∷ entries) (Err (Take.NotSpool at))) c sound midway = absurd midway
+stage_stands m (takes (entry ∷ entries) (Err Take.NoMemory)) c sound midway = absurd midway
+stage_stands m (takes (entry ∷ entries) (Err Take.DiskFault)) c sound midway = stage_of m (entry ∷ entries) (adding m (entry ∷ entries)) c sound (adding_stages m (entry ∷ entries) sound) (adding_follow m (entry ∷ entries) sound) midway
+stage_stands m (pends from most result) c sound midway = absurd midway
+stage_stands m (confirms upto (Ok done)) c sound midway = stage_of m [] (confirming m upto) c sound (confirming_stages m upto) (confirming_follow m upto sound) midway
+stage_stands m (confirms upto (Err (Confirm.Worn ordinal))) c sound midway = absurd midway
+stage_stands m (confirms upto (Err (Confirm.NotSpool at))) c sound midway = absurd midway
+stage_stands m (confirms upto (Err Confirm.DiskFault)) c sound midway = stage_of m [] (confirming m upto) c sound (confirming_stages m upto) (confirming_follow m upto sound) midway
+stage_stands m (confirms upto (Err Confirm.NoMemory)) c sound midway = absurd midway
 
 was_within : (x met : DeskState) (first rest : List Record) (c : List ℕ) → IsDesk x → Goes x first met → StandsWithin met rest c → Was x (first ++ rest) c
 was_within x met first [] c rules goes within = absurd within
 was_within x met first (one ∷ rest) c rules goes within =
     let m = within.0 in
-    let stage = which_one m (changing m one.call) c within.2 in
     let past = all_later x met first m rules goes within.1 in
-    let step = stage_stands m stage.0 one.call c past.sound stage.1 stage.2 in
+    let stage = stage_stands m one.call c past.sound within.3 in
+    let step = stage.3 in
     let grows = goes_grows x met first m rules goes within.1 in
     record {
       state = stage.0;
-      stands = stage.2;
-      later = later_then x.spool m stage.0 past step.0;
+      stands = stage.1;
+      later = later_then x.spool m stage.0 past stage.2;
       first = first;
       rest = one ∷ rest;
       parts = refl;
@@ -158,9 +176,9 @@ was_within x met first (one ∷ rest) c rules goes within =
       one = grows.one;
       more = grows.more;
       adds = grows.adds;
-      next = step.1.0;
-      whole = step.1.1;
-      grown = grown_then grows.mended m stage.0 grows.more step.1.0 grows.grown step.1.2;
+      next = step.0;
+      whole = step.1;
+      grown = grown_then grows.mended m stage.0 grows.more step.0 grows.grown step.2;
     }
 
 was_there : (x met : DeskState) (first rest : List Record) (c : List ℕ) → IsDesk x → Goes x first met → StandsForOne met.spool met.doubt c → Was x (first ++ rest) c

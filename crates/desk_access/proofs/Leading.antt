@@ -18,13 +18,13 @@ use Rattle.spool_log.specs.declared.fault.ConfirmFault.{ConfirmFault}
 use Rattle.spool_log.specs.declared.fault.ConfirmFault.TheVariants as Confirm
 use Rattle.spool_log.specs.declared.known.Known.{Known}
 use Rattle.spool_log.specs.State.{View, view, IsIn}
-use Rattle.spool_log.specs.Stages.{StandsForOne, adding, confirming}
+use Rattle.spool_log.specs.Stages.{StandsForOne}
 use Rattle.spool_log.specs.Take.{taken, take_doubt, TakesNothing}
 use Rattle.spool_log.specs.Confirm.{confirmed, confirm_doubt}
 use Rattle.spool_log.specs.Outcome.{StaysInDoubt, GoesOn, TakesFrom, Pends, PendsFrom, ConfirmsFrom}
 use Rattle.spool_log.proofs.Numbers.{end_known}
 use Rattle.desk_access.specs.Call.{Call, takes, pends, confirms, Record, records_by, listed, failures_of}
-use Rattle.desk_access.specs.Desk.{DeskState, desk_of, Allowed, StandsWithin, Stood, StaysDoubtful, Reads}
+use Rattle.desk_access.specs.Desk.{DeskState, desk_of, Allowed, changing, IsAnswered, StandsWithin, Stood, StaysDoubtful, Reads}
 use Rattle.desk_access.specs.Alone.{alone_view, IsAt, LeadsFrom, RunsTo}
 use Rattle.desk_access.specs.Journal.{stood_here}
 use Rattle.desk_access.proofs.Lasting.{allowed_later}
@@ -50,26 +50,27 @@ one_leads x y call old new e k allowed at held run =
 unmended : (x : DeskState) (fault : PendFault) (old new : View) (e k : ℕ) → IsAt x (alone_view old e k) → StaysInDoubt x.spool x.doubt fault old new → StaysDoubtful x fault x
 unmended x fault old new e k at stays = record { in_doubt = at.spool.doubtful.0 stays.in_doubt; why = stays.why; same = refl }
 
-unmended_run : (x : DeskState) (records : List Record) (fault : PendFault) (old new : View) → StaysInDoubt x.spool x.doubt fault old new → LeavesOnly (λ c. StandsForOne x.spool x.doubt c ⊎ StandsWithin x records c) old.moment new.moment
-unmended_run x records fault old new stays = weaker _ (λ c. StandsForOne x.spool x.doubt c ⊎ StandsWithin x records c) old.moment new.moment stays.any_moment (λ c h. inl h)
+unmended_run : (x : DeskState) (records : List Record) (fault : PendFault) (old new : View) → IsIn x.spool x.doubt old → StaysInDoubt x.spool x.doubt fault old new → LeavesOnly (λ c. StandsForOne x.spool x.doubt c ⊎ StandsWithin x records c) old.moment new.moment
+unmended_run x records fault old new held stays = weaker old.moment.image (λ c. StandsForOne x.spool x.doubt c ⊎ StandsWithin x records c) old.moment new.moment stays.any_moment (λ c image. inl (held.each c image))
 
 -- a change in a mended spool
-mended_run : (x : DeskState) (m : SpoolState) (call : Call) (stages : List SpoolState) (after : SpoolState) (later : List SpoolState) (old new : View) → GoesOn x.spool x.doubt m stages after later old new
-    → ((c : List ℕ) → StandsForOne m stages c → StandsWithin x (records_by 0 (call ∷ [])) c) → LeavesOnly (λ c. StandsForOne x.spool x.doubt c ⊎ StandsWithin x (records_by 0 (call ∷ [])) c) old.moment new.moment
-mended_run x m call stages after later old new on within =
-    weaker _ (λ c. StandsForOne x.spool x.doubt c ⊎ StandsWithin x (records_by 0 (call ∷ [])) c) old.moment new.moment on.any_moment (λ c h. elim h [ inl here ↦ inl here | inr there ↦ inr (within c there) ])
+mended_run : (x : DeskState) (m : SpoolState) (call : Call) (after : SpoolState) (later : List SpoolState) (old new : View) → IsIn x.spool x.doubt old → IsAnswered m call → GoesOn x.spool x.doubt m (changing m call) after later old new
+    → LeavesOnly (λ c. StandsForOne x.spool x.doubt c ⊎ StandsWithin x (records_by 0 (call ∷ [])) c) old.moment new.moment
+mended_run x m call after later old new held answered on =
+    weaker _ (λ c. StandsForOne x.spool x.doubt c ⊎ StandsWithin x (records_by 0 (call ∷ [])) c) old.moment new.moment on.any_moment
+    (λ c h. elim h [ inl image ↦ inl (held.each c image) | inr midway ↦ inr (m, on.one, answered, midway) ])
 
 -- a take of entries
 pub take_leads : (x : DeskState) (group : List Entry) (result : Result Receipt TakeFault) (old new : View) (e k : ℕ) → 0 < length group → All IsEntry group → IsAt x (alone_view old e k) → TakesFrom x.spool x.doubt group result old new
     → LeadsFrom x (alone_view old e k) (takes group result ∷ []) (alone_view new e k)
 take_leads x [] result old new e k some limits at from = absurd (omega arith)
 take_leads x (entry ∷ entries) result old new e k some limits at (inl stayed) =
-    one_leads x x (takes (entry ∷ entries) result) old new e k (limits, inl (stayed.0, stayed.1, unmended x stayed.0 old new e k at stayed.2)) at stayed.2.stays (unmended_run x (records_by 0 (takes (entry ∷ entries) result ∷ [])) stayed.0 old new stayed.2)
+    one_leads x x (takes (entry ∷ entries) result) old new e k (limits, inl (stayed.0, stayed.1, unmended x stayed.0 old new e k at stayed.2)) at stayed.2.stays (unmended_run x (records_by 0 (takes (entry ∷ entries) result ∷ [])) stayed.0 old new at.spool stayed.2)
 take_leads x (entry ∷ entries) result old new e k some limits at (inr went) =
     let group = entry ∷ entries in
     let m = went.0 in
     one_leads x (desk_of (taken m group result) (take_doubt m group result)) (takes group result) old new e k (limits, inr (m, went.2.one, went.1, refl)) at went.2.reached
-    (mended_run x m (takes group result) (adding m group) _ _ old new went.2 (λ c h. (m, went.2.one, h)))
+    (mended_run x m (takes group result) _ _ old new at.spool went.1 went.2)
 
 -- a take of none
 pub empty_leads : (x : DeskState) (result : Result Receipt TakeFault) (known : Known) (d : Bool) (m : Moment) (e k : ℕ) → IsLawful m → IsAt x (alone_view (view known d m) e k) → TakesNothing known result
@@ -100,21 +101,21 @@ listed_err result fault is = ap listed is
 pub pend_leads : (x : DeskState) (from most : ℕ) (result : Result (Vec Entry) PendFault) (old new : View) (e k : ℕ) → IsAt x (alone_view old e k) → PendsFrom x.spool x.doubt from most result old new
     → LeadsFrom x (alone_view old e k) (pends from most (listed result) ∷ []) (alone_view new e k)
 pend_leads x from most result old new e k at (inl stayed) =
-    one_leads x x (pends from most (listed result)) old new e k (inl (stayed.0, listed_err result stayed.0 stayed.1, unmended x stayed.0 old new e k at stayed.2)) at stayed.2.stays (unmended_run x (records_by 0 (pends from most (listed result) ∷ [])) stayed.0 old new stayed.2)
+    one_leads x x (pends from most (listed result)) old new e k (inl (stayed.0, listed_err result stayed.0 stayed.1, unmended x stayed.0 old new e k at stayed.2)) at stayed.2.stays (unmended_run x (records_by 0 (pends from most (listed result) ∷ [])) stayed.0 old new at.spool stayed.2)
 pend_leads x from most result old new e k at (inr went) =
     let m = went.0 in
     one_leads x (desk_of m []) (pends from most (listed result)) old new e k (inr (m, went.2.one, reads m from most result went.1, refl)) at went.2.reached
-    (mended_run x m (pends from most (listed result)) [] _ _ old new went.2 (λ c h. (m, went.2.one, h)))
+    (mended_run x m (pends from most (listed result)) _ _ old new at.spool (reads m from most result went.1) went.2)
 
 -- a confirm
 pub confirm_leads : (x : DeskState) (upto : ℕ) (result : Result Unit ConfirmFault) (old new : View) (e k : ℕ) → upto ≤ end x.spool → IsAt x (alone_view old e k) → ConfirmsFrom x.spool x.doubt upto result old new
     → LeadsFrom x (alone_view old e k) (confirms upto result ∷ []) (alone_view new e k)
 confirm_leads x upto result old new e k le at (inl stayed) =
-    one_leads x x (confirms upto result) old new e k (le, inl (stayed.0, stayed.1, unmended x stayed.0 old new e k at stayed.2)) at stayed.2.stays (unmended_run x (records_by 0 (confirms upto result ∷ [])) stayed.0 old new stayed.2)
+    one_leads x x (confirms upto result) old new e k (le, inl (stayed.0, stayed.1, unmended x stayed.0 old new e k at stayed.2)) at stayed.2.stays (unmended_run x (records_by 0 (confirms upto result ∷ [])) stayed.0 old new at.spool stayed.2)
 confirm_leads x upto result old new e k le at (inr went) =
     let m = went.0 in
     one_leads x (desk_of (confirmed m upto result) (confirm_doubt m upto result)) (confirms upto result) old new e k (le, inr (m, went.2.one, went.1, refl)) at went.2.reached
-    (mended_run x m (confirms upto result) (confirming m upto) _ _ old new went.2 (λ c h. (m, went.2.one, h)))
+    (mended_run x m (confirms upto result) _ _ old new at.spool went.1 went.2)
 
 -- ---- the counts
 

@@ -7,9 +7,9 @@ use Rattle.spool_log.specs.declared.fault.Receipt.{Receipt}
 use Rattle.spool_log.specs.declared.fault.TakeFault.{TakeFault}
 use Rattle.spool_log.specs.declared.fault.PendFault.{PendFault}
 use Rattle.spool_log.specs.Fault.{as_take, as_confirm}
-use Rattle.spool_log.specs.Stages.{IsOneOf, StandsForOne, adding, confirming}
-use Rattle.spool_log.specs.Take.{Takes, taken, take_doubt}
-use Rattle.spool_log.specs.Confirm.{Confirms, confirmed, confirm_doubt}
+use Rattle.spool_log.specs.Stages.{IsOneOf, StandsForOne, IsMidway}
+use Rattle.spool_log.specs.Take.{Takes, taken, take_stages, take_doubt}
+use Rattle.spool_log.specs.Confirm.{Confirms, confirmed, confirm_stages, confirm_doubt}
 use Rattle.spool_log.specs.Outcome.{IsNotBroken}
 use Rattle.desk_access.specs.Call.{Call, takes, pends, confirms, Record}
 
@@ -63,16 +63,24 @@ abbrev pub Goes : DeskState → List Record → DeskState → Type 0
 Goes x [] y = y ≡ x
 Goes x (one ∷ records) y = (z : DeskState) × Allowed x one.call z × Goes z records y
 
--- the stages of the change that a call makes in a mended spool
+-- the stages of the change that a call with this answer makes in a mended spool: none where it was refused
 abbrev pub changing : SpoolState → Call → List SpoolState
-changing m (takes group result) = adding m group
+changing m (takes [] result) = []
+changing m (takes (entry ∷ entries) result) = take_stages m (entry ∷ entries) result
 changing m (pends from most result) = []
-changing m (confirms upto result) = confirming m upto
+changing m (confirms upto result) = confirm_stages m upto result
 
--- the bytes stand for a stage of the first call's change
+-- the answer is one that a mended spool gives
+abbrev pub IsAnswered : SpoolState → Call → Type 0
+IsAnswered m (takes group result) = Takes m group result
+IsAnswered m (pends from most result) = Reads m from most result
+IsAnswered m (confirms upto result) = Confirms m upto result
+
+-- The bytes were left while the first call made its change: they stand for a stage of it, in the state that mending
+-- reached and that the answer is one of.
 abbrev pub StandsWithin : DeskState → List Record → List ℕ → Type 0
 StandsWithin x [] c = ⊥
-StandsWithin x (one ∷ records) c = (m : SpoolState) × IsOneOf x.spool x.doubt m × StandsForOne m (changing m one.call) c
+StandsWithin x (one ∷ records) c = (m : SpoolState) × IsOneOf x.spool x.doubt m × IsAnswered m one.call × IsMidway m (changing m one.call) c
 
 -- The bytes stand for what the desk was on the way: behind the first of the records, or within the call that came next.
 pub record Stood (x : DeskState) (records : List Record) (c : List ℕ) : Type 0 where

@@ -79,18 +79,25 @@ abbrev pub AllKept : SpoolState → List Call → Type 0
 AllKept s [] = Unit {0}
 AllKept s (call ∷ calls) = IsCallKept s call × AllKept s calls
 
--- the group that a call asked to take
-abbrev pub asked_by : Call → List Entry
-asked_by (takes group result) = group
-asked_by (pends from most result) = []
-asked_by (confirms upto result) = []
+-- the group of a take that was answered Ok, or DiskFault: it was written, or perhaps; none of a take that was refused
+abbrev pub written_by : Call → List Entry
+written_by (takes group (Ok receipt)) = group
+written_by (takes group (Err (TooLarge need most))) = []
+written_by (takes group (Err (Spent at))) = []
+written_by (takes group (Err (Full need room))) = []
+written_by (takes group (Err (NotSpool at))) = []
+written_by (takes group (Err NoMemory)) = []
+written_by (takes group (Err DiskFault)) = group
+written_by (pends from most result) = []
+written_by (confirms upto result) = []
 
-abbrev pub asked_first : List Record → List Entry
-asked_first [] = []
-asked_first (one ∷ records) = asked_by one.call
+-- that of the first of the calls
+abbrev pub written_next : List Record → List Entry
+written_next [] = []
+written_next (one ∷ records) = written_by one.call
 
 -- At a moment of the calls these bytes stood for a later state. Its list grew by what the first of the calls had added,
--- and perhaps by the group of the call that came next, whole.
+-- and perhaps by the group of the call that came next, whole; not by a group that was refused.
 pub record Was (x : DeskState) (records : List Record) (c : List ℕ) : Type 0 where
   pub state : SpoolState
   pub stands : StandsFor state c
@@ -103,5 +110,5 @@ pub record Was (x : DeskState) (records : List Record) (c : List ℕ) : Type 0 w
   pub more : List Entry
   pub adds : AddsAll first more
   pub next : List Entry
-  pub whole : (next ≡ []) ⊎ (next ≡ asked_first rest)
+  pub whole : (next ≡ []) ⊎ (next ≡ written_next rest)
   pub grown : Grown mended (more ++ next) state

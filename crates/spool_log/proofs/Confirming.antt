@@ -7,9 +7,10 @@ use Rattle.spool_state.specs.Change.{registered}
 use Rattle.spool_state.proofs.Following.{follows_self, follows_registered}
 use Rattle.edge_disk.specs.Disk.{LeavesOnly}
 use Rattle.spool_log.specs.declared.fault.ConfirmFault.TheVariants.{Worn, DiskFault}
-use Rattle.spool_log.specs.State.{View, IsIn}
+use Rattle.spool_log.specs.State.{View, IsIn, LeavesStages}
 use Rattle.spool_log.specs.Stages.{last_of, confirming, StandsForOne, AllFollow}
 use Rattle.spool_log.specs.Confirm.{ConfirmsTo}
+use Rattle.spool_log.proofs.Stored.{none_follow, leaves_stages}
 
 pub confirming_none : (s : SpoolState) (upto : ℕ) → upto ≤ s.cursor → confirming s upto ≡ []
 confirming_none s upto le = cond-true (nat_le upto s.cursor) [] (registered s s.run upto ∷ []) (le-leb upto s.cursor le)
@@ -33,8 +34,9 @@ module _ (s : SpoolState) (upto : ℕ) (sound : IsSound s) (further : s.cursor <
       let is = sym (confirming_one s upto further) in record {
         answer = inr fits;
         follows = subst (λ (l : List SpoolState). Follows s (last_of s l)) is follows;
+        stages_follow = subst (AllFollow s) is one_follow;
         reached = subst (λ (l : List SpoolState). IsIn (last_of s l) [] new) is reached;
-        any_moment = subst (λ (l : List SpoolState). LeavesOnly (StandsForOne s l) old.moment new.moment) is run;
+        any_moment = subst (λ (l : List SpoolState). LeavesStages s l old.moment new.moment) is (leaves_stages s (registered s s.run upto ∷ []) old.moment new.moment (omega arith) run);
       }
 
   pub failed : (old new : View) → s.ordinal < 2 ^ 63 → IsIn s (registered s s.run upto ∷ []) new → LeavesOnly (StandsForOne s (registered s s.run upto ∷ [])) old.moment new.moment → ConfirmsTo s upto (Err DiskFault) old new
@@ -42,9 +44,10 @@ module _ (s : SpoolState) (upto : ℕ) (sound : IsSound s) (further : s.cursor <
       let is = sym (confirming_one s upto further) in record {
         answer = (further, fits);
         follows = follows_self s sound.from_base;
+        stages_follow = subst (AllFollow s) is one_follow;
         reached = subst (λ (l : List SpoolState). IsIn s l new) is reached;
-        any_moment = subst (λ (l : List SpoolState). LeavesOnly (StandsForOne s l) old.moment new.moment) is run;
+        any_moment = subst (λ (l : List SpoolState). LeavesStages s l old.moment new.moment) is (leaves_stages s (registered s s.run upto ∷ []) old.moment new.moment (omega arith) run);
       }
 
-  pub worn : (ordinal : ℕ) (old new : View) → ordinal ≡ s.ordinal → s.ordinal ≡ 2 ^ 63 → IsIn s [] new → LeavesOnly (StandsForOne s (confirming s upto)) old.moment new.moment → ConfirmsTo s upto (Err (Worn ordinal)) old new
-  worn ordinal old new is last reached run = record { answer = (further, is, last); follows = follows_self s sound.from_base; reached = reached; any_moment = run }
+  pub worn : (ordinal : ℕ) (old new : View) → ordinal ≡ s.ordinal → s.ordinal ≡ 2 ^ 63 → IsIn s [] new → LeavesStages s [] old.moment new.moment → ConfirmsTo s upto (Err (Worn ordinal)) old new
+  worn ordinal old new is last reached run = record { answer = (further, is, last); follows = follows_self s sound.from_base; stages_follow = none_follow s; reached = reached; any_moment = run }

@@ -50,7 +50,7 @@ sure_mended s doubt known d m lawful is held =
       one = subst (λ (l : List SpoolState). IsOneOf s l s) (sym none) refl;
       follows = follows_self s held.sound.from_base;
       reached = subst (λ (l : List SpoolState). IsIn s l (view known d m)) none held;
-      any_moment = started (StandsForOne s doubt) m lawful held.each;
+      any_moment = started m.image m lawful (λ c image. image);
     }
 
 -- a spool whose device is synced and read
@@ -59,8 +59,8 @@ module _ (s : SpoolState) (doubt : List SpoolState) (known : Known) (d : Bool) (
   one = subst (λ (c : List ℕ). (t : SpoolState) × IsOneOf s doubt t × StandsFor t c) (sym synced.same) (which_one s doubt m.reads (held.each m.reads lawful.reads_image))
 
   module _ (new : Moment) (read : IsUntouched mid new) where
-    pub mend_moments : LeavesOnly (StandsForOne s doubt) m new
-    mend_moments = untouched (StandsForOne s doubt) m mid new (untouched_run (StandsForOne s doubt) m mid lawful held.each synced) read
+    pub mend_moments : LeavesOnly m.image m new
+    mend_moments = untouched m.image m mid new (untouched_run m.image m mid lawful (λ c image. image) synced) read
 
     -- where nothing was found out
     pub mend_stays : IsIn s doubt (view known d new)

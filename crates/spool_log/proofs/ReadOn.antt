@@ -1,5 +1,5 @@
 -- Entries read where mending led.
-use Rattle.std.proofs.Common.{◌≡◌, ℕ, ◌-◌, Bool, List, [], take, drop, max, ◌∙◌, ap, subst}
+use Rattle.std.proofs.Common.{◌≡◌, ◌⊎◌, inl, ℕ, ◌-◌, Bool, List, [], take, drop, max, ◌∙◌, ap, subst}
 use Rattle.std.specs.Prelude.{Result, Ok, Err, MatchResult}
 use Rattle.std.specs.Global.{Vec}
 use Rattle.event_form.specs.declared.event.Entry.{Entry}
@@ -11,10 +11,10 @@ use Rattle.spool_log.specs.declared.fault.PendFault.{PendFault}
 use Rattle.spool_log.specs.declared.known.Known.{Known}
 use Rattle.spool_log.specs.Knows.{IsStored}
 use Rattle.spool_log.specs.State.{KnowsDevice, View, view, IsIn}
-use Rattle.spool_log.specs.Stages.{StandsForOne}
+use Rattle.spool_log.specs.Stages.{IsMidway}
 use Rattle.spool_log.specs.Outcome.{IsNotBroken, IsMended, GoesOn, Pends}
 use Rattle.spool_log.proofs.Going.{goes_on}
-use Rattle.spool_log.proofs.Stored.{stored_of}
+use Rattle.spool_log.proofs.Stored.{stored_of, none_follow}
 
 -- what was read from a number on, in the state
 abbrev pub ReadsFrom : SpoolState → ℕ → ℕ → Result (Vec Entry) PendFault → Type 0
@@ -41,6 +41,6 @@ pub reads_on : (s : SpoolState) (doubt : List SpoolState) (m : SpoolState) (from
 reads_on s doubt m from most first r old known d mid new mended lawful stored read is reads =
     let reached = mended.reached in (
       pends_of m from most first r (is ∙ ap (max from) reached.knows.cursor) (reads m (stored_of m known d mid reached lawful stored)),
-      goes_on s doubt m [] m [] old (view known d mid) (view known d new) mended (follows_self m reached.sound.from_base) (still_in m known d mid new reached read)
-          (untouched_run (StandsForOne m []) mid new lawful reached.each read),
+      goes_on s doubt m [] m [] old (view known d mid) (view known d new) mended (follows_self m reached.sound.from_base) (none_follow m) (still_in m known d mid new reached read)
+          (untouched_run (λ c. mid.image c ⊎ IsMidway m [] c) mid new lawful (λ c image. inl image) read),
     )

@@ -1,11 +1,14 @@
 -- A device opened.
-use Rattle.std.proofs.Common.{false, ◌≡◌, inl, inr, ℕ, ◌+◌, List, sym, subst, arith}
+use Rattle.std.proofs.Common.{false, ◌≡◌, ◌⊎◌, inl, inr, ℕ, ◌+◌, ◌^◌, List, refl, sym, subst, arith}
 use Rattle.spool_state.specs.SpoolState.{SpoolState, Follows}
 use Rattle.spool_state.specs.Image.{StandsFor}
 use Rattle.spool_state.proofs.Following.{follows_self, follows_registered}
 use Rattle.spool_state.proofs.Laws.{one_state, stands_unbroken}
 use Rattle.edge_disk.specs.Disk.{Moment, IsLawful, IsSettled, IsUntouched, LeavesOnly}
 use Rattle.edge_disk.proofs.Moments.{untouched_run, both}
+use Rattle.disk_cell.specs.Fault.{IsWornAt}
+use Rattle.disk_cell.specs.declared.fault.SetFault.{SetFault}
+use Rattle.disk_cell.specs.declared.fault.SetFault.TheVariants as Set
 use Rattle.spool_log.specs.declared.fault.RecoverFault.{RecoverFault}
 use Rattle.spool_log.specs.declared.fault.RecoverFault.TheVariants as Recover
 use Rattle.spool_log.specs.declared.opening.Opening.{Opening}
@@ -14,21 +17,36 @@ use Rattle.spool_log.specs.declared.known.Known.{Known}
 use Rattle.spool_log.specs.declared.read_fault.ReadFault.{ReadFault}
 use Rattle.spool_log.specs.declared.read_fault.ReadFault.TheVariants.{NotSpool, DiskFault, NoMemory}
 use Rattle.spool_log.specs.Reading.{IsReadFault, KnowsState}
-use Rattle.spool_log.specs.Fault.{as_recover}
+use Rattle.spool_log.specs.Fault.{as_recover, of_set}
 use Rattle.spool_log.specs.Knows.{IsStored}
 use Rattle.spool_log.specs.Stages.{StandsForOne}
 use Rattle.spool_log.specs.State.{view}
-use Rattle.spool_log.specs.Opening.{raising, opened, CanOpen, Refuses, IsRefusedAs, IsOpening, Opens}
+use Rattle.spool_log.specs.Opening.{raising, opened, CanOpen, Refuses, IsRefusedAs, IsOpening, IsRefusing, Opens}
 use Rattle.spool_log.proofs.Stored.{in_stored}
+
+-- what a crash could leave before
+opening_image : (opening : Opening) (m : Moment) (c : List ℕ) → m.image c → IsOpening opening m c
+opening_image Keep m c image = image
+opening_image Raise m c image = inl image
+
+refusing_image : (opening : Opening) (fault : RecoverFault) (m : Moment) (c : List ℕ) → m.image c → IsRefusing opening fault m c
+refusing_image opening (Recover.NotSpool at) m c image = image
+refusing_image opening (Recover.RunsSpent run) m c image = image
+refusing_image opening (Recover.Worn ordinal) m c image = image
+refusing_image opening Recover.DiskFault m c image = opening_image opening m c image
+refusing_image opening Recover.NoMemory m c image = image
 
 -- a device that is read
 pub open_read : (opening : Opening) (m new : Moment) → IsLawful m → IsUntouched m new → LeavesOnly (IsOpening opening m) m new
-open_read opening m new lawful call = untouched_run (IsOpening opening m) m new lawful (λ c image. inl image) call
+open_read opening m new lawful call = untouched_run (IsOpening opening m) m new lawful (opening_image opening m) call
+
+pub refused_read : (opening : Opening) (fault : RecoverFault) (m new : Moment) → IsLawful m → IsUntouched m new → LeavesOnly (IsRefusing opening fault m) m new
+refused_read opening fault m new lawful call = untouched_run (IsRefusing opening fault m) m new lawful (refusing_image opening fault m) call
 
 -- and then raised
-pub open_raised : (opening : Opening) (s : SpoolState) (m mid new : Moment) → IsLawful m → IsUntouched m mid → StandsFor s m.reads → LeavesOnly (StandsForOne s (raising opening s)) mid new → LeavesOnly (IsOpening opening m) m new
-open_raised opening s m mid new lawful call stands run =
-    both _ _ (IsOpening opening m) m mid new (untouched_run m.image m mid lawful (λ c image. image) call) run (λ c h. inl h) (λ c h. inr (s, stands, h))
+open_raised : (s : SpoolState) (m mid new : Moment) → IsLawful m → IsUntouched m mid → StandsFor s m.reads → LeavesOnly (StandsForOne s (raising Raise s)) mid new → LeavesOnly (IsOpening Raise m) m new
+open_raised s m mid new lawful call stands run =
+    both m.image (StandsForOne s (raising Raise s)) (IsOpening Raise m) m mid new (untouched_run m.image m mid lawful (λ c image. image) call) run (λ c h. inl h) (λ c h. inr (s, stands, h))
 
 -- a fault of reading
 pub read_broken : (opening : Opening) (c : List ℕ) (fault : ReadFault) → IsReadFault c fault → IsRefusedAs opening c (as_recover fault)
@@ -66,7 +84,20 @@ refused_unbroken opening s c Recover.DiskFault stands is = tt
 refused_unbroken opening s c Recover.NoMemory stands is = tt
 
 pub open_raised_as : (opening : Opening) → opening ≡ Raise → (s : SpoolState) (m mid new : Moment) → IsLawful m → IsUntouched m mid → StandsFor s m.reads → LeavesOnly (StandsForOne s (raising Raise s)) mid new → LeavesOnly (IsOpening opening m) m new
-open_raised_as opening is s m mid new lawful call stands run = subst (λ (o : Opening). LeavesOnly (IsOpening o m) m new) (sym is) (open_raised Raise s m mid new lawful call stands run)
+open_raised_as opening is s m mid new lawful call stands run = subst (λ (o : Opening). LeavesOnly (IsOpening o m) m new) (sym is) (open_raised s m mid new lawful call stands run)
+
+-- or not raised, since the disk failed or before it was called
+pub refused_raised : (opening : Opening) → opening ≡ Raise → (fault : RecoverFault) (s : SpoolState) (m mid new : Moment) → IsLawful m → IsUntouched m mid → StandsFor s m.reads → (fault ≡ Recover.DiskFault) ⊎ (new ≡ mid) → LeavesOnly (StandsForOne s (raising Raise s)) mid new
+    → LeavesOnly (IsRefusing opening fault m) m new
+refused_raised opening is fault s m mid new lawful call stands why run = elim why [
+  | inl failed ↦ subst (λ (f : RecoverFault). LeavesOnly (IsRefusing opening f m) m new) (sym failed) (open_raised_as opening is s m mid new lawful call stands run)
+  | inr same ↦ subst (λ (d : Moment). LeavesOnly (IsRefusing opening fault m) m d) (sym same) (refused_read opening fault m mid lawful call)
+]
+
+-- a register that is worn is not written
+pub unwritten : (ordinal : ℕ) (fault : SetFault) (same : Type 0) → IsWornAt ordinal fault → (ordinal ≡ 2 ^ 63 → same) → (of_set fault ≡ Recover.DiskFault) ⊎ same
+unwritten ordinal (Set.Worn last) same worn kept = inr (kept worn.0)
+unwritten ordinal Set.DiskFault same worn kept = inl refl
 
 pub refused_as : (opening : Opening) → opening ≡ Raise → (s : SpoolState) (fault : RecoverFault) → Refuses Raise s fault → Refuses opening s fault
 refused_as opening is s fault h = subst (λ (o : Opening). Refuses o s fault) (sym is) h

@@ -1,19 +1,19 @@
 -- A state in memory and on a disk, outside doubt and in doubt.
-use Rattle.std.proofs.Common.{◌≡◌, inl, inr, ℕ, suc, ◌<◌, Bool, true, false, List, [], ◌∷◌, length, refl, sym, subst, arith}
+use Rattle.std.proofs.Common.{◌≡◌, ◌⊎◌, inl, inr, ℕ, suc, ◌<◌, Bool, true, false, List, [], ◌∷◌, length, refl, sym, subst, arith}
 use Rattle.std.proofs.Math.Logic.{∥∥₁_elim}
 use Rattle.std.proofs.Props.{props}
 use Rattle.std.proofs.lemmas.Bool.{cases_Bool}
 use Rattle.spool_state.specs.SpoolState.{SpoolState, Follows}
 use Rattle.spool_state.specs.Image.{StandsFor}
 use Rattle.edge_disk.specs.Disk.{Moment, IsLawful, IsSettled, LeavesOnly}
-use Rattle.edge_disk.proofs.Moments.{started_settled}
+use Rattle.edge_disk.proofs.Moments.{started, started_settled, weaker}
 use Rattle.disk_cell.specs.Cell.{place_of, other_of}
 use Rattle.disk_cell.specs.Register as Cells
 use Rattle.disk_cell.specs.declared.register.Register.{Register}
 use Rattle.spool_log.specs.declared.known.Known.{Known}
 use Rattle.spool_log.specs.Knows.{Knows, IsStored}
-use Rattle.spool_log.specs.State.{KnowsDevice, view, IsIn}
-use Rattle.spool_log.specs.Stages.{last_of, StandsForOne, AllFollow}
+use Rattle.spool_log.specs.State.{KnowsDevice, view, IsIn, LeavesStages}
+use Rattle.spool_log.specs.Stages.{last_of, StandsForOne, IsMidway, AllFollow}
 use Rattle.spool_log.proofs.Numbers.{no_proof}
 
 -- which cell counts, from a proof that there is one
@@ -39,7 +39,7 @@ stored_of s known d m held lawful some = record {
   register = register_known known.register m.reads (∥∥₁_elim some (hlevel props) (λ p. ∣ p.1.register ∣₁));
 }
 
-none_follow : (s : SpoolState) → AllFollow s []
+pub none_follow : (s : SpoolState) → AllFollow s []
 none_follow s = λ k d lt. absurd (omega arith)
 
 -- What the settled device stands for, and memory knows, is the state.
@@ -74,3 +74,15 @@ last_follows s stages here all = last_by s s stages here all
 pub stays : (s : SpoolState) (stages : List SpoolState) (m : Moment) → IsLawful m → IsSettled m → StandsFor s m.reads → LeavesOnly (StandsForOne s stages) m m
 stays s [] m lawful settled here = started_settled (StandsForOne s []) m lawful settled here
 stays s (stage ∷ stages) m lawful settled here = started_settled (StandsForOne s (stage ∷ stages)) m lawful settled (inl here)
+
+-- a change that has a stage leaves no more than its stages
+midway_of : (s : SpoolState) (stages : List SpoolState) (c : List ℕ) → 0 < length stages → StandsForOne s stages c → IsMidway s stages c
+midway_of s [] c some h = absurd (omega arith)
+midway_of s (stage ∷ stages) c some h = h
+
+pub leaves_stages : (s : SpoolState) (stages : List SpoolState) (old new : Moment) → 0 < length stages → LeavesOnly (StandsForOne s stages) old new → LeavesStages s stages old new
+leaves_stages s stages old new some run = weaker (StandsForOne s stages) (λ c. old.image c ⊎ IsMidway s stages c) old new run (λ c h. inr (midway_of s stages c some h))
+
+-- no change
+pub leaves_same : (s : SpoolState) (m : Moment) → IsLawful m → LeavesStages s [] m m
+leaves_same s m lawful = started (λ c. m.image c ⊎ IsMidway s [] c) m lawful (λ c image. inl image)

@@ -43,10 +43,20 @@ IsRefusedAs opening c (Worn ordinal) = (s : SpoolState) × StandsFor s c × Refu
 IsRefusedAs opening c DiskFault = Unit {0}
 IsRefusedAs opening c NoMemory = Unit {0}
 
--- What a crash leaves of a device while it is opened: what it could leave before, or what stands for the state
--- that the device stood for, with the run raised or not.
+-- What a crash leaves of a device while it is opened: what it could leave before, and nothing else where the device
+-- is kept as it is. While the run is raised it may be what stands for the state that the device stood for, with the
+-- run raised or not: the register's other cell is written.
 abbrev pub IsOpening : Opening → Moment → List ℕ → Type 0
-IsOpening opening m c = m.image c ⊎ ((s : SpoolState) × StandsFor s m.reads × StandsForOne s (raising opening s) c)
+IsOpening Keep m c = m.image c
+IsOpening Raise m c = m.image c ⊎ ((s : SpoolState) × StandsFor s m.reads × StandsForOne s (raising Raise s) c)
+
+-- What it leaves where the opening is refused so: what it could leave before, unless a call of the disk failed.
+abbrev pub IsRefusing : Opening → RecoverFault → Moment → List ℕ → Type 0
+IsRefusing opening (NotSpool at) m c = m.image c
+IsRefusing opening (RunsSpent run) m c = m.image c
+IsRefusing opening (Worn ordinal) m c = m.image c
+IsRefusing opening DiskFault m c = IsOpening opening m c
+IsRefusing opening NoMemory m c = m.image c
 
 -- The spool is opened from a device that stood for this state.
 pub record Opens (opening : Opening) (s : SpoolState) (device : List ℕ) (new : View) : Type 0 where

@@ -50,6 +50,12 @@ abbrev pub StandsForOne : SpoolState → List SpoolState → List ℕ → Type 0
 StandsForOne s [] c = StandsFor s c
 StandsForOne s (stage ∷ stages) c = StandsFor s c ⊎ StandsForOne stage stages c
 
+-- What is left of the device while a change with these stages is made: it stands for the state, or for one of the
+-- stages. Without a stage nothing is changed, and so nothing is left.
+abbrev pub IsMidway : SpoolState → List SpoolState → List ℕ → Type 0
+IsMidway s [] c = ⊥
+IsMidway s (stage ∷ stages) c = StandsForOne s (stage ∷ stages) c
+
 -- each of the stages follows the state
 abbrev pub AllFollow : SpoolState → List SpoolState → Type 0
 AllFollow s stages = All (λ stage. Follows s stage) stages

@@ -1,10 +1,10 @@
 -- A spool in memory and on its disk.
-use Rattle.std.specs.Prelude.{◌↔◌, ℕ, ◌<◌, Bool, IsTrue, List, [], length, Result, MatchResult}
+use Rattle.std.specs.Prelude.{◌↔◌, ◌⊎◌, ℕ, ◌<◌, Bool, IsTrue, List, [], length, Result, MatchResult}
 use Rattle.spool_state.specs.SpoolState.{SpoolState, IsSound}
 use Rattle.edge_disk.specs.Disk.{Moment, LeavesOnly}
 use Rattle.spool_log.specs.declared.known.Known.{Known}
 use Rattle.spool_log.specs.Knows.{Knows, IsStored}
-use Rattle.spool_log.specs.Stages.{last_of, StandsForOne, AllFollow}
+use Rattle.spool_log.specs.Stages.{last_of, StandsForOne, IsMidway, AllFollow}
 
 -- memory knows what the device stands for
 abbrev pub KnowsDevice : Known → List ℕ → Type 0
@@ -27,6 +27,11 @@ pub record IsIn (s : SpoolState) (doubt : List SpoolState) (v : View) : Type 0 w
   pub each : (c : List ℕ) → v.moment.image c → StandsForOne s doubt c
   pub follow : AllFollow s doubt
   pub doubtful : IsTrue v.in_doubt ↔ (0 < length doubt)
+
+-- Whenever a crash came between the two moments, it left what it could leave before, or what a change with these
+-- stages leaves.
+abbrev pub LeavesStages : SpoolState → List SpoolState → Moment → Moment → Type 0
+LeavesStages s stages old new = LeavesOnly (λ c. old.image c ⊎ IsMidway s stages c) old new
 
 -- A change with these stages was made, or failed at the disk on the way; meanwhile a crash left the state or one of the stages.
 pub record Changes {T E : Type 0} (s : SpoolState) (stages : List SpoolState) (result : Result T E) (old new : View) : Type 0 where

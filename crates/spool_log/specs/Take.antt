@@ -3,13 +3,12 @@ use Rattle.std.specs.Prelude.{◌≡◌, ◌+◌, ◌-◌, ◌^◌, ◌<◌, ◌
 use Rattle.event_form.specs.declared.event.Entry.{Entry}
 use Rattle.spool_state.specs.Segment.{need_of}
 use Rattle.spool_state.specs.SpoolState.{SpoolState, end, room, most_room, Follows}
-use Rattle.edge_disk.specs.Disk.{LeavesOnly}
 use Rattle.spool_log.specs.declared.fault.Receipt.{Receipt}
 use Rattle.spool_log.specs.declared.fault.TakeFault.{TakeFault}
 use Rattle.spool_log.specs.declared.fault.TakeFault.TheVariants.{TooLarge, Spent, Full, NotSpool, NoMemory, DiskFault}
 use Rattle.spool_log.specs.declared.known.Known.{Known}
-use Rattle.spool_log.specs.Stages.{last_of, adding, StandsForOne}
-use Rattle.spool_log.specs.State.{View, IsIn}
+use Rattle.spool_log.specs.Stages.{last_of, adding, AllFollow}
+use Rattle.spool_log.specs.State.{View, IsIn, LeavesStages}
 
 -- nothing but the disk stands in the way of the group
 pub record Fits (s : SpoolState) (group : List Entry) : Type 0 where
@@ -32,6 +31,16 @@ Takes s group (Err DiskFault) = Fits s group
 abbrev pub taken : SpoolState → List Entry → Result Receipt TakeFault → SpoolState
 taken s group (Ok receipt) = last_of s (adding s group)
 taken s group (Err fault) = s
+
+-- the stages of the change that was made, or that failed on the way: none where the group was refused
+abbrev pub take_stages : SpoolState → List Entry → Result Receipt TakeFault → List SpoolState
+take_stages s group (Ok receipt) = adding s group
+take_stages s group (Err (TooLarge need most)) = []
+take_stages s group (Err (Spent at)) = []
+take_stages s group (Err (Full need free)) = []
+take_stages s group (Err (NotSpool at)) = []
+take_stages s group (Err NoMemory) = []
+take_stages s group (Err DiskFault) = adding s group
 
 -- the doubt after it
 abbrev pub take_doubt : SpoolState → List Entry → Result Receipt TakeFault → List SpoolState
@@ -70,11 +79,12 @@ IsAnswered (NotSpool at) = ⊥
 IsAnswered NoMemory = ⊥
 IsAnswered DiskFault = Unit {0}
 
--- What a take outside doubt leads to.
+-- What a take outside doubt leads to. Where it is refused, a crash leaves what it could leave before.
 pub record StoresTo (s : SpoolState) (group : List Entry) (result : Result Receipt TakeFault) (old new : View) : Type 0 where
   pub follows : Follows s (taken s group result)
+  pub stages_follow : AllFollow s (take_stages s group result)
   pub reached : IsIn (taken s group result) (take_doubt s group result) new
-  pub any_moment : LeavesOnly (StandsForOne s (adding s group)) old.moment new.moment
+  pub any_moment : LeavesStages s (take_stages s group result) old.moment new.moment
 
 -- no entries were taken: the receipt has the end, as memory knows it
 abbrev pub TakesNothing : Known → Result Receipt TakeFault → Type 0

@@ -1,5 +1,5 @@
 //! A spool opened from its device.
-ghost use Rattle.std.specs.Prelude.{◌≡◌, ◌+◌, ◌^◌, ◌<◌, ◌≤◌, List, [], ◌∷◌, false, OnOk, OnErr, IfOk, IfErr, IsErrOf, MatchResult};
+ghost use Rattle.std.specs.Prelude.{◌≡◌, ◌⊎◌, ◌+◌, ◌^◌, ◌<◌, ◌≤◌, List, [], ◌∷◌, false, OnOk, OnErr, IfOk, IfErr, IsErrOf, MatchResult};
 ghost use Rattle.foundation.specs.Faults.{Rose};
 ghost use Rattle.spool_state.specs.SpoolState.{SpoolState};
 ghost use Rattle.spool_state.specs.Image.{slot_at, StandsFor};
@@ -7,7 +7,7 @@ ghost use Rattle.edge_disk.specs.Disk.{IsSettled, LeavesOnly};
 ghost use Rattle.spool_log.specs.Knows.{IsStored};
 ghost use Rattle.spool_log.specs.State.{KnowsDevice};
 ghost use Rattle.spool_log.specs.Stages.{StandsForOne};
-ghost use Rattle.spool_log.specs.Opening.{raising, opened, CanOpen, Refuses, IsRefusedAs, IsOpening};
+ghost use Rattle.spool_log.specs.Opening.{raising, opened, CanOpen, Refuses, IsRefusedAs, IsOpening, IsRefusing};
 
 use crate::read::read_known;
 use crate::{Known, Opening, RecoverFault, Spool};
@@ -31,6 +31,7 @@ impl Known {
         ensures durable { OnOk result (D.tells → IsSettled (D.moment disk.new)) }
         ensures stored { OnOk result ((s : SpoolState) → D.tells → IsStored s self.old (D.moment disk.old).reads → CanOpen Opening.Raise s × IsStored (opened Opening.Raise s) self.new (D.moment disk.new).reads) }
         ensures refused { IfErr result (λ fault. (s : SpoolState) → D.tells → IsStored s self.old (D.moment disk.old).reads → Refuses Opening.Raise s fault) }
+        ensures unchanged { IfErr result (λ fault. (fault ≡ RecoverFault.DiskFault) ⊎ (disk.new ≡ disk.old)) }
         ensures any_moment { (s : SpoolState) → D.tells → IsStored s self.old (D.moment disk.old).reads → LeavesOnly (StandsForOne s (raising Opening.Raise s)) (D.moment disk.old) (D.moment disk.new) }
     {
         let content = self.register.value();
@@ -42,7 +43,7 @@ impl Known {
     }
 }
 
-/// Opens a device. After an error the disk has what it had, or the run raised.
+/// Opens a device. After a fault of the disk it has what it had, or the run raised; after another error what it had.
 fn open<D: Disk>(alloc: Global, disk: &mut D, opening: Opening) -> Result<Known, RecoverFault>
     ensures later { (D.moment disk.old).faults ≤ (D.moment disk.new).faults }
     ensures cause { IsErrOf result RecoverFault.DiskFault → Rose 1 (D.moment disk.old).faults (D.moment disk.new).faults }
@@ -52,7 +53,7 @@ fn open<D: Disk>(alloc: Global, disk: &mut D, opening: Opening) -> Result<Known,
     ensures found { IfOk result (λ known. D.tells → (s : SpoolState) × StandsFor s (D.moment disk.old).reads × CanOpen opening s × IsStored (opened opening s) known (D.moment disk.new).reads) }
     ensures refused { IfErr result (λ fault. (s : SpoolState) → D.tells → StandsFor s (D.moment disk.old).reads → Refuses opening s fault) }
     ensures broken { IfErr result (λ fault. D.tells → IsRefusedAs opening (D.moment disk.old).reads fault) }
-    ensures any_moment { D.tells → LeavesOnly (IsOpening opening (D.moment disk.old)) (D.moment disk.old) (D.moment disk.new) }
+    ensures any_moment { D.tells → MatchResult result (λ _. LeavesOnly (IsOpening opening (D.moment disk.old)) (D.moment disk.old) (D.moment disk.new)) (λ fault. LeavesOnly (IsRefusing opening fault (D.moment disk.old)) (D.moment disk.old) (D.moment disk.new)) }
 {
     disk.sync()?;
     let mut known = read_known(alloc, disk)?;
@@ -92,7 +93,7 @@ impl<D: Disk> Spool<D> {
         ensures opened { IfOk result (λ spool. D.tells → (s : SpoolState) × Opens opening s (D.moment disk).reads (view spool.known spool.doubt (D.moment spool.disk))) }
         ensures refused { IfErr result (λ refusal. (s : SpoolState) → D.tells → StandsFor s (D.moment disk).reads → Refuses opening s refusal.fault) }
         ensures broken { IfErr result (λ refusal. D.tells → IsRefusedAs opening (D.moment disk).reads refusal.fault) }
-        ensures any_moment { D.tells → MatchResult result (λ spool. LeavesOnly (IsOpening opening (D.moment disk)) (D.moment disk) (D.moment spool.disk)) (λ refusal. LeavesOnly (IsOpening opening (D.moment disk)) (D.moment disk) (D.moment refusal.disk)) }
+        ensures any_moment { D.tells → MatchResult result (λ spool. LeavesOnly (IsOpening opening (D.moment disk)) (D.moment disk) (D.moment spool.disk)) (λ refusal. LeavesOnly (IsRefusing opening refusal.fault (D.moment disk)) (D.moment disk) (D.moment refusal.disk)) }
     {
         let Ok(buffer) = vec![in alloc; 0; 65_536] else {
             return Err(Refusal {

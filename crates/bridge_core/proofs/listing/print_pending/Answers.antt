@@ -1,11 +1,11 @@
 use Rattle.std.proofs.Common.{◌+◌, ◌≤◌, ◌∙◌, arith}
 use Rattle.spool_state.specs.SpoolState.{end}
-use Rattle.spool_state.specs.Image.{StandsFor}
-use Rattle.edge_disk.proofs.Moments.{both, started}
+use Rattle.edge_disk.proofs.Moments.{started}
 use Rattle.spool_log.proofs.Numbers.{end_known}
 use Rattle.bridge_words.specs.declared.note.Note.TheVariants.{Fine}
 use Rattle.bridge_core.proofs.Forms.{as_written, as_printed, pending_limits, pending_from_limits}
 use Rattle.bridge_core.proofs.Printing.{printed_none, printed_all, printed_part, printed_cut}
+use Rattle.bridge_core.proofs.Sure.{read_on}
 use Rattle.bridge_core.proofs.listing.print_pending.Goals as goal
 
 pub loop-number-init : goal.loop-number-init
@@ -14,7 +14,7 @@ loop-number-init g c = record {
   later_writes = omega arith;
   goes = λ s tells held. (
     held,
-    started (StandsFor s) _ (g.met.D.Disk.lawful c.args.spool.now.disk tells) held.each,
+    started (g.D.Disk.moment c.args.spool.now.disk).image _ (g.met.D.Disk.lawful c.args.spool.now.disk tells) (λ d image. image),
     printed_none c.args.form s c.cursor-number.result _ (c.cursor-number.ensures ∙ held.knows.cursor) held.sound.to_end,
   );
 }
@@ -28,7 +28,7 @@ loop-number-preserved g c = record {
       let kept = c.print_part.ensures.kept s tells before.0 in
       let fits : c.loop-number.number + c.min-most.result ≤ end s = omega (arith, c.min-most.ensures, c.end-in-loop-number.ensures, c.end.ensures, c.loop-number-test.true, end_known s c.loop-number.spool.known.active before.0.sound before.0.knows.active) in (
         kept.0,
-        both (StandsFor s) (StandsFor s) (StandsFor s) _ _ _ before.1 kept.1 (λ d stands. stands) (λ d stands. stands),
+        read_on _ _ _ before.1 kept.1,
         printed_part c.args.form s c.loop-number.number c.min-most.result _ _ _ before.0.sound.from_base before.2 fits (as_written c.args.form _ _ Fine (g.K.Sink.taken c.loop-number.output) (g.K.Sink.taken c.print_part.new.output) (pending_from_limits s _ _ before.0.sound) (c.in-Fine.ensures.printed s tells before.0)),
       );
 }
@@ -44,7 +44,7 @@ returns-in_default-clause-printed g c = λ s tells held.
 pub returns-in_default-clause-kept : goal.returns-in_default-clause-kept
 returns-in_default-clause-kept g c = λ s tells held.
     let before = c.loop-number.invariant.goes s tells held in
-    both (StandsFor s) (StandsFor s) (StandsFor s) _ _ _ before.1 (c.print_part.ensures.kept s tells before.0).1 (λ d stands. stands) (λ d stands. stands)
+    read_on _ _ _ before.1 (c.print_part.ensures.kept s tells before.0).1
 
 pub returns-clause-printed : goal.returns-clause-printed
 returns-clause-printed g c = λ s tells held.

@@ -1,6 +1,5 @@
 use Rattle.std.proofs.Common.{◌-◌, ◌^◌, ◌≤◌, []}
 use Rattle.spool_state.specs.SpoolState.{SpoolState}
-use Rattle.spool_state.specs.Image.{StandsFor}
 use Rattle.edge_disk.specs.Disk.{LeavesOnly}
 use Rattle.spool_log.specs.State.{view, IsIn}
 use Rattle.bridge_core.proofs.Printing.{Printed}
@@ -15,6 +14,6 @@ invariant-loop-number g l = record {
   later_writes : g.K.Sink.write_faults l.initial.output ≤ g.K.Sink.write_faults l.output;
   goes : (s : SpoolState) → g.D.Disk.tells → IsIn s [] (view l.initial.spool.known l.initial.spool.doubt (g.D.Disk.moment l.initial.spool.disk))
       → IsIn s [] (view l.spool.known l.spool.doubt (g.D.Disk.moment l.spool.disk))
-      × LeavesOnly (StandsFor s) (g.D.Disk.moment l.initial.spool.disk) (g.D.Disk.moment l.spool.disk)
+      × LeavesOnly (g.D.Disk.moment l.initial.spool.disk).image (g.D.Disk.moment l.initial.spool.disk) (g.D.Disk.moment l.spool.disk)
       × Printed l.form s l.number (g.K.Sink.taken l.initial.output) (g.K.Sink.taken l.output);
 }

@@ -1,16 +1,17 @@
-use Rattle.std.proofs.Common.{ℕ, List, sym, subst}
-use Rattle.std.specs.Prelude.{Result, IfErr}
+use Rattle.std.proofs.Common.{inl, inr, ℕ, List, sym, ap, subst}
+use Rattle.std.specs.Prelude.{Result, IfErr, MatchResult}
 use Rattle.spool_state.specs.SpoolState.{SpoolState}
 use Rattle.spool_state.specs.Image.{StandsFor}
+use Rattle.edge_disk.specs.Disk.{LeavesOnly}
 use Rattle.edge_disk.proofs.Moments.{still_settled, untouched_then}
 use Rattle.spool_log.specs.declared.fault.RecoverFault.{RecoverFault}
-use Rattle.spool_log.specs.declared.opening.Opening.TheVariants.{Raise}
+use Rattle.spool_log.specs.declared.fault.RecoverFault.TheVariants.{DiskFault}
 use Rattle.spool_log.specs.declared.known.Known.{Known}
 use Rattle.spool_log.specs.Fault.{as_recover}
 use Rattle.spool_log.specs.Knows.{IsStored}
-use Rattle.spool_log.specs.Opening.{Refuses, IsRefusedAs}
+use Rattle.spool_log.specs.Opening.{Refuses, IsRefusedAs, IsOpening, IsRefusing}
 use Rattle.spool_log.proofs.Mending.{err_is}
-use Rattle.spool_log.proofs.Recovering.{open_read, open_raised_as, read_broken, read_refused, refused_as, found_as, same_stored, refused_unbroken}
+use Rattle.spool_log.proofs.Recovering.{open_read, refused_read, open_raised_as, refused_raised, read_broken, read_refused, refused_as, found_as, same_stored, refused_unbroken}
 use Rattle.spool_log.proofs.recover.open.Goals as goal
 
 pub returns-in_err-known-clause-refused : goal.returns-in_err-known-clause-refused
@@ -50,12 +51,31 @@ returns-in_err-raise-in-Raise-clause-broken g c =
 
 pub returns-in_err-raise-in-Raise-clause-any_moment : goal.returns-in_err-raise-in-Raise-clause-any_moment
 returns-in_err-raise-in-Raise-clause-any_moment g c = λ tells.
+    let old = g.D.Disk.moment c.args.disk.now in
+    let new = g.D.Disk.moment c.raise.new.disk in
     let state = c.in_ok-known.ensures.found tells in
     let stored = subst (IsStored state.0 c.in_ok-known.known) (sym (c.read_known.ensures.told tells).same) state.1 in
     let lawful = g.met.D.Disk.lawful c.args.disk.now tells in
     let read = untouched_then _ _ _ lawful (c.sync.ensures.told tells) (c.read_known.ensures.told tells) in
     let stands = subst (StandsFor state.0) (c.sync.ensures.told tells).same state.1.stands in
-    open_raised_as c.args.opening c.in-Raise.is state.0 _ _ _ lawful read stands (c.raise.ensures.any_moment state.0 tells stored)
+    subst (λ (r : Result Known RecoverFault). MatchResult r (λ _. LeavesOnly (IsOpening c.args.opening old) old new) (λ fault. LeavesOnly (IsRefusing c.args.opening fault old) old new)) (sym (err_is _ _ c.from_residual-in_err-raise-in-Raise.ensures.1))
+    (refused_raised c.args.opening c.in-Raise.is c.in_err-raise-in-Raise.field-0.0 state.0 old _ new lawful read stands
+    (elim c.in_err-raise-in-Raise.ensures.unchanged [ inl failed ↦ inl failed | inr same ↦ inr (ap g.D.Disk.moment same) ]) (c.raise.ensures.any_moment state.0 tells stored))
+
+pub returns-in_err-sync-clause-any_moment : goal.returns-in_err-sync-clause-any_moment
+returns-in_err-sync-clause-any_moment g c = λ tells.
+    let old = g.D.Disk.moment c.args.disk.now in
+    let new = g.D.Disk.moment c.sync.new.self in
+    subst (λ (r : Result Known RecoverFault). MatchResult r (λ _. LeavesOnly (IsOpening c.args.opening old) old new) (λ fault. LeavesOnly (IsRefusing c.args.opening fault old) old new)) (sym (err_is _ _ c.from_residual.ensures.1))
+    (refused_read c.args.opening DiskFault old new (g.met.D.Disk.lawful c.args.disk.now tells) (c.sync.ensures.told tells))
+
+pub returns-in_err-known-clause-any_moment : goal.returns-in_err-known-clause-any_moment
+returns-in_err-known-clause-any_moment g c = λ tells.
+    let old = g.D.Disk.moment c.args.disk.now in
+    let new = g.D.Disk.moment c.read_known.new.disk in
+    let lawful = g.met.D.Disk.lawful c.args.disk.now tells in
+    subst (λ (r : Result Known RecoverFault). MatchResult r (λ _. LeavesOnly (IsOpening c.args.opening old) old new) (λ fault. LeavesOnly (IsRefusing c.args.opening fault old) old new)) (sym (err_is _ _ c.from_residual-in_err-known.ensures.1))
+    (refused_read c.args.opening (as_recover c.in_err-known.field-0.0) old new lawful (untouched_then _ _ _ lawful (c.sync.ensures.told tells) (c.read_known.ensures.told tells)))
 
 pub returns-in-Keep-clause-durable : goal.returns-in-Keep-clause-durable
 returns-in-Keep-clause-durable g c = λ tells. still_settled _ _ (c.in_ok-sync.ensures.durable tells) (c.read_known.ensures.told tells)

@@ -1,10 +1,10 @@
-use Rattle.std.proofs.Common.{◌≡◌, ℕ, ◌+◌, ◌-◌, ◌<◌, List, All, length, take, drop, get_or, sym, ◌∙◌, ap, subst, arith}
+use Rattle.std.proofs.Common.{◌≡◌, ℕ, ◌-◌, ◌<◌, List, All, length, take, drop, get_or, sym, ◌∙◌, ap, subst, arith}
 use Rattle.std.specs.Prelude.{Result, MatchResult}
 use Rattle.std.specs.Global.{Vec}
 use Rattle.std.proofs.lemmas.List.Elements.{All-nil}
 use Rattle.event_form.specs.declared.event.Entry.{Entry}
 use Rattle.event_form.specs.Entry.{IsEntry}
-use Rattle.spool_state.specs.SpoolState.{SpoolState, base, list, entries_in}
+use Rattle.spool_state.specs.SpoolState.{base, list, entries_in}
 use Rattle.edge_disk.proofs.Moments.{untouched_refl, untouched_then}
 use Rattle.spool_log.specs.declared.fault.PendFault.{PendFault}
 use Rattle.spool_log.specs.Knows.{IsStored}

@@ -1,4 +1,4 @@
-use Rattle.std.proofs.Common.{◌≡◌, ℕ, ◌+◌, ◌-◌, ◌≤◌, List, All, length, take, drop}
+use Rattle.std.proofs.Common.{◌≡◌, ◌-◌, ◌≤◌, All, length, take, drop}
 use Rattle.event_form.specs.Entry.{IsEntry}
 use Rattle.spool_state.specs.SpoolState.{SpoolState, base, entries_in}
 use Rattle.edge_disk.specs.Disk.{IsUntouched}

@@ -25,4 +25,4 @@ returns-clause-confirmed g c = λ s doubt tells held.
     let same : c.min-upto.result ≡ c.args.upto = omega (arith, c.min-upto.ensures, c.end.ensures, number, end_known m c.mend.new.self.known.active reached.sound reached.knows.active) in
     let done = subst (λ (k : ℕ). ConfirmsTo m k c.move_cursor.result (view c.mend.new.self.known c.mend.new.self.doubt (g.D.Disk.moment c.mend.new.self.disk)) (view c.move_cursor.new.self.known c.move_cursor.new.self.doubt (g.D.Disk.moment c.move_cursor.new.self.disk))) same
     (c.move_cursor.ensures.confirmed m tells reached (omega (arith, same, number))) in
-    inr (m, done.answer, goes_on s doubt m _ _ _ _ _ _ mended.1 done.follows done.reached done.any_moment)
+    inr (m, done.answer, goes_on s doubt m _ _ _ _ _ _ mended.1 done.follows done.stages_follow done.reached done.any_moment)

@@ -8,10 +8,10 @@ use Rattle.disk_cell.specs.Fault.{IsWornAt}
 use Rattle.disk_cell.specs.declared.fault.SetFault.TheVariants.{Worn, DiskFault as Failed}
 use Rattle.spool_log.specs.declared.known.Known.{Known}
 use Rattle.spool_log.specs.Knows.{IsStored}
-use Rattle.spool_log.specs.Stages.{confirming, StandsForOne}
-use Rattle.spool_log.specs.State.{KnowsDevice, view}
+use Rattle.spool_log.specs.Stages.{StandsForOne}
+use Rattle.spool_log.specs.State.{KnowsDevice, view, LeavesStages}
 use Rattle.spool_log.proofs.Numbers.{end_known}
-use Rattle.spool_log.proofs.Stored.{stored_of, in_stored, in_doubt, stays}
+use Rattle.spool_log.proofs.Stored.{stored_of, in_stored, in_doubt, leaves_same}
 use Rattle.spool_log.proofs.Confirming.{all_follow, moved, failed, worn}
 use Rattle.spool_log.proofs.spool.Spool.move_cursor.Goals as goal
 
@@ -82,4 +82,4 @@ returns-in-Err-Worn-clause-confirmed g c = λ s tells held number.
     worn s c.args.upto held.sound further c.in-Err-Worn.ordinal (view known c.args.self.now.doubt old) (view c.write_register.new.self false new)
     (last.1 ∙ held.knows.ordinal) (sym held.knows.ordinal ∙ last.0)
     (in_stored s c.write_register.new.self new (subst (λ (m : Moment). IsSettled m) (sym same) settled) kept)
-    (subst (λ (m : Moment). LeavesOnly (StandsForOne s (confirming s c.args.upto)) old m) (sym same) (stays s (confirming s c.args.upto) old lawful settled stored.stands))
+    (subst (λ (m : Moment). LeavesStages s [] old m) (sym same) (leaves_same s old lawful))

@@ -19,7 +19,7 @@ returns-in_err-target-clause-taken g c = λ s tells held.
     let m = g.D.Disk.moment c.args.self.now.disk in
     let fault = c.in_err-target.field-0.0 in
     subst (λ (r : Result Receipt TakeFault). Takes s c.args.entries.now r × StoresTo s c.args.entries.now r (view known d m) (view known d m)) (sym (err_is _ _ c.from_residual.ensures.1))
-    (c.in_err-target.ensures.answers s held.knows held.sound, refused s c.args.entries.now fault known d m (g.met.D.Disk.lawful c.args.self.now.disk tells) (c.args.self.now.settled c.requires.sure tells) c.in_err-target.ensures.refusal held)
+    (c.in_err-target.ensures.answers s held.knows held.sound, refused s c.args.entries.now fault known d m (g.met.D.Disk.lawful c.args.self.now.disk tells) c.in_err-target.ensures.refusal held)
 
 pub returns-in_err-add-clause-taken : goal.returns-in_err-add-clause-taken
 returns-in_err-add-clause-taken g c = λ s tells held.
@@ -30,7 +30,7 @@ returns-in_err-add-clause-taken g c = λ s tells held.
     let change = c.in_err-add.ensures.changes s tells held follow some in
     subst (λ (r : Result Receipt TakeFault). Takes s group r × StoresTo s group r (view c.args.self.now.known c.args.self.now.doubt (g.D.Disk.moment c.args.self.now.disk)) (view c.add.new.self.known c.add.new.self.doubt (g.D.Disk.moment c.add.new.self.disk)))
     (sym (err_is _ _ c.from_residual-in_err-add.ensures.1))
-    (where_to.0, failed s group _ _ _ where_to.1 held change.reached change.any_moment)
+    (where_to.0, failed s group _ _ _ where_to.1 some held change.reached change.any_moment)
 
 pub returns-clause-taken : goal.returns-clause-taken
 returns-clause-taken g c = λ s tells held.
@@ -39,4 +39,4 @@ returns-clause-taken g c = λ s tells held.
     let follow = subst (AllFollow s) where_to.1 (adding_follow s group held.sound) in
     let some = subst (λ (l : List SpoolState). 0 < length l) where_to.1 where_to.0.place in
     let change = c.in_ok-add.ensures.changes s tells held follow some in
-    ((where_to.0, c.end-first.ensures ∙ end_known s c.args.self.now.known.active held.sound held.knows.active, refl), done s group _ _ _ _ where_to.1 held change.reached change.any_moment)
+    ((where_to.0, c.end-first.ensures ∙ end_known s c.args.self.now.known.active held.sound held.knows.active, refl), done s group _ _ _ _ where_to.1 some held change.reached change.any_moment)
