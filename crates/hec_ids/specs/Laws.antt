@@ -1,0 +1,2 @@
+-- What follows from the rows.
+use Rattle.std.specs.Prelude.{◌≡◌, ℕ}

@@ -1,0 +1,141 @@
+//! The table of ids.
+ghost use Rattle.std.specs.Prelude.{◌≡◌, length, nat_eq, not, is_some, [], ◌∷◌};
+ghost use Rattle.std.specs.List.{IsDistinct};
+ghost use Rattle.hec_ids.specs.Table.{IsSound, holds, holds_settled, holds_unsettled};
+ghost use Rattle.hec_ids.specs.Rows.{opened, refusal, Issues, Settles, Forgets, Asks};
+ghost use Rattle.hec_ids.specs.Kept.{is_some_that};
+
+use crate::IssueFault;
+use crate::counts::busy_fault;
+use crate::entries::{hold, release, settle, state_of};
+use crate::issued::Issued;
+use std::alloc::Global;
+use std::collections::BTreeMap;
+use std::marker::Model;
+
+/// How many ids a run has.
+const IDS_OF_A_RUN: u64 = 4_294_967_296;
+
+/// The ids of one run, for all channels.
+#[derive(Drop)]
+pub struct Ids {
+    run: u32,
+    used: u64,
+    issued: BTreeMap<u64, Issued>,
+    counts: BTreeMap<u128, u32>,
+}
+
+impl Model for Ids {
+    ghost use Rattle.hec_ids.specs.Table.{Table};
+    ghost use Rattle.hec_ids.specs.Kept.{IsKept, table_of};
+
+    ghost Value = { Table };
+
+    ghost view = { λ a. table_of a.run a.used a.issued.entries };
+
+    ghost invariant = { λ a. IsKept (table_of a.run a.used a.issued.entries) a.counts };
+}
+
+impl Ids {
+    /// A table that holds no id.
+    pub fn new(alloc: Global, run: u32, first: u32) -> Ids
+        ensures opened { result ≡ opened run first }
+        ensures sound { IsSound result }
+    {
+        Ids {
+            run,
+            used: u64::from(first),
+            issued: BTreeMap::new(alloc),
+            counts: BTreeMap::new(alloc),
+        }
+    }
+
+    /// Issues the next id to the channel, which then holds it unsettled. After an error nothing is changed,
+    /// so the id is the next one still.
+    pub fn issue(&mut self, channel: u128) -> Result<u64, IssueFault>
+        ensures row { Issues self.old channel result self.new }
+        ensures sound { IsSound self.new }
+    {
+        if let Some(fault) = self.refusal(channel) {
+            return Err(fault);
+        }
+        let id = u64::from(self.run) * IDS_OF_A_RUN + self.used;
+        hold(&mut self.issued, &mut self.counts, channel, id)?;
+        self.used += 1;
+        Ok(id)
+    }
+
+    /// Settles an id, and says whether the channel held it unsettled. Where it didn't, nothing is changed.
+    /// It takes no memory.
+    pub fn settle(&mut self, channel: u128, id: u64) -> bool
+        ensures row { Settles self.old channel id result self.new }
+        ensures sound { IsSound self.new }
+    {
+        match self.state(channel, id) {
+            Some(false) => {
+                settle(&mut self.issued, id);
+                true
+            }
+            _ => false,
+        }
+    }
+
+    /// Forgets an id, settled or not, and says whether the channel held it. It takes no memory.
+    pub fn forget(&mut self, channel: u128, id: u64) -> bool
+        ensures row { Forgets self.old channel id result self.new }
+        ensures sound { IsSound self.new }
+    {
+        let held = self.state(channel, id).is_some();
+        if held {
+            release(&mut self.issued, &mut self.counts, channel, id);
+        }
+        held
+    }
+
+    /// Writes of each id into `known`, at its place, whether the channel holds it settled. Those that it
+    /// does are forgotten, so an id is told once. The ids are distinct. It takes no memory.
+    pub fn ask(&mut self, channel: u128, ids: &[u64], known: &mut [bool])
+        requires equal { length ids.now ≡ length known.old }
+        requires distinct { IsDistinct nat_eq ids.now }
+        ensures row { Asks self.old channel ids.now known.new self.new }
+        ensures sound { IsSound self.new }
+    {
+        for (i, id) in ids.iter().enumerate() {
+            known[i] = self.tell(channel, *id);
+        }
+    }
+
+    /// Says whether the channel holds the id settled, and forgets it then.
+    fn tell(&mut self, channel: u128, id: u64) -> bool
+        ensures row { Asks self.old channel (id ∷ []) (result ∷ []) self.new }
+        ensures sound { IsSound self.new }
+    {
+        match self.state(channel, id) {
+            Some(true) => {
+                release(&mut self.issued, &mut self.counts, channel, id);
+                true
+            }
+            _ => false,
+        }
+    }
+
+    /// Why no id is issued to the channel now, if so.
+    fn refusal(&self, channel: u128) -> Option<IssueFault>
+        ensures { result ≡ refusal self.now channel }
+    {
+        if self.used == IDS_OF_A_RUN {
+            Some(IssueFault::NoMore { run: self.run })
+        } else {
+            busy_fault(&self.counts, channel)
+        }
+    }
+
+    /// Whether the id is settled, if the channel holds it.
+    fn state(&self, channel: u128, id: u64) -> Option<bool>
+        ensures held { is_some result ≡ holds channel id self.now.held }
+        ensures settled { is_some_that (λ s. s) result ≡ holds_settled channel id self.now.held }
+        ensures unsettled { is_some_that not result ≡ holds_unsettled channel id self.now.held }
+    {
+        state_of(&self.issued, channel, id)
+    }
+}

@@ -1,0 +1,14 @@
+//! The acknowledgement ids of the HTTP Event Collector, as Splunk's manual of indexer acknowledgement has
+//! them: each channel holds ids, each settled or not, and a settled one is told once. How ids are
+//! numbered, and how many are held, is this project's own. The one contract is that of `Ids`: each call
+//! answers from a plain list of the ids held, and leaves the list that its row says.
+#![tactic(auto)]
+
+mod counts;
+mod entries;
+mod fault;
+mod ids;
+mod issued;
+
+pub use fault::IssueFault;
+pub use ids::Ids;
