@@ -24,7 +24,7 @@ count_of-cons q h held = sum_by-cons (λ x. cond (x.channel == q) 1 0) h held
 same_test : (x y : ℕ) → eq_by_cmp nat_cmp x y ≡ nat_eq x y
 same_test x y = grind (arith, nat_tests)
 
-counted_above : (n : ℕ) → 0 < n → counted n ≡ Some n
+pub counted_above : (n : ℕ) → 0 < n → counted n ≡ Some n
 counted_above n lt = ap (λ b. cond b None (Some n)) (ne_eqb n 0 (λ e. omega arith))
 
 -- a count, and 0 where there is none
@@ -41,17 +41,18 @@ counted_none n h = sym (counted_back n) ∙ ap (λ (o : Option ℕ). unwrap_or o
 pub has_channel : (q : ℕ) (held : List Held) → is_some (counted (count_of q held)) ≡ list_any (nat_eq q) (map (λ h. h.channel) held)
 has_channel q [] = refl
 has_channel q (h ∷ held) = elim (cases_eq q h.channel) [
-  | inl same ↦ 
-    let e : nat_eq q h.channel ≡ true = eq-eqb q h.channel same in
-    let f : (h.channel == q) ≡ true = eq-eqb h.channel q (sym same) in
-    ap (λ n. is_some (counted n)) (count_of-cons q h held) ∙ ap (λ b. is_some (counted (cond b 1 0 + count_of q held))) f ∙ above (count_of q held) ∙ sym (ap (λ b. b || list_any (nat_eq q) (map (λ x. x.channel) held)) e)
-  | inr differ ↦ 
-    let e : nat_eq q h.channel ≡ false = ne_eqb q h.channel differ in
-    let f : (h.channel == q) ≡ false = ne_eqb h.channel q (λ s. differ (sym s)) in
-    ap (λ n. is_some (counted n)) (count_of-cons q h held) ∙ ap (λ b. is_some (counted (cond b 1 0 + count_of q held))) f ∙ ap (λ n. is_some (counted n)) (zero_add (count_of q held)) ∙ has_channel q held ∙ sym (ap (λ b. b || list_any (nat_eq q) (map (λ x. x.channel) held)) e)
+  | inl same ↦
+      let e : nat_eq q h.channel ≡ true = eq-eqb q h.channel same in
+      let f : (h.channel == q) ≡ true = eq-eqb h.channel q (sym same) in
+      ap (λ n. is_some (counted n)) (count_of-cons q h held) ∙ ap (λ b. is_some (counted (cond b 1 0 + count_of q held))) f ∙ above (count_of q held) ∙ sym (ap (λ b. b || list_any (nat_eq q) (map (λ x. x.channel) held)) e)
+  | inr differ ↦
+      let e : nat_eq q h.channel ≡ false = ne_eqb q h.channel differ in
+      let f : (h.channel == q) ≡ false = ne_eqb h.channel q (λ s. differ (sym s)) in
+      ap (λ n. is_some (counted n)) (count_of-cons q h held) ∙ ap (λ b. is_some (counted (cond b 1 0 + count_of q held))) f ∙ ap (λ n. is_some (counted n)) (zero_add (count_of q held)) ∙ has_channel q held ∙ sym (ap (λ b. b || list_any (nat_eq q) (map (λ x. x.channel) held)) e)
 ] where
   above : (n : ℕ) → is_some (counted (1 + n)) ≡ true
   above n = grind (arith, nat_tests)
+
   zero_add : (n : ℕ) → 0 + n ≡ n
   zero_add n = omega arith
 
@@ -60,7 +61,7 @@ pub length-channels : (m : BTreeMap ℕ ℕ) (held : List Held) → IsOrdered na
 length-channels m held ordered counts =
     let distinct : IsDistinct nat_eq (keys m) = subst (λ (e : ℕ → ℕ → Bool). IsDistinct e (keys m)) (λ i x y. same_test x y i) (IsDistinct-from_sorted nat_cmp (keys m) ordered) in
     let members : (q : ℕ) → is_member nat_eq (keys m) q ≡ is_member nat_eq (map (λ h. h.channel) held) q = λ q.
-      ap (λ (t : ℕ → Bool). list_any t (keys m)) (λ i k. sym (same_test q k) i) ∙ sym (is_some-lookup (is_at (nat_cmp q)) m.entries) ∙ ap is_some (counts q) ∙ has_channel q held in
+    ap (λ (t : ℕ → Bool). list_any t (keys m)) (λ i k. sym (same_test q k) i) ∙ sym (is_some-lookup (is_at (nat_cmp q)) m.entries) ∙ ap is_some (counts q) ∙ has_channel q held in
     sym (length-keys_of m.entries) ∙ length-from_keys nat_eq_equiv (keys m) (map (λ h. h.channel) held) distinct members
 
 -- a map whose entry of one channel is changed, where that channel's count alone is

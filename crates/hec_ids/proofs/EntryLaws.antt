@@ -53,12 +53,12 @@ pub answer_is : (p : Bool → Bool) (channel id from to : ℕ) (es : List (ℕ �
 answer_is p channel id from to [] h = refl
 answer_is p channel id from to (e ∷ es) h = elim (cases_eq id e.0) [
   | inl same ↦
-    here (e.1.channel == channel) (e.0 == id) (list_any (λ x. is_of channel id x && p x.settled) (held_of es)) (eq-eqb e.0 id (sym same)) (none_passes (λ x. p x.settled) channel id (held_of es) (none_below channel id (e.0 + 1) to (held_of es) h.2 (omega (arith, same))))
-    ∙ sym (ap (λ b. is_some_that p (state_at channel (cond b (Some e.1) (lookup (is_at (nat_cmp id)) es)))) (at_same id e.0 same))
+      here (e.1.channel == channel) (e.0 == id) (list_any (λ x. is_of channel id x && p x.settled) (held_of es)) (eq-eqb e.0 id (sym same)) (none_passes (λ x. p x.settled) channel id (held_of es) (none_below channel id (e.0 + 1) to (held_of es) h.2 (omega (arith, same))))
+      ∙ sym (ap (λ b. is_some_that p (state_at channel (cond b (Some e.1) (lookup (is_at (nat_cmp id)) es)))) (at_same id e.0 same))
   | inr differ ↦
-    ap (λ b. (b && p e.1.settled) || (list_any (λ x. is_of channel id x && p x.settled) (held_of es))) (and_right (e.1.channel == channel) (e.0 == id) (ne_eqb e.0 id (λ s. differ (sym s))))
-    ∙ answer_is p channel id (e.0 + 1) to es h.2
-    ∙ sym (ap (λ b. is_some_that p (state_at channel (cond b (Some e.1) (lookup (is_at (nat_cmp id)) es)))) (at_other id e.0 differ))
+      ap (λ b. (b && p e.1.settled) || (list_any (λ x. is_of channel id x && p x.settled) (held_of es))) (and_right (e.1.channel == channel) (e.0 == id) (ne_eqb e.0 id (λ s. differ (sym s))))
+      ∙ answer_is p channel id (e.0 + 1) to es h.2
+      ∙ sym (ap (λ b. is_some_that p (state_at channel (cond b (Some e.1) (lookup (is_at (nat_cmp id)) es)))) (at_other id e.0 differ))
 ] where
   here : (b t r : Bool) → t ≡ true → r ≡ false → (((b && t) && p e.1.settled) || r) ≡ is_some_that p (cond b (Some e.1.settled) None)
   here true t r is none = ap (λ x. (x && p e.1.settled) || r) is ∙ ap (λ y. p e.1.settled || y) none ∙ or_false (p e.1.settled)
@@ -82,17 +82,17 @@ pub remove_held : (channel id from to : ℕ) (es : List (ℕ × Issued)) → Are
 remove_held channel id from to [] h is = refl
 remove_held channel id from to (e ∷ es) h is = elim (cases_eq id e.0) [
   | inl same ↦
-    let none = none_below channel id (e.0 + 1) to (held_of es) h.2 (omega (arith, same)) in
-    let this : is_of channel id (held_at e) ≡ true = first (is_of channel id (held_at e)) (holds channel id (held_of es)) none is in
-    ap (λ b. held_of (cond b es (e ∷ remove_entry (is_at (nat_cmp id)) es))) (at_same id e.0 same)
-    ∙ sym (filter_none channel id (held_of es) none)
-    ∙ sym (ap (λ b. cond (not b) (held_at e ∷ (filter (λ x. not (is_of channel id x)) (held_of es))) (filter (λ x. not (is_of channel id x)) (held_of es))) this)
+      let none = none_below channel id (e.0 + 1) to (held_of es) h.2 (omega (arith, same)) in
+      let this : is_of channel id (held_at e) ≡ true = first (is_of channel id (held_at e)) (holds channel id (held_of es)) none is in
+      ap (λ b. held_of (cond b es (e ∷ remove_entry (is_at (nat_cmp id)) es))) (at_same id e.0 same)
+      ∙ sym (filter_none channel id (held_of es) none)
+      ∙ sym (ap (λ b. cond (not b) (held_at e ∷ (filter (λ x. not (is_of channel id x)) (held_of es))) (filter (λ x. not (is_of channel id x)) (held_of es))) this)
   | inr differ ↦
-    let other : is_of channel id (held_at e) ≡ false = and_right (e.1.channel == channel) (e.0 == id) (ne_eqb e.0 id (λ s. differ (sym s))) in
-    let more : holds channel id (held_of es) ≡ true = sym (ap (λ b. b || holds channel id (held_of es)) other) ∙ is in
-    ap (λ b. held_of (cond b es (e ∷ remove_entry (is_at (nat_cmp id)) es))) (at_other id e.0 differ)
-    ∙ ap (λ (l : List Held). held_at e ∷ l) (remove_held channel id (e.0 + 1) to es h.2 more)
-    ∙ sym (ap (λ b. cond (not b) (held_at e ∷ (filter (λ x. not (is_of channel id x)) (held_of es))) (filter (λ x. not (is_of channel id x)) (held_of es))) other)
+      let other : is_of channel id (held_at e) ≡ false = and_right (e.1.channel == channel) (e.0 == id) (ne_eqb e.0 id (λ s. differ (sym s))) in
+      let more : holds channel id (held_of es) ≡ true = sym (ap (λ b. b || holds channel id (held_of es)) other) ∙ is in
+      ap (λ b. held_of (cond b es (e ∷ remove_entry (is_at (nat_cmp id)) es))) (at_other id e.0 differ)
+      ∙ ap (λ (l : List Held). held_at e ∷ l) (remove_held channel id (e.0 + 1) to es h.2 more)
+      ∙ sym (ap (λ b. cond (not b) (held_at e ∷ (filter (λ x. not (is_of channel id x)) (held_of es))) (filter (λ x. not (is_of channel id x)) (held_of es))) other)
 ]
 
 -- an id that the channel holds is settled
@@ -100,19 +100,19 @@ pub settle_held : (channel id from to : ℕ) (es : List (ℕ × Issued)) (v w : 
 settle_held channel id from to [] v w h is found is_settled = refl
 settle_held channel id from to (e ∷ es) v w h is found is_settled = elim (cases_eq id e.0) [
   | inl same ↦
-    let none = none_below channel id (e.0 + 1) to (held_of es) h.2 (omega (arith, same)) in
-    let this : is_of channel id (held_at e) ≡ true = first (is_of channel id (held_at e)) (holds channel id (held_of es)) none is in
-    let one : Some e.1 ≡ Some v = sym (ap (λ b. cond b (Some e.1) (lookup (is_at (nat_cmp id)) es)) (at_same id e.0 same)) ∙ found in
-    let it : e.1 ≡ v = cc in
-    ap (λ b. held_of (cond b ((e.0, w) ∷ es) (e ∷ set_value (is_at (nat_cmp id)) es w))) (at_same id e.0 same)
-    ∙ ap (λ (u : Issued). held_at (e.0, u) ∷ held_of es) (is_settled ∙ ap (λ (u : Issued). record { channel = u.channel; settled = true }) (sym it))
-    ∙ ap (λ (l : List Held). record { channel = e.1.channel; id = e.0; settled = true } ∷ l) (sym (settle_none channel id (held_of es) (none_passes (λ x. not x.settled) channel id (held_of es) none)))
-    ∙ sym (ap (λ b. cond b (record { channel = e.1.channel; id = e.0; settled = true }) (held_at e) ∷ map (λ x. settled_at channel id x) (held_of es)) this)
+      let none = none_below channel id (e.0 + 1) to (held_of es) h.2 (omega (arith, same)) in
+      let this : is_of channel id (held_at e) ≡ true = first (is_of channel id (held_at e)) (holds channel id (held_of es)) none is in
+      let one : Some e.1 ≡ Some v = sym (ap (λ b. cond b (Some e.1) (lookup (is_at (nat_cmp id)) es)) (at_same id e.0 same)) ∙ found in
+      let it : e.1 ≡ v = cc in
+      ap (λ b. held_of (cond b ((e.0, w) ∷ es) (e ∷ set_value (is_at (nat_cmp id)) es w))) (at_same id e.0 same)
+      ∙ ap (λ (u : Issued). held_at (e.0, u) ∷ held_of es) (is_settled ∙ ap (λ (u : Issued). record { channel = u.channel; settled = true }) (sym it))
+      ∙ ap (λ (l : List Held). record { channel = e.1.channel; id = e.0; settled = true } ∷ l) (sym (settle_none channel id (held_of es) (none_passes (λ x. not x.settled) channel id (held_of es) none)))
+      ∙ sym (ap (λ b. cond b (record { channel = e.1.channel; id = e.0; settled = true }) (held_at e) ∷ map (λ x. settled_at channel id x) (held_of es)) this)
   | inr differ ↦
-    let other : is_of channel id (held_at e) ≡ false = and_right (e.1.channel == channel) (e.0 == id) (ne_eqb e.0 id (λ s. differ (sym s))) in
-    let more : holds channel id (held_of es) ≡ true = sym (ap (λ b. b || holds channel id (held_of es)) other) ∙ is in
-    let later : lookup (is_at (nat_cmp id)) es ≡ Some v = sym (ap (λ b. cond b (Some e.1) (lookup (is_at (nat_cmp id)) es)) (at_other id e.0 differ)) ∙ found in
-    ap (λ b. held_of (cond b ((e.0, w) ∷ es) (e ∷ set_value (is_at (nat_cmp id)) es w))) (at_other id e.0 differ)
-    ∙ ap (λ (l : List Held). held_at e ∷ l) (settle_held channel id (e.0 + 1) to es v w h.2 more later is_settled)
-    ∙ sym (ap (λ b. cond b (record { channel = e.1.channel; id = e.0; settled = true }) (held_at e) ∷ map (λ x. settled_at channel id x) (held_of es)) other)
+      let other : is_of channel id (held_at e) ≡ false = and_right (e.1.channel == channel) (e.0 == id) (ne_eqb e.0 id (λ s. differ (sym s))) in
+      let more : holds channel id (held_of es) ≡ true = sym (ap (λ b. b || holds channel id (held_of es)) other) ∙ is in
+      let later : lookup (is_at (nat_cmp id)) es ≡ Some v = sym (ap (λ b. cond b (Some e.1) (lookup (is_at (nat_cmp id)) es)) (at_other id e.0 differ)) ∙ found in
+      ap (λ b. held_of (cond b ((e.0, w) ∷ es) (e ∷ set_value (is_at (nat_cmp id)) es w))) (at_other id e.0 differ)
+      ∙ ap (λ (l : List Held). held_at e ∷ l) (settle_held channel id (e.0 + 1) to es v w h.2 more later is_settled)
+      ∙ sym (ap (λ b. cond b (record { channel = e.1.channel; id = e.0; settled = true }) (held_at e) ∷ map (λ x. settled_at channel id x) (held_of es)) other)
 ]

@@ -42,16 +42,16 @@ pub none_below : (channel id from to : ℕ) (held : List Held) → AreRising fro
 none_below channel id from to [] h lt = refl
 none_below channel id from to (x ∷ held) h lt =
     or_from (is_of channel id x) (holds channel id held)
-      (and_right (x.channel == channel) (x.id == id) (ne_eqb x.id id (λ e. omega (arith, h.0))))
-      (none_below channel id (x.id + 1) to held h.2 (omega (arith, h.0)))
+    (and_right (x.channel == channel) (x.id == id) (ne_eqb x.id id (λ e. omega (arith, h.0))))
+    (none_below channel id (x.id + 1) to held h.2 (omega (arith, h.0)))
 
 -- nor is the next one
 pub none_next : (channel from to : ℕ) (held : List Held) → AreRising from to held → holds channel to held ≡ false
 none_next channel from to [] h = refl
 none_next channel from to (x ∷ held) h =
     or_from (is_of channel to x) (holds channel to held)
-      (and_right (x.channel == channel) (x.id == to) (ne_eqb x.id to (λ e. omega (arith, h.1))))
-      (none_next channel (x.id + 1) to held h.2)
+    (and_right (x.channel == channel) (x.id == to) (ne_eqb x.id to (λ e. omega (arith, h.1))))
+    (none_next channel (x.id + 1) to held h.2)
 
 -- an id that is not held is not held in any state
 pub none_passes : (p : Held → Bool) (channel id : ℕ) (held : List Held) → holds channel id held ≡ false → list_any (λ h. is_of channel id h && p h) held ≡ false
@@ -82,7 +82,7 @@ settle_none channel id (x ∷ held) none =
     let parts = or_parts (is_of channel id x && not x.settled) (holds_unsettled channel id held) none in
     λ i. settled_same channel id x parts.0 i ∷ settle_none channel id held parts.1 i
 
-flipped : (a b : ℕ) → (a == b) ≡ (b == a)
+pub flipped : (a b : ℕ) → (a == b) ≡ (b == a)
 flipped a b = elim (cases_eq a b) [
   | inl same ↦ eq-eqb a b same ∙ sym (eq-eqb b a (sym same))
   | inr differ ↦ ne_eqb a b differ ∙ sym (ne_eqb b a (λ s. differ (sym s)))
@@ -99,19 +99,19 @@ one_gone channel id from to (x ∷ held) h is q = by (is_of channel id x) refl (
   where
     by : (b : Bool) → is_of channel id x ≡ b → (holds channel id held ≡ true → count_of q held ≡ count_of q (filter (λ y. not (is_of channel id y)) held) + cond (q == channel) 1 0) → count_of q (x ∷ held) ≡ count_of q (cond (not b) (x ∷ filter (λ y. not (is_of channel id y)) held) (filter (λ y. not (is_of channel id y)) held)) + cond (q == channel) 1 0
     by true e there =
-      let parts = and_parts (x.channel == channel) (x.id == id) e in
-      let none = none_below channel id (x.id + 1) to held h.2 (omega (arith, eqb-true x.id id parts.1)) in
-      let here = eqb-true x.channel channel parts.0 in
-      let flip : (x.channel == q) ≡ (q == channel) = ap (λ n. n == q) here ∙ flipped channel q in
-      let a = count_of-cons q x held in
-      let b : count_of q (filter (λ y. not (is_of channel id y)) held) ≡ count_of q held = ap (λ (l : List Held). count_of q l) (filter_none channel id held none) in
-      let c : cond {A = ℕ} (x.channel == q) 1 0 ≡ cond {A = ℕ} (q == channel) 1 0 = ap (λ (t : Bool). cond {A = ℕ} t 1 0) flip in
-      let whole : count_of q (x ∷ held) ≡ count_of q (filter (λ y. not (is_of channel id y)) held) + cond (q == channel) 1 0 = omega arith in
-      whole
+        let parts = and_parts (x.channel == channel) (x.id == id) e in
+        let none = none_below channel id (x.id + 1) to held h.2 (omega (arith, eqb-true x.id id parts.1)) in
+        let here = eqb-true x.channel channel parts.0 in
+        let flip : (x.channel == q) ≡ (q == channel) = ap (λ n. n == q) here ∙ flipped channel q in
+        let a = count_of-cons q x held in
+        let b : count_of q (filter (λ y. not (is_of channel id y)) held) ≡ count_of q held = ap (λ (l : List Held). count_of q l) (filter_none channel id held none) in
+        let c : cond {A = ℕ} (x.channel == q) 1 0 ≡ cond {A = ℕ} (q == channel) 1 0 = ap (λ (t : Bool). cond {A = ℕ} t 1 0) flip in
+        let whole : count_of q (x ∷ held) ≡ count_of q (filter (λ y. not (is_of channel id y)) held) + cond (q == channel) 1 0 = omega arith in
+        whole
     by false e there =
-      let more : holds channel id held ≡ true = sym (ap (λ b. b || holds channel id held) e) ∙ is in
-      let a = count_of-cons q x held in
-      let b = count_of-cons q x (filter (λ y. not (is_of channel id y)) held) in
-      let c = there more in
-      let whole : count_of q (x ∷ held) ≡ count_of q (x ∷ filter (λ y. not (is_of channel id y)) held) + cond (q == channel) 1 0 = omega arith in
-      whole
+        let more : holds channel id held ≡ true = sym (ap (λ b. b || holds channel id held) e) ∙ is in
+        let a = count_of-cons q x held in
+        let b = count_of-cons q x (filter (λ y. not (is_of channel id y)) held) in
+        let c = there more in
+        let whole : count_of q (x ∷ held) ≡ count_of q (x ∷ filter (λ y. not (is_of channel id y)) held) + cond (q == channel) 1 0 = omega arith in
+        whole

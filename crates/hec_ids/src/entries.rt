@@ -12,11 +12,7 @@ use std::alloc::AllocError;
 use std::collections::BTreeMap;
 
 /// What the channel has of the id: whether it is settled, if the channel holds it.
-pub(crate) fn state_of(
-    issued: &BTreeMap<u64, Issued>,
-    channel: u128,
-    id: u64,
-) -> Option<bool>
+pub(crate) fn state_of(issued: &BTreeMap<u64, Issued>, channel: u128, id: u64) -> Option<bool>
     ensures { result ≡ state_at channel (get nat_cmp issued.now id) }
 {
     match issued.get(&id) {

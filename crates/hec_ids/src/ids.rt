@@ -1,7 +1,7 @@
 //! The table of ids.
 ghost use Rattle.std.specs.Prelude.{◌≡◌, length, nat_eq, not, is_some, [], ◌∷◌};
 ghost use Rattle.std.specs.List.{IsDistinct};
-ghost use Rattle.hec_ids.specs.Table.{IsSound, holds, holds_settled, holds_unsettled};
+ghost use Rattle.hec_ids.specs.Table.{holds, holds_settled, holds_unsettled};
 ghost use Rattle.hec_ids.specs.Rows.{opened, refusal, Issues, Settles, Forgets, Asks};
 ghost use Rattle.hec_ids.specs.Kept.{is_some_that};
 
@@ -39,8 +39,7 @@ impl Model for Ids {
 impl Ids {
     /// A table that holds no id.
     pub fn new(alloc: Global, run: u32, first: u32) -> Ids
-        ensures opened { result ≡ opened run first }
-        ensures sound { IsSound result }
+        ensures { result ≡ opened run first }
     {
         Ids {
             run,
@@ -53,8 +52,7 @@ impl Ids {
     /// Issues the next id to the channel, which then holds it unsettled. After an error nothing is changed,
     /// so the id is the next one still.
     pub fn issue(&mut self, channel: u128) -> Result<u64, IssueFault>
-        ensures row { Issues self.old channel result self.new }
-        ensures sound { IsSound self.new }
+        ensures { Issues self.old channel result self.new }
     {
         if let Some(fault) = self.refusal(channel) {
             return Err(fault);
@@ -68,8 +66,7 @@ impl Ids {
     /// Settles an id, and says whether the channel held it unsettled. Where it didn't, nothing is changed.
     /// It takes no memory.
     pub fn settle(&mut self, channel: u128, id: u64) -> bool
-        ensures row { Settles self.old channel id result self.new }
-        ensures sound { IsSound self.new }
+        ensures { Settles self.old channel id result self.new }
     {
         match self.state(channel, id) {
             Some(false) => {
@@ -82,8 +79,7 @@ impl Ids {
 
     /// Forgets an id, settled or not, and says whether the channel held it. It takes no memory.
     pub fn forget(&mut self, channel: u128, id: u64) -> bool
-        ensures row { Forgets self.old channel id result self.new }
-        ensures sound { IsSound self.new }
+        ensures { Forgets self.old channel id result self.new }
     {
         let held = self.state(channel, id).is_some();
         if held {
@@ -97,8 +93,7 @@ impl Ids {
     pub fn ask(&mut self, channel: u128, ids: &[u64], known: &mut [bool])
         requires equal { length ids.now ≡ length known.old }
         requires distinct { IsDistinct nat_eq ids.now }
-        ensures row { Asks self.old channel ids.now known.new self.new }
-        ensures sound { IsSound self.new }
+        ensures { Asks self.old channel ids.now known.new self.new }
     {
         for (i, id) in ids.iter().enumerate() {
             known[i] = self.tell(channel, *id);
@@ -107,8 +102,7 @@ impl Ids {
 
     /// Says whether the channel holds the id settled, and forgets it then.
     fn tell(&mut self, channel: u128, id: u64) -> bool
-        ensures row { Asks self.old channel (id ∷ []) (result ∷ []) self.new }
-        ensures sound { IsSound self.new }
+        ensures { Asks self.old channel (id ∷ []) (result ∷ []) self.new }
     {
         match self.state(channel, id) {
             Some(true) => {
