@@ -5,3 +5,4 @@ pub mod ChannelLaws
 pub mod SoundLaws
 pub mod AskLaws
 pub mod KeptLaws
+pub mod CallLaws

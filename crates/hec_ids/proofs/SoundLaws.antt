@@ -21,7 +21,7 @@ not_busy channel held free = by (nat_le 10000 (count_of channel held)) (count_of
     by false true false p q r h = (leb-false 10000 (count_of channel held) p, λ _. leb-false 1000 (channel_count held) r)
     by false false d p q r h = (leb-false 10000 (count_of channel held) p, λ none. absurd (eqb-false (count_of channel held) 0 q none))
 
-not_refused : (t : Table) (channel : ℕ) → refusal t channel ≡ None → (t.next ≢ t.run * 2 ^ 32 + 2 ^ 32) × (busy channel t.held ≡ None)
+pub not_refused : (t : Table) (channel : ℕ) → refusal t channel ≡ None → (t.next ≢ t.run * 2 ^ 32 + 2 ^ 32) × (busy channel t.held ≡ None)
 not_refused t channel free = by (t.next == t.run * 2 ^ 32 + 2 ^ 32) refl free
   where
     by : (b : Bool) → (t.next == t.run * 2 ^ 32 + 2 ^ 32) ≡ b → cond b (Some (NoMore t.run)) (busy channel t.held) ≡ None → (t.next ≢ t.run * 2 ^ 32 + 2 ^ 32) × (busy channel t.held ≡ None)

@@ -9,6 +9,10 @@ mod entries;
 mod fault;
 mod ids;
 mod issued;
+mod laws;
 
 pub use fault::IssueFault;
 pub use ids::Ids;
+pub use laws::{
+    calls_keep_sound, gone_stays_gone, issued_is_new, opened_is_sound, settled_by_settle, told_is_gone,
+};
