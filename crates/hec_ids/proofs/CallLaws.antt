@@ -18,7 +18,7 @@ opened_is_sound run first in_run in_place = record {
   within = omega arith;
   rising = omega arith;
   few = λ q. omega arith;
-  few_channels = omega arith
+  few_channels = omega arith;
 }
 
 -- a table that is another one
@@ -89,22 +89,24 @@ told_away : (channel id q from to : ℕ) (ids : List ℕ) (held : List Held) →
 told_away channel id q from to ids [] h asked settled = absurd (cc)
 told_away channel id q from to ids (x ∷ held) h asked settled = elim (cases_eq x.id id) [
   | inl same ↦
-    let none = λ (p : ℕ). none_below p id (x.id + 1) to held h.2 (omega (arith, same)) in
-    let both : (is_of channel id x && x.settled) ≡ true = first (is_of channel id x && x.settled) (holds_settled channel id held) (none_passes (λ y. y.settled) channel id held (none channel)) settled in
-    let parts = and_parts (is_of channel id x) x.settled both in
-    let told = and_from x.settled (list_any (λ k. is_of channel k x) ids) parts.1 (among channel id ids x parts.0 asked) in
-    (omega (arith, h.1, same),
-      ap (λ b. holds q id (cond (not b) (x ∷ filter (λ y. not (is_told channel ids y)) held) (filter (λ y. not (is_told channel ids y)) held))) told
-      ∙ any_filter (is_of q id) (λ y. not (is_told channel ids y)) held (none q))
+      let none = λ (p : ℕ). none_below p id (x.id + 1) to held h.2 (omega (arith, same)) in
+      let both : (is_of channel id x && x.settled) ≡ true = first (is_of channel id x && x.settled) (holds_settled channel id held) (none_passes (λ y. y.settled) channel id held (none channel)) settled in
+      let parts = and_parts (is_of channel id x) x.settled both in
+      let told = and_from x.settled (list_any (λ k. is_of channel k x) ids) parts.1 (among channel id ids x parts.0 asked) in (
+        omega (arith, h.1, same),
+        ap (λ b. holds q id (cond (not b) (x ∷ filter (λ y. not (is_told channel ids y)) held) (filter (λ y. not (is_told channel ids y)) held))) told
+            ∙ any_filter (is_of q id) (λ y. not (is_told channel ids y)) held (none q),
+      )
   | inr differ ↦
-    let other = λ (p : ℕ). and_right (x.channel == p) (x.id == id) (ne_eqb x.id id differ) in
-    let more : holds_settled channel id held ≡ true = sym (ap (λ b. (b && x.settled) || holds_settled channel id held) (other channel)) ∙ settled in
-    let rest = told_away channel id q (x.id + 1) to ids held h.2 asked more in
-    (rest.0, by (not (is_told channel ids x)) (other q) rest.1)
+      let other = λ (p : ℕ). and_right (x.channel == p) (x.id == id) (ne_eqb x.id id differ) in
+      let more : holds_settled channel id held ≡ true = sym (ap (λ b. (b && x.settled) || holds_settled channel id held) (other channel)) ∙ settled in
+      let rest = told_away channel id q (x.id + 1) to ids held h.2 asked more in
+      (rest.0, by (not (is_told channel ids x)) (other q) rest.1)
 ] where
   first : (a b : Bool) → b ≡ false → (a || b) ≡ true → a ≡ true
   first true b n t = refl
   first false b n t = absurd (cc)
+
   by : (b : Bool) → is_of q id x ≡ false → holds q id (filter (λ y. not (is_told channel ids y)) held) ≡ false → holds q id (cond b (x ∷ filter (λ y. not (is_told channel ids y)) held) (filter (λ y. not (is_told channel ids y)) held)) ≡ false
   by true off r = or_from (is_of q id x) (holds q id (filter (λ y. not (is_told channel ids y)) held)) off r
   by false off r = r
@@ -128,11 +130,14 @@ settled_before c i q id (x ∷ held) is = elim (or_cases (is_of q id (settled_at
   by : (b s : Bool) → is_of c i x ≡ b → x.settled ≡ s → (is_of q id (cond b (record { channel = x.channel; id = x.id; settled = true }) x) && (cond b (record { channel = x.channel; id = x.id; settled = true }) x).settled) ≡ true → (holds_settled q id (x ∷ held) ≡ true) ⊎ ((c ≡ q) × (i ≡ id) × (holds_unsettled q id (x ∷ held) ≡ true))
   by true true this e h = inl (or_left (is_of q id x && x.settled) (holds_settled q id held) (and_from (is_of q id x) x.settled (and_parts (is_of q id x) true h).0 e))
   by true false this e h =
-    let it = (and_parts (is_of q id x) true h).0 in
-    let a = and_parts (x.channel == c) (x.id == i) this in
-    let b = and_parts (x.channel == q) (x.id == id) it in
-    inr (sym (eqb-true x.channel c a.0) ∙ eqb-true x.channel q b.0, sym (eqb-true x.id i a.1) ∙ eqb-true x.id id b.1,
-      or_left (is_of q id x && not x.settled) (holds_unsettled q id held) (and_from (is_of q id x) (not x.settled) it (ap not e)))
+      let it = (and_parts (is_of q id x) true h).0 in
+      let a = and_parts (x.channel == c) (x.id == i) this in
+      let b = and_parts (x.channel == q) (x.id == id) it in
+      inr (
+        sym (eqb-true x.channel c a.0) ∙ eqb-true x.channel q b.0,
+        sym (eqb-true x.id i a.1) ∙ eqb-true x.id id b.1,
+        or_left (is_of q id x && not x.settled) (holds_unsettled q id held) (and_from (is_of q id x) (not x.settled) it (ap not e)),
+      )
   by false s this e h = inl (or_left (is_of q id x && x.settled) (holds_settled q id held) h)
 
 pub settled_by_settle : SettledBySettle

@@ -10,9 +10,12 @@ mod fault;
 mod ids;
 mod issued;
 mod laws;
+#[cfg(test)]
+mod tests;
 
 pub use fault::IssueFault;
 pub use ids::Ids;
 pub use laws::{
-    calls_keep_sound, gone_stays_gone, issued_is_new, opened_is_sound, settled_by_settle, told_is_gone,
+    calls_keep_sound, gone_stays_gone, issued_is_new, opened_is_sound, settled_by_settle,
+    told_is_gone,
 };
