@@ -60,6 +60,12 @@ none_passes p channel id (x ∷ held) none =
     let parts = or_parts (is_of channel id x) (holds channel id held) none in
     or_from (is_of channel id x && p x) (list_any (λ h. is_of channel id h && p h) held) (and_left (is_of channel id x) (p x) parts.0) (none_passes p channel id held parts.1)
 
+pub some_passes : (p : Held → Bool) (channel id : ℕ) (held : List Held) → list_any (λ h. is_of channel id h && p h) held ≡ true → holds channel id held ≡ true
+some_passes p channel id held some = elim (cases_Bool (holds channel id held)) [
+  | inl is ↦ is
+  | inr none ↦ let never : false ≡ true = sym (none_passes p channel id held none) ∙ some in absurd (cc)
+]
+
 pub filter_none : (channel id : ℕ) (held : List Held) → holds channel id held ≡ false → filter (λ h. not (is_of channel id h)) held ≡ held
 filter_none channel id [] none = refl
 filter_none channel id (x ∷ held) none =

@@ -46,9 +46,10 @@ pub(crate) fn uncount(counts: &mut BTreeMap<u128, u32>, channel: u128)
     ensures { (less held : List Held) → HasOneMore channel less held → AreCounted counts.old held → AreCounted counts.new less }
 {
     let count = counts.get(&channel).copied().unwrap_or(0);
-    if count > 1 {
-        let _ = counts.insert(channel, count - 1);
-    } else {
+    let last = count <= 1;
+    if last {
         counts.remove(&channel);
+    } else {
+        let _ = counts.insert(channel, count - 1);
     }
 }

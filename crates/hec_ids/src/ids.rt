@@ -1,9 +1,8 @@
 //! The table of ids.
-ghost use Rattle.std.specs.Prelude.{◌≡◌, length, nat_eq, not, is_some, [], ◌∷◌};
+ghost use Rattle.std.specs.Prelude.{◌≡◌, length, nat_eq, [], ◌∷◌};
 ghost use Rattle.std.specs.List.{IsDistinct};
 ghost use Rattle.hec_ids.specs.Table.{holds, holds_settled, holds_unsettled};
 ghost use Rattle.hec_ids.specs.Rows.{opened, refusal, Issues, Settles, Forgets, Asks};
-ghost use Rattle.hec_ids.specs.Kept.{is_some_that};
 
 use crate::IssueFault;
 use crate::counts::busy_fault;
@@ -68,20 +67,18 @@ impl Ids {
     pub fn settle(&mut self, channel: u128, id: u64) -> bool
         ensures { Settles self.old channel id result self.new }
     {
-        match self.state(channel, id) {
-            Some(false) => {
-                settle(&mut self.issued, id);
-                true
-            }
-            _ => false,
+        let unsettled = self.holds_unsettled(channel, id);
+        if unsettled {
+            settle(&mut self.issued, id);
         }
+        unsettled
     }
 
     /// Forgets an id, settled or not, and says whether the channel held it. It takes no memory.
     pub fn forget(&mut self, channel: u128, id: u64) -> bool
         ensures { Forgets self.old channel id result self.new }
     {
-        let held = self.state(channel, id).is_some();
+        let held = self.holds(channel, id);
         if held {
             release(&mut self.issued, &mut self.counts, channel, id);
         }
@@ -104,13 +101,11 @@ impl Ids {
     fn tell(&mut self, channel: u128, id: u64) -> bool
         ensures { Asks self.old channel (id ∷ []) (result ∷ []) self.new }
     {
-        match self.state(channel, id) {
-            Some(true) => {
-                release(&mut self.issued, &mut self.counts, channel, id);
-                true
-            }
-            _ => false,
+        let settled = self.holds_settled(channel, id);
+        if settled {
+            release(&mut self.issued, &mut self.counts, channel, id);
         }
+        settled
     }
 
     /// Why no id is issued to the channel now, if so.
@@ -124,12 +119,30 @@ impl Ids {
         }
     }
 
-    /// Whether the id is settled, if the channel holds it.
-    fn state(&self, channel: u128, id: u64) -> Option<bool>
-        ensures held { is_some result ≡ holds channel id self.now.held }
-        ensures settled { is_some_that (λ s. s) result ≡ holds_settled channel id self.now.held }
-        ensures unsettled { is_some_that not result ≡ holds_unsettled channel id self.now.held }
+    /// Whether the channel holds the id.
+    fn holds(&self, channel: u128, id: u64) -> bool
+        ensures { result ≡ holds channel id self.now.held }
     {
-        state_of(&self.issued, channel, id)
+        state_of(&self.issued, channel, id).is_some()
+    }
+
+    /// Whether the channel holds the id settled.
+    fn holds_settled(&self, channel: u128, id: u64) -> bool
+        ensures { result ≡ holds_settled channel id self.now.held }
+    {
+        match state_of(&self.issued, channel, id) {
+            Some(settled) => settled,
+            None => false,
+        }
+    }
+
+    /// Whether the channel holds the id, not settled yet.
+    fn holds_unsettled(&self, channel: u128, id: u64) -> bool
+        ensures { result ≡ holds_unsettled channel id self.now.held }
+    {
+        match state_of(&self.issued, channel, id) {
+            Some(settled) => !settled,
+            None => false,
+        }
     }
 }
