@@ -1,15 +1,14 @@
 -- What follows from the rows.
-use Rattle.std.proofs.Common.{◌≡◌, ◌≢◌, ◌⊎◌, inl, inr, ℕ, ◌+◌, ◌*◌, ◌^◌, ◌<◌, ◌≤◌, Bool, true, false, cond, List, [], ◌∷◌, ◌++◌, map, Option, Result, Ok, Err, refl, sym, ◌∙◌, ap, subst, arith}
+use Rattle.std.proofs.Common.{◌≡◌, ◌⊎◌, inl, inr, ℕ, ◌+◌, ◌*◌, ◌^◌, ◌<◌, ◌≤◌, Bool, true, false, cond, List, [], ◌∷◌, map, Ok, Err, refl, sym, ◌∙◌, ap, subst, arith}
 use Rattle.std.specs.Prelude.{◌==◌, ◌&&◌, ◌||◌, not, filter, nat_eq}
 use Rattle.std.specs.List.{list_any}
 use Rattle.std.specs.Set.{is_member}
-use Rattle.std.proofs.lemmas.Bool.{cases_eq, cases_Bool, eqb-true, eq-eqb, ne_eqb, and_parts, and_from, and_left, and_right, or_parts, or_from, or_cases, or_left, or_right}
+use Rattle.std.proofs.lemmas.Bool.{cases_eq, cases_Bool, eqb-true, ne_eqb, and_parts, and_from, and_right, or_parts, or_from, or_cases, or_left, or_right}
 use Rattle.std.proofs.lemmas.List.Folds.{list_any-append}
-use Rattle.hec_ids.specs.declared.fault.IssueFault.{IssueFault}
 use Rattle.hec_ids.specs.Table.{Held, Table, AreRising, IsSound, is_of, holds, holds_settled, holds_unsettled}
-use Rattle.hec_ids.specs.Rows.{opened, issued, unsettled, settled_at, is_told, Issues, Settles, Forgets, Asks}
-use Rattle.hec_ids.specs.Laws.{IsCall, issue, settle, forget, ask, OpenedIsSound, CallsKeepSound, IssuedIsNew, GoneStaysGone, ToldIsGone, SettledBySettle}
-use Rattle.hec_ids.proofs.HeldLaws.{rising_end, none_below, none_next, none_passes, flipped}
+use Rattle.hec_ids.specs.Rows.{unsettled, settled_at, is_told}
+use Rattle.hec_ids.specs.Laws.{issue, settle, forget, ask, OpenedIsSound, CallsKeepSound, IssuedIsNew, GoneStaysGone, ToldIsGone, SettledBySettle}
+use Rattle.hec_ids.proofs.HeldLaws.{rising_end, none_below, none_next, none_passes}
 use Rattle.hec_ids.proofs.SoundLaws.{issued_sound, filter_sound, settled_sound, not_refused}
 
 pub opened_is_sound : OpenedIsSound

@@ -1,15 +1,15 @@
 -- Changes of the map of ids as changes of the list of ids held.
-use Rattle.std.proofs.Common.{◌≡◌, ◌≢◌, ◌⊎◌, inl, inr, ℕ, ◌+◌, ◌<◌, ◌≤◌, Bool, true, false, cond, List, [], ◌∷◌, ◌++◌, map, Option, None, Some, is_some, refl, sym, ◌∙◌, ap, subst, arith, Ordering, Greater}
+use Rattle.std.proofs.Common.{◌≡◌, ◌≢◌, inl, inr, ℕ, ◌+◌, ◌<◌, Bool, true, false, cond, List, [], ◌∷◌, ◌++◌, map, Option, None, Some, is_some, refl, sym, ◌∙◌, ap, arith, Ordering, Greater}
 use Rattle.std.specs.Prelude.{◌==◌, ◌&&◌, ◌||◌, not, filter}
 use Rattle.std.specs.List.{list_any}
 use Rattle.std.specs.Map.{lookup, remove_entry, set_value}
 use Rattle.std.specs.Ordering.{nat_cmp, match_ordering}
 use Rattle.std.specs.BTreeMap.{is_at, insert_entry}
-use Rattle.std.proofs.lemmas.Bool.{cases_eq, cases_Bool, eqb-true, eqb-false, eq-eqb, ne_eqb, and_parts, and_left, and_right, or_parts, or_from}
+use Rattle.std.proofs.lemmas.Bool.{cases_eq, eq-eqb, ne_eqb, and_right}
 use Rattle.std.proofs.lemmas.Bool.Decides.{nat_tests}
 use Rattle.std.proofs.lemmas.List.{map-append}
 use Rattle.hec_ids.specs.declared.issued.Issued.{Issued}
-use Rattle.hec_ids.specs.Table.{Held, AreRising, is_of, holds, holds_settled, holds_unsettled}
+use Rattle.hec_ids.specs.Table.{Held, AreRising, is_of, holds}
 use Rattle.hec_ids.specs.Rows.{unsettled, settled_at}
 use Rattle.hec_ids.specs.Kept.{held_at, held_of, state_at, is_some_that}
 use Rattle.hec_ids.proofs.HeldLaws.{none_below, none_passes, filter_none, settle_none}

@@ -1,10 +1,10 @@
 -- What changes of the list of ids keep, and what its order tells.
-use Rattle.std.proofs.Common.{◌≡◌, ◌≢◌, ◌⊎◌, inl, inr, ℕ, ◌+◌, ◌<◌, ◌≤◌, Bool, true, false, cond, List, [], ◌∷◌, ◌++◌, map, refl, sym, ◌∙◌, ap, subst, arith}
+use Rattle.std.proofs.Common.{◌≡◌, inl, inr, ℕ, ◌+◌, ◌<◌, ◌≤◌, Bool, true, false, cond, List, [], ◌∷◌, ◌++◌, map, refl, sym, ◌∙◌, ap, arith}
 use Rattle.std.specs.Prelude.{◌==◌, ◌&&◌, ◌||◌, not, filter}
 use Rattle.std.specs.List.{list_any}
-use Rattle.std.proofs.lemmas.Bool.{cases_eq, cases_Bool, eqb-true, eqb-false, eq-eqb, ne_eqb, and_parts, and_left, and_right, and_cases, or_parts, or_from, not-false}
+use Rattle.std.proofs.lemmas.Bool.{cases_eq, cases_Bool, eqb-true, eq-eqb, ne_eqb, and_parts, and_left, and_right, and_cases, or_parts, or_from, not-false}
 use Rattle.std.proofs.lemmas.List.Sums.{sum_by_push}
-use Rattle.hec_ids.specs.Table.{Held, AreRising, is_of, holds, holds_settled, holds_unsettled, count_of}
+use Rattle.hec_ids.specs.Table.{Held, AreRising, is_of, holds, holds_unsettled, count_of}
 use Rattle.hec_ids.specs.Rows.{unsettled, settled_at}
 use Rattle.hec_ids.specs.Kept.{HasOneMore}
 use Rattle.hec_ids.proofs.CountLaws.{count_of-cons}

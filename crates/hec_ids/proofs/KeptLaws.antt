@@ -1,6 +1,6 @@
 -- What is kept after a change.
 use Rattle.std.proofs.Common.{◌≡◌, ℕ, ◌+◌, ◌*◌, ◌^◌, ◌∷◌, [], ◌++◌, List, map, sym, ◌∙◌, ap, subst, arith}
-use Rattle.std.specs.Prelude.{not, filter, Option, None}
+use Rattle.std.specs.Prelude.{not, filter, None}
 use Rattle.std.specs.BTreeMap.{BTreeMap}
 use Rattle.hec_ids.specs.declared.issued.Issued.{Issued}
 use Rattle.hec_ids.specs.Table.{Held, IsSound, is_of}

@@ -1,13 +1,12 @@
 -- Each row keeps a table sound.
-use Rattle.std.proofs.Common.{◌≡◌, ◌≢◌, ◌⊎◌, inl, inr, ℕ, ◌+◌, ◌*◌, ◌^◌, ◌<◌, ◌≤◌, Bool, true, false, cond, List, [], ◌∷◌, ◌++◌, length, map, Option, None, Some, is_some, refl, sym, ◌∙◌, ap, subst, arith}
-use Rattle.std.specs.Prelude.{◌==◌, ◌&&◌, nat_le, nat_eq, not, filter}
+use Rattle.std.proofs.Common.{◌≡◌, ◌≢◌, inl, inr, ℕ, ◌+◌, ◌*◌, ◌^◌, ◌<◌, ◌≤◌, Bool, true, false, cond, List, [], ◌∷◌, ◌++◌, length, map, None, Some, is_some, refl, sym, ◌∙◌, ap, arith}
+use Rattle.std.specs.Prelude.{◌==◌, ◌&&◌, nat_le, nat_eq, filter}
 use Rattle.std.specs.Set.{unique_keys}
-use Rattle.std.proofs.lemmas.Bool.{cases_eq, cases_Bool, eqb-false, leb-false, eq-eqb, ne_eqb, and_cases}
+use Rattle.std.proofs.lemmas.Bool.{cases_eq, eqb-false, leb-false, eq-eqb, ne_eqb}
 use Rattle.std.proofs.lemmas.List.{map-append}
-use Rattle.hec_ids.specs.declared.fault.IssueFault.{IssueFault}
 use Rattle.hec_ids.specs.declared.fault.IssueFault.TheVariants.{NoMore, Busy}
-use Rattle.hec_ids.specs.Table.{Held, Table, AreRising, IsSound, is_of, count_of, channel_count}
-use Rattle.hec_ids.specs.Rows.{opened, busy, refusal, unsettled, issued, settled_at}
+use Rattle.hec_ids.specs.Table.{Held, Table, IsSound, is_of, count_of, channel_count}
+use Rattle.hec_ids.specs.Rows.{busy, refusal, unsettled, issued, settled_at}
 use Rattle.hec_ids.proofs.CountLaws.{count_of-cons, has_channel, counted_above}
 use Rattle.hec_ids.proofs.HeldLaws.{rising_filter, rising_settled, rising_push, one_more}
 use Rattle.hec_ids.proofs.ChannelLaws.{channels_filter, distinct_again, distinct_push}

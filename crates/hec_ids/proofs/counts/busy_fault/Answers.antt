@@ -1,5 +1,5 @@
 use Rattle.std.proofs.Common.{sym, ◌∙◌, arith}
-use Rattle.hec_ids.specs.Table.{count_of, channel_count}
+use Rattle.hec_ids.specs.Table.{count_of}
 use Rattle.hec_ids.proofs.CountLaws.{length-channels, counted_none, busy_full, busy_free}
 use Rattle.hec_ids.proofs.counts.busy_fault.Goals as goal
 

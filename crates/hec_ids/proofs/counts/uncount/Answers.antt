@@ -1,4 +1,4 @@
-use Rattle.std.proofs.Common.{sym, ◌∙◌, ◌≡◌, ◌<◌, unwrap_or, ap, rules, arith}
+use Rattle.std.proofs.Common.{◌≡◌, ◌<◌, unwrap_or, rules, arith}
 use Rattle.std.specs.Ordering.{nat_cmp}
 use Rattle.std.specs.BTreeMap.{get}
 use Rattle.hec_ids.proofs.CountLaws.{counted_down, counted_out, sure, is_there}

@@ -1,10 +1,9 @@
-use Rattle.std.proofs.Common.{◌≡◌, false, refl, ◌∙◌, ap, subst, sym, List, [], ◌∷◌, ◌++◌}
+use Rattle.std.proofs.Common.{false, refl, ◌∙◌, ap, subst, sym, List}
 use Rattle.std.specs.Ordering.{nat_cmp}
 use Rattle.std.specs.Map.{remove_entry}
 use Rattle.std.specs.BTreeMap.{is_at}
 use Rattle.hec_ids.specs.declared.issued.Issued.{Issued}
 use Rattle.hec_ids.specs.Table.{Held}
-use Rattle.hec_ids.specs.Rows.{unsettled}
 use Rattle.hec_ids.specs.Kept.{held_of, HasOneMore}
 use Rattle.hec_ids.proofs.CountLaws.{sure_ok}
 use Rattle.hec_ids.proofs.HeldLaws.{one_more}

@@ -1,4 +1,4 @@
-use Rattle.std.proofs.Common.{◌≡◌, ◌∙◌, ap, subst, sym, List}
+use Rattle.std.proofs.Common.{◌∙◌, ap, subst, sym, List}
 use Rattle.hec_ids.specs.Table.{Held}
 use Rattle.hec_ids.specs.Kept.{held_of, HasOneMore}
 use Rattle.hec_ids.proofs.HeldLaws.{one_gone}

@@ -1,4 +1,4 @@
-use Rattle.std.proofs.Common.{◌≡◌, true, false, Bool, Option, is_some, refl, sym, ◌∙◌, ap}
+use Rattle.std.proofs.Common.{◌≡◌, true, false, Option, is_some, refl, sym, ◌∙◌, ap}
 use Rattle.hec_ids.specs.declared.issued.Issued.{Issued}
 use Rattle.hec_ids.specs.Kept.{held_of, state_at}
 use Rattle.hec_ids.proofs.EntryLaws.{settle_held, holds_is}

@@ -1,4 +1,4 @@
-use Rattle.std.proofs.Common.{◌≡◌, ◌<◌, length, sym, ◌∙◌, arith, rules}
+use Rattle.std.proofs.Common.{◌<◌, length, sym, arith, rules}
 use Rattle.hec_ids.proofs.AskLaws.{asks_none, asks_next}
 use Rattle.hec_ids.proofs.ids.Ids.ask.Goals as goal
 

@@ -1,4 +1,4 @@
-use Rattle.std.proofs.Common.{◌≡◌, ℕ, ◌+◌, ◌*◌, ◌^◌, Bool, true, false, sym, ◌∙◌, ap}
+use Rattle.std.proofs.Common.{◌≡◌, ◌+◌, ◌*◌, ◌^◌, true, false, sym, ◌∙◌, ap}
 use Rattle.hec_ids.specs.Table.{Table, holds}
 use Rattle.hec_ids.specs.Kept.{held_of}
 use Rattle.hec_ids.proofs.HeldLaws.{filter_none}

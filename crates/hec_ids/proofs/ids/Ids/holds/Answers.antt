@@ -1,4 +1,4 @@
-use Rattle.std.proofs.Common.{ℕ, ◌+◌, ◌*◌, ◌^◌, is_some, sym, ◌∙◌, ap}
+use Rattle.std.proofs.Common.{◌+◌, ◌*◌, ◌^◌, is_some, sym, ◌∙◌, ap}
 use Rattle.hec_ids.specs.Table.{Table, holds}
 use Rattle.hec_ids.proofs.EntryLaws.{holds_is}
 use Rattle.hec_ids.proofs.ids.Ids.holds.Goals as goal

@@ -1,5 +1,4 @@
-use Rattle.std.proofs.Common.{◌≡◌, ℕ, ◌+◌, ◌*◌, ◌^◌, sym, ◌∙◌, ap}
-use Rattle.std.specs.Prelude.{not}
+use Rattle.std.proofs.Common.{◌+◌, ◌*◌, ◌^◌, sym, ◌∙◌, ap}
 use Rattle.hec_ids.specs.Table.{Table, holds_settled}
 use Rattle.hec_ids.specs.Kept.{is_some_that}
 use Rattle.hec_ids.proofs.EntryLaws.{answer_is}

@@ -1,4 +1,4 @@
-use Rattle.std.proofs.Common.{◌≡◌, ℕ, ◌+◌, ◌*◌, ◌^◌, ◌≤◌, Option, None, [], ◌∷◌, ◌++◌, subst, sym, ◌∙◌, ap, arith}
+use Rattle.std.proofs.Common.{◌≡◌, ℕ, ◌+◌, ◌*◌, ◌^◌, None, [], ◌∷◌, ◌++◌, subst, sym, ◌∙◌, ap, arith}
 use Rattle.hec_ids.specs.Table.{Table, AreRising}
 use Rattle.hec_ids.specs.Rows.{refusal, unsettled}
 use Rattle.hec_ids.specs.Kept.{held_of, table_of}

@@ -1,6 +1,6 @@
-use Rattle.std.proofs.Common.{◌≡◌, ℕ, ◌+◌, ◌*◌, ◌^◌, Bool, true, false, sym, ◌∙◌, ap}
+use Rattle.std.proofs.Common.{◌≡◌, ◌+◌, ◌*◌, ◌^◌, false, sym, ◌∙◌, ap}
 use Rattle.std.specs.Prelude.{not, map}
-use Rattle.hec_ids.specs.Table.{Table, holds, holds_unsettled}
+use Rattle.hec_ids.specs.Table.{Table, holds_unsettled}
 use Rattle.hec_ids.specs.Rows.{settled_at}
 use Rattle.hec_ids.specs.Kept.{held_of}
 use Rattle.hec_ids.proofs.HeldLaws.{settle_none, some_passes}

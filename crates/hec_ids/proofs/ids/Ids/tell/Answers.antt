@@ -1,4 +1,4 @@
-use Rattle.std.proofs.Common.{◌≡◌, ℕ, ◌+◌, ◌*◌, ◌^◌, [], ◌∷◌, Bool, true, false, sym, ◌∙◌, ap}
+use Rattle.std.proofs.Common.{◌≡◌, ◌+◌, ◌*◌, ◌^◌, [], ◌∷◌, Bool, false, sym, ◌∙◌, ap}
 use Rattle.std.specs.Prelude.{not, filter}
 use Rattle.hec_ids.specs.Table.{Table, holds_settled}
 use Rattle.hec_ids.specs.Rows.{is_told}
