@@ -15,12 +15,20 @@ use std::marker::Model;
 /// How many ids a run has.
 const IDS_OF_A_RUN: u64 = 4_294_967_296;
 
-/// The ids of one run, for all channels.
+/// The acknowledgement ids of one run, for all channels. A channel is named by its GUID. It holds an id
+/// from its issue until the id is told or forgotten, and the id is settled once, when its events are
+/// stored.
+///
+/// Contracts see a table: the run, the next id, and the ids held, with their channels, in the order of
+/// issue.
 #[derive(Drop)]
 pub struct Ids {
     run: u32,
+    /// The place of the next id in the run, 2^32 where the last was issued.
     used: u64,
+    /// The ids held.
     issued: BTreeMap<u64, Issued>,
+    /// How many each channel holds; those that hold none are not there.
     counts: BTreeMap<u128, u32>,
 }
 
@@ -36,7 +44,8 @@ impl Model for Ids {
 }
 
 impl Ids {
-    /// A table that holds no id.
+    /// A table that holds no id. The next id is `run` * 2^32 + `first`, and the last of the run is
+    /// `run` * 2^32 + 2^32 - 1. It takes no memory; later calls take theirs from `alloc`.
     pub fn new(alloc: Global, run: u32, first: u32) -> Ids
         ensures { result ≡ opened run first }
     {
@@ -48,8 +57,10 @@ impl Ids {
         }
     }
 
-    /// Issues the next id to the channel, which then holds it unsettled. After an error nothing is changed,
-    /// so the id is the next one still.
+    /// Issues the next id to the channel, which then holds it unsettled. `NoMore` comes where the last id
+    /// of the run was issued; else `Busy` where the channel holds 10,000 ids, or holds none and 1,000
+    /// channels hold some; else `NoMemory` may come. After an error nothing is changed, so that no id is
+    /// used up.
     pub fn issue(&mut self, channel: u128) -> Result<u64, IssueFault>
         ensures { Issues self.old channel result self.new }
     {
@@ -85,8 +96,9 @@ impl Ids {
         held
     }
 
-    /// Writes of each id into `known`, at its place, whether the channel holds it settled. Those that it
-    /// does are forgotten, so an id is told once. The ids are distinct. It takes no memory.
+    /// Writes of each id into `known`, at its place, whether the channel holds it settled, as the answer
+    /// to an acknowledgement query has it. Those that it does are forgotten, so an id is told once; all
+    /// others stay. The ids are distinct. It takes no memory.
     pub fn ask(&mut self, channel: u128, ids: &[u64], known: &mut [bool])
         requires equal { length ids.now ≡ length known.old }
         requires distinct { IsDistinct nat_eq ids.now }
