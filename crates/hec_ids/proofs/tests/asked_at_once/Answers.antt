@@ -1,0 +1,7 @@
+use Rattle.std.proofs.Common.{refl}
+use Rattle.std.specs.List.{IsDistinct}
+use Rattle.hec_ids.proofs.tests.asked_at_once.Goals as goal
+
+pub ask-requires-clause-distinct : goal.ask-requires-clause-distinct
+unfolding IsDistinct
+ask-requires-clause-distinct g c = ((refl, (refl, tt)), ((refl, tt), (tt, tt)))
