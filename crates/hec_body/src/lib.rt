@@ -1,0 +1,17 @@
+//! Bodies of requests of Splunk's HTTP Event Collector, cut: event bodies into the texts of their event
+//! objects, raw bodies into lines, and ack queries into the ids that they ask for. Event objects are JSON
+//! as RFC 8259 has it; ack queries are read by `serde_json`.
+//!
+//! The contract: a body has one cut, by definitions on whole byte lists. What comes back is that cut, or
+//! its first fault with the number of the event, or no memory was found.
+#![tactic(auto)]
+
+mod events;
+mod fault;
+mod limits;
+mod lines;
+mod objects;
+
+pub use events::event_pieces;
+pub use fault::BodyFault;
+pub use lines::raw_lines;
