@@ -1,4 +1,4 @@
-//! Why a body isn't taken.
+//! Why a body is not taken.
 use std::alloc::{AllocError, AllocFailed};
 
 /// Why an event body or a raw body isn't taken: the first event at fault, in the order of the body.
@@ -39,5 +39,53 @@ impl<T: Drop> From<AllocFailed<T>> for BodyFault {
 
     fn from(_: AllocFailed<T>) -> BodyFault {
         BodyFault::NoMemory
+    }
+}
+
+/// Why an ack query isn't taken.
+#[derive(Clone, Copy, PartialEq, Eq, Debug)]
+pub enum AckFault {
+    /// The body isn't an object whose last member `acks` is an array of at most 10,000 whole numbers from 0
+    /// to 2^64 - 1.
+    Format,
+    /// No memory was found.
+    NoMemory,
+}
+
+impl From<AllocError> for AckFault {
+    ghost use Rattle.std.specs.Prelude.{◌≡◌};
+    ghost use Rattle.hec_body.specs.declared.fault.AckFault.TheVariants.{NoMemory};
+
+    ghost from_gives = { λ _ fault. fault ≡ NoMemory };
+
+    fn from(_: AllocError) -> AckFault {
+        AckFault::NoMemory
+    }
+}
+
+impl<T: Drop> From<AllocFailed<T>> for AckFault {
+    ghost use Rattle.std.specs.Prelude.{◌≡◌};
+    ghost use Rattle.hec_body.specs.declared.fault.AckFault.TheVariants.{NoMemory};
+
+    ghost from_gives = { λ _ fault. fault ≡ NoMemory };
+
+    fn from(_: AllocFailed<T>) -> AckFault {
+        AckFault::NoMemory
+    }
+}
+
+impl From<serde_json::Error> for AckFault {
+    ghost use Rattle.std.specs.Prelude.{◌≡◌};
+    ghost use Rattle.serde_json.specs.Errors.{IsMemory};
+    ghost use Rattle.hec_body.specs.declared.fault.AckFault.TheVariants.{Format, NoMemory};
+
+    ghost from_gives = { λ error fault. (IsMemory error → fault ≡ NoMemory) × (¬ IsMemory error → fault ≡ Format) };
+
+    fn from(error: serde_json::Error) -> AckFault {
+        if error.is_memory() {
+            AckFault::NoMemory
+        } else {
+            AckFault::Format
+        }
     }
 }

@@ -6,12 +6,16 @@
 //! its first fault with the number of the event, or no memory was found.
 #![tactic(auto)]
 
+mod acks;
+mod answers;
 mod events;
 mod fault;
 mod limits;
 mod lines;
 mod objects;
 
+pub use acks::ack_ids;
+pub use answers::ack_text;
 pub use events::event_pieces;
-pub use fault::BodyFault;
+pub use fault::{AckFault, BodyFault};
 pub use lines::raw_lines;
