@@ -5,3 +5,6 @@ pub mod EventLaws
 pub mod AckLaws
 pub mod Queries
 pub mod Answered
+pub mod Verdicts
+pub mod Cuts
+pub mod LineCuts

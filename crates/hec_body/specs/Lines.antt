@@ -1,8 +1,8 @@
 -- Raw bodies: their events are their lines.
-use Rattle.std.specs.Prelude.{◌≡◌, ℕ, ◌<◌, ⊤, List, [], ◌∷◌, ◌++◌, length, filter, nat_lt}
+use Rattle.std.specs.Prelude.{◌≡◌, ℕ, ◌<◌, ◌⊎◌, ⊤, List, [], ◌∷◌, ◌++◌, length, filter, nat_lt, Result, Ok, Err}
 use Rattle.std.specs.List.{All}
 use Rattle.std.specs.Str.Lines.{lines}
-use Rattle.hec_body.specs.Limits.{IsShort, IsLong}
+use Rattle.hec_body.specs.Limits.{IsShort, IsLong, AreWithinLimits}
 use Rattle.hec_body.specs.declared.fault.BodyFault.{BodyFault}
 use Rattle.hec_body.specs.declared.fault.BodyFault.TheVariants.{NoData, Format, NoEvent, Blank, TooMany, NoMemory}
 
@@ -23,3 +23,12 @@ IsLineFault texts (NoEvent event) = ⊥
 IsLineFault texts (Blank event) = ⊥
 IsLineFault texts TooMany = NextLineIs (λ _. ⊤) 10000 texts
 IsLineFault texts NoMemory = ⊤
+
+-- what a raw body is cut into: its lines, or its first fault
+abbrev pub IsLineCut : List ℕ → Result (List (List ℕ)) BodyFault → Type 0
+IsLineCut body (Ok texts) = (texts ≡ filled_lines body) × AreWithinLimits texts
+IsLineCut body (Err fault) = IsLineFault (filled_lines body) fault
+
+-- One raw body has one cut, unless memory is wanting.
+abbrev pub OneLineCut : Type 0
+OneLineCut = (body : List ℕ) (r s : Result (List (List ℕ)) BodyFault) → IsLineCut body r → IsLineCut body s → (r ≡ Err NoMemory) ⊎ ((s ≡ Err NoMemory) ⊎ (r ≡ s))

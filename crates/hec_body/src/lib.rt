@@ -10,6 +10,7 @@ mod acks;
 mod answers;
 mod events;
 mod fault;
+mod laws;
 mod limits;
 mod lines;
 mod objects;
@@ -18,4 +19,8 @@ pub use acks::ack_ids;
 pub use answers::ack_text;
 pub use events::event_pieces;
 pub use fault::{AckFault, BodyFault};
+pub use laws::{one_cut, one_line_cut, one_query};
 pub use lines::raw_lines;
+
+#[cfg(test)]
+mod tests;
