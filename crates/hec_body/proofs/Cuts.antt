@@ -1,10 +1,9 @@
 -- A body is cut in one way.
-use Rattle.std.proofs.Common.{◌≡◌, ◌≢◌, ℕ, zero, suc, ◌+◌, ◌<◌, ◌≤◌, ◌⊎◌, inl, inr, false, true, Option, Some, None, Result, Ok, Err, List, [], ◌∷◌, ◌++◌, length, get_or, refl, sym, ◌∙◌, ap, subst, arith, length-append}
+use Rattle.std.proofs.Common.{◌≡◌, ◌≢◌, ℕ, zero, suc, ◌+◌, ◌<◌, ◌≤◌, ◌⊎◌, inl, inr, false, true, Option, Some, None, Result, Ok, Err, List, [], ◌∷◌, ◌++◌, length, refl, sym, ◌∙◌, ap, subst, arith, length-append}
 use Rattle.std.proofs.lemmas.Bool.{cases_lt}
 use Rattle.std.proofs.lemmas.List.{append-nil}
 use Rattle.json_span.specs.Json.{is_space, AreSpaces}
 use Rattle.json_span.proofs.Stretches.{spaces_at}
-use Rattle.hec_body.specs.Limits.{AreWithinLimits}
 use Rattle.hec_body.specs.Events.{BeginsObject, IsEventObject, BeginsEvents, BeginsNoObject, IsRefused, IsFaultBehind, IsCut}
 use Rattle.hec_body.specs.declared.fault.BodyFault.{BodyFault}
 use Rattle.hec_body.specs.declared.fault.BodyFault.TheVariants.{NoData, Format, NoEvent, Blank, TooMany, NoMemory}

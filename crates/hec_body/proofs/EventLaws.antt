@@ -1,5 +1,5 @@
 -- How far a body is cut into events.
-use Rattle.std.proofs.Common.{◌≡◌, ℕ, zero, suc, ◌+◌, ◌<◌, Bool, true, false, ◌&&◌, List, [], ◌∷◌, ◌++◌, length, refl, sym, ◌∙◌, ap, subst, arith, length-append}
+use Rattle.std.proofs.Common.{◌≡◌, ℕ, ◌<◌, Bool, true, false, ◌&&◌, List, [], ◌∷◌, ◌++◌, length, refl, sym, ap, subst, arith, length-append}
 use Rattle.std.specs.List.{list_all}
 use Rattle.json_span.specs.Json.{is_space, AreSpaces}
 use Rattle.hec_body.specs.Events.{BeginsObject, IsEventObject, BeginsEvents}

@@ -1,8 +1,8 @@
 -- The object that some bytes begin with.
-use Rattle.std.proofs.Common.{◌≡◌, ℕ, zero, suc, ◌+◌, ◌≤◌, List, [], ◌∷◌, ◌++◌, length, get_or, take, drop, refl, sym, ◌∙◌, ap, subst, arith, append_assoc, length-append}
+use Rattle.std.proofs.Common.{◌≡◌, ℕ, zero, suc, ◌+◌, List, ◌∷◌, ◌++◌, length, get_or, take, drop, sym, ◌∙◌, ap, arith}
 use Rattle.std.specs.Prelude.{slice_range}
 use Rattle.std.proofs.Math.Seq.{take-append_seam, drop-append_seam, get_or-append_seam}
-use Rattle.json_span.specs.Json.{AreSpaces, JsonObject}
+use Rattle.json_span.specs.Json.{JsonObject}
 use Rattle.json_span.specs.Spans.{IsFirst}
 use Rattle.json_span.specs.declared.span.Span.{Span}
 use Rattle.json_span.proofs.ListForms.{first_text, object_by_text}

@@ -1,5 +1,5 @@
 -- The event among the members of an object.
-use Rattle.std.proofs.Common.{◌≡◌, ℕ, ◌+◌, ◌<◌, suc, List, ◌∷◌, ◌++◌, length, get_or, take, drop, refl}
+use Rattle.std.proofs.Common.{ℕ, ◌<◌, suc, List, length, get_or, take, drop, refl}
 use Rattle.std.specs.Prelude.{slice_range}
 use Rattle.std.specs.List.{All}
 use Rattle.std.proofs.Math.Seq.{split_at}

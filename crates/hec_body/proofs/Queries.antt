@@ -1,13 +1,11 @@
 -- Ack queries, by what `serde_json` reads.
-use Rattle.std.proofs.Common.{◌≡◌, ◌≢◌, ℕ, ◌≤◌, ◌<◌, Option, Some, None, List, length, codes, refl, sym, ◌∙◌, ap, subst, arith}
+use Rattle.std.proofs.Common.{◌≡◌, ℕ, ◌≤◌, Option, Some, None, List, length, codes, sym, ◌∙◌, ap}
 use Rattle.std.specs.Prelude.{IsUtf8, option_and_then}
-use Rattle.serde_json.specs.Data.{Num, Data, null, boolean, number, string, array, object, Items}
+use Rattle.serde_json.specs.Data.{Data, null, boolean, number, string, array, object, Items}
 use Rattle.serde_json.specs.Find.{get, as_array}
 use Rattle.serde_json.specs.Read.{read}
-use Rattle.serde_json.specs.View.{view, items_view}
-use Rattle.serde_json.specs.declared.value.Value.{Value}
 use Rattle.hec_body.specs.Acks.{numbers, IsQuery, AsksFor, distinct}
-use Rattle.hec_body.proofs.AckLaws.{numbers_once, length-items_view}
+use Rattle.hec_body.proofs.AckLaws.{numbers_once}
 
 array_is : (o : Option Data) (ds : Items) → option_and_then as_array o ≡ Some ds → o ≡ Some (array ds)
 array_is None ds e = absurd cc

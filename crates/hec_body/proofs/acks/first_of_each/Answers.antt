@@ -1,4 +1,4 @@
-use Rattle.std.proofs.Common.{Vec, Global, ◌≡◌, ◌+◌, Bool, true, false, not, List, ℕ, ◌∷◌, ◌++◌, [], get_or, take, sym, ◌∙◌, ap, refl}
+use Rattle.std.proofs.Common.{Vec, Global, ◌≡◌, ◌+◌, true, false, List, ℕ, ◌∷◌, ◌++◌, [], get_or, take, sym, ◌∙◌, ap}
 use Rattle.std.specs.List.{list_any}
 use Rattle.std.specs.Prelude.{◌==◌}
 use Rattle.std.proofs.lemmas.Bool.{not-false}

@@ -1,7 +1,7 @@
-use Rattle.std.proofs.Common.{rules, Vec, Global, ◌≡◌, ◌≤◌, false, List, ℕ, ◌∷◌, ◌++◌, [], length, map, codes, ◌∙◌, ap, arith, append_assoc}
+use Rattle.std.proofs.Common.{rules, Vec, Global, ◌≡◌, false, List, ℕ, ◌++◌, map, codes, ◌∙◌, ap, arith, append_assoc}
 use Rattle.std.specs.List.{join_with_byte, zip}
 use Rattle.hec_body.specs.Acks.{ack_member}
-use Rattle.hec_body.proofs.Answered.{member_at, members_to, one_more, first_one, all_members}
+use Rattle.hec_body.proofs.Answered.{member_at, one_more, first_one, all_members}
 use Rattle.hec_body.proofs.answers.ack_text.Goals as goal
 use Rattle.hec_body.proofs.answers.ack_text.Goals.{then-i-gt0+in_ok-push, else-i-gt0}
 

@@ -1,4 +1,4 @@
-use Rattle.std.proofs.Common.{◌<◌, sym, ◌∙◌, arith}
+use Rattle.std.proofs.Common.{sym, ◌∙◌, arith}
 use Rattle.hec_body.proofs.LineLaws.{line_with_return, line_without, last_line}
 use Rattle.hec_body.proofs.lines.first_line.Goals as goal
 use Rattle.hec_body.proofs.lines.first_line.Goals.{then-end-gt0+else-bytes-end-eq13, else-end-gt0}
