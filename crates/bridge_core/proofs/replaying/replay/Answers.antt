@@ -12,8 +12,8 @@ returns-in-Ok-clause-replayed g c =
     let old = g.D.Disk.moment c.args.disk in
     let new = g.D.Disk.moment c.serve_input.result.disk in
     let served = served_as c.args.proto (run * 2 ^ 32) _ _ _ _ _ _ _ (λ calls. g.D.Disk.tells → IsStored old new (run * 2 ^ 32) calls) c.serve_input.result.note (λ calls made tells.
-        let found = c.in-Ok.ensures.opened tells in
-        stored_from found.0 old (g.D.Disk.moment c.in-Ok.spool.disk) new calls run _ refl refl (c.in-Ok.ensures.any_moment tells) found.1 (made (opened Raise found.0) tells found.1.reached)) c.serve_input.ensures.served in
+    let found = c.in-Ok.ensures.opened tells in
+    stored_from found.0 old (g.D.Disk.moment c.in-Ok.spool.disk) new calls run _ refl refl (c.in-Ok.ensures.any_moment tells) found.1 (made (opened Raise found.0) tells found.1.reached)) c.serve_input.ensures.served in
     let serves = served.serves in
     inr (record {
       conn = run * 2 ^ 32;
