@@ -1,6 +1,8 @@
 //! The fields of a head.
-ghost use Rattle.std.specs.Prelude.{◌≡◌};
+ghost use Rattle.std.specs.Prelude.{◌≡◌, MatchOption, Some, None};
+ghost use Rattle.http_edge.specs.Fields.{field_value};
 
+use crate::text::is_word;
 use event_form::Blob;
 use std::marker::Model;
 
@@ -41,4 +43,16 @@ impl Fields {
     {
         self.lines.as_slice()
     }
+}
+
+/// The value of the first field of a name, ASCII case aside.
+pub fn first_value<'f>(fields: &'f [Field], name: &[u8]) -> Option<&'f [u8]>
+    ensures { MatchOption result (field_value name.now fields.now ≡ None) (λ value. field_value name.now fields.now ≡ Some value.now) }
+{
+    for field in fields {
+        if is_word(field.name.bytes(), name) {
+            return Some(field.value.bytes());
+        }
+    }
+    None
 }

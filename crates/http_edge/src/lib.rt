@@ -1,13 +1,22 @@
-//! Requests of HTTP/1.1 (RFC 9112) as Splunk's HTTP Event Collector takes them, and the replies to them.
+//! Requests of HTTP/1.1 (RFC 9112), as Splunk's HTTP Event Collector takes them, and the replies to them.
+//! A reader takes the stream in pieces, cut anywhere, and gives its requests one by one, with bodies by
+//! length or in chunks; a writer appends replies.
 //!
-//! The one contract is the grammar's.
+//! The one contract is the grammar's. Whatever the pieces, the requests taken, the place of the unfinished
+//! request and the fault are those of the bytes joined.
 #![tactic(auto)]
 
+mod fault;
 mod field;
+mod head;
+mod length;
+mod lines;
 mod reply;
 mod request;
+mod stage;
 mod text;
 
+pub use fault::{HttpFault, HttpWhy};
 pub use field::{Field, Fields};
 pub use reply::write_reply;
 pub use request::{HttpItem, HttpRequest};

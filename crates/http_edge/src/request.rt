@@ -3,7 +3,7 @@ ghost use Rattle.std.specs.Prelude.{◌≡◌, MatchOption, Some, None};
 ghost use Rattle.std.specs.List.{list_any};
 ghost use Rattle.http_edge.specs.Fields.{closes, field_value, is_close};
 
-use crate::field::{Field, Fields};
+use crate::field::{Field, Fields, first_value};
 use crate::text::{is_word, lists_word};
 use event_form::Blob;
 
@@ -47,12 +47,7 @@ impl HttpRequest {
     pub fn field(&self, name: &[u8]) -> Option<&[u8]>
         ensures { MatchOption result (field_value name.now self.now.fields ≡ None) (λ value. field_value name.now self.now.fields ≡ Some value.now) }
     {
-        for field in self.fields.as_slice() {
-            if is_word(field.name.bytes(), name) {
-                return Some(field.value.bytes());
-            }
-        }
-        None
+        first_value(self.fields.as_slice(), name)
     }
 
     /// Whether the connection ends with the answer to this request (RFC 9112, section 9.3): exactly where

@@ -1,0 +1,3 @@
+pub mod LineLaws
+pub mod HeadLaws
+pub mod LengthLaws

@@ -1,6 +1,0 @@
-use Rattle.std.proofs.Common.{◌≡◌, drop}
-use Rattle.http_edge.specs.Fields.{field_value}
-use Rattle.http_edge.proofs.request.HttpRequest.field.Given as goal
-
-abbrev pub invariant-loop-field : goal.invariant-loop-field
-invariant-loop-field l = field_value l.name l.self.fields ≡ field_value l.name (drop l.field-index l.self.fields)
