@@ -143,8 +143,10 @@ section_judged (f ∷ fs) last r l (b ∷ t) more e all q n = go line.0 line.1 l
   where
     f_is : IsField f
     f_is = All-head IsField f fs all
+
     line : (c : ℕ) × (w : List ℕ) × (is_token_byte c ≡ true) × All NotLf w × (print_field f ≡ c ∷ (w ++ print_end f.end))
     line = field_line f f_is
+
     go : (c : ℕ) (w : List ℕ) → is_token_byte c ≡ true → All NotLf w → print_field f ≡ c ∷ (w ++ print_end f.end) → ((m : List ℕ) (r l : ℕ) → r + l ≡ 65 → m ++ more ≡ print_section fs last → Judged r (count_lines (at_line l) m) m) → Judged r (count_lines (at_line l) (b ∷ t)) (b ∷ t)
     go c w token plain is ih =
         let pe = print_end f.end in
@@ -159,6 +161,7 @@ section_judged (f ∷ fs) last r l (b ∷ t) more e all q n = go line.0 line.1 l
         long tb first pf m y z =
             let count : count_lines (in_line l) t ≡ count_lines (at_line (l + 1)) m = ap (count_lines (in_line l)) y ∙ count_append (in_line l) (w ++ print_end f.end) m ∙ ap (λ (s : Lines). count_lines s m) (count_append (in_line l) w (print_end f.end) ∙ ap (λ (s : Lines). count_lines s (print_end f.end)) (count_plain l w plain) ∙ count_end l f.end) in
             long_judged f fs last f_is r l b t m e tb (ap (λ (v : List ℕ). b ∷ v) y ∙ ap (λ (v : List ℕ). v ++ m) (sym pf)) (first ∙ count) (λ r l e. ih m r l e (sym z))
+
         choose : is_token_byte b ≡ true → count_lines (at_line l) (b ∷ t) ≡ count_lines (in_line l) t → print_field f ≡ b ∷ (w ++ print_end f.end) → ((m : List ℕ) × (w ++ print_end f.end ≡ t ++ m) × (more ≡ m ++ print_section fs last)) ⊎ ((m : List ℕ) × (t ≡ (w ++ print_end f.end) ++ m) × (print_section fs last ≡ m ++ more)) → Judged r (count_lines (at_line l) (b ∷ t)) (b ∷ t)
         choose tb first pf (inl ([], y, z)) = long tb first pf [] (sym (append-nil t) ∙ sym y ∙ sym (append-nil (w ++ print_end f.end))) (sym z)
         choose tb first pf (inl (x ∷ m, y, z)) = short_judged f f_is r l b t x m e tb (pf ∙ ap (λ (v : List ℕ). b ∷ v) y) (first ∙ count_open l w f.end t (x ∷ m) plain (sym y) (λ h. cc))
@@ -204,11 +207,14 @@ head_judged b none (inl (more, h, (x, is))) = choose (split_at (start_text h [])
   where
     e : b ++ more ≡ start_text h [] ++ print_section h.fields h.last
     e = is ∙ print_request-append h [] ∙ ap (start_text h) (append-nil (print_section h.fields h.last)) ∙ sym (start_append h [] (print_section h.fields h.last))
+
     some : more ≢ []
     some i = none h [] (x, sym (append-nil b) ∙ ap (λ (v : List ℕ). b ++ v) (sym i) ∙ is)
+
     behind : (m : List ℕ) → b ≡ start_text h m → Judged 64 (count_lines (at_line 1) m) m → HeadJudged b
     behind m y (inl (o, room)) = inl (subst (λ (s : Lines). is_over s ≡ false) (sym (ap (count_lines at_start) y ∙ count_start_text h x m)) o, inl (subst BeginsAHead (sym y) (room_begins h x m room)))
     behind m y (inr (o, full)) = inr (subst (λ (s : Lines). is_over s ≡ true) (sym (ap (count_lines at_start) y ∙ count_start_text h x m)) o, subst NeverHasHead (sym y) (full_never h x m full))
+
     choose : ((m : List ℕ) × (b ≡ start_text h [] ++ m) × (print_section h.fields h.last ≡ m ++ more)) ⊎ ((m : List ℕ) × (start_text h [] ≡ b ++ m) × (more ≡ m ++ print_section h.fields h.last)) → HeadJudged b
     choose (inl (m, y, z)) = behind m (y ∙ start_append h [] m) (section_judged h.fields h.last 64 1 m more refl x.fields (sym z) some)
     choose (inr (m, y, z)) =
@@ -216,14 +222,17 @@ head_judged b none (inl (more, h, (x, is))) = choose (split_at (start_text h [])
         let g : (count_lines at_start b).ended ≤ (count_lines (count_lines at_start b) m).ended = lines_grow (count_lines at_start b) m in
         let a : count_lines at_start (b ++ m) ≡ count_lines (count_lines at_start b) m = count_append at_start b m in
         let n : (count_lines (count_lines at_start b) m).ended ≡ 1 = ap (λ (s : Lines). s.ended) (sym a ∙ k) in
-        inl (few_lines (count_lines at_start b) (omega (arith, g, n)), inl (record {
-          more = m ++ 10 ∷ [];
-          head = record { blank = h.blank; method = h.method; target = h.target; minor = h.minor; line_end = h.line_end; fields = []; last = lf };
-          holds = record {
-            reads = (record { method = x.method; target = x.target; target_text = x.target_text; minor = x.minor; fields = All-nil IsField }, sym (append_assoc b m (10 ∷ [])) ∙ ap (λ (v : List ℕ). v ++ 10 ∷ []) (sym y) ∙ start_append h [] (10 ∷ []) ∙ sym (print_request-append (record { blank = h.blank; method = h.method; target = h.target; minor = h.minor; line_end = h.line_end; fields = []; last = lf }) []));
-            few = omega arith;
-          };
-        }))
+        inl (
+          few_lines (count_lines at_start b) (omega (arith, g, n)),
+          inl (record {
+            more = m ++ 10 ∷ [];
+            head = record { blank = h.blank; method = h.method; target = h.target; minor = h.minor; line_end = h.line_end; fields = []; last = lf };
+            holds = record {
+              reads = (record { method = x.method; target = x.target; target_text = x.target_text; minor = x.minor; fields = All-nil IsField }, sym (append_assoc b m (10 ∷ [])) ∙ ap (λ (v : List ℕ). v ++ 10 ∷ []) (sym y) ∙ start_append h [] (10 ∷ []) ∙ sym (print_request-append (record { blank = h.blank; method = h.method; target = h.target; minor = h.minor; line_end = h.line_end; fields = []; last = lf }) []));
+              few = omega arith;
+            };
+          }),
+        )
 
 pub head_bad : (b : List ℕ) → HeadJudged b → is_over (count_lines at_start b) ≡ true → NeverHasHead b
 head_bad b (inl (o, h)) e = absurd (cc)

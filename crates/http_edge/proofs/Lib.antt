@@ -1,3 +1,9 @@
 pub mod LineLaws
 pub mod HeadLaws
 pub mod LengthLaws
+pub mod BuildLaws
+pub mod OpeningLaws
+pub mod BodyLaws
+pub mod ChunkLaws
+pub mod GatherLaws
+pub mod NextLaws

@@ -25,6 +25,7 @@ lines_grow s (c ∷ b) =
   where
     after : Bool → Bool → Lines
     after t u = if t then record { started = u; ended = (if u then s.ended + 1 else s.ended); last = Empty } else record { started = u || not (c == 13); ended = s.ended; last = last_after s.last c }
+
     one : (t u : Bool) → s.ended ≤ (after t u).ended
     one true true = omega arith
     one true false = omega arith

@@ -1,5 +1,5 @@
 -- The head of a request: a head of RFC 9112, sections 2 to 5, of at most 64 fields.
-use Rattle.std.specs.Prelude.{◌≤◌, ◌⊎◌, ℕ, List, [], ◌∷◌, ◌++◌, length, map}
+use Rattle.std.specs.Prelude.{◌≤◌, ◌⊎◌, ℕ, List, [], ◌++◌, length, map}
 use Rattle.httparse.specs.Grammar.{RequestHead, ReadsRequest, EndsInTarget}
 use Rattle.httparse.specs.Spans.{name_and_value}
 use Rattle.http_edge.specs.declared.field.Field.{Field}
@@ -29,11 +29,10 @@ pub record IsOpenHead (b : List ℕ) : Type 0 where
   pub none : HasNoHead b
   pub going : BeginsAHead b ⊎ EndsInTarget b
 
--- names and values as fields
-abbrev pub fields_of : List (List ℕ × List ℕ) → List Field
-fields_of [] = []
-fields_of (p ∷ ps) = record { name = p.0; value = p.1 } ∷ fields_of ps
+-- a name and a value as a field
+abbrev pub field_of : List ℕ × List ℕ → Field
+field_of p = record { name = p.0; value = p.1 }
 
 -- the fields of a head, each value without the white space around it
 abbrev pub head_fields : RequestHead → List Field
-head_fields h = fields_of (map name_and_value h.fields)
+head_fields h = map field_of (map name_and_value h.fields)

@@ -36,6 +36,7 @@ items_if b = if b then Continue ∷ [] else []
 -- what is told of a head, and of a request
 abbrev pub told_of : RequestHead → List HttpItem
 told_of h = items_if (asks h.minor (head_fields h))
+
 abbrev pub items_of : HttpRequest → List HttpItem
 items_of r = items_if (asks r.minor r.fields) ++ Request r ∷ []
 

@@ -8,3 +8,6 @@ pub mod HttpStream
 pub mod Reading
 pub mod LineCount
 pub mod Steps
+pub mod Turns
+pub mod Gathering
+pub mod Scanning

@@ -6,14 +6,21 @@
 //! request and the fault are those of the bytes joined.
 #![tactic(auto)]
 
+mod chunk;
+mod copy;
 mod fault;
 mod field;
+mod gather;
 mod head;
 mod length;
 mod lines;
+mod look;
+mod next;
 mod reply;
 mod request;
+mod scan;
 mod stage;
+mod step;
 mod text;
 
 pub use fault::{HttpFault, HttpWhy};

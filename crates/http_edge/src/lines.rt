@@ -53,7 +53,11 @@ fn after_byte(now: Lines, byte: u8) -> Lines
     if byte == b'\n' {
         Lines {
             started: now.started,
-            ended: if now.started { now.ended + 1 } else { now.ended },
+            ended: if now.started {
+                now.ended + 1
+            } else {
+                now.ended
+            },
             last: LastLine::Empty,
         }
     } else {
