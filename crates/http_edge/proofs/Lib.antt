@@ -7,3 +7,4 @@ pub mod BodyLaws
 pub mod ChunkLaws
 pub mod GatherLaws
 pub mod NextLaws
+pub mod StreamLaws

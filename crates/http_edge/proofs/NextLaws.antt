@@ -92,12 +92,13 @@ next_part b o data_read used now i (brings, awaits, short) =
     let waits : Awaits now (drop (o.len + used) b) = subst (Awaits now) rest awaits in
     let told : items_if o.asks ≡ told_of h = ap items_if (i.asks_is ∙ ap (λ (k : Head). asks k.minor k.fields) i.head_is) in
     let n : length (take used w) ≡ used = length-take-le used w few in
+    let none : 0 + length data_read ≡ length data_read = omega arith in
     let read : o.len + used ≡ length (print_request h) + length (take used w) = omega (arith, n, i.len_is) in
     (
       record {
         going = is_open b h (take used w) (drop (o.len + used) b) data_read now (items_if o.asks) begins r waits told;
         holds = (h, take used w, begins, i.head_is, r, waits, read);
-        fits = brings.fits;
+        fits = subst (Fits now) none brings.fits;
         short = subst (λ (v : List ℕ). length v < 16384) rest short;
       },
       omega (arith, room, few, inside),
