@@ -8,3 +8,5 @@ pub mod ChunkLaws
 pub mod GatherLaws
 pub mod NextLaws
 pub mod StreamLaws
+pub mod FaultLaws
+pub mod FeedLaws

@@ -50,7 +50,7 @@ is_open b h front unread body stage told begins r w e = inr (h, front ++ unread,
 opening_rest : (b : List ℕ) (o : Opening) (used : ℕ) → o.len ≤ length b → drop used (drop o.len b) ≡ drop (o.len + used) b
 opening_rest b o used inside = drop-drop used o.len b
 
-window : (b : List ℕ) (len : ℕ) → take (length b - len) (drop len b) ≡ drop len b
+pub window : (b : List ℕ) (len : ℕ) → take (length b - len) (drop len b) ≡ drop len b
 window b len = let n = length-drop len b in take_all (length b - len) (drop len b) (omega (arith, n))
 
 pub gathers_at : (stage : Stage) (b data_read : List ℕ) (len used : ℕ) (e f : Ending) → e ≡ f → GathersTo stage 0 (take (length b - len) (drop len b)) data_read used e → GathersTo stage 0 (drop len b) data_read used f

@@ -17,7 +17,9 @@ use Rattle.http_edge.specs.declared.stage.Stage.{Stage}
 use Rattle.http_edge.specs.declared.stage.Stage.TheVariants.{Plain}
 use Rattle.http_edge.specs.Heads.{IsOpenHead}
 use Rattle.http_edge.specs.HttpStream.{IsRequest, items_if, items_of, IsOpen, IsFault, AreRequests}
-use Rattle.http_edge.specs.Scanning.{Nexts, IsLeft, Leaves}
+use Rattle.http_edge.specs.declared.fault.HttpFault.{HttpFault}
+use Rattle.http_edge.specs.declared.left.Left.{Left}
+use Rattle.http_edge.specs.Scanning.{Nexts, IsLeft, IsCleared, ScansTo}
 use Rattle.http_edge.specs.Steps.{Fits}
 
 pub spelled_append : (rs ss : List HttpRequest) (a b : List ℕ) → AreSpelled IsRequest rs a → AreSpelled IsRequest ss b → AreSpelled IsRequest (rs ++ ss) (a ++ b)
@@ -75,3 +77,45 @@ left_open rest body e short head = record {
   fits = let n : length body ≡ 0 = ap length e in omega (arith, n);
   short = short;
 }
+
+-- what a scan brought, by what stood behind the last whole request
+pub scans_left : (b : List ℕ) (before told items : List HttpItem) (from : ℕ) (begun : Option Head) (stage : Stage) (body : List ℕ) (read : ℕ) (unread : List ℕ) → AreRequests b before from (drop from b) → items ≡ before ++ told → read ≤ length (drop from b) → unread ≡ drop (from + read) b → IsLeft (drop from b) told begun stage body read (drop (from + read) b) → ScansTo b items from begun stage body read unread None
+scans_left b before told items from begun stage body read unread s e few u l =
+    let inside = requests_inside b before from (drop from b) s in
+    let n = length-drop from b in
+    let m : length unread ≡ length b - (from + read) = ap length u ∙ length-drop (from + read) b in
+    let now : IsLeft (drop from b) told begun stage body read unread = subst (IsLeft (drop from b) told begun stage body read) (sym u) l in
+    record {
+      before = before;
+      told = told;
+      requests = s;
+      items_are = e;
+      fits = now.fits;
+      short = now.short;
+      room = omega (arith, m, n, few, inside);
+      place = tt;
+      leaves = now;
+    }
+
+pub scans_bad : (b : List ℕ) (before told items : List HttpItem) (from at : ℕ) (why : HttpWhy) (l : Left) → AreRequests b before from (drop from b) → items ≡ before ++ told → IsFault (drop from b) why at told → at ≤ length (drop from b) → IsCleared l from (record { at = from + at; why = why }) → ScansTo b items l.from l.begun l.stage l.body.items l.read l.unread.items l.fault
+scans_bad b before told items from at why l s e bad few z =
+    let inside = requests_inside b before from (drop from b) s in
+    let n = length-drop from b in
+    let m : length l.unread.items ≡ 0 = ap length z.unread_is in
+    let k : length l.body.items ≡ 0 = ap length z.body_is in
+    let fault : HttpFault = record { at = from + at; why = why } in
+    let here : ScansTo b items from l.begun l.stage l.body.items l.read l.unread.items (Some fault) = record {
+      before = before;
+      told = told;
+      requests = s;
+      items_are = e;
+      fits = subst (λ (t : Stage). Fits t (length l.body.items)) (sym z.stage_is) (omega (arith, k));
+      short = omega (arith, m);
+      room = let r = z.read_is in omega (arith, m, r, inside);
+      place = omega (arith, inside, few, n);
+      leaves = (at, bad, refl, z.read_is, z.unread_is);
+    } in
+    subst (λ (q : Option HttpFault). ScansTo b items l.from l.begun l.stage l.body.items l.read l.unread.items q) (sym z.fault_is) (subst (λ (f : ℕ). ScansTo b items f l.begun l.stage l.body.items l.read l.unread.items (Some fault)) (sym z.from_is) here)
+
+pub left_moved : (b : List ℕ) (from : ℕ) (told : List HttpItem) (begun : Option Head) (stage : Stage) (body : List ℕ) (used : ℕ) → IsLeft (drop from b) told begun stage body used (drop used (drop from b)) → IsLeft (drop from b) told begun stage body used (drop (from + used) b)
+left_moved b from told begun stage body used l = subst (IsLeft (drop from b) told begun stage body used) (drop-drop used from b) l

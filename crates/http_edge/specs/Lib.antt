@@ -11,3 +11,4 @@ pub mod Steps
 pub mod Turns
 pub mod Gathering
 pub mod Scanning
+pub mod Keeping

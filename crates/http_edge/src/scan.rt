@@ -1,10 +1,10 @@
 //! The requests of some bytes.
-ghost use Rattle.std.specs.Prelude.{◌≡◌, ◌++◌, IfOk, OnOk};
+ghost use Rattle.std.specs.Prelude.{◌≡◌, ◌≤◌, ◌^◌, ◌++◌, IfOk, OnOk, length};
 ghost use Rattle.http_edge.specs.HttpStream.{items_if};
 ghost use Rattle.http_edge.specs.Scanning.{Scans};
 
-use crate::fault::HttpWhy;
-use crate::head::Head;
+use crate::fault::HttpFault;
+use crate::left::Left;
 use crate::next::{Next, next_request};
 use crate::request::HttpItem;
 use crate::stage::Stage;
@@ -14,18 +14,9 @@ use std::collections::VecDeque;
 /// What some bytes brought.
 #[derive(Drop)]
 pub struct Scanned {
-    /// The items of the whole requests and of the unfinished one.
+    /// The items of the whole requests, and those told of the next one.
     pub items: VecDeque<HttpItem>,
-    /// Where the unfinished request begins.
-    pub from: usize,
-    /// Its head, once that is whole.
-    pub begun: Option<Head>,
-    pub stage: Stage,
-    /// Its body so far.
-    pub body: Vec<u8>,
-    /// How many of its bytes were read; with a fault, how far behind its first byte that stands.
-    pub read: usize,
-    pub fault: Option<HttpWhy>,
+    pub left: Left,
 }
 
 // Adds the item Continue, where it is told.
@@ -38,7 +29,8 @@ fn tell(items: &mut VecDeque<HttpItem>, asks: bool) -> Result<(), AllocError>
     Ok(())
 }
 
-/// Reads bytes that begin where a request does, to their end or to the first fault.
+/// Reads bytes that begin where a request does, to their end or to the first fault. Places are counted
+/// from the first of these bytes.
 pub fn scan(alloc: Global, buf: &[u8]) -> Result<Scanned, AllocError>
     ensures { IfOk result (Scans buf.now) }
 {
@@ -57,38 +49,39 @@ pub fn scan(alloc: Global, buf: &[u8]) -> Result<Scanned, AllocError>
             }
             Next::Part(part) => {
                 tell(&mut items, part.asks)?;
-                return Ok(Scanned {
-                    items,
+                let unread = Vec::from_slice(alloc, &buf[from + part.used..])?;
+                let left = Left {
                     from,
                     begun: Some(part.head),
                     stage: part.stage,
                     body: part.body,
                     read: part.used,
+                    unread,
                     fault: None,
-                });
+                };
+                return Ok(Scanned { items, left });
             }
             Next::Open => {
-                return Ok(Scanned {
-                    items,
+                let unread = Vec::from_slice(alloc, &buf[from..])?;
+                let left = Left {
                     from,
                     begun: None,
                     stage: Stage::Plain { left: 0 },
                     body: Vec::new(alloc),
                     read: 0,
+                    unread,
                     fault: None,
-                });
+                };
+                return Ok(Scanned { items, left });
             }
             Next::Bad { why, asks, at } => {
                 tell(&mut items, asks)?;
-                return Ok(Scanned {
-                    items,
-                    from,
-                    begun: None,
-                    stage: Stage::Plain { left: 0 },
-                    body: Vec::new(alloc),
-                    read: at,
-                    fault: Some(why),
-                });
+                let fault = HttpFault {
+                    at: (from + at) as u64,
+                    why,
+                };
+                let left = Left::cleared(alloc, from, fault);
+                return Ok(Scanned { items, left });
             }
         }
     }
