@@ -1,11 +1,10 @@
 -- How the text of a body goes on.
-use Rattle.std.proofs.Common.{◌≡◌, ℕ, zero, suc, ◌+◌, ◌-◌, ◌<◌, ◌≤◌, List, [], ◌∷◌, ◌++◌, length, take, drop, get_or, refl, sym, ap, ◌∙◌, subst, arith, inl, inr, length-append, append_assoc, append-nil, take-append-drop, length-take-le}
-use Rattle.http_edge.specs.declared.stage.Stage.{Stage}
+use Rattle.std.proofs.Common.{◌≡◌, ℕ, ◌+◌, ◌-◌, ◌<◌, ◌≤◌, List, [], ◌∷◌, ◌++◌, length, take, get_or, refl, sym, ap, ◌∙◌, subst, arith, length-append, append_assoc, append-nil}
 use Rattle.http_edge.specs.declared.stage.Stage.TheVariants.{Plain, Line, Data, End, Trailer}
 use Rattle.httparse.specs.Ascii.{crlf_bytes}
-use Rattle.http_edge.specs.Lengths.{BodySize, Sized, Chunked}
+use Rattle.http_edge.specs.Lengths.{BodySize, Sized}
 use Rattle.http_edge.specs.Chunks.{IsLine, IsChunk, AreChunks, HoldsTrailer}
-use Rattle.http_edge.specs.Bodies.{IsInChunk, IsPastChunks, Reaches, IsBody, IsTooLong}
+use Rattle.http_edge.specs.Bodies.{IsInChunk, IsBody, IsTooLong}
 use Rattle.http_edge.specs.Turns.{Takes, Passes, Finishes, Exceeds}
 
 pub plain_takes : (left n held : ℕ) (d : List ℕ) → length d ≡ n → n ≤ left → Takes (Plain left) held (Plain (left - n)) d

@@ -1,15 +1,13 @@
 -- What is built of a head.
-use Rattle.std.proofs.Common.{◌≡◌, ℕ, ◌+◌, ◌-◌, ◌<◌, ◌≤◌, List, [], ◌∷◌, ◌++◌, length, take, drop, get_or, refl, sym, ap, ◌∙◌, subst, arith, length-take-le, length-take, length-drop, length-append, take-append-drop, append_assoc, append-nil, suc, get_or-take}
-use Rattle.std.specs.Prelude.{All, min, map}
+use Rattle.std.proofs.Common.{◌≡◌, ℕ, ◌+◌, ◌<◌, ◌≤◌, List, [], ◌∷◌, ◌++◌, length, take, drop, get_or, refl, sym, ap, ◌∙◌, subst, arith, length-take-le, length-take, length-append, take-append-drop, append_assoc, append-nil, suc, get_or-take}
+use Rattle.std.specs.Prelude.{All, min}
 use Rattle.std.proofs.Math.Seq.{drop-append_seam}
 use Rattle.httparse.specs.declared.spans.HeaderSpan.{HeaderSpan}
 use Rattle.httparse.specs.declared.spans.RequestSpans.{RequestSpans}
 use Rattle.httparse.specs.Grammar.{RequestHead, print_request, print_blank, print_version, print_end, print_section}
 use Rattle.httparse.proofs.GrammarLemmas.{print_request-append}
-use Rattle.httparse.specs.Spans.{IsHeaderWithin, IsRequestAt, IsRequestWithin}
-use Rattle.http_edge.specs.declared.head.HeadTurn.TheVariants.{Whole}
+use Rattle.httparse.specs.Spans.{IsHeaderWithin, IsRequestAt}
 use Rattle.http_edge.specs.HttpStream.{BeginsWith}
-use Rattle.http_edge.specs.Steps.{JudgesHead}
 
 pub within_at : (n : ℕ) (spans : List HeaderSpan) (count i : ℕ) (d : HeaderSpan) → i < count → count ≤ length spans → All (IsHeaderWithin n) (take count spans) → IsHeaderWithin n (get_or spans i d)
 within_at n spans count i d l m all = let e = length-take-le count spans m in subst (IsHeaderWithin n) (get_or-take count spans i d l) (all i d (omega (arith, e, l)))

@@ -1,15 +1,14 @@
 -- What a window says of chunk lines and trailers behind it.
-use Rattle.std.proofs.Common.{◌≡◌, ◌≢◌, ℕ, zero, suc, ◌+◌, ◌-◌, ◌<◌, ◌≤◌, Bool, true, false, List, [], ◌∷◌, ◌++◌, length, take, drop, refl, sym, ap, ◌∙◌, subst, arith, inl, inr, length-append, length-take, append_assoc, append-nil, take-append-drop}
-use Rattle.std.specs.Prelude.{min, All}
+use Rattle.std.proofs.Common.{◌≡◌, ◌≢◌, ℕ, ◌+◌, ◌<◌, ◌≤◌, true, false, List, [], ◌∷◌, ◌++◌, length, take, drop, refl, sym, ap, ◌∙◌, arith, inl, inr, length-append, length-take, append_assoc, append-nil, take-append-drop}
+use Rattle.std.specs.Prelude.{min}
 use Rattle.std.specs.List.{flat_map}
-use Rattle.std.proofs.lemmas.List.{take_all, take-append-le}
-use Rattle.std.proofs.Math.Seq.{take-append_seam, take-take}
-use Rattle.httparse.specs.Grammar.{ChunkLine, print_chunk_line, print_extension, LineEnd, crlf, print_end, Field, IsField, print_field, print_section, is_token_byte, ReadsSection, HasNoSection, MayBecomeSection}
+use Rattle.std.proofs.Math.Seq.{take-append_seam}
+use Rattle.httparse.specs.Grammar.{ChunkLine, print_chunk_line, print_extension, crlf, print_end, Field, print_field, print_section, HasNoSection, MayBecomeSection}
 use Rattle.httparse.specs.Pieces.{Section}
 use Rattle.httparse.proofs.PieceLemmas.{Section_skip, token_is_no_newline, newline_not_stopped, front-append}
 use Rattle.httparse.specs.Spans.{IsChunkLineAt}
 use Rattle.http_edge.specs.LineCount.{count_lines, at_line, is_over}
-use Rattle.http_edge.specs.Chunks.{IsLine, HoldsTrailer, HasNoTrailer, NeverHasTrailer, MayBecomeTrailer}
+use Rattle.http_edge.specs.Chunks.{IsLine, HasNoTrailer, NeverHasTrailer, MayBecomeTrailer}
 use Rattle.http_edge.proofs.HeadLaws.{Judged, Room, Full, section_judged}
 
 -- what stands at the front of a window stands at the front of all

@@ -1,5 +1,5 @@
 -- What a reader has read after a piece.
-use Rattle.std.proofs.Common.{◌≡◌, ℕ, ◌+◌, ◌-◌, ◌<◌, ◌≤◌, List, [], ◌∷◌, ◌++◌, length, take, drop, refl, sym, ap, ◌∙◌, subst, arith, inl, inr, length-append, length-take-le, append_assoc, append-nil, take-append-drop}
+use Rattle.std.proofs.Common.{◌≡◌, ℕ, ◌+◌, ◌≤◌, List, [], ◌∷◌, ◌++◌, length, take, drop, refl, sym, ap, ◌∙◌, subst, arith, inl, inr, length-append, length-take-le, append_assoc, append-nil, take-append-drop}
 use Rattle.std.specs.Prelude.{Option, Some, None, IsSome, Result, Ok, Err}
 use Rattle.httparse.specs.Grammar.{RequestHead, print_request}
 use Rattle.httparse.proofs.GrammarLemmas.{request_unique}
@@ -20,9 +20,9 @@ use Rattle.http_edge.specs.declared.stage.Stage.{Stage}
 use Rattle.http_edge.specs.declared.stage.Stage.TheVariants.{Plain, Line, Data, End, Trailer}
 use Rattle.http_edge.specs.Heads.{IsOpenHead}
 use Rattle.http_edge.specs.Lengths.{size_of}
-use Rattle.http_edge.specs.Bodies.{Reaches, Awaits}
+use Rattle.http_edge.specs.Bodies.{Reaches}
 use Rattle.http_edge.specs.HttpStream.{BeginsWith, IsRequest, IsOpen, IsFault, IsStream, IsFaulty, AreRequests, items_of, told_of}
-use Rattle.http_edge.specs.Reading.{Reader, ReadsTo, Reads, Holds, Feeds, come, head_of}
+use Rattle.http_edge.specs.Reading.{Reader, ReadsTo, Reads, Holds, Feeds}
 use Rattle.http_edge.specs.Keeping.{Keeps, FeedsAll, answer, moved, settled}
 use Rattle.http_edge.specs.Gathering.{GathersTo}
 use Rattle.http_edge.specs.Scanning.{IsCleared, Scans, ScansTo, place_of}

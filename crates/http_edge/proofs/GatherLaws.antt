@@ -1,5 +1,5 @@
 -- How a piece is read behind a body, turn by turn.
-use Rattle.std.proofs.Common.{◌≡◌, ℕ, ◌+◌, ◌-◌, ◌<◌, ◌≤◌, List, [], ◌∷◌, ◌++◌, length, take, drop, refl, sym, ap, ◌∙◌, subst, arith, length-append, length-drop, length-take-le, append_assoc, append-nil, take-append-drop}
+use Rattle.std.proofs.Common.{◌≡◌, ℕ, ◌+◌, ◌-◌, ◌≤◌, List, [], ◌++◌, length, take, drop, sym, ap, ◌∙◌, subst, arith, length-append, length-drop, length-take-le, append_assoc, append-nil, take-append-drop}
 use Rattle.std.proofs.lemmas.List.{take_all}
 use Rattle.std.proofs.Math.Seq.{take-add}
 use Rattle.http_edge.specs.declared.fault.HttpWhy.{HttpWhy}
@@ -8,12 +8,12 @@ use Rattle.http_edge.specs.declared.gather.Ending.TheVariants as ending
 use Rattle.http_edge.specs.declared.stage.Stage.{Stage}
 use Rattle.http_edge.specs.declared.stage.Stage.TheVariants.{Plain, Line, Data, End, Trailer}
 use Rattle.http_edge.specs.declared.step.Turn.{Turn}
-use Rattle.http_edge.specs.declared.step.Turn.TheVariants.{Took, Past, Done, Open, Bad}
+use Rattle.http_edge.specs.declared.step.Turn.TheVariants.{Took, Past, Done, Bad}
 use Rattle.http_edge.specs.Lengths.{BodySize, Chunked}
-use Rattle.http_edge.specs.Bodies.{Reaches, IsBody, IsTooLong, IsBadChunk, Breaks}
+use Rattle.http_edge.specs.Bodies.{Reaches, IsBody, IsTooLong, Breaks}
 use Rattle.http_edge.specs.Steps.{Fits}
 use Rattle.http_edge.specs.Turns.{Turns}
-use Rattle.http_edge.specs.Gathering.{Wherever, Brings, GathersTo}
+use Rattle.http_edge.specs.Gathering.{Brings, GathersTo}
 
 -- what a turn tells of the window behind a place
 pub turns_at : (now : Stage) (held n : ℕ) (got : List ℕ) (piece : List ℕ) (from : ℕ) (s t : Turn) → n ≡ length got → s ≡ t → Turns now (held + n) (take (length piece - from) (drop from piece)) s → Turns now (held + length got) (drop from piece) t

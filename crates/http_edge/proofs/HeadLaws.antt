@@ -1,22 +1,21 @@
 -- What a head that is not whole yet may become.
 use Rattle.std.proofs.Common.{◌≡◌, ◌≢◌, ℕ, zero, suc, ◌+◌, ◌<◌, ◌≤◌, Bool, true, false, List, [], ◌∷◌, ◌++◌, length, length-append, refl, sym, ap, ◌∙◌, subst, arith, append_assoc, append-nil, inl, inr}
-use Rattle.std.specs.Prelude.{◌⊎◌, All, nat_lt, ◌==◌, ◌&&◌, ◌||◌}
+use Rattle.std.specs.Prelude.{◌⊎◌, All, nat_lt, ◌&&◌, ◌||◌}
 use Rattle.std.specs.List.{flat_map}
 use Rattle.std.proofs.lemmas.List.Elements.{All-cons, All-nil, All-head, All-tail, All-append}
 use Rattle.std.proofs.lemmas.Bool.{false≢true, ltb-true, ltb-false}
-use Rattle.httparse.specs.Grammar.{is_token_byte, is_uri_byte, is_value_byte, AllPass, IsToken, LineEnd, crlf, lf, print_end, print_blank, print_version, Field, print_field, IsField, print_section, RequestHead, IsRequestHead, print_request, ReadsRequest, HasNoRequest, MayBecomeRequest, EndsInTarget}
-use Rattle.httparse.specs.Pieces.{Stops, is_newline, Section, FieldLines, RequestStart}
+use Rattle.httparse.specs.Grammar.{is_token_byte, is_uri_byte, is_value_byte, AllPass, IsToken, LineEnd, crlf, lf, print_end, print_blank, print_version, Field, print_field, IsField, print_section, RequestHead, IsRequestHead, HasNoRequest, MayBecomeRequest, EndsInTarget}
+use Rattle.httparse.specs.Pieces.{Section, RequestStart}
 use Rattle.httparse.proofs.PieceLemmas.{RequestStart_deterministic, Section_skip, Stops_token, token_is_no_newline, newline_not_stopped, front-append}
 use Rattle.httparse.proofs.GrammarLemmas.{cons-append, request_tree, request_pieces, print_request-append}
 use Rattle.std.specs.Prelude.{Result, Ok}
 use Rattle.httparse.specs.declared.Status.{Status}
 use Rattle.httparse.specs.declared.Status.TheVariants.{Partial}
 use Rattle.httparse.specs.Outcome.{OnPartial}
-use Rattle.http_edge.specs.Heads.{HoldsHead, HasNoHead, NeverHasHead, BeginsAHead}
+use Rattle.http_edge.specs.Heads.{NeverHasHead, BeginsAHead}
 use Rattle.http_edge.specs.declared.lines.Lines.{Lines}
-use Rattle.http_edge.specs.declared.lines.LastLine.{LastLine}
-use Rattle.http_edge.specs.declared.lines.LastLine.TheVariants.{Empty, Return, Text}
-use Rattle.http_edge.specs.LineCount.{count_byte, count_lines, at_line, at_start, is_over, is_text}
+use Rattle.http_edge.specs.declared.lines.LastLine.TheVariants.{Return}
+use Rattle.http_edge.specs.LineCount.{count_lines, at_line, at_start, is_over, is_text}
 use Rattle.http_edge.proofs.LineLaws.{count_append, lines_grow, NotLf, in_line, passes_plain, count_plain, count_open, token_lf, count_first, count_start, count_end}
 
 pub over_no : (s : Lines) → s.ended ≤ 65 → (is_text s.last ≡ true → s.ended ≤ 64) → is_over s ≡ false

@@ -1,13 +1,13 @@
 -- What the count of lines says of the bytes of a head.
-use Rattle.std.proofs.Common.{◌≡◌, ◌≢◌, ℕ, ◌+◌, ◌-◌, ◌<◌, ◌≤◌, Bool, true, false, List, [], ◌∷◌, ◌++◌, length, take, get_or, refl, sym, ap, ◌∙◌, subst, arith, append_assoc, append-nil, inl, inr}
+use Rattle.std.proofs.Common.{◌≡◌, ◌≢◌, ℕ, ◌+◌, ◌<◌, ◌≤◌, Bool, true, false, List, [], ◌∷◌, ◌++◌, length, take, get_or, refl, sym, ap, ◌∙◌, subst, arith}
 use Rattle.std.specs.Prelude.{All, ◌==◌, not, ◌||◌, if◌then◌else◌}
 use Rattle.std.proofs.lemmas.List.{take_more}
-use Rattle.std.proofs.lemmas.List.Elements.{All-cons, All-nil, All-head, All-tail, All-append}
+use Rattle.std.proofs.lemmas.List.Elements.{All-head, All-tail}
 use Rattle.std.proofs.lemmas.Bool.{false≢true, ne_eqb}
-use Rattle.httparse.specs.Grammar.{is_token_byte, is_uri_byte, is_value_byte, AllPass, IsToken, LineEnd, crlf, lf, print_end, Field, print_field, IsField}
+use Rattle.httparse.specs.Grammar.{is_token_byte, AllPass, LineEnd, crlf, lf, print_end}
 use Rattle.http_edge.specs.declared.lines.Lines.{Lines}
-use Rattle.http_edge.specs.declared.lines.LastLine.TheVariants.{Empty, Return, Text}
-use Rattle.http_edge.specs.LineCount.{last_after, count_byte, count_lines, at_line, at_start, is_over}
+use Rattle.http_edge.specs.declared.lines.LastLine.TheVariants.{Empty, Text}
+use Rattle.http_edge.specs.LineCount.{last_after, count_byte, count_lines, at_line, at_start}
 
 pub count_append : (s : Lines) (a b : List ℕ) → count_lines s (a ++ b) ≡ count_lines (count_lines s a) b
 count_append s [] b = refl

@@ -1,10 +1,9 @@
 -- What a head and what is gathered behind it come to.
-use Rattle.std.proofs.Common.{◌≡◌, ℕ, ◌+◌, ◌-◌, ◌<◌, ◌≤◌, Bool, List, [], ◌∷◌, ◌++◌, length, take, drop, refl, sym, ap, ◌∙◌, subst, arith, inl, inr, length-append, length-drop, length-take-le, append_assoc, append-nil, take-append-drop}
-use Rattle.std.specs.Prelude.{Some, None}
+use Rattle.std.proofs.Common.{◌≡◌, ℕ, ◌+◌, ◌-◌, ◌<◌, ◌≤◌, List, [], ◌∷◌, ◌++◌, length, take, drop, refl, sym, ap, ◌∙◌, subst, arith, inr, length-drop, length-take-le, take-append-drop}
+use Rattle.std.specs.Prelude.{Some}
 use Rattle.std.proofs.lemmas.List.{drop-drop, take_all}
 use Rattle.std.proofs.Math.Seq.{take-add, take-append_seam}
 use Rattle.httparse.specs.Grammar.{RequestHead, print_request}
-use Rattle.httparse.proofs.GrammarLemmas.{ReadsRequest-append}
 use Rattle.http_edge.specs.declared.fault.HttpWhy.{HttpWhy}
 use Rattle.http_edge.specs.declared.fault.HttpWhy.TheVariants.{BadHead, BadLength, TooLong, BadChunk}
 use Rattle.http_edge.specs.declared.gather.Ending.{Ending}
@@ -15,13 +14,12 @@ use Rattle.http_edge.specs.declared.request.HttpRequest.{HttpRequest}
 use Rattle.http_edge.specs.declared.request.HttpItem.{HttpItem}
 use Rattle.http_edge.specs.declared.request.HttpItem.TheVariants.{Request}
 use Rattle.http_edge.specs.declared.stage.Stage.{Stage}
-use Rattle.http_edge.specs.Heads.{head_fields}
-use Rattle.http_edge.specs.Lengths.{BodySize, Chunked, size_of, asks}
-use Rattle.http_edge.specs.Bodies.{Reaches, IsBody, IsOpenBody, Awaits}
-use Rattle.http_edge.specs.HttpStream.{BeginsWith, IsRequest, IsFault, IsOpen, request_of, items_if, items_of, told_of}
-use Rattle.http_edge.specs.Reading.{head_of, Holds}
+use Rattle.http_edge.specs.Lengths.{size_of, asks}
+use Rattle.http_edge.specs.Bodies.{Reaches, IsBody, Awaits}
+use Rattle.http_edge.specs.HttpStream.{BeginsWith, IsRequest, IsFault, IsOpen, items_if, items_of, told_of}
+use Rattle.http_edge.specs.Reading.{head_of}
 use Rattle.http_edge.specs.Steps.{Fits, IsOpening}
-use Rattle.http_edge.specs.Gathering.{GathersTo, Brings}
+use Rattle.http_edge.specs.Gathering.{GathersTo}
 use Rattle.http_edge.specs.Scanning.{IsLeft, place_of}
 
 -- the request of a head and a body

@@ -1,7 +1,7 @@
 -- What a whole head says of its body.
-use Rattle.std.proofs.Common.{◌≡◌, ℕ, ◌<◌, ◌≤◌, Bool, true, false, List, [], ◌∷◌, ◌++◌, length, take, drop, refl, sym, ap, ◌∙◌, subst, arith, inl, inr}
+use Rattle.std.proofs.Common.{◌≡◌, ℕ, ◌<◌, Bool, true, false, List, [], length, refl, sym, ap, ◌∙◌, subst, arith, inl, inr}
 use Rattle.std.specs.Prelude.{◌&&◌, ◌==◌, nat_lt, nat_le, codes, Err}
-use Rattle.std.proofs.lemmas.Bool.{leb-true, false≢true}
+use Rattle.std.proofs.lemmas.Bool.{leb-true}
 use Rattle.std.proofs.Common.{◌+◌, length-append, append-nil}
 use Rattle.std.proofs.lemmas.List.Elements.{All-nil}
 use Rattle.httparse.specs.Grammar.{RequestHead, IsRequestHead, IsField, lf, print_request}
@@ -12,10 +12,9 @@ use Rattle.http_edge.specs.declared.fault.HttpWhy.TheVariants.{BadHead, BadLengt
 use Rattle.http_edge.specs.declared.field.Field.{Field}
 use Rattle.http_edge.specs.declared.head.Head.{Head}
 use Rattle.http_edge.specs.declared.length.Size.{Size}
-use Rattle.http_edge.specs.declared.request.HttpItem.{HttpItem}
 use Rattle.http_edge.specs.Fields.{field_value}
 use Rattle.http_edge.specs.Heads.{HoldsHead, IsOpenHead, head_fields}
-use Rattle.http_edge.specs.Lengths.{BodySize, Sized, body_size, size_of, has_body, asks, is_continue}
+use Rattle.http_edge.specs.Lengths.{BodySize, Sized, body_size, size_of, has_body, is_continue}
 use Rattle.http_edge.specs.Bodies.{IsTooLong}
 use Rattle.http_edge.specs.HttpStream.{BeginsWith, IsFault, items_if, told_of}
 use Rattle.http_edge.specs.Reading.{head_of}

@@ -1,22 +1,20 @@
 -- How whole requests follow one another.
-use Rattle.std.proofs.Common.{◌≡◌, ℕ, ◌+◌, ◌-◌, ◌<◌, ◌≤◌, Bool, false, List, [], ◌∷◌, ◌++◌, length, take, drop, refl, sym, ap, ◌∙◌, subst, arith, inl, inr, length-append, length-drop, length-take-le, append_assoc, append-nil, take-append-drop}
+use Rattle.std.proofs.Common.{◌≡◌, ℕ, ◌+◌, ◌-◌, ◌<◌, ◌≤◌, Bool, List, [], ◌∷◌, ◌++◌, length, take, drop, refl, sym, ap, ◌∙◌, subst, arith, inl, length-append, length-drop, length-take-le, append_assoc, append-nil, take-append-drop}
 use Rattle.std.specs.Prelude.{Option, Some, None}
 use Rattle.std.specs.List.{flat_map}
 use Rattle.std.proofs.lemmas.List.{drop-drop, take_all}
-use Rattle.std.proofs.Math.Seq.{drop-append_seam}
 use Rattle.stream_grammar.specs.Framing.{AreSpelled}
 use Rattle.http_edge.specs.declared.fault.HttpWhy.{HttpWhy}
 use Rattle.http_edge.specs.declared.head.Head.{Head}
 use Rattle.http_edge.specs.declared.next.Next.{Next}
-use Rattle.http_edge.specs.declared.next.Next.TheVariants.{Whole, Part, Open, Bad}
+use Rattle.http_edge.specs.declared.next.Next.TheVariants.{Whole}
 use Rattle.http_edge.specs.declared.request.HttpItem.{HttpItem}
 use Rattle.http_edge.specs.declared.request.HttpItem.TheVariants.{Request}
 use Rattle.http_edge.specs.declared.request.HttpRequest.{HttpRequest}
-use Rattle.http_edge.specs.declared.scan.Scanned.{Scanned}
 use Rattle.http_edge.specs.declared.stage.Stage.{Stage}
 use Rattle.http_edge.specs.declared.stage.Stage.TheVariants.{Plain}
 use Rattle.http_edge.specs.Heads.{IsOpenHead}
-use Rattle.http_edge.specs.HttpStream.{IsRequest, items_if, items_of, IsOpen, IsFault, AreRequests}
+use Rattle.http_edge.specs.HttpStream.{IsRequest, items_if, items_of, IsFault, AreRequests}
 use Rattle.http_edge.specs.declared.fault.HttpFault.{HttpFault}
 use Rattle.http_edge.specs.declared.left.Left.{Left}
 use Rattle.http_edge.specs.Scanning.{Nexts, IsLeft, IsCleared, ScansTo}

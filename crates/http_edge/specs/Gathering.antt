@@ -1,6 +1,5 @@
 -- What has been read of a piece behind a body.
 use Rattle.std.specs.Prelude.{◌≡◌, ℕ, ◌+◌, ◌≤◌, ◌<◌, List, ◌++◌, length, take, drop}
-use Rattle.http_edge.specs.declared.fault.HttpWhy.{HttpWhy}
 use Rattle.http_edge.specs.declared.fault.HttpWhy.TheVariants.{BadHead, BadLength, TooLong, BadChunk}
 use Rattle.http_edge.specs.declared.gather.Ending.{Ending}
 use Rattle.http_edge.specs.declared.gather.Ending.TheVariants.{Whole, Open, Bad}

@@ -1,15 +1,15 @@
 -- What the steps of a reader tell of the bytes of a body.
-use Rattle.std.specs.Prelude.{◌≡◌, ℕ, ◌+◌, ◌≤◌, ◌<◌, List, [], ◌++◌, length, take, drop}
+use Rattle.std.specs.Prelude.{◌≡◌, ℕ, ◌+◌, ◌≤◌, ◌<◌, List, [], ◌++◌, length, take}
 use Rattle.http_edge.specs.declared.chunk.LineTurn.{LineTurn}
 use Rattle.http_edge.specs.declared.chunk.LineTurn.TheVariants as line
 use Rattle.http_edge.specs.declared.chunk.TrailerTurn.{TrailerTurn}
 use Rattle.http_edge.specs.declared.chunk.TrailerTurn.TheVariants as trailer
 use Rattle.http_edge.specs.declared.fault.HttpWhy.TheVariants.{BadHead, BadLength, TooLong, BadChunk}
 use Rattle.http_edge.specs.declared.stage.Stage.{Stage}
-use Rattle.http_edge.specs.declared.stage.Stage.TheVariants.{Plain, Line, Data, End, Trailer}
+use Rattle.http_edge.specs.declared.stage.Stage.TheVariants.{Line, Trailer}
 use Rattle.http_edge.specs.declared.step.Turn.{Turn}
 use Rattle.http_edge.specs.declared.step.Turn.TheVariants.{Took, Past, Done, Open, Bad}
-use Rattle.http_edge.specs.Lengths.{BodySize, Chunked}
+use Rattle.http_edge.specs.Lengths.{BodySize}
 use Rattle.http_edge.specs.Chunks.{IsLine, HoldsTrailer, HasNoTrailer, NeverHasTrailer, MayBecomeTrailer}
 use Rattle.http_edge.specs.Bodies.{Reaches, IsBody, IsTooLong, Awaits, Breaks}
 use Rattle.http_edge.specs.Steps.{Fits}

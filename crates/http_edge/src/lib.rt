@@ -30,3 +30,6 @@ pub use field::{Field, Fields};
 pub use reader::HttpReader;
 pub use reply::write_reply;
 pub use request::{HttpItem, HttpRequest};
+
+#[cfg(test)]
+mod tests;

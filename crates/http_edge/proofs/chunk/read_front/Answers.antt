@@ -1,4 +1,4 @@
-use Rattle.std.proofs.Common.{◌≡◌, sym, ◌∙◌}
+use Rattle.std.proofs.Common.{sym, ◌∙◌}
 use Rattle.httparse.specs.Grammar.{HasNoSection, MayBecomeSection}
 use Rattle.http_edge.proofs.HeadLaws.{on_partial}
 use Rattle.http_edge.proofs.ChunkLaws.{no_trailer, trailer_judged, trailer_bad, trailer_open}

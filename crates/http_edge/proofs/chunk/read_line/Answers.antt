@@ -1,4 +1,4 @@
-use Rattle.std.proofs.Common.{◌≡◌, ◌∙◌, take, subst, sym, arith, inr}
+use Rattle.std.proofs.Common.{◌∙◌, subst, arith, inr}
 use Rattle.std.proofs.lemmas.List.{take_all}
 use Rattle.httparse.specs.Grammar.{HasNoChunkLine, MayBecomeChunkLine}
 use Rattle.http_edge.proofs.HeadLaws.{on_partial}

@@ -1,4 +1,4 @@
-use Rattle.std.proofs.Common.{◌≡◌, ◌∙◌, ℕ, List, [], take, drop, subst, sym, arith, inl, inr, take-append-drop, length-take-le}
+use Rattle.std.proofs.Common.{◌∙◌, ℕ, List, [], take, drop, subst, sym, arith, inl, inr, take-append-drop, length-take-le}
 use Rattle.std.proofs.lemmas.List.{take_all}
 use Rattle.http_edge.specs.Chunks.{HoldsTrailer, HasNoTrailer, NeverHasTrailer, MayBecomeTrailer}
 use Rattle.http_edge.proofs.ChunkLaws.{window_front}

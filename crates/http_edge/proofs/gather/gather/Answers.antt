@@ -1,5 +1,5 @@
-use Rattle.std.proofs.Common.{◌≡◌, ◌+◌, ◌++◌, List, ℕ, length, drop, sym, ap, ◌∙◌, subst, arith, refl}
-use Rattle.http_edge.specs.declared.step.Turn.TheVariants.{Took, Past, Done, Open, Bad}
+use Rattle.std.proofs.Common.{◌≡◌, length, ◌∙◌}
+use Rattle.http_edge.specs.declared.step.Turn.TheVariants.{Took, Past, Done, Bad}
 use Rattle.http_edge.proofs.GatherLaws.{turns_at, brings_none, brings_took, brings_past, gathers_whole, gathers_bad}
 use Rattle.http_edge.proofs.gather.gather.Goals as goal
 

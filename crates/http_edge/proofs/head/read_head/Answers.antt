@@ -1,4 +1,4 @@
-use Rattle.std.proofs.Common.{◌≡◌, sym, ◌∙◌}
+use Rattle.std.proofs.Common.{sym, ◌∙◌}
 use Rattle.httparse.specs.Grammar.{HasNoRequest, MayBecomeRequest}
 use Rattle.http_edge.proofs.HeadLaws.{head_judged, head_bad, head_open, on_partial}
 use Rattle.http_edge.proofs.head.read_head.Goals as goal

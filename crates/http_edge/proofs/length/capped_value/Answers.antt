@@ -1,4 +1,4 @@
-use Rattle.http_edge.proofs.LengthLaws.{capped_more, digit_at}
+use Rattle.http_edge.proofs.LengthLaws.{capped_more}
 use Rattle.http_edge.proofs.length.capped_value.Goals as goal
 
 pub loop-digit-preserved : goal.loop-digit-preserved

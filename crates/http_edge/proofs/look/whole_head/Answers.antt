@@ -1,4 +1,4 @@
-use Rattle.std.proofs.Common.{◌≡◌, ◌∙◌, ap, sym, subst, arith, drop}
+use Rattle.std.proofs.Common.{◌∙◌, ap, arith, drop}
 use Rattle.http_edge.specs.declared.field.Field.{Field}
 use Rattle.std.specs.Prelude.{List}
 use Rattle.http_edge.specs.Lengths.{asks, size_of}

@@ -1,4 +1,4 @@
-use Rattle.std.proofs.Common.{◌≡◌, ◌≤◌, ℕ, length, sym, subst}
+use Rattle.std.proofs.Common.{◌≤◌, ℕ, length, sym, subst}
 use Rattle.http_edge.specs.declared.gather.Ending.TheVariants as ending
 use Rattle.http_edge.specs.HttpStream.{IsFault, items_if}
 use Rattle.http_edge.proofs.NextLaws.{gathers_at, next_whole, next_part, next_bad}

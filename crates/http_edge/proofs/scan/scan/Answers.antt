@@ -1,7 +1,6 @@
 -- What has been read of some bytes, request by request.
-use Rattle.std.proofs.Common.{◌≡◌, ◌+◌, ◌++◌, ◌∷◌, [], ◌∙◌, ℕ, List, length, drop, sym, ap, subst, arith, append-nil}
+use Rattle.std.proofs.Common.{◌≡◌, ◌+◌, ◌++◌, ◌∷◌, [], ◌∙◌, ℕ, drop, sym, ap, subst, arith, append-nil}
 use Rattle.std.specs.Prelude.{None}
-use Rattle.std.proofs.lemmas.List.{drop-drop}
 use Rattle.http_edge.specs.declared.next.Next.TheVariants.{Whole, Part, Open, Bad}
 use Rattle.http_edge.specs.declared.request.HttpItem.TheVariants.{Request}
 use Rattle.http_edge.specs.declared.stage.Stage.TheVariants.{Plain}

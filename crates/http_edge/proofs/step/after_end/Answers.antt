@@ -1,4 +1,4 @@
-use Rattle.std.proofs.Common.{◌≡◌, ℕ, List, [], ◌∷◌, take, get_or, arith}
+use Rattle.std.proofs.Common.{◌≡◌, take, get_or, arith}
 use Rattle.http_edge.proofs.BodyLaws.{end_line, two_bytes}
 use Rattle.http_edge.proofs.step.after_end.Goals as goal
 

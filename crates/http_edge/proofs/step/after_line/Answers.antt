@@ -1,5 +1,4 @@
-use Rattle.std.proofs.Common.{◌≡◌, ◌+◌, ◌<◌, ◌++◌, take, drop, sym, subst, arith, take-append-drop}
-use Rattle.http_edge.specs.Chunks.{IsLine}
+use Rattle.std.proofs.Common.{take, drop, sym, arith, take-append-drop}
 use Rattle.http_edge.proofs.BodyLaws.{line_long}
 use Rattle.http_edge.proofs.step.after_line.Goals as goal
 

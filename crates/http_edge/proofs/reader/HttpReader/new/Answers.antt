@@ -1,5 +1,5 @@
 -- A reader that was fed nothing has read nothing.
-use Rattle.std.proofs.Common.{◌≡◌, [], List, refl, sym, subst, arith, inl}
+use Rattle.std.proofs.Common.{[], List, refl, sym, subst, arith, inl}
 use Rattle.http_edge.specs.declared.request.HttpItem.{HttpItem}
 use Rattle.http_edge.specs.HttpStream.{IsStream}
 use Rattle.http_edge.proofs.OpeningLaws.{open_nil}

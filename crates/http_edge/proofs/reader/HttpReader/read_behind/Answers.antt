@@ -1,9 +1,8 @@
 -- What the reader holds behind the end of a request.
-use Rattle.std.proofs.Common.{◌≡◌, ◌++◌, ◌∷◌, [], ◌∙◌, ◌+◌, ℕ, List, Vec, Global, length, drop, sym, subst, ap, refl}
+use Rattle.std.proofs.Common.{◌≡◌, ◌++◌, ◌∷◌, [], ◌∙◌, ◌+◌, ℕ, List, Vec, Global, drop, sym, subst, ap, refl}
 use Rattle.std.specs.Prelude.{Some}
 use Rattle.http_edge.specs.declared.request.HttpItem.{HttpItem}
 use Rattle.http_edge.specs.declared.request.HttpItem.TheVariants.{Request}
-use Rattle.http_edge.specs.declared.request.HttpRequest.{HttpRequest}
 use Rattle.http_edge.specs.Reading.{Reader}
 use Rattle.http_edge.specs.Keeping.{FeedsAll}
 use Rattle.http_edge.specs.Scanning.{Scans}

@@ -1,5 +1,5 @@
 -- What the reader holds of a body behind a piece.
-use Rattle.std.proofs.Common.{◌≡◌, ◌++◌, ◌∙◌, ◌+◌, ℕ, List, length, drop, sym, subst, ap, refl}
+use Rattle.std.proofs.Common.{◌≡◌, ◌++◌, ◌∙◌, ◌+◌, ℕ, List, drop, sym, subst, ap}
 use Rattle.std.specs.Prelude.{Ok}
 use Rattle.http_edge.specs.declared.gather.Ending.TheVariants.{Open, Bad}
 use Rattle.http_edge.specs.Reading.{Reader}

@@ -1,5 +1,5 @@
 -- What the reader holds behind the requests of a piece.
-use Rattle.std.proofs.Common.{◌≡◌, ◌∙◌, sym, subst, refl}
+use Rattle.std.proofs.Common.{subst}
 use Rattle.http_edge.specs.Reading.{Reader}
 use Rattle.http_edge.specs.Keeping.{FeedsAll}
 use Rattle.http_edge.proofs.FeedLaws.{begin_feeds}
