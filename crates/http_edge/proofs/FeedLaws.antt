@@ -93,12 +93,12 @@ feeds_begin old all items from begun stage body read unread fault e b s piece f 
         let h = subst (λ (g : Option Head). Holds g old.stage old.body old.read old.unread x.0) b x.2 in
         let none = told_none x.0 x.1.told x.1.going h.4 in
         (x.0, x.1.before, x.1.requests, x.1.items_are ∙ ap (λ (v : List HttpItem). x.1.before ++ v) none ∙ append-nil x.1.before, f ∙ ap (λ (v : List ℕ). v ++ piece) (sym h.0))
+
     go : (fault : Option HttpFault) → ScansTo all items from begun stage body read unread fault → Feeds old piece (answer (moved old.at fault)) (record { waiting = old.waiting ++ items; at = old.at + from; begun = begun; stage = stage; body = body; read = read; unread = unread; fault = moved old.at fault })
     go None s = (
       refl,
       λ fed taken r.
-          let x = first fed taken r in
-          (
+          let x = first fed taken r in (
             drop from all,
             record {
               before = x.1 ++ s.before;
@@ -115,8 +115,7 @@ feeds_begin old all items from begun stage body read unread fault e b s piece f 
       λ fed taken r.
           let x = first fed taken r in
           let l = s.leaves in
-          let place = l.2 in
-          (
+          let place = l.2 in (
             record {
               before = x.1 ++ s.before;
               told = s.told;
@@ -202,8 +201,7 @@ bad_feeds old all head got used why place l new result e b g p z n a piece f =
           let x = reads_none fed (taken ++ old.waiting) old e r in
           let h = subst (λ (k : Option Head). Holds k old.stage old.body old.read old.unread x.0) b x.2 in
           let told = told_head x.0 x.1.told h.0 (h.1 ++ old.unread) x.1.going h.2 in
-          let begins : BeginsWith (x.0 ++ piece) h.0 (h.1 ++ all) = subst (BeginsWith (x.0 ++ piece) h.0) (append_assoc h.1 old.unread piece ∙ ap (λ (v : List ℕ). h.1 ++ v) (sym f)) (begins_more x.0 h.0 (h.1 ++ old.unread) piece h.2) in
-          (
+          let begins : BeginsWith (x.0 ++ piece) h.0 (h.1 ++ all) = subst (BeginsWith (x.0 ++ piece) h.0) (append_assoc h.1 old.unread piece ∙ ap (λ (v : List ℕ). h.1 ++ v) (sym f)) (begins_more x.0 h.0 (h.1 ++ old.unread) piece h.2) in (
             subst (λ (m : ℕ). IsFaulty (fed ++ piece) (taken ++ old.waiting) m (old.at + place) why) (sym at_is) (record {
               before = x.1.before;
               told = x.1.told;
@@ -230,6 +228,7 @@ items_behind taken waiting told one more before later first e f = left taken wai
   where
     left : (a b c d : List HttpItem) → a ++ ((b ++ c) ++ d) ≡ ((a ++ b) ++ c) ++ d
     left a b c d = simp append_assoc
+
     right : (a b c d e : List HttpItem) → ((a ++ b) ++ c) ++ (d ++ e) ≡ (a ++ ((b ++ c) ++ d)) ++ e
     right a b c d e = simp append_assoc
 
@@ -266,12 +265,12 @@ feeds_behind old all head got used base items from begun stage body read unread 
         let long : length z ≡ old.read + used = (let k = length-append (print_request tree) (front ++ take used all) in let l = length-append front (take used all) in let t = length-take-le used all few in let read = h.6 in omega (arith, k, l, t, read)) in
         let at_is : old.at + (length z + from) ≡ base + from = omega (arith, long, place) in
         let first_is : items_of (with_body head (old.body ++ got)) ≡ x.1.told ++ Request (with_body head (old.body ++ got)) ∷ [] = told_first tree head (old.body ++ got) x.1.told h.3 told_is in
-        let items_is = items_behind taken old.waiting x.1.told (Request (with_body head (old.body ++ got)) ∷ []) items before told x.1.before x.1.items_are m in
-        (
+        let items_is = items_behind taken old.waiting x.1.told (Request (with_body head (old.body ++ got)) ∷ []) items before told x.1.before x.1.items_are m in (
           x.1.before ++ items_of (with_body head (old.body ++ got)),
           subst (λ (n : ℕ). AreRequests (fed ++ piece) ((x.1.before ++ items_of (with_body head (old.body ++ got))) ++ before) n (drop from (drop used all))) at_is (subst (λ (v : List HttpItem). AreRequests (fed ++ piece) v (old.at + (length z + from)) (drop from (drop used all))) (sym (append_assoc x.1.before (items_of (with_body head (old.body ++ got))) before)) both),
           items_is ∙ ap (λ (v : List HttpItem). v ++ told) (ap (λ (v : List HttpItem). x.1.before ++ (v ++ before)) (sym first_is) ∙ sym (append_assoc x.1.before (items_of (with_body head (old.body ++ got))) before)),
         )
+
     go : (fault : Option HttpFault) → ScansTo (drop used all) items from begun stage body read unread fault → Feeds old piece (answer (moved base fault)) (record { waiting = (old.waiting ++ Request (with_body head (old.body ++ got)) ∷ []) ++ items; at = base + from; begun = begun; stage = stage; body = body; read = read; unread = unread; fault = moved base fault })
     go None s = (
       refl,
@@ -284,8 +283,7 @@ feeds_behind old all head got used base items from begun stage body read unread 
       λ fed taken reads.
           let k = known fed taken reads s.before s.told s.requests s.items_are in
           let l = s.leaves in
-          let behind = l.2 in
-          (
+          let behind = l.2 in (
             record {
               before = k.0 ++ s.before;
               told = s.told;

@@ -69,8 +69,7 @@ next_whole b o data_read used i (few, is) r e =
     let room = length-drop o.len b in
     let inside = i.inside in
     let some = i.some in
-    let told : items_if o.asks ≡ told_of h = ap items_if (i.asks_is ∙ ap (λ (k : Head). asks k.minor k.fields) i.head_is) in
-    (
+    let told : items_if o.asks ≡ told_of h = ap items_if (i.asks_is ∙ ap (λ (k : Head). asks k.minor k.fields) i.head_is) in (
       subst (λ (q : HttpRequest). IsRequest q (take (o.len + used) b)) (sym e) (is_request b h o.head (drop o.len b) (take used (drop o.len b)) (take (o.len + used) b) data_read i.begins i.head_is is_body (front_of b h (drop o.len b) o.len used i.begins i.len_is inside)),
       omega (arith, some),
       omega (arith, room, few, inside),
@@ -91,8 +90,7 @@ next_part b o data_read used now i (brings, awaits, short) =
     let told : items_if o.asks ≡ told_of h = ap items_if (i.asks_is ∙ ap (λ (k : Head). asks k.minor k.fields) i.head_is) in
     let n : length (take used w) ≡ used = length-take-le used w few in
     let none : 0 + length data_read ≡ length data_read = omega arith in
-    let read : o.len + used ≡ length (print_request h) + length (take used w) = omega (arith, n, i.len_is) in
-    (
+    let read : o.len + used ≡ length (print_request h) + length (take used w) = omega (arith, n, i.len_is) in (
       record {
         going = is_open b h (take used w) (drop (o.len + used) b) data_read now (items_if o.asks) begins r waits told;
         holds = (h, take used w, begins, i.head_is, r, waits, read);

@@ -102,10 +102,7 @@ impl HttpReader {
                 Ok(())
             }
             Some(HttpFault { at, why }) => {
-                let fault = HttpFault {
-                    at: base + at,
-                    why,
-                };
+                let fault = HttpFault { at: base + at, why };
                 self.fault = Some(fault);
                 Err(FeedFault::Fault(fault))
             }
@@ -153,8 +150,7 @@ impl HttpReader {
         };
         let body = mem::replace(&mut self.body, Vec::new(self.alloc));
         let request = head.with_body(body);
-        self.waiting
-            .push_back_reserved(HttpItem::Request(request));
+        self.waiting.push_back_reserved(HttpItem::Request(request));
         append_reserved(&mut self.waiting, items);
         self.settle(base, left)
     }

@@ -4,16 +4,8 @@ use event_form::{Blob, FeedFault};
 use std::alloc::{AllocError, Global};
 use std::test::*;
 
-/// What a stream came to: of each item its target, or `continue`, and its body, each behind a bar; the
-/// rest; and the fault.
-#[derive(Drop)]
-struct Outcome {
-    items: Vec<u8>,
-    rest: Option<u64>,
-    fault: Option<HttpFault>,
-}
-
-fn tell(item: HttpItem, out: &mut Vec<u8>) -> Result<(), AllocError> {
+// What an item tells: `continue`, or a request's target and body, each behind a bar.
+fn tell_item(item: HttpItem, out: &mut Vec<u8>) -> Result<(), AllocError> {
     match item {
         HttpItem::Continue => out.extend_from_slice(b"|continue"),
         HttpItem::Request(request) => {
@@ -25,13 +17,36 @@ fn tell(item: HttpItem, out: &mut Vec<u8>) -> Result<(), AllocError> {
     }
 }
 
-/// Feeds the text in pieces of a size. Both are small.
-fn told(alloc: Global, text: &[u8], size: usize) -> Result<Outcome, AllocError> {
+// A mark, a place and a word.
+fn tell_place(
+    alloc: Global,
+    mark: u8,
+    at: u64,
+    word: &[u8],
+    out: &mut Vec<u8>,
+) -> Result<(), AllocError> {
+    out.push(mark)?;
+    out.extend_from_slice(at.to_string(alloc)?.as_bytes())?;
+    out.extend_from_slice(word)
+}
+
+fn word(why: HttpWhy) -> &'static [u8] {
+    match why {
+        HttpWhy::BadHead => b" head",
+        HttpWhy::BadLength => b" length",
+        HttpWhy::TooLong => b" long",
+        HttpWhy::BadChunk => b" chunk",
+    }
+}
+
+/// Feeds the text in pieces of a size, both of them small, and tells the items, the rest behind `#` and the
+/// fault behind `!`.
+fn told(alloc: Global, text: &[u8], size: usize) -> Result<Vec<u8>, AllocError> {
     if text.len() > 100_000 || size == 0 || size > 100_000 {
         return Err(AllocError);
     }
     let mut reader = HttpReader::new(alloc);
-    let mut items = Vec::new(alloc);
+    let mut out = Vec::new(alloc);
     let mut fault = None;
     let mut fed = 0;
     while fed < text.len() {
@@ -42,203 +57,135 @@ fn told(alloc: Global, text: &[u8], size: usize) -> Result<Outcome, AllocError> 
             Err(FeedFault::NoMemory) => return Err(AllocError),
         }
         while let Some(item) = reader.take() {
-            tell(item, &mut items)?;
+            tell_item(item, &mut out)?;
         }
         fed = next;
     }
-    Ok(Outcome {
-        items,
-        rest: reader.rest_at(),
-        fault,
-    })
+    if let Some(at) = reader.rest_at() {
+        tell_place(alloc, b'#', at, b"", &mut out)?;
+    }
+    if let Some(HttpFault { at, why }) = fault {
+        tell_place(alloc, b'!', at, word(why), &mut out)?;
+    }
+    Ok(out)
 }
 
-fn fault(at: u64, why: HttpWhy) -> Option<HttpFault> {
-    Some(HttpFault { at, why })
-}
-
-/// Rows of a stream, what its items tell, its rest, and its fault.
+/// Rows of a stream and what it tells.
 #[test]
 fn streams(rt: HostRuntime) -> Result<(), AllocError> {
-    let rows: [(&[u8], &[u8], Option<u64>, Option<HttpFault>); 30] = [
+    let rows: [(&[u8], &[u8]); 30] = [
         // Lengths.
-        (b"", b"", None, None),
+        (b"", b""),
         (
             b"POST /a HTTP/1.1\r\nContent-Length: 3\r\n\r\nabcGET /b HTTP/1.0\r\n\r\n",
             b"|/a|abc|/b|",
-            None,
-            None,
         ),
         (
             b"POST /a HTTP/1.1\ncontent-length: 003\n\nabcP",
-            b"|/a|abc",
-            Some(41),
-            None,
+            b"|/a|abc#41",
         ),
-        (
-            b"POST /a HTTP/1.1\r\nContent-Length: 3\r\n\r\nab",
-            b"",
-            Some(0),
-            None,
-        ),
-        (b"POST /a HT", b"", Some(0), None),
+        (b"POST /a HTTP/1.1\r\nContent-Length: 3\r\n\r\nab", b"#0"),
+        (b"POST /a HT", b"#0"),
         (
             b"GET / HTTP/1.1\r\nContent-Length: 0\r\n\r\n\r\n",
-            b"|/|",
-            Some(37),
-            None,
+            b"|/|#37",
         ),
         // Continue.
         (
             b"POST /a HTTP/1.1\r\nExpect: 100-Continue\r\nContent-Length: 1\r\n\r\n",
-            b"|continue",
-            Some(0),
-            None,
+            b"|continue#0",
         ),
         (
             b"POST /a HTTP/1.1\r\nExpect: 100-continue\r\nContent-Length: 1\r\n\r\nx",
             b"|continue|/a|x",
-            None,
-            None,
         ),
         (
             b"POST /a HTTP/1.1\r\nExpect: 100-continue\r\nContent-Length: 0\r\n\r\n",
             b"|/a|",
-            None,
-            None,
         ),
         (
             b"POST /a HTTP/1.0\r\nExpect: 100-continue\r\nContent-Length: 1\r\n\r\nx",
             b"|/a|x",
-            None,
-            None,
         ),
         (
             b"POST /a HTTP/1.1\r\nExpect: 100-continue\r\nContent-Length: 1048577\r\n\r\n",
-            b"",
-            Some(0),
-            fault(0, HttpWhy::TooLong),
+            b"#0!0 long",
         ),
         // Chunks.
         (
             b"POST /c HTTP/1.1\r\nTransfer-Encoding: Chunked\r\nExpect: 100-continue\r\n\r\n5\r\n{\"eve\r\n8\r\nnt\":\"a\"}\r\n0\r\n\r\n",
             b"|continue|/c|{\"event\":\"a\"}",
-            None,
-            None,
         ),
         (
             b"POST /c HTTP/1.1\r\nTransfer-Encoding: chunked\r\n\r\n2 ;x=y\r\nab\r\n00\r\nT: v\r\nU:\r\n\r\nGET /d HTTP/1.1\r\n\r\n",
             b"|/c|ab|/d|",
-            None,
-            None,
         ),
         (
             b"POST /c HTTP/1.1\r\nTransfer-Encoding: chunked\r\n\r\n2\r\nab\r",
-            b"",
-            Some(0),
-            None,
+            b"#0",
         ),
         // Faults of heads.
-        (b"GET\r\n", b"", Some(0), fault(0, HttpWhy::BadHead)),
-        (
-            b"GET / HTTP/1.1\r\n\r\n\r\n x",
-            b"|/|",
-            Some(18),
-            fault(18, HttpWhy::BadHead),
-        ),
-        (
-            b"GET / HTTP/1.2\r\n\r\n",
-            b"",
-            Some(0),
-            fault(0, HttpWhy::BadHead),
-        ),
+        (b"GET\r\n", b"#0!0 head"),
+        (b"GET / HTTP/1.1\r\n\r\n\r\n x", b"|/|#18!18 head"),
+        (b"GET / HTTP/1.2\r\n\r\n", b"#0!0 head"),
         // Faults of lengths.
         (
             b"POST /services/collector HTTP/1.1\r\nContent-Length: 1x\r\n\r\n",
-            b"",
-            Some(0),
-            fault(0, HttpWhy::BadLength),
+            b"#0!0 length",
         ),
         (
             b"POST / HTTP/1.1\r\nContent-Length: 33, 33\r\n\r\n",
-            b"",
-            Some(0),
-            fault(0, HttpWhy::BadLength),
+            b"#0!0 length",
         ),
         (
             b"POST / HTTP/1.1\r\nContent-Length: 1\r\ncontent-length: 1\r\n\r\n",
-            b"",
-            Some(0),
-            fault(0, HttpWhy::BadLength),
+            b"#0!0 length",
         ),
         (
             b"POST / HTTP/1.1\r\nContent-Length: 1\r\nTransfer-Encoding: chunked\r\n\r\n",
-            b"",
-            Some(0),
-            fault(0, HttpWhy::BadLength),
+            b"#0!0 length",
         ),
         (
             b"POST / HTTP/1.0\r\nTransfer-Encoding: chunked\r\n\r\n",
-            b"",
-            Some(0),
-            fault(0, HttpWhy::BadLength),
+            b"#0!0 length",
         ),
         (
             b"POST / HTTP/1.1\r\nTransfer-Encoding: gzip\r\n\r\n",
-            b"",
-            Some(0),
-            fault(0, HttpWhy::BadLength),
+            b"#0!0 length",
         ),
         (
             b"POST / HTTP/1.1\r\nContent-Length: 1048577\r\n\r\n",
-            b"",
-            Some(0),
-            fault(0, HttpWhy::TooLong),
+            b"#0!0 long",
         ),
         (
             b"POST / HTTP/1.1\r\nContent-Length: 99999999999999999999\r\n\r\n",
-            b"",
-            Some(0),
-            fault(0, HttpWhy::TooLong),
+            b"#0!0 long",
         ),
         // Faults of chunks.
         (
             b"POST /services/collector HTTP/1.1\r\nTransfer-Encoding: chunked\r\n\r\nzz\r\n",
-            b"",
-            Some(0),
-            fault(65, HttpWhy::BadChunk),
+            b"#0!65 chunk",
         ),
         (
             b"POST /services/collector HTTP/1.1\r\nTransfer-Encoding: chunked\r\n\r\n1\r\naX",
-            b"",
-            Some(0),
-            fault(69, HttpWhy::BadChunk),
+            b"#0!69 chunk",
         ),
         (
             b"POST /services/collector HTTP/1.1\r\nTransfer-Encoding: chunked\r\n\r\n0\r\n x",
-            b"",
-            Some(0),
-            fault(68, HttpWhy::BadChunk),
+            b"#0!68 chunk",
         ),
         (
             b"GET /a HTTP/1.1\r\n\r\nPOST / HTTP/1.1\r\nTransfer-Encoding: chunked\r\n\r\n100001\r\n",
-            b"|/a|",
-            Some(19),
-            fault(19, HttpWhy::TooLong),
+            b"|/a|#19!19 long",
         ),
         (
             b"POST / HTTP/1.1\r\nTransfer-Encoding: chunked\r\n\r\n1\r\na\r\n100000\r\n",
-            b"",
-            Some(0),
-            fault(0, HttpWhy::TooLong),
+            b"#0!0 long",
         ),
     ];
-    for (text, items, rest, fault) in rows {
+    for (text, tells) in rows {
         for size in [1, 2, 7, 1000] {
-            let told = told(rt.alloc(), text, size)?;
-            assert_eq!(&rt; told.items.as_slice(), items);
-            assert_eq!(&rt; told.rest, rest);
-            assert_eq!(&rt; told.fault, fault);
+            assert_eq!(&rt; told(rt.alloc(), text, size)?.as_slice(), tells);
         }
     }
     Ok(())
@@ -252,22 +199,20 @@ fn a_head_has_64_fields(rt: HostRuntime) -> Result<(), AllocError> {
     for _ in 0..64 {
         head.extend_from_slice(b"a: b\r\n")?;
     }
-    let rows: [(&[u8], &[u8], Option<HttpFault>); 7] = [
-        (b"", b"", None),
-        (b"\r", b"", None),
-        (b"\r\n", b"|/|", None),
-        (b"X", b"", fault(0, HttpWhy::BadHead)),
-        (b"X: y", b"", fault(0, HttpWhy::BadHead)),
-        (b"X: y\r\n", b"", fault(0, HttpWhy::BadHead)),
-        (b"\rX", b"", fault(0, HttpWhy::BadHead)),
+    let rows: [(&[u8], &[u8]); 7] = [
+        (b"", b"#0"),
+        (b"\r", b"#0"),
+        (b"\r\n", b"|/|"),
+        (b"X", b"#0!0 head"),
+        (b"X: y", b"#0!0 head"),
+        (b"X: y\r\n", b"#0!0 head"),
+        (b"\rX", b"#0!0 head"),
     ];
-    for (behind, items, fault) in rows {
+    for (behind, tells) in rows {
         let before = head.len();
         head.extend_from_slice(behind)?;
-        let told = told(alloc, &head, 100)?;
+        assert_eq!(&rt; told(alloc, &head, 100)?.as_slice(), tells);
         head.truncate(before);
-        assert_eq!(&rt; told.items.as_slice(), items);
-        assert_eq!(&rt; told.fault, fault);
     }
     Ok(())
 }
@@ -320,7 +265,12 @@ fn closing(rt: HostRuntime) -> Result<(), AllocError> {
             [(b"Connection", b"closed,clo se"), (b"Connection", b"")],
             false,
         ),
-        (1, b"POST", [(b"Connections", b"close"), (b"X", b"y")], false),
+        (
+            1,
+            b"POST",
+            [(b"Connections", b"close"), (b"X", b"y")],
+            false,
+        ),
     ];
     for (minor, method, lines, closes) in rows {
         assert_eq!(&rt; request(rt.alloc(), minor, method, lines)?.closes(), closes);
@@ -343,18 +293,16 @@ fn replies(rt: HostRuntime) -> Result<(), AllocError> {
     let alloc = rt.alloc();
     let mut out = Vec::new(alloc);
     write_reply(200, false, b"{\"text\":\"Success\",\"code\":0}", &mut out)?;
-    assert_eq!(
-        &rt; out.as_slice(),
-        b"HTTP/1.1 200 OK\r\nContent-Type: application/json\r\nContent-Length: 27\r\n\r\n{\"text\":\"Success\",\"code\":0}"
-            .as_slice()
+    assert_eq!(&rt;
+        out.as_slice(),
+        b"HTTP/1.1 200 OK\r\nContent-Type: application/json\r\nContent-Length: 27\r\n\r\n{\"text\":\"Success\",\"code\":0}".as_slice()
     );
     out.clear();
     write_reply(400, true, b"", &mut out)?;
     write_reply(503, false, b"{}", &mut out)?;
-    assert_eq!(
-        &rt; out.as_slice(),
-        b"HTTP/1.1 400 Bad Request\r\nContent-Type: application/json\r\nContent-Length: 0\r\nConnection: close\r\n\r\nHTTP/1.1 503 Service Unavailable\r\nContent-Type: application/json\r\nContent-Length: 2\r\n\r\n{}"
-            .as_slice()
+    assert_eq!(&rt;
+        out.as_slice(),
+        b"HTTP/1.1 400 Bad Request\r\nContent-Type: application/json\r\nContent-Length: 0\r\nConnection: close\r\n\r\nHTTP/1.1 503 Service Unavailable\r\nContent-Type: application/json\r\nContent-Length: 2\r\n\r\n{}".as_slice()
     );
     Ok(())
 }
