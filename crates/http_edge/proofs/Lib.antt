@@ -10,3 +10,5 @@ pub mod NextLaws
 pub mod StreamLaws
 pub mod FaultLaws
 pub mod FeedLaws
+pub mod OnceLaws
+pub mod ReadingLaws

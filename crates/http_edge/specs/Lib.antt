@@ -12,3 +12,4 @@ pub mod Turns
 pub mod Gathering
 pub mod Scanning
 pub mod Keeping
+pub mod Laws

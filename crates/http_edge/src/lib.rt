@@ -12,6 +12,7 @@ mod fault;
 mod field;
 mod gather;
 mod head;
+mod laws;
 mod left;
 mod length;
 mod lines;
@@ -27,6 +28,7 @@ mod text;
 
 pub use fault::{HttpFault, HttpWhy};
 pub use field::{Field, Fields};
+pub use laws::{one_reading, requests_once};
 pub use reader::HttpReader;
 pub use reply::write_reply;
 pub use request::{HttpItem, HttpRequest};
