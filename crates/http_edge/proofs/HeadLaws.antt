@@ -7,7 +7,7 @@ use Rattle.std.proofs.lemmas.Bool.{false≢true, ltb-true, ltb-false}
 use Rattle.httparse.specs.Grammar.{is_token_byte, is_uri_byte, is_value_byte, AllPass, IsToken, LineEnd, crlf, lf, print_end, print_blank, print_version, Field, print_field, IsField, print_section, RequestHead, IsRequestHead, HasNoRequest, MayBecomeRequest, EndsInTarget}
 use Rattle.httparse.specs.Pieces.{Section, RequestStart}
 use Rattle.httparse.proofs.PieceLemmas.{RequestStart_deterministic, Section_skip, Stops_token, token_is_no_newline, newline_not_stopped, front-append}
-use Rattle.httparse.proofs.GrammarLemmas.{cons-append, request_tree, request_pieces, print_request-append}
+use Rattle.httparse.proofs.GrammarLemmas.{request_tree, request_pieces, print_request-append}
 use Rattle.std.specs.Prelude.{Result, Ok}
 use Rattle.httparse.specs.declared.Status.{Status}
 use Rattle.httparse.specs.declared.Status.TheVariants.{Partial}
@@ -69,7 +69,7 @@ pub start_append : (h : RequestHead) (z y : List ℕ) → start_text h z ++ y �
 start_append h z y = go (print_blank h.blank) h.method h.target (print_version h.minor) (print_end h.line_end)
   where
     go : (a b c d e : List ℕ) → (a ++ (b ++ 32 ∷ (c ++ 32 ∷ (d ++ (e ++ z))))) ++ y ≡ a ++ (b ++ 32 ∷ (c ++ 32 ∷ (d ++ (e ++ (z ++ y)))))
-    go a b c d e = simp (append_assoc, cons-append)
+    go a b c d e = simp append_assoc
 
 pub full_never : (h : RequestHead) → IsRequestHead h → (t : List ℕ) → Full 64 t → NeverHasHead (start_text h t)
 full_never h x t (fs, c, v, all, is, token, many) more k rest holds =

@@ -10,5 +10,6 @@ pub mod NextLaws
 pub mod StreamLaws
 pub mod FaultLaws
 pub mod FeedLaws
+pub mod BehindLaws
 pub mod OnceLaws
 pub mod ReadingLaws

@@ -1,15 +1,14 @@
 -- Requests are read in one way only.
-use Rattle.std.proofs.Common.{◌≡◌, ℕ, zero, suc, ◌+◌, ◌-◌, ◌<◌, ◌≤◌, List, [], ◌∷◌, ◌++◌, length, refl, sym, ap, ◌∙◌, subst, arith, inl, inr, length-append, append_assoc, append-nil}
+use Rattle.std.proofs.Common.{◌≡◌, ℕ, List, [], ◌∷◌, ◌++◌, length, refl, sym, ap, ◌∙◌, subst, arith, inl, inr, length-append, append_assoc}
 use Rattle.std.specs.Prelude.{◌⊎◌}
 use Rattle.httparse.specs.Ascii.{crlf_bytes}
 use Rattle.httparse.specs.Grammar.{RequestHead, ReadsRequest, print_request, print_chunk_line, chunk_size}
 use Rattle.httparse.proofs.ChunkLemmas.{chunk_line_unique}
 use Rattle.httparse.proofs.GrammarLemmas.{request_unique, section_unique, ReadsRequest-append, ReadsSection-append}
-use Rattle.http_edge.specs.declared.request.HttpRequest.{HttpRequest}
 use Rattle.http_edge.specs.Lengths.{BodySize, Sized, Chunked, BadSize, size_of}
 use Rattle.http_edge.specs.Chunks.{IsLine, IsChunk, AreChunks, HoldsTrailer}
 use Rattle.http_edge.specs.Bodies.{IsPastChunks, IsChunkedBody, IsBody}
-use Rattle.http_edge.specs.HttpStream.{IsRequest, request_of}
+use Rattle.http_edge.specs.HttpStream.{request_of}
 use Rattle.http_edge.specs.Laws.{RequestsOnce}
 
 -- two fronts of one length
@@ -85,6 +84,7 @@ chunked_once body other text back a b i j e = go i.reaches.2 j.reaches.2
           where
             flat : (f l t a : List ℕ) → ((f ++ l) ++ t) ++ a ≡ f ++ (l ++ (t ++ a))
             flat f l t a = simp append_assoc
+
         choose : ((body ≡ other) × (p.front ≡ q.front) × (p.line ++ (i.trailer ++ a) ≡ q.line ++ (j.trailer ++ b))) ⊎ (StartsChunk (p.line ++ (i.trailer ++ a)) ⊎ StartsChunk (q.line ++ (j.trailer ++ b))) → (body ≡ other) × (text ≡ back) × (a ≡ b)
         choose (inl (x, y, z)) =
             let l = line_once 0 0 p.line q.line (i.trailer ++ a) (j.trailer ++ b) p.line_is q.line_is z in
@@ -104,8 +104,7 @@ body_once BadSize body other text back a b i j e = absurd i
 pub requests_once : RequestsOnce
 requests_once r s x y a b i j e =
     let q = request_unique (x ++ a) i.head j.head (i.text ++ a) (j.text ++ b) (ReadsRequest-append x i.head i.text a i.begins.holds.reads) (subst (λ (w : List ℕ). ReadsRequest w j.head (j.text ++ b)) (sym e) (ReadsRequest-append y j.head j.text b j.begins.holds.reads)) in
-    let p = body_once (size_of i.head) r.body s.body i.text j.text a b i.body (subst (λ (h : RequestHead). IsBody (size_of h) s.body j.text) (sym q.0) j.body) q.1 in
-    (
+    let p = body_once (size_of i.head) r.body s.body i.text j.text a b i.body (subst (λ (h : RequestHead). IsBody (size_of h) s.body j.text) (sym q.0) j.body) q.1 in (
       i.request_is ∙ (λ h. request_of (q.0 h) (p.0 h)) ∙ sym j.request_is,
       i.begins.holds.reads.1 ∙ (λ h. print_request (q.0 h) ++ p.1 h) ∙ sym j.begins.holds.reads.1,
       p.2,

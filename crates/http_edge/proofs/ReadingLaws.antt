@@ -1,5 +1,5 @@
 -- What is read without a fault, the bytes alone decide.
-use Rattle.std.proofs.Common.{◌≡◌, ℕ, zero, suc, ◌+◌, ◌-◌, ◌<◌, ◌≤◌, List, [], ◌∷◌, ◌++◌, length, refl, sym, ap, ◌∙◌, subst, arith, inl, inr, length-append, append_assoc, append-nil}
+use Rattle.std.proofs.Common.{◌≡◌, ℕ, ◌+◌, ◌<◌, List, [], ◌∷◌, ◌++◌, length, refl, sym, ap, ◌∙◌, subst, arith, inl, inr, length-append, append_assoc, append-nil}
 use Rattle.std.specs.Prelude.{◌⊎◌}
 use Rattle.std.specs.List.{flat_map}
 use Rattle.httparse.specs.Ascii.{crlf_bytes}
@@ -11,9 +11,9 @@ use Rattle.http_edge.specs.declared.request.HttpRequest.{HttpRequest}
 use Rattle.http_edge.specs.declared.stage.Stage.{Stage}
 use Rattle.http_edge.specs.declared.stage.Stage.TheVariants.{Plain, Line, Data, End, Trailer}
 use Rattle.http_edge.specs.Lengths.{BodySize, Sized, Chunked, BadSize, size_of}
-use Rattle.http_edge.specs.Chunks.{IsLine, IsChunk, AreChunks, HoldsTrailer}
-use Rattle.http_edge.specs.Bodies.{IsInChunk, IsPastChunks, IsChunkedBody, IsBody, IsOpenBody, Reaches, Awaits}
-use Rattle.http_edge.specs.HttpStream.{IsRequest, IsOpen, IsStream, items_of, told_of}
+use Rattle.http_edge.specs.Chunks.{IsLine, HoldsTrailer}
+use Rattle.http_edge.specs.Bodies.{IsChunkedBody, IsBody, IsOpenBody, Reaches, Awaits}
+use Rattle.http_edge.specs.HttpStream.{IsRequest, IsOpen, items_of, told_of}
 use Rattle.http_edge.specs.Laws.{OneReading}
 use Rattle.http_edge.proofs.OnceLaws.{line_once, chunk_opens, walk, StartsChunk, line_no_chunk, requests_once}
 
@@ -68,6 +68,7 @@ spread other back y j = go j.reaches.2.text_is
   where
     flat : (f l t a : List ℕ) → ((f ++ l) ++ t) ++ a ≡ f ++ (l ++ (t ++ a))
     flat f l t a = simp append_assoc
+
     go : j.front ≡ j.reaches.2.front ++ j.reaches.2.line → back ++ y ≡ j.reaches.2.front ++ (j.reaches.2.line ++ (j.trailer ++ y))
     go x = ap (λ (w : List ℕ). w ++ y) (j.text_is ∙ ap (λ (w : List ℕ). w ++ j.trailer) x) ∙ flat j.reaches.2.front j.reaches.2.line j.trailer y
 
@@ -147,8 +148,7 @@ pub one_reading : OneReading
 one_reading fed items others m n rest last a b =
     let q = requests_same a.requests.requests b.requests.requests a.requests.front b.requests.front rest last a.told b.told a.requests.spelled b.requests.spelled a.going b.going (sym a.requests.whole ∙ b.requests.whole) in
     let t = told_once rest a.told b.told a.going (subst (λ (w : List ℕ). IsOpen w b.told) (sym q.2) b.going) in
-    let before = a.requests.items_are ∙ ap (λ (v : List HttpRequest). flat_map items_of v) q.0 ∙ sym b.requests.items_are in
-    (
+    let before = a.requests.items_are ∙ ap (λ (v : List HttpRequest). flat_map items_of v) q.0 ∙ sym b.requests.items_are in (
       a.items_are ∙ (λ i. before i ++ t i) ∙ sym b.items_are,
       a.requests.at_is ∙ ap (λ (v : List ℕ). length v) q.1 ∙ sym b.requests.at_is,
       q.2,

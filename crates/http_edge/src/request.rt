@@ -22,7 +22,7 @@ pub struct HttpRequest {
 #[derive(Drop, Debug)]
 pub enum HttpItem {
     /// The head of a request was read that waits for leave to send its body (RFC 9110, section 10.1.1).
-    /// Its request comes as the next item.
+    /// The next item is its request, unless the stream ends or has a fault before.
     Continue,
     Request(HttpRequest),
 }

@@ -6,7 +6,7 @@ use Rattle.http_edge.specs.declared.request.HttpItem.TheVariants.{Request}
 use Rattle.http_edge.specs.Reading.{Reader}
 use Rattle.http_edge.specs.Keeping.{FeedsAll}
 use Rattle.http_edge.specs.Scanning.{Scans}
-use Rattle.http_edge.proofs.FeedLaws.{behind_feeds}
+use Rattle.http_edge.proofs.BehindLaws.{behind_feeds}
 use Rattle.http_edge.proofs.NextLaws.{window, with_body}
 use Rattle.http_edge.proofs.reader.HttpReader.read_behind.Goals as goal
 

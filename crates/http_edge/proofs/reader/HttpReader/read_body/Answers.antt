@@ -4,7 +4,7 @@ use Rattle.std.specs.Prelude.{Ok}
 use Rattle.http_edge.specs.declared.gather.Ending.TheVariants.{Open, Bad}
 use Rattle.http_edge.specs.Reading.{Reader}
 use Rattle.http_edge.specs.Keeping.{FeedsAll, settled}
-use Rattle.http_edge.proofs.FeedLaws.{open_feeds, bad_feeds, some_head, gathered}
+use Rattle.http_edge.proofs.BehindLaws.{open_feeds, bad_feeds, some_head, gathered}
 use Rattle.http_edge.proofs.NextLaws.{window}
 use Rattle.http_edge.proofs.reader.HttpReader.read_body.Goals as goal
 
