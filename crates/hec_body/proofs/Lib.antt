@@ -1,0 +1,10 @@
+pub mod Front
+pub mod Members
+pub mod LineLaws
+pub mod EventLaws
+pub mod AckLaws
+pub mod Queries
+pub mod Answered
+pub mod Verdicts
+pub mod Cuts
+pub mod LineCuts

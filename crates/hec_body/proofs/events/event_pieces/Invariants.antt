@@ -1,0 +1,15 @@
+use Rattle.std.proofs.Common.{◌≤◌, length}
+use Rattle.std.specs.List.{All}
+use Rattle.hec_body.specs.Limits.{IsShort}
+use Rattle.hec_body.specs.Events.{BeginsEvents}
+use Rattle.hec_body.proofs.events.event_pieces.Given as goal
+
+abbrev pub invariant-loop-text : goal.invariant-loop-text
+invariant-loop-text l = record {
+  begins : BeginsEvents l.body l.pieces.items l.rest;
+  few : length l.pieces.items ≤ 10000;
+  short : All IsShort l.pieces.items;
+}
+
+abbrev pub decreases-loop-text : goal.decreases-loop-text
+decreases-loop-text l = length l.rest

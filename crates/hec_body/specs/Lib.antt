@@ -1,0 +1,4 @@
+pub mod Limits
+pub mod Events
+pub mod Lines
+pub mod Acks

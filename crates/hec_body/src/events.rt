@@ -1,0 +1,69 @@
+//! Event bodies.
+ghost use Rattle.std.specs.Prelude.{◌≡◌, ℕ, ◌<◌, ◌^◌, OnOk, IfOk, IfErr};
+ghost use Rattle.json_span.specs.Json.{JsonObject};
+ghost use Rattle.hec_body.specs.Limits.{AreWithinLimits};
+ghost use Rattle.hec_body.specs.Events.{IsEventObject, AreEvents, IsRefused, IsFirstFault};
+
+use crate::fault::BodyFault;
+use crate::limits::{MOST_EVENTS, MOST_TEXT};
+use crate::objects::{event_value, first_object, is_blank, is_white_space};
+use event_form::Blob;
+use json_span::{Span, members};
+use std::alloc::Global;
+
+/// Judges an object by itself, as the event of that number: how long it is, whether it has an event, and
+/// whether that is blank.
+fn judge(alloc: Global, text: &[u8], event: u32) -> Result<(), BodyFault>
+    requires { JsonObject 127 text.now }
+    ensures event { OnOk result (IsEventObject text.now) }
+    ensures fault { IfErr result (λ fault. IsRefused text.now event fault) }
+{
+    if text.len() > MOST_TEXT {
+        return Err(BodyFault::Format { event });
+    }
+    let whole = Span {
+        start: 0,
+        end: text.len(),
+    };
+    let members = members(alloc, text, whole)?;
+    match event_value(text, &members) {
+        None => Err(BodyFault::NoEvent { event }),
+        Some(value) if is_blank(value) => Err(BodyFault::Blank { event }),
+        Some(_) => Ok(()),
+    }
+}
+
+/// The event objects of an event body ("Format events for HTTP Event Collector"), as they are spelt, in
+/// their order: JSON objects of at most 127 levels and 131,072 bytes, one after another, with white space
+/// round them allowed. There is at least one of them and at most 10,000.
+///
+/// Each object is judged before the next one is looked at, and the first fault decides. `NoData`: the body
+/// is white space or nothing. `Format`: no such object begins where this one is due. `NoEvent`: none of
+/// its members is spelt `"event"`; escapes aren't read. `Blank`: the first such member's value is `""` or
+/// `null`. Behind 10,000 events `TooMany` stands for a further object of at most 127 levels, and `Format`
+/// for anything else than white space. `NoMemory`: no memory was found; it can come in place of any answer.
+pub fn event_pieces(alloc: Global, body: &[u8]) -> Result<Vec<Blob>, BodyFault>
+    ensures events { IfOk result (λ pieces. AreEvents body.now pieces.items) }
+    ensures limits { IfOk result (λ pieces. AreWithinLimits pieces.items) }
+    ensures fault { IfErr result (λ fault. IsFirstFault body.now fault) }
+{
+    let mut pieces = Vec::new(alloc);
+    let mut rest = body;
+    while let Some((text, behind)) = first_object(rest) {
+        if pieces.len() == MOST_EVENTS {
+            return Err(BodyFault::TooMany);
+        }
+        judge(alloc, text, pieces.len() as u32)?;
+        pieces.push(Blob::of(Vec::from_slice(alloc, text)?))?;
+        rest = behind;
+    }
+    if !is_white_space(rest) {
+        return Err(BodyFault::Format {
+            event: pieces.len() as u32,
+        });
+    }
+    if pieces.is_empty() {
+        return Err(BodyFault::NoData);
+    }
+    Ok(pieces)
+}
