@@ -1,0 +1,141 @@
+-- What a reader has read after a piece.
+use Rattle.std.proofs.Common.{◌≡◌, ℕ, ◌+◌, ◌-◌, ◌<◌, ◌≤◌, List, [], ◌∷◌, ◌++◌, length, take, drop, refl, sym, ap, ◌∙◌, subst, arith, inl, inr, length-append, length-take-le, append_assoc, append-nil, take-append-drop}
+use Rattle.std.specs.Prelude.{Option, Some, None, Result, Ok, Err}
+use Rattle.httparse.specs.Grammar.{RequestHead, print_request}
+use Rattle.httparse.proofs.GrammarLemmas.{request_unique}
+use Rattle.event_form.specs.declared.feed_fault.FeedFault.{FeedFault}
+use Rattle.event_form.specs.declared.feed_fault.FeedFault.TheVariants.{Fault}
+use Rattle.http_edge.specs.declared.fault.HttpFault.{HttpFault}
+use Rattle.http_edge.specs.declared.fault.HttpWhy.{HttpWhy}
+use Rattle.http_edge.specs.declared.fault.HttpWhy.TheVariants.{BadHead, BadLength, TooLong, BadChunk}
+use Rattle.http_edge.specs.declared.gather.Ending.TheVariants.{Whole, Open, Bad}
+use Rattle.http_edge.specs.declared.head.Head.{Head}
+use Rattle.http_edge.specs.declared.request.HttpItem.{HttpItem}
+use Rattle.http_edge.specs.declared.request.HttpItem.TheVariants.{Request}
+use Rattle.http_edge.specs.declared.request.HttpRequest.{HttpRequest}
+use Rattle.http_edge.specs.declared.scan.Scanned.{Scanned}
+use Rattle.http_edge.specs.declared.stage.Stage.{Stage}
+use Rattle.http_edge.specs.declared.stage.Stage.TheVariants.{Plain}
+use Rattle.http_edge.specs.Heads.{IsOpenHead}
+use Rattle.http_edge.specs.Lengths.{size_of}
+use Rattle.http_edge.specs.Bodies.{Reaches, Awaits}
+use Rattle.http_edge.specs.HttpStream.{BeginsWith, IsRequest, IsOpen, IsFault, IsStream, IsFaulty, AreRequests, items_of, told_of}
+use Rattle.http_edge.specs.Reading.{Reader, ReadsTo, Reads, Holds, Feeds, come, head_of}
+use Rattle.http_edge.specs.Keeping.{FeedsAll, answer, moved, settled}
+use Rattle.http_edge.specs.Gathering.{GathersTo}
+use Rattle.http_edge.specs.Scanning.{Scans, ScansTo, place_of}
+use Rattle.http_edge.proofs.FaultLaws.{begins_more, fault_more}
+use Rattle.http_edge.proofs.NextLaws.{with_body, is_request, told_first, is_open}
+use Rattle.http_edge.proofs.StreamLaws.{requests_then}
+
+-- nothing is told of a head that is not whole
+pub told_none : (rest : List ℕ) (told : List HttpItem) → IsOpen rest told → IsOpenHead rest → told ≡ []
+told_none rest told (inl (a, o, e)) h = e
+told_none rest told (inr (k, text, begins, o, e)) h = absurd (h.none k text begins.holds)
+
+-- what is told of a head that is whole
+pub told_head : (rest : List ℕ) (told : List HttpItem) (h : RequestHead) (text : List ℕ) → IsOpen rest told → BeginsWith rest h text → told ≡ told_of h
+told_head rest told h text (inl (a, o, e)) begins = absurd (o.none h text begins.holds)
+told_head rest told h text (inr (k, other, b, o, e)) begins = e ∙ ap told_of (request_unique rest k h other text b.holds.reads begins.holds.reads).0
+
+-- a reader without a fault
+reads_none : (fed : List ℕ) (items : List HttpItem) (r : Reader) → r.fault ≡ None → ReadsTo fed items r r.fault → (rest : List ℕ) × IsStream fed items r.at rest × Holds r.begun r.stage r.body r.read r.unread rest
+reads_none fed items r e x = subst (ReadsTo fed items r) e x
+
+-- a piece behind whole requests
+pub requests_more_text : (fed piece rest : List ℕ) (items : List HttpItem) (at : ℕ) → AreRequests fed items at rest → AreRequests (fed ++ piece) items at (rest ++ piece)
+requests_more_text fed piece rest items at s = record {
+  requests = s.requests;
+  front = s.front;
+  spelled = s.spelled;
+  whole = ap (λ (v : List ℕ). v ++ piece) s.whole ∙ append_assoc s.front rest piece;
+  at_is = s.at_is;
+  items_are = s.items_are;
+}
+
+pub feeds_faulty : (old : Reader) (piece : List ℕ) (e : HttpFault) → old.fault ≡ Some e → Feeds old piece (Err (Fault e)) old
+feeds_faulty old piece e q = (
+  q,
+  λ fed taken r.
+      let k = subst (ReadsTo fed (taken ++ old.waiting) old) q r in
+      let f = k.0 in
+      subst (ReadsTo (fed ++ piece) (taken ++ old.waiting) old) (sym q) (
+        record {
+          before = f.before;
+          told = f.told;
+          rest = f.rest ++ piece;
+          behind = f.behind;
+          requests = requests_more_text fed piece f.rest f.before old.at f.requests;
+          items_are = f.items_are;
+          place_is = f.place_is;
+          fault = fault_more f.rest piece e.why f.behind f.told f.fault;
+        },
+        k.1,
+      ),
+)
+
+three : (a b c d : List HttpItem) → (a ++ b) ++ (c ++ d) ≡ (a ++ (b ++ c)) ++ d
+three a b c d = simp append_assoc
+
+-- the items of requests behind requests
+items_then : (taken waiting more first before told : List HttpItem) → taken ++ waiting ≡ first → more ≡ before ++ told → taken ++ (waiting ++ more) ≡ (first ++ before) ++ told
+items_then taken waiting more first before told e f = sym (append_assoc taken waiting more) ∙ (λ i. e i ++ f i) ∙ sym (append_assoc first before told)
+
+pub feeds_begin : (old : Reader) (all : List ℕ) (items : List HttpItem) (from : ℕ) (begun : Option Head) (stage : Stage) (body : List ℕ) (read : ℕ) (unread : List ℕ) (fault : Option HttpFault) → old.fault ≡ None → old.begun ≡ None → ScansTo all items from begun stage body read unread fault → FeedsAll old all (answer (moved old.at fault)) (record { waiting = old.waiting ++ items; at = old.at + from; begun = begun; stage = stage; body = body; read = read; unread = unread; fault = moved old.at fault })
+feeds_begin old all items from begun stage body read unread fault e b s piece f = go fault s
+  where
+    first : (fed : List ℕ) (taken : List HttpItem) → Reads fed taken old → (rest : List ℕ) × (before : List HttpItem) × AreRequests fed before old.at rest × (taken ++ old.waiting ≡ before) × (all ≡ rest ++ piece)
+    first fed taken r =
+        let x = reads_none fed (taken ++ old.waiting) old e r in
+        let h = subst (λ (g : Option Head). Holds g old.stage old.body old.read old.unread x.0) b x.2 in
+        let none = told_none x.0 x.1.told x.1.going h.4 in
+        (x.0, x.1.before, x.1.requests, x.1.items_are ∙ ap (λ (v : List HttpItem). x.1.before ++ v) none ∙ append-nil x.1.before, f ∙ ap (λ (v : List ℕ). v ++ piece) (sym h.0))
+    go : (fault : Option HttpFault) → ScansTo all items from begun stage body read unread fault → Feeds old piece (answer (moved old.at fault)) (record { waiting = old.waiting ++ items; at = old.at + from; begun = begun; stage = stage; body = body; read = read; unread = unread; fault = moved old.at fault })
+    go None s = (
+      refl,
+      λ fed taken r.
+          let x = first fed taken r in
+          (
+            drop from all,
+            record {
+              before = x.1 ++ s.before;
+              told = s.told;
+              requests = requests_then fed piece x.0 x.1 s.before old.at from (drop from all) x.2 (subst (λ (v : List ℕ). AreRequests v s.before from (drop from all)) x.4 s.requests);
+              items_are = items_then taken old.waiting items x.1 s.before s.told x.3 s.items_are;
+              going = s.leaves.going;
+            },
+            s.leaves.holds,
+          ),
+    )
+    go (Some fault) s = (
+      refl,
+      λ fed taken r.
+          let x = first fed taken r in
+          let l = s.leaves in
+          let place = l.2 in
+          (
+            record {
+              before = x.1 ++ s.before;
+              told = s.told;
+              rest = drop from all;
+              behind = l.0;
+              requests = requests_then fed piece x.0 x.1 s.before old.at from (drop from all) x.2 (subst (λ (v : List ℕ). AreRequests v s.before from (drop from all)) x.4 s.requests);
+              items_are = items_then taken old.waiting items x.1 s.before s.told x.3 s.items_are;
+              place_is = omega (arith, place);
+              fault = l.1;
+            },
+            (let n : length unread ≡ 0 = ap length l.4 in let m = l.3 in omega (arith, n, m)),
+          ),
+    )
+
+pub begin_feeds : (old : Reader) (all : List ℕ) (s : Scanned) (waiting : List HttpItem) (new : Reader) (result : Result (Unit {0}) (FeedFault HttpFault)) → old.fault ≡ None → old.begun ≡ None → Scans all s → waiting ≡ old.waiting ++ s.items.items → new ≡ settled (record old { waiting = waiting }) old.at s.left → result ≡ answer (moved old.at s.left.fault) → FeedsAll old all result new
+begin_feeds old all s waiting new result e b x w n a =
+    let l = s.left in
+    let now : List HttpItem → Reader = λ v. settled (record old { waiting = v }) old.at l in
+    let done = feeds_begin old all s.items.items l.from l.begun l.stage l.body.items l.read l.unread.items l.fault e b x in
+    subst (FeedsAll old all result) (sym (n ∙ ap now w)) (subst (λ (q : Result (Unit {0}) (FeedFault HttpFault)). FeedsAll old all q (now (old.waiting ++ s.items.items))) (sym a) done)
+
+-- what waits is no part of what was read
+pub reads_waiting : (fed : List ℕ) (items more : List HttpItem) (r : Reader) (waiting : List HttpItem) (fault : Option HttpFault) → items ≡ more → ReadsTo fed items r fault → ReadsTo fed more (record r { waiting = waiting }) fault
+reads_waiting fed items more r waiting None e x = (x.0, subst (λ (v : List HttpItem). IsStream fed v r.at x.0) e x.1, x.2)
+reads_waiting fed items more r waiting (Some f) e x = (subst (λ (v : List HttpItem). IsFaulty fed v r.at f.at f.why) e x.0, x.1)

@@ -1,0 +1,12 @@
+pub mod LineLaws
+pub mod HeadLaws
+pub mod LengthLaws
+pub mod BuildLaws
+pub mod OpeningLaws
+pub mod BodyLaws
+pub mod ChunkLaws
+pub mod GatherLaws
+pub mod NextLaws
+pub mod StreamLaws
+pub mod FaultLaws
+pub mod FeedLaws

@@ -1,0 +1,20 @@
+use Rattle.std.proofs.Common.{◌≡◌, sym, ◌∙◌}
+use Rattle.httparse.specs.Grammar.{HasNoRequest, MayBecomeRequest}
+use Rattle.http_edge.proofs.HeadLaws.{head_judged, head_bad, head_open, on_partial}
+use Rattle.http_edge.proofs.head.read_head.Goals as goal
+
+pub returns-then-too_many_lines : goal.returns-then-too_many_lines
+returns-then-too_many_lines c =
+    let w = c.in-Ok-Partial in
+    let b = c.args.buf.now in
+    let none = on_partial (HasNoRequest b) c.parse_request.result w.field-0 w.is w.field-0-is c.parse_request.ensures.partial in
+    let goes = on_partial (MayBecomeRequest b) c.parse_request.result w.field-0 w.is w.field-0-is c.parse_request.ensures.unfinished in
+    head_bad b (head_judged b none goes) (sym c.too_many_lines.ensures ∙ c.if-too_many_lines.true)
+
+pub returns-else-too_many_lines : goal.returns-else-too_many_lines
+returns-else-too_many_lines c =
+    let w = c.in-Ok-Partial in
+    let b = c.args.buf.now in
+    let none = on_partial (HasNoRequest b) c.parse_request.result w.field-0 w.is w.field-0-is c.parse_request.ensures.partial in
+    let goes = on_partial (MayBecomeRequest b) c.parse_request.result w.field-0 w.is w.field-0-is c.parse_request.ensures.unfinished in
+    record { none = λ h rest x. none h rest x.reads; going = head_open b (head_judged b none goes) (sym c.too_many_lines.ensures ∙ c.if-too_many_lines.false) }

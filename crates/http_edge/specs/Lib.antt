@@ -1,0 +1,14 @@
+pub mod Fields
+pub mod Reply
+pub mod Heads
+pub mod Lengths
+pub mod Chunks
+pub mod Bodies
+pub mod HttpStream
+pub mod Reading
+pub mod LineCount
+pub mod Steps
+pub mod Turns
+pub mod Gathering
+pub mod Scanning
+pub mod Keeping

@@ -1,0 +1,75 @@
+//! The writer of replies.
+ghost use Rattle.std.specs.Prelude.{◌≡◌, ◌≤◌, ◌++◌, length, IsTrue, IfOk, OnOk, OnErr};
+ghost use Rattle.http_edge.specs.Reply.{connection, is_status, reason_of, reply_head, reply_text};
+
+use std::alloc::{AllocError, Global};
+
+// The reason phrase of a status.
+fn reason_of(status: u16) -> &'static [u8]
+    ensures { result.now ≡ reason_of status }
+{
+    match status {
+        200 => b"OK",
+        400 => b"Bad Request",
+        401 => b"Unauthorized",
+        403 => b"Forbidden",
+        404 => b"Not Found",
+        405 => b"Method Not Allowed",
+        500 => b"Internal Server Error",
+        _ => b"Service Unavailable",
+    }
+}
+
+// The field that ends the connection, where it is to end.
+fn connection(closing: bool) -> &'static [u8]
+    ensures { result.now ≡ connection closing }
+{
+    if closing {
+        b"Connection: close\r\n"
+    } else {
+        b""
+    }
+}
+
+// The status line, the fields, and the empty line behind them.
+fn reply_head(alloc: Global, status: u16, closing: bool, size: usize) -> Result<Vec<u8>, AllocError>
+    ensures { IfOk result (λ head. head.items ≡ reply_head status closing size) }
+{
+    let mut head = Vec::from_slice(alloc, b"HTTP/1.1 ")?;
+    head.extend_from_slice(status.to_string(alloc)?.as_bytes())?;
+    head.extend_from_slice(b" ")?;
+    head.extend_from_slice(reason_of(status))?;
+    head.extend_from_slice(b"\r\n")?;
+    head.extend_from_slice(b"Content-Type: application/json")?;
+    head.extend_from_slice(b"\r\n")?;
+    head.extend_from_slice(b"Content-Length: ")?;
+    head.extend_from_slice(size.to_string(alloc)?.as_bytes())?;
+    head.extend_from_slice(b"\r\n")?;
+    head.extend_from_slice(connection(closing))?;
+    head.extend_from_slice(b"\r\n")?;
+    Ok(head)
+}
+
+/// Appends a reply of HTTP/1.1 with this status, its reason, a JSON body of at most 1,048,576 bytes, and,
+/// where `closing`, the field `Connection: close` (RFC 9112, sections 4, 6.2 and 9.6). The status is 200,
+/// 400, 401, 403, 404, 405, 500 or 503. After the error `out` is as before.
+pub fn write_reply(
+    status: u16,
+    closing: bool,
+    body: &[u8],
+    out: &mut Vec<u8>,
+) -> Result<(), AllocError>
+    requires status { IsTrue (is_status status) }
+    requires body { length body.now ≤ 1048576 }
+    ensures ok { OnOk result (out.new.items ≡ out.old.items ++ reply_text status closing body.now) }
+    ensures err { OnErr result (out.new.items ≡ out.old.items) }
+{
+    let before = out.len();
+    let head = reply_head(*out.allocator(), status, closing, body.len())?;
+    out.extend_from_slice(&head)?;
+    if let Err(error) = out.extend_from_slice(body) {
+        out.truncate(before);
+        return Err(error);
+    }
+    Ok(())
+}
