@@ -2,7 +2,11 @@
 use Rattle.std.proofs.Common.{◌≡◌, ℕ, ◌<◌, ◌≤◌, Bool, true, false, List, [], ◌∷◌, ◌++◌, length, take, drop, refl, sym, ap, ◌∙◌, subst, arith, inl, inr}
 use Rattle.std.specs.Prelude.{◌&&◌, ◌==◌, nat_lt, nat_le, codes, Err}
 use Rattle.std.proofs.lemmas.Bool.{leb-true, false≢true}
-use Rattle.httparse.specs.Grammar.{RequestHead}
+use Rattle.std.proofs.Common.{◌+◌, length-append, append-nil}
+use Rattle.std.proofs.lemmas.List.Elements.{All-nil}
+use Rattle.httparse.specs.Grammar.{RequestHead, IsRequestHead, IsField, lf, print_request}
+use Rattle.httparse.proofs.OpenLemmas.{some_method, some_target}
+use Rattle.http_edge.proofs.BuildLaws.{some_head}
 use Rattle.http_edge.specs.declared.fault.HttpWhy.{HttpWhy}
 use Rattle.http_edge.specs.declared.fault.HttpWhy.TheVariants.{BadHead, BadLength, TooLong, BadChunk}
 use Rattle.http_edge.specs.declared.field.Field.{Field}
@@ -10,7 +14,7 @@ use Rattle.http_edge.specs.declared.head.Head.{Head}
 use Rattle.http_edge.specs.declared.length.Size.{Size}
 use Rattle.http_edge.specs.declared.request.HttpItem.{HttpItem}
 use Rattle.http_edge.specs.Fields.{field_value}
-use Rattle.http_edge.specs.Heads.{head_fields}
+use Rattle.http_edge.specs.Heads.{HoldsHead, IsOpenHead, head_fields}
 use Rattle.http_edge.specs.Lengths.{BodySize, Sized, body_size, size_of, has_body, asks, is_continue}
 use Rattle.http_edge.specs.Bodies.{IsTooLong}
 use Rattle.http_edge.specs.HttpStream.{BeginsWith, IsFault, items_if, told_of}
@@ -47,3 +51,25 @@ refused b h text BadHead begins s = absurd s
 refused b h text BadLength begins s = (h, text, begins, s, refl, refl)
 refused b h text TooLong begins (n, e, long) = inr (h, text, begins, subst (λ (z : BodySize). IsTooLong z text) (sym e) long, refl, told_long h n e long)
 refused b h text BadChunk begins s = absurd s
+
+-- a head that is as short as may be
+short_head : RequestHead
+short_head = record { blank = []; method = some_method.tree; target = some_target.tree; minor = 0; line_end = lf; fields = []; last = lf }
+
+short_head_is : IsRequestHead short_head
+unfolding short_head
+short_head_is =
+    let m = some_method.reads [] in
+    let t = some_target.reads [] in
+    record { method = (m.0, m.1); target = (t.0.0, t.0.1); target_text = t.1; minor = omega arith; fields = All-nil IsField }
+
+no_head : (h : RequestHead) (rest : List ℕ) → HoldsHead [] h rest → ⊥
+no_head h rest x =
+    let n = some_head h in
+    let m : 0 ≡ length (print_request h) + length rest = ap length x.reads.1 ∙ length-append (print_request h) rest in
+    omega (arith, n, m)
+
+-- no bytes are the beginning of a head
+pub open_nil : IsOpenHead []
+unfolding short_head
+open_nil = record { none = no_head; going = inl (record { more = print_request short_head; head = short_head; holds = record { reads = (short_head_is, sym (append-nil (print_request short_head))); few = omega arith } }) }

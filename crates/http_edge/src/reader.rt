@@ -88,6 +88,7 @@ impl HttpReader {
         requires { KeepsLeft base left }
         ensures state { self.new ≡ settled self.old base left }
         ensures told { result ≡ answer (moved base left.fault) }
+        ensures bound { held self.new ≤ 1064960 }
     {
         self.at = base + left.from as u64;
         self.begun = left.begun;
@@ -119,6 +120,7 @@ impl HttpReader {
         requires room { self.old.at + self.old.read + length all.now ≤ 2 ^ 40 }
         ensures feeds { FeedsAll self.old all.now result self.new }
         ensures room { self.new.at + come self.new ≤ self.old.at + self.old.read + length all.now }
+        ensures bound { held self.new ≤ 1064960 }
     {
         let Scanned { mut items, left } = scan(self.alloc, all)?;
         self.waiting.append(&mut items)?;
@@ -130,20 +132,21 @@ impl HttpReader {
     // the requests behind it. Nothing is given up before the last memory is found.
     fn read_behind(
         &mut self,
-        data: &[u8],
+        last: &[u8],
         used: usize,
         all: &[u8],
     ) -> Result<(), FeedFault<HttpFault>>
         requires begun { (self.old.fault ≡ None) × IsSome self.old.begun }
         requires longer { length self.old.unread ≤ length all.now }
-        requires ends { GathersTo self.old.stage (length self.old.body) all.now data.now used Whole }
+        requires ends { GathersTo self.old.stage (length self.old.body) all.now last.now used Whole }
         requires room { self.old.at + self.old.read + length all.now ≤ 2 ^ 40 }
         ensures feeds { FeedsAll self.old all.now result self.new }
         ensures room { self.new.at + come self.new ≤ self.old.at + self.old.read + length all.now }
+        ensures bound { held self.new ≤ 1064960 }
     {
         let Scanned { mut items, left } = scan(self.alloc, &all[used..])?;
         self.waiting.reserve(items.len() + 1)?;
-        self.body.extend_from_slice(data)?;
+        self.body.extend_from_slice(last)?;
         let base = self.at + (self.read + used) as u64;
         let Some(head) = self.begun.take() else {
             unreachable!();
@@ -163,6 +166,7 @@ impl HttpReader {
         requires room { self.old.at + self.old.read + length all.now ≤ 2 ^ 40 }
         ensures feeds { FeedsAll self.old all.now result self.new }
         ensures room { self.new.at + come self.new ≤ self.old.at + self.old.read + length all.now }
+        ensures bound { held self.new ≤ 1064960 }
     {
         let Gathered { data, used, end } = gather(self.alloc, self.stage, self.body.len(), all)?;
         match end {
