@@ -1,0 +1,4 @@
+pub mod CodeLaws
+pub mod EventLaws
+pub mod QueryLaws
+pub mod CheckLaws

@@ -1,0 +1,4 @@
+pub mod Codes
+pub mod Target
+pub mod Checks
+pub mod Acts

@@ -1,0 +1,1 @@
+//! Requests and what is done for them, and the bodies of replies.
