@@ -85,12 +85,7 @@ pub fn store(alloc: Global, form: Form, body: &[u8]) -> Result<HecAct, AllocErro
 }
 
 /// The act for a body whose events are stored under an id of this channel.
-pub fn store_on(
-    alloc: Global,
-    form: Form,
-    channel: u128,
-    body: &[u8],
-) -> Result<HecAct, AllocError>
+pub fn store_on(alloc: Global, form: Form, channel: u128, body: &[u8]) -> Result<HecAct, AllocError>
     ensures act { IfOk result (StoresOn form channel body.now) }
     ensures sound { IfOk result IsSound }
 {

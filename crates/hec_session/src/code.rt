@@ -69,7 +69,7 @@ impl HecCode {
     }
 
     /// The code with this number, of which there has to be one.
-    pub fn with(number: u16) -> HecCode
+    pub(crate) fn with(number: u16) -> HecCode
         ensures { result ≡ code_with number }
     {
         match number {
@@ -117,7 +117,7 @@ impl HecCode {
     }
 
     /// The text in a reply's body.
-    pub fn text(self) -> &'static [u8]
+    pub(crate) fn text(self) -> &'static [u8]
         ensures { result.now ≡ text_of self }
     {
         match self {

@@ -16,9 +16,9 @@ mod say;
 mod stop;
 mod target;
 mod task;
-mod tokens;
 #[cfg(test)]
 mod tests;
+mod tokens;
 
 pub use act::HecAct;
 pub use code::HecCode;

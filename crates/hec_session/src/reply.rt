@@ -19,7 +19,12 @@ fn put_member(name: &[u8], number: u64, text: &mut Vec<u8>) -> Result<(), AllocE
 }
 
 // The object of a code, with one more member where there is a number.
-fn object_of(alloc: Global, code: HecCode, name: &[u8], number: Option<u64>) -> Result<Blob, AllocError>
+fn object_of(
+    alloc: Global,
+    code: HecCode,
+    name: &[u8],
+    number: Option<u64>,
+) -> Result<Blob, AllocError>
     ensures { IfOk result (λ body. body ≡ object_of code name.now number) }
 {
     let mut text = Vec::from_slice(alloc, b"{\"text\":\"")?;
