@@ -2,3 +2,4 @@ pub mod CodeLaws
 pub mod EventLaws
 pub mod QueryLaws
 pub mod CheckLaws
+pub mod ActLaws

@@ -2,3 +2,4 @@ pub mod Codes
 pub mod Target
 pub mod Checks
 pub mod Acts
+pub mod OneAct

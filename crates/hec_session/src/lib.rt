@@ -10,6 +10,7 @@ mod act;
 mod body;
 mod code;
 mod endpoint;
+mod laws;
 mod receiver;
 mod reply;
 mod say;
@@ -22,6 +23,7 @@ mod tokens;
 
 pub use act::HecAct;
 pub use code::HecCode;
+pub use laws::one_act;
 pub use receiver::HecCore;
 pub use reply::{say_body, success_body};
 pub use say::HecSay;
