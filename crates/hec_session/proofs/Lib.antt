@@ -3,3 +3,4 @@ pub mod EventLaws
 pub mod QueryLaws
 pub mod CheckLaws
 pub mod ActLaws
+pub mod ReplyLaws

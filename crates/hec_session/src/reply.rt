@@ -1,5 +1,5 @@
 //! The bodies of replies.
-ghost use Rattle.std.specs.Prelude.{◌≡◌, ◌++◌, Some, IfOk, OnOk};
+ghost use Rattle.std.specs.Prelude.{◌≡◌, ◌≤◌, ◌++◌, length, Some, IfOk, OnOk};
 ghost use Rattle.hec_session.specs.declared.code.HecCode.{HecCode};
 ghost use Rattle.hec_session.specs.Codes.{IsSay, body_of, member_of, number_of, object_of, success_of};
 
@@ -8,14 +8,29 @@ use crate::say::HecSay;
 use event_form::Blob;
 use std::alloc::{AllocError, Global};
 
-// A member with a number, behind a comma.
-fn put_member(name: &[u8], number: u64, text: &mut Vec<u8>) -> Result<(), AllocError>
-    ensures { OnOk result (text.new.items ≡ text.old.items ++ member_of name.now (Some number)) }
+// A member with this number, behind a comma.
+fn member(alloc: Global, name: &[u8], number: u64) -> Result<Vec<u8>, AllocError>
+    requires { length name.now ≤ 20 }
+    ensures value { IfOk result (λ text. text.items ≡ member_of name.now (Some number)) }
+    ensures short { IfOk result (λ text. length text.items ≤ 44) }
 {
-    text.extend_from_slice(b",\"")?;
+    let mut text = Vec::from_slice(alloc, b",\"")?;
     text.extend_from_slice(name)?;
     text.extend_from_slice(b"\":")?;
-    text.extend_from_slice(number.to_string(*text.allocator())?.as_bytes())
+    text.extend_from_slice(number.to_string(alloc)?.as_bytes())?;
+    Ok(text)
+}
+
+// That member where there is a number.
+fn member_of(alloc: Global, name: &[u8], number: Option<u64>) -> Result<Vec<u8>, AllocError>
+    requires { length name.now ≤ 20 }
+    ensures value { IfOk result (λ text. text.items ≡ member_of name.now number) }
+    ensures short { IfOk result (λ text. length text.items ≤ 44) }
+{
+    match number {
+        Some(number) => member(alloc, name, number),
+        None => Ok(Vec::new(alloc)),
+    }
 }
 
 // The object of a code, with one more member where there is a number.
@@ -25,15 +40,16 @@ fn object_of(
     name: &[u8],
     number: Option<u64>,
 ) -> Result<Blob, AllocError>
-    ensures { IfOk result (λ body. body ≡ object_of code name.now number) }
+    requires { length name.now ≤ 20 }
+    ensures value { IfOk result (λ body. body ≡ object_of code name.now number) }
+    ensures short { IfOk result (λ body. length body ≤ 128) }
 {
+    let member = member_of(alloc, name, number)?;
     let mut text = Vec::from_slice(alloc, b"{\"text\":\"")?;
     text.extend_from_slice(code.text())?;
     text.extend_from_slice(b"\",\"code\":")?;
     text.extend_from_slice(code.number().to_string(alloc)?.as_bytes())?;
-    if let Some(number) = number {
-        put_member(name, number, &mut text)?;
-    }
+    text.extend_from_slice(&member)?;
     text.extend_from_slice(b"}")?;
     Ok(Blob::of(text))
 }
@@ -60,7 +76,8 @@ fn event_of(say: &HecSay) -> Option<u64>
 /// The reply has one of the codes, and its status. The only error is want of memory.
 pub fn say_body(alloc: Global, say: &HecSay) -> Result<Blob, AllocError>
     requires { IsSay say.now }
-    ensures { IfOk result (λ body. (code : HecCode) → say.now.code ≡ number_of code → body ≡ body_of code say.now.event) }
+    ensures value { IfOk result (λ body. (code : HecCode) → say.now.code ≡ number_of code → body ≡ body_of code say.now.event) }
+    ensures short { IfOk result (λ body. length body ≤ 128) }
 {
     object_of(alloc, code_of(say), b"invalid-event-number", event_of(say))
 }
@@ -68,7 +85,8 @@ pub fn say_body(alloc: Global, say: &HecSay) -> Result<Blob, AllocError>
 /// The body of Success ("HTTP Event Collector indexer acknowledgment"): `{"text":"Success","code":0}`, and
 /// with an id `,"ackId":N` before the brace. The only error is want of memory.
 pub fn success_body(alloc: Global, ack: Option<u64>) -> Result<Blob, AllocError>
-    ensures { IfOk result (λ body. body ≡ success_of ack) }
+    ensures value { IfOk result (λ body. body ≡ success_of ack) }
+    ensures short { IfOk result (λ body. length body ≤ 128) }
 {
     object_of(alloc, HecCode::Success, b"ackId", ack)
 }
