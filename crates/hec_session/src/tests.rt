@@ -10,43 +10,53 @@ const ACK_TOKEN: u128 = 0xaaaa_aaaa_2222_3333_4444_5555_5555_5555;
 
 const CHANNEL: u128 = 0xcccc_cccc_2222_3333_4444_5555_5555_5555;
 
-/// Fields with these values.
-const T: (&str, &str) = (
-    "Authorization",
-    "Splunk 11111111-2222-3333-4444-555555555555",
-);
+/// The Authorization with each of the tokens.
+const T: &str = "Splunk 11111111-2222-3333-4444-555555555555";
 
-const A: (&str, &str) = (
-    "authorization",
-    "Splunk aaaaaaaa-2222-3333-4444-555555555555",
-);
-
-const C: (&str, &str) = (
-    "X-Splunk-Request-Channel",
-    "cccccccc-2222-3333-4444-555555555555",
-);
-
-const NO_CHANNEL: (&str, &str) = ("X-Splunk-Request-Channel", "zz");
-
-const GZIP: (&str, &str) = ("Content-Encoding", "gzip");
+const A: &str = "Splunk aaaaaaaa-2222-3333-4444-555555555555";
 
 fn blob(alloc: Global, text: &str) -> Result<Blob, AllocError> {
     Ok(Blob::of(Vec::from_slice(alloc, text.as_bytes())?))
 }
 
+fn field(alloc: Global, name: &str, value: &str) -> Result<Field, AllocError> {
+    Ok(Field {
+        name: blob(alloc, name)?,
+        value: blob(alloc, value)?,
+    })
+}
+
+/// The field that a letter stands for: a channel, `Z` one that is no GUID, `T` an Authorization, and a coding,
+/// `G` or `I`.
+fn lettered(alloc: Global, letter: u8) -> Result<Field, AllocError> {
+    match letter {
+        b'C' => field(
+            alloc,
+            "X-Splunk-Request-Channel",
+            "cccccccc-2222-3333-4444-555555555555",
+        ),
+        b'Z' => field(alloc, "x-splunk-request-channel", "zz"),
+        b'T' => field(alloc, "authorization", T),
+        b'G' => field(alloc, "Content-Encoding", "gzip"),
+        _ => field(alloc, "content-encoding", "Identity"),
+    }
+}
+
+/// A request with an Authorization, unless that is empty, and with the fields of these letters.
 fn request(
     alloc: Global,
     method: &str,
     target: &str,
-    fields: &[(&str, &str)],
+    authorization: &str,
+    letters: &str,
     body: &str,
 ) -> Result<HttpRequest, AllocError> {
     let mut lines = Vec::new(alloc);
-    for (name, value) in fields {
-        lines.push(Field {
-            name: blob(alloc, name)?,
-            value: blob(alloc, value)?,
-        })?;
+    if !authorization.is_empty() {
+        lines.push(field(alloc, "Authorization", authorization)?)?;
+    }
+    for letter in letters.as_bytes() {
+        lines.push(lettered(alloc, *letter)?)?;
     }
     Ok(HttpRequest {
         method: blob(alloc, method)?,
@@ -94,6 +104,15 @@ fn show_say(alloc: Global, say: HecSay, text: &mut Vec<u8>) -> Result<(), AllocE
     }
 }
 
+/// The word, if this is the channel that the requests name.
+fn on(channel: u128, word: &'static [u8]) -> &'static [u8] {
+    if channel == CHANNEL {
+        word
+    } else {
+        b"another channel"
+    }
+}
+
 fn show(alloc: Global, act: HecAct) -> Result<Vec<u8>, AllocError> {
     let mut text = Vec::new(alloc);
     match act {
@@ -101,283 +120,314 @@ fn show(alloc: Global, act: HecAct) -> Result<Vec<u8>, AllocError> {
             text.extend_from_slice(b"store")?;
             show_events(&events, &mut text)?;
         }
-        HecAct::SayThenStore { channel, events } if channel == CHANNEL => {
-            text.extend_from_slice(b"say")?;
+        HecAct::SayThenStore { channel, events } => {
+            text.extend_from_slice(on(channel, b"say"))?;
             show_events(&events, &mut text)?;
         }
-        HecAct::Ask { channel, ids } if channel == CHANNEL => {
-            text.extend_from_slice(b"ask")?;
+        HecAct::Ask { channel, ids } => {
+            text.extend_from_slice(on(channel, b"ask"))?;
             show_ids(alloc, &ids, &mut text)?;
         }
         HecAct::Say(say) => show_say(alloc, say, &mut text)?,
-        _ => text.extend_from_slice(b"another channel")?,
     }
     Ok(text)
 }
 
-#[test]
-fn each_check(rt: HostRuntime) -> Result<(), AllocError> {
-    // Method, target, fields and body, and what is done.
-    let rows: [(&str, &str, &[(&str, &str)], &str, &str); 47] = [
-        // Events, with a token without acks and with one that uses them.
-        (
-            "POST",
-            "/services/collector/event",
-            &[T],
-            r#"{"event":"a"}{"event":{"b":1.50}}"#,
-            r#"store o[{"event":"a"}] o[{"event":{"b":1.50}}]"#,
-        ),
-        (
-            "POST",
-            "/services/collector",
-            &[T],
-            r#"{"event":1}"#,
-            r#"store o[{"event":1}]"#,
-        ),
-        (
-            "POST",
-            "/services/collector/event/1.0?a=b",
-            &[T],
-            r#"{"event":1}"#,
-            r#"store o[{"event":1}]"#,
-        ),
-        (
-            "POST",
-            "/services/collector/raw",
-            &[T],
-            "p\r\n\nq",
-            "store r[p] r[q]",
-        ),
-        (
-            "POST",
-            "/services/collector/raw/1.0",
-            &[A, C],
-            "p\r\n\nq",
-            "say r[p] r[q]",
-        ),
-        (
-            "POST",
-            "/services/collector/event",
-            &[A, C],
-            r#"{"event":"a"}"#,
-            r#"say o[{"event":"a"}]"#,
-        ),
-        (
-            "POST",
-            "/services/collector/ack",
-            &[A, C],
-            r#"{"acks":[4294967296,1,4294967296]}"#,
-            "ask 4294967296 1",
-        ),
-        // Path and method.
-        ("POST", "/x", &[T], "", "404 404"),
-        ("POST", "/services/collector/", &[T], "", "404 404"),
-        (
-            "GET",
-            "http://h/services/collector/health",
-            &[],
-            "",
-            "404 404",
-        ),
-        ("GET", "/services/collector", &[T], "", "405 405"),
-        ("HEAD", "/services/collector/raw", &[T], "", "405 405"),
-        ("post", "/services/collector/ack", &[A, C], "", "405 405"),
-        ("POST", "/services/collector/health", &[T], "", "405 405"),
-        ("GET", "/services/collector/health", &[], "", "200 17"),
-        (
-            "GET",
-            "/services/collector/health/1.0?token=x",
-            &[GZIP],
-            "",
-            "200 17",
-        ),
-        // Authorization.
-        ("POST", "/services/collector", &[], "", "401 2"),
-        ("POST", "/services/collector?Token=x", &[C], "", "401 2"),
-        (
-            "POST",
-            "/services/collector?token=11111111-2222-3333-4444-555555555555",
-            &[],
-            "",
-            "400 16",
-        ),
-        ("POST", "/services/collector?a=1&to%6ben", &[], "", "400 16"),
-        ("POST", "/services/collector?token=x", &[T], "", "400 5"),
-        (
-            "POST",
-            "/services/collector",
-            &[("Authorization", "Basic x")],
-            "",
-            "401 3",
-        ),
-        (
-            "POST",
-            "/services/collector",
-            &[("Authorization", "Splunk"), T],
-            "",
-            "401 3",
-        ),
-        (
-            "POST",
-            "/services/collector",
-            &[(
-                "Authorization",
-                "Splunk  11111111-2222-3333-4444-555555555555",
-            )],
-            "",
-            "403 4",
-        ),
-        (
-            "POST",
-            "/services/collector",
-            &[("Authorization", "Splunk x")],
-            "",
-            "403 4",
-        ),
-        (
-            "POST",
-            "/services/collector",
-            &[(
-                "Authorization",
-                "Splunk cccccccc-2222-3333-4444-555555555555",
-            )],
-            "",
-            "403 4",
-        ),
-        (
-            "POST",
-            "/services/collector",
-            &[("Authorization", "SPLUNK 11111111222233334444555555555555")],
-            "",
-            "400 5",
-        ),
-        (
-            "POST",
-            "/services/collector",
-            &[(
-                "Authorization",
-                "splunk URN:uuid:11111111-2222-3333-4444-555555555555",
-            )],
-            "",
-            "400 5",
-        ),
-        (
-            "POST",
-            "/services/collector",
-            &[
-                (
-                    "Authorization",
-                    "Splunk {AAAAAAAA-2222-3333-4444-555555555555}",
-                ),
-                C,
-            ],
-            "",
-            "400 5",
-        ),
-        // Acks and channel.
-        (
-            "POST",
-            "/services/collector/ack",
-            &[T, C],
-            r#"{"acks":[1]}"#,
-            "400 14",
-        ),
-        ("POST", "/services/collector/ack", &[T, GZIP], "", "400 14"),
-        ("POST", "/services/collector", &[A], "", "400 10"),
-        ("POST", "/services/collector/raw", &[A, GZIP], "p", "400 10"),
-        (
-            "POST",
-            "/services/collector/ack?channel=",
-            &[A],
-            "",
-            "400 11",
-        ),
-        (
-            "POST",
-            "/services/collector",
-            &[A, NO_CHANNEL],
-            "",
-            "400 11",
-        ),
-        (
-            "POST",
-            "/services/collector/raw?channel=cccccccc-2222-3333-4444-555555555555",
-            &[A, NO_CHANNEL, C],
-            "p",
-            "400 11",
-        ),
-        (
-            "POST",
-            "/services/collector/raw?channel=zz",
-            &[A, C],
-            "p",
-            "say r[p]",
-        ),
-        (
-            "POST",
-            "/services/collector/raw?a&channel=%63ccccccc222233334444555555555555&channel=zz",
-            &[A],
-            "p",
-            "say r[p]",
-        ),
-        (
-            "POST",
-            "/services/collector/raw?channel=zz",
-            &[T, NO_CHANNEL],
-            "p",
-            "store r[p]",
-        ),
-        // The coding.
-        ("POST", "/services/collector/raw", &[T, GZIP], "p", "400 6"),
-        (
-            "POST",
-            "/services/collector/raw",
-            &[T, ("content-encoding", "Identity"), GZIP],
-            "p",
-            "store r[p]",
-        ),
-        // The body.
-        ("POST", "/services/collector", &[T], " ", "400 5"),
-        (
-            "POST",
-            "/services/collector",
-            &[T],
-            r#"[{"event":"a"}]"#,
-            "400 6 0",
-        ),
-        (
-            "POST",
-            "/services/collector",
-            &[T],
-            r#"{"event":"a"} {"evnt":1}"#,
-            "400 12 1",
-        ),
-        (
-            "POST",
-            "/services/collector",
-            &[A, C],
-            r#"{"event":""}"#,
-            "400 13 0",
-        ),
-        ("POST", "/services/collector/raw", &[T], "\n", "400 5"),
-        (
-            "POST",
-            "/services/collector/ack",
-            &[A, C],
-            r#"{"acks":[-1]}"#,
-            "400 6",
-        ),
-    ];
-    let alloc = rt.alloc();
+/// Method, target, Authorization, letters of further fields and body of a request, and what is done.
+type Row = (
+    &'static str,
+    &'static str,
+    &'static str,
+    &'static str,
+    &'static str,
+    &'static str,
+);
+
+/// Requests for events, and for other paths.
+const EVENTS_AND_PATHS: [Row; 16] = [
+    // Events, with a token without acks and with one that uses them.
+    (
+        "POST",
+        "/services/collector/event",
+        T,
+        "",
+        r#"{"event":"a"}{"event":{"b":1.50}}"#,
+        r#"store o[{"event":"a"}] o[{"event":{"b":1.50}}]"#,
+    ),
+    (
+        "POST",
+        "/services/collector",
+        T,
+        "",
+        r#"{"event":1}"#,
+        r#"store o[{"event":1}]"#,
+    ),
+    (
+        "POST",
+        "/services/collector/event/1.0?a=b",
+        T,
+        "",
+        r#"{"event":1}"#,
+        r#"store o[{"event":1}]"#,
+    ),
+    (
+        "POST",
+        "/services/collector/raw",
+        T,
+        "",
+        "p\r\n\nq",
+        "store r[p] r[q]",
+    ),
+    (
+        "POST",
+        "/services/collector/raw/1.0",
+        A,
+        "C",
+        "p\r\n\nq",
+        "say r[p] r[q]",
+    ),
+    (
+        "POST",
+        "/services/collector/event",
+        A,
+        "C",
+        r#"{"event":"a"}"#,
+        r#"say o[{"event":"a"}]"#,
+    ),
+    (
+        "POST",
+        "/services/collector/ack",
+        A,
+        "C",
+        r#"{"acks":[4294967296,1,4294967296]}"#,
+        "ask 4294967296 1",
+    ),
+    // Path and method.
+    ("POST", "/x", T, "", "", "404 404"),
+    ("POST", "/services/collector/", T, "", "", "404 404"),
+    (
+        "GET",
+        "http://h/services/collector/health",
+        "",
+        "",
+        "",
+        "404 404",
+    ),
+    ("GET", "/services/collector", T, "", "", "405 405"),
+    ("HEAD", "/services/collector/raw", T, "", "", "405 405"),
+    ("post", "/services/collector/ack", A, "C", "", "405 405"),
+    ("POST", "/services/collector/health", T, "", "", "405 405"),
+    ("GET", "/services/collector/health", "", "", "", "200 17"),
+    (
+        "GET",
+        "/services/collector/health/1.0?token=x",
+        "",
+        "G",
+        "",
+        "200 17",
+    ),
+];
+
+/// Requests with one Authorization or another.
+const AUTHORIZATIONS: [Row; 13] = [
+    // Authorization.
+    ("POST", "/services/collector", "", "", "", "401 2"),
+    ("POST", "/services/collector?Token=x", "", "C", "", "401 2"),
+    (
+        "POST",
+        "/services/collector?token=11111111-2222-3333-4444-555555555555",
+        "",
+        "",
+        "",
+        "400 16",
+    ),
+    (
+        "POST",
+        "/services/collector?a=1&to%6ben",
+        "",
+        "",
+        "",
+        "400 16",
+    ),
+    ("POST", "/services/collector?token=x", T, "", "", "400 5"),
+    ("POST", "/services/collector", "Basic x", "", "", "401 3"),
+    ("POST", "/services/collector", "Splunk", "T", "", "401 3"),
+    (
+        "POST",
+        "/services/collector",
+        "Splunk  11111111-2222-3333-4444-555555555555",
+        "",
+        "",
+        "403 4",
+    ),
+    ("POST", "/services/collector", "Splunk x", "", "", "403 4"),
+    (
+        "POST",
+        "/services/collector",
+        "Splunk cccccccc-2222-3333-4444-555555555555",
+        "",
+        "",
+        "403 4",
+    ),
+    (
+        "POST",
+        "/services/collector",
+        "SPLUNK 11111111222233334444555555555555",
+        "",
+        "",
+        "400 5",
+    ),
+    (
+        "POST",
+        "/services/collector",
+        "splunk URN:uuid:11111111-2222-3333-4444-555555555555",
+        "",
+        "",
+        "400 5",
+    ),
+    (
+        "POST",
+        "/services/collector",
+        "Splunk {AAAAAAAA-2222-3333-4444-555555555555}",
+        "C",
+        "",
+        "400 5",
+    ),
+];
+
+/// Requests that come to the later checks.
+const CHANNELS_AND_BODIES: [Row; 18] = [
+    // Acks and channel.
+    (
+        "POST",
+        "/services/collector/ack",
+        T,
+        "C",
+        r#"{"acks":[1]}"#,
+        "400 14",
+    ),
+    ("POST", "/services/collector/ack", T, "G", "", "400 14"),
+    ("POST", "/services/collector", A, "", "", "400 10"),
+    ("POST", "/services/collector/raw", A, "G", "p", "400 10"),
+    (
+        "POST",
+        "/services/collector/ack?channel=",
+        A,
+        "",
+        "",
+        "400 11",
+    ),
+    ("POST", "/services/collector", A, "Z", "", "400 11"),
+    (
+        "POST",
+        "/services/collector/raw?channel=cccccccc-2222-3333-4444-555555555555",
+        A,
+        "ZC",
+        "p",
+        "400 11",
+    ),
+    (
+        "POST",
+        "/services/collector/raw?channel=zz",
+        A,
+        "C",
+        "p",
+        "say r[p]",
+    ),
+    (
+        "POST",
+        "/services/collector/raw?a&channel=%63ccccccc222233334444555555555555&channel=zz",
+        A,
+        "",
+        "p",
+        "say r[p]",
+    ),
+    (
+        "POST",
+        "/services/collector/raw?channel=zz",
+        T,
+        "Z",
+        "p",
+        "store r[p]",
+    ),
+    // The coding.
+    ("POST", "/services/collector/raw", T, "G", "p", "400 6"),
+    (
+        "POST",
+        "/services/collector/raw",
+        T,
+        "IG",
+        "p",
+        "store r[p]",
+    ),
+    // The body.
+    ("POST", "/services/collector", T, "", " ", "400 5"),
+    (
+        "POST",
+        "/services/collector",
+        T,
+        "",
+        r#"[{"event":"a"}]"#,
+        "400 6 0",
+    ),
+    (
+        "POST",
+        "/services/collector",
+        T,
+        "",
+        r#"{"event":"a"} {"evnt":1}"#,
+        "400 12 1",
+    ),
+    (
+        "POST",
+        "/services/collector",
+        A,
+        "C",
+        r#"{"event":""}"#,
+        "400 13 0",
+    ),
+    ("POST", "/services/collector/raw", T, "", "\n", "400 5"),
+    (
+        "POST",
+        "/services/collector/ack",
+        A,
+        "C",
+        r#"{"acks":[-1]}"#,
+        "400 6",
+    ),
+];
+
+/// What is done for the request of a row.
+fn done(alloc: Global, row: Row) -> Result<Vec<u8>, AllocError> {
+    let (method, target, authorization, letters, body, _) = row;
     let core = HecCore::new(Some(TOKEN), Some(ACK_TOKEN));
-    for (method, target, fields, body, want) in rows {
-        let request = request(alloc, method, target, fields, body)?;
-        let text = show(alloc, core.step(alloc, &request)?)?;
-        assert_eq!(rt;
-            text.as_slice(),
-            want.as_bytes(),
-            "{method} {target} {body}"
-        );
+    let request = request(alloc, method, target, authorization, letters, body)?;
+    show(alloc, core.step(alloc, &request)?)
+}
+
+#[test]
+fn paths(rt: HostRuntime) -> Result<(), AllocError> {
+    for row in EVENTS_AND_PATHS {
+        let text = done(rt.alloc(), row)?;
+        assert_eq!(rt; text.as_slice(), row.5.as_bytes(), "{row:?}");
+    }
+    Ok(())
+}
+
+#[test]
+fn authorizations(rt: HostRuntime) -> Result<(), AllocError> {
+    for row in AUTHORIZATIONS {
+        let text = done(rt.alloc(), row)?;
+        assert_eq!(rt; text.as_slice(), row.5.as_bytes(), "{row:?}");
+    }
+    Ok(())
+}
+
+#[test]
+fn later_checks(rt: HostRuntime) -> Result<(), AllocError> {
+    for row in CHANNELS_AND_BODIES {
+        let text = done(rt.alloc(), row)?;
+        assert_eq!(rt; text.as_slice(), row.5.as_bytes(), "{row:?}");
     }
     Ok(())
 }
@@ -385,8 +435,8 @@ fn each_check(rt: HostRuntime) -> Result<(), AllocError> {
 #[test]
 fn other_tokens(rt: HostRuntime) -> Result<(), AllocError> {
     let alloc = rt.alloc();
-    let with_channel = request(alloc, "POST", "/services/collector/raw", &[T, C], "p")?;
-    let without_channel = request(alloc, "POST", "/services/collector/raw", &[T], "p")?;
+    let with_channel = request(alloc, "POST", "/services/collector/raw", T, "C", "p")?;
+    let without_channel = request(alloc, "POST", "/services/collector/raw", T, "", "p")?;
     let alike = HecCore::new(Some(TOKEN), Some(TOKEN));
     let text = show(alloc, alike.step(alloc, &with_channel)?)?;
     assert_eq!(rt; text.as_slice(), b"say r[p]".as_slice());
