@@ -1,5 +1,5 @@
 -- A request has one act.
-use Rattle.std.proofs.Common.{◌≡◌, ℕ, ◌⊎◌, inl, inr, List, map, Option, Some, None, Result, Ok, Err, refl, sym, ◌∙◌, ap, subst}
+use Rattle.std.proofs.Common.{◌≡◌, ℕ, ◌⊎◌, inl, inr, List, map, None, Result, Ok, Err, refl, sym, ◌∙◌, ap, subst}
 use Rattle.event_form.specs.declared.event.Event.{Event}
 use Rattle.hec_body.specs.declared.fault.BodyFault.{BodyFault}
 use Rattle.hec_body.specs.declared.fault.BodyFault.TheVariants.{NoData, Format, NoEvent, Blank, TooMany, NoMemory}
@@ -9,7 +9,6 @@ use Rattle.hec_body.specs.Acks.{OneQuery}
 use Rattle.hec_session.specs.declared.act.HecAct.{HecAct}
 use Rattle.hec_session.specs.declared.act.HecAct.TheVariants.{StoreThenSay, SayThenStore, Ask, Say}
 use Rattle.hec_session.specs.declared.code.HecCode.{HecCode}
-use Rattle.hec_session.specs.declared.code.HecCode.TheVariants.{InvalidFormat}
 use Rattle.hec_session.specs.declared.endpoint.Form.{Form}
 use Rattle.hec_session.specs.declared.endpoint.Form.TheVariants.{Objects, Raw}
 use Rattle.hec_session.specs.declared.say.HecSay.{HecSay}

@@ -3,7 +3,7 @@ use Rattle.std.proofs.Common.{◌≡◌, Result, Ok, Err, sym, ap, subst}
 use Rattle.std.specs.Result.{IsErrAnd}
 use Rattle.hec_session.specs.declared.code.HecCode.{HecCode}
 use Rattle.hec_session.specs.declared.stop.Stop.{Stop}
-use Rattle.hec_session.specs.declared.stop.Stop.TheVariants.{Answer, OutOfMemory}
+use Rattle.hec_session.specs.declared.stop.Stop.TheVariants.{Answer}
 use Rattle.hec_session.specs.Checks.{and_then}
 use Rattle.hec_session.specs.Acts.{Finds}
 

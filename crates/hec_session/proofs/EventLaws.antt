@@ -4,8 +4,7 @@ use Rattle.std.specs.List.{All}
 use Rattle.std.proofs.lemmas.List.{length-map}
 use Rattle.std.proofs.lemmas.List.Elements.{All-map, All-nil, All-cons, All-head, All-tail}
 use Rattle.event_form.specs.Event.{IsEvent}
-use Rattle.event_form.specs.declared.event.Origin.{Origin}
-use Rattle.event_form.specs.declared.event.Origin.TheVariants.{LumberData, HecEvent, HecRaw}
+use Rattle.event_form.specs.declared.event.Origin.TheVariants.{LumberData}
 use Rattle.hec_body.specs.Limits as limits
 use Rattle.hec_session.specs.declared.endpoint.Form.{Form}
 use Rattle.hec_session.specs.declared.endpoint.Form.TheVariants.{Objects, Raw}

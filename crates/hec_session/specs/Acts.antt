@@ -1,6 +1,6 @@
 -- What a receiver does for a request: the answer of the first check that doesn't pass, or else what its body
 -- asks for.
-use Rattle.std.specs.Prelude.{◌≡◌, ℕ, ◌<◌, ◌≤◌, ⊤, IsTrue, List, length, map, Option, Some, None, Result, Ok, Err}
+use Rattle.std.specs.Prelude.{◌≡◌, ℕ, ◌<◌, ◌≤◌, ⊤, List, length, map, Some, None, Result, Ok, Err}
 use Rattle.std.specs.List.{All}
 use Rattle.event_form.specs.declared.event.Event.{Event}
 use Rattle.event_form.specs.declared.event.Origin.{Origin}

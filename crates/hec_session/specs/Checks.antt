@@ -1,6 +1,6 @@
 -- The checks before the body, in their order ("HTTP Event Collector REST API endpoints"): each passes, or
 -- answers at once.
-use Rattle.std.specs.Prelude.{◌≡◌, ℕ, ◌==◌, Bool, true, false, ◌||◌, List, take, drop, Option, Some, None, Result, Ok, Err, option_map, codes, if◌then◌else◌}
+use Rattle.std.specs.Prelude.{ℕ, ◌==◌, Bool, true, false, ◌||◌, List, take, drop, Option, Some, None, Result, Ok, Err, option_map, codes, if◌then◌else◌}
 use Rattle.std.specs.Int.{from_be_bytes, w128}
 use Rattle.std.specs.Option.{option_or}
 use Rattle.std.specs.Str.{bytes_eq, str_eq_ignore_ascii_case}
@@ -11,7 +11,6 @@ use Rattle.hec_session.specs.declared.code.HecCode.{HecCode}
 use Rattle.hec_session.specs.declared.code.HecCode.TheVariants.{TokenRequired, InvalidAuthorization, InvalidToken, InvalidFormat, ChannelMissing, InvalidChannel, AckDisabled, QueryAuthorization, Healthy, NotFound, MethodNotAllowed}
 use Rattle.hec_session.specs.declared.endpoint.Endpoint.{Endpoint}
 use Rattle.hec_session.specs.declared.endpoint.Endpoint.TheVariants.{Events, Acks}
-use Rattle.hec_session.specs.declared.endpoint.Form.{Form}
 use Rattle.hec_session.specs.declared.endpoint.Form.TheVariants.{Objects, Raw}
 use Rattle.hec_session.specs.declared.tokens.Grant.{Grant}
 use Rattle.hec_session.specs.declared.tokens.Grant.TheVariants.{WithAcks, WithoutAcks}

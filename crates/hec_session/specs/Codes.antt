@@ -1,5 +1,5 @@
 -- The codes of replies ("Troubleshoot HTTP Event Collector", possible error codes), and their bodies.
-use Rattle.std.specs.Prelude.{◌≡◌, ℕ, ◌==◌, Bool, ◌||◌, IsTrue, List, [], ◌++◌, Option, Some, None, codes, if◌then◌else◌}
+use Rattle.std.specs.Prelude.{◌≡◌, ℕ, ◌==◌, IsTrue, List, [], ◌++◌, Option, Some, None, codes, if◌then◌else◌}
 use Rattle.std.specs.Fmt.{decimal}
 use Rattle.http_edge.specs.Reply.{is_status}
 use Rattle.hec_session.specs.declared.code.HecCode.{HecCode}

@@ -1,4 +1,3 @@
-use Rattle.std.proofs.Common.{Err, ap}
 use Rattle.hec_session.proofs.body.ask.Goals as goal
 
 pub returns-in-Err-Format-clause-act : goal.returns-in-Err-Format-clause-act
