@@ -1,0 +1,5 @@
+pub mod Codes
+pub mod Target
+pub mod Checks
+pub mod Acts
+pub mod OneAct

@@ -1,0 +1,64 @@
+//! The receiver.
+ghost use Rattle.std.specs.Prelude.{◌≡◌, IfOk};
+ghost use Rattle.hec_session.specs.Acts.{IsAct, IsSound};
+
+use crate::act::HecAct;
+use crate::body::{ask, store, store_on};
+use crate::say::HecSay;
+use crate::stop::Stop;
+use crate::task::{Task, task_of};
+use crate::tokens::Tokens;
+use http_edge::HttpRequest;
+use std::alloc::{AllocError, Global};
+use std::marker::Model;
+
+/// A receiver of Splunk's HTTP Event Collector. Contracts see its two tokens.
+#[derive(Drop, Debug)]
+pub struct HecCore {
+    tokens: Tokens,
+}
+
+impl Model for HecCore {
+    ghost use Rattle.hec_session.specs.declared.tokens.Tokens.{Tokens};
+
+    ghost Value = { Tokens };
+
+    ghost view = { λ core. core.tokens };
+}
+
+impl HecCore {
+    /// A receiver with a token without acks and one that uses them, each the number of a GUID. Where both
+    /// are one GUID, it uses acks. It takes no memory.
+    pub fn new(token: Option<u128>, ack_token: Option<u128>) -> HecCore
+        ensures { result ≡ record { token = token; ack_token = ack_token } }
+    {
+        HecCore {
+            tokens: Tokens { token, ack_token },
+        }
+    }
+
+    /// What is done for a request. The checks are made in this order, and the first that doesn't pass
+    /// answers ("HTTP Event Collector REST API endpoints"; the order and the limits are this project's own):
+    ///
+    /// - the path, by its bytes, and the method: 404, 405; health is told at once, 17
+    /// - the Authorization, `Splunk` and one space before a GUID: 2, 16 where the query has a `token`, 3, 4
+    /// - on `ack`, a token that uses acks: 14
+    /// - with such a token the channel, a GUID of X-Splunk-Request-Channel or else of the query: 10, 11
+    /// - the Content-Encoding, which may be `identity` alone: 6
+    /// - the body: 5, and 6, 12 and 13 with the number of the event; a body of `ack`: 6
+    ///
+    /// The only error is want of memory.
+    pub fn step(&self, alloc: Global, request: &HttpRequest) -> Result<HecAct, AllocError>
+        ensures act { IfOk result (IsAct self.now request.now) }
+        ensures sound { IfOk result IsSound }
+    {
+        let body = request.body.bytes();
+        match task_of(alloc, &self.tokens, request) {
+            Ok(Task::Store(form)) => store(alloc, form, body),
+            Ok(Task::StoreOn(form, channel)) => store_on(alloc, form, channel, body),
+            Ok(Task::AskOn(channel)) => ask(alloc, channel, body),
+            Err(Stop::Answer(code)) => Ok(HecAct::Say(HecSay::of(code, None))),
+            Err(Stop::OutOfMemory) => Err(AllocError),
+        }
+    }
+}

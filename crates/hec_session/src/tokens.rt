@@ -1,0 +1,107 @@
+//! The tokens of a receiver, and what a request's token grants.
+ghost use Rattle.std.specs.Prelude.{◌≡◌, codes, IfOk, MatchOption};
+ghost use Rattle.hec_session.specs.Acts.{Finds};
+ghost use Rattle.hec_session.specs.Checks.{credentials, grant_of, granted, granted_by, guid, is_token, without_field};
+ghost use Rattle.hec_session.specs.Target.{parameter};
+
+use crate::code::HecCode;
+use crate::stop::Stop;
+use crate::target::parameter;
+use http_edge::HttpRequest;
+use std::alloc::{AllocError, Global};
+use uuid::Uuid;
+
+/// The tokens of a receiver: one without acks, and one that uses them.
+#[derive(Clone, Copy, Debug)]
+pub struct Tokens {
+    pub token: Option<u128>,
+    pub ack_token: Option<u128>,
+}
+
+/// What a token grants.
+#[derive(Clone, Copy, PartialEq, Eq, Debug)]
+pub enum Grant {
+    /// Success is told once the events are durable.
+    WithoutAcks,
+    /// Success is told at once, with an id that can be asked for later.
+    WithAcks,
+}
+
+/// The number of a GUID, in one of its spellings: simple, hyphenated, as an URN or in braces (RFC 9562,
+/// section 4).
+pub fn guid(text: &[u8]) -> Option<u128>
+    ensures { result ≡ guid text.now }
+{
+    match Uuid::try_parse_ascii(text) {
+        Ok(id) => Some(id.as_u128()),
+        Err(_) => None,
+    }
+}
+
+// What stands behind the word Splunk and one space.
+fn credentials(value: &[u8]) -> Option<&[u8]>
+    ensures { MatchOption result (credentials value.now ≡ None) (λ text. credentials value.now ≡ Some text.now) }
+{
+    if value.len() >= 7 && value[..7].eq_ignore_ascii_case(b"Splunk ") {
+        Some(&value[7..])
+    } else {
+        None
+    }
+}
+
+fn is_token(token: Option<u128>, id: u128) -> bool
+    ensures { result ≡ is_token token id }
+{
+    match token {
+        Some(token) => token == id,
+        None => false,
+    }
+}
+
+// How a request without the field is answered.
+fn without_field(alloc: Global, target: &[u8]) -> Result<HecCode, AllocError>
+    ensures { IfOk result (λ code. code ≡ without_field (parameter (codes "token") target.now)) }
+{
+    match parameter(alloc, "token", target)? {
+        Some(_) => Ok(HecCode::QueryAuthorization),
+        None => Ok(HecCode::TokenRequired),
+    }
+}
+
+impl Tokens {
+    // What this GUID grants.
+    fn granted(&self, id: u128) -> Result<Grant, HecCode>
+        ensures { result ≡ granted self.now (Some id) }
+    {
+        if is_token(self.ack_token, id) {
+            Ok(Grant::WithAcks)
+        } else if is_token(self.token, id) {
+            Ok(Grant::WithoutAcks)
+        } else {
+            Err(HecCode::InvalidToken)
+        }
+    }
+
+    // What the field grants.
+    fn granted_by(&self, value: &[u8]) -> Result<Grant, HecCode>
+        ensures { result ≡ granted_by self.now (credentials value.now) }
+    {
+        let Some(text) = credentials(value) else {
+            return Err(HecCode::InvalidAuthorization);
+        };
+        match guid(text) {
+            Some(id) => self.granted(id),
+            None => Err(HecCode::InvalidToken),
+        }
+    }
+
+    /// What the request is granted by its Authorization (RFC 9110, section 11.6.2).
+    pub fn grant(&self, alloc: Global, request: &HttpRequest) -> Result<Grant, Stop>
+        ensures { Finds (grant_of self.now request.now) result }
+    {
+        match request.field(b"authorization") {
+            Some(value) => Ok(self.granted_by(value)?),
+            None => Err(Stop::Answer(without_field(alloc, request.target.bytes())?)),
+        }
+    }
+}
