@@ -1,0 +1,140 @@
+//! How fast a connection is carried: `attend` reads frames of 100 bytes of data out of memory, stores their
+//! events in a spool on a disk in memory, and its answers are counted. By RELP each event is a group and has
+//! an answer; by Lumberjack each batch. Beside it, in the same run, the reader alone over the same bytes, and
+//! the disk's calls alone.
+#![tactic(auto)]
+
+mod answers;
+mod device;
+mod lumberjack;
+mod relp;
+mod stream;
+
+use answers::Answers;
+use anyhow::bail;
+use conn_serve::{Rules, attend};
+use desk_access::{Alone, Desk};
+use edge_disk::MemDisk;
+use edge_io::{Both, MemSource, Proto};
+use event_form::Talk;
+use spool_log::Spool;
+use std::alloc::Global;
+use std::hint::black_box;
+use std::num::nearest_usize_to_f64;
+use std::time::{Duration, Instant};
+use stream::Stream;
+
+const EVENTS: u32 = 1_000_000;
+
+const ROUNDS: u32 = 5;
+
+/// How long the connection takes. The spool is made before, and what it holds is looked at behind.
+fn carry(rt: &HostRuntime, stream: &Stream, spool: Spool<MemDisk>) -> anyhow::Result<Duration> {
+    let alloc = rt.alloc();
+    if spool.doubt {
+        bail!("the spool is in doubt");
+    }
+    let mut link = Both {
+        source: MemSource::of(
+            Vec::from_slice(alloc, &stream.bytes)?,
+            1 << 20,
+            Vec::new(alloc),
+        ),
+        sink: Answers::new(),
+    };
+    let proto = match stream.proto {
+        Proto::Relp => Proto::Relp,
+        Proto::Lumberjack => Proto::Lumberjack,
+        Proto::Hec => bail!("not served"),
+    };
+    let rules = Rules {
+        proto,
+        token: None,
+        ack_token: None,
+    };
+    let mut alone = Alone::new(Desk { spool });
+    let start = Instant::now(rt)?;
+    let attended = attend(alloc, &mut link, &rules, &mut alone, 1);
+    let taken = start.elapsed(rt)?;
+    let Desk { spool } = alone.into_desk();
+    let held = spool.end();
+    if attended.talk != Talk::Ended || attended.taken != u64::from(EVENTS) {
+        bail!("{attended:?}");
+    }
+    if held != u64::from(EVENTS) || link.sink.answers() != stream.answers {
+        bail!("{held} entries, {} answers", link.sink.answers());
+    }
+    Ok(taken)
+}
+
+/// How many frames the reader alone gives.
+fn read(alloc: Global, stream: &Stream) -> anyhow::Result<u64> {
+    match stream.proto {
+        Proto::Relp => relp::read(alloc, &stream.bytes),
+        Proto::Lumberjack => lumberjack::read(alloc, &stream.bytes),
+        Proto::Hec => bail!("not read"),
+    }
+}
+
+/// Millions of events a second.
+fn events(taken: Duration) -> f64 {
+    nearest_usize_to_f64(EVENTS as usize) / taken.as_secs_f64() / 1e6
+}
+
+/// Millions of bytes a second.
+fn rate(bytes: &[u8], taken: Duration) -> f64 {
+    nearest_usize_to_f64(bytes.len()) / taken.as_secs_f64() / 1e6
+}
+
+/// Measures a connection, the best of some rounds, and prints the figures.
+fn measure(rt: &HostRuntime, stream: &Stream) -> anyhow::Result<()> {
+    let alloc = rt.alloc();
+    let mut carrying = Duration::MAX;
+    let mut reading = Duration::MAX;
+    let mut storing = Duration::MAX;
+    for _ in 0..ROUNDS {
+        let spool = device::empty_spool(alloc)?;
+        carrying = carrying.min(carry(rt, stream, spool)?);
+        let start = Instant::now(rt)?;
+        let count = black_box(read(alloc, stream)?);
+        reading = reading.min(start.elapsed(rt)?);
+        if count != stream.frames {
+            bail!("{count} frames");
+        }
+        let mut disk = device::empty_disk(alloc)?;
+        let start = Instant::now(rt)?;
+        device::store(&mut disk, stream.groups, stream.events, stream.data)?;
+        storing = storing.min(start.elapsed(rt)?);
+        black_box(disk.bytes().len());
+    }
+    let whole = carrying.as_secs_f64();
+    println!(rt;
+        "{:?}: {EVENTS} events of {} bytes, {} bytes, {} answers, the best of {ROUNDS} runs each",
+        stream.proto,
+        stream.data,
+        stream.bytes.len(),
+        stream.answers
+    )?;
+    println!(rt;
+        "    attend: {:.2} million events/s, {:.0} MB/s",
+        events(carrying),
+        rate(&stream.bytes, carrying)
+    )?;
+    println!(rt;
+        "    the reader alone: {:.0} MB/s, {:.0} % of the time of attend",
+        rate(&stream.bytes, reading),
+        reading.as_secs_f64() / whole * 100.0
+    )?;
+    println!(rt;
+        "    the disk's calls alone: {:.0} % of the time of attend",
+        storing.as_secs_f64() / whole * 100.0
+    )?;
+    Ok(())
+}
+
+fn main(rt: HostRuntime) -> anyhow::Result<()> {
+    let alloc = rt.alloc();
+    measure(&rt, &relp::stream(alloc, EVENTS)?)?;
+    measure(&rt, &lumberjack::stream(alloc, EVENTS)?)?;
+    Ok(())
+}
