@@ -7,7 +7,7 @@ use Rattle.event_form.specs.declared.talk.Talk.{Talk}
 use Rattle.edge_io.specs.declared.proto.Proto.{Proto}
 use Rattle.edge_disk.specs.Disk.{Moment}
 use Rattle.spool_state.specs.SpoolState.{SpoolState}
-use Rattle.desk_access.specs.Call.{Call, takes, pends, confirms}
+use Rattle.desk_access.specs.Call.{Call, takes}
 use Rattle.desk_access.specs.History.{AllKept}
 use Rattle.conn_serve.specs.Groups.{Group, groups_of}
 use Rattle.conn_serve.specs.Acked.{Acknowledges, AreOfFirst}
@@ -21,8 +21,7 @@ groups_kept : (s : SpoolState) (calls : List Call) → AllKept s calls → All (
 groups_kept s [] k = All-nil (IsGroupKept s)
 groups_kept s (takes entries (Ok receipt) ∷ calls) k = All-cons (IsGroupKept s) (record { first = receipt.first; entries = entries }) (groups_of calls) k.0 (groups_kept s calls k.1)
 groups_kept s (takes entries (Err fault) ∷ calls) k = groups_kept s calls k.1
-groups_kept s (pends from most result ∷ calls) k = groups_kept s calls k.1
-groups_kept s (confirms upto result ∷ calls) k = groups_kept s calls k.1
+groups_kept s (call ∷ calls) k = groups_kept s calls k.1
 
 first_kept : (s : SpoolState) (groups more : List Group) → All (IsGroupKept s) (groups ++ more) → All (IsGroupKept s) groups
 first_kept s [] more k = All-nil (IsGroupKept s)
@@ -33,6 +32,6 @@ acked_is_durable proto conn b calls text talk old new numbers carried stored say
     let taken : AreOfFirst calls numbers = acked_is_taken proto conn b calls text talk carried numbers says in record {
       taken = taken;
       durable = λ c image.
-          let kept = stored.each c image in
+          let kept = stored.reached.each c image in
           (kept.state, kept.stands, first_kept kept.state taken.groups taken.more (subst (All (IsGroupKept kept.state)) taken.taken (groups_kept kept.state calls kept.kept)));
     }

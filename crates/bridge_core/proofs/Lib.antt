@@ -1,7 +1,9 @@
-pub mod Forms
 pub mod Printing
-pub mod Gathered
+pub mod Rising
+pub mod Given
 pub mod Sure
+pub mod Failing
 pub mod Replays
 pub mod Durable
 pub mod Doing
+pub mod Sharing

@@ -1,17 +1,48 @@
--- Lines printed part by part.
-use Rattle.std.proofs.Common.{◌≡◌, ℕ, ◌+◌, ◌-◌, ◌<◌, ◌≤◌, List, [], ◌++◌, Option, length, take, drop, refl, sym, ◌∙◌, ap, subst, arith, append_assoc, length-append, length-drop, take-append-drop}
+-- Lines of entries, printed one after another.
+use Rattle.std.proofs.Common.{◌≡◌, ℕ, ◌<◌, List, [], ◌∷◌, ◌++◌, Option, length, take, drop, refl, sym, ◌∙◌, ap, subst, arith, append_assoc, length-append, length-drop, take-append-drop}
+use Rattle.std.specs.Prelude.{All}
 use Rattle.std.specs.Io.KnownBytes.{Appends}
-use Rattle.std.proofs.lemmas.List.{take_all, drop-drop, length-take}
-use Rattle.std.proofs.Math.Seq.{take-add}
+use Rattle.std.proofs.lemmas.List.{append-nil}
+use Rattle.std.proofs.lemmas.List.Elements.{All-head, All-tail}
 use Rattle.edge_io.proofs.Known.{appends_none, appends_then}
 use Rattle.event_form.specs.declared.event.Entry.{Entry}
-use Rattle.spool_state.specs.SpoolState.{SpoolState, base, list, end, pending}
-use Rattle.spool_log.specs.Outcome.{pending_from}
+use Rattle.event_form.specs.Entry.{IsEntry}
+use Rattle.event_map.proofs.Functions.{text_of, json_object_of, hec_object_of}
+use Rattle.event_map.proofs.Exact.{text_of-is, json_object_of-is, hec_object_of-is}
+use Rattle.spool_state.specs.Left.{NumberedEntry}
+use Rattle.bridge_words.specs.declared.command.ListForm.{ListForm}
+use Rattle.bridge_words.specs.declared.command.ListForm.TheVariants.{Plain, Text, JsonObject, HecObject}
 use Rattle.bridge_words.specs.declared.note.Note.{Note}
 use Rattle.bridge_words.specs.declared.note.Note.TheVariants.{Fine, NoMemory, WriteFault, DiskFault}
-use Rattle.bridge_words.specs.declared.command.ListForm.{ListForm}
+use Rattle.bridge_words.specs.Lines.{entry_line}
 use Rattle.bridge_core.specs.Written.{WritesFront, IsWritten}
-use Rattle.bridge_core.proofs.Forms.{lines_in, lines_join}
+use Rattle.bridge_core.specs.Listed.{IsLine, AreLines, ArePrinted}
+
+-- the entry keeps its limits
+abbrev pub IsLimited : NumberedEntry → Type 0
+IsLimited one = IsEntry one.entry
+
+-- ---- there are lines, and lines of more are those of both
+
+some_line : (form : ListForm) (number : ℕ) (e : Entry) → IsEntry e → (line : List ℕ) × IsLine form number e line
+some_line Plain number e limits = (entry_line number e, refl)
+some_line Text number e limits = (text_of e.event ++ 10 ∷ [], (text_of e.event, text_of-is e.event limits.event, refl))
+some_line JsonObject number e limits = (json_object_of e.event ++ 10 ∷ [], (json_object_of e.event, json_object_of-is e.event limits.event, refl))
+some_line HecObject number e limits = (hec_object_of e.event ++ 10 ∷ [], (hec_object_of e.event, hec_object_of-is e.event limits.event, refl))
+
+pub some_lines : (form : ListForm) (entries : List NumberedEntry) → All IsLimited entries → (text : List ℕ) × AreLines form entries text
+some_lines form [] limits = ([], refl)
+some_lines form (one ∷ more) limits =
+    let line = some_line form one.number one.entry (All-head IsLimited one more limits) in
+    let rest = some_lines form more (All-tail IsLimited one more limits) in
+    (line.0 ++ rest.0, (line.0, rest.0, line.1, rest.1, refl))
+
+pub lines_then : (form : ListForm) (first more : List NumberedEntry) (text next : List ℕ) → AreLines form first text → AreLines form more next → AreLines form (first ++ more) (text ++ next)
+lines_then form [] more text next are others = subst (λ (l : List ℕ). AreLines form more (l ++ next)) (sym are) others
+lines_then form (one ∷ first) more text next are others =
+    (are.0, are.1 ++ next, are.2, lines_then form first more are.1 next are.3 others, ap (λ (l : List ℕ). l ++ next) are.4 ∙ append_assoc are.0 are.1 next)
+
+-- ---- a front of them
 
 -- a write that stopped within the text
 pub stopped : (text : List ℕ) (n : ℕ) (old new : Option (List ℕ)) → n < length text → Appends old new (take n text) → (part : WritesFront text old new) × (0 < length part.rest)
@@ -27,84 +58,92 @@ stopped_as text piece n old new is lt written = subst (λ (t : List ℕ). (part 
 pub unwritten : (text : List ℕ) (taken : Option (List ℕ)) → WritesFront text taken taken
 unwritten text taken = record { front = []; rest = text; whole = refl; written = appends_none taken }
 
--- The first lines of the entries that are not confirmed were written, up to a number.
-pub record Printed (form : ListForm) (s : SpoolState) (number : ℕ) (old new : Option (List ℕ)) : Type 0 where
-  pub above : s.cursor ≤ number
-  pub below : number ≤ end s
-  pub written : Appends old new (lines_in form s.cursor (take (number - s.cursor) (pending s)))
+-- after a whole text
+abbrev front_then : (text next : List ℕ) (old mid new : Option (List ℕ)) → Appends old mid text → WritesFront next mid new → WritesFront (text ++ next) old new
+front_then text next old mid new before w = record {
+  front = text ++ w.front;
+  rest = w.rest;
+  whole = ap (λ (l : List ℕ). text ++ l) w.whole ∙ sym (append_assoc text w.front w.rest);
+  written = appends_then old mid new text w.front before w.written;
+}
 
-length_pending : (s : SpoolState) → base s ≤ s.cursor → length (pending s) ≡ end s - s.cursor
-length_pending s ordered = omega (arith, length-drop (s.cursor - base s) (list s), ordered)
+-- before more of it
+abbrev front_more : (text next : List ℕ) (old new : Option (List ℕ)) → WritesFront text old new → WritesFront (text ++ next) old new
+front_more text next old new w = record {
+  front = w.front;
+  rest = w.rest ++ next;
+  whole = ap (λ (l : List ℕ). l ++ next) w.whole ∙ append_assoc w.front w.rest next;
+  written = w.written;
+}
 
-pub printed_none : (form : ListForm) (s : SpoolState) (number : ℕ) (taken : Option (List ℕ)) → number ≡ s.cursor → s.cursor ≤ end s → Printed form s number taken taken
-printed_none form s number taken is ends =
-    let none : 0 ≡ number - s.cursor = omega (arith, is) in record {
-      above = omega (arith, is);
-      below = omega (arith, is, ends);
-      written = subst (λ (n : ℕ). Appends taken taken (lines_in form s.cursor (take n (pending s)))) none (appends_none taken);
-    }
+-- ---- as the note says
 
-pub printed_all : (form : ListForm) (s : SpoolState) (number : ℕ) (old new : Option (List ℕ)) → base s ≤ s.cursor → end s ≤ number → Printed form s number old new → IsWritten Fine (lines_in form s.cursor (pending s)) old new
-printed_all form s number old new ordered ends p =
-    subst (λ (es : List Entry). Appends old new (lines_in form s.cursor es)) (take_all (number - s.cursor) (pending s) (omega (arith, length_pending s ordered, ends))) p.written
+written_then : (note : Note) (text next : List ℕ) (old mid new : Option (List ℕ)) → Appends old mid text → IsWritten note next mid new → IsWritten note (text ++ next) old new
+written_then Fine text next old mid new before w = appends_then old mid new text next before w
+written_then WriteFault text next old mid new before w = (front_then text next old mid new before w.0, w.1)
+written_then DiskFault text next old mid new before w = front_then text next old mid new before w
+written_then NoMemory text next old mid new before w = front_then text next old mid new before w
+written_then note text next old mid new before w = absurd w
 
--- of the lines of all, a number of first entries were written, and then the first bytes of the lines of the next
-cut_within : (form : ListForm) (s : SpoolState) (n : ℕ) (entries rest : List Entry) (old mid new : Option (List ℕ)) → drop n (pending s) ≡ entries ++ rest → n ≤ length (pending s)
-    → Appends old mid (lines_in form s.cursor (take n (pending s))) → (w : WritesFront (lines_in form (s.cursor + n) entries) mid new)
-    → (v : WritesFront (lines_in form s.cursor (pending s)) old new) × (length w.rest ≤ length v.rest)
-cut_within form s n entries rest old mid new is le before w =
-    let first = lines_in form s.cursor (take n (pending s)) in
-    let more = lines_in form (s.cursor + n + length entries) rest in
-    let split : lines_in form s.cursor (pending s) ≡ first ++ ((w.front ++ w.rest) ++ more) =
-    ap (lines_in form s.cursor) (sym (take-append-drop n (pending s)))
-    ∙ lines_join form s.cursor (take n (pending s)) (drop n (pending s))
-    ∙ ap (λ (k : ℕ). first ++ lines_in form (s.cursor + k) (drop n (pending s))) (omega (arith, length-take n (pending s), le))
-    ∙ ap (λ (es : List Entry). first ++ lines_in form (s.cursor + n) es) is
-    ∙ ap (λ (l : List ℕ). first ++ l) (lines_join form (s.cursor + n) entries rest)
-    ∙ ap (λ (l : List ℕ). first ++ (l ++ more)) w.whole in (
-      record {
-        front = first ++ w.front;
-        rest = w.rest ++ more;
-        whole = split ∙ ap (λ (l : List ℕ). first ++ l) (append_assoc w.front w.rest more) ∙ sym (append_assoc first w.front (w.rest ++ more));
-        written = appends_then old mid new first w.front before w.written;
-      },
-      omega (arith, length-append w.rest more),
-    )
+-- entries that were printed, and then more
+pub printed_then : (form : ListForm) (first more : List NumberedEntry) (note : Note) (old mid new : Option (List ℕ)) → ArePrinted form first Fine old mid → ArePrinted form more note mid new → ArePrinted form (first ++ more) note old new
+printed_then form first more note old mid new p q = (p.0 ++ q.0, lines_then form first more p.0 q.0 p.1 q.1, written_then note p.0 q.0 old mid new p.2 q.2)
 
-module _ (form : ListForm) (s : SpoolState) (number most : ℕ) (old mid new : Option (List ℕ)) (ordered : base s ≤ s.cursor) (p : Printed form s number old mid) (fits : number + most ≤ end s) where
-  -- what is read from that number on
-  next_is : pending_from s number most ≡ take most (drop (number - s.cursor) (pending s))
-  next_is = ap (take most) (ap (λ (n : ℕ). drop n (list s)) (omega (arith, p.above, ordered)) ∙ sym (drop-drop (number - s.cursor) (s.cursor - base s) (list s)))
+pub printed_none : (form : ListForm) (taken : Option (List ℕ)) → ArePrinted form [] Fine taken taken
+printed_none form taken = ([], refl, appends_none taken)
 
-  -- the lines so far, and then those of the next entries
-  lines_next : lines_in form s.cursor (take (number + most - s.cursor) (pending s)) ≡ lines_in form s.cursor (take (number - s.cursor) (pending s)) ++ lines_in form number (pending_from s number most)
-  lines_next =
-      ap (λ (n : ℕ). lines_in form s.cursor (take n (pending s))) (omega (arith, p.above))
-      ∙ ap (lines_in form s.cursor) (take-add (number - s.cursor) most (pending s))
-      ∙ lines_join form s.cursor (take (number - s.cursor) (pending s)) (take most (drop (number - s.cursor) (pending s)))
-      ∙ ap (λ (n : ℕ). lines_in form s.cursor (take (number - s.cursor) (pending s)) ++ lines_in form n (take most (drop (number - s.cursor) (pending s)))) (omega (arith, length-take (number - s.cursor) (pending s), length_pending s ordered, p.above, p.below))
-      ∙ ap (λ (es : List Entry). lines_in form s.cursor (take (number - s.cursor) (pending s)) ++ lines_in form number es) (sym next_is)
+written_cut : (note : Note) (text next : List ℕ) (old new : Option (List ℕ)) → (note ≡ Fine → ⊥) → IsWritten note text old new → IsWritten note (text ++ next) old new
+written_cut Fine text next old new never w = absurd (never refl)
+written_cut WriteFault text next old new never w = (front_more text next old new w.0, omega (arith, w.1, length-append w.0.rest next))
+written_cut DiskFault text next old new never w = front_more text next old new w
+written_cut NoMemory text next old new never w = front_more text next old new w
+written_cut note text next old new never w = absurd w
 
-  -- they are printed
-  pub printed_part : IsWritten Fine (lines_in form number (pending_from s number most)) mid new → Printed form s (number + most) old new
-  printed_part w = record {
-    above = omega (arith, p.above);
-    below = fits;
-    written = subst (Appends old new) (sym lines_next) (appends_then old mid new _ _ p.written w);
-  }
+-- the first of some entries were not all printed, and so the entries were not
+pub printed_cut : (form : ListForm) (first more : List NumberedEntry) (note : Note) (old new : Option (List ℕ)) → (note ≡ Fine → ⊥) → All IsLimited more → ArePrinted form first note old new → ArePrinted form (first ++ more) note old new
+printed_cut form first more note old new never limits p =
+    let rest = some_lines form more limits in
+    (p.0 ++ rest.0, lines_then form first more p.0 rest.0 p.1 rest.1, written_cut note p.0 rest.0 old new never p.2)
 
-  cut_here : (w : WritesFront (lines_in form number (pending_from s number most)) mid new) → (v : WritesFront (lines_in form s.cursor (pending s)) old new) × (length w.rest ≤ length v.rest)
-  cut_here w =
-      let at : s.cursor + (number - s.cursor) ≡ number = omega (arith, p.above) in
-      let next = subst (λ (n : ℕ). (w : WritesFront (lines_in form n (take most (drop (number - s.cursor) (pending s)))) mid new) → (v : WritesFront (lines_in form s.cursor (pending s)) old new) × (length w.rest ≤ length v.rest)) at
-      (cut_within form s (number - s.cursor) (take most (drop (number - s.cursor) (pending s))) (drop most (drop (number - s.cursor) (pending s))) old mid new
-      (sym (take-append-drop most (drop (number - s.cursor) (pending s)))) (omega (arith, length_pending s ordered, p.above, p.below)) p.written) in
-      (subst (λ (es : List Entry). (w : WritesFront (lines_in form number es) mid new) → (v : WritesFront (lines_in form s.cursor (pending s)) old new) × (length w.rest ≤ length v.rest)) (sym next_is) next) w
+-- ---- lines gathered, and written now and then
 
-  -- or not all of them
-  pub printed_cut : (note : Note) → (note ≡ Fine → ⊥) → IsWritten note (lines_in form number (pending_from s number most)) mid new → IsWritten note (lines_in form s.cursor (pending s)) old new
-  printed_cut Fine never w = absurd (never refl)
-  printed_cut WriteFault never w = let v = cut_here w.0 in (v.0, omega (arith, v.1, w.1))
-  printed_cut DiskFault never w = (cut_here w).0
-  printed_cut NoMemory never w = (cut_here w).0
-  printed_cut note never w = absurd w
+-- The lines of these entries are made: a front of them was written, and these are left.
+pub record Gathered (form : ListForm) (entries : List NumberedEntry) (old new : Option (List ℕ)) (left : List ℕ) : Type 0 where
+  pub front : List ℕ
+  pub written : Appends old new front
+  pub lines : AreLines form entries (front ++ left)
+
+pub gathered_none : (form : ListForm) (taken : Option (List ℕ)) (left : List ℕ) → left ≡ [] → Gathered form [] taken taken left
+gathered_none form taken left none = record { front = []; written = appends_none taken; lines = none }
+
+-- a line more
+pub gathered_line : (form : ListForm) (entries : List NumberedEntry) (one : NumberedEntry) (old new : Option (List ℕ)) (line left after : List ℕ) → IsLine form one.number one.entry line → after ≡ left ++ line
+    → Gathered form entries old new left → Gathered form (entries ++ one ∷ []) old new after
+gathered_line form entries one old new line left after is after_is g = record {
+  front = g.front;
+  written = g.written;
+  lines = subst (AreLines form (entries ++ one ∷ [])) (append_assoc g.front left line ∙ ap (λ (l : List ℕ). g.front ++ l) (sym after_is))
+      (lines_then form entries (one ∷ []) (g.front ++ left) line g.lines (line, [], is, refl, sym (append-nil line)));
+}
+
+-- a write
+pub gathered_written : (form : ListForm) (entries : List NumberedEntry) (old mid new : Option (List ℕ)) (left after : List ℕ) → (front : List ℕ) × Appends mid new front × (left ≡ front ++ after)
+    → Gathered form entries old mid left → Gathered form entries old new after
+gathered_written form entries old mid new left after w g = record {
+  front = g.front ++ w.0;
+  written = appends_then old mid new g.front w.0 g.written w.1;
+  lines = subst (AreLines form entries) (ap (λ (l : List ℕ). g.front ++ l) w.2 ∙ sym (append_assoc g.front w.0 after)) g.lines;
+}
+
+-- what is left was written too
+pub gathered_all : (form : ListForm) (entries : List NumberedEntry) (old mid new : Option (List ℕ)) (left : List ℕ) → Appends mid new left → Gathered form entries old mid left → ArePrinted form entries Fine old new
+gathered_all form entries old mid new left w g = (g.front ++ left, g.lines, appends_then old mid new g.front left g.written w)
+
+-- or not all of it
+pub gathered_cut : (form : ListForm) (entries : List NumberedEntry) (old mid new : Option (List ℕ)) (left : List ℕ) → (part : WritesFront left mid new) × (0 < length part.rest) → Gathered form entries old mid left
+    → ArePrinted form entries WriteFault old new
+gathered_cut form entries old mid new left w g = (g.front ++ left, g.lines, (front_then g.front left old mid new g.written w.0, w.1))
+
+-- or nothing more
+pub gathered_only : (form : ListForm) (entries : List NumberedEntry) (old new : Option (List ℕ)) (left : List ℕ) → Gathered form entries old new left → ArePrinted form entries NoMemory old new
+gathered_only form entries old new left g = (g.front ++ left, g.lines, front_then g.front left old new new g.written (unwritten left new))

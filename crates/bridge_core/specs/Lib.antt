@@ -5,3 +5,4 @@ pub mod Listed
 pub mod Acknowledged
 pub mod Replayed
 pub mod Done
+pub mod Opening

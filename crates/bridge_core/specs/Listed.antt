@@ -1,13 +1,14 @@
 -- What the top call does with the words of `list`.
-use Rattle.std.specs.Prelude.{◌≡◌, ◌⊎◌, ℕ, ◌+◌, List, [], ◌∷◌, ◌++◌, Option}
+use Rattle.std.specs.Prelude.{◌≡◌, ◌⊎◌, ℕ, List, [], ◌∷◌, ◌++◌, Option}
 use Rattle.event_form.specs.declared.event.Event.{Event}
 use Rattle.event_form.specs.declared.event.Entry.{Entry}
 use Rattle.event_map.specs.Maps.{IsText, IsJsonObject, IsHecObject}
-use Rattle.spool_state.specs.SpoolState.{SpoolState, pending}
+use Rattle.spool_state.specs.SpoolState.{SpoolState}
+use Rattle.spool_state.specs.Left.{NumberedEntry, left, left_from}
 use Rattle.spool_state.specs.Image.{StandsFor}
 use Rattle.spool_state.specs.Rules.{Breaks}
 use Rattle.bridge_words.specs.declared.note.Note.{Note}
-use Rattle.bridge_words.specs.declared.note.Note.TheVariants.{Fine, NotSpool, NoMemory, WriteFault, DiskFault}
+use Rattle.bridge_words.specs.declared.note.Note.TheVariants.{Fine, NotSpool, RunsSpent, Worn, NoMemory, WriteFault, DiskFault}
 use Rattle.bridge_words.specs.declared.command.ListForm.{ListForm}
 use Rattle.bridge_words.specs.declared.command.ListForm.TheVariants.{Plain, Text, JsonObject, HecObject}
 use Rattle.bridge_words.specs.Lines.{entry_line}
@@ -24,14 +25,14 @@ IsLine Text number e line = IsMapped IsText e.event line
 IsLine JsonObject number e line = IsMapped IsJsonObject e.event line
 IsLine HecObject number e line = IsMapped IsHecObject e.event line
 
--- the text is the lines of these entries, of which the first has that number, one line for each, in order
-abbrev pub AreLines : ListForm → ℕ → List Entry → List ℕ → Type 0
-AreLines form number [] text = text ≡ []
-AreLines form number (e ∷ es) text = (line : List ℕ) × (rest : List ℕ) × IsLine form number e line × AreLines form (number + 1) es rest × (text ≡ line ++ rest)
+-- the text is the lines of these entries, one line for each, in order
+abbrev pub AreLines : ListForm → List NumberedEntry → List ℕ → Type 0
+AreLines form [] text = text ≡ []
+AreLines form (one ∷ more) text = (line : List ℕ) × (rest : List ℕ) × IsLine form one.number one.entry line × AreLines form more rest × (text ≡ line ++ rest)
 
 -- of the lines of these entries so much was written as the note says
-abbrev pub ArePrinted : ListForm → ℕ → List Entry → Note → Option (List ℕ) → Option (List ℕ) → Type 0
-ArePrinted form number entries note old new = (text : List ℕ) × AreLines form number entries text × IsWritten note text old new
+abbrev pub ArePrinted : ListForm → List NumberedEntry → Note → Option (List ℕ) → Option (List ℕ) → Type 0
+ArePrinted form entries note old new = (text : List ℕ) × AreLines form entries text × IsWritten note text old new
 
 -- why a device is not opened to be read: it breaks a rule, the first one at that place; or the disk failed, or no memory was found
 abbrev pub IsUnreadable : List ℕ → Note → Type 0
@@ -41,15 +42,27 @@ IsUnreadable before NoMemory = Unit {0}
 IsUnreadable before note = ⊥
 
 -- The device was not opened, and nothing was written; or it stood for a spool, and of the lines of the entries
--- that are not confirmed, whose numbers go from the cursor on, so much was written as the note says.
+-- whose numbers aren't known as confirmed, in order, as much was written as the note says.
 abbrev pub IsListed : ListForm → List ℕ → Option (List ℕ) → Option (List ℕ) → Note → Type 0
-IsListed form before old new note = (IsUnreadable before note × (new ≡ old)) ⊎ ((s : SpoolState) × StandsFor s before × ArePrinted form s.cursor (pending s) note old new)
+IsListed form before old new note = (IsUnreadable before note × (new ≡ old)) ⊎ ((s : SpoolState) × StandsFor s before × ArePrinted form (left s) note old new)
+
+-- Of the entries that are left from a number on, the first ones were printed. The others are left from the next number on.
+pub record PrintsPart (form : ListForm) (s : SpoolState) (number next : ℕ) (old new : Option (List ℕ)) : Type 0 where
+  pub first : List NumberedEntry
+  pub parts : left_from s number ≡ first ++ left_from s next
+  pub printed : ArePrinted form first Fine old new
 
 -- how the printing of a spool that was opened may end
+abbrev pub IsPrintNote : Note → Type 0
+IsPrintNote Fine = Unit {0}
+IsPrintNote (NotSpool at) = Unit {0}
+IsPrintNote NoMemory = Unit {0}
+IsPrintNote WriteFault = Unit {0}
+IsPrintNote DiskFault = Unit {0}
+IsPrintNote note = ⊥
+
+-- how `list` may end: so, or because the device was not opened
 abbrev pub IsListNote : Note → Type 0
-IsListNote Fine = Unit {0}
-IsListNote (NotSpool at) = Unit {0}
-IsListNote NoMemory = Unit {0}
-IsListNote WriteFault = Unit {0}
-IsListNote DiskFault = Unit {0}
-IsListNote note = ⊥
+IsListNote (RunsSpent run) = Unit {0}
+IsListNote (Worn ordinal) = Unit {0}
+IsListNote note = IsPrintNote note

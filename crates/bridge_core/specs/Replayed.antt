@@ -9,9 +9,11 @@ use Rattle.spool_state.specs.Image.{StandsFor}
 use Rattle.spool_log.specs.declared.fault.RecoverFault.{RecoverFault}
 use Rattle.spool_log.specs.declared.opening.Opening.TheVariants.{Raise}
 use Rattle.spool_log.specs.Opening.{opened, CanOpen, IsOpening, IsRefusing, IsRefusedAs}
-use Rattle.desk_access.specs.Call.{Call, records_by}
-use Rattle.desk_access.specs.Desk.{DeskState, desk_of, Goes}
-use Rattle.desk_access.specs.History.{IsLater, Grows, AllKept, Was}
+use Rattle.spool_log.specs.Stages.{StandsForOne}
+use Rattle.hec_ids.specs.Rows as Ids
+use Rattle.desk_access.specs.Call.{Call, Record, AreBy}
+use Rattle.desk_access.specs.Desk.{DeskState, desk_of, Goes, Stood}
+use Rattle.desk_access.specs.History.{IsLater, Grows, AllKept}
 use Rattle.conn_serve.specs.Acked.{Acknowledges}
 use Rattle.conn_serve.specs.Endings.{IsAtEndOfInput}
 use Rattle.conn_serve.specs.Serves.{CarriedBy, Serves}
@@ -20,7 +22,11 @@ use Rattle.bridge_words.specs.Notes.{note_of_talk}
 use Rattle.bridge_core.specs.Refused.{note_of_recover}
 use Rattle.bridge_core.specs.Acknowledged.{AckedIsDurable}
 
--- What stands behind calls on the spool from a state: whatever a crash leaves now stands for a later state of
+-- the desk of a spool that was opened in this state: nothing is in doubt, and no id of its run was issued
+abbrev pub desk_in : SpoolState → DeskState
+desk_in s = desk_of s [] (Ids.opened s.run 0)
+
+-- What stands after calls on the spool from a state: whatever a crash leaves now stands for a later state of
 -- the same run. Each entry that was taken, so each that was answered, is there at its number or is below the
 -- cursor. The list grew by the groups that were taken, in order, each whole.
 pub record IsKeptIn (s : SpoolState) (calls : List Call) (c : List ℕ) : Type 0 where
@@ -28,34 +34,37 @@ pub record IsKeptIn (s : SpoolState) (calls : List Call) (c : List ℕ) : Type 0
   pub stands : StandsFor state c
   pub later : IsLater s state
   pub kept : AllKept state calls
-  pub grows : Grows (desk_of s []) (records_by 0 calls) state
+  pub grows : Grows (desk_in s) calls state
 
--- What a crash left at a moment of these calls stands for a later state, which holds the groups of the first of
--- them, none skipped and none in part, and perhaps that of the next one. A group that was refused is in none.
-abbrev pub IsCallStep : SpoolState → List Call → List ℕ → Type 0
-IsCallStep s calls c = Was (desk_of s []) (records_by 0 calls) c
-
--- The calls on a spool in that state, from the one moment of its disk to the other. Each has an answer that the
--- spool gives in the state behind those before it: so a refusal comes exactly where the spool is full or spent.
-pub record Keeps (s : SpoolState) (old new : Moment) (calls : List Call) : Type 0 where
+-- Calls on a spool in that state lead to where its disk is now. Each has an answer that the spool gives in the state
+-- after those before it: so a refusal comes exactly where the spool is full or spent. Whatever a crash leaves now
+-- stands for the one state after the calls, or for a stage of the change that failed last. So the calls alone changed
+-- anything, and no number is known as confirmed but by them.
+pub record Reaches (s : SpoolState) (now : Moment) (calls : List Call) : Type 0 where
+  pub records : List Record
+  pub by : AreBy 0 calls records
   pub after : DeskState
-  pub goes : Goes (desk_of s []) (records_by 0 calls) after
-  pub each : (c : List ℕ) → new.image c → IsKeptIn s calls c
-  pub any_moment : LeavesOnly (IsCallStep s calls) old new
+  pub goes : Goes (desk_in s) records after
+  pub images : (c : List ℕ) → now.image c → StandsForOne after.spool after.doubt c
+  pub each : (c : List ℕ) → now.image c → IsKeptIn s calls c
+
+-- And so it was from that moment on: whatever a crash left meanwhile stands for the state after the first of the
+-- calls, or for a stage of the next one.
+pub record Keeps (s : SpoolState) (old new : Moment) (calls : List Call) : Type 0 where
+  pub reached : Reaches s new calls
+  pub any_moment : LeavesOnly (Stood (desk_in s) reached.records) old new
 
 -- The device stood for a state, and was opened for storing: its run was raised by one, and the connection has
--- the number that begins the new run. Whatever a crash left meanwhile is what it could leave as the call began,
--- or stands for that state with the run raised or not, or for one that follows from the calls. The calls have
--- the answers of a spool in that state.
+-- the number that begins the new run. Then the calls were made on the spool. Whatever a crash left meanwhile is what
+-- it could leave as the call began, or stands for that state with the run raised or not, or for one on the way of the
+-- calls.
 pub record IsStored (old new : Moment) (conn : ℕ) (calls : List Call) : Type 0 where
   pub state : SpoolState
   pub stood : StandsFor state old.reads
   pub could : CanOpen Raise state
   pub conn_is : conn ≡ (state.run + 1) * 2 ^ 32
-  pub after : DeskState
-  pub goes : Goes (desk_of (opened Raise state) []) (records_by 0 calls) after
-  pub each : (c : List ℕ) → new.image c → IsKeptIn (opened Raise state) calls c
-  pub any_moment : LeavesOnly (λ c. IsOpening Raise old c ⊎ IsCallStep (opened Raise state) calls c) old new
+  pub reached : Reaches (opened Raise state) new calls
+  pub any_moment : LeavesOnly (λ c. IsOpening Raise old c ⊎ Stood (desk_in (opened Raise state)) reached.records c) old new
 
 -- The device was not opened: it breaks a rule, the first one at that place; or its run or its register can't be
 -- raised; or a call of the disk failed, or no memory was found. Unless the disk failed, a crash left what it could

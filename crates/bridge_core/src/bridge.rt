@@ -1,7 +1,8 @@
 //! The top call.
 ghost use Rattle.std.specs.Prelude.{◌≡◌, ◌↔◌, ℕ, map, string_bytes};
-ghost use Rattle.foundation.specs.Faults.{Rose};
+ghost use Rattle.edge_disk.specs.Calls.{Calls};
 ghost use Rattle.edge_io.specs.declared.proto.Proto.{Proto};
+ghost use Rattle.conn_serve.specs.Endings.{CountsFaults};
 ghost use Rattle.bridge_words.specs.declared.command.Command.{Command};
 ghost use Rattle.bridge_words.specs.declared.command.Command.TheVariants.{Replay};
 ghost use Rattle.bridge_words.specs.declared.note.Note.TheVariants.{Usage, WrongLength, ReadFault, WriteFault, DiskFault};
@@ -21,14 +22,14 @@ use std::alloc::Global;
 /// Does all that the program does with these words, over this disk, input and output.
 ///
 /// `format SLOTS SIZE` makes the device an empty spool, and prints a line. `list` prints a line for each
-/// entry that is not confirmed, and with `--as` its event in that form. `replay relp` serves the input as one
+/// entry whose number isn't known as confirmed, and with `--as` its event in that form. `replay relp` serves the input as one
 /// connection by RELP, version 0, and `replay lumberjack` by Lumberjack, version 2: what is stored is durable
 /// before it is answered, and an entry that was answered stands in the spool whatever a crash leaves from
 /// then on.
 ///
 /// `Usage` comes exactly where the words are no command, and then nothing is done. `ReadFault`,
 /// `WriteFault` and `DiskFault` come only where a read of the input, a write of the output or a call of
-/// the disk failed in this call. `NoMemory` says that no memory was found. All other notes are told at
+/// the disk failed in this call; where another note comes, none of its kind failed. `NoMemory` says that no memory was found. All other notes are told at
 /// the functions that do the commands.
 pub fn bridge<D: Disk, S: Source, K: Sink>(
     alloc: Global,
@@ -46,10 +47,10 @@ pub fn bridge<D: Disk, S: Source, K: Sink>(
     ensures unused { IsRefusedFirst result.note → (input.new ≡ input.old) × (output.new ≡ output.old) }
     ensures unread { ((proto : Proto) → IsCommand (Replay proto) (map string_bytes words.now) → ⊥) → input.new ≡ input.old }
 
-    // What failed.
-    ensures read_cause { result.note ≡ ReadFault → Rose 1 (S.read_faults input.old) (S.read_faults input.new) }
-    ensures write_cause { result.note ≡ WriteFault → Rose 1 (K.write_faults output.old) (K.write_faults output.new) }
-    ensures disk_cause { result.note ≡ DiskFault → Rose 1 (D.moment disk).faults (D.moment result.disk).faults }
+    // What failed: a call of the disk, a read of the input or a write of the output exactly where the note says so.
+    ensures calls { Calls (result.note ≡ DiskFault) (D.moment disk) (D.moment result.disk) }
+    ensures reads { CountsFaults (result.note ≡ ReadFault) (S.read_faults input.old) (S.read_faults input.new) }
+    ensures writes { CountsFaults (result.note ≡ WriteFault) (K.write_faults output.old) (K.write_faults output.new) }
 
     // What was done.
     ensures done { (command : Command) → IsCommand command (map string_bytes words.now) → Does command (record {

@@ -1,8 +1,9 @@
 //! The command `format`: a device is made an empty spool.
-ghost use Rattle.std.specs.Prelude.{◌≡◌, ◌≢◌, ℕ, ◌≤◌};
-ghost use Rattle.foundation.specs.Faults.{Rose};
+ghost use Rattle.std.specs.Prelude.{◌≡◌, ◌≢◌, ℕ};
+ghost use Rattle.edge_disk.specs.Calls.{Calls};
 ghost use Rattle.edge_disk.specs.Disk.{LeavesOnly};
-ghost use Rattle.spool_log.specs.Format.{IsFormatStep};
+ghost use Rattle.spool_log.specs.Making.Format.{IsFormatStep};
+ghost use Rattle.conn_serve.specs.Endings.{CountsFaults};
 ghost use Rattle.bridge_words.specs.declared.note.Note.TheVariants.{Usage, WrongLength, ReadFault, WriteFault, DiskFault};
 ghost use Rattle.bridge_words.specs.Lines.{spool_line};
 ghost use Rattle.bridge_words.specs.Words.{IsSize};
@@ -18,8 +19,7 @@ use std::alloc::Global;
 
 // Prints the line that says which spool was made.
 fn print_line<K: Sink>(alloc: Global, output: &mut K, slots: u32, size: u64) -> Note
-    ensures later { K.write_faults output.old ≤ K.write_faults output.new }
-    ensures cause { result ≡ WriteFault → Rose 1 (K.write_faults output.old) (K.write_faults output.new) }
+    ensures writes { CountsFaults (result ≡ WriteFault) (K.write_faults output.old) (K.write_faults output.new) }
     ensures undisturbed { result ≢ DiskFault }
     ensures line { IsWritten result (spool_line slots size) (K.taken output.old) (K.taken output.new) }
 {
@@ -46,8 +46,8 @@ pub fn format<D: Disk, K: Sink>(
 ) -> Note
     requires { IsSize slots size }
 
-    ensures disk_cause { result ≡ DiskFault → Rose 1 (D.moment disk.old).faults (D.moment disk.new).faults }
-    ensures write_cause { result ≡ WriteFault → Rose 1 (K.write_faults output.old) (K.write_faults output.new) }
+    ensures calls { Calls (result ≡ DiskFault) (D.moment disk.old) (D.moment disk.new) }
+    ensures writes { CountsFaults (result ≡ WriteFault) (K.write_faults output.old) (K.write_faults output.new) }
     ensures known { (result ≢ Usage) × (result ≢ ReadFault) }
     ensures unchanged { (have want : ℕ) → result ≡ WrongLength have want → disk.new ≡ disk.old }
     ensures unused { IsRefusedFirst result → output.new ≡ output.old }

@@ -1,16 +1,19 @@
 //! The lines of entries: made in the form that is wanted, and written.
-ghost use Rattle.std.specs.Prelude.{◌≡◌, ◌≢◌, ℕ, ◌^◌, ◌≤◌, ◌<◌, List, [], ◌∷◌, ◌++◌, length, All, IfOk, IfErr, OnOk};
+ghost use Rattle.std.specs.Prelude.{◌≡◌, ◌≢◌, ℕ, ◌<◌, List, [], ◌∷◌, ◌++◌, length, IfOk, IfErr, OnOk};
 ghost use Rattle.std.specs.Io.KnownBytes.{Appends};
-ghost use Rattle.foundation.specs.Faults.{Rose, HasCause};
+ghost use Rattle.foundation.specs.Faults.{HasCause};
+ghost use Rattle.spool_log.specs.Outcome.{given_entries, AreNumbered};
+ghost use Rattle.conn_serve.specs.Endings.{CountsFaults};
 ghost use Rattle.event_form.specs.Entry.{IsEntry};
 ghost use Rattle.bridge_words.specs.declared.note.Note.TheVariants.{WriteFault, DiskFault};
 ghost use Rattle.bridge_core.specs.Written.{WritesFront};
-ghost use Rattle.bridge_core.specs.Listed.{IsLine, ArePrinted, IsListNote};
+ghost use Rattle.bridge_core.specs.Listed.{IsLine, ArePrinted, IsPrintNote};
 
 use bridge_words::{ListForm, Note, entry_line};
 use edge_io::{Sink, Stopped, write_whole};
 use event_form::{Blob, Entry};
 use event_map::{as_hec_object, as_json_object, as_text};
+use spool_log::Numbered;
 use std::alloc::{AllocError, Global};
 
 /// From how many bytes on lines are written, and no more lines are made before.
@@ -38,7 +41,7 @@ fn line_of(alloc: Global, form: ListForm, number: u64, entry: &Entry) -> Result<
     }
 }
 
-// Puts the line of the entry with this number behind the lines.
+// Adds the line of the entry with this number to the lines.
 fn add_line(
     alloc: Global,
     form: ListForm,
@@ -56,7 +59,6 @@ fn add_line(
 
 // Writes the lines where they are many, and then none is left.
 fn write_many<K: Sink>(output: &mut K, lines: &mut Vec<u8>) -> Result<(), Stopped>
-    ensures later { K.write_faults output.old ≤ K.write_faults output.new }
     ensures cause { HasCause (K.write_faults output.old) (K.write_faults output.new) result }
     ensures done { OnOk result ((front : List ℕ) × Appends (K.taken output.old) (K.taken output.new) front × (lines.old.items ≡ front ++ lines.new.items)) }
     ensures part { IfErr result (λ _. (part : WritesFront lines.old.items (K.taken output.old) (K.taken output.new)) × (0 < length part.rest)) }
@@ -69,26 +71,24 @@ fn write_many<K: Sink>(output: &mut K, lines: &mut Vec<u8>) -> Result<(), Stoppe
     Ok(())
 }
 
-/// Writes the lines of the entries, of which the first has this number. Of the lines fewer than 65,536 bytes
-/// and one line are held at a time.
+/// Writes the lines of the entries. Of the lines fewer than 65,536 bytes and one line are held at a time.
+/// `WriteFault` comes only where a write failed, and then not all was written; `NoMemory` where no memory was
+/// found for a line.
 pub(crate) fn print_entries<K: Sink>(
     alloc: Global,
     output: &mut K,
     form: ListForm,
-    first: u64,
-    entries: &[Entry],
+    entries: &[Numbered],
 ) -> Note
-    requires number { first ≤ 2 ^ 63 }
-    requires limits { All IsEntry entries.now }
+    requires limits { (from : ℕ) × (end : ℕ) × AreNumbered from end entries.now }
 
-    ensures known { IsListNote result × (result ≢ DiskFault) }
-    ensures later { K.write_faults output.old ≤ K.write_faults output.new }
-    ensures cause { result ≡ WriteFault → Rose 1 (K.write_faults output.old) (K.write_faults output.new) }
-    ensures printed { ArePrinted form first entries.now result (K.taken output.old) (K.taken output.new) }
+    ensures known { IsPrintNote result × (result ≢ DiskFault) }
+    ensures writes { CountsFaults (result ≡ WriteFault) (K.write_faults output.old) (K.write_faults output.new) }
+    ensures printed { ArePrinted form (given_entries entries.now) result (K.taken output.old) (K.taken output.new) }
 {
     let mut lines = Vec::new(alloc);
-    for (i, entry) in entries.iter().enumerate() {
-        let Ok(()) = add_line(alloc, form, first + i as u64, entry, &mut lines) else {
+    for one in entries {
+        let Ok(()) = add_line(alloc, form, one.number, &one.entry, &mut lines) else {
             return Note::NoMemory;
         };
         let Ok(()) = write_many(output, &mut lines) else {

@@ -2,6 +2,10 @@
 //! The one contract is that of `bridge`, the top call: what it makes, lists, stores and answers for its words.
 #![tactic(auto)]
 
+ghost use Rattle.std.specs.Prelude.{◌≡◌};
+ghost use Rattle.std.specs.Process.{exit_status};
+ghost use Rattle.bridge_words.specs.Notes.{status_of};
+
 mod bridge;
 mod ended;
 mod formatting;
@@ -13,14 +17,24 @@ mod listing;
 mod lumber_tests;
 mod program;
 mod refused;
+#[cfg(test)]
+mod register_tests;
 mod replaying;
 #[cfg(test)]
 mod tests;
 
+use bridge_words::Note;
 use std::process::ExitCode;
+
+// The exit code of a run that ended so.
+fn exit_code(note: Note) -> ExitCode
+    ensures status { exit_status result ≡ status_of note }
+{
+    ExitCode::from(note.status())
+}
 
 fn main(rt: HostRuntime) -> ExitCode {
     let note = program::run(&rt);
     program::report(&rt, note);
-    ExitCode::from(note.status())
+    exit_code(note)
 }

@@ -1,8 +1,10 @@
 //! The command `replay`: the input is served as one connection, over the spool that the device holds.
 ghost use Rattle.std.specs.Prelude.{◌≡◌, ◌≢◌, ◌⊎◌, ℕ, ◌*◌, ◌^◌, [], false};
-ghost use Rattle.foundation.specs.Faults.{Rose};
 ghost use Rattle.spool_state.specs.SpoolState.{SpoolState};
+ghost use Rattle.edge_disk.specs.Calls.{Calls};
+ghost use Rattle.spool_log.specs.Memory.{run_of};
 ghost use Rattle.spool_log.specs.State.{view, IsIn};
+ghost use Rattle.conn_serve.specs.Endings.{CountsFaults};
 ghost use Rattle.bridge_words.specs.declared.note.Note.TheVariants.{Usage, WrongLength, ReadFault, WriteFault, DiskFault};
 ghost use Rattle.bridge_words.specs.Notes.{status_of};
 ghost use Rattle.bridge_core.specs.Replayed.{Keeps, IsServed, IsUnopened, IsReplayed};
@@ -15,6 +17,7 @@ use conn_serve::{Rules, attend};
 use desk_access::{Alone, Desk};
 use edge_disk::Disk;
 use edge_io::{Both, Link, Proto, Sink, Source};
+use hec_ids::Ids;
 use spool_log::{Opening, Refusal, Spool};
 use std::alloc::Global;
 
@@ -33,15 +36,17 @@ fn serve_link<D: Disk, L: Link>(
 
     ensures status { result.status ≡ status_of result.note }
     ensures known { IsRefusedFirst result.note → ⊥ }
-    ensures read_cause { result.note ≡ ReadFault → Rose 1 (L.read_faults link.old) (L.read_faults link.new) }
-    ensures write_cause { result.note ≡ WriteFault → Rose 1 (L.write_faults link.old) (L.write_faults link.new) }
-    ensures disk_cause { result.note ≡ DiskFault → Rose 1 (D.moment spool.disk).faults (D.moment result.disk).faults }
+    ensures calls { Calls (result.note ≡ DiskFault) (D.moment spool.disk) (D.moment result.disk) }
+    ensures reads { CountsFaults (result.note ≡ ReadFault) (L.read_faults link.old) (L.read_faults link.new) }
+    ensures writes { CountsFaults (result.note ≡ WriteFault) (L.write_faults link.old) (L.write_faults link.new) }
     ensures same { L.same link.old link.new }
-    ensures served { IsServed proto (spool.known.register.content.run * 2 ^ 32) (L.given link.old) (L.given link.new) (L.left link.old) (L.left link.new) (L.taken link.old) (L.taken link.new)
-        (λ calls. (s : SpoolState) → D.tells → IsIn s [] (view spool.known spool.doubt (D.moment spool.disk)) → Keeps s (D.moment spool.disk) (D.moment result.disk) calls) result.note }
+    ensures served { IsServed proto (run_of spool.memory * 2 ^ 32) (L.given link.old) (L.given link.new) (L.left link.old) (L.left link.new) (L.taken link.old) (L.taken link.new)
+        (λ calls. (s : SpoolState) → D.tells → IsIn s [] (view spool.memory spool.doubt (D.moment spool.disk)) → Keeps s (D.moment spool.disk) (D.moment result.disk) calls) result.note }
 {
-    let conn = u64::from(spool.run()) * CONNECTIONS;
-    let mut access = Alone::new(Desk { spool });
+    let run = spool.run();
+    let conn = u64::from(run) * CONNECTIONS;
+    let ids = Ids::new(alloc, run, 0);
+    let mut access = Alone::new(Desk { spool, ids });
     let rules = Rules {
         proto,
         token: None,
@@ -65,11 +70,11 @@ fn serve_input<D: Disk, S: Source, K: Sink>(
 
     ensures status { result.status ≡ status_of result.note }
     ensures known { IsRefusedFirst result.note → ⊥ }
-    ensures read_cause { result.note ≡ ReadFault → Rose 1 (S.read_faults input.old) (S.read_faults input.new) }
-    ensures write_cause { result.note ≡ WriteFault → Rose 1 (K.write_faults output.old) (K.write_faults output.new) }
-    ensures disk_cause { result.note ≡ DiskFault → Rose 1 (D.moment spool.disk).faults (D.moment result.disk).faults }
-    ensures served { IsServed proto (spool.known.register.content.run * 2 ^ 32) (S.given input.old) (S.given input.new) (S.left input.old) (S.left input.new) (K.taken output.old) (K.taken output.new)
-        (λ calls. (s : SpoolState) → D.tells → IsIn s [] (view spool.known spool.doubt (D.moment spool.disk)) → Keeps s (D.moment spool.disk) (D.moment result.disk) calls) result.note }
+    ensures calls { Calls (result.note ≡ DiskFault) (D.moment spool.disk) (D.moment result.disk) }
+    ensures reads { CountsFaults (result.note ≡ ReadFault) (S.read_faults input.old) (S.read_faults input.new) }
+    ensures writes { CountsFaults (result.note ≡ WriteFault) (K.write_faults output.old) (K.write_faults output.new) }
+    ensures served { IsServed proto (run_of spool.memory * 2 ^ 32) (S.given input.old) (S.given input.new) (S.left input.old) (S.left input.new) (K.taken output.old) (K.taken output.new)
+        (λ calls. (s : SpoolState) → D.tells → IsIn s [] (view spool.memory spool.doubt (D.moment spool.disk)) → Keeps s (D.moment spool.disk) (D.moment result.disk) calls) result.note }
 {
     let mut link = Both {
         source: &mut *input,
@@ -96,9 +101,9 @@ pub fn replay<D: Disk, S: Source, K: Sink>(
 
     ensures status { result.status ≡ status_of result.note }
     ensures known { (result.note ≢ Usage) × ((have want : ℕ) → result.note ≢ WrongLength have want) }
-    ensures read_cause { result.note ≡ ReadFault → Rose 1 (S.read_faults input.old) (S.read_faults input.new) }
-    ensures write_cause { result.note ≡ WriteFault → Rose 1 (K.write_faults output.old) (K.write_faults output.new) }
-    ensures disk_cause { result.note ≡ DiskFault → Rose 1 (D.moment disk).faults (D.moment result.disk).faults }
+    ensures calls { Calls (result.note ≡ DiskFault) (D.moment disk) (D.moment result.disk) }
+    ensures reads { CountsFaults (result.note ≡ ReadFault) (S.read_faults input.old) (S.read_faults input.new) }
+    ensures writes { CountsFaults (result.note ≡ WriteFault) (K.write_faults output.old) (K.write_faults output.new) }
     ensures unused { IsRefusedFirst result.note → (input.new ≡ input.old) × (output.new ≡ output.old) }
     ensures replayed { (IsUnopened D.tells (D.moment disk) (D.moment result.disk) result.note × (input.new ≡ input.old) × (output.new ≡ output.old))
         ⊎ IsReplayed proto D.tells (D.moment disk) (D.moment result.disk) (S.given input.old) (S.given input.new) (S.left input.old) (S.left input.new) (K.taken output.old) (K.taken output.new) result.note }

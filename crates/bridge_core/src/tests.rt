@@ -2,10 +2,11 @@ ghost use Rattle.std.specs.Prelude.{◌<◌, ◌^◌};
 
 use crate::bridge::bridge;
 use crate::ended::Ended;
-use bridge_words::Note;
+use bridge_words::{Note, note_text};
 use edge_disk::{Crash, MemDisk};
 use edge_io::{MemSink, MemSource};
 use event_form::Why;
+use spool_log::{Opening, Spool};
 use std::alloc::Global;
 use std::process::Abort;
 use std::test::Fail;
@@ -20,6 +21,8 @@ const HINT: &[u8] = b"0 serverclose 0\n";
 const REPLAY: &[&str] = &["replay", "relp"];
 
 pub(crate) const LIST: &[&str] = &["list"];
+
+const TEXTS: &[&str] = &["list", "--as", "relp"];
 
 // What a run left: its note, what it wrote, and the disk.
 #[derive(Drop)]
@@ -110,6 +113,12 @@ pub(crate) fn joined(alloc: Global, parts: &[&[u8]]) -> Result<Vec<u8>, Fail> {
     Ok(all)
 }
 
+// The event of that place: bytes of one letter, from `a` on.
+fn event_of(alloc: Global, place: usize, size: usize) -> Result<Vec<u8>, Fail> {
+    const LETTERS: &[u8; 26] = b"abcdefghijklmnopqrstuvwxyz";
+    Ok(vec![in alloc; LETTERS[place % 26]; size]?)
+}
+
 // An `open`, and a `syslog` for each size with an event of so many bytes. Transaction numbers go from 2 on.
 fn with_events(alloc: Global, sizes: &[usize]) -> Result<Vec<u8>, Fail> {
     let mut input = OPEN.to_vec(alloc)?;
@@ -117,9 +126,7 @@ fn with_events(alloc: Global, sizes: &[usize]) -> Result<Vec<u8>, Fail> {
         let txnr = i.saturating_add(2);
         let head = format!(in alloc; "{txnr} syslog {size} ")?;
         input.extend_from_slice(head.as_bytes())?;
-        for _ in 0..*size {
-            input.push(b'x')?;
-        }
+        input.extend_from_slice(&event_of(alloc, i, *size)?)?;
         input.push(b'\n')?;
     }
     Ok(input)
@@ -147,7 +154,8 @@ fn one_event_in_any_pieces(rt: HostRuntime) -> Result<(), Fail> {
     let input = joined(alloc, &[OPEN, b"2 syslog 5 hello\n3 close 0\n"])?;
     let answers = joined(alloc, &[OPENED, b"2 rsp 6 200 OK\n3 rsp 0\n", HINT])?;
     let cell = [
-        1, 0, 0, 0, 0, 0, 0, 0, 2, 0, 0, 0, 0x11, 1, 0, 0, 0, 0, 0, 0, 0, 1, 0, 0, 0, 0, 0, 0, 0, 0,
+        1, 0, 0, 0, 0, 0, 0, 0, 2, 0, 0, 0, 0x13, 2, 0, 0, 0, 0, 0, 0, 0, 1, 0, 0, 0, 0, 0, 0, 0,
+        0, 0, 0,
     ];
     let slot = [
         1, 0, 0, 0, 0, 0, 0, 0, 1, 0, 0, 0, 0, 0, 0, 0, 0, 1, 0, 0, 0, 0x22, 0, 0, 0, 1, 1, 0, 0,
@@ -160,7 +168,7 @@ fn one_event_in_any_pieces(rt: HostRuntime) -> Result<(), Fail> {
         check(&rt, &left, Note::Fine, &answers);
         let bytes = left.disk.bytes();
         assert_eq!(rt; bytes.len(), 16_384);
-        assert_eq!(rt; &bytes[8192..8222], cell.as_slice());
+        assert_eq!(rt; &bytes[8192..8224], cell.as_slice());
         assert_eq!(rt; &bytes[12_288..12_349], slot.as_slice());
         assert_eq!(rt;
             listed(alloc, bytes)?.as_slice(),
@@ -239,57 +247,100 @@ fn endings(rt: HostRuntime) -> Result<(), Fail> {
     Ok(())
 }
 
-// Events that fill slots: what is answered, and how the run ends.
+// Events that come, how the run ends, and what is listed then, as lines; the first ones are stored.
+#[derive(Clone, Copy)]
+struct Fill<'a> {
+    device: &'a [u8],
+    sizes: &'a [usize],
+    note: Note,
+    status: u8,
+    text: &'a [u8],
+    lines: &'a [u8],
+}
+
+// Events that fill slots: what is answered, how the run ends, and what is stored.
 #[test]
 fn events_that_fill_slots(rt: HostRuntime) -> Result<(), Fail> {
     let alloc = rt.alloc();
     let one = formatted(alloc, "1", "4096", 16_384)?;
     let two = formatted(alloc, "2", "4096", 20_480)?;
-    let rows: [(&[u8], &[usize], Note, usize); 6] = [
-        (
-            &one,
-            &[2000, 2003],
-            Note::Full {
+    let fine = Fill {
+        device: &two,
+        sizes: &[],
+        note: Note::Fine,
+        status: 0,
+        text: b"",
+        lines: b"",
+    };
+    let rows: [Fill; 6] = [
+        Fill {
+            device: &one,
+            sizes: &[2000, 2003],
+            note: Note::Full {
                 need: 2041,
                 room: 2040,
             },
-            1,
-        ),
-        (&two, &[2000, 2002], Note::Fine, 2),
-        (&two, &[2000, 2003], Note::Fine, 2),
-        (
-            &two,
-            &[2000, 2003, 2000],
-            Note::Full {
+            status: 67,
+            text: b"spool full: 2041 needed, 2040 free",
+            lines: b"0 4294967296 0 2 relp 2000\n",
+        },
+        Fill {
+            sizes: &[2000, 2002],
+            lines: b"0 4294967296 0 2 relp 2000\n1 4294967296 1 3 relp 2002\n",
+            ..fine
+        },
+        Fill {
+            sizes: &[2000, 2003],
+            lines: b"0 4294967296 0 2 relp 2000\n1 4294967296 1 3 relp 2003\n",
+            ..fine
+        },
+        Fill {
+            sizes: &[2000, 2003, 2000],
+            note: Note::Full {
                 need: 2038,
                 room: 2037,
             },
-            2,
-        ),
-        (&two, &[4040], Note::Fine, 1),
-        (
-            &two,
-            &[4041],
-            Note::TooLarge {
+            status: 67,
+            text: b"spool full: 2038 needed, 2037 free",
+            lines: b"0 4294967296 0 2 relp 2000\n1 4294967296 1 3 relp 2003\n",
+            ..fine
+        },
+        Fill {
+            sizes: &[4040],
+            lines: b"0 4294967296 0 2 relp 4040\n",
+            ..fine
+        },
+        Fill {
+            sizes: &[4041],
+            note: Note::TooLarge {
                 need: 4079,
                 most: 4078,
             },
-            0,
-        ),
+            status: 67,
+            text: b"group too large: 4079 needed, 4078 at most",
+            ..fine
+        },
     ];
-    for (device, sizes, note, taken) in rows {
-        let left = run(alloc, device, REPLAY, &with_events(alloc, sizes)?)?;
+    for row in rows {
+        let left = run(alloc, row.device, REPLAY, &with_events(alloc, row.sizes)?)?;
+        let taken = row.lines.iter().filter(|c| **c == b'\n').count();
         let mut written = OPENED.to_vec(alloc)?;
-        for i in 0..taken {
+        let mut texts = Vec::new(alloc);
+        for (i, size) in row.sizes.iter().enumerate().take(taken) {
             let txnr = i.saturating_add(2);
             written.extend_from_slice(format!(in alloc; "{txnr} rsp 6 200 OK\n")?.as_bytes())?;
+            texts.extend_from_slice(&event_of(alloc, i, *size)?)?;
+            texts.push(b'\n')?;
         }
-        if note != Note::Fine {
+        if row.status != 0 {
             written.extend_from_slice(HINT)?;
         }
-        check(&rt, &left, note, &written);
-        let lines = listed(alloc, left.disk.bytes())?;
-        assert_eq!(rt; lines.iter().filter(|c| **c == b'\n').count(), taken);
+        check(&rt, &left, row.note, &written);
+        assert_eq!(rt; left.note.status(), row.status);
+        assert_eq!(rt; note_text(alloc, &left.note)?.bytes(), row.text);
+        assert_eq!(rt; listed(alloc, left.disk.bytes())?.as_slice(), row.lines);
+        let listed = run(alloc, left.disk.bytes(), TEXTS, b"")?;
+        check(&rt, &listed, Note::Fine, &texts);
     }
     Ok(())
 }
@@ -308,6 +359,39 @@ fn an_exact_fit(rt: HostRuntime) -> Result<(), Fail> {
         assert_eq!(rt; bytes[16_383], 0);
         assert_eq!(rt; bytes[16_384], next);
     }
+    Ok(())
+}
+
+// Of a full spool the first entry is confirmed: then an event is taken into its slot, and the confirmed entry
+// is gone.
+#[test]
+fn a_slot_is_taken_again(rt: HostRuntime) -> Result<(), Fail> {
+    let alloc = rt.alloc();
+    let device = formatted(alloc, "2", "4096", 20_480)?;
+    let full = run(alloc, &device, REPLAY, &with_events(alloc, &[2000, 2003])?)?;
+    assert_eq!(rt; full.note, Note::Fine);
+    let Ok(mut spool) = Spool::recover(alloc, full.disk, Opening::Keep) else {
+        return Err("recover".into());
+    };
+    if spool.end() < 1 || spool.confirm(1).is_err() {
+        return Err("confirm".into());
+    }
+    let confirmed = spool.into_disk().bytes().to_vec(alloc)?;
+    assert_eq!(rt;
+        listed(alloc, &confirmed)?.as_slice(),
+        b"1 4294967296 1 3 relp 2003\n".as_slice()
+    );
+    let left = run(alloc, &confirmed, REPLAY, &with_events(alloc, &[2000])?)?;
+    check(
+        &rt,
+        &left,
+        Note::Fine,
+        &joined(alloc, &[OPENED, b"2 rsp 6 200 OK\n"])?,
+    );
+    assert_eq!(rt;
+        listed(alloc, left.disk.bytes())?.as_slice(),
+        b"1 4294967296 1 3 relp 2003\n2 8589934592 0 2 relp 2000\n".as_slice()
+    );
     Ok(())
 }
 
@@ -364,8 +448,18 @@ fn many_entries(rt: HostRuntime) -> Result<(), Fail> {
     )?;
     assert_eq!(rt; cut.note, Note::WriteFault);
     assert!(rt; lines.starts_with(&cut.written));
-    assert_eq!(rt; cut.written.iter().filter(|c| **c == b'\n').count(), 128);
+    assert_eq!(rt; cut.written.iter().filter(|c| **c == b'\n').count(), 256);
     Ok(())
+}
+
+// Words on a device that are refused, or that change nothing: the note, its status and its text.
+#[derive(Clone, Copy)]
+struct Refused<'a> {
+    device: &'a [u8],
+    words: &'a [&'a str],
+    note: Note,
+    status: u8,
+    text: &'a [u8],
 }
 
 // Words and devices that are refused: nothing is written or changed.
@@ -379,45 +473,91 @@ fn refusals(rt: HostRuntime) -> Result<(), Fail> {
     let short = part(&spent, 0, 20_479).to_vec(alloc)?;
     spent[4110..4118].copy_from_slice(&2_097_151_u64.to_be_bytes());
     worn[4097..4105].copy_from_slice(&9_223_372_036_854_775_808_u64.to_be_bytes());
-    let rows: [(&[u8], &[&str], Note); 11] = [
-        (&zeros, &["format", "0", "4096"], Note::Usage),
-        (&zeros, &[], Note::Usage),
-        (&zeros, &["replay", "hec"], Note::Usage),
-        (&zeros, REPLAY, Note::NotSpool { at: 0 }),
-        (&zeros, LIST, Note::NotSpool { at: 0 }),
-        (
-            &zeros[..100],
-            &["format", "2", "4096"],
-            Note::WrongLength {
+    let usage = Refused {
+        device: &zeros,
+        words: &[],
+        note: Note::Usage,
+        status: 64,
+        text: b"usage: bridge FILE format|replay|list|drain|serve|load",
+    };
+    let no_spool = Refused {
+        device: &zeros,
+        words: REPLAY,
+        note: Note::NotSpool { at: 0 },
+        status: 65,
+        text: b"not a spool at 0",
+    };
+    let works = Refused {
+        device: &spent,
+        words: LIST,
+        note: Note::Fine,
+        status: 0,
+        text: b"",
+    };
+    let rows: [Refused; 11] = [
+        Refused {
+            words: &["format", "0", "4096"],
+            ..usage
+        },
+        usage,
+        Refused {
+            words: &["replay", "hec"],
+            ..usage
+        },
+        no_spool,
+        Refused {
+            words: LIST,
+            ..no_spool
+        },
+        Refused {
+            device: &zeros[..100],
+            words: &["format", "2", "4096"],
+            note: Note::WrongLength {
                 have: 100,
                 want: 20_480,
             },
-        ),
-        (&short, LIST, Note::NotSpool { at: 8 }),
-        (&spent, REPLAY, Note::RunsSpent { run: 2_097_151 }),
-        (&spent, LIST, Note::Fine),
-        (
-            &worn,
-            REPLAY,
-            Note::Worn {
+            status: 65,
+            text: b"device has 100 bytes, 20480 wanted",
+        },
+        Refused {
+            device: &short,
+            words: LIST,
+            note: Note::NotSpool { at: 8 },
+            text: b"not a spool at 8",
+            ..no_spool
+        },
+        Refused {
+            device: &spent,
+            note: Note::RunsSpent { run: 2_097_151 },
+            status: 76,
+            text: b"run 2097151 was the last",
+            ..no_spool
+        },
+        works,
+        Refused {
+            device: &worn,
+            note: Note::Worn {
                 ordinal: 9_223_372_036_854_775_808,
             },
-        ),
-        (&worn, LIST, Note::Fine),
+            status: 77,
+            text: b"register spent at 9223372036854775808",
+            ..no_spool
+        },
+        Refused {
+            device: &worn,
+            ..works
+        },
     ];
-    for (device, words, note) in rows {
-        let left = run_on(
-            alloc,
-            sound(alloc, device)?,
-            words,
-            OPEN,
-            Streams {
-                reads: &[0],
-                ..SOUND
-            },
-        )?;
-        check(&rt, &left, note, b"");
-        assert_eq!(rt; left.disk.bytes(), device);
+    let fails = Streams {
+        reads: &[0],
+        ..SOUND
+    };
+    for row in rows {
+        let left = run_on(alloc, sound(alloc, row.device)?, row.words, OPEN, fails)?;
+        check(&rt, &left, row.note, b"");
+        assert_eq!(rt; left.note.status(), row.status);
+        assert_eq!(rt; note_text(alloc, &left.note)?.bytes(), row.text);
+        assert_eq!(rt; left.disk.bytes(), row.device);
     }
     Ok(())
 }
@@ -474,7 +614,8 @@ fn streams_that_fail(rt: HostRuntime) -> Result<(), Fail> {
     Ok(())
 }
 
-// One call of the disk fails, each in turn: the event is not answered, and the run says so.
+// One call of the disk fails, each in turn: the event is not answered, and the run says so. Of the four calls by
+// which it is stored, the gate's write is the third one: where the last one fails, a sync, the event stands.
 #[test]
 fn each_call_of_the_disk_fails_once(rt: HostRuntime) -> Result<(), Fail> {
     let alloc = rt.alloc();
@@ -490,10 +631,18 @@ fn each_call_of_the_disk_fails_once(rt: HostRuntime) -> Result<(), Fail> {
             return Ok(());
         }
         assert_eq!(rt; left.note, Note::DiskFault);
+        let lines = listed(alloc, left.disk.bytes())?;
         if left.written.as_slice() == OPENED {
             opened = opened.saturating_add(1);
+            let stored: &[u8] = if opened == 4 {
+                b"0 4294967296 0 2 relp 5\n"
+            } else {
+                b""
+            };
+            assert_eq!(rt; lines.as_slice(), stored);
         } else {
             assert_eq!(rt; left.written.len(), 0);
+            assert_eq!(rt; lines.len(), 0);
         }
     }
     Err("a run always fails".into())

@@ -14,6 +14,3 @@ pub use command::{Command, ListForm};
 pub use line::{entry_line, spool_line};
 pub use need::{Need, need_of};
 pub use note::{Note, note_text};
-
-#[cfg(test)]
-mod tests;

@@ -7,7 +7,6 @@ use Rattle.std.proofs.lemmas.List.Elements.{All-nil, All-cons}
 use Rattle.std.proofs.lemmas.Bool.{false≢true}
 use Rattle.event_form.specs.declared.event.Entry.{Entry}
 use Rattle.event_form.specs.declared.talk.Talk.{Talk}
-use Rattle.event_form.specs.Entry.{IsEntry}
 use Rattle.lumber_frame.specs.declared.frame.LumberFrame.{LumberFrame}
 use Rattle.lumber_frame.specs.declared.frame.LumberFrame.TheVariants.{Window, Pairs, Json, Ack}
 use Rattle.lumber_session.specs.declared.act.LumberAct.{LumberAct}
@@ -19,6 +18,7 @@ use Rattle.lumber_session.proofs.WindowLaws.{staged_push}
 use Rattle.lumber_session.proofs.CutLaws.{nowhere_none, nowhere_on, one_cut, nowhere_few}
 use Rattle.desk_access.specs.Batch.{AreNext, MayTake}
 use Rattle.desk_access.specs.Call.{Call}
+use Rattle.conn_serve.specs.Groups.{IsFrameEntry}
 use Rattle.conn_serve.specs.Step.{Step, frames_of, calls_of, text_of, count}
 use Rattle.conn_serve.specs.Protocol.{AreMoves}
 use Rattle.conn_serve.specs.Relp.{entry_of}
@@ -119,7 +119,7 @@ handled_none conn core entries last behind ready none = record {
   ready = ready;
   entries_are = none;
   last_is = λ some. absurd (omega (arith, some));
-  limits = subst (All IsEntry) (sym none) (All-nil IsEntry);
+  limits = subst (All IsFrameEntry) (sym none) (All-nil IsFrameEntry);
 }
 
 -- What was handled, and the act for the next frame, of which the event was staged.
@@ -148,7 +148,7 @@ module _ (conn : ℕ) (core : Core) (entries entries' : List Entry) (last last' 
   whole_now = ap (λ (l : List LumberFrame). l ++ f ∷ []) h.whole ∙ append_assoc (frames_of h.steps) h.held (f ∷ [])
 
   -- no batch ends with the frame
-  pub handled_on : (core' : Core) → IsBehind (frames ++ f ∷ []) core' → core'.due ≡ false → commits act ≡ false → All IsEntry entries' → Handled conn core' entries' last' (frames ++ f ∷ []) called said
+  pub handled_on : (core' : Core) → IsBehind (frames ++ f ∷ []) core' → core'.due ≡ false → commits act ≡ false → All IsFrameEntry entries' → Handled conn core' entries' last' (frames ++ f ∷ []) called said
   handled_on core' behind ready none limits = record {
     steps = h.steps;
     each = h.each;
@@ -198,7 +198,7 @@ module _ (conn : ℕ) (core : Core) (entries entries' : List Entry) (last last' 
           ready = ready;
           entries_are = refl;
           last_is = λ some. absurd (omega (arith, some));
-          limits = All-nil IsEntry;
+          limits = All-nil IsFrameEntry;
         }
 
     pub handled_stop : (late : List Call) (part : List ℕ) (talk : Talk) → EndsAtGroup entries' last' late part talk → (lumberjack conn).Stops h.steps h.held f late part talk

@@ -1,4 +1,5 @@
-mod Acting
+pub mod Acting
+pub mod Faults
 mod Counting
 mod Leading
 mod Splitting

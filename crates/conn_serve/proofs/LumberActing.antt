@@ -6,7 +6,6 @@ use Rattle.std.proofs.lemmas.List.{append-nil}
 use Rattle.std.proofs.lemmas.List.Elements.{All-nil, All-cons}
 use Rattle.edge_io.proofs.Known.{appends_none}
 use Rattle.event_form.specs.declared.event.Entry.{Entry}
-use Rattle.event_form.specs.Entry.{IsEntry}
 use Rattle.event_form.specs.declared.talk.Talk.{Talk}
 use Rattle.lumber_frame.specs.declared.frame.LumberFrame.{LumberFrame}
 use Rattle.lumber_session.specs.declared.act.LumberAct.{LumberAct}
@@ -19,6 +18,7 @@ use Rattle.spool_log.specs.declared.fault.TakeFault.{TakeFault}
 use Rattle.spool_log.specs.declared.fault.TakeFault.TheVariants.{TooLarge, Spent, Full, NotSpool, NoMemory, DiskFault}
 use Rattle.desk_access.specs.Batch.{AreNext}
 use Rattle.desk_access.specs.Call.{Call, takes, taken_of, TookSurely}
+use Rattle.conn_serve.specs.Groups.{IsFrameEntry}
 use Rattle.conn_serve.specs.Done.{Done, Leads, SoFar}
 use Rattle.conn_serve.specs.Relp.{talk_of}
 use Rattle.conn_serve.specs.Lumber.{StoresGroup, EndsAtGroup, entries_of}
@@ -69,7 +69,7 @@ module _ (n conn : ℕ) (core core' : Core) (entries entries' : List Entry) (las
       subst (AreNext conn n) (sym is) (subst (λ (k : ℕ). AreNext conn n (entries_of conn k events)) so.counted (entries_next conn n events))
 
   -- no batch ends with it
-  pub frame_on : (ran : List Call → Type 0) (w : Option (List ℕ)) → ran [] → ((frames : List LumberFrame) → IsBehind frames core → IsBehind (frames ++ f ∷ []) core') → core'.due ≡ commits act → commits act ≡ false → (All IsEntry entries → All IsEntry entries')
+  pub frame_on : (ran : List Call → Type 0) (w : Option (List ℕ)) → ran [] → ((frames : List LumberFrame) → IsBehind frames core → IsBehind (frames ++ f ∷ []) core') → core'.due ≡ commits act → commits act ≡ false → (All IsFrameEntry entries → All IsFrameEntry entries')
       → Done ran w w n n (λ calls text. (frames : List LumberFrame) → Leads n (λ fed called said. Handled conn core entries last frames called said) (λ fed called said. Handled conn core' entries' last' (frames ++ f ∷ []) called said) calls text)
   frame_on ran w none behind due on limits = record {
     calls = [];

@@ -1,8 +1,16 @@
 -- Endings, and when a connection may end for want of more.
-use Rattle.std.specs.Prelude.{◌≡◌, ◌^◌, ℕ, List, ◌++◌, length}
+use Rattle.std.specs.Prelude.{◌≡◌, ◌≤◌, ◌^◌, ℕ, List, ◌++◌, length}
+use Rattle.foundation.specs.Faults.{Rose}
 use Rattle.event_form.specs.declared.talk.Talk.{Talk}
 use Rattle.event_form.specs.declared.talk.Talk.TheVariants.{Ended, Truncated, Fault, ReadFault, TooMuch, NoMemory}
 use Rattle.desk_access.specs.Call.{Call}
+
+-- Of a connection's reads, or of its writes: their count of faults doesn't fall; it rose where such a fault is the
+-- answer, and is what it was where it isn't. So no call that failed is passed over.
+pub record CountsFaults (fault : Type 0) (before now : ℕ) : Type 0 where
+  pub later : before ≤ now
+  pub cause : fault → Rose 1 before now
+  pub quiet : (fault → ⊥) → now ≡ before
 
 -- Where this was served, no frame waits, and the bytes have no fault: a connection may end here for
 -- want of a read, of memory for what a read brought, or because it has read as much as it may.

@@ -1,7 +1,14 @@
 -- The groups of entries that calls took.
 use Rattle.std.specs.Prelude.{◌<◌, ℕ, List, [], ◌∷◌, ◌++◌, length, map, Ok, Err}
 use Rattle.event_form.specs.declared.event.Entry.{Entry}
-use Rattle.desk_access.specs.Call.{Call, takes, pends, confirms}
+use Rattle.event_form.specs.Entry.{IsEntry}
+use Rattle.desk_access.specs.Batch.{IsPlain}
+use Rattle.desk_access.specs.Call.{Call, takes}
+
+-- an entry within its limits, whose unit is the number of a frame
+pub record IsFrameEntry (e : Entry) : Type 0 where
+  pub limits : IsEntry e
+  pub plain : IsPlain e
 
 -- a group that was taken: its entries have the numbers from the first one on
 pub record Group : Type 0 where
@@ -15,9 +22,7 @@ HasEntries group = 0 < length group.entries
 -- the group that a call took, where it is a take that was answered Ok
 abbrev pub groups_by : Call → List Group
 groups_by (takes entries (Ok receipt)) = record { first = receipt.first; entries = entries } ∷ []
-groups_by (takes entries (Err fault)) = []
-groups_by (pends from most result) = []
-groups_by (confirms upto result) = []
+groups_by _ = []
 
 -- the groups that calls took, in order
 abbrev pub groups_of : List Call → List Group

@@ -4,7 +4,6 @@ use Rattle.std.specs.List.{All}
 use Rattle.event_form.specs.declared.event.Entry.{Entry}
 use Rattle.event_form.specs.declared.talk.Talk.{Talk}
 use Rattle.event_form.specs.declared.talk.Talk.TheVariants.{NoMemory}
-use Rattle.event_form.specs.Entry.{IsEntry}
 use Rattle.lumber_frame.specs.declared.fault.LumberFault.{LumberFault}
 use Rattle.lumber_frame.specs.declared.frame.LumberFrame.{LumberFrame}
 use Rattle.lumber_frame.specs.declared.side.Side.TheVariants.{Receiver}
@@ -20,6 +19,7 @@ use Rattle.stream_grammar.specs.Framing.{AreSpelled}
 use Rattle.desk_access.specs.Call.{Call}
 use Rattle.conn_serve.specs.Step.{Step, frames_of, calls_of, text_of, count}
 use Rattle.conn_serve.specs.Protocol.{AreMoves, IsNothing, IsOver}
+use Rattle.conn_serve.specs.Groups.{IsFrameEntry}
 use Rattle.conn_serve.specs.Lumber.{lumberjack, entries_of}
 
 -- what an act stages
@@ -47,7 +47,7 @@ pub record Handled (conn : ℕ) (core : Core) (entries : List Entry) (last : ℕ
   pub ready : core.due ≡ false
   pub entries_are : entries ≡ entries_of conn (count calls) (staged held)
   pub last_is : 0 < length (staged held) → last ≡ last_seq (staged held)
-  pub limits : All IsEntry entries
+  pub limits : All IsFrameEntry entries
 
 -- Of these bytes all whole frames but those that wait were served.
 pub record Served (conn : ℕ) (reader : Reader) (core : Core) (entries : List Entry) (last : ℕ) (fault : Option LumberFault) (fed : List ℕ) (calls : List Call) (text : List ℕ) : Type 0 where

@@ -19,7 +19,7 @@ use Rattle.stream_grammar.specs.Framing.{IsStream, IsFaulty}
 use Rattle.spool_log.specs.declared.fault.Receipt.{Receipt}
 use Rattle.spool_log.specs.declared.fault.TakeFault.{TakeFault}
 use Rattle.spool_log.specs.declared.fault.TakeFault.TheVariants.{TooLarge, Spent, Full, NotSpool, NoMemory, DiskFault}
-use Rattle.spool_log.specs.Take.{IsRefusal}
+use Rattle.spool_log.specs.Changing.Take.{IsRefusal}
 use Rattle.desk_access.specs.Call.{Call, takes}
 use Rattle.conn_serve.specs.Step.{frames_of, calls_of, count}
 use Rattle.conn_serve.specs.Protocol.{Protocol, IsNothing}

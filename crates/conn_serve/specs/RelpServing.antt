@@ -9,7 +9,7 @@ use Rattle.relp_session.specs.declared.act.RelpAct.{RelpAct}
 use Rattle.relp_session.specs.Answer.{hint}
 use Rattle.relp_session.specs.Session.{opened}
 use Rattle.spool_log.specs.declared.fault.TakeFault.{TakeFault}
-use Rattle.spool_log.specs.Take.{IsRefusal}
+use Rattle.spool_log.specs.Changing.Take.{IsRefusal}
 use Rattle.desk_access.specs.Call.{Call}
 use Rattle.conn_serve.specs.Step.{Step, frames_of, calls_of, text_of}
 use Rattle.conn_serve.specs.Protocol.{AreMoves, IsNothing}

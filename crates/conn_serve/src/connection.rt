@@ -1,10 +1,10 @@
 //! A connection's entries.
 ghost use Rattle.std.specs.Prelude.{◌≡◌, ◌+◌, ◌<◌, ◌^◌, [], ◌∷◌, length, All, OnOk, OnErr};
-ghost use Rattle.event_form.specs.Entry.{IsEntry};
 ghost use Rattle.event_form.specs.Event.{IsEvent};
 ghost use Rattle.desk_access.specs.Batch.{AreNext};
 ghost use Rattle.desk_access.specs.Call.{takes};
 ghost use Rattle.conn_serve.specs.Relp.{one_take};
+ghost use Rattle.conn_serve.specs.Groups.{IsFrameEntry};
 
 use desk_access::Access;
 use event_form::{Entry, Event};
@@ -19,8 +19,8 @@ pub struct Connection {
     pub taken: u64,
 }
 
-/// Takes one event into the spool, as the connection's next entry. The unit is the number in which its
-/// sender counts. The answers are those of the desk's `take`.
+/// Takes one event into the spool, as the connection's next entry. The unit is the number of its frame, in
+/// which its sender counts. The answers are those of the desk's `take`.
 pub fn take_event<A: Access>(
     access: &mut A,
     connection: &mut Connection,
@@ -28,6 +28,7 @@ pub fn take_event<A: Access>(
     event: Event,
 ) -> Result<Receipt, TakeFault>
     requires event { IsEvent event }
+    requires plain { unit < 2 ^ 32 }
     requires early { connection.old.taken < 2 ^ 63 }
     requires may { A.may_take access.old connection.old.number connection.old.taken }
 
@@ -54,7 +55,7 @@ pub fn take_group<A: Access>(
     entries: &[Entry],
 ) -> Result<Receipt, TakeFault>
     requires few { length entries.now < 2 ^ 32 }
-    requires limits { All IsEntry entries.now }
+    requires limits { All IsFrameEntry entries.now }
     requires next { AreNext connection.old.number connection.old.taken entries.now }
     requires early { connection.old.taken + length entries.now < 2 ^ 63 }
     requires may { A.may_take access.old connection.old.number connection.old.taken }

@@ -1,7 +1,5 @@
 //! What is done for one frame of Lumberjack.
 ghost use Rattle.std.specs.Prelude.{◌≡◌, ◌+◌, ◌<◌, ◌≤◌, ◌^◌, ℕ, List, [], ◌∷◌, ◌++◌, length, All, OnOk, IfOk, IfErr, IsErrOf, false, true};
-ghost use Rattle.foundation.specs.Faults.{Rose};
-ghost use Rattle.event_form.specs.Entry.{IsEntry};
 ghost use Rattle.lumber_frame.specs.declared.frame.LumberFrame.{LumberFrame};
 ghost use Rattle.lumber_frame.specs.declared.side.Side.TheVariants.{Receiver};
 ghost use Rattle.lumber_frame.specs.Spelling.{IsFrameFor};
@@ -10,8 +8,9 @@ ghost use Rattle.lumber_session.specs.Counting.{IsBehind};
 ghost use Rattle.desk_access.specs.Batch.{AreNext};
 ghost use Rattle.desk_access.specs.Call.{Call};
 ghost use Rattle.conn_serve.specs.Lumber.{StoresGroup, EndsAtGroup, entries_of};
+ghost use Rattle.conn_serve.specs.Groups.{IsFrameEntry};
 ghost use Rattle.conn_serve.specs.Done.{Done, Leads, SoFar};
-ghost use Rattle.conn_serve.specs.Endings.{IsAtFrame};
+ghost use Rattle.conn_serve.specs.Endings.{CountsFaults, IsAtFrame};
 ghost use Rattle.conn_serve.specs.LumberServing.{Handled, HaltsAtFrame, stages, last_behind};
 
 use crate::connection::{Connection, take_group};
@@ -40,7 +39,7 @@ fn stage(staged: &mut Staged, connection: &Connection, act: LumberAct) -> Result
 
     ensures entries { OnOk result (staged.new.entries.items ≡ staged.old.entries.items ++ entries_of connection.now.number (connection.now.taken + length staged.old.entries.items) (stages act)) }
     ensures last { OnOk result (staged.new.last ≡ last_behind staged.old.last (stages act)) }
-    ensures limits { OnOk result (All IsEntry staged.old.entries.items → All IsEntry staged.new.entries.items) }
+    ensures limits { OnOk result (All IsFrameEntry staged.old.entries.items → All IsFrameEntry staged.new.entries.items) }
     ensures commits { IfOk result (λ commit. commit ≡ commits act) }
     ensures err { IfErr result (λ talk. talk ≡ Talk.NoMemory) }
 {
@@ -73,7 +72,7 @@ pub fn commit<L: Link, A: Access>(
     staged: &mut Staged,
 ) -> Result<(), Talk>
     requires few { length staged.old.entries.items < 2 ^ 32 }
-    requires limits { All IsEntry staged.old.entries.items }
+    requires limits { All IsFrameEntry staged.old.entries.items }
     requires next { AreNext connection.old.number connection.old.taken staged.old.entries.items }
     requires early { connection.old.taken + length staged.old.entries.items < 2 ^ 63 }
     requires may { A.may_take access.old connection.old.number connection.old.taken }
@@ -87,8 +86,7 @@ pub fn commit<L: Link, A: Access>(
     ensures number { connection.new.number ≡ connection.old.number }
     ensures taken { OnOk result (connection.new.taken ≡ connection.old.taken + length staged.old.entries.items) }
     ensures may { OnOk result (A.may_take access.new connection.old.number connection.new.taken) }
-    ensures later { L.write_faults link.old ≤ L.write_faults link.new }
-    ensures cause { IsErrOf result Talk.WriteFault → Rose 1 (L.write_faults link.old) (L.write_faults link.new) }
+    ensures writes { CountsFaults (IsErrOf result Talk.WriteFault) (L.write_faults link.old) (L.write_faults link.new) }
     ensures same { L.same link.old link.new }
     ensures apart { L.write_apart link.old link.new }
 {
@@ -123,8 +121,7 @@ pub fn serve_frame<L: Link, A: Access>(
     ensures only { IfErr result IsAtFrame }
     ensures number { connection.new.number ≡ connection.old.number }
     ensures may { OnOk result (A.may_take access.new connection.old.number connection.new.taken) }
-    ensures later { L.write_faults link.old ≤ L.write_faults link.new }
-    ensures cause { IsErrOf result Talk.WriteFault → Rose 1 (L.write_faults link.old) (L.write_faults link.new) }
+    ensures writes { CountsFaults (IsErrOf result Talk.WriteFault) (L.write_faults link.old) (L.write_faults link.new) }
     ensures same { L.same link.old link.new }
     ensures apart { L.write_apart link.old link.new }
 {

@@ -5,8 +5,9 @@ use desk_access::{Access, Alone, Desk};
 use edge_disk::MemDisk;
 use edge_io::{Both, MemSink, MemSource, Proto};
 use event_form::{Attended, Origin, Talk, Why};
+use hec_ids::Ids;
 use lumber_frame::{ack_frame, window_frame, write_json};
-use spool_log::{Opening, Spool, format};
+use spool_log::{Numbered, Opening, Spool, format};
 use std::alloc::Global;
 use std::test::Fail;
 
@@ -77,7 +78,8 @@ fn serve(
     let Ok(spool) = Spool::recover(alloc, disk, Opening::Raise) else {
         return Ok(None);
     };
-    let mut access = Alone::new(Desk { spool });
+    let ids = Ids::new(alloc, spool.run(), 0);
+    let mut access = Alone::new(Desk { spool, ids });
     let mut source = MemSource::of(input.to_vec(alloc)?, step, failing.reads.to_vec(alloc)?);
     let mut sink = MemSink::of(alloc, failing.writes.to_vec(alloc)?);
     let mut link = Both {
@@ -88,7 +90,7 @@ fn serve(
     let Both { .. } = link;
     let mut entries = Vec::new(alloc);
     if let Ok(pending) = access.pending(0, 10) {
-        for entry in &pending {
+        for Numbered { entry, .. } in &pending {
             let head = format!(in alloc; "{} {} {} ", entry.conn, entry.index, entry.unit)?;
             entries.extend_from_slice(head.as_bytes())?;
             entries.push(letter(entry.event.origin))?;

@@ -1,7 +1,6 @@
 //! What is done for one frame of RELP.
 ghost use Rattle.std.specs.Prelude.{◌≡◌, ◌⊎◌, ◌↔◌, ◌+◌, ◌<◌, ◌≤◌, ◌^◌, ℕ, List, [], ◌∷◌, ◌++◌, Err, OnOk, OnErr, IfErr, IsErrOf, IsTrue};
 ghost use Rattle.std.specs.Io.KnownBytes.{Appends};
-ghost use Rattle.foundation.specs.Faults.{Rose};
 ghost use Rattle.event_form.specs.Event.{IsEvent};
 ghost use Rattle.event_form.specs.declared.talk.Talk.TheVariants.{WriteFault};
 ghost use Rattle.relp_frame.specs.declared.frame.Frame.{Frame};
@@ -9,10 +8,10 @@ ghost use Rattle.relp_frame.specs.Spelling.{IsFrame};
 ghost use Rattle.relp_session.specs.Answer.{IsSound};
 ghost use Rattle.relp_session.specs.Session.{opened};
 ghost use Rattle.relp_session.specs.declared.act.RelpAct.TheVariants.{Store};
-ghost use Rattle.spool_log.specs.Take.{IsRefusal};
+ghost use Rattle.spool_log.specs.Changing.Take.{IsRefusal};
 ghost use Rattle.conn_serve.specs.Relp.{Carries, CarriesFrame, talk_of};
 ghost use Rattle.conn_serve.specs.Done.{Done};
-ghost use Rattle.conn_serve.specs.Endings.{IsAtFrame};
+ghost use Rattle.conn_serve.specs.Endings.{CountsFaults, IsAtFrame};
 ghost use Rattle.conn_serve.specs.RelpServing.{EndsByFault, HaltsAtAct, HaltsAtFrame};
 
 use crate::connection::{Connection, take_event};
@@ -53,8 +52,7 @@ fn is_refusal(fault: TakeFault) -> bool
 fn end_by<L: Link>(alloc: Global, link: &mut L, fault: TakeFault) -> Talk
     ensures ends { (part : List ℕ) × Appends (L.taken link.old) (L.taken link.new) part × EndsByFault fault part result }
     ensures only { IsAtFrame result }
-    ensures later { L.write_faults link.old ≤ L.write_faults link.new }
-    ensures cause { result ≡ WriteFault → Rose 1 (L.write_faults link.old) (L.write_faults link.new) }
+    ensures writes { CountsFaults (result ≡ WriteFault) (L.write_faults link.old) (L.write_faults link.new) }
     ensures same { L.same link.old link.new }
     ensures apart { L.write_apart link.old link.new }
 {
@@ -89,8 +87,7 @@ fn store<L: Link, A: Access>(
     ensures only { IfErr result IsAtFrame }
     ensures number { connection.new.number ≡ connection.old.number }
     ensures may { OnOk result (A.may_take access.new connection.old.number connection.new.taken) }
-    ensures later { L.write_faults link.old ≤ L.write_faults link.new }
-    ensures cause { IsErrOf result Talk.WriteFault → Rose 1 (L.write_faults link.old) (L.write_faults link.new) }
+    ensures writes { CountsFaults (IsErrOf result Talk.WriteFault) (L.write_faults link.old) (L.write_faults link.new) }
     ensures same { L.same link.old link.new }
     ensures apart { L.write_apart link.old link.new }
 {
@@ -120,8 +117,7 @@ fn carry_out<L: Link, A: Access>(
     ensures only { IfErr result IsAtFrame }
     ensures number { connection.new.number ≡ connection.old.number }
     ensures may { OnOk result (A.may_take access.new connection.old.number connection.new.taken) }
-    ensures later { L.write_faults link.old ≤ L.write_faults link.new }
-    ensures cause { IsErrOf result Talk.WriteFault → Rose 1 (L.write_faults link.old) (L.write_faults link.new) }
+    ensures writes { CountsFaults (IsErrOf result Talk.WriteFault) (L.write_faults link.old) (L.write_faults link.new) }
     ensures same { L.same link.old link.new }
     ensures apart { L.write_apart link.old link.new }
 {
@@ -155,8 +151,7 @@ pub fn serve_frame<L: Link, A: Access>(
     ensures only { IfErr result IsAtFrame }
     ensures number { connection.new.number ≡ connection.old.number }
     ensures may { OnOk result (A.may_take access.new connection.old.number connection.new.taken) }
-    ensures later { L.write_faults link.old ≤ L.write_faults link.new }
-    ensures cause { IsErrOf result Talk.WriteFault → Rose 1 (L.write_faults link.old) (L.write_faults link.new) }
+    ensures writes { CountsFaults (IsErrOf result Talk.WriteFault) (L.write_faults link.old) (L.write_faults link.new) }
     ensures same { L.same link.old link.new }
     ensures apart { L.write_apart link.old link.new }
 {

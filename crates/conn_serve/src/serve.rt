@@ -1,10 +1,9 @@
 //! Serving one connection.
 ghost use Rattle.std.specs.Prelude.{◌≡◌, ◌⊎◌, ◌+◌, ◌<◌, ◌≤◌, ◌^◌, ℕ, List, [], ◌++◌, length, IfOk, IfErr, IfSome, IfNone, OnErr, IsErrOf};
 ghost use Rattle.std.specs.Io.KnownBytes.{Appends, Consumes, IsAtEnd};
-ghost use Rattle.foundation.specs.Faults.{Rose};
 ghost use Rattle.desk_access.specs.Call.{Call};
 ghost use Rattle.conn_serve.specs.Step.{count};
-ghost use Rattle.conn_serve.specs.Endings.{MayEnd, IsByFault, IsAtEndOfInput};
+ghost use Rattle.conn_serve.specs.Endings.{MayEnd, CountsFaults, IsByFault, IsAtEndOfInput};
 ghost use Rattle.conn_serve.specs.Serves.{CarriedBy, Serves};
 
 use crate::connection::Connection;
@@ -39,11 +38,11 @@ fn read_piece<L: Link, S: Session>(
         × ((number : ℕ) (fed : List ℕ) (calls : List Call) (text : List ℕ) → S.served number session.old fed calls text → S.served number session.new (fed ++ piece) calls text × (count calls + S.waiting session.new ≤ length fed + len))) }
     ensures extent { IfOk result (λ len. S.extent session.new ≤ S.extent session.old + len) }
     ensures end { IfOk result (λ len. len ≡ 0 → IsAtEnd (L.left link.new)) }
-    ensures unread { IsErrOf result Talk.ReadFault → Appends (L.given link.old) (L.given link.new) [] × Consumes (L.left link.old) (L.left link.new) [] × Rose 1 (L.read_faults link.old) (L.read_faults link.new) }
+    ensures unread { IsErrOf result Talk.ReadFault → Appends (L.given link.old) (L.given link.new) [] × Consumes (L.left link.old) (L.left link.new) [] }
     ensures starved { IsErrOf result Talk.NoMemory → (piece : List ℕ) × Appends (L.given link.old) (L.given link.new) piece × Consumes (L.left link.old) (L.left link.new) piece }
     ensures only { IfErr result (λ talk. (talk ≡ Talk.ReadFault) ⊎ (talk ≡ Talk.NoMemory)) }
     ensures same_session { OnErr result (session.new ≡ session.old) }
-    ensures later { L.read_faults link.old ≤ L.read_faults link.new }
+    ensures reads { CountsFaults (IsErrOf result Talk.ReadFault) (L.read_faults link.old) (L.read_faults link.new) }
     ensures same { L.same link.old link.new }
     ensures apart { L.read_apart link.old link.new }
 {
@@ -91,10 +90,8 @@ fn run<L: Link, A: Access, S: Session>(
     requires may { A.may_take access.old connection.old.number 0 }
 
     ensures serves { Serves (S.carried connection.old.number) (L.given link.old) (L.given link.new) (L.left link.old) (L.left link.new) (L.taken link.old) (L.taken link.new) (λ calls. A.ran access.old calls access.new) (record { talk = result; taken = connection.new.taken }) }
-    ensures read_cause { result ≡ Talk.ReadFault → Rose 1 (L.read_faults link.old) (L.read_faults link.new) }
-    ensures write_cause { result ≡ Talk.WriteFault → Rose 1 (L.write_faults link.old) (L.write_faults link.new) }
-    ensures later_reads { L.read_faults link.old ≤ L.read_faults link.new }
-    ensures later_writes { L.write_faults link.old ≤ L.write_faults link.new }
+    ensures reads { CountsFaults (result ≡ Talk.ReadFault) (L.read_faults link.old) (L.read_faults link.new) }
+    ensures writes { CountsFaults (result ≡ Talk.WriteFault) (L.write_faults link.old) (L.write_faults link.new) }
     ensures same { L.same link.old link.new }
     ensures end { IsAtEndOfInput result → IsAtEnd (L.left link.new) }
 {
@@ -152,10 +149,8 @@ pub fn attend<L: Link, A: Access>(
     requires may { A.may_take access.old conn 0 }
 
     ensures carried { Serves (CarriedBy rules.now.proto conn) (L.given link.old) (L.given link.new) (L.left link.old) (L.left link.new) (L.taken link.old) (L.taken link.new) (λ calls. A.ran access.old calls access.new) result }
-    ensures read_cause { result.talk ≡ Talk.ReadFault → Rose 1 (L.read_faults link.old) (L.read_faults link.new) }
-    ensures write_cause { result.talk ≡ Talk.WriteFault → Rose 1 (L.write_faults link.old) (L.write_faults link.new) }
-    ensures later_reads { L.read_faults link.old ≤ L.read_faults link.new }
-    ensures later_writes { L.write_faults link.old ≤ L.write_faults link.new }
+    ensures reads { CountsFaults (result.talk ≡ Talk.ReadFault) (L.read_faults link.old) (L.read_faults link.new) }
+    ensures writes { CountsFaults (result.talk ≡ Talk.WriteFault) (L.write_faults link.old) (L.write_faults link.new) }
     ensures same { L.same link.old link.new }
     ensures end { IsAtEndOfInput result.talk → IsAtEnd (L.left link.new) }
 {

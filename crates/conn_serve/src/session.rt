@@ -1,11 +1,10 @@
 //! What a protocol does with the bytes of its connection.
 ghost use Rattle.std.specs.Prelude.{◌≡◌, ◌+◌, ◌<◌, ◌≤◌, ◌^◌, ℕ, List, ◌++◌, length, Option, OnOk, OnErr, IfErr, IfSome, IfNone, IsErrOf};
-ghost use Rattle.foundation.specs.Faults.{Rose};
 ghost use Rattle.event_form.specs.declared.talk.Talk.{Talk};
 ghost use Rattle.desk_access.specs.Call.{Call};
 ghost use Rattle.conn_serve.specs.Step.{count};
 ghost use Rattle.conn_serve.specs.Done.{Done, Leads, SoFar};
-ghost use Rattle.conn_serve.specs.Endings.{MayEnd, IsAtFrame, IsByFault, IsAtEndOfInput};
+ghost use Rattle.conn_serve.specs.Endings.{MayEnd, CountsFaults, IsAtFrame, IsByFault, IsAtEndOfInput};
 
 use crate::connection::Connection;
 use desk_access::Access;
@@ -67,8 +66,7 @@ pub trait Session {
         ensures extent { extent self.new ≤ extent self.old }
         ensures number { connection.new.number ≡ connection.old.number }
         ensures may { OnOk result (A.may_take access.new connection.old.number connection.new.taken) }
-        ensures later { L.write_faults link.old ≤ L.write_faults link.new }
-        ensures cause { IsErrOf result Talk.WriteFault → Rose 1 (L.write_faults link.old) (L.write_faults link.new) }
+        ensures writes { CountsFaults (IsErrOf result Talk.WriteFault) (L.write_faults link.old) (L.write_faults link.new) }
         ensures same { L.same link.old link.new }
         ensures apart { L.write_apart link.old link.new };
 
@@ -101,8 +99,7 @@ pub trait Session {
         ensures goes { OnOk result (Done (λ calls. A.ran access.old calls access.new) (L.taken link.old) (L.taken link.new) connection.old.taken connection.new.taken (λ calls text. (over : Talk) → Leads connection.old.taken (closing connection.old.number self.old over) (λ fed called said. carried connection.old.number fed called said over) calls text)) }
         ensures halts { IfErr result (λ talk. Done (λ calls. A.ran access.old calls access.new) (L.taken link.old) (L.taken link.new) connection.old.taken connection.new.taken (λ calls text. (over : Talk) → Leads connection.old.taken (closing connection.old.number self.old over) (λ fed called said. carried connection.old.number fed called said talk) calls text)) }
         ensures only { IfErr result IsAtFrame }
-        ensures later { L.write_faults link.old ≤ L.write_faults link.new }
-        ensures cause { IsErrOf result Talk.WriteFault → Rose 1 (L.write_faults link.old) (L.write_faults link.new) }
+        ensures writes { CountsFaults (IsErrOf result Talk.WriteFault) (L.write_faults link.old) (L.write_faults link.new) }
         ensures same { L.same link.old link.new }
         ensures apart { L.write_apart link.old link.new };
 }

@@ -1,8 +1,8 @@
 //! The texts of a connection.
-ghost use Rattle.std.specs.Prelude.{◌≡◌, ◌<◌, ◌≤◌, ℕ, length, take, OnOk, OnErr, IfErr};
+ghost use Rattle.std.specs.Prelude.{◌≡◌, ◌<◌, ◌≤◌, ℕ, length, take, OnOk, IsErr, IfErr};
 ghost use Rattle.std.specs.Io.KnownBytes.{Appends};
-ghost use Rattle.foundation.specs.Faults.{Rose};
 ghost use Rattle.event_form.specs.declared.talk.Talk.TheVariants.{WriteFault};
+ghost use Rattle.conn_serve.specs.Endings.{CountsFaults};
 
 use edge_io::{Link, write_whole};
 use event_form::Talk;
@@ -12,8 +12,7 @@ use event_form::Talk;
 pub fn say<L: Link>(link: &mut L, text: &[u8]) -> Result<(), Talk>
     ensures whole { OnOk result (Appends (L.taken link.old) (L.taken link.new) text.now) }
     ensures part { IfErr result (λ talk. (talk ≡ WriteFault) × ((k : ℕ) × (k < length text.now) × Appends (L.taken link.old) (L.taken link.new) (take k text.now))) }
-    ensures later { L.write_faults link.old ≤ L.write_faults link.new }
-    ensures cause { OnErr result (Rose 1 (L.write_faults link.old) (L.write_faults link.new)) }
+    ensures writes { CountsFaults (IsErr result) (L.write_faults link.old) (L.write_faults link.new) }
     ensures same { L.same link.old link.new }
     ensures apart { L.write_apart link.old link.new }
 {

@@ -7,8 +7,8 @@ use Rattle.spool_state.specs.Segment.{entries_of}
 use Rattle.spool_state.specs.SpoolState.{OpenSlot, SpoolState, entries_in, list, base, end, entry_at, IsSound}
 use Rattle.spool_state.specs.Change.{added, begun, shut}
 use Rattle.spool_state.proofs.Texts.{list-added}
-use Rattle.spool_log.proofs.Begun.{list-begun, base-begun}
-use Rattle.spool_log.proofs.Shut.{base-shut}
+use Rattle.spool_state.proofs.Begun.{list-begun, base-begun}
+use Rattle.spool_state.proofs.Shut.{base-shut}
 use Rattle.desk_access.specs.History.{Grown}
 
 -- the same list, with the same numbers

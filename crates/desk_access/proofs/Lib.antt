@@ -1,6 +1,16 @@
 pub mod Growth
 pub mod Stages
 pub mod Steps
+pub mod OneState
 pub mod Lasting
 pub mod Leading
+pub mod Making
 pub mod Taking
+pub mod Nexts
+pub mod Tables
+pub mod Told
+pub mod Added
+pub mod Issued
+pub mod OneGroup
+pub mod InOrder
+pub mod LegalEntries

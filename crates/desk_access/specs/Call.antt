@@ -1,7 +1,9 @@
--- The calls of a desk that change it or read its entries, each with its answer.
-use Rattle.std.specs.Prelude.{◌≡◌, ℕ, ◌+◌, ◌==◌, if◌then◌else◌, List, [], ◌∷◌, ◌++◌, Result, Ok, Err}
+-- The calls of a desk that change it or read from it, each with its answer.
+use Rattle.std.specs.Prelude.{◌≡◌, ℕ, ◌+◌, ◌==◌, if◌then◌else◌, Bool, List, [], ◌∷◌, ◌++◌, Option, Result, Ok, Err}
 use Rattle.std.specs.Global.{Vec}
+use Rattle.known_numbers.specs.declared.stretch.Stretch.{Stretch}
 use Rattle.event_form.specs.declared.event.Entry.{Entry}
+use Rattle.spool_log.specs.declared.reading.numbered.Numbered.{Numbered}
 use Rattle.spool_log.specs.declared.fault.Receipt.{Receipt}
 use Rattle.spool_log.specs.declared.fault.TakeFault.{TakeFault}
 use Rattle.spool_log.specs.declared.fault.TakeFault.TheVariants as Take
@@ -9,24 +11,37 @@ use Rattle.spool_log.specs.declared.fault.PendFault.{PendFault}
 use Rattle.spool_log.specs.declared.fault.PendFault.TheVariants as Pend
 use Rattle.spool_log.specs.declared.fault.ConfirmFault.{ConfirmFault}
 use Rattle.spool_log.specs.declared.fault.ConfirmFault.TheVariants as Confirm
+use Rattle.hec_ids.specs.declared.fault.IssueFault.{IssueFault}
+use Rattle.desk_access.specs.declared.standing.Standing.{Standing}
 
 pub data Call : Type 0 where
   -- a take of a group of entries
   takes : List Entry → Result Receipt TakeFault → Call
-  -- a reading of entries, from a number on and at most so many
-  pends : ℕ → ℕ → Result (List Entry) PendFault → Call
+  -- a reading of entries, from a number on and at most this many
+  pends : ℕ → ℕ → Result (List Numbered) PendFault → Call
   -- a confirm of the entries below a number
   confirms : ℕ → Result Unit ConfirmFault → Call
+  -- a mark of the entries with the numbers of some stretches
+  marks : List Stretch → Result Unit ConfirmFault → Call
+  -- a reading of how many numbers above the cursor are known
+  counts : ℕ → Call
+  -- an id issued to a channel
+  issues : ℕ → Result ℕ IssueFault → Call
+  -- an id of a channel settled: whether the channel held it unsettled
+  settles : ℕ → ℕ → Bool → Call
+  -- an id of a channel forgotten: whether the channel held it
+  forgets : ℕ → ℕ → Bool → Call
+  -- a channel's question after ids: whether it held each settled
+  asks : ℕ → List ℕ → List Bool → Call
 
--- a call, and the number of its caller
+-- A call, with the number of its caller and the numbers of the spool. `met` has those that the call met once a doubt
+-- was mended, or none where mending failed; `after` has those that stood after it. With `met` the state after a journal
+-- is a function of it: a call that failed at the disk may have left a doubt as it was, or mended it and left another.
 pub record Record : Type 0 where
   pub by : ℕ
   pub call : Call
-
--- the calls of one caller in order, as records
-abbrev pub records_by : ℕ → List Call → List Record
-records_by number [] = []
-records_by number (call ∷ calls) = record { by = number; call = call } ∷ records_by number calls
+  pub met : Option Standing
+  pub after : Standing
 
 -- the calls of that caller among the records, in order
 abbrev pub own_of : ℕ → List Record → List Call
@@ -38,17 +53,22 @@ abbrev pub calls_of : List Record → List Call
 calls_of [] = []
 calls_of (one ∷ records) = one.call ∷ calls_of records
 
+-- the records are those of these calls of one caller
+abbrev pub AreBy : ℕ → List Call → List Record → Type 0
+AreBy number [] [] = Unit {0}
+AreBy number [] (one ∷ records) = ⊥
+AreBy number (call ∷ calls) [] = ⊥
+AreBy number (call ∷ calls) (one ∷ records) = (one.by ≡ number) × (one.call ≡ call) × AreBy number calls records
+
 -- an answer with the list of what was read
-abbrev pub listed : Result (Vec Entry) PendFault → Result (List Entry) PendFault
-listed (Ok entries) = Ok entries.items
+abbrev pub listed : Result (Vec Numbered) PendFault → Result (List Numbered) PendFault
+listed (Ok given) = Ok given.items
 listed (Err fault) = Err fault
 
 -- the entries that a call took
 abbrev pub taken_by : Call → List Entry
 taken_by (takes group (Ok receipt)) = group
-taken_by (takes group (Err fault)) = []
-taken_by (pends from most result) = []
-taken_by (confirms upto result) = []
+taken_by _ = []
 
 -- the entries that the calls took, in order
 abbrev pub taken_of : List Call → List Entry
@@ -57,31 +77,23 @@ taken_of (call ∷ calls) = taken_by call ++ taken_of calls
 
 -- how many of the calls were answered that the disk failed
 abbrev pub take_failures : Result Receipt TakeFault → ℕ
-take_failures (Ok receipt) = 0
-take_failures (Err (Take.TooLarge need most)) = 0
-take_failures (Err (Take.Spent at)) = 0
-take_failures (Err (Take.Full need room)) = 0
-take_failures (Err (Take.NotSpool at)) = 0
-take_failures (Err Take.NoMemory) = 0
 take_failures (Err Take.DiskFault) = 1
+take_failures _ = 0
 
-abbrev pub pend_failures : Result (List Entry) PendFault → ℕ
-pend_failures (Ok entries) = 0
-pend_failures (Err (Pend.NotSpool at)) = 0
+abbrev pub pend_failures : Result (List Numbered) PendFault → ℕ
 pend_failures (Err Pend.DiskFault) = 1
-pend_failures (Err Pend.NoMemory) = 0
+pend_failures _ = 0
 
 abbrev pub confirm_failures : Result Unit ConfirmFault → ℕ
-confirm_failures (Ok done) = 0
-confirm_failures (Err (Confirm.Worn ordinal)) = 0
-confirm_failures (Err (Confirm.NotSpool at)) = 0
 confirm_failures (Err Confirm.DiskFault) = 1
-confirm_failures (Err Confirm.NoMemory) = 0
+confirm_failures _ = 0
 
 abbrev pub failures_in : Call → ℕ
 failures_in (takes group result) = take_failures result
 failures_in (pends from most result) = pend_failures result
 failures_in (confirms upto result) = confirm_failures result
+failures_in (marks stretches result) = confirm_failures result
+failures_in _ = 0
 
 abbrev pub failures_of : List Call → ℕ
 failures_of [] = 0
@@ -90,5 +102,4 @@ failures_of (call ∷ calls) = failures_in call + failures_of calls
 -- the call is no take that was answered so
 abbrev pub TookSurely : Call → Type 0
 TookSurely (takes group result) = take_failures result ≡ 0
-TookSurely (pends from most result) = Unit {0}
-TookSurely (confirms upto result) = Unit {0}
+TookSurely _ = Unit {0}

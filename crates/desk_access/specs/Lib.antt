@@ -1,6 +1,9 @@
+pub mod Standing
 pub mod Call
 pub mod Desk
 pub mod Batch
 pub mod History
 pub mod Alone
 pub mod Journal
+pub mod Legal
+pub mod Laws

@@ -1,21 +1,29 @@
 //! The calls of a desk, for one caller.
-ghost use Rattle.std.specs.Prelude.{◌≡◌, ℕ, ◌+◌, ◌^◌, ◌<◌, ◌≤◌, List, [], ◌∷◌, ◌++◌, length, All};
+ghost use Rattle.std.specs.Prelude.{◌≡◌, ℕ, ◌+◌, ◌^◌, ◌<◌, ◌≤◌, nat_eq, List, [], ◌∷◌, ◌++◌, length, All, Ok, IfOk};
+ghost use Rattle.std.specs.List.{IsDistinct};
 ghost use Rattle.event_form.specs.declared.event.Entry.{Entry};
 ghost use Rattle.event_form.specs.Entry.{IsEntry};
 ghost use Rattle.spool_state.specs.SpoolState.{end};
-ghost use Rattle.desk_access.specs.Call.{Call, takes, pends, confirms, Record, own_of, listed, taken_of, TookSurely};
-ghost use Rattle.desk_access.specs.Batch.{MayTake};
+ghost use Rattle.spool_log.specs.declared.fault.Receipt.{Receipt as TheReceipt};
+ghost use Rattle.spool_log.specs.Changing.Mark.{EndsBy};
+ghost use Rattle.spool_log.specs.Outcome.{AreNumbered};
+ghost use Rattle.desk_access.specs.Call.{Call, takes, pends, confirms, marks, counts, issues, settles, forgets, asks, Record, own_of, listed, taken_of, TookSurely};
+ghost use Rattle.desk_access.specs.Batch.{MayTake, MayUse, AreOfUnit};
 ghost use Rattle.desk_access.specs.Desk.{DeskState, Goes};
 ghost use Rattle.desk_access.specs.History.{IsDesk};
+ghost use Rattle.desk_access.specs.Legal.{AreUnused};
 
 use event_form::Entry as StoredEntry;
-use spool_log::{ConfirmFault, PendFault, Receipt, TakeFault};
+use hec_ids::IssueFault;
+use known_numbers::Stretch;
+use spool_log::{ConfirmFault, Numbered, PendFault, Receipt, TakeFault};
 
-/// One caller of a desk, which may have others. It stores entries, reads those that are not confirmed and
-/// confirms them; `take`, `pending` and `confirm` answer as those of [`spool_log::Spool`] do.
+/// One caller of a desk, which may have others. It stores entries, reads those that are not confirmed,
+/// confirms them, and issues acknowledgement ids to channels. Its calls answer as those of
+/// [`spool_log::Spool`] and [`hec_ids::Ids`] do.
 ///
 /// What generic code did is told by one relation: `ran` says which calls of this caller lead from the one
-/// value to the other, each with its answer. What stands behind them is told by `seen`: a state of the desk
+/// value to the other, each with its answer. What stands after them is told by `seen`: a state of the desk
 /// at its beginning, and the journal of all calls since, of which this caller's are a part. A caller whose
 /// disk tells no bytes has seen no journal.
 pub trait Access {
@@ -31,6 +39,12 @@ pub trait Access {
     /// This caller may take entries of that connection, and this is the index of the next one.
     ghost may_take: { Self → ℕ → ℕ → Type 0 };
 
+    /// An issue of this caller answered that id, and no take has used it as a unit since.
+    ghost may_use: { Self → ℕ → Type 0 };
+
+    /// A take of this caller of entries with that id as their unit was answered `Ok`.
+    ghost may_settle: { Self → ℕ → Type 0 };
+
     /// This caller may confirm.
     ghost may_confirm: { Self → Type 0 };
 
@@ -44,39 +58,80 @@ pub trait Access {
         ensures ran { ran self.old [] self.new }
         ensures seen { (x : DeskState) (journal : List Record) → seen self.old x journal → result ≡ x.spool.run };
 
-    /// The number behind the last entry. It isn't less than the end behind the journal seen.
+    /// The number after the last entry, at most 2^63. It isn't less than the end after the journal seen.
     fn end(&mut self) -> u64
         ensures ran { ran self.old [] self.new }
         ensures known { end_known self.new ≡ result }
+        ensures limit { result ≤ 2 ^ 63 }
         ensures seen { (x : DeskState) (journal : List Record) → seen self.old x journal
             → (y : DeskState) × Goes x journal y × (end y.spool ≤ result) };
 
-    /// The number up to which entries are confirmed. It isn't less than the cursor behind the journal seen.
+    /// The number below which all are known as confirmed. It isn't less than the cursor after the journal seen.
     fn cursor(&mut self) -> u64
         ensures ran { ran self.old [] self.new }
         ensures known { cursor_known self.new ≡ result }
         ensures seen { (x : DeskState) (journal : List Record) → seen self.old x journal
             → (y : DeskState) × Goes x journal y × (y.spool.cursor ≤ result) };
 
-    /// Takes the entries as one group: on `Ok` they are durable, and the receipt has their numbers. They are
-    /// of one connection of this caller, of which they are the next ones. No entry of a connection is taken
-    /// after one of a later connection, or after a take that was answered `DiskFault`.
+    /// Takes the entries as one group: on `Ok` they are durable, and the receipt has their numbers, which are
+    /// below 2^63. They are of one connection of this caller, of which they are the next ones. No entry of a
+    /// connection is taken after one of a later connection, or after a take that was answered `DiskFault`.
+    /// Either no entry's unit is an id, or all have one id as their unit, which this caller issued and which
+    /// no other take used.
     fn take(&mut self, entries: &[StoredEntry]) -> Result<Receipt, TakeFault>
         requires few { length entries.now < 2 ^ 32 }
         requires limits { All IsEntry entries.now }
         requires next { MayTake (may_take self.old) entries.now }
-        ensures { ran self.old (takes entries.now result ∷ []) self.new };
+        requires units { MayUse (may_use self.old) entries.now }
+        ensures ran { ran self.old (takes entries.now result ∷ []) self.new }
+        ensures receipt { IfOk result (λ receipt. (receipt.count ≡ length entries.now) × (receipt.first + receipt.count ≤ 2 ^ 63)) };
 
-    /// The first `most` entries with numbers from `from` and from the cursor on, or all where they are fewer.
-    fn pending(&mut self, from: u64, most: u32) -> Result<Vec<StoredEntry>, PendFault>
+    /// The first `most` of the entries with numbers from `from` that aren't known as confirmed, or all where
+    /// they are fewer, each with its number. Numbers rise, and each entry keeps its limits.
+    fn pending(&mut self, from: u64, most: u32) -> Result<Vec<Numbered>, PendFault>
         requires number { from ≤ end_known self.old }
-        ensures { ran self.old (pends from most (listed result) ∷ []) self.new };
+        ensures ran { ran self.old (pends from most (listed result) ∷ []) self.new }
+        ensures few { IfOk result (λ given. length given.items ≤ most) }
+        ensures numbered { IfOk result (λ given. AreNumbered 0 (2 ^ 63) given.items) };
 
-    /// Confirms the entries with numbers below `upto`.
+    /// Makes all numbers below `upto` known as confirmed, as `mark` does of the one stretch from 0 to `upto`.
     fn confirm(&mut self, upto: u64) -> Result<(), ConfirmFault>
         requires caller { may_confirm self.old }
         requires number { upto ≤ end_known self.old }
         ensures { ran self.old (confirms upto result ∷ []) self.new };
+
+    /// Makes the numbers of these stretches known as confirmed, one stretch after another. A stretch by which
+    /// there would be more than 240 above the cursor is passed over.
+    fn mark(&mut self, known: &[Stretch]) -> Result<(), ConfirmFault>
+        requires caller { may_confirm self.old }
+        requires numbers { All (EndsBy (end_known self.old)) known.now }
+        ensures { ran self.old (marks known.now result ∷ []) self.new };
+
+    /// How many numbers above the cursor are known as confirmed.
+    fn known_count(&mut self) -> u64
+        ensures { ran self.old (counts result ∷ []) self.new };
+
+    /// Issues the next id of the run to the channel, which then holds it unsettled. `NoMore` comes where the
+    /// last id of the run was issued; else `Busy` where the channel holds 10,000 ids, or holds none and 1,000
+    /// channels hold some; else `NoMemory` may come.
+    fn issue(&mut self, channel: u128) -> Result<u64, IssueFault>
+        ensures { ran self.old (issues channel result ∷ []) self.new };
+
+    /// Settles an id of which the entries were taken, and says whether the channel held it unsettled.
+    fn settle(&mut self, channel: u128, id: u64) -> bool
+        requires taken { may_settle self.old id }
+        ensures { ran self.old (settles channel id result ∷ []) self.new };
+
+    /// Forgets an id, settled or not, and says whether the channel held it.
+    fn forget(&mut self, channel: u128, id: u64) -> bool
+        ensures { ran self.old (forgets channel id result ∷ []) self.new };
+
+    /// Writes of each id into `known`, at its place, whether the channel holds it settled. Those that it does
+    /// are forgotten, so that an id is told once. The ids are distinct.
+    fn ask(&mut self, channel: u128, ids: &[u64], known: &mut [bool])
+        requires equal { length ids.now ≡ length known.old }
+        requires distinct { IsDistinct nat_eq ids.now }
+        ensures { ran self.old (asks channel ids.now known.new ∷ []) self.new };
 
     ghost ran_none: { (a : Self) → ran a [] a };
 
@@ -86,7 +141,7 @@ pub trait Access {
     ghost seen_more: { (a b : Self) (calls : List Call) (x : DeskState) (journal : List Record) → ran a calls b → seen a x journal
         → (number b ≡ number a) × ((between : List Record) × (own_of (number a) between ≡ calls) × seen b x (journal ++ between)) };
 
-    /// The journal is lawful. Behind calls of this caller, the end and the cursor aren't less than any that was
+    /// The journal is lawful. After calls of this caller, the end and the cursor aren't less than any that was
     /// answered before.
     ghost seen_lawful: { (a b : Self) (calls : List Call) (x : DeskState) (journal : List Record) → ran a calls b → 0 < length calls → seen b x journal
         → IsDesk x × ((y : DeskState) × Goes x journal y × (end_known a ≤ end y.spool) × (cursor_known a ≤ y.spool.cursor)) };
@@ -98,6 +153,16 @@ pub trait Access {
     /// higher by their number.
     ghost may_take_more: { (a b : Self) (calls : List Call) (conn index : ℕ) → ran a calls b → All TookSurely calls → All (λ (entry : Entry). entry.conn ≡ conn) (taken_of calls)
         → may_take a conn index → may_take b conn (index + length (taken_of calls)) };
+
+    /// An id that was issued may be used, until a take uses it.
+    ghost may_use_issued: { (a b : Self) (channel id : ℕ) → ran a (issues channel (Ok id) ∷ []) b → may_use b id };
+
+    ghost may_use_more: { (a b : Self) (calls : List Call) (id : ℕ) → ran a calls b → AreUnused id calls → may_use a id → may_use b id };
+
+    /// An id of which the entries were taken may be settled.
+    ghost may_settle_taken: { (a b : Self) (group : List Entry) (receipt : TheReceipt) (id : ℕ) → ran a (takes group (Ok receipt) ∷ []) b → 0 < length group → AreOfUnit id group → may_settle b id };
+
+    ghost may_settle_more: { (a b : Self) (calls : List Call) (id : ℕ) → ran a calls b → may_settle a id → may_settle b id };
 
     ghost may_confirm_more: { (a b : Self) (calls : List Call) → ran a calls b → may_confirm a → may_confirm b };
 }

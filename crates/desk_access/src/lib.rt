@@ -1,4 +1,5 @@
-//! The desk: the spool as its callers see it, and the calls that a caller makes there.
+//! The desk: the spool and the acknowledgement ids as their callers see them, and the calls that a caller
+//! makes there.
 //!
 //! A call with its answer is a `Call` of `specs`, and the calls of all callers, one after another, are a
 //! journal. `Goes` says which journals lead from one state of the desk to another; `Stood` what a crash
@@ -10,10 +11,17 @@
 mod access;
 mod alone;
 mod desk;
+mod laws;
+mod standing;
+mod stretches;
 
 pub use access::Access;
 pub use alone::Alone;
 pub use desk::Desk;
+pub use laws::{
+    journal_is_legal, journal_lasts, journal_leads_to_one_state, stood_was, told_was_taken,
+};
+pub use standing::Standing;
 
 #[cfg(test)]
 mod tests;

@@ -1,5 +1,5 @@
 -- What each step of a change of the register leaves in the two cells.
-use Rattle.std.proofs.Common.{◌≡◌, ◌≢◌, ◌⊎◌, inl, inr, ℕ, ◌+◌, ◌^◌, ◌<◌, ◌≤◌, List, [], ◌∷◌, length, get_or, refl, sym, ◌∙◌, ap, subst, arith, IsTrue, true, ◌↔◌}
+use Rattle.std.proofs.Common.{◌≡◌, ◌≢◌, ◌⊎◌, inl, inr, ℕ, ◌+◌, ◌^◌, ◌<◌, ◌≤◌, List, [], ◌∷◌, length, get_or, refl, sym, ◌∙◌, ap, subst, arith, IsTrue, true, ◌↔◌, Result, Ok, Err, OnOk}
 use Rattle.std.specs.Int.{from_be_bytes}
 use mir.Syntax.{w64}
 use Rattle.foundation.specs.Bytes.{part, put, SameBut}
@@ -7,31 +7,33 @@ use Rattle.foundation.proofs.Bytes.{same_but_refl, same_but_then, same_but_wider
 use Rattle.edge_disk.specs.Disk.{Moment, IsLawful, LeavesOnly}
 use Rattle.edge_disk.specs.Gate.{IsGateStep, ComesFrom}
 use Rattle.edge_disk.proofs.Moments.{weaker, both}
-use Rattle.spool_state.specs.Cells.{content_text, body_text, cell_text, fields_text, Counts, RegisterHolds}
-use Rattle.spool_state.proofs.Places.{length-cell, gate_is, ordinal_is}
-use Rattle.spool_state.proofs.Registers.{fields}
+use Rattle.known_numbers.specs.declared.stretch.Stretch.{Stretch}
+use Rattle.spool_state.specs.Cells.{content_text, body_text, cell_text, Counts, RegisterHolds}
+use Rattle.spool_state.proofs.Places.{length-content_text}
+use Rattle.spool_state.proofs.Registers.{opened, ordinal_there}
 use Rattle.disk_cell.specs.Cell.{place_of, other_of}
-use Rattle.disk_cell.specs.Register.{text_of, Knows, IsClosingStep, IsSetStep}
+use Rattle.disk_cell.specs.Content.{text_of}
+use Rattle.disk_cell.specs.Register.{Knows, IsClosingStep, IsSetStep, IsContent}
 use Rattle.disk_cell.specs.declared.cell.Cell.{Cell}
 use Rattle.disk_cell.specs.declared.cell.Cell.TheVariants.{First, Second}
-use Rattle.disk_cell.specs.declared.content.Content.{Content}
 use Rattle.disk_cell.specs.declared.register.Register.{Register}
+use Rattle.disk_cell.proofs.Contents.{text_short, text_set}
 
 -- the two cells lie apart
 pub record AreApart (here other : ℕ) : Type 0 where
   pub here_from : 4096 ≤ here
-  pub here_to : here + 30 ≤ 12288
+  pub here_to : here + 4096 ≤ 12288
   pub other_from : 4096 ≤ other
-  pub other_to : other + 30 ≤ 12288
-  pub apart : (here + 30 ≤ other) ⊎ (other + 30 ≤ here)
+  pub other_to : other + 4096 ≤ 12288
+  pub apart : (here + 4096 ≤ other) ⊎ (other + 4096 ≤ here)
 
 pub cells_apart : (cell : Cell) → AreApart (place_of cell) (place_of (other_of cell))
 cells_apart First = record { here_from = omega arith; here_to = omega arith; other_from = omega arith; other_to = omega arith; apart = inl (omega arith) }
 cells_apart Second = record { here_from = omega arith; here_to = omega arith; other_from = omega arith; other_to = omega arith; apart = inr (omega arith) }
 
-pub length-body : (ordinal run cursor : ℕ) → length (body_text ordinal (content_text run cursor)) ≡ 29
-unfolding content_text body_text
-length-body ordinal run cursor = refl
+pub length-body_text : (ordinal : ℕ) (content : List ℕ) → length (body_text ordinal content) ≡ 12 + length content
+unfolding body_text
+length-body_text ordinal content = omega arith
 
 -- the register holds what the counting cell has
 pub holds : (cell : Cell) (ordinal : ℕ) (content c : List ℕ) → Counts (place_of cell) (place_of (other_of cell)) ordinal content c → RegisterHolds ordinal content c
@@ -42,22 +44,15 @@ pub holds_other : (cell : Cell) (ordinal : ℕ) (content c : List ℕ) → Count
 holds_other First ordinal content c counts = inr counts
 holds_other Second ordinal content c counts = inl counts
 
--- the cell that counts, with the gate of the other one written
-module _ (here other ordinal run cursor : ℕ) (apart : AreApart here other) where
-  away : (n : ℕ) → n ≤ 30 → (here + 30 ≤ other) ⊎ (other + n ≤ here)
-  away n le = elim apart.apart [ inl before ↦ inl before | inr behind ↦ inr (omega arith) ]
-
-  part_stays : (n : ℕ) (d c : List ℕ) → n ≤ 30 → 12288 ≤ length d → SameBut other n d c → part here 30 c ≡ part here 30 d
-  part_stays n d c le room same = same_part other n here 30 d c same (away n le) (omega (arith, apart.here_to))
-
-  holds_text : (d c : List ℕ) → part here 30 c ≡ part here 30 d → Counts here other ordinal (content_text run cursor) d → part here (13 + length (content_text run cursor)) c ≡ cell_text ordinal (content_text run cursor)
-  holds_text d c is counts =
-      ap (λ (n : ℕ). part here n c) (length-cell ordinal run cursor) ∙ is ∙ ap (λ (n : ℕ). part here n d) (sym (length-cell ordinal run cursor)) ∙ counts.holds
+-- the cell that counts, with the other one written
+module _ (here other ordinal : ℕ) (content : List ℕ) (apart : AreApart here other) (short : length content ≤ 3859) where
+  part_stays : (n : ℕ) (d c : List ℕ) → n ≤ 4096 → 12288 ≤ length d → SameBut other n d c → part here (13 + length content) c ≡ part here (13 + length content) d
+  part_stays n d c le room same = same_part other n here (13 + length content) d c same (elim apart.apart [ inl before ↦ inl (omega arith) | inr after ↦ inr (omega arith) ]) (omega (arith, apart.here_to))
 
   -- a gate that is open, and is being closed
-  pub closing_counts : (d c : List ℕ) → 12288 ≤ length d → get_or d other 0 ≡ 1 → Counts here other ordinal (content_text run cursor) d → SameBut other 1 d c → Counts here other ordinal (content_text run cursor) c
+  pub closing_counts : (d c : List ℕ) → 12288 ≤ length d → get_or d other 0 ≡ 1 → Counts here other ordinal content d → SameBut other 1 d c → Counts here other ordinal content c
   closing_counts d c room is_open counts same = record {
-    holds = holds_text d c (part_stays 1 d c (omega arith) room same) counts;
+    holds = part_stays 1 d c (omega arith) room same ∙ counts.holds;
     other_less = elim counts.other_less [
       | inl shut ↦ absurd (shut is_open)
       | inr less ↦ inr (subst (λ (l : List ℕ). from_be_bytes w64 l < ordinal) (sym (same_part other 1 (other + 1) 8 d c same (inr (omega arith)) (omega (arith, apart.other_to)))) less)
@@ -65,29 +60,35 @@ module _ (here other ordinal run cursor : ℕ) (apart : AreApart here other) whe
   }
 
   -- a body that comes to stand behind a closed gate
-  pub shut_counts : (d c : List ℕ) → 12288 ≤ length d → Counts here other ordinal (content_text run cursor) d → SameBut other 30 d c → get_or c other 0 ≢ 1 → Counts here other ordinal (content_text run cursor) c
-  shut_counts d c room counts same shut = record {
-    holds = holds_text d c (part_stays 30 d c (omega arith) room same) counts;
-    other_less = inl shut;
-  }
+  pub shut_counts : (n : ℕ) (d c : List ℕ) → n ≤ 4096 → 12288 ≤ length d → Counts here other ordinal content d → SameBut other n d c → get_or c other 0 ≢ 1 → Counts here other ordinal content c
+  shut_counts n d c le room counts same shut = record { holds = part_stays n d c le room same ∙ counts.holds; other_less = inl shut }
 
   -- and the gate that is opened
-  pub new_counts : (new_run new_cursor : ℕ) (d : List ℕ) → ordinal < 2 ^ 64 → 12288 ≤ length d → Counts here other ordinal (content_text run cursor) d
-      → Counts other here (ordinal + 1) (content_text new_run new_cursor) (put other (1 ∷ body_text (ordinal + 1) (content_text new_run new_cursor)) d)
-  new_counts new_run new_cursor d fits room counts =
-      let piece = 1 ∷ body_text (ordinal + 1) (content_text new_run new_cursor) in
-      let c = put other piece d in
-      let long : length piece ≡ 30 = omega (arith, length-body (ordinal + 1) new_run new_cursor) in
-      let same = put_same other 30 piece d (omega (arith, apart.other_to)) (omega (arith, long)) in
-      let text : part here 30 c ≡ fields_text 1 ordinal 17 1 run cursor = part_stays 30 d c (omega arith) room same ∙ fields here other ordinal run cursor d counts in
-      record {
-        holds = part_put other (13 + length (content_text new_run new_cursor)) piece d (omega (arith, long, apart.other_to)) (length-cell (ordinal + 1) new_run new_cursor ∙ sym long);
-        other_less = inr (omega (arith, ordinal_is here 1 ordinal 17 1 run cursor c text fits));
-      }
+  module _ (new : List ℕ) (new_short : length new ≤ 3859) (d : List ℕ) (fits : ordinal < 2 ^ 64) (room : 12288 ≤ length d) (counts : Counts here other ordinal content d) where
+    written : List ℕ
+    written = put other (cell_text (ordinal + 1) new) d
+
+    long : length (cell_text (ordinal + 1) new) ≡ 13 + length new
+    long = omega (arith, length-body_text (ordinal + 1) new)
+
+    still : part here (13 + length content) (put other (cell_text (ordinal + 1) new) d) ≡ cell_text ordinal content
+    still = part_stays (13 + length new) d _ (omega arith) room (put_same other (13 + length new) (cell_text (ordinal + 1) new) d (omega (arith, apart.other_to)) (omega (arith, long))) ∙ counts.holds
+
+    pub new_counts : Counts other here (ordinal + 1) new (put other (cell_text (ordinal + 1) new) d)
+    new_counts = record {
+      holds = part_put other (13 + length new) (cell_text (ordinal + 1) new) d (omega (arith, long, apart.other_to)) (sym long);
+      other_less = inr (omega (arith, ordinal_there here ordinal content _ still fits));
+    }
+
+    pub still_open : get_or (put other (cell_text (ordinal + 1) new) d) here 0 ≡ 1
+    still_open = opened here ordinal content _ still
 
 -- the disk before, as the register knows it
 pub known_step : (r : Register) (d : List ℕ) → Knows r d → IsClosingStep r d d
 known_step r d known = record { outside = same_but_refl 4096 8192 d; counts = known.counts }
+
+pub register_short : (r : Register) → length (text_of r.content) ≤ 3859
+register_short r = text_short r.content r.version r.few
 
 -- the other cell's gate while it is closed
 pub closing_step : (r : Register) (d c : List ℕ) → 12288 ≤ length d → IsTrue r.other_is_open → Knows r d → SameBut (place_of (other_of r.counting)) 1 d c → IsClosingStep r d c
@@ -97,27 +98,7 @@ closing_step r d c room is_open known same =
     let apart = cells_apart r.counting in
     record {
       outside = same_but_wider 4096 8192 other 1 d c same apart.other_from (omega (arith, apart.other_to));
-      counts = closing_counts here other r.ordinal r.content.run r.content.cursor apart d c room (known.other_open.0 is_open) known.counts same;
-    }
-
-pub closing_holds : (r : Register) (content : Content) (d c : List ℕ) → IsClosingStep r d c → IsSetStep r content d c
-closing_holds r content d c step = record { outside = step.outside; inside = inl (holds r.counting r.ordinal (text_of r.content) c step.counts) }
-
--- the new cell written behind its gate
-pub gate_step : (r : Register) (content : Content) (d mid c : List ℕ) → 12288 ≤ length d → r.ordinal < 2 ^ 64 → IsClosingStep r d mid → IsGateStep (place_of (other_of r.counting)) (body_text (r.ordinal + 1) (text_of content)) mid c → IsSetStep r content d c
-gate_step r content d mid c room fits step gated =
-    let here = place_of r.counting in
-    let other = place_of (other_of r.counting) in
-    let apart = cells_apart r.counting in
-    let long = length-body (r.ordinal + 1) content.run content.cursor in
-    let same = subst (λ (n : ℕ). SameBut other (n + 1) mid c) long gated.outside in
-    let room_mid : 12288 ≤ length mid = omega (arith, step.outside.len) in
-    record {
-      outside = same_but_then 4096 8192 4096 8192 other 30 d mid c step.outside same (omega arith) (omega arith) apart.other_from (omega (arith, apart.other_to));
-      inside = elim gated.inside [
-        | inl shut ↦ inl (holds r.counting r.ordinal (text_of r.content) c (shut_counts here other r.ordinal r.content.run r.content.cursor apart mid c room_mid step.counts same shut))
-        | inr whole ↦ inr (subst (RegisterHolds (r.ordinal + 1) (text_of content)) (sym whole) (holds_other r.counting (r.ordinal + 1) (text_of content) _ (new_counts here other r.ordinal r.content.run r.content.cursor apart content.run content.cursor mid fits room_mid step.counts)))
-      ];
+      counts = closing_counts here other r.ordinal (text_of r.content) apart (register_short r) d c room (known.other_open.0 is_open) known.counts same;
     }
 
 new_knows : (cell : Cell) (r : Register) (c : List ℕ) → r.counting ≡ other_of cell → r.other_is_open ≡ true → get_or c (place_of cell) 0 ≡ 1 → Counts (place_of (other_of cell)) (place_of cell) r.ordinal (text_of r.content) c → Knows r c
@@ -130,32 +111,76 @@ new_knows cell r c is is_open gate counts = record {
     twice First = refl
     twice Second = refl
 
--- what is read when all is written
-pub known_then : (r new : Register) (content : Content) (d mid c : List ℕ) → 12288 ≤ length d → r.ordinal < 2 ^ 64 → IsClosingStep r d mid → (gate : ℕ) (piece : List ℕ) → gate ≡ place_of (other_of r.counting) → piece ≡ body_text (r.ordinal + 1) (text_of content) → c ≡ put gate (1 ∷ piece) mid
-    → new.counting ≡ other_of r.counting → new.other_is_open ≡ true → new.ordinal ≡ r.ordinal + 1 → new.content ≡ content → Knows new c
-known_then r new content d mid c room fits step gate body is_gate is_body is is_counting is_open is_ordinal is_content =
-    let here = place_of r.counting in
-    let other = place_of (other_of r.counting) in
-    let apart = cells_apart r.counting in
-    let piece = 1 ∷ body_text (r.ordinal + 1) (text_of content) in
-    let long : length piece ≡ 30 = omega (arith, length-body (r.ordinal + 1) content.run content.cursor) in
-    let room_mid : 12288 ≤ length mid = omega (arith, step.outside.len) in
-    let same = put_same other 30 piece mid (omega (arith, apart.other_to)) (omega (arith, long)) in
-    let text = part_stays here other r.ordinal r.content.run r.content.cursor apart 30 mid (put other piece mid) (omega arith) room_mid same ∙ fields here other r.ordinal r.content.run r.content.cursor mid step.counts in
-    let counts = new_counts here other r.ordinal r.content.run r.content.cursor apart content.run content.cursor mid fits room_mid step.counts in
-    subst (Knows new) (sym (is ∙ ap (λ (k : ℕ). put k (1 ∷ body) mid) is_gate ∙ ap (λ (l : List ℕ). put other (1 ∷ l) mid) is_body)) (new_knows r.counting new (put other piece mid) is_counting is_open (gate_is here 1 r.ordinal 17 1 r.content.run r.content.cursor (put other piece mid) text)
-    (subst (λ (n : ℕ). Counts other here n (text_of new.content) (put other piece mid)) (sym is_ordinal) (subst (λ (x : Content). Counts other here (r.ordinal + 1) (text_of x) (put other piece mid)) (sym is_content) counts)))
+-- a change to a content of version 2
+module _ (r : Register) (run cursor : ℕ) (known : List Stretch) (few : length known ≤ 240) where
+  new_short : length (content_text run cursor known) ≤ 3859
+  new_short = omega (arith, length-content_text run cursor known)
 
--- all moments of a change
-pub set_moments : (r : Register) (content : Content) (m mid new : Moment) → IsLawful m → 12288 ≤ m.size → r.ordinal < 2 ^ 64 → LeavesOnly (ComesFrom m (IsClosingStep r)) m mid
-    → (gate : ℕ) (piece : List ℕ) → gate ≡ place_of (other_of r.counting) → piece ≡ body_text (r.ordinal + 1) (text_of content) → LeavesOnly (ComesFrom mid (IsGateStep gate piece)) mid new → LeavesOnly (ComesFrom m (IsSetStep r content)) m new
-set_moments r content m mid new lawful room fits closing gate piece is_gate is_piece opening =
-    both _ _ (ComesFrom m (IsSetStep r content)) m mid new closing (subst (λ (k : ℕ). LeavesOnly (ComesFrom mid (IsGateStep k (body_text (r.ordinal + 1) (text_of content)))) mid new) is_gate (subst (λ (l : List ℕ). LeavesOnly (ComesFrom mid (IsGateStep gate l)) mid new) is_piece opening))
-    (λ c from. (from.0, from.1, closing_holds r content from.0 c from.2))
-    (λ c from. let first = closing.now from.0 from.1 in (first.0, first.1, gate_step r content first.0 from.0 c (omega (arith, lawful.image_size first.0 first.1)) fits first.2 from.2))
+  pub closing_holds : (d c : List ℕ) → IsClosingStep r d c → IsSetStep r run cursor known d c
+  closing_holds d c step = record { outside = step.outside; inside = inl (holds r.counting r.ordinal (text_of r.content) c step.counts) }
+
+  -- the new cell written behind its gate
+  pub gate_step : (d mid c : List ℕ) → 12288 ≤ length d → r.ordinal < 2 ^ 64 → IsClosingStep r d mid → IsGateStep (place_of (other_of r.counting)) (body_text (r.ordinal + 1) (content_text run cursor known)) mid c → IsSetStep r run cursor known d c
+  gate_step d mid c room fits step gated =
+      let here = place_of r.counting in
+      let other = place_of (other_of r.counting) in
+      let apart = cells_apart r.counting in
+      let new = content_text run cursor known in
+      let body = body_text (r.ordinal + 1) new in
+      let long : length body + 1 ≤ 4096 = omega (arith, length-body_text (r.ordinal + 1) new, new_short) in
+      let room_mid : 12288 ≤ length mid = omega (arith, step.outside.len) in
+      record {
+        outside = same_but_then 4096 8192 4096 8192 other (length body + 1) d mid c step.outside gated.outside (omega arith) (omega arith) apart.other_from (omega (arith, apart.other_to));
+        inside = elim gated.inside [
+          | inl shut ↦ inl (holds r.counting r.ordinal (text_of r.content) c (shut_counts here other r.ordinal (text_of r.content) apart (register_short r) (length body + 1) mid c long room_mid step.counts gated.outside shut))
+          | inr whole ↦ inr (subst (RegisterHolds (r.ordinal + 1) new) (sym whole) (holds_other r.counting (r.ordinal + 1) new _ (new_counts here other r.ordinal (text_of r.content) apart (register_short r) new new_short mid fits room_mid step.counts)))
+        ];
+      }
+
+  -- what is read when all is written
+  pub known_then : (new : Register) (d mid c : List ℕ) → 12288 ≤ length d → r.ordinal < 2 ^ 64 → IsClosingStep r d mid → (gate : ℕ) → gate ≡ place_of (other_of r.counting) → c ≡ put gate (1 ∷ body_text (r.ordinal + 1) (content_text run cursor known)) mid
+      → new.counting ≡ other_of r.counting → new.other_is_open ≡ true → new.ordinal ≡ r.ordinal + 1 → IsContent run cursor known new.content → Knows new c
+  known_then new d mid c room fits step gate is_gate is is_counting is_open is_ordinal is_content =
+      let here = place_of r.counting in
+      let other = place_of (other_of r.counting) in
+      let apart = cells_apart r.counting in
+      let content = content_text run cursor known in
+      let written = put other (cell_text (r.ordinal + 1) content) mid in
+      let room_mid : 12288 ≤ length mid = omega (arith, step.outside.len) in
+      let counts = new_counts here other r.ordinal (text_of r.content) apart (register_short r) content new_short mid fits room_mid step.counts in
+      subst (Knows new) (sym (is ∙ ap (λ (k : ℕ). put k (cell_text (r.ordinal + 1) content) mid) is_gate)) (new_knows r.counting new written is_counting is_open (still_open here other r.ordinal (text_of r.content) apart (register_short r) content new_short mid fits room_mid step.counts)
+      (subst (λ (n : ℕ). Counts other here n (text_of new.content) written) (sym is_ordinal) (subst (λ (l : List ℕ). Counts other here (r.ordinal + 1) l written) (sym (text_set new.content run cursor known is_content)) counts)))
+
+  -- all moments of a change
+  pub set_moments : (m mid new : Moment) → IsLawful m → 12288 ≤ m.size → r.ordinal < 2 ^ 64 → LeavesOnly (ComesFrom m (IsClosingStep r)) m mid
+      → (gate : ℕ) → gate ≡ place_of (other_of r.counting) → LeavesOnly (ComesFrom mid (IsGateStep gate (body_text (r.ordinal + 1) (content_text run cursor known)))) mid new → LeavesOnly (ComesFrom m (IsSetStep r run cursor known)) m new
+  set_moments m mid new lawful room fits closing gate is_gate opening =
+      both _ _ (ComesFrom m (IsSetStep r run cursor known)) m mid new closing (subst (λ (k : ℕ). LeavesOnly (ComesFrom mid (IsGateStep k (body_text (r.ordinal + 1) (content_text run cursor known)))) mid new) is_gate opening)
+      (λ c from. (from.0, from.1, closing_holds from.0 c from.2))
+      (λ c from. let first = closing.now from.0 from.1 in (first.0, first.1, gate_step first.0 from.0 c (omega (arith, lawful.image_size first.0 first.1)) fits first.2 from.2))
 
 -- all moments while the gate is closed
 pub closing_moments : (r : Register) (m new : Moment) → IsLawful m → 12288 ≤ m.size → IsTrue r.other_is_open → ((d : List ℕ) → m.image d → Knows r d)
     → (gate : ℕ) → gate ≡ place_of (other_of r.counting) → LeavesOnly (ComesFrom m (IsGateStep gate [])) m new → LeavesOnly (ComesFrom m (IsClosingStep r)) m new
 closing_moments r m new lawful room is_open known gate is run =
     weaker _ (ComesFrom m (IsClosingStep r)) m new run (λ c from. (from.0, from.1, closing_step r from.0 c (omega (arith, lawful.image_size from.0 from.1)) is_open (known from.0 from.1) (subst (λ (k : ℕ). SameBut k 1 from.0 c) is from.2.outside)))
+
+-- a piece that is put into the other cell changes nothing outside the two
+pub put_outside : (cell : Cell) (gate : ℕ) (piece old new : List ℕ) → gate ≡ place_of (other_of cell) → length piece ≤ 4096 → 12288 ≤ length old → new ≡ put gate piece old → SameBut 4096 8192 old new
+put_outside cell gate piece old new is short room written =
+    let apart = cells_apart cell in
+    let other = place_of (other_of cell) in
+    let same = put_same other 4096 piece old (omega (arith, apart.other_to)) short in
+    subst (SameBut 4096 8192 old) (sym (written ∙ ap (λ (k : ℕ). put k piece old) is)) (same_but_wider 4096 8192 other 4096 old (put other piece old) same apart.other_from (omega (arith, apart.other_to)))
+
+pub closing_outside : {X E : Type 0} (result : Result X E) (T : Type 0) (cell : Cell) (gate : ℕ) (old new : List ℕ) → gate ≡ place_of (other_of cell) → (T → 12288 ≤ length old) → OnOk result (T → new ≡ put gate (0 ∷ []) old) → OnOk result (T → SameBut 4096 8192 old new)
+closing_outside (Ok x) T cell gate old new is room written = λ t. put_outside cell gate (0 ∷ []) old new is (omega arith) (room t) (written t)
+closing_outside (Err e) T cell gate old new is room written = tt
+
+-- so a change does, with the cell written after the gate was closed
+pub set_outside : (r : Register) (run cursor : ℕ) (known : List Stretch) (old mid new : List ℕ) → length known ≤ 240 → 12288 ≤ length old → SameBut 4096 8192 old mid
+    → (gate : ℕ) → gate ≡ place_of (other_of r.counting) → new ≡ put gate (1 ∷ body_text (r.ordinal + 1) (content_text run cursor known)) mid → SameBut 4096 8192 old new
+set_outside r run cursor known old mid new few room closing gate is written =
+    let body = body_text (r.ordinal + 1) (content_text run cursor known) in
+    let short : length (1 ∷ body) ≤ 4096 = omega (arith, length-body_text (r.ordinal + 1) (content_text run cursor known), length-content_text run cursor known) in
+    same_but_then 4096 8192 4096 8192 4096 8192 old mid new closing (put_outside r.counting gate (1 ∷ body) mid new is short (omega (arith, closing.len)) written) (omega arith) (omega arith) (omega arith) (omega arith)

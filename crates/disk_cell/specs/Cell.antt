@@ -1,6 +1,6 @@
 -- Where the two cells lie.
 use Rattle.std.specs.Prelude.{ℕ}
-use Rattle.spool_state.specs.Cells.{first_cell, second_cell}
+use Rattle.spool_state.specs.Layout.{first_cell, second_cell}
 use Rattle.disk_cell.specs.declared.cell.Cell.{Cell}
 use Rattle.disk_cell.specs.declared.cell.Cell.TheVariants.{First, Second}
 

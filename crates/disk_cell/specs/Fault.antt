@@ -1,17 +1,19 @@
 -- When a register answers a fault.
-use Rattle.std.specs.Prelude.{◌≡◌, ℕ, ◌^◌, ◌<◌, List}
+use Rattle.std.specs.Prelude.{◌≡◌, ℕ, ◌<◌, List}
+use Rattle.spool_state.specs.Layout.{most_number}
 use Rattle.spool_state.specs.Cells.{CellsBreak}
 use Rattle.disk_cell.specs.declared.fault.LoadFault.{LoadFault}
-use Rattle.disk_cell.specs.declared.fault.LoadFault.TheVariants.{NotSpool, DiskFault as LoadFailed}
+use Rattle.disk_cell.specs.declared.fault.LoadFault.TheVariants.{NotSpool, NoMemory, DiskFault as LoadFailed}
 use Rattle.disk_cell.specs.declared.fault.SetFault.{SetFault}
 use Rattle.disk_cell.specs.declared.fault.SetFault.TheVariants.{Worn, DiskFault as SetFailed}
 
 -- where it is no spool, a rule of the cells is broken at that place
 abbrev pub IsBroken : LoadFault → List ℕ → Type 0
 IsBroken (NotSpool at) c = CellsBreak at c
+IsBroken NoMemory c = Unit
 IsBroken LoadFailed c = Unit
 
 -- it is worn with this ordinal exactly where that is the last one
 abbrev pub IsWornAt : ℕ → SetFault → Type 0
-IsWornAt ordinal (Worn at) = (ordinal ≡ 2 ^ 63) × (at ≡ ordinal)
-IsWornAt ordinal SetFailed = ordinal < 2 ^ 63
+IsWornAt ordinal (Worn at) = (ordinal ≡ most_number) × (at ≡ ordinal)
+IsWornAt ordinal SetFailed = ordinal < most_number

@@ -1,4 +1,5 @@
 pub mod Cell
+pub mod Content
 pub mod Fault
 pub mod Fields
 pub mod Register

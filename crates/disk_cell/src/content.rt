@@ -1,30 +1,36 @@
 //! What a register holds.
-ghost use Rattle.std.specs.Prelude.{◌≡◌, ◌∷◌, ◌++◌, ◌<◌, ◌^◌};
-ghost use Rattle.spool_state.specs.Cells.{content_text, body_text};
+ghost use Rattle.std.specs.Prelude.{◌≤◌, length, vec_capacity};
+
+use known_numbers::Stretch;
 
 /// What a register holds.
-#[derive(Clone, Copy, Debug, PartialEq, Eq)]
+#[derive(Debug, Drop)]
 pub struct Content {
-    /// The version of the layout, which is 1.
+    /// The version of the layout in which it stands on the disk: 1 or 2.
     pub version: u8,
     /// How often the spool was opened for storing, at most 2,097,151.
     pub run: u32,
-    /// Entries with lower numbers are confirmed.
+    /// Entries with lower numbers are acknowledged.
     pub cursor: u64,
+    /// And those with these numbers: at most 240 stretches, none in version 1.
+    pub known: Vec<Stretch>,
 }
 
 impl Content {
-    // What stands behind the gate of a cell: the ordinal, the length of the content, and the content.
-    pub(crate) fn body(self, ordinal: u64) -> [u8; 29]
-        requires { self.version ≡ 1 }
-        ensures { result ≡ body_text ordinal (content_text self.run self.cursor) }
+    ghost use Rattle.known_numbers.specs.declared.stretch.TheConstants.{MOST_STRETCHES};
+    ghost use Rattle.disk_cell.specs.Register.{IsContent};
+
+    // Makes it one of version 2. It takes no memory.
+    pub(crate) fn set(&mut self, run: u32, cursor: u64, known: &[Stretch])
+        requires few { length known.now ≤ MOST_STRETCHES }
+        requires room { MOST_STRETCHES ≤ vec_capacity self.old.known }
+        ensures content { IsContent run cursor known.now self.new }
+        ensures room { MOST_STRETCHES ≤ vec_capacity self.new.known }
     {
-        let mut body = [0; 29];
-        body[..8].copy_from_slice(&ordinal.to_be_bytes());
-        body[8..12].copy_from_slice(&17u32.to_be_bytes());
-        body[12] = self.version;
-        body[13..21].copy_from_slice(&u64::from(self.run).to_be_bytes());
-        body[21..].copy_from_slice(&self.cursor.to_be_bytes());
-        body
+        self.version = 2;
+        self.run = run;
+        self.cursor = cursor;
+        self.known.clear();
+        let _ = self.known.extend_from_slice(known);
     }
 }

@@ -1,5 +1,6 @@
 //! Why a register was not read or not written.
 use edge_disk::DiskFault;
+use std::alloc::AllocError;
 
 /// Why no register was read.
 #[derive(Clone, Copy, Debug, PartialEq, Eq)]
@@ -7,6 +8,8 @@ pub enum LoadFault {
     /// The cells break a rule of their layout. `at` is the offset on the device, in bytes, of the cell at
     /// fault: that of the first cell where none counts, else that of the cell that counts.
     NotSpool { at: u64 },
+    /// There is no memory for the stretches of numbers.
+    NoMemory,
     /// A call on the disk failed.
     DiskFault,
 }
@@ -28,6 +31,17 @@ impl From<DiskFault> for LoadFault {
 
     fn from(_: DiskFault) -> LoadFault {
         LoadFault::DiskFault
+    }
+}
+
+impl From<AllocError> for LoadFault {
+    ghost use Rattle.std.specs.Prelude.{◌≡◌};
+    ghost use Rattle.disk_cell.specs.declared.fault.LoadFault.TheVariants.{NoMemory};
+
+    ghost from_gives = { λ _ e. e ≡ NoMemory };
+
+    fn from(_: AllocError) -> LoadFault {
+        LoadFault::NoMemory
     }
 }
 

@@ -1,15 +1,17 @@
 //! What the bytes of a cell say.
-ghost use Rattle.std.specs.Prelude.{◌≡◌, ◌≢◌, ◌⊎◌, ℕ, ◌+◌, ◌<◌, ◌≤◌, ◌↔◌, length, IsTrue, IfOk, IfErr};
-ghost use Rattle.std.specs.Int.{from_be_bytes};
-ghost use mir.Syntax.{w64};
+ghost use Rattle.std.specs.Prelude.{◌≡◌, ◌+◌, ◌≤◌, ◌↔◌, length, IsErr, IsTrue, IfOk, IfSome, IfNone};
+ghost use Rattle.std.specs.Int.{w16, from_be_bytes, to_be_bytes};
 ghost use Rattle.foundation.specs.Bytes.{part};
-ghost use Rattle.foundation.specs.Faults.{HasCause};
+ghost use Rattle.edge_disk.specs.Calls.{Calls};
 ghost use Rattle.edge_disk.specs.Disk.{IsUntouched};
 
-use crate::{Cell, Content, LoadFault, Register};
+use crate::text::{CONTENT, CONTENT_1, STRETCH};
+use crate::{Cell, Register};
 use edge_disk::{Disk, DiskFault};
+use foundation::{u32_at, u64_at};
+use known_numbers::MOST_STRETCHES;
 
-// The fields of a cell, whatever they are.
+// The fields of a cell, whatever they are: those of version 2 but for the stretches.
 #[derive(Drop)]
 pub(crate) struct Fields {
     pub gate: u8,
@@ -18,48 +20,51 @@ pub(crate) struct Fields {
     pub version: u8,
     pub run: u64,
     pub cursor: u64,
+    pub count: u16,
 }
 
-// The number in the eight bytes there.
-fn number_at(text: &[u8], at: usize) -> u64
-    requires { at + 8 ≤ length text.now }
-    ensures { result ≡ from_be_bytes w64 (part at 8 text.now) }
+// The number in the two bytes from an offset on.
+fn u16_at(bytes: &[u8], at: usize) -> u16
+    requires { at + 2 ≤ length bytes.now }
+    ensures value { result ≡ from_be_bytes w16 (part at 2 bytes.now) }
+    ensures bytes { to_be_bytes w16 result ≡ part at 2 bytes.now }
 {
-    let mut word = [0; 8];
-    word.copy_from_slice(&text[at..at + 8]);
-    u64::from_be_bytes(word)
+    let mut field = [0; 2];
+    field.copy_from_slice(&bytes[at..at + 2]);
+    u16::from_be_bytes(field)
 }
 
 impl Fields {
+    ghost use Rattle.spool_state.specs.Layout.{first_slot};
     ghost use Rattle.disk_cell.specs.Cell.{place_of};
-    ghost use Rattle.disk_cell.specs.Fields.{bytes_of, AreInRange, Outranks, IsBad, IsRegisterOf};
+    ghost use Rattle.disk_cell.specs.Fields.{bytes_of, AreInRange, Outranks, AreGood, AreBad};
 
-    // Reads them from a text of 30 bytes.
-    fn of(text: &[u8; 30]) -> Fields
+    // Reads them from a text of 32 bytes.
+    fn of(text: &[u8; 32]) -> Fields
         ensures text { bytes_of result ≡ text.now }
         ensures range { AreInRange result }
     {
         Fields {
             gate: text[0],
-            ordinal: number_at(text, 1),
-            len: u32::from_be_bytes([text[9], text[10], text[11], text[12]]),
+            ordinal: u64_at(text, 1),
+            len: u32_at(text, 9),
             version: text[13],
-            run: number_at(text, 14),
-            cursor: number_at(text, 22),
+            run: u64_at(text, 14),
+            cursor: u64_at(text, 22),
+            count: u16_at(text, 30),
         }
     }
 
     // Reads those of a cell on a disk.
     pub fn read<D: Disk>(disk: &mut D, cell: Cell) -> Result<Fields, DiskFault>
-        requires { 12288 ≤ (D.moment disk.old).size }
+        requires { first_slot ≤ (D.moment disk.old).size }
 
-        ensures cause { HasCause (D.moment disk.old).faults (D.moment disk.new).faults result }
-        ensures size { (D.moment disk.new).size ≡ (D.moment disk.old).size }
+        ensures calls { Calls (IsErr result) (D.moment disk.old) (D.moment disk.new) }
         ensures untouched { D.tells → IsUntouched (D.moment disk.old) (D.moment disk.new) }
-        ensures text { IfOk result (λ fields. D.tells → part (place_of cell) 30 (D.moment disk.old).reads ≡ bytes_of fields) }
+        ensures text { IfOk result (λ fields. D.tells → part (place_of cell) 32 (D.moment disk.old).reads ≡ bytes_of fields) }
         ensures range { IfOk result AreInRange }
     {
-        let mut text = [0; 30];
+        let mut text = [0; 32];
         disk.read_at(cell.offset(), &mut text)?;
         Ok(Fields::of(&text))
     }
@@ -77,27 +82,24 @@ impl Fields {
         self.is_open() && (!other.is_open() || other.ordinal < self.ordinal)
     }
 
-    // The register whose counting cell has these fields, where they are good.
-    pub fn register(&self, cell: Cell, other_is_open: bool) -> Result<Register, LoadFault>
-        ensures ok { IfOk result (IsRegisterOf cell other_is_open self.now) }
-        ensures bad { IfErr result (IsBad cell self.now) }
+    // How many stretches the content has, where the fields are good.
+    pub fn stretches(&self) -> Option<usize>
+        ensures some { IfSome result (AreGood self.now) }
+        ensures none { IfNone result (AreBad self.now) }
     {
-        if self.len != 17
-            || self.version != 1
-            || self.run > 2_097_151
-            || self.ordinal > Register::LAST_ORDINAL
-        {
-            return Err(LoadFault::NotSpool { at: cell.offset() });
+        let count = usize::from(self.count);
+        if self.run > Register::MOST_RUN || self.ordinal > Register::LAST_ORDINAL {
+            return None;
         }
-        Ok(Register {
-            counting: cell,
-            other_is_open,
-            ordinal: self.ordinal,
-            content: Content {
-                version: self.version,
-                run: self.run as u32,
-                cursor: self.cursor,
-            },
-        })
+        if self.version == 1 && self.len as usize == CONTENT_1 {
+            return Some(0);
+        }
+        if self.version == 2
+            && count <= MOST_STRETCHES
+            && self.len as usize == CONTENT + STRETCH * count
+        {
+            return Some(count);
+        }
+        None
     }
 }

@@ -2,110 +2,160 @@ ghost use Rattle.std.specs.Prelude.{◌≡◌, ◌≤◌, length, IfOk};
 ghost use Rattle.edge_disk.specs.Disk.{IsSettled};
 ghost use Rattle.edge_disk.specs.MemDisk.{mem_moment};
 
-use crate::{Content, LoadFault, Register, SetFault};
+use crate::{LoadFault, Register, SetFault, Stretch};
 use edge_disk::{Crash, Disk, MemDisk};
 use std::alloc::{AllocError, Global};
 use std::process::Abort;
 use std::test::Fail;
 
-// A cell by its fields.
-fn cell(gate: u8, ordinal: u64, len: u32, version: u8, run: u64, cursor: u64) -> [u8; 30] {
-    let mut bytes = [0; 30];
+// A cell by its fields. What follows them, the count and one stretch, is zero bytes but for the last one of
+// each number.
+fn cell(
+    gate: u8,
+    ordinal: u64,
+    len: u32,
+    version: u8,
+    run: u64,
+    cursor: u64,
+    more: [u8; 3],
+) -> [u8; 48] {
+    let mut bytes = [0; 48];
     bytes[0] = gate;
     bytes[1..9].copy_from_slice(&ordinal.to_be_bytes());
     bytes[9..13].copy_from_slice(&len.to_be_bytes());
     bytes[13] = version;
     bytes[14..22].copy_from_slice(&run.to_be_bytes());
-    bytes[22..].copy_from_slice(&cursor.to_be_bytes());
+    bytes[22..30].copy_from_slice(&cursor.to_be_bytes());
+    bytes[31] = more[0];
+    bytes[39] = more[1];
+    bytes[47] = more[2];
     bytes
 }
 
 // A device that has nothing but two cells.
-fn device(alloc: Global, first: &[u8; 30], second: &[u8; 30]) -> Result<Vec<u8>, AllocError>
+fn device(alloc: Global, first: &[u8; 48], second: &[u8; 48]) -> Result<Vec<u8>, AllocError>
     ensures { IfOk result (λ bytes. length bytes.items ≡ 12288) }
 {
     let mut bytes = vec![in alloc; 0; 12_288]?;
-    bytes[4096..4126].copy_from_slice(first);
-    bytes[8192..8222].copy_from_slice(second);
+    bytes[4096..4144].copy_from_slice(first);
+    bytes[8192..8240].copy_from_slice(second);
     Ok(bytes)
 }
 
 // Reads the register and changes it.
-fn change(disk: &mut MemDisk, content: Content) -> Option<Result<(), SetFault>>
+fn change(
+    alloc: Global,
+    disk: &mut MemDisk,
+    run: u32,
+    cursor: u64,
+    known: &[Stretch],
+) -> Option<Result<(), SetFault>>
     requires room { 12288 ≤ (mem_moment disk.old).size }
     requires settled { IsSettled (mem_moment disk.old) }
-    requires version { content.version ≡ 1 }
-    requires run { content.run ≤ 2097151 }
+    requires run { run ≤ 2097151 }
+    requires few { length known.now ≤ 240 }
     ensures { (mem_moment disk.new).size ≡ (mem_moment disk.old).size }
 {
-    let Ok(mut register) = Register::load(disk) else {
+    let Ok(mut register) = Register::load(alloc, disk) else {
         return None;
     };
-    Some(register.set(disk, content))
+    Some(register.set(disk, run, cursor, known))
 }
 
-// The run, the cursor and the ordinal that are read, or the place that is no register. 0: a call failed.
-fn seen(disk: &mut MemDisk) -> Result<(u32, u64, u64), u64>
+// The version, the run, the cursor, the ordinal and the first stretch.
+type Seen = (u8, u32, u64, u64, Option<Stretch>);
+
+// What is read, or the place that is no register. 0: a call failed, or there was no memory.
+fn seen(alloc: Global, disk: &mut MemDisk) -> Result<Seen, u64>
     requires { 12288 ≤ (mem_moment disk.old).size }
 {
-    match Register::load(disk) {
+    match Register::load(alloc, disk) {
         Ok(register) => {
             let value = register.value();
-            Ok((value.run, value.cursor, register.ordinal()))
+            Ok((
+                value.version,
+                value.run,
+                value.cursor,
+                register.ordinal(),
+                value.known.first().copied(),
+            ))
         }
         Err(LoadFault::NotSpool { at }) => Err(at),
-        Err(LoadFault::DiskFault) => Err(0),
+        Err(_) => Err(0),
     }
 }
 
+const NONE: [u8; 3] = [0, 0, 0];
+
 #[test]
 fn each_rule_has_its_place(rt: HostRuntime) -> Result<(), Fail> {
-    let good = cell(1, 1, 17, 1, 0, 0);
-    let shut = cell(0, 7, 17, 1, 3, 9);
-    let garbage = cell(1, 4, 99, 8, 3_000_000, 9);
+    let old = cell(1, 1, 17, 1, 0, 0, [9, 9, 9]);
+    let new = cell(1, 1, 19, 2, 0, 0, NONE);
+    let shut = cell(0, 7, 17, 1, 3, 9, NONE);
+    let garbage = cell(1, 4, 99, 8, 3_000_000, 9, NONE);
+    let stretch = Some(Stretch { from: 8, to: 9 });
     let rows = [
-        (good, shut, Ok((0, 0, 1))),
-        (shut, good, Ok((0, 0, 1))),
+        (old, shut, Ok((1, 0, 0, 1, None))),
+        (shut, new, Ok((2, 0, 0, 1, None))),
         (
             garbage,
-            cell(1, 5, 17, 1, 2_097_151, 6),
-            Ok((2_097_151, 6, 5)),
+            cell(1, 5, 35, 2, 2_097_151, 6, [1, 8, 9]),
+            Ok((2, 2_097_151, 6, 5, stretch)),
         ),
-        (cell(1, 1 << 63, 17, 1, 2, 8), garbage, Ok((2, 8, 1 << 63))),
-        (cell(2, 1, 17, 1, 0, 0), shut, Err(4096)),
-        (good, cell(1, 1, 17, 1, 4, 4), Err(4096)),
+        (
+            cell(1, 1 << 63, 17, 1, 2, 8, NONE),
+            garbage,
+            Ok((1, 2, 8, 1 << 63, None)),
+        ),
+        (cell(2, 1, 19, 2, 0, 0, NONE), shut, Err(4096)),
+        (old, cell(1, 1, 19, 2, 4, 4, NONE), Err(4096)),
         (garbage, shut, Err(4096)),
-        (good, garbage, Err(8192)),
-        (cell(1, 1, 16, 1, 0, 0), shut, Err(4096)),
-        (cell(1, 1, 17, 2, 0, 0), shut, Err(4096)),
-        (good, cell(1, 2, 17, 1, 2_097_152, 0), Err(8192)),
-        (good, cell(1, (1 << 63) + 1, 17, 1, 0, 0), Err(8192)),
+        (new, garbage, Err(8192)),
+        (cell(1, 1, 16, 1, 0, 0, NONE), shut, Err(4096)),
+        (cell(1, 1, 19, 1, 0, 0, NONE), shut, Err(4096)),
+        (cell(1, 1, 17, 2, 0, 0, NONE), shut, Err(4096)),
+        (cell(1, 1, 35, 2, 0, 0, NONE), shut, Err(4096)),
+        (cell(1, 1, 19, 2, 0, 0, [1, 8, 9]), shut, Err(4096)),
+        (cell(1, 1, 3875, 2, 0, 0, [241, 8, 9]), shut, Err(4096)),
+        (cell(1, 1, 19, 3, 0, 0, NONE), shut, Err(4096)),
+        (old, cell(1, 2, 19, 2, 2_097_152, 0, NONE), Err(8192)),
+        (new, cell(1, (1 << 63) + 1, 17, 1, 0, 0, NONE), Err(8192)),
     ];
     for (i, (first, second, want)) in rows.iter().enumerate() {
         let mut disk = MemDisk::of(device(rt.alloc(), first, second)?, Vec::new(rt.alloc()));
-        assert_eq!(rt; seen(&mut disk), *want, "row {i}");
+        assert_eq!(rt; seen(rt.alloc(), &mut disk), *want, "row {i}");
     }
     Ok(())
 }
 
 #[test]
-fn a_change_is_read_again(rt: HostRuntime) -> Result<(), Fail> {
-    let bytes = device(
-        rt.alloc(),
-        &cell(1, 1, 17, 1, 0, 0),
-        &cell(0, 7, 17, 1, 3, 9),
-    )?;
-    let mut disk = MemDisk::of(bytes, Vec::new(rt.alloc()));
-    let content = Content {
-        version: 1,
-        run: 1,
-        cursor: 0,
-    };
-    assert_eq!(rt; change(&mut disk, content), Some(Ok(())));
-    let text =
-        b"\x01\x00\x00\x00\x00\x00\x00\x00\x02\x00\x00\x00\x11\x01\x00\x00\x00\x00\x00\x00\x00\x01\x00\x00\x00\x00\x00\x00\x00\x00";
-    assert_eq!(rt; &disk.bytes()[8192..8222], text.as_slice());
-    assert_eq!(rt; disk.bytes()[4096], 1);
+fn a_change_writes_version_2(rt: HostRuntime) -> Result<(), Fail> {
+    // Each cell before it, and what the second cell begins with after it.
+    let rows: [(&[Stretch], &[u8]); 2] = [
+        (
+            &[],
+            b"\x01\x00\x00\x00\x00\x00\x00\x00\x02\x00\x00\x00\x13\x02\x00\x00\x00\x00\x00\x00\x00\x01\x00\x00\x00\x00\x00\x00\x00\x00\x00\x00",
+        ),
+        (
+            &[Stretch { from: 2, to: 4 }, Stretch { from: 9, to: 258 }],
+            b"\x01\x00\x00\x00\x00\x00\x00\x00\x02\x00\x00\x00\x33\x02\x00\x00\x00\x00\x00\x00\x00\x01\x00\x00\x00\x00\x00\x00\x00\x00\x00\x02\x00\x00\x00\x00\x00\x00\x00\x02\x00\x00\x00\x00\x00\x00\x00\x04\x00\x00\x00\x00\x00\x00\x00\x09\x00\x00\x00\x00\x00\x00\x01\x02",
+        ),
+    ];
+    for (known, text) in rows {
+        assert!(rt; known.len() < 9);
+        for first in [
+            cell(1, 1, 17, 1, 0, 0, NONE),
+            cell(1, 1, 35, 2, 0, 0, [1, 8, 9]),
+        ] {
+            let bytes = device(rt.alloc(), &first, &cell(0, 7, 17, 1, 3, 9, NONE))?;
+            let mut disk = MemDisk::of(bytes, Vec::new(rt.alloc()));
+            assert_eq!(rt; change(rt.alloc(), &mut disk, 1, 0, known), Some(Ok(())));
+            assert!(rt; disk.bytes()[8192..].starts_with(text));
+            assert_eq!(rt; &disk.bytes()[4096..4144], first.as_slice());
+            let want = (2, 1, 0, 2, known.first().copied());
+            assert_eq!(rt; seen(rt.alloc(), &mut disk), Ok(want));
+        }
+    }
     Ok(())
 }
 
@@ -113,30 +163,39 @@ fn a_change_is_read_again(rt: HostRuntime) -> Result<(), Fail> {
 // change was answered as done, and what is read then.
 fn after_stop(
     alloc: Global,
-    first: &[u8; 30],
+    first: &[u8; 48],
+    second: &[u8; 48],
     calls: u64,
     choice: Crash,
-) -> Result<(bool, Result<(u32, u64, u64), u64>), Fail> {
-    let bytes = device(alloc, first, &cell(1, 2, 17, 1, 4, 60))?;
-    let mut disk = MemDisk::stopped(bytes, calls);
-    let content = Content {
-        version: 1,
-        run: 5,
-        cursor: 70,
-    };
-    let outcome = change(&mut disk, content);
+) -> Result<(bool, Result<Seen, u64>), Fail> {
+    let mut disk = MemDisk::stopped(device(alloc, first, second)?, calls);
+    let outcome = change(alloc, &mut disk, 5, 70, &[Stretch { from: 72, to: 80 }]);
     let mut left = disk.crash(choice);
     if left.len() < 12_288 {
         return Err("short".into());
     }
-    Ok((outcome == Some(Ok(())), seen(&mut left)))
+    Ok((outcome == Some(Ok(())), seen(alloc, &mut left)))
 }
 
 #[test]
 fn a_stop_leaves_the_old_or_the_new(rt: HostRuntime) -> Result<(), Fail> {
-    // A cell that is closed is written in four calls behind the two of `load`, one that is open in six.
-    let rows = [(cell(0, 9, 17, 1, 8, 90), 6), (cell(1, 1, 17, 1, 3, 50), 8)];
-    for (first, whole) in rows {
+    // `load` makes two calls, and one more where there are stretches. A cell that is closed is written in
+    // four calls then, one that is open in six.
+    let shut = cell(0, 9, 17, 1, 8, 90, NONE);
+    let open = cell(1, 1, 35, 2, 3, 50, [1, 51, 52]);
+    let old = (cell(1, 2, 17, 1, 4, 60, NONE), 1, None);
+    let new = (
+        cell(1, 2, 35, 2, 4, 60, [1, 62, 63]),
+        2,
+        Some(Stretch { from: 62, to: 63 }),
+    );
+    let rows = [
+        (shut, old, 6),
+        (open, old, 8),
+        (shut, new, 7),
+        (open, new, 9),
+    ];
+    for (first, (second, version, known), whole) in rows {
         for calls in 0..10 {
             for choice in [
                 Crash::Synced,
@@ -145,10 +204,11 @@ fn a_stop_leaves_the_old_or_the_new(rt: HostRuntime) -> Result<(), Fail> {
                 Crash::Filled(1),
                 Crash::Filled(255),
             ] {
-                let (done, read) = after_stop(rt.alloc(), &first, calls, choice)?;
+                let (done, read) = after_stop(rt.alloc(), &first, &second, calls, choice)?;
                 assert_eq!(rt; done, calls >= whole);
-                if done || read != Ok((4, 60, 2)) {
-                    assert_eq!(rt; read, Ok((5, 70, 3)), "after {calls}");
+                if done || read != Ok((version, 4, 60, 2, known)) {
+                    let stretch = Some(Stretch { from: 72, to: 80 });
+                    assert_eq!(rt; read, Ok((2, 5, 70, 3, stretch)), "after {calls}");
                 }
             }
         }
@@ -160,17 +220,12 @@ fn a_stop_leaves_the_old_or_the_new(rt: HostRuntime) -> Result<(), Fail> {
 fn a_worn_register_is_left_alone(rt: HostRuntime) -> Result<(), Fail> {
     let bytes = device(
         rt.alloc(),
-        &cell(0, 9, 17, 1, 8, 90),
-        &cell(1, 1 << 63, 17, 1, 4, 60),
+        &cell(0, 9, 17, 1, 8, 90, NONE),
+        &cell(1, 1 << 63, 17, 1, 4, 60, NONE),
     )?;
     let mut disk = MemDisk::of(bytes, Vec::new(rt.alloc()));
-    let content = Content {
-        version: 1,
-        run: 5,
-        cursor: 70,
-    };
     let worn = SetFault::Worn { ordinal: 1 << 63 };
-    assert_eq!(rt; change(&mut disk, content), Some(Err(worn)));
+    assert_eq!(rt; change(rt.alloc(), &mut disk, 5, 70, &[]), Some(Err(worn)));
     assert_eq!(rt; disk.bytes()[4096], 0);
     assert_eq!(rt; disk.bytes()[4104], 9);
     Ok(())

@@ -1,3 +1,4 @@
+pub mod Calls
 mod Covers
 pub mod Moments
 mod StoreSteps

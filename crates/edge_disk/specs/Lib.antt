@@ -1,4 +1,5 @@
 pub mod Disk
+pub mod Calls
 pub mod Gate
 pub mod Held
 pub mod StoreView

@@ -1,10 +1,11 @@
 //! The disk as the layers above see it.
-ghost use Rattle.std.specs.Prelude.{◌≡◌, ◌⊎◌, ◌+◌, ◌^◌, ◌<◌, ◌≤◌, List, ℕ, length, OnOk};
+ghost use Rattle.std.specs.Prelude.{◌≡◌, ◌⊎◌, ◌+◌, ◌^◌, ◌<◌, ◌≤◌, List, ℕ, length, IsErr, OnOk};
 ghost use Rattle.foundation.specs.Bytes.{part, put};
-ghost use Rattle.foundation.specs.Faults.{HasCause};
+ghost use Rattle.edge_disk.specs.Calls.{Calls};
 ghost use Rattle.edge_disk.specs.Disk.{Moment, IsSettled, Remembers, IsUntouched, IsTorn, IsLawful};
 
-/// A call on a disk failed. The disk's count of faults rose in that call.
+/// A call on a disk failed. The disk's count of faults rose in that call; a call that doesn't answer this
+/// failed at nothing.
 #[derive(Clone, Copy, Debug, PartialEq, Eq)]
 pub struct DiskFault;
 
@@ -32,8 +33,7 @@ pub trait Disk {
     /// bytes.
     fn read_at(&mut self, at: u64, buf: &mut [u8]) -> Result<(), DiskFault>
         requires { at + length buf.old ≤ (moment self.old).size }
-        ensures cause { HasCause (moment self.old).faults (moment self.new).faults result }
-        ensures size { (moment self.new).size ≡ (moment self.old).size }
+        ensures calls { Calls (IsErr result) (moment self.old) (moment self.new) }
         ensures read { OnOk result (tells → buf.new ≡ part at (length buf.old) (moment self.old).reads) }
         ensures told { tells → IsUntouched (moment self.old) (moment self.new) }
         ensures images { tells_images self.old
@@ -43,8 +43,7 @@ pub trait Disk {
     /// in that range. After a fault a read, too, may give any bytes there.
     fn write_at(&mut self, at: u64, piece: &[u8]) -> Result<(), DiskFault>
         requires { at + length piece.now ≤ (moment self.old).size }
-        ensures cause { HasCause (moment self.old).faults (moment self.new).faults result }
-        ensures size { (moment self.new).size ≡ (moment self.old).size }
+        ensures calls { Calls (IsErr result) (moment self.old) (moment self.new) }
         ensures written { OnOk result (tells → (moment self.new).reads ≡ put at piece.now (moment self.old).reads) }
         ensures told { tells → IsTorn at (length piece.now) (moment self.old) (moment self.new) }
         ensures images { tells_images self.old
@@ -53,8 +52,7 @@ pub trait Disk {
     /// Makes durable what was written: from then on a crash leaves what a read gives. After a fault the
     /// images are still those of before.
     fn sync(&mut self) -> Result<(), DiskFault>
-        ensures cause { HasCause (moment self.old).faults (moment self.new).faults result }
-        ensures size { (moment self.new).size ≡ (moment self.old).size }
+        ensures calls { Calls (IsErr result) (moment self.old) (moment self.new) }
         ensures durable { OnOk result (tells → IsSettled (moment self.new)) }
         ensures told { tells → IsUntouched (moment self.old) (moment self.new) }
         ensures images { tells_images self.old

@@ -3,7 +3,7 @@
 ghost use Rattle.std.specs.Prelude.{◌≡◌, ◌⊎◌, ◌<◌, ◌^◌, IfOk};
 ghost use Rattle.foundation.specs.Faults.{HasCause};
 
-use crate::{Disk, DiskFault};
+use crate::{Disk, DiskFault, OpenFault, Sharing};
 use std::fs::{File, OpenOptions};
 use std::io;
 use std::os::unix::fs::FileExt;
@@ -11,6 +11,9 @@ use std::path::Path;
 
 /// A file as a disk. Its length is the file's as it was opened. A read at which the file has become
 /// shorter is a fault.
+///
+/// While it is open the file is locked, so that no two programs change one disk. The lock is the system's
+/// advisory one on the whole file: it ends with the value, and with the process however that ends.
 #[derive(Drop)]
 pub struct FileDisk {
     file: File,
@@ -22,26 +25,52 @@ pub struct FileDisk {
 impl FileDisk {
     ghost use Rattle.edge_disk.specs.FileDisk.{file_moment};
 
-    /// Opens a file that exists, to read and write. A fault says that this failed, for whatever cause.
+    /// Opens a file that exists, to read and write, for this program alone. A fault says that this failed,
+    /// for whatever cause.
     pub fn open(rt: &HostRuntime, path: &str) -> Result<FileDisk, DiskFault>
         ensures { IfOk result (λ disk. (file_moment disk).faults ≡ 0) }
     {
-        match open_file(rt, path, false) {
-            Ok((file, len)) => Ok(disk_of(file, len)),
+        match FileDisk::open_locked(rt, path, Sharing::Exclusive) {
+            Ok(disk) => Ok(disk),
             Err(_) => Err(DiskFault),
         }
     }
 
-    /// Opens the file, or makes it. A file that is new or empty gets the length of `len` zero bytes; the
-    /// bytes and the length of any other stay. The file's name in its folder is made durable.
+    /// Opens the file, or makes it, for this program alone. A file that is new or empty gets the length of
+    /// `len` zero bytes; the bytes and the length of any other stay. The file's name in its folder is made
+    /// durable.
     pub fn make(rt: &HostRuntime, path: &str, len: u64) -> Result<FileDisk, DiskFault>
         ensures faults { IfOk result (λ disk. (file_moment disk).faults ≡ 0) }
         ensures size { IfOk result (λ disk. (file_moment disk).size ≡ len ⊎ 0 < (file_moment disk).size) }
     {
-        match make_file(rt, path, len) {
-            Ok((file, len)) => Ok(disk_of(file, len)),
+        match FileDisk::make_locked(rt, path, len) {
+            Ok(disk) => Ok(disk),
             Err(_) => Err(DiskFault),
         }
+    }
+
+    /// Opens as [`FileDisk::open`] does, for this program alone or shared, and says why a file isn't opened.
+    pub fn open_locked(
+        rt: &HostRuntime,
+        path: &str,
+        sharing: Sharing,
+    ) -> Result<FileDisk, OpenFault>
+        ensures { IfOk result (λ disk. (file_moment disk).faults ≡ 0) }
+    {
+        let (file, len) = open_file(rt, path, false, sharing)?;
+        Ok(disk_of(file, len))
+    }
+
+    /// Opens or makes as [`FileDisk::make`] does, and says why a file isn't opened. Nothing of a file in use
+    /// is changed.
+    pub fn make_locked(rt: &HostRuntime, path: &str, len: u64) -> Result<FileDisk, OpenFault>
+        ensures faults { IfOk result (λ disk. (file_moment disk).faults ≡ 0) }
+        ensures size { IfOk result (λ disk. (file_moment disk).size ≡ len ⊎ 0 < (file_moment disk).size) }
+    {
+        let (file, size) = open_file(rt, path, true, Sharing::Exclusive)?;
+        let size = set_length(&file, size, len)?;
+        sync_folder(rt, path)?;
+        Ok(disk_of(file, size))
     }
 }
 
@@ -56,28 +85,36 @@ fn disk_of(file: File, len: u64) -> FileDisk
     }
 }
 
-// The file and its length.
-fn open_file(rt: &HostRuntime, path: &str, create: bool) -> io::Result<(File, u64)> {
+// The file, locked, and its length.
+fn open_file(
+    rt: &HostRuntime,
+    path: &str,
+    create: bool,
+    sharing: Sharing,
+) -> Result<(File, u64), OpenFault> {
     let mut options = OpenOptions::new();
     options.read(true);
     options.write(true);
     options.create(create);
     let file = options.open(rt, path)?;
+    match sharing {
+        Sharing::Exclusive => file.try_lock()?,
+        Sharing::Shared => file.try_lock_shared()?,
+    }
     let len = file.metadata()?.len();
     Ok((file, len))
 }
 
-fn make_file(rt: &HostRuntime, path: &str, len: u64) -> io::Result<(File, u64)>
-    ensures { IfOk result (λ made. made.1 ≡ len ⊎ 0 < made.1) }
+// Gives a file of `size` bytes that is empty the length `len`, and returns which length it has.
+fn set_length(file: &File, size: u64, len: u64) -> io::Result<u64>
+    ensures { IfOk result (λ now. now ≡ len ⊎ 0 < now) }
 {
-    let (file, mut size) = open_file(rt, path, true)?;
-    if size == 0 {
-        file.set_len(len)?;
-        file.sync_all()?;
-        size = len;
+    if size > 0 {
+        return Ok(size);
     }
-    sync_folder(rt, path)?;
-    Ok((file, size))
+    file.set_len(len)?;
+    file.sync_all()?;
+    Ok(len)
 }
 
 // The name of a file that was made is durable only once its folder is synced.

@@ -1,4 +1,4 @@
-use crate::{Disk, DiskFault, FileDisk};
+use crate::{Disk, DiskFault, FileDisk, OpenFault, Sharing};
 use std::path::PathBuf;
 use std::test::Fail;
 use std::{env, fs, process};
@@ -69,5 +69,40 @@ fn a_name_alone_is_one_in_the_current_folder(rt: HostRuntime) -> Result<(), Fail
     drop(disk);
     assert_eq!(rt; fs::read(&rt, path.as_str())?.as_slice(), [0; 2].as_slice());
     fs::remove_file(&rt, path.as_str())?;
+    Ok(())
+}
+
+#[test]
+fn a_file_in_use_is_not_opened(rt: HostRuntime) -> Result<(), Fail> {
+    let place = path_of(&rt, "shared")?;
+    let path = place.to_str().ok_or("path")?;
+    let fault_of = |opened: Result<FileDisk, OpenFault>| opened.err();
+    let first = FileDisk::make_locked(&rt, path, 2).ok().ok_or("make")?;
+    // nobody else has what one program has for itself
+    for sharing in [Sharing::Exclusive, Sharing::Shared] {
+        let second = FileDisk::open_locked(&rt, path, sharing);
+        assert_eq!(rt; fault_of(second), Some(OpenFault::InUse));
+    }
+    assert_eq!(rt;
+        fault_of(FileDisk::make_locked(&rt, path, 9)),
+        Some(OpenFault::InUse)
+    );
+    assert!(rt; FileDisk::open(&rt, path).is_err());
+    drop(first);
+    // those that share it have it together, and nobody has it alone
+    let first = FileDisk::open_locked(&rt, path, Sharing::Shared)
+        .ok()
+        .ok_or("first")?;
+    let second = FileDisk::open_locked(&rt, path, Sharing::Shared)
+        .ok()
+        .ok_or("second")?;
+    drop(first);
+    let third = FileDisk::open_locked(&rt, path, Sharing::Exclusive);
+    assert_eq!(rt; fault_of(third), Some(OpenFault::InUse));
+    drop(second);
+    assert!(rt; FileDisk::open(&rt, path).is_ok());
+    fs::remove_file(&rt, path)?;
+    let gone = FileDisk::open_locked(&rt, path, Sharing::Exclusive);
+    assert_eq!(rt; fault_of(gone), Some(OpenFault::NotFound));
     Ok(())
 }

@@ -1,8 +1,8 @@
 //! A piece that comes to stand on the disk whole or not at all: it is written behind a closed gate, one
 //! byte that is open where it is 1, and the gate is opened once the piece is durable.
-ghost use Rattle.std.specs.Prelude.{◌≡◌, ◌≢◌, List, ℕ, ◌+◌, ◌<◌, ◌≤◌, [], ◌∷◌, length, slice_index, OnOk};
+ghost use Rattle.std.specs.Prelude.{◌≡◌, ◌≢◌, List, ℕ, ◌+◌, ◌<◌, ◌≤◌, [], ◌∷◌, length, slice_index, IsErr, OnOk};
 ghost use Rattle.foundation.specs.Bytes.{put};
-ghost use Rattle.foundation.specs.Faults.{HasCause};
+ghost use Rattle.edge_disk.specs.Calls.{Calls};
 ghost use Rattle.edge_disk.specs.Disk.{IsSettled, LeavesOnly};
 ghost use Rattle.edge_disk.specs.Gate.{IsGateStep, ComesFrom};
 
@@ -16,8 +16,7 @@ pub fn write_behind<D: Disk>(disk: &mut D, gate: u64, piece: &[u8]) -> Result<()
     requires room { gate + length piece.now + 1 ≤ (D.moment disk.old).size }
     requires closed { D.tells → (c : List ℕ) → (D.moment disk.old).image c → slice_index c gate ≢ 1 }
 
-    ensures cause { HasCause (D.moment disk.old).faults (D.moment disk.new).faults result }
-    ensures size { (D.moment disk.new).size ≡ (D.moment disk.old).size }
+    ensures calls { Calls (IsErr result) (D.moment disk.old) (D.moment disk.new) }
     ensures durable { OnOk result (D.tells → IsSettled (D.moment disk.new)) }
     ensures written { OnOk result (D.tells
         → (D.moment disk.new).reads ≡ put gate (1 ∷ piece.now) (D.moment disk.old).reads) }
@@ -36,8 +35,7 @@ pub fn open_gate<D: Disk>(disk: &mut D, gate: u64) -> Result<(), DiskFault>
     requires room { gate < (D.moment disk.old).size }
     requires settled { D.tells → IsSettled (D.moment disk.old) }
 
-    ensures cause { HasCause (D.moment disk.old).faults (D.moment disk.new).faults result }
-    ensures size { (D.moment disk.new).size ≡ (D.moment disk.old).size }
+    ensures calls { Calls (IsErr result) (D.moment disk.old) (D.moment disk.new) }
     ensures durable { OnOk result (D.tells → IsSettled (D.moment disk.new)) }
     ensures written { OnOk result (D.tells
         → (D.moment disk.new).reads ≡ put gate (1 ∷ []) (D.moment disk.old).reads) }
@@ -53,8 +51,7 @@ pub fn open_gate<D: Disk>(disk: &mut D, gate: u64) -> Result<(), DiskFault>
 pub fn close_gate<D: Disk>(disk: &mut D, gate: u64) -> Result<(), DiskFault>
     requires room { gate < (D.moment disk.old).size }
 
-    ensures cause { HasCause (D.moment disk.old).faults (D.moment disk.new).faults result }
-    ensures size { (D.moment disk.new).size ≡ (D.moment disk.old).size }
+    ensures calls { Calls (IsErr result) (D.moment disk.old) (D.moment disk.new) }
     ensures durable { OnOk result (D.tells → IsSettled (D.moment disk.new)) }
     ensures written { OnOk result (D.tells
         → (D.moment disk.new).reads ≡ put gate (0 ∷ []) (D.moment disk.old).reads) }

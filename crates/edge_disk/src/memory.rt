@@ -1,7 +1,8 @@
 //! A disk in memory.
-ghost use Rattle.std.specs.Prelude.{◌≡◌, ◌+◌, ◌≤◌, [], length, true, false, IsTrue, replicate, IfOk, OnOk};
+ghost use Rattle.std.specs.Prelude.{◌≡◌, ◌+◌, ◌≤◌, [], length, true, false, IsTrue, replicate, IsErr, IsOk, IfOk, OnOk};
 ghost use Rattle.foundation.specs.Bytes.{part, put};
-ghost use Rattle.foundation.specs.Faults.{Rose, HasCause};
+ghost use Rattle.foundation.specs.Faults.{Rose};
+ghost use Rattle.edge_disk.specs.Calls.{Calls};
 ghost use Rattle.edge_disk.specs.Disk.{IsSettled, Remembers, IsUntouched, IsTorn};
 ghost use Rattle.edge_disk.specs.Held.{IsSound, first_half, after_write, after_sync};
 ghost use Rattle.edge_disk.specs.CallPlan.{one_more, after_call};
@@ -15,8 +16,8 @@ use std::alloc::{AllocError, Global};
 ///
 /// Its calls of `read_at`, `write_at` and `sync` are numbered from 0. A call that fails counts a fault. A
 /// write that fails leaves the first half of its range written, rounded down, and a crash may tear all of
-/// the range; a read or a sync that fails leaves all as it was. A write or a sync that finds no memory for
-/// the record counts a fault and changes nothing else.
+/// the range; a read or a sync that fails leaves all as it was. On a disk that keeps a record, a write or a
+/// sync that finds no memory for it counts a fault and changes nothing else.
 #[derive(Drop)]
 pub struct MemDisk {
     store: Store,
@@ -27,7 +28,7 @@ pub struct MemDisk {
 }
 
 impl MemDisk {
-    ghost use Rattle.edge_disk.specs.MemDisk.{held_of, plan_of, starved_of, mem_moment, IsNew};
+    ghost use Rattle.edge_disk.specs.MemDisk.{held_of, plan_of, starved_of, mem_moment, IsNew, NeverFails};
     ghost use Rattle.edge_disk.specs.Crashing.{IsLeft};
 
     /// A disk with these bytes, all of them durable, that keeps a record. `failing` lists the numbers of
@@ -48,7 +49,8 @@ impl MemDisk {
 
     /// A disk of so many zero bytes without a record: it tells what it reads, and no images. No call fails.
     pub fn plain(alloc: Global, len: u64) -> Result<MemDisk, AllocError>
-        ensures { IfOk result (λ disk. IsNew false (replicate len 0) [] None disk) }
+        ensures new { IfOk result (λ disk. IsNew false (replicate len 0) [] None disk) }
+        ensures never { IfOk result NeverFails }
     {
         let bytes = vec![in alloc; 0; len as usize]?;
         Ok(MemDisk::make(bytes, false, Vec::new(alloc), None))
@@ -121,7 +123,7 @@ fn came_through(piece: &[u8], fails: bool) -> &[u8]
 
 impl Disk for MemDisk {
     ghost use Rattle.edge_disk.specs.HeldLaws.{lawful, stands_in};
-    ghost use Rattle.edge_disk.specs.MemDisk.{held_of, plan_of, mem_moment, Ends};
+    ghost use Rattle.edge_disk.specs.MemDisk.{held_of, plan_of, mem_moment, Ends, EndsRead, NeverFails};
 
     ghost tells = { Unit {0} };
 
@@ -144,14 +146,14 @@ impl Disk for MemDisk {
     fn read_at(&mut self, at: u64, buf: &mut [u8]) -> Result<(), DiskFault>
         requires { at + length buf.old ≤ (mem_moment self.old).size }
 
-        ensures cause { HasCause (mem_moment self.old).faults (mem_moment self.new).faults result }
-        ensures size { (mem_moment self.new).size ≡ (mem_moment self.old).size }
+        ensures calls { Calls (IsErr result) (mem_moment self.old) (mem_moment self.new) }
         ensures read { OnOk result (buf.new ≡ part at (length buf.old) (mem_moment self.old).reads) }
         ensures told { IsUntouched (mem_moment self.old) (mem_moment self.new) }
         ensures images { IsTrue (held_of self.old).recorded
             → IsTrue (held_of self.new).recorded × Remembers (mem_moment self.old) (mem_moment self.new) }
-        ensures ends { Ends result (held_of self.old) (held_of self.old) self.old self.new }
+        ensures ends { EndsRead result self.old self.new }
         ensures counted { plan_of self.new ≡ after_call (plan_of self.old) }
+        ensures never { NeverFails self.old → IsOk result × NeverFails self.new }
     {
         if self.plan.call_fails() {
             count(&mut self.faults);
@@ -165,8 +167,7 @@ impl Disk for MemDisk {
     fn write_at(&mut self, at: u64, piece: &[u8]) -> Result<(), DiskFault>
         requires { at + length piece.now ≤ (mem_moment self.old).size }
 
-        ensures cause { HasCause (mem_moment self.old).faults (mem_moment self.new).faults result }
-        ensures size { (mem_moment self.new).size ≡ (mem_moment self.old).size }
+        ensures calls { Calls (IsErr result) (mem_moment self.old) (mem_moment self.new) }
         ensures written { OnOk result ((mem_moment self.new).reads ≡ put at piece.now (mem_moment self.old).reads) }
         ensures told { IsTorn at (length piece.now) (mem_moment self.old) (mem_moment self.new) }
         ensures images { IsTrue (held_of self.old).recorded
@@ -176,6 +177,7 @@ impl Disk for MemDisk {
             (after_write at (length piece.now) (first_half piece.now) (held_of self.old))
             self.old self.new }
         ensures counted { plan_of self.new ≡ after_call (plan_of self.old) }
+        ensures never { NeverFails self.old → IsOk result × NeverFails self.new }
     {
         let fails = self.plan.call_fails();
         let written = came_through(piece, fails);
@@ -192,14 +194,14 @@ impl Disk for MemDisk {
     }
 
     fn sync(&mut self) -> Result<(), DiskFault>
-        ensures cause { HasCause (mem_moment self.old).faults (mem_moment self.new).faults result }
-        ensures size { (mem_moment self.new).size ≡ (mem_moment self.old).size }
+        ensures calls { Calls (IsErr result) (mem_moment self.old) (mem_moment self.new) }
         ensures durable { OnOk result (IsSettled (mem_moment self.new)) }
         ensures told { IsUntouched (mem_moment self.old) (mem_moment self.new) }
         ensures images { IsTrue (held_of self.old).recorded
             → IsTrue (held_of self.new).recorded × Remembers (mem_moment self.old) (mem_moment self.new) }
         ensures ends { Ends result (after_sync (held_of self.old)) (held_of self.old) self.old self.new }
         ensures counted { plan_of self.new ≡ after_call (plan_of self.old) }
+        ensures never { NeverFails self.old → IsOk result × NeverFails self.new }
     {
         if self.plan.call_fails() {
             count(&mut self.faults);

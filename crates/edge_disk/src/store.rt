@@ -1,11 +1,11 @@
 //! Bytes in memory, with a record of what a crash may leave of them.
-ghost use Rattle.std.specs.Prelude.{◌≡◌, ◌+◌, ◌≤◌, length, OnOk, OnErr};
-ghost use Rattle.foundation.specs.Bytes.{put};
+ghost use Rattle.std.specs.Prelude.{◌≡◌, ◌+◌, ◌≤◌, length, IsTrue, OnOk, OnErr};
 ghost use Rattle.edge_disk.specs.Held.{new_held, with_note, after_write, after_sync, IsCover, IsSound};
 ghost use Rattle.edge_disk.specs.Crashing.{IsLeft};
 
 use crate::Crash;
 use crate::crash::fill;
+use foundation::overwrite;
 use std::alloc::AllocError;
 use std::marker::Model;
 use std::mem;
@@ -83,6 +83,7 @@ impl Store {
 
         ensures ok { OnOk result (self.new ≡ after_write at len piece.now self.old) }
         ensures err { OnErr result (self.new ≡ self.old) }
+        ensures kept { OnErr result (IsTrue self.old.recorded) }
         ensures sound { IsSound self.new }
     {
         self.note(at, len)?;
@@ -94,6 +95,7 @@ impl Store {
     fn note(&mut self, at: usize, len: usize) -> Result<(), AllocError>
         ensures ok { OnOk result (self.new ≡ with_note self.old.recorded at len self.old) }
         ensures err { OnErr result (self.new ≡ self.old) }
+        ensures kept { OnErr result (IsTrue self.old.recorded) }
     {
         if !self.recorded {
             return Ok(());
@@ -110,8 +112,10 @@ impl Store {
 
     /// Makes all bytes durable. What a crash might have left until now is past.
     pub(crate) fn sync(&mut self) -> Result<(), AllocError>
+        requires { IsSound self.old }
         ensures ok { OnOk result (self.new ≡ after_sync self.old) }
         ensures err { OnErr result (self.new ≡ self.old) }
+        ensures kept { OnErr result (IsTrue self.old.recorded) }
     {
         if self.ranges.is_empty() {
             return Ok(());
@@ -150,12 +154,4 @@ impl Store {
             }
         }
     }
-}
-
-// Puts the piece at an offset.
-fn overwrite(bytes: &mut Vec<u8>, at: usize, piece: &[u8])
-    requires { at + length piece.now ≤ length bytes.old.items }
-    ensures { bytes.new.items ≡ put at piece.now bytes.old.items }
-{
-    bytes[at..at + piece.len()].copy_from_slice(piece);
 }

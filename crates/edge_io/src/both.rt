@@ -31,6 +31,10 @@ impl<S: Source, K: Sink> Source for Both<S, K> {
 
     ghost read_apart = { λ x y. y.sink ≡ x.sink };
 
+    ghost read_apart_refl = { λ _. Prim.cc };
+
+    ghost read_apart_trans = { λ x y z p q. Prim.cc };
+
     fn read(&mut self, buf: &mut [u8]) -> Result<usize, ReadFault> {
         self.source.read(buf)
     }

@@ -55,6 +55,10 @@ impl<T: Read + Drop> Source for FileIo<T> {
 
     ghost read_apart = { λ x y. write_errors_of y ≡ write_errors_of x };
 
+    ghost read_apart_refl = { λ _. Prim.cc };
+
+    ghost read_apart_trans = { λ x y z p q. Prim.cc };
+
     /// A read of the reader. Each error of it is a fault, an interrupted call's too.
     fn read(&mut self, buf: &mut [u8]) -> Result<usize, ReadFault>
         requires { 0 < length buf.old }

@@ -22,6 +22,10 @@ impl<S: Source> Source for &mut S {
 
     ghost read_apart = { λ x y. S.read_apart x.now y.now };
 
+    ghost read_apart_refl = { λ x. S.read_apart_refl x.now };
+
+    ghost read_apart_trans = { λ x y z. S.read_apart_trans x.now y.now z.now };
+
     fn read(&mut self, buf: &mut [u8]) -> Result<usize, ReadFault> {
         (**self).read(buf)
     }

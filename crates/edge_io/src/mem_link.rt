@@ -45,6 +45,10 @@ impl Source for MemLink {
 
     ghost read_apart = { λ x y. sink_of y ≡ sink_of x };
 
+    ghost read_apart_refl = { λ _. Prim.cc };
+
+    ghost read_apart_trans = { λ x y z p q. Prim.cc };
+
     /// A read of the source.
     fn read(&mut self, buf: &mut [u8]) -> Result<usize, ReadFault>
         requires { 0 < length buf.old }

@@ -78,6 +78,10 @@ impl Source for MemSource {
 
     ghost read_apart = { λ _ _. Unit {0} };
 
+    ghost read_apart_refl = { λ _. tt };
+
+    ghost read_apart_trans = { λ _ _ _ _ _. tt };
+
     /// The read fails exactly where its number is listed, and else gives as many bytes as the step, the
     /// buffer and the bytes that are left allow.
     fn read(&mut self, buf: &mut [u8]) -> Result<usize, ReadFault>

@@ -5,7 +5,8 @@ ghost use Rattle.foundation.specs.Faults.{HasCause};
 
 use crate::Object;
 
-/// A write failed. The sink's count of faults says how often that was.
+/// A write failed. The sink's count of faults says how often that was; a write that doesn't answer this
+/// failed at nothing.
 #[derive(Clone, Copy, Debug, PartialEq, Eq)]
 pub struct WriteFault;
 

@@ -5,7 +5,8 @@ ghost use Rattle.foundation.specs.Faults.{HasCause};
 
 use crate::Object;
 
-/// A read failed. The source's count of faults says how often that was.
+/// A read failed. The source's count of faults says how often that was; a read that doesn't answer this
+/// failed at nothing.
 #[derive(Clone, Copy, Debug, PartialEq, Eq)]
 pub struct ReadFault;
 
@@ -35,4 +36,8 @@ pub trait Source: Object {
         ensures cause { HasCause (read_faults self.old) (read_faults self.new) result }
         ensures same { Self.same self.old self.new }
         ensures apart { read_apart self.old self.new };
+
+    ghost read_apart_refl: { (x : Self) → read_apart x x };
+
+    ghost read_apart_trans: { (x y z : Self) → read_apart x y → read_apart y z → read_apart x z };
 }

@@ -14,8 +14,8 @@ pub struct Stopped {
 
 /// Writes the whole piece, in as many writes as the sink needs. It takes no memory.
 ///
-/// `Ok`: the whole piece was taken. `Stopped`: a write failed, so the sink's count of faults has risen,
-/// and exactly the first `sent` bytes of the piece were taken.
+/// `Ok`: the whole piece was taken and no write failed. `Stopped`: a write failed, so the sink's count of
+/// faults has risen, and exactly the first `sent` bytes of the piece were taken.
 pub fn write_whole<K: Sink>(sink: &mut K, piece: &[u8]) -> Result<(), Stopped>
     ensures whole { OnOk result (Appends (K.taken sink.old) (K.taken sink.new) piece.now) }
     ensures part { IfErr result (λ stopped. (stopped.sent < length piece.now)

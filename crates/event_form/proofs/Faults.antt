@@ -2,6 +2,7 @@
 use Rattle.std.proofs.Common.{◌≡◌, ℕ, ◌+◌, ◌<◌, ◌≤◌, true, false, List, length, get_or, take, drop, refl, sym, ◌∙◌, ap, subst, arith, length-append}
 use Rattle.std.proofs.lemmas.Bool.{both_ways, lt-ltb, le-ltb}
 use Rattle.std.proofs.lemmas.List.{get_or_past}
+use Rattle.event_form.specs.declared.limits.TheConstants.{HEAD_BYTES, MOST_TEXT}
 use Rattle.event_form.specs.declared.event.Origin.{Origin}
 use Rattle.event_form.specs.declared.event.Origin.TheVariants.{Relp, LumberData, LumberJson, HecEvent, HecRaw}
 use Rattle.event_form.specs.declared.event.Entry.{Entry}
@@ -45,32 +46,32 @@ pub bad_empty : (b : List ℕ) → length b ≡ 0 → IsBadAt b 0
 bad_empty b h = bad_origin b (ap is_origin (get_or_past b 0 0 (omega arith)))
 
 -- from here on the first byte is that of an origin
-pub bad_head : (o : Origin) (b : List ℕ) → get_or b 0 0 ≡ origin_code o → length b < 29 → IsBadAt b (length b)
+pub bad_head : (o : Origin) (b : List ℕ) → get_or b 0 0 ≡ origin_code o → length b < HEAD_BYTES → IsBadAt b (length b)
 unfolding bad_place
 bad_head o b is cut = record {
   none = λ e rest h. absurd (omega (arith, begins_length e b rest h));
-  place = rw (ap is_origin is ∙ code_is_origin o, lt-ltb (length b) 29 cut) refl;
+  place = rw (ap is_origin is ∙ code_is_origin o, lt-ltb (length b) HEAD_BYTES cut) refl;
 }
 
-pub bad_length : (o : Origin) (b : List ℕ) → get_or b 0 0 ≡ origin_code o → 29 ≤ length b → 131072 < told_length b → IsBadAt b 25
+pub bad_length : (o : Origin) (b : List ℕ) → get_or b 0 0 ≡ origin_code o → HEAD_BYTES ≤ length b → MOST_TEXT < told_length b → IsBadAt b 25
 unfolding bad_place
 bad_length o b is there long = record {
   none = λ e rest h. absurd (omega (arith, begins_told e b rest h, h.limits.event.short));
-  place = rw (ap is_origin is ∙ code_is_origin o, le-ltb (length b) 29 there, lt-ltb 131072 (told_length b) long) refl;
+  place = rw (ap is_origin is ∙ code_is_origin o, le-ltb (length b) HEAD_BYTES there, lt-ltb MOST_TEXT (told_length b) long) refl;
 }
 
-pub bad_text : (o : Origin) (b : List ℕ) → get_or b 0 0 ≡ origin_code o → 29 ≤ length b → told_length b ≤ 131072 → length b < 29 + told_length b → IsBadAt b (length b)
+pub bad_text : (o : Origin) (b : List ℕ) → get_or b 0 0 ≡ origin_code o → HEAD_BYTES ≤ length b → told_length b ≤ MOST_TEXT → length b < HEAD_BYTES + told_length b → IsBadAt b (length b)
 unfolding bad_place
 bad_text o b is there short cut = record {
   none = λ e rest h. absurd (omega (arith, begins_told e b rest h, begins_length e b rest h));
-  place = rw (ap is_origin is ∙ code_is_origin o, le-ltb (length b) 29 there, le-ltb 131072 (told_length b) short, lt-ltb (length b) (29 + told_length b) cut) refl;
+  place = rw (ap is_origin is ∙ code_is_origin o, le-ltb (length b) HEAD_BYTES there, le-ltb MOST_TEXT (told_length b) short, lt-ltb (length b) (HEAD_BYTES + told_length b) cut) refl;
 }
 
-pub bad_pairs : (o : Origin) (b : List ℕ) → get_or b 0 0 ≡ origin_code o → 29 ≤ length b → told_length b ≤ 131072 → 29 + told_length b ≤ length b → ((o ≡ LumberData → ArePairs (take (told_length b) (drop 29 b))) → ⊥) → IsBadAt b 29
+pub bad_pairs : (o : Origin) (b : List ℕ) → get_or b 0 0 ≡ origin_code o → HEAD_BYTES ≤ length b → told_length b ≤ MOST_TEXT → HEAD_BYTES + told_length b ≤ length b → ((o ≡ LumberData → ArePairs (take (told_length b) (drop 29 b))) → ⊥) → IsBadAt b HEAD_BYTES
 unfolding bad_place
 bad_pairs o b is there short whole not_pairs = record {
   none = λ e rest h. not_pairs (λ lumber.
       let same = same_origin o e.event.origin (sym is ∙ begins_origin e b rest h) in
       subst ArePairs (sym (begins_text e b rest h)) (h.limits.event.pairs (sym same ∙ lumber)));
-  place = rw (ap is_origin is ∙ code_is_origin o, le-ltb (length b) 29 there, le-ltb 131072 (told_length b) short, le-ltb (length b) (29 + told_length b) whole) refl;
+  place = rw (ap is_origin is ∙ code_is_origin o, le-ltb (length b) HEAD_BYTES there, le-ltb MOST_TEXT (told_length b) short, le-ltb (length b) (HEAD_BYTES + told_length b) whole) refl;
 }

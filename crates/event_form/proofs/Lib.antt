@@ -4,3 +4,4 @@ pub mod Unique
 pub mod Strings
 pub mod Faults
 pub mod Found
+pub mod Heads

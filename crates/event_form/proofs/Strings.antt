@@ -3,6 +3,7 @@ use Rattle.std.proofs.Common.{◌≡◌, ℕ, ◌+◌, ◌^◌, ◌<◌, ◌≤�
 use Rattle.std.specs.Prelude.{Option, Some, None, IfNone}
 use Rattle.std.specs.Int.{w32, to_be_bytes}
 use Rattle.std.proofs.lemmas.List.{take_at, drop_at, nil_from_length}
+use Rattle.event_form.specs.declared.limits.TheConstants.{MOST_PAIRS}
 use Rattle.event_form.specs.Event.{pair_text, pairs_text, ArePairs}
 use Rattle.event_form.specs.Pairs.{BeginsString, BeginsPair, AreUpTo}
 use Rattle.event_form.proofs.Numbers.{same_four}
@@ -90,13 +91,13 @@ up_to_stuck n b short some none k = go k.pairs k.whole
     go [] whole = some whole
     go (q ∷ ps) whole = none q (pairs_text ps) (pair_from_text q b (pairs_text ps) short whole)
 
-pub pairs_up_to : (b : List ℕ) → ArePairs b → AreUpTo 1024 b
+pub pairs_up_to : (b : List ℕ) → ArePairs b → AreUpTo MOST_PAIRS b
 pairs_up_to b h = record { pairs = h.pairs; few = h.few; whole = h.whole }
 
-pub up_to_pairs : (b : List ℕ) → AreUpTo 1024 b → ArePairs b
+pub up_to_pairs : (b : List ℕ) → AreUpTo MOST_PAIRS b → ArePairs b
 up_to_pairs b h = record { pairs = h.pairs; few = h.few; whole = h.whole }
 
--- what follows from what a clause says at `None`
-pub IfNone_then : {X : Type 0} {P Q : Type 0} (r : Option X) → IfNone r P → (P → Q) → IfNone r Q
-IfNone_then None h f = f h
-IfNone_then (Some x) h f = tt
+-- what holds anyway holds at `None`
+pub IfNone_always : {X : Type 0} {P : Type 0} (r : Option X) → P → IfNone r P
+IfNone_always None h = h
+IfNone_always (Some x) h = tt

@@ -2,6 +2,7 @@
 use Rattle.std.specs.Prelude.{ℕ, ◌+◌, ◌<◌, ◌^◌, List, ◌∷◌, ◌++◌, length}
 use Rattle.std.specs.Int.{to_be_bytes}
 use mir.Syntax.{w32, w64}
+use Rattle.event_form.specs.declared.limits.TheConstants.{HEAD_BYTES}
 use Rattle.event_form.specs.declared.event.Origin.{Origin}
 use Rattle.event_form.specs.declared.event.Origin.TheVariants.{Relp, LumberData, LumberJson, HecEvent, HecRaw}
 use Rattle.event_form.specs.declared.event.Entry.{Entry}
@@ -32,4 +33,4 @@ entry_text e = head_text e ++ e.event.text
 
 -- how many bytes that is
 abbrev pub size_of : Entry → ℕ
-size_of e = 29 + length e.event.text
+size_of e = HEAD_BYTES + length e.event.text

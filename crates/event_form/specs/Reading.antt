@@ -1,7 +1,8 @@
 -- Bytes that begin with an entry's text, and bytes that don't.
-use Rattle.std.specs.Prelude.{◌≡◌, ℕ, ◌+◌, List, ◌++◌, length, take, drop, slice_index, Bool, ◌&&◌, not, nat_lt, if◌then◌else◌, Result, Ok, Err}
+use Rattle.std.specs.Prelude.{◌≡◌, ℕ, ◌+◌, ◌≤◌, List, ◌++◌, length, take, drop, slice_index, Bool, IsTrue, ◌&&◌, not, nat_lt, if◌then◌else◌, Result, Ok, Err}
 use Rattle.std.specs.Int.{from_be_bytes}
 use mir.Syntax.{w32}
+use Rattle.event_form.specs.declared.limits.TheConstants.{HEAD_BYTES, MOST_TEXT}
 use Rattle.event_form.specs.declared.event.Entry.{Entry}
 use Rattle.event_form.specs.declared.reading.Took.{Took}
 use Rattle.event_form.specs.declared.reading.EntryFault.{EntryFault}
@@ -25,15 +26,26 @@ is_origin byte = nat_lt 0 byte && nat_lt byte 6
 abbrev pub told_length : List ℕ → ℕ
 told_length bytes = from_be_bytes w32 (take 4 (drop 25 bytes))
 
+-- a head of so many bytes begins with an origin and tells an allowed length, and the entry has this size whose text begins with it
+pub record HasLength (head : List ℕ) (size : ℕ) : Type 0 where
+  pub origin : IsTrue (is_origin (slice_index head 0))
+  pub short : told_length head ≤ MOST_TEXT
+  pub told : size ≡ HEAD_BYTES + told_length head
+  pub only : (e : Entry) (bytes rest : List ℕ) → take HEAD_BYTES bytes ≡ head → Begins e bytes rest → size ≡ size_of e
+
+-- no entry's text begins with the head
+abbrev pub BeginsNone : List ℕ → Type 0
+BeginsNone head = (bytes : List ℕ) → take HEAD_BYTES bytes ≡ head → BeginsNoEntry bytes
+
 -- Of bytes with which no entry begins: the place of the first rule that they break, each rule as soon as its bytes are there.
 -- The last case is a text that is there whole: its pairs are at fault.
 unfoldable pub bad_place : List ℕ → ℕ
 bad_place bytes =
     if not (is_origin (slice_index bytes 0)) then 0
-    else if nat_lt (length bytes) 29 then length bytes
-    else if nat_lt 131072 (told_length bytes) then 25
-    else if nat_lt (length bytes) (29 + told_length bytes) then length bytes
-    else 29
+    else if nat_lt (length bytes) HEAD_BYTES then length bytes
+    else if nat_lt MOST_TEXT (told_length bytes) then 25
+    else if nat_lt (length bytes) (HEAD_BYTES + told_length bytes) then length bytes
+    else HEAD_BYTES
 
 -- no entry begins the bytes, and this is the place of their fault
 pub record IsBadAt (bytes : List ℕ) (at : ℕ) : Type 0 where

@@ -1,12 +1,6 @@
 //! An event, and an entry of the spool.
 use crate::Blob;
 
-/// How many bytes an event's text may have.
-pub(crate) const MOST_TEXT: usize = 131_072;
-
-/// How many bytes stand before the event's text in an entry's text.
-pub(crate) const HEAD_BYTES: usize = 29;
-
 /// By which protocol, and in which of its forms, an event came.
 #[derive(Clone, Copy, PartialEq, Eq, Debug)]
 pub enum Origin {
@@ -22,8 +16,8 @@ pub enum Origin {
     HecRaw,
 }
 
-/// An event. Its text has at most 131,072 bytes; that of a `LumberData` event is at most 1,024 whole
-/// pairs.
+/// An event. Its text has at most `MOST_TEXT` bytes; that of a `LumberData` event is at most
+/// `MOST_PAIRS` whole pairs.
 #[derive(Drop, Debug)]
 pub struct Event {
     pub origin: Origin,

@@ -7,6 +7,7 @@ mod blob;
 mod event;
 mod feed_fault;
 mod law;
+mod limits;
 mod pairs;
 mod peek;
 mod reading;
@@ -17,10 +18,9 @@ pub use blob::Blob;
 pub use event::{Entry, Event, Origin};
 pub use feed_fault::FeedFault;
 pub use law::one_reading;
-pub use peek::peek_entry;
+pub use limits::{HEAD_BYTES, MOST_PAIRS, MOST_TEXT};
+pub use pairs::first_pair;
+pub use peek::{entry_length, peek_entry};
 pub use reading::{EntryFault, Took, read_entry};
 pub use talk::{Attended, Talk, Why};
 pub use writing::{entry_head, entry_size, write_entry};
-
-#[cfg(test)]
-mod tests;

@@ -1,14 +1,13 @@
-//! Whether a text is whole pairs.
+//! The pairs of a text.
 ghost use Rattle.std.specs.Prelude.{◌≡◌, ℕ, List, ◌≤◌, ◌↔◌, length, IsTrue, IfSome, IfNone};
 ghost use Rattle.event_form.specs.Event.{ArePairs};
 ghost use Rattle.event_form.specs.Pairs.{BeginsString, BeginsPair};
 
-/// How many pairs a text may have.
-const MOST_PAIRS: usize = 1_024;
+use crate::{MOST_PAIRS, MOST_TEXT};
 
-/// What is behind the key or value that the bytes begin with.
-fn after_string(bytes: &[u8]) -> Option<&[u8]>
-    ensures some { IfSome result (λ rest. (string : List ℕ) × BeginsString string bytes.now rest.now) }
+/// The key or value that the bytes begin with, and the bytes after it.
+fn first_string(bytes: &[u8]) -> Option<(&[u8], &[u8])>
+    ensures some { IfSome result (λ parts. BeginsString parts.0.now bytes.now parts.1.now) }
     ensures none { IfNone result ((string rest : List ℕ) → BeginsString string bytes.now rest → ⊥) }
 {
     if bytes.len() < 4 {
@@ -19,22 +18,25 @@ fn after_string(bytes: &[u8]) -> Option<&[u8]>
     if rest.len() < length {
         return None;
     }
-    let (_, behind) = rest.split_at(length);
-    Some(behind)
+    let (string, behind) = rest.split_at(length);
+    Some((string, behind))
 }
 
-/// What is behind the pair that the bytes begin with.
-fn after_pair(bytes: &[u8]) -> Option<&[u8]>
-    ensures some { IfSome result (λ rest. (pair : List ℕ × List ℕ) × BeginsPair pair bytes.now rest.now) }
+/// The pair that the bytes begin with: its key, its value, and the bytes after it. Nothing where no
+/// pair begins them. It takes no memory.
+pub fn first_pair(bytes: &[u8]) -> Option<(&[u8], &[u8], &[u8])>
+    ensures some { IfSome result (λ parts. BeginsPair (parts.0.now, parts.1.now) bytes.now parts.2.now) }
     ensures none { IfNone result ((pair : List ℕ × List ℕ) (rest : List ℕ) → BeginsPair pair bytes.now rest → ⊥) }
 {
-    let middle = after_string(bytes)?;
-    after_string(middle)
+    let (key, middle) = first_string(bytes)?;
+    let (value, rest) = first_string(middle)?;
+    Some((key, value, rest))
 }
 
-/// Whether the bytes, no longer than an event's text may be, are at most 1,024 whole pairs.
+/// Whether the bytes, no longer than an event's text may be, are whole pairs, and no more than a text
+/// may have.
 pub(crate) fn are_pairs(text: &[u8]) -> bool
-    requires { length text.now ≤ 131072 }
+    requires { length text.now ≤ MOST_TEXT }
     ensures { IsTrue result ↔ ArePairs text.now }
 {
     let mut rest = text;
@@ -42,8 +44,8 @@ pub(crate) fn are_pairs(text: &[u8]) -> bool
         if rest.is_empty() {
             return true;
         }
-        match after_pair(rest) {
-            Some(behind) => rest = behind,
+        match first_pair(rest) {
+            Some((_, _, behind)) => rest = behind,
             None => return false,
         }
     }

@@ -3,12 +3,11 @@ ghost use Rattle.std.specs.Prelude.{◌≡◌, ℕ, List, ◌+◌, ◌≤◌, �
 ghost use Rattle.std.specs.Int.{w32, w64, from_be_bytes};
 ghost use Rattle.event_form.specs.Event.{ArePairs};
 ghost use Rattle.event_form.specs.Entry.{origin_code, IsEntry, entry_text, size_of};
-ghost use Rattle.event_form.specs.Reading.{Begins, is_origin, IsBadAt, IsFault, IsRead};
+ghost use Rattle.event_form.specs.Reading.{Begins, is_origin, told_length, IsBadAt, IsFault, IsRead};
 ghost use Rattle.event_form.specs.Head.{Tells, entry_of};
 
-use crate::event::{HEAD_BYTES, MOST_TEXT};
 use crate::pairs::are_pairs;
-use crate::{Blob, Entry, Event, Origin};
+use crate::{Blob, Entry, Event, HEAD_BYTES, MOST_TEXT, Origin};
 use std::alloc::{AllocError, Global};
 
 /// An entry that was read, and how many bytes it took.
@@ -23,8 +22,8 @@ pub struct Took {
 pub enum EntryFault {
     /// No entry's text begins the bytes. The first rule that they break, in this order and each as soon
     /// as its bytes are there, gives the place: 0 where the first byte is no origin; 25 where the length
-    /// is above 131,072; 29 where the text of a `LumberData` entry is there and isn't at most 1,024 whole
-    /// pairs; else the bytes end too early, and it is their length.
+    /// is above `MOST_TEXT`; 29 where the text of a `LumberData` entry is there and isn't at most
+    /// `MOST_PAIRS` whole pairs; else the bytes end too early, and it is their length.
     BadEntry { at: usize },
     /// No memory was found. An entry's text does begin the bytes.
     NoMemory,
@@ -52,7 +51,7 @@ pub(crate) struct Head {
 }
 
 /// The origin for which a byte stands.
-fn origin_of(byte: u8) -> Option<Origin>
+pub(crate) fn origin_of(byte: u8) -> Option<Origin>
     ensures some { IfSome result (λ origin. byte ≡ origin_code origin) }
     ensures none { IfNone result (is_origin byte ≡ false) }
 {
@@ -76,6 +75,16 @@ fn u64_at(bytes: &[u8], at: usize) -> u64
     u64::from_be_bytes(field)
 }
 
+/// The length that a head tells of its text.
+pub(crate) fn text_length(head: &[u8]) -> usize
+    requires { HEAD_BYTES ≤ length head.now }
+    ensures { result ≡ told_length head.now }
+{
+    let mut field = [0; 4];
+    field.copy_from_slice(&head[25..29]);
+    u32::from_be_bytes(field) as usize
+}
+
 /// The head that the bytes begin with, its text no longer than an event's may be; else the place of the
 /// fault.
 fn read_head(bytes: &[u8]) -> Result<Head, usize>
@@ -91,9 +100,7 @@ fn read_head(bytes: &[u8]) -> Result<Head, usize>
     if bytes.len() < HEAD_BYTES {
         return Err(bytes.len());
     }
-    let mut field = [0; 4];
-    field.copy_from_slice(&bytes[25..29]);
-    let length = u32::from_be_bytes(field) as usize;
+    let length = text_length(bytes);
     if length > MOST_TEXT {
         return Err(25);
     }
@@ -108,7 +115,7 @@ fn read_head(bytes: &[u8]) -> Result<Head, usize>
 
 /// Whether a text, no longer than an event's may be, is one for an event of that origin.
 fn may_have(origin: Origin, text: &[u8]) -> bool
-    requires { length text.now ≤ 131072 }
+    requires { length text.now ≤ MOST_TEXT }
     ensures { IsTrue result ↔ (origin ≡ Origin.LumberData → ArePairs text.now) }
 {
     origin != Origin::LumberData || are_pairs(text)

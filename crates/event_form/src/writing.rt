@@ -3,8 +3,7 @@ ghost use Rattle.std.specs.Prelude.{◌≡◌, ◌++◌, IfOk, OnOk, OnErr};
 ghost use Rattle.event_form.specs.Event.{IsEvent};
 ghost use Rattle.event_form.specs.Entry.{origin_code, head_text, entry_text, size_of};
 
-use crate::event::HEAD_BYTES;
-use crate::{Blob, Entry, Event, Origin};
+use crate::{Blob, Entry, Event, HEAD_BYTES, Origin};
 use std::alloc::{AllocError, Global};
 
 /// The byte that stands for an origin.
@@ -29,11 +28,11 @@ pub fn entry_size(entry: &Entry) -> u64
 
 /// The first 29 bytes of the entry's text: all but the event's text. The event keeps its limits. It
 /// takes no memory.
-pub fn entry_head(entry: &Entry) -> [u8; 29]
+pub fn entry_head(entry: &Entry) -> [u8; HEAD_BYTES]
     requires { IsEvent entry.now.event }
     ensures { result ≡ head_text entry.now }
 {
-    let mut head = [0; 29];
+    let mut head = [0; HEAD_BYTES];
     head[0] = code_of(entry.event.origin);
     head[1..9].copy_from_slice(&entry.conn.to_be_bytes());
     head[9..17].copy_from_slice(&entry.index.to_be_bytes());

@@ -7,7 +7,7 @@ use Rattle.event_form.proofs.Strings.{pair_from_text}
 use Rattle.event_map.specs.Strings.{string_of}
 use Rattle.event_map.specs.Objects.{member_of, pairs_object}
 use Rattle.event_map.specs.Maps.{OfPairs}
-use Rattle.event_map.proofs.OneList.{same_pair, length_behind, no_pairs}
+use Rattle.event_map.proofs.OneList.{same_pair, length_behind, shorter}
 
 -- the members of the pairs that are left, and the closing brace
 abbrev pub left : List (List ℕ × List ℕ) → List ℕ
@@ -24,17 +24,13 @@ pub record Comes (text rest written : List ℕ) : Type 0 where
 pub comes : (text : List ℕ) → length text ≤ 131072 → ArePairs text → Comes text text (codes "{")
 comes text short h = record { short = short; all = h; pairs = h.pairs; whole = h.whole; object = refl }
 
--- a pair is next
-pub next : (text rest object : List ℕ) → 0 < length rest → Comes text rest object → (pair : List ℕ × List ℕ) × (behind : List ℕ) × BeginsPair pair rest behind
-next text rest object some h = go h.pairs h.whole
+-- none is left where no pair begins the rest
+pub closed : (text rest object : List ℕ) → ((pair : List ℕ × List ℕ) (behind : List ℕ) → BeginsPair pair rest behind → ⊥) → Comes text rest object → OfPairs pairs_object text (object ++ codes "}")
+closed text rest object none h = go h.pairs h.whole h.object
   where
-    go : (ps : List (List ℕ × List ℕ)) → rest ≡ pairs_text ps → (pair : List ℕ × List ℕ) × (behind : List ℕ) × BeginsPair pair rest behind
-    go [] whole = absurd (omega (arith, ap length whole))
-    go (p ∷ ps) whole = (p, pairs_text ps, pair_from_text p rest (pairs_text ps) (omega (arith, h.short)) whole)
-
--- none is
-pub closed : (text rest object : List ℕ) → length rest ≡ 0 → Comes text rest object → OfPairs pairs_object text (object ++ codes "}")
-closed text rest object none h = (h.all, subst (λ (ps : List (List ℕ × List ℕ)). object ++ left ps ≡ pairs_object h.all.pairs) (no_pairs h.pairs (sym (ap length h.whole) ∙ none)) h.object)
+    go : (ps : List (List ℕ × List ℕ)) → rest ≡ pairs_text ps → object ++ left ps ≡ pairs_object h.all.pairs → OfPairs pairs_object text (object ++ codes "}")
+    go [] whole is = (h.all, is)
+    go (p ∷ ps) whole is = absurd (none p (pairs_text ps) (pair_from_text p rest (pairs_text ps) (omega (arith, h.short)) whole))
 
 -- the object behind a member: the same object, and a comma if a pair is left
 pub record Wrote (pair : List ℕ × List ℕ) (object new behind : List ℕ) : Type 0 where
@@ -47,11 +43,11 @@ behind_last o m e = append_assoc o m e
 behind_more : (o m j e : List ℕ) → ((o ++ m) ++ 44 ∷ []) ++ (j ++ e) ≡ o ++ ((m ++ 44 ∷ j) ++ e)
 behind_more o m j e = simp append_assoc
 
-pub comes_on : (text rest object new behind : List ℕ) (pair : List ℕ × List ℕ) → 0 < length rest → BeginsPair pair rest behind → Wrote pair object new behind → Comes text rest object → Comes text behind new
-comes_on text rest object new behind pair some begins wrote h = go h.pairs h.whole h.object
+pub comes_on : (text rest object new behind : List ℕ) (pair : List ℕ × List ℕ) → BeginsPair pair rest behind → Wrote pair object new behind → Comes text rest object → Comes text behind new
+comes_on text rest object new behind pair begins wrote h = go h.pairs h.whole h.object
   where
     go : (ps : List (List ℕ × List ℕ)) → rest ≡ pairs_text ps → object ++ left ps ≡ pairs_object h.all.pairs → Comes text behind new
-    go [] whole is = absurd (omega (arith, ap length whole))
+    go [] whole is = absurd (omega (arith, ap length whole, shorter pair rest behind begins))
     go (p ∷ ps) whole is =
         let here = pair_from_text p rest (pairs_text ps) (omega (arith, h.short)) whole in
         let same = same_pair p pair rest (pairs_text ps) behind here begins in

@@ -13,6 +13,3 @@ mod pairs;
 mod strings;
 
 pub use maps::{as_hec_object, as_json_object, as_text};
-
-#[cfg(test)]
-mod tests;

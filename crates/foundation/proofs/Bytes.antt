@@ -1,8 +1,8 @@
 -- Parts of lists of bytes that a write leaves alone.
-use Rattle.std.proofs.Common.{◌≡◌, ◌⊎◌, inl, inr, ℕ, suc, ◌+◌, ◌-◌, ◌<◌, ◌≤◌, List, ◌∷◌, length, get_or, refl, sym, ◌∙◌, ap, arith}
+use Rattle.std.proofs.Common.{◌≡◌, ◌⊎◌, inl, inr, ℕ, suc, ◌+◌, ◌-◌, ◌<◌, ◌≤◌, List, ◌∷◌, length, take, get_or, refl, sym, ◌∙◌, ap, arith}
 use Rattle.std.proofs.lemmas.Bool.{cases_lt}
 use Rattle.std.proofs.lemmas.Grind.{common_steps}
-use Rattle.std.proofs.lemmas.List.{ext_get_or, places}
+use Rattle.std.proofs.lemmas.List.{ext_get_or, get_or-take, places}
 use Rattle.foundation.specs.Bytes.{part, put, SameBut}
 
 pub same_but_refl : (at n : ℕ) (b : List ℕ) → SameBut at n b b
@@ -80,3 +80,31 @@ put_same at n piece b h le = record {
   below = λ i lt. put_below at piece b i (omega arith) lt;
   above = λ i ge. put_above at piece b i (omega arith) (omega arith);
 }
+
+length-front : (at n k : ℕ) (b : List ℕ) → k ≤ n → at + n ≤ length b → length (take k (part at n b)) ≡ k
+length-front at n k b le h = grind (arith, common_steps)
+
+get_or-front : (at n k : ℕ) (b : List ℕ) (i : ℕ) → k ≤ n → i < k → get_or (take k (part at n b)) i 0 ≡ get_or b (at + i) 0
+get_or-front at n k b i le lt = get_or-take k (part at n b) i 0 lt ∙ get_or-part at n b i (at + i) (omega arith) refl
+
+-- the front of a part that a change doesn't meet
+pub take-part : (at n k : ℕ) (b c : List ℕ) → k ≤ n → at + n ≤ length b → length c ≡ length b → ((i : ℕ) → i < at + k → get_or c i 0 ≡ get_or b i 0) → take k (part at n c) ≡ take k (part at n b)
+take-part at n k b c le room same h =
+    let lc = length-front at n k c le (omega arith) in
+    let lb = length-front at n k b le room in
+    ext_get_or 0 _ _ (lc ∙ sym lb) (λ i lt. get_or-front at n k c i le (omega arith) ∙ h (at + i) (omega arith) ∙ sym (get_or-front at n k b i le (omega arith)))
+
+-- a part in which a piece was put
+pub part-put_within : (at n k : ℕ) (piece b : List ℕ) → at + n ≤ length b → k + length piece ≤ n → part at n (put (at + k) piece b) ≡ put k piece (part at n b)
+part-put_within at n k piece b room le =
+    let l1 = length-put (at + k) piece b (omega arith) in
+    let l2 = length-part at n (put (at + k) piece b) (omega arith) in
+    let l3 = length-part at n b room in
+    let l4 = length-put k piece (part at n b) (omega arith) in
+    ext_get_or 0 _ _ (l2 ∙ sym l3 ∙ sym l4) (λ i lt. get_or-part at n (put (at + k) piece b) i (at + i) (omega arith) refl ∙ elim (cases_lt i k) [
+      | inl below ↦ put_below (at + k) piece b (at + i) (omega arith) (omega arith) ∙ sym (get_or-part at n b i (at + i) (omega arith) refl) ∙ sym (put_below k piece (part at n b) i (omega arith) below)
+      | inr ge ↦ elim (cases_lt i (k + length piece)) [
+        | inl within ↦ put_at (at + k) piece b (i - k) (at + i) (omega arith) (omega arith) (omega arith) ∙ sym (put_at k piece (part at n b) (i - k) i (omega arith) (omega arith) (omega arith))
+        | inr past ↦ put_above (at + k) piece b (at + i) (omega arith) (omega arith) ∙ sym (get_or-part at n b i (at + i) (omega arith) refl) ∙ sym (put_above k piece (part at n b) i (omega arith) past)
+      ]
+    ])

@@ -88,6 +88,3 @@ pub fn members(alloc: Global, bytes: &[u8], object: Span) -> Result<Vec<Member>,
     }
     Ok(members)
 }
-
-#[cfg(test)]
-mod tests;

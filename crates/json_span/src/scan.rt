@@ -99,6 +99,3 @@ pub fn first_value(bytes: &[u8], at: usize) -> Result<Span, JsonFault>
         None => Err(JsonFault::Cut),
     }
 }
-
-#[cfg(test)]
-mod tests;

@@ -9,8 +9,10 @@ use Rattle.spool_state.specs.SpoolState.{OpenSlot, SpoolState, first_of, base, e
 use Rattle.spool_state.proofs.Texts.{end_active}
 use Rattle.spool_state.proofs.Segments.{empty_length}
 use Rattle.spool_slots.specs.declared.slot.Slot.{Slot}
-use Rattle.spool_log.specs.declared.known.Known.{Known}
-use Rattle.spool_log.specs.Knows.{KnowsSlot, KnowsSlots, first_known, Knows}
+use Rattle.spool_log.specs.declared.memory.Memory.{Memory}
+use Rattle.spool_log.specs.Knows.{KnowsSlot, KnowsSlots, Knows}
+use Rattle.spool_log.specs.Device.{first_in}
+use Rattle.spool_log.specs.Memory.{base_of}
 
 -- what has a proof, and can have none
 pub no_proof : {A : Type 0} → ∥ A ∥₁ → (A → ⊥) → ⊥
@@ -19,14 +21,14 @@ no_proof {A} some none = ∥∥₁_elim some (λ p q. absurd p) none
 pub end_known : (s : SpoolState) (slot : Slot) → IsSound s → KnowsSlot s.size s.active slot → slot.first + slot.count ≡ end s
 end_known s slot sound knows = omega (arith, end_active s sound.consecutive, knows.first_is, knows.count_is)
 
-first_of-known : (size : ℕ) (slots : List OpenSlot) (known : List Slot) (first : ℕ) → KnowsSlots size slots known → first_known known first ≡ first_of slots first
+first_of-known : (size : ℕ) (slots : List OpenSlot) (known : List Slot) (first : ℕ) → KnowsSlots size slots known → first_in known first ≡ first_of slots first
 first_of-known size [] [] first h = refl
 first_of-known size [] (k ∷ known) first h = absurd h
 first_of-known size (slot ∷ slots) [] first h = absurd h
 first_of-known size (slot ∷ slots) (k ∷ known) first h = h.0.first_is
 
-pub base_known : (s : SpoolState) (known : Known) → Knows s known → first_known known.older.items known.active.first ≡ base s
-base_known s known knows = first_of-known s.size s.older known.older.items known.active.first knows.older ∙ ap (first_of s.older) knows.active.first_is
+pub base_known : (s : SpoolState) (memory : Memory) → Knows s memory → base_of memory ≡ base s
+base_known s memory knows = first_of-known s.size s.older memory.older.items memory.active.first knows.older ∙ ap (first_of s.older) knows.active.first_is
 
 pub room_known : (s : SpoolState) (slot : Slot) → KnowsSlot s.size s.active slot → slot.size - slot.gate - 1 ≡ room s
 room_known s slot knows = omega (arith, knows.size_is, knows.gate_is)

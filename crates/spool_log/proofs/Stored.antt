@@ -10,7 +10,7 @@ use Rattle.edge_disk.proofs.Moments.{started, started_settled, weaker}
 use Rattle.disk_cell.specs.Cell.{place_of, other_of}
 use Rattle.disk_cell.specs.Register as Cells
 use Rattle.disk_cell.specs.declared.register.Register.{Register}
-use Rattle.spool_log.specs.declared.known.Known.{Known}
+use Rattle.spool_log.specs.declared.memory.Memory.{Memory}
 use Rattle.spool_log.specs.Knows.{Knows, IsStored}
 use Rattle.spool_log.specs.State.{KnowsDevice, view, IsIn, LeavesStages}
 use Rattle.spool_log.specs.Stages.{last_of, StandsForOne, IsMidway, AllFollow}
@@ -32,7 +32,7 @@ register_known r c some =
     }
 
 -- Outside doubt, the state is what the device stands for.
-pub stored_of : (s : SpoolState) (known : Known) (d : Bool) (m : Moment) → IsIn s [] (view known d m) → IsLawful m → KnowsDevice known m.reads → IsStored s known m.reads
+pub stored_of : (s : SpoolState) (known : Memory) (d : Bool) (m : Moment) → IsIn s [] (view known d m) → IsLawful m → KnowsDevice known m.reads → IsStored s known m.reads
 stored_of s known d m held lawful some = record {
   stands = held.each m.reads lawful.reads_image;
   knows = held.knows;
@@ -43,7 +43,7 @@ pub none_follow : (s : SpoolState) → AllFollow s []
 none_follow s = λ k d lt. absurd (omega arith)
 
 -- What the settled device stands for, and memory knows, is the state.
-pub in_stored : (s : SpoolState) (known : Known) (m : Moment) → IsSettled m → IsStored s known m.reads → IsIn s [] (view known false m)
+pub in_stored : (s : SpoolState) (known : Memory) (m : Moment) → IsSettled m → IsStored s known m.reads → IsIn s [] (view known false m)
 in_stored s known m settled stored = record {
   sound = stored.stands.sound;
   knows = stored.knows;
@@ -53,7 +53,7 @@ in_stored s known m settled stored = record {
 }
 
 -- after a change that failed on the way
-pub in_doubt : (s : SpoolState) (stages : List SpoolState) (known new_known : Known) (m new : Moment) → IsStored s known m.reads → new_known ≡ known → LeavesOnly (StandsForOne s stages) m new → AllFollow s stages → 0 < length stages → IsIn s stages (view new_known true new)
+pub in_doubt : (s : SpoolState) (stages : List SpoolState) (known new_known : Memory) (m new : Moment) → IsStored s known m.reads → new_known ≡ known → LeavesOnly (StandsForOne s stages) m new → AllFollow s stages → 0 < length stages → IsIn s stages (view new_known true new)
 in_doubt s stages known new_known m new stored same run follow some = record {
   sound = stored.stands.sound;
   knows = subst (Knows s) (sym same) stored.knows;

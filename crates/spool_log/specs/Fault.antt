@@ -1,4 +1,6 @@
 -- Faults of reading the device again, as answers of other calls.
+use Rattle.disk_cell.specs.declared.fault.LoadFault.{LoadFault}
+use Rattle.disk_cell.specs.declared.fault.LoadFault.TheVariants as Load
 use Rattle.disk_cell.specs.declared.fault.SetFault.{SetFault}
 use Rattle.disk_cell.specs.declared.fault.SetFault.TheVariants as Set
 use Rattle.spool_slots.specs.declared.fault.ScanFault.{ScanFault}
@@ -9,21 +11,14 @@ use Rattle.spool_log.specs.declared.fault.ConfirmFault.{ConfirmFault}
 use Rattle.spool_log.specs.declared.fault.ConfirmFault.TheVariants as Confirm
 use Rattle.spool_log.specs.declared.fault.RecoverFault.{RecoverFault}
 use Rattle.spool_log.specs.declared.fault.RecoverFault.TheVariants as Recover
-use Rattle.spool_log.specs.declared.read_fault.ReadFault.{ReadFault}
-use Rattle.spool_log.specs.declared.read_fault.ReadFault.TheVariants as Read
 use Rattle.spool_log.specs.declared.fault.PendFault.{PendFault}
 use Rattle.spool_log.specs.declared.fault.PendFault.TheVariants.{NotSpool, DiskFault, NoMemory}
 
--- the same fault of mending, and of an opening
-abbrev pub as_pend : ReadFault → PendFault
-as_pend (Read.NotSpool at) = NotSpool at
-as_pend Read.DiskFault = DiskFault
-as_pend Read.NoMemory = NoMemory
-
-abbrev pub as_recover : ReadFault → RecoverFault
-as_recover (Read.NotSpool at) = Recover.NotSpool at
-as_recover Read.DiskFault = Recover.DiskFault
-as_recover Read.NoMemory = Recover.NoMemory
+-- the same fault of an opening
+abbrev pub as_recover : PendFault → RecoverFault
+as_recover (NotSpool at) = Recover.NotSpool at
+as_recover DiskFault = Recover.DiskFault
+as_recover NoMemory = Recover.NoMemory
 
 -- the same fault of a `take`
 abbrev pub as_take : PendFault → TakeFault
@@ -43,7 +38,13 @@ of_set (Set.Worn ordinal) = Recover.Worn ordinal
 of_set Set.DiskFault = Recover.DiskFault
 
 -- the same fault of a slot
-abbrev pub of_part : ScanFault → PendFault
-of_part (Scan.NotSpool at) = NotSpool at
-of_part Scan.DiskFault = DiskFault
-of_part Scan.NoMemory = NoMemory
+abbrev pub of_scan : ScanFault → PendFault
+of_scan (Scan.NotSpool at) = NotSpool at
+of_scan Scan.DiskFault = DiskFault
+of_scan Scan.NoMemory = NoMemory
+
+-- the same fault of a register that is read
+abbrev pub of_load : LoadFault → PendFault
+of_load (Load.NotSpool at) = NotSpool at
+of_load Load.DiskFault = DiskFault
+of_load Load.NoMemory = NoMemory

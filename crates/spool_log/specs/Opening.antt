@@ -1,5 +1,6 @@
 -- A device opened.
-use Rattle.std.specs.Prelude.{◌≡◌, ◌⊎◌, ℕ, ◌+◌, ◌^◌, ◌<◌, List, [], ◌∷◌}
+use Rattle.std.specs.Prelude.{◌≡◌, ◌⊎◌, ℕ, ◌+◌, ◌<◌, List, [], ◌∷◌}
+use Rattle.spool_state.specs.Layout.{most_run, most_number}
 use Rattle.spool_state.specs.SpoolState.{SpoolState, Follows}
 use Rattle.spool_state.specs.Change.{registered}
 use Rattle.spool_state.specs.Image.{StandsFor}
@@ -13,24 +14,24 @@ use Rattle.spool_log.specs.Stages.{last_of, StandsForOne}
 use Rattle.spool_log.specs.State.{View, IsIn}
 
 -- the stage by which the run is raised
-abbrev pub raising : Opening → SpoolState → List SpoolState
-raising Keep s = []
-raising Raise s = registered s (s.run + 1) s.cursor ∷ []
+abbrev pub raise_stages : Opening → SpoolState → List SpoolState
+raise_stages Keep s = []
+raise_stages Raise s = registered s (s.run + 1) s.cursor s.known ∷ []
 
 -- the state after it
 abbrev pub opened : Opening → SpoolState → SpoolState
-opened opening s = last_of s (raising opening s)
+opened opening s = last_of s (raise_stages opening s)
 
 -- a run and an ordinal are left where one is needed
 abbrev pub CanOpen : Opening → SpoolState → Type 0
 CanOpen Keep s = Unit {0}
-CanOpen Raise s = (s.run < 2097151) × (s.ordinal < 2 ^ 63)
+CanOpen Raise s = (s.run < most_run) × (s.ordinal < most_number)
 
 -- Of a device that stands for this state the opening is refused so.
 abbrev pub Refuses : Opening → SpoolState → RecoverFault → Type 0
 Refuses opening s (NotSpool at) = ⊥
-Refuses opening s (RunsSpent run) = (opening ≡ Raise) × (run ≡ s.run) × (s.run ≡ 2097151)
-Refuses opening s (Worn ordinal) = (opening ≡ Raise) × (s.run < 2097151) × (ordinal ≡ s.ordinal) × (s.ordinal ≡ 2 ^ 63)
+Refuses opening s (RunsSpent run) = (opening ≡ Raise) × (run ≡ s.run) × (s.run ≡ most_run)
+Refuses opening s (Worn ordinal) = (opening ≡ Raise) × (s.run < most_run) × (ordinal ≡ s.ordinal) × (s.ordinal ≡ most_number)
 Refuses opening s DiskFault = Unit {0}
 Refuses opening s NoMemory = Unit {0}
 
@@ -48,7 +49,7 @@ IsRefusedAs opening c NoMemory = Unit {0}
 -- run raised or not: the register's other cell is written.
 abbrev pub IsOpening : Opening → Moment → List ℕ → Type 0
 IsOpening Keep m c = m.image c
-IsOpening Raise m c = m.image c ⊎ ((s : SpoolState) × StandsFor s m.reads × StandsForOne s (raising Raise s) c)
+IsOpening Raise m c = m.image c ⊎ ((s : SpoolState) × StandsFor s m.reads × StandsForOne s (raise_stages Raise s) c)
 
 -- What it leaves where the opening is refused so: what it could leave before, unless a call of the disk failed.
 abbrev pub IsRefusing : Opening → RecoverFault → Moment → List ℕ → Type 0

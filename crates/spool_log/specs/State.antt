@@ -2,28 +2,28 @@
 use Rattle.std.specs.Prelude.{◌↔◌, ◌⊎◌, ℕ, ◌<◌, Bool, IsTrue, List, [], length, Result, MatchResult}
 use Rattle.spool_state.specs.SpoolState.{SpoolState, IsSound}
 use Rattle.edge_disk.specs.Disk.{Moment, LeavesOnly}
-use Rattle.spool_log.specs.declared.known.Known.{Known}
+use Rattle.spool_log.specs.declared.memory.Memory.{Memory}
 use Rattle.spool_log.specs.Knows.{Knows, IsStored}
 use Rattle.spool_log.specs.Stages.{last_of, StandsForOne, IsMidway, AllFollow}
 
 -- memory knows what the device stands for
-abbrev pub KnowsDevice : Known → List ℕ → Type 0
-KnowsDevice known c = ∥ ((s : SpoolState) × IsStored s known c) ∥₁
+abbrev pub KnowsDevice : Memory → List ℕ → Type 0
+KnowsDevice memory c = ∥ ((s : SpoolState) × IsStored s memory c) ∥₁
 
--- A spool at a moment: what memory knows of it, whether it is in doubt, and its disk.
+-- A spool at a moment: what memory keeps of it, whether it is in doubt, and its disk.
 pub record View : Type 1 where
-  pub known : Known
+  pub memory : Memory
   pub in_doubt : Bool
   pub moment : Moment
 
-abbrev pub view : Known → Bool → Moment → View
-view known in_doubt moment = record { known = known; in_doubt = in_doubt; moment = moment }
+abbrev pub view : Memory → Bool → Moment → View
+view memory in_doubt moment = record { memory = memory; in_doubt = in_doubt; moment = moment }
 
 -- The spool is in this state, and in this doubt: memory knows the state, and what a crash leaves stands for it
 -- or for a stage of the doubt. It says that it is in doubt exactly where the doubt isn't empty.
 pub record IsIn (s : SpoolState) (doubt : List SpoolState) (v : View) : Type 0 where
   pub sound : IsSound s
-  pub knows : Knows s v.known
+  pub knows : Knows s v.memory
   pub each : (c : List ℕ) → v.moment.image c → StandsForOne s doubt c
   pub follow : AllFollow s doubt
   pub doubtful : IsTrue v.in_doubt ↔ (0 < length doubt)

@@ -1,9 +1,8 @@
 //! What the calls of a spool answer.
 ghost use Rattle.std.specs.Prelude.{◌≡◌};
-ghost use Rattle.spool_log.specs.Fault.{as_pend, as_take, as_confirm, as_recover, of_set, of_part};
+ghost use Rattle.spool_log.specs.Fault.{as_take, as_confirm, as_recover, of_set, of_scan, of_load};
 
-use crate::ReadFault;
-use disk_cell::SetFault;
+use disk_cell::{LoadFault, SetFault};
 use edge_disk::DiskFault;
 use spool_slots::ScanFault;
 use std::alloc::AllocError;
@@ -55,7 +54,7 @@ pub enum PendFault {
     NoMemory,
 }
 
-/// Why the cursor was not moved.
+/// Why numbers were not made known as confirmed.
 #[derive(Clone, Copy, Debug, PartialEq, Eq, Error)]
 pub enum ConfirmFault {
     /// The register was written as often as it can be. `ordinal` is its ordinal, 2^63.
@@ -64,7 +63,7 @@ pub enum ConfirmFault {
     /// The device read as no spool. `at` is the offset of the first byte, field, slot or group at fault.
     #[error("the device is no spool at {at}")]
     NotSpool { at: u64 },
-    /// A call of the disk failed. Whether the cursor was moved is found out by the next call.
+    /// A call of the disk failed. Whether the numbers are known is found out by the next call.
     #[error("the disk failed")]
     DiskFault,
     /// No memory was found to read the device again.
@@ -116,26 +115,14 @@ impl From<PendFault> for ConfirmFault {
     }
 }
 
-impl From<ReadFault> for PendFault {
-    ghost from_gives = { λ fault pending. pending ≡ as_pend fault };
-
-    fn from(fault: ReadFault) -> PendFault {
-        match fault {
-            ReadFault::NotSpool { at } => PendFault::NotSpool { at },
-            ReadFault::DiskFault => PendFault::DiskFault,
-            ReadFault::NoMemory => PendFault::NoMemory,
-        }
-    }
-}
-
-impl From<ReadFault> for RecoverFault {
+impl From<PendFault> for RecoverFault {
     ghost from_gives = { λ fault recovered. recovered ≡ as_recover fault };
 
-    fn from(fault: ReadFault) -> RecoverFault {
+    fn from(fault: PendFault) -> RecoverFault {
         match fault {
-            ReadFault::NotSpool { at } => RecoverFault::NotSpool { at },
-            ReadFault::DiskFault => RecoverFault::DiskFault,
-            ReadFault::NoMemory => RecoverFault::NoMemory,
+            PendFault::NotSpool { at } => RecoverFault::NotSpool { at },
+            PendFault::DiskFault => RecoverFault::DiskFault,
+            PendFault::NoMemory => RecoverFault::NoMemory,
         }
     }
 }
@@ -182,7 +169,7 @@ impl From<SetFault> for RecoverFault {
 }
 
 impl From<ScanFault> for PendFault {
-    ghost from_gives = { λ fault pending. pending ≡ of_part fault };
+    ghost from_gives = { λ fault pending. pending ≡ of_scan fault };
 
     fn from(fault: ScanFault) -> PendFault {
         match fault {
@@ -200,5 +187,17 @@ impl From<AllocError> for PendFault {
 
     fn from(_: AllocError) -> PendFault {
         PendFault::NoMemory
+    }
+}
+
+impl From<LoadFault> for PendFault {
+    ghost from_gives = { λ fault pending. pending ≡ of_load fault };
+
+    fn from(fault: LoadFault) -> PendFault {
+        match fault {
+            LoadFault::NotSpool { at } => PendFault::NotSpool { at },
+            LoadFault::DiskFault => PendFault::DiskFault,
+            LoadFault::NoMemory => PendFault::NoMemory,
+        }
     }
 }

@@ -1,4 +1,6 @@
-//! How a device is opened.
+//! How a device is opened, and read again where the spool is in doubt.
+mod mend;
+pub(crate) mod recover;
 
 /// How a device is opened.
 #[derive(Clone, Copy, Debug, PartialEq, Eq)]

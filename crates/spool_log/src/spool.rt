@@ -1,65 +1,91 @@
 //! The spool.
-ghost use Rattle.std.specs.Prelude.{◌≡◌, ◌+◌, false, length};
+ghost use Rattle.std.specs.Prelude.{◌≡◌, ◌≤◌, false, length};
+ghost use Rattle.spool_state.specs.Layout.{most_number};
 ghost use Rattle.spool_state.specs.Image.{slot_at};
 ghost use Rattle.edge_disk.specs.Disk.{IsSettled};
-ghost use Rattle.spool_log.specs.Knows.{first_known};
+ghost use Rattle.spool_log.specs.Memory.{run_of, cursor_of, known_of, base_of, end_of, room_of};
 ghost use Rattle.spool_log.specs.State.{KnowsDevice};
 
-use crate::Known;
+use crate::Memory;
 use edge_disk::Disk;
+use known_numbers::{KnownNumbers, Stretch};
+use spool_slots::Window;
 use std::alloc::Global;
 
-/// A spool on a disk. Memory keeps its numbers, and no entry.
+/// A spool on a disk. Memory keeps its numbers, and no entry. All that it may need is reserved when it is
+/// opened, but for the entries that `pending` gives and for what is read again in doubt.
 ///
-/// It is in doubt after a call of the disk failed in a `take` or a `confirm`: what was to be changed may
+/// It is in doubt after a call of the disk failed in a `take` or a `mark`: what was to be changed may
 /// stand on the device or not. The next call that changes or reads entries mends it first: it reads the
 /// device again, and finds the state as it was or a later stage of the change.
 #[derive(Drop)]
 pub struct Spool<D: Disk> {
     pub disk: D,
-    /// What memory knows of the spool. In doubt it is as before the call that failed.
-    pub known: Known,
+    /// What memory keeps of the spool. In doubt it is as before the call that failed.
+    pub memory: Memory,
     /// Whether the spool is in doubt.
     pub doubt: bool,
+    /// By this groups are written.
     pub(crate) buffer: Vec<u8>,
+    /// By this slots are read.
+    pub(crate) window: Window,
+    /// In this known numbers are joined.
+    pub(crate) numbers: KnownNumbers,
     pub(crate) alloc: Global,
-    pub ghost long: { (D.moment disk).size ≡ slot_at known.size known.slots },
+    pub ghost long: { (D.moment disk).size ≡ slot_at memory.size memory.slots },
     pub ghost whole: { length buffer.items ≡ 65536 },
     pub ghost settled: { doubt ≡ false → D.tells → IsSettled (D.moment disk) },
-    pub ghost stored: { doubt ≡ false → D.tells → KnowsDevice known (D.moment disk).reads },
+    pub ghost stored: { doubt ≡ false → D.tells → KnowsDevice memory (D.moment disk).reads },
 }
 
 impl<D: Disk> Spool<D> {
     /// The number of the first entry, or the end where there is none. In doubt it is as before the call that
     /// failed.
     pub fn base(&self) -> u64
-        ensures { result ≡ first_known self.now.known.older.items self.now.known.active.first }
+        ensures { result ≡ base_of self.now.memory }
     {
-        match self.known.older.as_slice() {
+        match self.memory.older.as_slice() {
             [first, ..] => first.first,
-            [] => self.known.active.first,
+            [] => self.memory.active.first,
         }
     }
 
-    /// The number behind the last entry. In doubt it is as before the call that failed.
+    /// The number after that of the last entry, at most 2^63. In doubt it is as before the call that failed.
     pub fn end(&self) -> u64
-        ensures { result ≡ self.now.known.active.first + self.now.known.active.count }
+        ensures end { result ≡ end_of self.now.memory }
+        ensures most { result ≤ most_number }
     {
-        self.known.active.first + self.known.active.count
+        self.memory.active.first + self.memory.active.count
     }
 
-    /// The number up to which entries are confirmed. In doubt it is as before the call that failed.
+    /// The number below which all are known as confirmed. In doubt it is as before the call that failed.
     pub fn cursor(&self) -> u64
-        ensures { result ≡ self.now.known.register.content.cursor }
+        ensures { result ≡ cursor_of self.now.memory }
     {
-        self.known.register.value().cursor
+        self.memory.register.value().cursor
+    }
+
+    /// The stretches of numbers above the cursor that are known as confirmed, at most 240, in order. In doubt
+    /// they are as before the call that failed.
+    pub fn known(&self) -> &[Stretch]
+        ensures { result.now ≡ known_of self.now.memory }
+    {
+        &self.memory.register.value().known
+    }
+
+    /// How many bytes a group may need in the slot to which groups are added. In doubt it is as before the call
+    /// that failed.
+    pub fn room(&self) -> u64
+        ensures { result ≡ room_of self.now.memory }
+    {
+        self.memory.active.room()
     }
 
     /// How often the spool was opened for storing.
     pub fn run(&self) -> u32
-        ensures { result ≡ self.now.known.register.content.run }
+        ensures { result ≡ run_of self.now.memory }
     {
-        self.known.register.value().run
+        self.memory.register.value().run
     }
 
     /// Whether the spool is in doubt.

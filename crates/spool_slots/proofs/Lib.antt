@@ -1,4 +1,3 @@
-pub mod Parts
 pub mod Steps
 pub mod Pens
 pub mod Windows
@@ -6,4 +5,5 @@ pub mod Peeks
 pub mod Walks
 pub mod Found
 pub mod Scans
+pub mod Faults
 pub mod Marks

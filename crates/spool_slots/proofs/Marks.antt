@@ -1,5 +1,5 @@
 -- The marks of a segment, and the bytes that stand at them.
-use Rattle.std.proofs.Common.{◌≡◌, inl, inr, ℕ, ◌+◌, ◌-◌, ◌<◌, ◌≤◌, List, [], ◌∷◌, ◌++◌, length, take, drop, get_or, refl, sym, ◌∙◌, ap, subst, arith, append_assoc, length-append}
+use Rattle.std.proofs.Common.{◌≡◌, inl, inr, ℕ, ◌+◌, ◌-◌, ◌^◌, ◌<◌, ◌≤◌, List, [], ◌∷◌, ◌++◌, length, take, drop, get_or, refl, sym, ◌∙◌, ap, subst, arith, append_assoc, length-append}
 use Rattle.std.specs.List.{All}
 use Rattle.std.proofs.lemmas.List.{append-nil, drop_at, drop-drop, get_or_at, get_or-drop, length-drop, take_min, take_more}
 use Rattle.std.proofs.lemmas.List.Concat.{flat_map-append}
@@ -17,14 +17,12 @@ use Rattle.spool_state.proofs.Once.{entries_at}
 use Rattle.spool_state.proofs.Segments.{empty_length, groups_join}
 use Rattle.spool_state.proofs.Texts.{length-group_text, length-segment_text-with_group, entries_of-with_group}
 use Rattle.spool_slots.specs.declared.mark.Mark.{Mark}
-use Rattle.std.specs.Prelude.{min, Result, Ok, Err}
-use Rattle.std.specs.Result.{IsErrAnd}
-use Rattle.spool_slots.specs.declared.fault.ScanFault.{ScanFault}
-use Rattle.spool_slots.specs.declared.fault.ScanFault.TheVariants.{NotSpool, DiskFault, NoMemory}
-use Rattle.spool_slots.specs.Mark.{IsAtGate, IsInGroup, IsMark, IsNext, IsNextOf, IsReading, with_groups}
-use Rattle.spool_slots.specs.declared.part.Part.{Part}
-use Rattle.spool_slots.specs.Part.{IsPartOf}
-use Rattle.spool_slots.proofs.Walks.{drop-part}
+use Rattle.std.specs.Prelude.{min}
+use Rattle.spool_slots.specs.Mark.{IsAtGate, IsInGroup, IsMark, IsNext, IsGroupAt, with_groups}
+use Rattle.spool_slots.specs.declared.group.GroupHead.{GroupHead}
+use Rattle.spool_slots.specs.Groups.{HasHead}
+use Rattle.spool_slots.proofs.Found.{head_size, head_count}
+use Rattle.spool_slots.proofs.Windows.{drop-part}
 
 -- the first number's mark
 pub mark_start : (segment : Segment) (first : ℕ) → first ≡ segment.first → IsMark segment (record { number = first; at = 17; rest = 0 })
@@ -160,7 +158,7 @@ count_split segment mark here e more left_is =
 passed_more : (passed : List Entry) (e : Entry) → length (entries_text (passed ++ e ∷ [])) ≡ length (entries_text passed) + size_of e
 passed_more passed e = omega (arith, ap length (entries_join passed (e ∷ [])), length-append (entries_text passed) (entry_text e ++ []), ap length (append-nil (entry_text e)), length-entry_text e)
 
-goes_on : (segment : Segment) (mark next : Mark) (here : IsInGroup segment mark) (e : Entry) (more : List Entry) → here.left ≡ e ∷ more → next.number ≡ mark.number + 1 → next.at ≡ mark.at + size_of e → next.rest ≡ mark.rest - 1 → IsMark segment next
+pub goes_on : (segment : Segment) (mark next : Mark) (here : IsInGroup segment mark) (e : Entry) (more : List Entry) → here.left ≡ e ∷ more → next.number ≡ mark.number + 1 → next.at ≡ mark.at + size_of e → next.rest ≡ mark.rest - 1 → IsMark segment next
 goes_on segment mark next here e [] left_is number_is at_is rest_is =
     let group = here.passed ++ here.left in
     let front = with_groups segment here.before in
@@ -213,6 +211,36 @@ entered_is segment mark entered here g more is some number_is at_is rest_is = re
   counted = omega (arith, number_is, here.counted);
 }
 
+-- the head of a group at whose gate a mark stands
+pub group_is : (at size : ℕ) (segment : Segment) (c : List ℕ) (room : at + size ≤ length c) (holds : HoldsSegment at size segment c) (mark : Mark) (sound : All IsGroup segment.groups) (here : IsAtGate segment mark) → mark.number < segment.first + length (entries_of segment)
+    → (head : GroupHead) → mark.at < size → size < 2 ^ 32 → HasHead (part (at + mark.at) (size - mark.at) c) head → IsGroupAt segment mark head
+group_is at size segment c room holds mark sound here lt head inside small has =
+    let found = group_at at size segment c room holds mark sound here lt in
+    let short : length (part (at + mark.at) (size - mark.at) c) < 2 ^ 32 = omega (arith, length-part (at + mark.at) (size - mark.at) c (omega (arith, room, inside)), small) in
+    record {
+      here = here;
+      group = found.0;
+      after = found.1;
+      is = found.2;
+      some = found.3.sound.some;
+      size_is = head_size (part (at + mark.at) (size - mark.at) c) head short has found.0 found.3;
+      count_is = head_count (part (at + mark.at) (size - mark.at) c) head short has found.0 found.3;
+    }
+
+-- the mark after that group
+pub group_passed : (segment : Segment) (mark passed : Mark) (head : GroupHead) (found : IsGroupAt segment mark head) → passed.number ≡ mark.number + head.count → passed.at ≡ mark.at + 9 + head.size → passed.rest ≡ 0 → IsMark segment passed
+group_passed segment mark passed head found number_is at_is none =
+    let here = found.here in
+    let front = with_groups segment here.before in
+    inl (record {
+      before = here.before ++ found.group ∷ [];
+      behind = found.after;
+      whole = here.whole ∙ ap (λ (l : List (List Entry)). here.before ++ l) found.is ∙ sym (append_assoc here.before (found.group ∷ []) found.after);
+      none_left = none;
+      place = omega (arith, at_is, here.place, found.size_is, length-segment_text-with_group front found.group);
+      counted = omega (arith, number_is, here.counted, found.count_is, ap length (entries_of-with_group front found.group), length-append (entries_of front) found.group);
+    })
+
 -- a mark with entries left stands in a group
 pub in_group : (segment : Segment) (mark : Mark) → 0 < mark.rest → IsMark segment mark → IsInGroup segment mark
 in_group segment mark some (inl here) = absurd (omega (arith, some, here.none_left))
@@ -222,16 +250,6 @@ in_group segment mark some (inr here) = here
 pub at_gate : (segment : Segment) (mark : Mark) → mark.rest ≡ 0 → IsMark segment mark → IsAtGate segment mark
 at_gate segment mark none (inl here) = here
 at_gate segment mark none (inr here) = absurd (omega (arith, none, here.rest_is, here.some))
-
--- a fault of a reading is handed on
-fault_handed : (segment : Segment) (mark : Mark) (e : Entry) (f : ScanFault) → IsReading e (Err f) → IsNextOf segment mark (Err f)
-fault_handed segment mark e (NotSpool place) h = absurd h
-fault_handed segment mark e DiskFault h = tt
-fault_handed segment mark e NoMemory h = tt
-
-pub next_fault : (segment : Segment) (mark : Mark) (e : Entry) (r : Result (Entry × Mark) ScanFault) (f : ScanFault) → IsErrAnd r (λ x. x ≡ f) → IsReading e (Err f) → IsNextOf segment mark r
-next_fault segment mark e (Ok next) f is h = absurd is
-next_fault segment mark e (Err x) f is h = subst (λ (y : ScanFault). IsNextOf segment mark (Err y)) (sym is) (fault_handed segment mark e f h)
 
 -- the same entry by another mark of its number
 pub next_as : (segment : Segment) (entered mark next : Mark) (d e : Entry) → entered.number ≡ mark.number → d ≡ e → IsNext segment entered e next → IsNext segment mark d next
@@ -265,12 +283,3 @@ read_all segment number most left wanted read from left_is wanted_is is =
     let rest = drop (number - segment.first) (entries_of segment) in
     let long : left ≡ length rest = omega (arith, left_is, from, length-drop (number - segment.first) (entries_of segment)) in
     is ∙ ap (λ (n : ℕ). take n rest) (wanted_is ∙ ap (min most) long) ∙ take_min most rest
-
-part_handed : (segment : Segment) (mark here : Mark) (most : ℕ) (f : ScanFault) → IsNextOf segment here (Err f) → IsPartOf segment mark most (Err f)
-part_handed segment mark here most (NotSpool place) h = absurd h
-part_handed segment mark here most DiskFault h = tt
-part_handed segment mark here most NoMemory h = tt
-
-pub part_fault : (segment : Segment) (mark here : Mark) (most : ℕ) (r : Result Part ScanFault) (f : ScanFault) → IsErrAnd r (λ x. x ≡ f) → IsNextOf segment here (Err f) → IsPartOf segment mark most r
-part_fault segment mark here most (Ok part) f is h = absurd is
-part_fault segment mark here most (Err x) f is h = subst (λ (y : ScanFault). IsPartOf segment mark most (Err y)) (sym is) (part_handed segment mark here most f h)

@@ -16,29 +16,27 @@ use Rattle.spool_state.proofs.Once.{one_segment}
 use Rattle.spool_slots.specs.declared.slot.Slot.{Slot}
 use Rattle.spool_slots.specs.Slot.{Knows}
 use Rattle.spool_slots.specs.Scan.{IsScanned, KnowsSome}
-use Rattle.spool_slots.proofs.Walks.{drop-part}
-use Rattle.spool_slots.proofs.Found.{part_split, first_byte}
+use Rattle.spool_slots.proofs.Found.{first_byte}
+use Rattle.spool_slots.proofs.Windows.{drop-part, part_split}
 
 -- the gate, the ordinal and the first number, as they were read
-head_read : (ordinal first : ℕ) (head : List ℕ) → length head ≡ 17 → get_or head 0 0 ≡ 1 → to_be_bytes w64 ordinal ≡ take 8 (drop 1 head) → to_be_bytes w64 first ≡ take 8 (drop 9 head) → head ≡ head_text ordinal first
+pub head_read : (ordinal first : ℕ) (head : List ℕ) → length head ≡ 17 → get_or head 0 0 ≡ 1 → to_be_bytes w64 ordinal ≡ take 8 (drop 1 head) → to_be_bytes w64 first ≡ take 8 (drop 9 head) → head ≡ head_text ordinal first
 unfolding head_text
 head_read ordinal first head long opens o f =
     first_byte head 1 (omega arith) opens
     ∙ ap (λ (l : List ℕ). 1 ∷ l) (sym (take-append-drop 8 (drop 1 head)) ∙ ap (λ (l : List ℕ). l ++ drop 8 (drop 1 head)) (sym o)
     ∙ ap (λ (l : List ℕ). to_be_bytes w64 ordinal ++ l) (drop-drop 8 1 head ∙ sym (take_all 8 (drop 9 head) (omega (arith, length-drop 9 head))) ∙ sym f))
 
-pub scan_start : (at size ordinal first : ℕ) (head c : List ℕ) → at + size ≤ length c → 17 ≤ size → head ≡ part at 17 c → get_or head 0 0 ≡ 1 → to_be_bytes w64 ordinal ≡ take 8 (drop 1 head) → to_be_bytes w64 first ≡ take 8 (drop 9 head) → IsScanned at size ordinal first 17 0 c
-scan_start at size ordinal first head c room large is opens o f =
-    let long : length head ≡ 17 = ap length is ∙ length-part at 17 c (omega arith) in
-    record {
-      before = empty_segment ordinal first;
-      sound = All-nil IsGroup;
-      ordinal_is = refl;
-      first_is = refl;
-      text = part_split at 17 size (at + 17) (size - 17) c refl (omega arith) ∙ ap (λ (l : List ℕ). l ++ part (at + 17) (size - 17) c) (sym is ∙ head_read ordinal first head long opens o f ∙ sym (empty_text ordinal first));
-      gate_is = sym (empty_length ordinal first);
-      count_is = refl;
-    }
+pub scan_start : (at size ordinal first : ℕ) (c : List ℕ) → 17 ≤ size → part at 17 c ≡ head_text ordinal first → IsScanned at size ordinal first 17 0 c
+scan_start at size ordinal first c large is = record {
+  before = empty_segment ordinal first;
+  sound = All-nil IsGroup;
+  ordinal_is = refl;
+  first_is = refl;
+  text = part_split at 17 size (at + 17) (size - 17) c refl (omega arith) ∙ ap (λ (l : List ℕ). l ++ part (at + 17) (size - 17) c) (is ∙ sym (empty_text ordinal first));
+  gate_is = sym (empty_length ordinal first);
+  count_is = refl;
+}
 
 pub scan_more : (at size ordinal first gate count next more : ℕ) (group : List Entry) (c : List ℕ) → at + size ≤ length c → gate < size → IsScanned at size ordinal first gate count c → BeginsGroup group (part (at + gate) (size - gate) c)
     → next ≡ gate + (9 + length (entries_text group)) → more ≡ length group → IsScanned at size ordinal first next (count + more) c

@@ -1,9 +1,9 @@
 -- What each step of a gate in a slot does to the segment in it.
-use Rattle.std.proofs.Common.{◌≡◌, ◌≢◌, inl, inr, ℕ, suc, ◌+◌, ◌-◌, ◌<◌, ◌≤◌, List, [], ◌∷◌, ◌++◌, length, take, drop, get_or, refl, sym, ◌∙◌, ap, subst, arith, append_assoc, length-append, take-append-drop}
+use Rattle.std.proofs.Common.{◌≡◌, ◌≢◌, inl, inr, ℕ, suc, ◌+◌, ◌-◌, ◌<◌, ◌≤◌, List, [], ◌∷◌, ◌++◌, length, take, drop, get_or, refl, sym, ◌∙◌, ap, subst, arith, add-zero, zero-add, append_assoc, length-append, take-append-drop}
 use Rattle.std.proofs.lemmas.List.{take_at, get_or-drop, get_or_at, append-nil}
 use Rattle.std.proofs.lemmas.Grind.{common_steps}
 use Rattle.foundation.specs.Bytes.{part, put, SameBut}
-use Rattle.foundation.proofs.Bytes.{same_but_wider, get_or-part, length-part, put_at}
+use Rattle.foundation.proofs.Bytes.{same_but_wider, get_or-part, length-part, put_at, length-put, part-put_within}
 use Rattle.edge_disk.specs.Disk.{Moment, IsLawful, LeavesOnly}
 use Rattle.edge_disk.specs.Gate.{IsGateStep, ComesFrom}
 use Rattle.edge_disk.proofs.Moments.{weaker}
@@ -12,44 +12,12 @@ use Rattle.event_form.specs.declared.event.Entry.{Entry}
 use Rattle.spool_state.specs.Segment.{Segment, empty_segment, with_group, group_text, head_text, need_of, segment_text}
 use Rattle.spool_state.specs.Image.{HoldsSegment}
 use Rattle.spool_state.proofs.Segments.{holds_closed, holds_open}
+use Rattle.spool_state.proofs.Steps.{still_holds, holds_more}
 use Rattle.spool_state.proofs.Texts.{length-head_text, length-group_text, length-need, segment_text-with_group}
 use Rattle.spool_slots.specs.Slot.{Knows, IsClosedOrHolds, HoldsOldOrNew}
 use Rattle.spool_slots.specs.declared.slot.Slot.{Slot}
-use Rattle.spool_slots.proofs.Parts.{take-part, part-put, part-put_front}
 
--- ---- a group behind a segment
-
--- what is behind the closed gate doesn't count
-pub closed_step : (at size gate : ℕ) (segment : Segment) (old c : List ℕ) → at + size ≤ length old → gate < size → gate ≡ length (segment_text segment) → HoldsSegment at size segment old
-    → length c ≡ length old → ((i : ℕ) → i < at + gate → get_or c i 0 ≡ get_or old i 0) → get_or c (at + gate) 0 ≢ 1 → HoldsSegment at size segment c
-closed_step at size gate segment old c room lt is holds len same closed =
-    let front : take gate (part at size c) ≡ segment_text segment = take-part at size gate old c (omega arith) room len same ∙ ap (λ (l : List ℕ). take gate l) holds.text ∙ take_at (segment_text segment) holds.rest gate (sym is) in
-    let long = length-part at size c (omega arith) in
-    let first : get_or (drop gate (part at size c)) 0 0 ≡ get_or c (at + gate) 0 = get_or-drop gate (part at size c) 0 0 ∙ get_or-part at size c (gate + 0) (at + gate) (omega arith) (omega arith) in
-    record {
-      rest = drop gate (part at size c);
-      text = sym (take-append-drop gate (part at size c)) ∙ ap (λ (l : List ℕ). l ++ drop gate (part at size c)) front;
-      more = grind (arith, common_steps);
-      closed = λ one. closed (sym first ∙ one);
-    }
-
--- the group and its closed gate behind the open one
-pub group_put : (at size gate : ℕ) (segment : Segment) (group : List Entry) (old : List ℕ) → at + size ≤ length old → gate + length (group_text group) + 2 ≤ size → gate ≡ length (segment_text segment) → HoldsSegment at size segment old
-    → HoldsSegment at size (with_group segment group) (put (at + gate) (1 ∷ group_text group ++ 0 ∷ []) old)
-group_put at size gate segment group old room le is holds =
-    let body = group_text group in
-    let piece = 1 ∷ body ++ 0 ∷ [] in
-    let slot = part at size old in
-    let behind = drop (gate + length piece) slot in
-    let fits : gate + length piece ≤ size = omega (arith, length-append body (0 ∷ [])) in
-    let front : take gate slot ≡ segment_text segment = ap (λ (l : List ℕ). take gate l) holds.text ∙ take_at (segment_text segment) holds.rest gate (sym is) in
-    let joined : segment_text segment ++ piece ++ behind ≡ (segment_text segment ++ 1 ∷ body) ++ 0 ∷ behind = simp append_assoc in
-    record {
-      rest = 0 ∷ behind;
-      text = part-put at size gate piece old room fits ∙ ap (λ (l : List ℕ). l ++ piece ++ behind) front ∙ joined ∙ ap (λ (l : List ℕ). l ++ 0 ∷ behind) (sym (segment_text-with_group segment group));
-      more = omega arith;
-      closed = λ one. absurd (omega arith);
-    }
+-- ---- a group after a segment
 
 pub group_step : (at size gate : ℕ) (segment : Segment) (group : List Entry) (piece old c : List ℕ) → piece ≡ group_text group ++ 0 ∷ [] → at + size ≤ length old → gate + length piece + 1 ≤ size → gate ≡ length (segment_text segment) → HoldsSegment at size segment old
     → IsGateStep (at + gate) piece old c → HoldsOldOrNew at size segment group old c
@@ -58,8 +26,8 @@ group_step at size gate segment group piece old c is_piece room le is holds step
     record {
       outside = same_but_wider at size (at + gate) (length piece + 1) old c step.outside (omega arith) (omega arith);
       inside = elim step.inside [
-        | inl closed ↦ inl (closed_step at size gate segment old c room (omega arith) is holds step.outside.len step.outside.below closed)
-        | inr whole ↦ inr (subst (HoldsSegment at size (with_group segment group)) (sym (whole ∙ ap (λ (p : List ℕ). put (at + gate) (1 ∷ p) old) is_piece)) (group_put at size gate segment group old room (omega arith) is holds))
+        | inl closed ↦ inl (still_holds at size gate segment old c room (omega arith) is holds step.outside.len step.outside.below closed)
+        | inr whole ↦ inr (subst (HoldsSegment at size (with_group segment group)) (sym (whole ∙ ap (λ (p : List ℕ). put (at + gate) (1 ∷ p) old) is_piece)) (holds_more at size gate segment group old room (omega (arith, length-group_text group)) is holds))
       ];
     }
 
@@ -67,6 +35,13 @@ group_step at size gate segment group piece old c is_piece room le is holds step
 
 pub head_length : (ordinal first : ℕ) (piece : List ℕ) → 1 ∷ piece ≡ head_text ordinal first ++ 0 ∷ [] → length piece ≡ 17
 head_length ordinal first piece is = omega (arith, ap length is, length-append (head_text ordinal first) (0 ∷ []), length-head_text ordinal first)
+
+part-put_front : (at n : ℕ) (piece b : List ℕ) → at + n ≤ length b → length piece ≤ n → part at n (put at piece b) ≡ piece ++ drop (length piece) (part at n b)
+part-put_front at n piece b room le =
+    let l1 = length-put at piece b (omega arith) in
+    let l2 = length-part at n (put at piece b) (omega arith) in
+    let l3 = length-part at n b room in
+    subst (λ (k : ℕ). part at n (put k piece b) ≡ piece ++ drop (length piece) (part at n b)) (add-zero at) (part-put_within at n 0 piece b room (omega arith) ∙ ap (λ (k : ℕ). piece ++ drop k (part at n b)) (zero-add (length piece)))
 
 pub head_put : (at size ordinal first : ℕ) (piece old : List ℕ) → at + size ≤ length old → 18 < size → 1 ∷ piece ≡ head_text ordinal first ++ 0 ∷ [] → HoldsSegment at size (empty_segment ordinal first) (put at (1 ∷ piece) old)
 head_put at size ordinal first piece old room large is =
@@ -128,7 +103,7 @@ append_holds slot segment group old mid new room le knows is_mid is_new =
     let whole : new ≡ put gate (1 ∷ group_text group ++ 0 ∷ []) old =
     is_new ∙ ap (put gate (1 ∷ [])) is_mid ∙ open_whole gate (group_text group ++ 0 ∷ []) old (omega (arith, room, le, slot.inside, length-need group)) in
     subst (HoldsSegment slot.at slot.size (with_group segment group)) (sym whole)
-    (group_put slot.at slot.size slot.gate segment group old room (omega (arith, le, slot.inside, length-group_text group)) knows.gate knows.holds)
+    (holds_more slot.at slot.size slot.gate segment group old room (omega (arith, le, slot.inside, length-group_text group)) knows.gate knows.holds)
 
 -- ---- the closed gate behind the last group
 

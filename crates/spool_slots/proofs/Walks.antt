@@ -1,7 +1,7 @@
 -- Entries of a slot, walked one after another.
 use Rattle.std.proofs.Common.{◌≡◌, ℕ, ◌+◌, ◌-◌, ◌<◌, ◌≤◌, List, [], ◌∷◌, ◌++◌, length, take, drop, refl, sym, ◌∙◌, ap, arith, append_assoc, length-append, take-append-drop}
 use Rattle.std.specs.List.{All}
-use Rattle.std.proofs.lemmas.List.{append-nil, length-take-le, length-drop, drop-take, drop-drop, drop_at, nil_from_length}
+use Rattle.std.proofs.lemmas.List.{append-nil, length-take-le, length-drop, drop_at, nil_from_length}
 use Rattle.std.proofs.lemmas.List.Elements.{All-nil, All-push, All-take, All-drop}
 use Rattle.foundation.specs.Bytes.{part}
 use Rattle.event_form.specs.declared.event.Entry.{Entry}
@@ -12,12 +12,7 @@ use Rattle.event_form.proofs.Unique.{one_run}
 use Rattle.spool_state.specs.Segment.{entries_text}
 use Rattle.spool_state.proofs.Entries.{entries_join}
 use Rattle.spool_slots.specs.Groups.{AreEntries, BeginsEntries}
-
--- the rest of a part
-pub drop-part : (p n k : ℕ) (c : List ℕ) → n ≤ k → drop n (part p k c) ≡ part (p + n) (k - n) c
-drop-part p n k c le =
-    let split : k ≡ n + (k - n) = omega arith in
-    ap (λ (m : ℕ). drop n (take m (drop p c))) split ∙ drop-take n (k - n) (drop p c) ∙ ap (take (k - n)) (drop-drop n p c)
+use Rattle.spool_slots.proofs.Windows.{drop-part}
 
 pub walk_start : (bytes : List ℕ) → BeginsEntries 0 bytes bytes
 walk_start bytes = record { entries = []; sound = All-nil IsEntry; counted = refl; text = refl }

@@ -1,9 +1,14 @@
 -- What stands at a gate of a slot.
-use Rattle.std.specs.Prelude.{◌≡◌, ◌≢◌, ℕ, ◌+◌, ◌<◌, ◌≤◌, List, ◌++◌, length, slice_index, All}
+use Rattle.std.specs.Prelude.{◌≡◌, ◌≢◌, ℕ, ◌+◌, ◌^◌, ◌<◌, ◌≤◌, List, ◌++◌, length, slice_index, All}
+use Rattle.std.specs.Int.{to_be_bytes}
+use mir.Syntax.{w32}
+use Rattle.foundation.specs.Bytes.{part}
 use Rattle.event_form.specs.declared.event.Entry.{Entry}
-use Rattle.event_form.specs.Entry.{IsEntry}
+use Rattle.event_form.specs.Entry.{IsEntry, size_of}
+use Rattle.event_form.specs.Reading.{Begins}
 use Rattle.spool_state.specs.Segment.{entries_text}
 use Rattle.spool_state.specs.Broken.{BeginsGroup}
+use Rattle.spool_slots.specs.declared.group.GroupHead.{GroupHead}
 use Rattle.spool_slots.specs.declared.group.Step.{Step}
 use Rattle.spool_slots.specs.declared.group.Step.TheVariants.{End, Broken, Group}
 
@@ -21,14 +26,31 @@ pub record BeginsEntries (count : ℕ) (bytes rest : List ℕ) : Type 0 where
   pub counted : length entries ≡ count
   pub text : bytes ≡ entries_text entries ++ rest
 
--- What the slot's bytes are from a gate on: a gate that isn't open, an open one with no group behind it, or one with a group.
+-- an entry with which the bytes begin has this size
+abbrev pub HasSize : List ℕ → ℕ → Type 0
+HasSize bytes n = (e : Entry) (rest : List ℕ) → Begins e bytes rest → n ≡ size_of e
+
+-- no open gate with a group after it begins the bytes
+abbrev pub BeginsNoGroup : List ℕ → Type 0
+BeginsNoGroup bytes = (group : List Entry) → BeginsGroup group bytes → ⊥
+
+-- The bytes begin with an open gate and this head of a group, and have room for its entries and its closing gate.
+pub record HasHead (bytes : List ℕ) (head : GroupHead) : Type 0 where
+  pub opens : slice_index bytes 0 ≡ 1
+  pub size_is : to_be_bytes w32 head.size ≡ part 1 4 bytes
+  pub count_is : to_be_bytes w32 head.count ≡ part 5 4 bytes
+  pub some : 0 < head.count
+  pub fits : head.count < 2 ^ 32
+  pub room : 9 + head.size < length bytes
+
+-- What the slot's bytes are from a gate on: a gate that isn't open, an open one with no group after it, or one with a group.
 abbrev pub IsStep : List ℕ → Step → Type 0
 IsStep bytes End = slice_index bytes 0 ≢ 1
-IsStep bytes Broken = (slice_index bytes 0 ≡ 1) × ((group : List Entry) → BeginsGroup group bytes → ⊥)
-IsStep bytes (Group size count) = (group : List Entry) × BeginsGroup group bytes × (size ≡ length (entries_text group)) × (count ≡ length group)
+IsStep bytes Broken = (slice_index bytes 0 ≡ 1) × BeginsNoGroup bytes
+IsStep bytes (Group head) = (group : List Entry) × BeginsGroup group bytes × (head.size ≡ length (entries_text group)) × (head.count ≡ length group)
 
 -- a group ends in the slot
 abbrev pub IsInside : ℕ → ℕ → Step → Type 0
 IsInside size gate End = Unit {0}
 IsInside size gate Broken = Unit {0}
-IsInside size gate (Group len count) = (gate + 9 + len < size) × (count ≤ len)
+IsInside size gate (Group head) = (gate + 9 + head.size < size) × (head.count ≤ head.size)

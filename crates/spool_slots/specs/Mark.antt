@@ -1,12 +1,13 @@
 -- Where an entry of a segment begins in its slot.
-use Rattle.std.specs.Prelude.{◌≡◌, ◌⊎◌, ◌+◌, ◌<◌, List, ◌∷◌, ◌++◌, length, Result, Ok, Err}
+use Rattle.std.specs.Prelude.{◌≡◌, ◌⊎◌, ◌+◌, ◌<◌, List, ◌∷◌, ◌++◌, length, Result, MatchResult}
 use Rattle.event_form.specs.declared.event.Entry.{Entry}
 use Rattle.event_form.specs.declared.reading.Took.{Took}
 use Rattle.event_form.specs.Entry.{size_of}
 use Rattle.spool_state.specs.Segment.{Segment, entries_of, entries_text, segment_text}
 use Rattle.spool_slots.specs.declared.fault.ScanFault.{ScanFault}
-use Rattle.spool_slots.specs.declared.fault.ScanFault.TheVariants.{NotSpool, DiskFault, NoMemory}
+use Rattle.spool_slots.specs.declared.group.GroupHead.{GroupHead}
 use Rattle.spool_slots.specs.declared.mark.Mark.{Mark}
+use Rattle.spool_slots.specs.Fault.{IsNotBroken}
 
 -- the segment with these groups alone
 abbrev pub with_groups : Segment → List (List Entry) → Segment
@@ -45,23 +46,32 @@ pub record IsNext (segment : Segment) (mark : Mark) (entry : Entry) (next : Mark
   pub counted : mark.number ≡ segment.first + length before
   pub goes_on : IsMark segment next
 
--- From a mark of the segment the mark of its entry was found, behind the head of a group; or there was a fault or no memory.
+-- At the mark a group of the segment begins, and this is its head.
+pub record IsGroupAt (segment : Segment) (mark : Mark) (head : GroupHead) : Type 0 where
+  pub here : IsAtGate segment mark
+  pub group : List Entry
+  pub after : List (List Entry)
+  pub is : here.behind ≡ group ∷ after
+  pub some : 0 < length group
+  pub size_is : head.size ≡ length (entries_text group)
+  pub count_is : head.count ≡ length group
+
+-- The head of the mark's group was found; or there was a fault or no memory.
+abbrev pub FindsGroup : Segment → Mark → Result GroupHead ScanFault → Type 0
+FindsGroup segment mark result = MatchResult result (IsGroupAt segment mark) IsNotBroken
+
+-- From a mark of the segment the mark of its entry was found, after the head of a group; or there was a fault or no memory.
 abbrev pub IsEntered : Segment → Mark → Result Mark ScanFault → Type 0
-IsEntered segment mark (Ok entered) = IsInGroup segment entered × (entered.number ≡ mark.number)
-IsEntered segment mark (Err (NotSpool place)) = ⊥
-IsEntered segment mark (Err DiskFault) = Unit {0}
-IsEntered segment mark (Err NoMemory) = Unit {0}
+IsEntered segment mark result = MatchResult result (λ entered. IsInGroup segment entered × (entered.number ≡ mark.number)) IsNotBroken
 
 -- The entry was read; or there was a fault or no memory.
 abbrev pub IsReading : Entry → Result Took ScanFault → Type 0
-IsReading e (Ok took) = (took.entry ≡ e) × (took.used ≡ size_of e)
-IsReading e (Err (NotSpool place)) = ⊥
-IsReading e (Err DiskFault) = Unit {0}
-IsReading e (Err NoMemory) = Unit {0}
+IsReading e result = MatchResult result (λ took. (took.entry ≡ e) × (took.used ≡ size_of e)) IsNotBroken
 
 -- The next entry was read; or there was a fault or no memory.
 abbrev pub IsNextOf : Segment → Mark → Result (Entry × Mark) ScanFault → Type 0
-IsNextOf segment mark (Ok next) = IsNext segment mark next.0 next.1
-IsNextOf segment mark (Err (NotSpool place)) = ⊥
-IsNextOf segment mark (Err DiskFault) = Unit {0}
-IsNextOf segment mark (Err NoMemory) = Unit {0}
+IsNextOf segment mark result = MatchResult result (λ next. IsNext segment mark next.0 next.1) IsNotBroken
+
+-- Another mark of the segment was found; or there was a fault.
+abbrev pub IsPassed : Segment → Result Mark ScanFault → Type 0
+IsPassed segment result = MatchResult result (IsMark segment) IsNotBroken

@@ -1,10 +1,10 @@
 //! A group of entries added to a slot.
-ghost use Rattle.std.specs.Prelude.{◌≡◌, ◌≢◌, ℕ, ◌+◌, ◌-◌, ◌^◌, ◌<◌, ◌≤◌, List, [], ◌∷◌, ◌++◌, length, slice_index, All, OnOk, OnErr, IsErrOf, MatchResult};
+ghost use Rattle.std.specs.Prelude.{◌≡◌, ◌≢◌, ℕ, ◌+◌, ◌-◌, ◌^◌, ◌<◌, ◌≤◌, List, [], ◌∷◌, ◌++◌, length, slice_index, All, IsErr, OnOk, OnErr, IsErrOf, MatchResult};
 ghost use Rattle.std.specs.Int.{w32, to_be_bytes};
 ghost use Rattle.foundation.specs.Bytes.{put, SameBut};
-ghost use Rattle.foundation.specs.Faults.{Rose, HasCause};
 ghost use Rattle.event_form.specs.Entry.{IsEntry};
 ghost use Rattle.spool_state.specs.Segment.{Segment, entries_text, group_text, need_of, with_group};
+ghost use Rattle.edge_disk.specs.Calls.{Calls};
 ghost use Rattle.edge_disk.specs.Disk.{IsSettled, LeavesOnly};
 ghost use Rattle.edge_disk.specs.Gate.{ComesFrom};
 ghost use Rattle.spool_slots.specs.Fault.{CameOf};
@@ -16,19 +16,18 @@ use crate::{Slot, SlotFault};
 use edge_disk::{Disk, DiskFault, open_gate};
 use event_form::{Entry, entry_head, entry_size};
 
-/// How many bytes the entries' texts have.
-fn entries_size(entries: &[Entry]) -> u64
+/// How many bytes a group of these entries needs of a slot's room: the length of its entries (4), their
+/// count (4), the entries' texts and the closed gate after them (1). It takes no memory.
+pub fn group_need(entries: &[Entry]) -> u64
     requires few { length entries.now < 2 ^ 32 }
     requires limits { All IsEntry entries.now }
-    ensures size { result ≡ length (entries_text entries.now) }
-    ensures small { result < 2 ^ 50 }
-    ensures many { length entries.now ≤ result }
+    ensures { result ≡ need_of entries.now }
 {
-    let mut size = 0;
+    let mut need = 9;
     for entry in entries {
-        size += entry_size(entry);
+        need += entry_size(entry);
     }
-    size
+    need
 }
 
 /// Takes the entries' texts.
@@ -42,8 +41,7 @@ fn write_entries<D: Disk>(
     requires limits { All IsEntry entries.now }
     requires room { pen.old.at + pen.old.filled + length (entries_text entries.now) ≤ (D.moment disk.old).size }
 
-    ensures cause { HasCause (D.moment disk.old).faults (D.moment disk.new).faults result }
-    ensures same_size { (D.moment disk.new).size ≡ (D.moment disk.old).size }
+    ensures calls { Calls (IsErr result) (D.moment disk.old) (D.moment disk.new) }
     ensures took { OnOk result (pen.new.at + pen.new.filled ≡ pen.old.at + pen.old.filled + length (entries_text entries.now)) }
     ensures goes_on { pen.old.at ≤ pen.new.at }
     ensures written { OnOk result ((start : ℕ) (base done : List ℕ) → D.tells → HasWritten start base done pen.old.at pen.old.filled buffer.old (D.moment disk.old).reads
@@ -67,7 +65,7 @@ fn group_head(size: u32, count: u32) -> [u8; 8]
     piece
 }
 
-/// Writes from offset `at` of the device on what stands behind a group's gate, and a closed gate.
+/// Writes from offset `at` of the device on what stands after a group's gate, and a closed gate.
 fn write_group<D: Disk>(
     disk: &mut D,
     at: u64,
@@ -81,8 +79,7 @@ fn write_group<D: Disk>(
     requires size { size ≡ length (entries_text entries.now) }
     requires room { at + need_of entries.now ≤ (D.moment disk.old).size }
 
-    ensures cause { HasCause (D.moment disk.old).faults (D.moment disk.new).faults result }
-    ensures same_size { (D.moment disk.new).size ≡ (D.moment disk.old).size }
+    ensures calls { Calls (IsErr result) (D.moment disk.old) (D.moment disk.new) }
     ensures written { OnOk result (D.tells → (D.moment disk.new).reads ≡ put at (group_text entries.now ++ 0 ∷ []) (D.moment disk.old).reads) }
     ensures any_moment { D.tells → LeavesOnly (ComesFrom (D.moment disk.old) (SameBut at (need_of entries.now))) (D.moment disk.old) (D.moment disk.new) }
 {
@@ -95,8 +92,8 @@ fn write_group<D: Disk>(
 }
 
 impl Slot {
-    /// Adds a group of these entries: writes it behind the slot's closed gate by way of the buffer, in
-    /// pieces of 65,536 bytes and a last one of the rest, with a closed gate behind it; syncs; and opens the
+    /// Adds a group of these entries: writes it after the slot's closed gate by way of the buffer, in
+    /// pieces of 65,536 bytes and a last one of the rest, with a closed gate after it; syncs; and opens the
     /// gate before it: a write, a sync. So a group that needs at most 65,536 bytes takes four calls of the
     /// disk. It takes no memory. `NoRoom` comes exactly where the group needs more than `room`, before any
     /// call, and `DiskFault` only where a call of the disk failed. After an error the slot is as it was, and
@@ -118,10 +115,8 @@ impl Slot {
         // any call.
         ensures no_room { MatchResult result (λ _. need_of entries.now ≤ self.old.size - self.old.gate - 1) (CameOf (need_of entries.now) (self.old.size - self.old.gate - 1)) }
         ensures no_call { self.old.size - self.old.gate - 1 < need_of entries.now → disk.new ≡ disk.old }
-        ensures cause { IsErrOf result SlotFault.DiskFault → Rose 1 (D.moment disk.old).faults (D.moment disk.new).faults }
-        ensures faults { (D.moment disk.old).faults ≤ (D.moment disk.new).faults }
+        ensures calls { Calls (IsErrOf result SlotFault.DiskFault) (D.moment disk.old) (D.moment disk.new) }
 
-        ensures same_size { (D.moment disk.new).size ≡ (D.moment disk.old).size }
         ensures slot { OnOk result (IsSlot self.old.at self.old.size self.old.ordinal self.old.first (self.old.gate + need_of entries.now) (self.old.count + length entries.now) self.new) }
         ensures err { OnErr result (self.new ≡ self.old) }
 
@@ -131,14 +126,13 @@ impl Slot {
         ensures any_moment { (segment : Segment) → D.tells → ((c : List ℕ) → (D.moment disk.old).image c → Knows self.old segment c)
             → LeavesOnly (ComesFrom (D.moment disk.old) (HoldsOldOrNew self.old.at self.old.size segment entries.now)) (D.moment disk.old) (D.moment disk.new) }
     {
-        let size = entries_size(entries);
-        let need = 9 + size;
+        let need = group_need(entries);
         let room = self.room();
         if need > room {
             return Err(SlotFault::NoRoom { need, room });
         }
         let gate = self.at + self.gate;
-        write_group(disk, gate + 1, entries, size as u32, buffer)?;
+        write_group(disk, gate + 1, entries, (need - 9) as u32, buffer)?;
         disk.sync()?;
         open_gate(disk, gate)?;
         self.gate += need;

@@ -2,28 +2,36 @@
 //! (1 byte, open where it is 1), an ordinal and a first number (8 bytes each), and from offset 17 on its
 //! groups: each a gate, the length of its entries' bytes and their count (4 bytes each) and the entries,
 //! up to the first gate that isn't open. What a crash leaves of a slot is what it held before a call or
-//! after it. `docs/DEVICE.md` tells the layout in prose.
+//! after it. A slot is read through a window of memory that its owner lends. `docs/DEVICE.md` describes the
+//! layout in prose.
 #![tactic(auto)]
 
 mod append;
+mod entry;
 mod fault;
 mod group;
 mod mark;
 mod next;
-mod number;
 mod part;
+mod pass;
 mod pen;
 mod scan;
 mod slot;
 mod window;
 
+pub use append::group_need;
 pub use fault::{ScanFault, SlotFault};
 pub use mark::Mark;
 pub use part::Part;
 pub use slot::Slot;
+pub use window::Window;
 
 #[cfg(test)]
 mod call_tests;
+#[cfg(test)]
+mod counting_disk;
+#[cfg(test)]
+mod read_tests;
 #[cfg(test)]
 mod test_slots;
 #[cfg(test)]

@@ -1,22 +1,16 @@
 //! A text that is written in pieces of 65,536 bytes, by way of a buffer.
-ghost use Rattle.std.specs.Prelude.{◌≡◌, ℕ, ◌+◌, ◌<◌, ◌≤◌, List, ◌++◌, length, take, OnOk, IfOk};
+ghost use Rattle.std.specs.Prelude.{◌≡◌, ℕ, ◌+◌, ◌<◌, ◌≤◌, List, ◌++◌, length, take, IsErr, OnOk, IfOk};
 ghost use Rattle.foundation.specs.Bytes.{put, SameBut};
-ghost use Rattle.foundation.specs.Faults.{HasCause};
+ghost use Rattle.edge_disk.specs.Calls.{Calls};
 ghost use Rattle.edge_disk.specs.Disk.{LeavesOnly};
 ghost use Rattle.edge_disk.specs.Gate.{ComesFrom};
 ghost use Rattle.spool_slots.specs.Pen.{HasWritten};
 
 use edge_disk::{Disk, DiskFault};
+use foundation::overwrite;
 
 /// The bytes of a piece.
 const PIECE: usize = 65_536;
-
-fn overwrite(buffer: &mut [u8], at: usize, piece: &[u8])
-    requires { at + length piece.now ≤ length buffer.old }
-    ensures { buffer.new ≡ put at piece.now buffer.old }
-{
-    buffer[at..at + piece.len()].copy_from_slice(piece);
-}
 
 /// How far a text has come.
 #[derive(Drop)]
@@ -41,8 +35,7 @@ impl Pen {
         requires some { 0 < length text.now }
         requires room { self.old.at + self.old.filled + length text.now ≤ (D.moment disk.old).size }
 
-        ensures cause { HasCause (D.moment disk.old).faults (D.moment disk.new).faults result }
-        ensures same_size { (D.moment disk.new).size ≡ (D.moment disk.old).size }
+        ensures calls { Calls (IsErr result) (D.moment disk.old) (D.moment disk.new) }
         ensures goes_on { self.old.at ≤ self.new.at }
         ensures took { IfOk result (λ n. (0 < n) × (n ≤ length text.now) × (self.new.at + self.new.filled ≡ self.old.at + self.old.filled + n)) }
         ensures written { IfOk result (λ n. (start : ℕ) (base done : List ℕ) → D.tells → HasWritten start base done self.old.at self.old.filled buffer.old (D.moment disk.old).reads
@@ -71,8 +64,7 @@ impl Pen {
         requires buffer { length buffer.old ≡ 65536 }
         requires room { self.old.at + self.old.filled + length text.now ≤ (D.moment disk.old).size }
 
-        ensures cause { HasCause (D.moment disk.old).faults (D.moment disk.new).faults result }
-        ensures same_size { (D.moment disk.new).size ≡ (D.moment disk.old).size }
+        ensures calls { Calls (IsErr result) (D.moment disk.old) (D.moment disk.new) }
         ensures took { OnOk result (self.new.at + self.new.filled ≡ self.old.at + self.old.filled + length text.now) }
         ensures goes_on { self.old.at ≤ self.new.at }
         ensures written { OnOk result ((start : ℕ) (base done : List ℕ) → D.tells → HasWritten start base done self.old.at self.old.filled buffer.old (D.moment disk.old).reads
@@ -82,8 +74,8 @@ impl Pen {
         let mut rest = text;
         while !rest.is_empty() {
             let n = self.take_some(disk, buffer, rest)?;
-            let (_, behind) = rest.split_at(n);
-            rest = behind;
+            let (_, after) = rest.split_at(n);
+            rest = after;
         }
         Ok(())
     }
@@ -93,8 +85,7 @@ impl Pen {
         requires buffer { length buffer.now ≡ 65536 }
         requires room { self.at + self.filled ≤ (D.moment disk.old).size }
 
-        ensures cause { HasCause (D.moment disk.old).faults (D.moment disk.new).faults result }
-        ensures same_size { (D.moment disk.new).size ≡ (D.moment disk.old).size }
+        ensures calls { Calls (IsErr result) (D.moment disk.old) (D.moment disk.new) }
         ensures written { OnOk result ((start : ℕ) (base done : List ℕ) → D.tells → HasWritten start base done self.at self.filled buffer.now (D.moment disk.old).reads
             → (D.moment disk.new).reads ≡ put start done base) }
         ensures any_moment { D.tells → LeavesOnly (ComesFrom (D.moment disk.old) (SameBut self.at self.filled)) (D.moment disk.old) (D.moment disk.new) }

@@ -1,15 +1,17 @@
 //! A slot of the device: begun, and shut.
-ghost use Rattle.std.specs.Prelude.{◌≡◌, ◌≢◌, ℕ, ◌+◌, ◌-◌, ◌<◌, ◌≤◌, List, [], ◌∷◌, ◌++◌, length, slice_index, OnOk, IfOk};
-ghost use Rattle.foundation.specs.Faults.{HasCause};
+ghost use Rattle.std.specs.Prelude.{◌≡◌, ◌≢◌, ℕ, ◌+◌, ◌-◌, ◌<◌, ◌≤◌, List, [], ◌∷◌, ◌++◌, length, slice_index, IsErr, OnOk, IfOk};
 ghost use Rattle.spool_state.specs.Segment.{Segment, head_text, empty_segment};
 ghost use Rattle.spool_state.specs.Image.{HoldsSegment};
+ghost use Rattle.spool_state.specs.Layout.{least_size, most_size};
+ghost use Rattle.edge_disk.specs.Calls.{Calls};
 ghost use Rattle.edge_disk.specs.Disk.{IsSettled, LeavesOnly};
 ghost use Rattle.edge_disk.specs.Gate.{ComesFrom};
 
 use edge_disk::{Disk, DiskFault, close_gate, write_behind};
 
 /// What memory knows of a slot whose gate is open. `begin` and `scan` give one, and `append_entries` keeps
-/// it true; each later call is given the same device.
+/// it true; each later call is given the same device. It is plain numbers, which may be copied: after a
+/// `shut` that failed, its caller still answers by them.
 #[derive(Clone, Copy, Debug)]
 pub struct Slot {
     /// The offset on the device at which it begins, in bytes.
@@ -20,12 +22,12 @@ pub struct Slot {
     pub ordinal: u64,
     /// The number of its first entry.
     pub first: u64,
-    /// The offset in the slot, in bytes, of the closed gate behind its last group.
+    /// The offset in the slot, in bytes, of the closed gate after its last group.
     pub gate: u64,
     /// How many entries it has.
     pub count: u64,
     ghost inside: { gate < size },
-    ghost small: { size ≤ 1073741824 },
+    ghost small: { size ≤ most_size },
     ghost counted: { count ≤ gate },
 }
 
@@ -52,13 +54,12 @@ impl Slot {
         ordinal: u64,
         first: u64,
     ) -> Result<Slot, DiskFault>
-        requires large { 4096 ≤ size }
-        requires small { size ≤ 1073741824 }
+        requires large { least_size ≤ size }
+        requires small { size ≤ most_size }
         requires place { at + size ≤ (D.moment disk.old).size }
         requires closed { D.tells → (c : List ℕ) → (D.moment disk.old).image c → slice_index c at ≢ 1 }
 
-        ensures cause { HasCause (D.moment disk.old).faults (D.moment disk.new).faults result }
-        ensures same_size { (D.moment disk.new).size ≡ (D.moment disk.old).size }
+        ensures calls { Calls (IsErr result) (D.moment disk.old) (D.moment disk.new) }
         ensures slot { IfOk result (IsSlot at size ordinal first 17 0) }
         ensures durable { OnOk result (D.tells → IsSettled (D.moment disk.new)) }
         ensures closed { IfOk result (λ slot. D.tells → (c : List ℕ) → (D.moment disk.new).image c → slice_index c (slot.at + slot.gate) ≢ 1) }
@@ -77,7 +78,7 @@ impl Slot {
     }
 
     /// How many bytes a group may need: its length (4), its count (4), its entries and the closed gate
-    /// behind it (1). It takes no memory.
+    /// after it (1). It takes no memory.
     pub fn room(&self) -> u64
         ensures { result ≡ self.now.size - self.now.gate - 1 }
     {
@@ -89,8 +90,7 @@ impl Slot {
     pub fn shut<D: Disk>(self, disk: &mut D) -> Result<(), DiskFault>
         requires place { self.at + self.size ≤ (D.moment disk.old).size }
 
-        ensures cause { HasCause (D.moment disk.old).faults (D.moment disk.new).faults result }
-        ensures same_size { (D.moment disk.new).size ≡ (D.moment disk.old).size }
+        ensures calls { Calls (IsErr result) (D.moment disk.old) (D.moment disk.new) }
         ensures durable { OnOk result (D.tells → IsSettled (D.moment disk.new)) }
         ensures closed { OnOk result (D.tells → slice_index (D.moment disk.new).reads self.at ≢ 1) }
         ensures any_moment { (segment : Segment) → D.tells → ((c : List ℕ) → (D.moment disk.old).image c → HoldsSegment self.at self.size segment c)

@@ -1,5 +1,5 @@
 use crate::test_slots::{Bench, add, begun, event, event_of, fits, try_add};
-use crate::{ScanFault, Slot, SlotFault};
+use crate::{ScanFault, Slot, SlotFault, Window};
 use edge_disk::{Crash, MemDisk};
 use std::alloc::Global;
 use std::test::Fail;
@@ -11,12 +11,13 @@ fn units(alloc: Global, disk: &mut MemDisk, slot: &Slot, most: u32) -> Result<Ve
         return Err("slot".into());
     }
     let end = slot.first + slot.count;
+    let mut window = Window::new(alloc)?;
     let mut mark = slot.start();
     for _ in 0..9 {
         if !fits(slot, disk) {
             return Err("slot".into());
         }
-        match slot.read_part(alloc, disk, mark, most) {
+        match slot.read_part(alloc, disk, &mut window, mark, most) {
             Ok(part) => {
                 for entry in &part.entries {
                     units.push(entry.unit)?;
@@ -97,7 +98,8 @@ fn scanned(alloc: Global, mut disk: MemDisk) -> Result<Result<Option<Slot>, Scan
     if disk.bytes().len() < 4200 {
         return Err("disk".into());
     }
-    Ok(Slot::scan(alloc, &mut disk, 100, 4096))
+    let mut window = Window::new(alloc)?;
+    Ok(Slot::scan(&mut disk, &mut window, 100, 4096))
 }
 
 #[test]

@@ -1,7 +1,8 @@
 -- Slots that are in order, and the state that they make.
-use Rattle.std.proofs.Common.{◌≡◌, inl, inr, ℕ, ◌+◌, ◌^◌, ◌<◌, ◌≤◌, List, [], ◌∷◌, ◌++◌, length, refl, arith, length-append}
+use Rattle.std.proofs.Common.{◌≡◌, inl, inr, ℕ, ◌+◌, ◌<◌, ◌≤◌, List, [], ◌∷◌, ◌++◌, length, refl, arith, length-append}
 use Rattle.std.specs.Prelude.{All}
 use Rattle.std.proofs.lemmas.List.Elements.{All-nil, All-cons, All-head, All-tail}
+use Rattle.spool_state.specs.Layout.{most_number}
 use Rattle.spool_state.specs.Segment.{entries_of}
 use Rattle.spool_state.specs.SpoolState.{OpenSlot, entries_in, first_of, ordinal_of, HasEarlyOrdinal, AreConsecutive}
 use Rattle.spool_state.specs.Order.{AreSorted, count_of, AreInOrder, FirstAtFault}
@@ -25,7 +26,7 @@ in_order_no_fault [] ordinal first place h fault = fault
 in_order_no_fault (slot ∷ slots) ordinal first place h (inl here) = here.1 h.0
 in_order_no_fault (slot ∷ slots) ordinal first place h (inr later) = in_order_no_fault slots (slot.segment.ordinal + 1) (slot.segment.first + count_of slot) place h.1 later.1
 
--- ---- the older slots, and the active one behind them
+-- ---- the older slots, and the active one after them
 
 pub some-push : (slots : List OpenSlot) (last : OpenSlot) → 0 < length (slots ++ last ∷ [])
 some-push slots last = omega (arith, length-append slots (last ∷ []))
@@ -48,7 +49,7 @@ first_below (slot ∷ slots) ordinal first h = omega (arith, h.1, first_below sl
 
 -- the slots of a state are in order
 pub in_order : (slots : List OpenSlot) (last : OpenSlot) (ordinal first : ℕ) → ordinal_of slots last.segment.ordinal ≡ ordinal → first_of slots last.segment.first ≡ first
-    → AreConsecutive slots last.segment.ordinal last.segment.first → All HasEarlyOrdinal slots → HasEarlyOrdinal last → last.segment.first + count_of last ≤ 2 ^ 63
+    → AreConsecutive slots last.segment.ordinal last.segment.first → All HasEarlyOrdinal slots → HasEarlyOrdinal last → last.segment.first + count_of last ≤ most_number
     → AreInOrder (slots ++ last ∷ []) ordinal first
 in_order [] last ordinal first o f h all early fits = (record { ordinal_due = o; first_due = f; some = λ some. absurd (omega arith); early = early; ends = fits }, tt)
 in_order (slot ∷ slots) last ordinal first o f h all early fits = (
@@ -63,7 +64,7 @@ in_order (slot ∷ slots) last ordinal first o f h all early fits = (
 )
 
 -- and slots in order are those of a state
-pub last_in_order : (slots : List OpenSlot) (last : OpenSlot) (ordinal first : ℕ) → AreInOrder (slots ++ last ∷ []) ordinal first → HasEarlyOrdinal last × (last.segment.first + count_of last ≤ 2 ^ 63)
+pub last_in_order : (slots : List OpenSlot) (last : OpenSlot) (ordinal first : ℕ) → AreInOrder (slots ++ last ∷ []) ordinal first → HasEarlyOrdinal last × (last.segment.first + count_of last ≤ most_number)
 last_in_order [] last ordinal first h = (h.0.early, h.0.ends)
 last_in_order (slot ∷ slots) last ordinal first h = last_in_order slots last (slot.segment.ordinal + 1) (slot.segment.first + count_of slot) h.1
 
@@ -80,8 +81,3 @@ consecutive (slot ∷ slots) last ordinal first h =
 pub all_early : (slots : List OpenSlot) (last : OpenSlot) (ordinal first : ℕ) → AreInOrder (slots ++ last ∷ []) ordinal first → All HasEarlyOrdinal slots
 all_early [] last ordinal first h = All-nil HasEarlyOrdinal
 all_early (slot ∷ slots) last ordinal first h = All-cons HasEarlyOrdinal slot slots h.0.early (all_early slots last (slot.segment.ordinal + 1) (slot.segment.first + count_of slot) h.1)
-
--- the entries of slots in order end where those of the last one do
-pub entries_end : (slots : List OpenSlot) (last : OpenSlot) (ordinal first : ℕ) → AreInOrder (slots ++ last ∷ []) ordinal first → first + length (entries_in (slots ++ last ∷ [])) ≡ last.segment.first + count_of last
-entries_end [] last ordinal first h = omega (arith, h.0.first_due, length-append (entries_of last.segment) [])
-entries_end (slot ∷ slots) last ordinal first h = omega (arith, h.0.first_due, length-append (entries_of slot.segment) (entries_in (slots ++ last ∷ [])), entries_end slots last (slot.segment.ordinal + 1) (slot.segment.first + count_of slot) h.1)

@@ -1,36 +1,24 @@
 -- The bytes of the empty spool.
-use Rattle.std.proofs.Common.{◌≡◌, inl, inr, ℕ, ◌+◌, ◌<◌, ◌≤◌, List, [], ◌∷◌, ◌++◌, length, take, drop, get_or, refl, sym, ◌∙◌, ap, subst, arith, take-append-drop, length-drop}
-use Rattle.std.proofs.lemmas.List.{drop-drop, ext_get_or, take_at, get_or-take, get_or-drop}
+use Rattle.std.proofs.Common.{◌≡◌, inl, inr, ℕ, ◌+◌, ◌≤◌, List, [], ◌∷◌, ◌++◌, length, take, drop, get_or, refl, sym, ◌∙◌, ap, subst, arith, take-append-drop, length-drop}
+use Rattle.std.proofs.lemmas.List.{take_at, get_or-drop}
 use Rattle.std.proofs.lemmas.List.Elements.{All-nil}
-use Rattle.std.proofs.lemmas.Grind.{common_steps}
 use Rattle.std.proofs.lemmas.Nat.{row_fits}
-use Rattle.std.proofs.Math.Seq.{take-add}
 use Rattle.foundation.specs.Bytes.{part, put, SameBut}
 use Rattle.foundation.proofs.Bytes.{get_or-part, length-part, put_same, same_part, part_put, length-put}
+use Rattle.spool_state.specs.Layout.{first_cell, second_cell, first_slot}
 use Rattle.spool_state.specs.Segment.{IsGroup, empty_segment, head_text}
 use Rattle.spool_state.specs.SpoolState.{IsSound}
 use Rattle.spool_state.specs.Cells.{content_text}
 use Rattle.spool_state.specs.Image.{slot_at, magic, header_text, HoldsSegment, StandsFor}
 use Rattle.spool_state.specs.Rules.{IsLayout}
 use Rattle.spool_state.specs.Empty.{empty_state, IsBody}
-use Rattle.spool_state.proofs.Adding.{length-content_text}
+use Rattle.spool_state.proofs.Places.{front_of, part_split, length-content_text}
 use Rattle.spool_state.proofs.Texts.{length-head_text}
 use Rattle.spool_state.proofs.Segments.{empty_text}
-
--- a front of a part is a part
-front_part : (at n k : ℕ) (c : List ℕ) → k ≤ n → at + n ≤ length c → take k (part at n c) ≡ part at k c
-front_part at n k c le room =
-    let l : length (take k (part at n c)) ≡ k = grind (arith, common_steps) in
-    ext_get_or 0 _ _ (l ∙ sym (length-part at k c (omega arith))) (λ i lt.
-    let less : i < k = omega (arith, l) in
-    get_or-take k (part at n c) i 0 less ∙ get_or-part at n c i (at + i) (omega arith) refl ∙ sym (get_or-part at k c i (at + i) less refl))
 
 head_gate : (ordinal first : ℕ) → get_or (head_text ordinal first ++ 0 ∷ []) 17 0 ≡ 0
 unfolding head_text
 head_gate ordinal first = refl
-
-part_split : (at n m : ℕ) (c : List ℕ) → part at (n + m) c ≡ part at n c ++ part (at + n) m c
-part_split at n m c = take-add n m (drop at c) ∙ ap (λ (l : List ℕ). part at n c ++ take m l) (drop-drop n at c)
 
 -- a slot that begins with the head of an empty segment and a closed gate holds that segment
 pub holds_empty : (at size ordinal first : ℕ) (c : List ℕ) → 18 ≤ size → at + size ≤ length c → part at 18 c ≡ head_text ordinal first ++ 0 ∷ [] → HoldsSegment at size (empty_segment ordinal first) c
@@ -39,7 +27,7 @@ holds_empty at size ordinal first c large room is =
     let slot = part at size c in
     let long = length-part at size c room in
     let front : take 17 slot ≡ head =
-    front_part at size 17 c (omega arith) room ∙ sym (front_part at 18 17 c (omega arith) (omega arith)) ∙ ap (take 17) is ∙ take_at head (0 ∷ []) 17 (length-head_text ordinal first) in
+    front_of at 17 size c (omega arith) ∙ sym (front_of at 17 18 c (omega arith)) ∙ ap (take 17) is ∙ take_at head (0 ∷ []) 17 (length-head_text ordinal first) in
     let gate : get_or (drop 17 slot) 0 0 ≡ 0 =
     get_or-drop 17 slot 0 0 ∙ get_or-part at size c (17 + 0) (at + 17) (omega arith) (omega arith) ∙ sym (get_or-part at 18 c 17 (at + 17) (omega arith) (omega arith))
     ∙ ap (λ (l : List ℕ). get_or l 17 0) is ∙ head_gate ordinal first in
@@ -66,11 +54,13 @@ empty_sound slots size len layout = record {
   ends = omega arith;
   from_base = omega arith;
   to_end = omega arith;
+  known = record { apart = tt; few = omega arith };
+  known_to_end = tt;
 }
 
 -- the bytes of the empty spool with any eight bytes in front
 module _ (slots size : ℕ) (b : List ℕ) (layout : IsLayout slots size (length b)) (body : IsBody slots size b) where
-  fits : 12288 + size ≤ length b
+  fits : first_slot + size ≤ length b
   fits = omega (arith, layout.long, row_fits 0 size slots size (omega (arith, layout.some)) (omega arith))
 
   same : SameBut 0 8 b (put 0 magic b)
@@ -93,17 +83,21 @@ module _ (slots size : ℕ) (b : List ℕ) (layout : IsLayout slots size (length
   body_stands =
       let c = put 0 magic b in
       let long : length c ≡ length b = length-put 0 magic b (omega (arith, fits)) in
-      let at_is : 12288 ≡ slot_at size 0 = omega arith in
-      let size_is : 13 + length (content_text 0 0) ≡ 30 = omega (arith, length-content_text 0 0) in
+      let at_is : first_slot ≡ slot_at size 0 = omega arith in
+      let size_is : 13 + length (content_text 0 0 []) ≡ 32 = omega (arith, length-content_text 0 0 []) in
       record {
         long = long ∙ layout.long;
         header = header;
-        register = inl (record {
-          holds = ap (λ (n : ℕ). part 4096 n c) size_is ∙ part_stays 4096 30 (omega arith) (omega (arith, fits)) ∙ body.front.cell;
-          other_less = inl (λ one. body.front.other (sym (same.above 8192 (omega arith)) ∙ one));
-        });
+        register = (
+          content_text 0 0 [],
+          inl refl,
+          inl (record {
+            holds = ap (λ (n : ℕ). part first_cell n c) size_is ∙ part_stays first_cell 32 (omega arith) (omega (arith, fits)) ∙ body.front.cell;
+            other_less = inl (λ one. body.front.other (sym (same.above second_cell (omega arith)) ∙ one));
+          }),
+        );
         older = λ k d lt. absurd (omega arith);
-        active = holds_empty (slot_at size 0) size 1 0 c (omega (arith, layout.large)) (omega (arith, fits, long)) (subst (λ (n : ℕ). part n 18 c ≡ head_text 1 0 ++ 0 ∷ []) at_is (part_stays 12288 18 (omega arith) (omega (arith, fits, layout.large)) ∙ body.front.slot));
+        active = holds_empty (slot_at size 0) size 1 0 c (omega (arith, layout.large)) (omega (arith, fits, long)) (subst (λ (n : ℕ). part n 18 c ≡ head_text 1 0 ++ 0 ∷ []) at_is (part_stays first_slot 18 (omega arith) (omega (arith, fits, layout.large)) ∙ body.front.slot));
         closed = λ place lt off none one. body.others place (omega (arith, off)) lt (sym (same.above (slot_at size place) (omega arith)) ∙ one);
         sound = empty_sound slots size (length b) layout;
       }

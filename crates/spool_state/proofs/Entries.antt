@@ -27,7 +27,7 @@ entries_within entries i = omega (arith, ap length (ap entries_text (take-append
 pub entry_here : (entries : List Entry) (i : ℕ) (e : Entry) → All IsEntry entries → i < length entries → e ≡ get_or entries i e → IsEntry e
 entry_here entries i e all lt is = subst IsEntry (sym is) (all i e lt)
 
--- an entry's text by its two parts, behind others
+-- an entry's text by its two parts, after others
 pub parts_more : (before : List ℕ) (entries : List Entry) (i : ℕ) (e : Entry) → i < length entries → e ≡ get_or entries i e
     → ((before ++ entries_text (take i entries)) ++ entry_head e) ++ e.event.text ≡ before ++ entries_text (take (i + 1) entries)
 unfolding entry_text

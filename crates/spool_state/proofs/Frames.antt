@@ -1,16 +1,18 @@
 -- What a change of one part of the device leaves of the others.
-use Rattle.std.proofs.Common.{◌≡◌, ◌≢◌, ◌⊎◌, inl, inr, ℕ, ◌+◌, ◌<◌, ◌≤◌, List, length, get_or, sym, ◌∙◌, subst, arith}
+use Rattle.std.proofs.Common.{◌≡◌, ◌≢◌, ◌⊎◌, inl, inr, ℕ, ◌+◌, ◌<◌, ◌≤◌, List, length, get_or, ◌∙◌, arith}
 use Rattle.std.specs.Prelude.{All}
 use Rattle.std.proofs.lemmas.Bool.{cases_order}
 use Rattle.std.proofs.lemmas.Nat.{row_fits}
-use Rattle.std.specs.Int.{from_be_bytes}
-use mir.Syntax.{w64}
 use Rattle.foundation.specs.Bytes.{part, SameBut}
 use Rattle.foundation.proofs.Bytes.{same_part}
+use Rattle.known_numbers.specs.declared.stretch.TheConstants.{MOST_STRETCHES}
+use Rattle.known_numbers.specs.declared.stretch.Stretch.{Stretch}
+use Rattle.spool_state.specs.Layout.{first_cell, second_cell, cell_length, first_slot, cell_head}
 use Rattle.spool_state.specs.Segment.{Segment}
 use Rattle.spool_state.specs.SpoolState.{OpenSlot, AreElsewhere, IsOpenSlot}
-use Rattle.spool_state.specs.Cells.{Counts, RegisterHolds}
+use Rattle.spool_state.specs.Cells.{RegisterHolds, RegisterHas}
 use Rattle.spool_state.specs.Image.{slot_at, HoldsSegment, HoldsSlot}
+use Rattle.spool_state.proofs.Registers.{content_short, counts_stay}
 
 pub byte_frame : (at n : ℕ) (a b : List ℕ) (i : ℕ) → SameBut at n a b → (i < at) ⊎ (at + n ≤ i) → get_or b i 0 ≡ get_or a i 0
 byte_frame at n a b i same (inl lt) = same.below i lt
@@ -24,19 +26,14 @@ segment_frame at n i m segment a b same away room holds = record {
   closed = holds.closed;
 }
 
--- the cells, by a change behind them
-counts_frame : (at n here other ordinal : ℕ) (content a b : List ℕ) → SameBut at n a b → 12288 ≤ at → 12288 ≤ length a → here + 13 + length content ≤ 12288 → other + 9 ≤ 12288 → Counts here other ordinal content a → Counts here other ordinal content b
-counts_frame at n here other ordinal content a b same away room h o counts = record {
-  holds = same_part at n here (13 + length content) a b same (inl (omega arith)) (omega arith) ∙ counts.holds;
-  other_less = elim counts.other_less [
-    | inl shut ↦ inl (λ is. shut (sym (byte_frame at n a b other same (inl (omega arith))) ∙ is))
-    | inr less ↦ inr (subst (λ (x : List ℕ). from_be_bytes w64 x < ordinal) (sym (same_part at n (other + 1) 8 a b same (inl (omega arith)) (omega arith))) less)
-  ];
-}
+-- the cells, by a change after them
+pub register_frame : (at n ordinal : ℕ) (content a b : List ℕ) → SameBut at n a b → first_slot ≤ at → first_slot ≤ length a → cell_head + length content ≤ cell_length → RegisterHolds ordinal content a → RegisterHolds ordinal content b
+register_frame at n ordinal content a b same away room short (inl counts) = inl (counts_stay first_cell second_cell ordinal content at n a b same (inl (omega arith)) (inl (omega arith)) (omega arith) (omega arith) counts)
+register_frame at n ordinal content a b same away room short (inr counts) = inr (counts_stay second_cell first_cell ordinal content at n a b same (inl (omega arith)) (inl (omega arith)) (omega arith) (omega arith) counts)
 
-pub register_frame : (at n ordinal : ℕ) (content a b : List ℕ) → SameBut at n a b → 12288 ≤ at → 12288 ≤ length a → length content ≤ 4083 → RegisterHolds ordinal content a → RegisterHolds ordinal content b
-register_frame at n ordinal content a b same away room short (inl counts) = inl (counts_frame at n 4096 8192 ordinal content a b same away room (omega arith) (omega arith) counts)
-register_frame at n ordinal content a b same away room short (inr counts) = inr (counts_frame at n 8192 4096 ordinal content a b same away room (omega arith) (omega arith) counts)
+pub register_has : (at n ordinal run cursor : ℕ) (known : List Stretch) (a b : List ℕ) → SameBut at n a b → first_slot ≤ at → first_slot ≤ length a → length known ≤ MOST_STRETCHES → RegisterHas ordinal run cursor known a → RegisterHas ordinal run cursor known b
+register_has at n ordinal run cursor known a b same away room few has =
+    (has.0, has.1, register_frame at n ordinal has.0 a b same away room (omega (arith, content_short run cursor known has.0 few has.1)) has.2)
 
 -- two slots don't meet
 pub apart : (size p q : ℕ) → p ≢ q → (slot_at size p + size ≤ slot_at size q) ⊎ (slot_at size q + size ≤ slot_at size p)
@@ -60,8 +57,8 @@ module _ (size slots place : ℕ) (old c : List ℕ) (long : length old ≡ slot
   pub slots_stay : (rows : List OpenSlot) → All (IsOpenSlot slots) rows → AreElsewhere place rows → All (λ slot. HoldsSlot size slot old) rows → All (λ slot. HoldsSlot size slot c) rows
   slots_stay rows within off hold = λ k d lt. slot_stays (get_or rows k d) (within k d lt).place (off k d lt) (hold k d lt)
 
-  pub register_stays : (ordinal : ℕ) (content : List ℕ) → length content ≤ 4083 → RegisterHolds ordinal content old → RegisterHolds ordinal content c
-  register_stays ordinal content short holds = register_frame (slot_at size place) size ordinal content old c same (omega arith) (omega arith) short holds
+  pub register_stays : (ordinal run cursor : ℕ) (known : List Stretch) → length known ≤ MOST_STRETCHES → RegisterHas ordinal run cursor known old → RegisterHas ordinal run cursor known c
+  register_stays ordinal run cursor known few has = register_has (slot_at size place) size ordinal run cursor known old c same (omega arith) (omega arith) few has
 
   pub header_stays : part 0 20 c ≡ part 0 20 old
   header_stays = same_part (slot_at size place) size 0 20 old c same (inl (omega arith)) (omega arith)

@@ -1,28 +1,31 @@
 -- The state that a header, a register and open slots in order make.
-use Rattle.std.proofs.Common.{◌≡◌, ◌≢◌, inl, inr, ℕ, ◌+◌, ◌^◌, ◌<◌, ◌≤◌, List, [], ◌∷◌, ◌++◌, length, get_or, sym, ◌∙◌, arith, length-append}
+use Rattle.std.proofs.Common.{◌≡◌, ◌≢◌, ℕ, ◌^◌, ◌<◌, ◌≤◌, List, [], ◌∷◌, ◌++◌, length, get_or, sym, ◌∙◌, arith, length-append}
 use Rattle.std.specs.Prelude.{All}
-use Rattle.std.proofs.lemmas.Bool.{cases_lt}
 use Rattle.std.proofs.lemmas.List.Elements.{All-nil, All-cons, All-head, All-tail, All-push}
 use Rattle.foundation.specs.Bytes.{part}
+use Rattle.known_numbers.specs.declared.stretch.TheConstants.{MOST_STRETCHES}
+use Rattle.known_numbers.specs.declared.stretch.Stretch.{Stretch}
+use Rattle.spool_state.specs.Layout.{most_slots, least_size, most_size, most_run, most_number}
 use Rattle.spool_state.specs.Segment.{entries_of}
-use Rattle.spool_state.specs.SpoolState.{OpenSlot, entries_in, list, first_of, base, AreElsewhere, AreApart}
-use Rattle.spool_state.specs.Cells.{content_text, RegisterHolds}
+use Rattle.spool_state.specs.SpoolState.{OpenSlot, entries_in, list, first_of, base, end, AreElsewhere, AreApart}
+use Rattle.spool_state.specs.Cells.{RegisterHas}
 use Rattle.spool_state.specs.Image.{slot_at, header_text, StandsFor}
 use Rattle.spool_state.specs.Order.{ComesBefore, AreSorted, IsFound, AreOpenSlots, AreInOrder}
-use Rattle.spool_state.specs.Rules.{CursorBreaks}
+use Rattle.spool_state.specs.Rules.{AreAmong, end_in}
 use Rattle.spool_state.proofs.Sorting.{apart_found}
 use Rattle.spool_state.proofs.Chains.{first_of-push, length-entries_in-push, last_in_order, consecutive, all_early}
 use Rattle.spool_state.proofs.Texts.{end_active}
 use Rattle.spool_state.proofs.Standing.{state_of}
+use Rattle.spool_state.proofs.Adding.{end_later}
 
 -- the numbers of a state of so many slots of this size
 pub record AreNumbers (slots size run ordinal : ℕ) : Type 0 where
   pub some : 1 ≤ slots
-  pub few : slots ≤ 1024
-  pub large : 4096 ≤ size
-  pub small : size ≤ 1073741824
-  pub run_few : run ≤ 2097151
-  pub ordinal_few : ordinal ≤ 2 ^ 63
+  pub few : slots ≤ most_slots
+  pub large : least_size ≤ size
+  pub small : size ≤ most_size
+  pub run_few : run ≤ most_run
+  pub ordinal_few : ordinal ≤ most_number
 
 all_before : (P : OpenSlot → Type 0) (slots : List OpenSlot) (last : OpenSlot) → All P (slots ++ last ∷ []) → All P slots × P last
 all_before P [] last all = (All-nil P, All-head P last [] all)
@@ -44,12 +47,12 @@ module _ (slots size : ℕ) (c : List ℕ) (long : length c ≡ slot_at size slo
         All-cons (λ s. s.place ≢ last.place) slot older (λ is. apart_found slots size c long some small slot last here split.1 after.1 (sym is)) others.1,
       )
 
-pub state_stands : (slots size run cursor ordinal : ℕ) (older : List OpenSlot) (active : OpenSlot) (c : List ℕ) (o f : ℕ) → AreNumbers slots size run ordinal
-    → length c ≡ slot_at size slots → part 0 20 c ≡ header_text slots size → RegisterHolds ordinal (content_text run cursor) c
-    → AreOpenSlots slots size c (older ++ active ∷ []) → AreInOrder (older ++ active ∷ []) o f → (CursorBreaks cursor (older ++ active ∷ []) → ⊥)
-    → StandsFor (state_of slots size run cursor ordinal older active) c
-state_stands slots size run cursor ordinal older active c o f numbers long header register opened in_order cursor_kept =
-    let made = state_of slots size run cursor ordinal older active in
+pub state_stands : (slots size run cursor : ℕ) (known : List Stretch) (ordinal : ℕ) (older : List OpenSlot) (active : OpenSlot) (c : List ℕ) (o f : ℕ) → AreNumbers slots size run ordinal → length known ≤ MOST_STRETCHES
+    → length c ≡ slot_at size slots → part 0 20 c ≡ header_text slots size → RegisterHas ordinal run cursor known c
+    → AreOpenSlots slots size c (older ++ active ∷ []) → AreInOrder (older ++ active ∷ []) o f → AreAmong cursor known (older ++ active ∷ [])
+    → StandsFor (state_of slots size run cursor known ordinal older active) c
+state_stands slots size run cursor known ordinal older active c o f numbers few long header register opened in_order among =
+    let made = state_of slots size run cursor known ordinal older active in
     let split = all_before (IsFound slots size c) older active opened.found in
     let apart = apart_push slots size c long (omega (arith, numbers.large)) (omega (arith, numbers.small)) older active opened.found opened.sorted in
     let early = all_early older active o f in_order in
@@ -77,7 +80,9 @@ state_stands slots size run cursor ordinal older active c o f numbers long heade
         apart_active = apart.1;
         consecutive = chain;
         ends = omega (arith, end_active made chain, last.1);
-        from_base = elim (cases_lt cursor (first_of (older ++ active ∷ []) 0)) [ inl lt ↦ absurd (cursor_kept (inl lt)) | inr ge ↦ omega (arith, first, ge) ];
-        to_end = elim (cases_lt (first_of (older ++ active ∷ []) 0 + length (entries_in (older ++ active ∷ []))) cursor) [ inl lt ↦ absurd (cursor_kept (inr lt)) | inr ge ↦ omega (arith, first, many, ge) ];
+        from_base = omega (arith, first, among.from_first);
+        to_end = omega (arith, first, many, among.to_end);
+        known = record { apart = among.apart; few = few };
+        known_to_end = end_later (end_in (older ++ active ∷ [])) (end made) known (omega (arith, first, many)) among.known_to_end;
       };
     }

@@ -86,7 +86,7 @@ sound_behind : (before more groups : List (List Entry)) → groups ≡ before ++
 sound_behind before more groups is sound =
     All-same IsGroup more (drop (length before) groups) (sym (ap (drop (length before)) is ∙ drop_at before more (length before) refl)) (All-drop IsGroup (length before) groups sound)
 
--- behind the last group no open gate stands
+-- after the last group no open gate stands
 none_behind : (more : List (List Entry)) (rest x : List ℕ) → get_or x 0 0 ≢ 1 → x ≡ groups_text more ++ rest → more ≡ []
 none_behind [] rest x closed is = refl
 none_behind (g ∷ more) rest x closed is = absurd (closed (ap (λ (l : List ℕ). get_or l 0 0) is))

@@ -35,7 +35,7 @@ holds_open at size segment c large holds =
     ∙ ap (λ (l : List ℕ). get_or l 0 0) (holds.text ∙ append_assoc (head_text segment.ordinal segment.first) (groups_text segment.groups) holds.rest)
     ∙ head_open segment.ordinal segment.first (groups_text segment.groups ++ holds.rest)
 
--- the gate behind it is closed
+-- the gate after it is closed
 pub holds_closed : (at size : ℕ) (segment : Segment) (c : List ℕ) → at + size ≤ length c → HoldsSegment at size segment c → get_or c (at + length (segment_text segment)) 0 ≢ 1
 holds_closed at size segment c room holds =
     let text = segment_text segment in

@@ -1,18 +1,20 @@
 -- What bytes that stand for a state say of its parts, and the state that parts make.
-use Rattle.std.proofs.Common.{◌≡◌, ◌≢◌, inl, inr, ℕ, ◌+◌, ◌^◌, ◌<◌, ◌≤◌, List, [], ◌∷◌, ◌++◌, refl, sym, ◌∙◌, ap, arith}
+use Rattle.std.proofs.Common.{◌≡◌, ◌≢◌, inl, inr, ℕ, ◌+◌, ◌^◌, ◌<◌, ◌≤◌, List, [], ◌∷◌, ◌++◌, refl, sym, ◌∙◌, ap, subst, arith}
 use Rattle.std.specs.Prelude.{All}
 use Rattle.std.specs.Int.{to_be_bytes, from_be_bytes}
 use mir.Syntax.{w32, w64}
 use Rattle.std.proofs.lemmas.List.Elements.{All-nil, All-cons, All-head, All-tail, All-push}
 use Rattle.std.proofs.lemmas.Nat.{from_be_bytes-to_be_bytes_4, from_be_bytes-to_be_bytes_8}
 use Rattle.foundation.specs.Bytes.{part}
-use Rattle.spool_state.specs.SpoolState.{OpenSlot, SpoolState, first_of, ordinal_of, HasEarlyOrdinal, AreElsewhere, IsOpenSlot}
-use Rattle.spool_state.specs.Cells.{first_cell, second_cell, content_text, fields_text, Counts, RegisterHolds}
+use Rattle.known_numbers.specs.declared.stretch.Stretch.{Stretch}
+use Rattle.spool_state.specs.Layout.{first_cell, second_cell, most_run}
+use Rattle.spool_state.specs.SpoolState.{OpenSlot, SpoolState, first_of, ordinal_of, end, HasEarlyOrdinal, AreElsewhere, IsOpenSlot, IsSound}
+use Rattle.spool_state.specs.Cells.{IsContentOf, Counts, RegisterHas}
 use Rattle.spool_state.specs.Image.{magic, header_text, HoldsSlot, StandsFor}
 use Rattle.spool_state.specs.Order.{count_of, AreOpenSlots, AreInOrder}
-use Rattle.spool_state.specs.Rules.{slots_told, size_told, IsRegister, RegisterIsAt, cursor_at}
+use Rattle.spool_state.specs.Rules.{slots_told, size_told, IsRegister, RegisterIsAt}
 use Rattle.spool_state.proofs.Places.{part_inside}
-use Rattle.spool_state.proofs.Registers.{fields, is_counting, is_good, one_counts}
+use Rattle.spool_state.proofs.Registers.{HasRoom, Says, fitting, says, is_counting, is_good, one_counts}
 use Rattle.spool_state.proofs.Texts.{end_active}
 use Rattle.spool_state.proofs.Chains.{sorted-in_order, first_of-push, ordinal_of-push, in_order}
 
@@ -34,34 +36,35 @@ module _ (slots size : ℕ) (c : List ℕ) (header : part 0 20 c ≡ header_text
 
 -- ---- the register
 
-pub cursor_is : (cell gate ordinal len version run cursor : ℕ) (c : List ℕ) → part cell 30 c ≡ fields_text gate ordinal len version run cursor → cursor < 2 ^ 64 → cursor_at cell c ≡ cursor
-unfolding fields_text
-cursor_is cell gate ordinal len version run cursor c is fits =
-    ap (λ (l : List ℕ). from_be_bytes w64 l) (part_inside cell 30 (cell + 22) 8 (gate ∷ to_be_bytes w64 ordinal ++ to_be_bytes w32 len ++ version ∷ to_be_bytes w64 run) (to_be_bytes w64 cursor) [] c is refl refl (omega arith) (omega arith))
-    ∙ from_be_bytes-to_be_bytes_8 cursor fits
+-- the cell that counts is good
+pub counts_register : (here other ordinal run cursor : ℕ) (known : List Stretch) (content c : List ℕ) → HasRoom ordinal run cursor known → run ≤ most_run → IsContentOf run cursor known content → Counts here other ordinal content c → IsRegister here other c
+counts_register here other ordinal run cursor known content c room runs is counts = record {
+  counting = is_counting here other ordinal content c room.ordinal_room counts;
+  good = is_good here ordinal run cursor known c room.ordinal_room runs (says here ordinal run cursor known c room content is counts.holds);
+}
 
-pub counts_cursor : (here other ordinal run cursor : ℕ) (c : List ℕ) → cursor < 2 ^ 64 → Counts here other ordinal (content_text run cursor) c → cursor_at here c ≡ cursor
-counts_cursor here other ordinal run cursor c fits counts = cursor_is here 1 ordinal 17 1 run cursor c (fields here other ordinal run cursor c counts) fits
-
-pub counts_register : (here other ordinal run cursor : ℕ) (c : List ℕ) → ordinal ≤ 2 ^ 63 → run ≤ 2097151 → Counts here other ordinal (content_text run cursor) c → IsRegister here other c
-counts_register here other ordinal run cursor c few runs counts = record { counting = is_counting here other ordinal run cursor c counts few; good = is_good here other ordinal run cursor c counts few runs }
-
--- the register that holds a content lies at one of the cells
-pub register_at : (ordinal run cursor : ℕ) (c : List ℕ) → ordinal ≤ 2 ^ 63 → run ≤ 2097151 → RegisterHolds ordinal (content_text run cursor) c → (cell : ℕ) × RegisterIsAt cell c
-register_at ordinal run cursor c few runs (inl p) = (first_cell, inl (refl, counts_register first_cell second_cell ordinal run cursor c few runs p))
-register_at ordinal run cursor c few runs (inr p) = (second_cell, inr (refl, counts_register second_cell first_cell ordinal run cursor c few runs p))
-
--- and there its cursor stands
-pub cursor_there : (cell ordinal run cursor : ℕ) (c : List ℕ) → ordinal ≤ 2 ^ 63 → cursor < 2 ^ 64 → RegisterHolds ordinal (content_text run cursor) c → RegisterIsAt cell c → cursor_at cell c ≡ cursor
-cursor_there cell ordinal run cursor c few fits (inl p) (inl at) = ap (λ (n : ℕ). cursor_at n c) at.0 ∙ counts_cursor first_cell second_cell ordinal run cursor c fits p
-cursor_there cell ordinal run cursor c few fits (inl p) (inr at) = absurd (one_counts first_cell second_cell c (is_counting first_cell second_cell ordinal run cursor c p few) at.1.counting)
-cursor_there cell ordinal run cursor c few fits (inr p) (inl at) = absurd (one_counts second_cell first_cell c (is_counting second_cell first_cell ordinal run cursor c p few) at.1.counting)
-cursor_there cell ordinal run cursor c few fits (inr p) (inr at) = ap (λ (n : ℕ). cursor_at n c) at.0 ∙ counts_cursor second_cell first_cell ordinal run cursor c fits p
+-- the numbers of the register stand in the cell where it lies
+pub says_there : (cell ordinal run cursor : ℕ) (known : List Stretch) (c : List ℕ) → HasRoom ordinal run cursor known → RegisterHas ordinal run cursor known c → RegisterIsAt cell c → Says cell ordinal run cursor known c
+says_there cell ordinal run cursor known c room (content, is, inl p) (inl at) = subst (λ (n : ℕ). Says n ordinal run cursor known c) (sym at.0) (says first_cell ordinal run cursor known c room content is p.holds)
+says_there cell ordinal run cursor known c room (content, is, inl p) (inr at) = absurd (one_counts first_cell second_cell c (is_counting first_cell second_cell ordinal content c room.ordinal_room p) at.1.counting)
+says_there cell ordinal run cursor known c room (content, is, inr p) (inl at) = absurd (one_counts second_cell first_cell c (is_counting second_cell first_cell ordinal content c room.ordinal_room p) at.1.counting)
+says_there cell ordinal run cursor known c room (content, is, inr p) (inr at) = subst (λ (n : ℕ). Says n ordinal run cursor known c) (sym at.0) (says second_cell ordinal run cursor known c room content is p.holds)
 
 -- ---- the slots
 
-abbrev pub state_of : ℕ → ℕ → ℕ → ℕ → ℕ → List OpenSlot → OpenSlot → SpoolState
-state_of slots size run cursor ordinal older active = record { slots = slots; size = size; run = run; cursor = cursor; ordinal = ordinal; older = older; active = active }
+abbrev pub state_of : ℕ → ℕ → ℕ → ℕ → List Stretch → ℕ → List OpenSlot → OpenSlot → SpoolState
+state_of slots size run cursor known ordinal older active =
+    record { slots = slots; size = size; run = run; cursor = cursor; known = known; ordinal = ordinal; older = older; active = active }
+
+-- a cell has room for the numbers of a sound state
+pub state_room : (s : SpoolState) → IsSound s → HasRoom s.ordinal s.run s.cursor s.known
+state_room s sound = record {
+  ordinal_room = sound.ordinal;
+  run_room = omega (arith, sound.run);
+  cursor_room = omega (arith, sound.to_end, sound.ends);
+  few = sound.known.few;
+  known_room = fitting s.cursor (end s) s.known sound.known.apart sound.known_to_end sound.ends;
+}
 
 abbrev pub all_slots : SpoolState → List OpenSlot
 all_slots s = s.older ++ s.active ∷ []
@@ -70,12 +73,12 @@ early_of : (slots : ℕ) (opened : List OpenSlot) → All (IsOpenSlot slots) ope
 early_of slots opened all k d lt = (all k d lt).early
 
 -- the numbers of slots in order fit in eight bytes
-fitting : (slots : List OpenSlot) (ordinal first : ℕ) → AreInOrder slots ordinal first → All (λ slot. (slot.segment.ordinal < 2 ^ 64) × (slot.segment.first < 2 ^ 64)) slots
-fitting [] ordinal first h = All-nil (λ slot. (slot.segment.ordinal < 2 ^ 64) × (slot.segment.first < 2 ^ 64))
-fitting (slot ∷ slots) ordinal first h =
+slots_fit : (slots : List OpenSlot) (ordinal first : ℕ) → AreInOrder slots ordinal first → All (λ slot. (slot.segment.ordinal < 2 ^ 64) × (slot.segment.first < 2 ^ 64)) slots
+slots_fit [] ordinal first h = All-nil (λ slot. (slot.segment.ordinal < 2 ^ 64) × (slot.segment.first < 2 ^ 64))
+slots_fit (slot ∷ slots) ordinal first h =
     All-cons (λ slot. (slot.segment.ordinal < 2 ^ 64) × (slot.segment.first < 2 ^ 64)) slot slots
     (omega (arith, h.0.early, h.0.ends), omega (arith, h.0.ends))
-    (fitting slots (slot.segment.ordinal + 1) (slot.segment.first + count_of slot) h.1)
+    (slots_fit slots (slot.segment.ordinal + 1) (slot.segment.first + count_of slot) h.1)
 
 elsewhere_split : (place : ℕ) (slots : List OpenSlot) (last : OpenSlot) → AreElsewhere place (slots ++ last ∷ []) → AreElsewhere place slots × (last.place ≢ place)
 elsewhere_split place [] last all = (All-nil (λ slot. slot.place ≢ place), All-head (λ slot. slot.place ≢ place) last [] all)
@@ -96,7 +99,7 @@ module _ (s : SpoolState) (c : List ℕ) (stands : StandsFor s c) where
 
   pub state_open_slots : AreOpenSlots s.slots s.size c (all_slots s)
   state_open_slots =
-      let fit = fitting (all_slots s) (ordinal_of (all_slots s) 0) (first_of (all_slots s) 0) state_in_order in
+      let fit = slots_fit (all_slots s) (ordinal_of (all_slots s) 0) (first_of (all_slots s) 0) state_in_order in
       record {
         found = λ k d lt. record { place = (open_slots k d lt).place; holds = hold k d lt; groups = (open_slots k d lt).groups; ordinal = (fit k d lt).0; first = (fit k d lt).1 };
         sorted = sorted-in_order (all_slots s) (ordinal_of (all_slots s) 0) (first_of (all_slots s) 0) state_in_order;

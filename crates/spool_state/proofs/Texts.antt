@@ -1,10 +1,8 @@
 -- Lengths of texts, and a group more.
-use Rattle.std.proofs.Common.{◌≡◌, ℕ, ◌+◌, ◌≤◌, List, [], ◌∷◌, ◌++◌, length, flat_map, refl, sym, ◌∙◌, ap, arith, append_assoc, length-append}
+use Rattle.std.proofs.Common.{◌≡◌, ℕ, ◌+◌, List, [], ◌∷◌, ◌++◌, length, refl, sym, ◌∙◌, ap, arith, append_assoc, length-append}
 use Rattle.std.proofs.lemmas.List.{append-nil}
 use Rattle.std.proofs.lemmas.List.Concat.{flat_map-append}
 use Rattle.event_form.specs.declared.event.Entry.{Entry}
-use Rattle.event_form.specs.Entry.{entry_text}
-use Rattle.event_form.proofs.Fields.{length-entry_text}
 use Rattle.spool_state.specs.Segment.{Segment, with_group, entries_of, entries_text, group_text, need_of, head_text, groups_text, segment_text}
 use Rattle.spool_state.specs.SpoolState.{SpoolState, OpenSlot, entries_in, list, first_of, end, AreConsecutive}
 use Rattle.spool_state.specs.Change.{added}
@@ -17,7 +15,7 @@ pub length-head_text : (ordinal first : ℕ) → length (head_text ordinal first
 unfolding head_text
 length-head_text ordinal first = refl
 
--- the bytes behind a group's gate with the closed gate behind the group
+-- the bytes after a group's gate with the closed gate after the group
 pub length-need : (group : List Entry) → length (group_text group ++ 0 ∷ []) ≡ need_of group
 length-need group = omega (arith, length-append (group_text group) (0 ∷ []), length-group_text group)
 
@@ -48,15 +46,3 @@ slots_end (slot ∷ slots) ordinal first h = omega (arith, slots_end slots ordin
 -- the end is told by the active segment alone
 pub end_active : (s : SpoolState) → AreConsecutive s.older s.active.segment.ordinal s.active.segment.first → end s ≡ s.active.segment.first + length (entries_of s.active.segment)
 end_active s h = omega (arith, slots_end s.older s.active.segment.ordinal s.active.segment.first h, length-append (entries_in s.older) (entries_of s.active.segment))
-
--- there are no more entries than bytes
-entries_short : (entries : List Entry) → length entries ≤ length (entries_text entries)
-entries_short [] = omega arith
-entries_short (e ∷ entries) = omega (arith, entries_short entries, length-append (entry_text e) (entries_text entries), length-entry_text e)
-
-groups_short : (groups : List (List Entry)) → length (flat_map (λ group. group) groups) ≤ length (groups_text groups)
-groups_short [] = omega arith
-groups_short (group ∷ groups) = omega (arith, groups_short groups, entries_short group, length-append group (flat_map (λ g. g) groups), length-append (1 ∷ group_text group) (groups_text groups), length-group_text group)
-
-pub entries_fit : (segment : Segment) → length (entries_of segment) ≤ length (segment_text segment)
-entries_fit segment = omega (arith, groups_short segment.groups, length-append (head_text segment.ordinal segment.first) (groups_text segment.groups))

@@ -1,5 +1,8 @@
+pub mod Layout
 pub mod Segment
 pub mod SpoolState
+pub mod Left
+pub mod Free
 pub mod Change
 pub mod Cells
 pub mod Image

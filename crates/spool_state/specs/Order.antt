@@ -1,5 +1,6 @@
 -- The open slots of a device in order of ordinal, and the first of them that is at fault.
 use Rattle.std.specs.Prelude.{◌≡◌, ◌≢◌, ◌⊎◌, ℕ, ◌+◌, ◌^◌, ◌<◌, ◌≤◌, List, [], ◌∷◌, length, slice_index, All}
+use Rattle.spool_state.specs.Layout.{most_number}
 use Rattle.spool_state.specs.Segment.{IsGroup, entries_of}
 use Rattle.spool_state.specs.SpoolState.{OpenSlot, HasEarlyOrdinal, AreElsewhere}
 use Rattle.spool_state.specs.Image.{slot_at, HoldsSlot}
@@ -31,14 +32,14 @@ pub record AreOpenSlots (slots size : ℕ) (c : List ℕ) (opened : List OpenSlo
 abbrev pub count_of : OpenSlot → ℕ
 count_of slot = length (entries_of slot.segment)
 
--- The slot, with these behind it, is as it must be where this ordinal and this first number are due.
+-- The slot, with these after it, is as it must be where this ordinal and this first number are due.
 pub record IsInOrder (slot : OpenSlot) (behind : List OpenSlot) (ordinal first : ℕ) : Type 0 where
   pub ordinal_due : slot.segment.ordinal ≡ ordinal
   pub first_due : slot.segment.first ≡ first
-  -- the active one, behind which there is none, may have no entry
+  -- the active one, after which there is none, may have no entry
   pub some : 0 < length behind → 0 < count_of slot
   pub early : HasEarlyOrdinal slot
-  pub ends : slot.segment.first + count_of slot ≤ 2 ^ 63
+  pub ends : slot.segment.first + count_of slot ≤ most_number
 
 -- Each of them is. Of the next one the ordinal plus 1 is due, and the first number plus the count.
 abbrev pub AreInOrder : List OpenSlot → ℕ → ℕ → Type 0

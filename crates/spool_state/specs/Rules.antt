@@ -4,9 +4,12 @@ use Rattle.std.specs.Prelude.{◌≡◌, ◌≢◌, ◌⊎◌, ℕ, ◌+◌, ◌
 use Rattle.std.specs.Int.{from_be_bytes}
 use mir.Syntax.{w32, w64}
 use Rattle.foundation.specs.Bytes.{part}
+use Rattle.known_numbers.specs.declared.stretch.Stretch.{Stretch}
+use Rattle.known_numbers.specs.Numbers.{AreApart, EndBy}
+use Rattle.spool_state.specs.Layout.{first_cell, second_cell, first_slot, most_slots, least_size, most_size}
 use Rattle.spool_state.specs.Segment.{IsGroup, Segment}
 use Rattle.spool_state.specs.SpoolState.{OpenSlot, entries_in, first_of, ordinal_of}
-use Rattle.spool_state.specs.Cells.{first_cell, second_cell, IsCounting, HasBadContent, CellsBreak}
+use Rattle.spool_state.specs.Cells.{cursor_at, known_at, IsCounting, HasBadContent, CellsBreak}
 use Rattle.spool_state.specs.Image.{slot_at, magic, HoldsSegment}
 use Rattle.spool_state.specs.Broken.{BreaksAt}
 use Rattle.spool_state.specs.Order.{AreOpenSlots, AreInOrder, FirstAtFault}
@@ -22,15 +25,15 @@ size_told c = from_be_bytes w64 (part 12 8 c)
 
 -- there is room for the header and the two cells, and the device begins with the magic
 pub record IsNamed (c : List ℕ) : Type 0 where
-  pub room : 12288 ≤ length c
+  pub room : first_slot ≤ length c
   pub name : part 0 8 c ≡ magic
 
 -- so many slots of this size make a device of this length, and both numbers are in their ranges
 pub record IsLayout (slots size len : ℕ) : Type 0 where
   pub some : 1 ≤ slots
-  pub few : slots ≤ 1024
-  pub large : 4096 ≤ size
-  pub small : size ≤ 1073741824
+  pub few : slots ≤ most_slots
+  pub large : least_size ≤ size
+  pub small : size ≤ most_size
   pub long : len ≡ slot_at size slots
 
 -- the told numbers are the device's layout
@@ -47,10 +50,6 @@ pub record IsRegister (here other : ℕ) (c : List ℕ) : Type 0 where
 -- this is the offset of the one that does
 abbrev pub RegisterIsAt : ℕ → List ℕ → Type 0
 RegisterIsAt cell c = ((cell ≡ first_cell) × IsRegister first_cell second_cell c) ⊎ ((cell ≡ second_cell) × IsRegister second_cell first_cell c)
-
--- the cursor that stands in the cell there
-abbrev pub cursor_at : ℕ → List ℕ → ℕ
-cursor_at cell c = from_be_bytes w64 (part (cell + 22) 8 c)
 
 -- The header and the cells keep all their rules.
 pub record HasHead (cell : ℕ) (c : List ℕ) : Type 0 where
@@ -76,16 +75,24 @@ abbrev pub OrderBreaks : ℕ → ℕ → List OpenSlot → Type 0
 OrderBreaks at size [] = at ≡ slot_at size 0
 OrderBreaks at size (slot ∷ slots) = (place : ℕ) × (at ≡ slot_at size place) × FirstAtFault (slot ∷ slots) slot.segment.ordinal slot.segment.first place
 
--- ---- and last that of the cursor
+-- ---- and last that of the known numbers
 
 -- at least one slot is open, and all open ones are in order
 pub record IsChain (opened : List OpenSlot) : Type 0 where
   pub some : 0 < length opened
   pub all : AreInOrder opened (ordinal_of opened 0) (first_of opened 0)
 
--- the cursor is below the number of the first entry, or above the end
-abbrev pub CursorBreaks : ℕ → List OpenSlot → Type 0
-CursorBreaks cursor opened = (cursor < first_of opened 0) ⊎ (first_of opened 0 + length (entries_in opened) < cursor)
+-- the number after the last entry of these slots
+abbrev pub end_in : List OpenSlot → ℕ
+end_in opened = first_of opened 0 + length (entries_in opened)
+
+-- The cursor lies from the number of the first entry to the end, and the stretches are apart above it and end at or
+-- below the end.
+pub record AreAmong (cursor : ℕ) (known : List Stretch) (opened : List OpenSlot) : Type 0 where
+  pub from_first : first_of opened 0 ≤ cursor
+  pub to_end : cursor ≤ end_in opened
+  pub apart : AreApart cursor known
+  pub known_to_end : EndBy (end_in opened) known
 
 -- ---- in this order
 
@@ -93,9 +100,9 @@ CursorBreaks cursor opened = (cursor < first_of opened 0) ⊎ (first_of opened 0
 abbrev pub SlotsBreak : ℕ → List ℕ → Type 0
 SlotsBreak at c = (opened : List OpenSlot) × AreOpenSlots (slots_told c) (size_told c) c opened × OrderBreaks at (size_told c) opened
 
--- they are, and the cursor in the cell at this offset doesn't lie among their entries
-abbrev pub CursorIsOutside : ℕ → List ℕ → Type 0
-CursorIsOutside at c = (opened : List OpenSlot) × AreOpenSlots (slots_told c) (size_told c) c opened × IsChain opened × CursorBreaks (cursor_at at c) opened
+-- they are, and the known numbers in the cell at this offset aren't among those of their entries
+abbrev pub KnownBreak : ℕ → List ℕ → Type 0
+KnownBreak at c = (opened : List OpenSlot) × AreOpenSlots (slots_told c) (size_told c) c opened × IsChain opened × (AreAmong (cursor_at at c) (known_at at c) opened → ⊥)
 
 -- A rule is broken, and this is the place of the first one that is: an offset on the device.
 abbrev pub Breaks : ℕ → List ℕ → Type 0
@@ -105,4 +112,4 @@ Breaks at c =
     ⊎ (IsNamed c × IsMeasured c × CellsBreak at c)
     ⊎ ((cell : ℕ) × HasHead cell c × GroupBreaks (slots_told c) (size_told c) at c)
     ⊎ ((cell : ℕ) × HasHead cell c × SlotsBreak at c)
-    ⊎ (HasHead at c × CursorIsOutside at c)
+    ⊎ (HasHead at c × KnownBreak at c)

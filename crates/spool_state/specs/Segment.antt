@@ -32,11 +32,11 @@ entries_of segment = flat_map (λ group. group) segment.groups
 abbrev pub entries_text : List Entry → List ℕ
 entries_text entries = flat_map entry_text entries
 
--- what stands behind a group's gate: the length of the entries' bytes, how many entries they are, and those bytes
+-- what stands after a group's gate: the length of the entries' bytes, how many entries they are, and those bytes
 unfoldable pub group_text : List Entry → List ℕ
 group_text group = to_be_bytes w32 (length (entries_text group)) ++ to_be_bytes w32 (length group) ++ entries_text group
 
--- how many bytes a group takes of a slot's room: its length, its count, its entries, and the closed gate behind it
+-- how many bytes a group takes of a slot's room: its length, its count, its entries, and the closed gate after it
 abbrev pub need_of : List Entry → ℕ
 need_of group = 9 + length (entries_text group)
 
@@ -44,7 +44,7 @@ need_of group = 9 + length (entries_text group)
 unfoldable pub head_text : ℕ → ℕ → List ℕ
 head_text ordinal first = 1 ∷ to_be_bytes w64 ordinal ++ to_be_bytes w64 first
 
--- each group behind an open gate
+-- each group after an open gate
 abbrev pub groups_text : List (List Entry) → List ℕ
 groups_text groups = flat_map (λ group. 1 ∷ group_text group) groups
 

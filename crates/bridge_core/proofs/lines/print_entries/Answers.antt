@@ -1,51 +1,51 @@
-use Rattle.std.proofs.Common.{◌+◌, take, sym, subst, arith}
+use Rattle.std.proofs.Common.{◌+◌, ◌∙◌, take, refl, sym, subst, ap, arith}
 use Rattle.std.specs.Io.KnownBytes.{Appends}
 use Rattle.event_form.specs.Entry.{IsEntry}
+use Rattle.spool_log.specs.declared.reading.numbered.Numbered.{Numbered}
+use Rattle.spool_log.specs.Outcome.{given_entries}
 use Rattle.bridge_words.specs.declared.note.Note.TheVariants.{Fine, WriteFault, NoMemory}
-use Rattle.bridge_core.proofs.Forms.{as_printed}
-use Rattle.bridge_core.proofs.Printing.{stopped_as}
-use Rattle.bridge_core.proofs.Gathered.{gathered_line, gathered_written, gathered_all, gathered_cut, gathered_only}
+use Rattle.bridge_core.proofs.Printing.{stopped_as, gathered_written, gathered_all, gathered_cut, gathered_only}
+use Rattle.bridge_core.proofs.Given.{each_given, printed_first, printed_whole, gathered_one}
 use Rattle.bridge_core.proofs.lines.print_entries.Goals as goal
+
+pub add_line-requires : goal.add_line-requires
+add_line-requires g c =
+    let one = c.one-item.result in
+    let limits = c.requires.limits in
+    subst IsEntry (ap (λ (x : Numbered). x.entry) (sym c.one-item.is)) (each_given limits.0 limits.1 c.args.entries.now limits.2 c.loop-one.one-index one c.loop-one-test.true).limits
 
 pub returns-in_default-clause-printed : goal.returns-in_default-clause-printed
 returns-in_default-clause-printed g c =
-    as_printed c.args.form c.args.first c.args.entries.now NoMemory _ _ c.requires.limits
-    (gathered_only c.args.form c.args.first c.args.entries.now c.loop-i.i _ _ c.loop-i.lines.items c.loop-i.invariant.gathered)
+    let limits = c.requires.limits in
+    printed_first c.args.form c.args.entries.now c.loop-one.one-index _ _ NoMemory limits.0 limits.1 limits.2 (λ is. absurd (cc)) (gathered_only c.args.form _ _ _ c.loop-one.lines.items c.loop-one.invariant.gathered)
 
 pub returns-in_default-write_many-clause-printed : goal.returns-in_default-write_many-clause-printed
 returns-in_default-write_many-clause-printed g c =
-    let es = c.args.entries.now in
-    let e = c.index-entries-i.result in
-    let limits : IsEntry e = subst IsEntry (sym c.index-entries-i.is) (c.requires.limits c.loop-i.i e c.loop-i-test.true) in
+    let limits = c.requires.limits in
+    let i = c.loop-one.one-index in
     let line = c.in-Ok.ensures in
-    let gathered = gathered_line c.args.form c.args.first es c.loop-i.i e _ _ line.0 c.loop-i.lines.items c.add_line.new.lines.items c.loop-i-test.true c.index-entries-i.is limits c.loop-i.invariant.gathered line.1 line.2 in
-    as_printed c.args.form c.args.first es WriteFault _ _ c.requires.limits
-    (gathered_cut c.args.form c.args.first es (c.loop-i.i + 1) _ _ _ c.add_line.new.lines.items gathered c.in_default-write_many.ensures.part)
+    let gathered = gathered_one c.args.form c.args.entries.now i _ _ c.one-item.result c.loop-one.lines.items line.0 c.add_line.new.lines.items c.loop-one-test.true c.one-item.is line.1 line.2 c.loop-one.invariant.gathered in
+    printed_first c.args.form c.args.entries.now (i + 1) _ _ WriteFault limits.0 limits.1 limits.2 (λ is. absurd (cc)) (gathered_cut c.args.form _ _ _ _ c.add_line.new.lines.items c.in_default-write_many.ensures.part gathered)
 
-pub loop-i-preserved : goal.loop-i-preserved
-loop-i-preserved g c =
-    let es = c.args.entries.now in
-    let e = c.index-entries-i.result in
-    let limits : IsEntry e = subst IsEntry (sym c.index-entries-i.is) (c.requires.limits c.loop-i.i e c.loop-i-test.true) in
+pub loop-one-preserved : goal.loop-one-preserved
+loop-one-preserved g c =
+    let i = c.loop-one.one-index in
     let line = c.in-Ok.ensures in
-    let gathered = gathered_line c.args.form c.args.first es c.loop-i.i e _ _ line.0 c.loop-i.lines.items c.add_line.new.lines.items c.loop-i-test.true c.index-entries-i.is limits c.loop-i.invariant.gathered line.1 line.2 in
+    let gathered = gathered_one c.args.form c.args.entries.now i _ _ c.one-item.result c.loop-one.lines.items line.0 c.add_line.new.lines.items c.loop-one-test.true c.one-item.is line.1 line.2 c.loop-one.invariant.gathered in
     record {
-      later = omega (arith, c.loop-i.invariant.later, c.write_many.ensures.later);
-      gathered = gathered_written c.args.form c.args.first (take (c.loop-i.i + 1) es) _ _ _ c.add_line.new.lines.items c.write_many.new.lines.items gathered c.in-Ok-write_many.ensures.done;
+      writes = c.in-Ok-write_many.ensures.cause.quiet refl ∙ c.loop-one.invariant.writes;
+      gathered = gathered_written c.args.form _ _ _ _ c.add_line.new.lines.items c.write_many.new.lines.items c.in-Ok-write_many.ensures.done gathered;
     }
 
 pub returns-in-Ok-write_whole-clause-printed : goal.returns-in-Ok-write_whole-clause-printed
 returns-in-Ok-write_whole-clause-printed g c =
-    let es = c.args.entries.now in
-    let old = g.K.Sink.taken c.args.output.now in
-    let mid = g.K.Sink.taken c.loop-i.output in
+    let mid = g.K.Sink.taken c.loop-one.output in
     let new = g.K.Sink.taken c.write_whole.new.sink in
-    as_printed c.args.form c.args.first es Fine old new c.requires.limits
-    (gathered_all c.args.form c.args.first es c.loop-i.i old mid new c.loop-i.lines.items (omega (arith, c.loop-i-test.false)) c.loop-i.invariant.gathered (subst (Appends mid new) c.deref.ensures.value c.in-Ok-write_whole.ensures.whole))
+    printed_whole c.args.form c.args.entries.now c.loop-one.one-index _ new (omega (arith, c.loop-one-test.false))
+    (gathered_all c.args.form _ _ mid new c.loop-one.lines.items (subst (Appends mid new) c.deref.ensures.value c.in-Ok-write_whole.ensures.whole) c.loop-one.invariant.gathered)
 
 pub returns-clause-printed : goal.returns-clause-printed
 returns-clause-printed g c =
-    let es = c.args.entries.now in
-    as_printed c.args.form c.args.first es WriteFault _ _ c.requires.limits
-    (gathered_cut c.args.form c.args.first es c.loop-i.i _ _ _ c.loop-i.lines.items c.loop-i.invariant.gathered
-    (stopped_as c.loop-i.lines.items c.deref.result.now c.in-Err.field-0.sent _ _ c.deref.ensures.value c.in-Err.ensures.part.0 c.in-Err.ensures.part.1))
+    let limits = c.requires.limits in
+    printed_first c.args.form c.args.entries.now c.loop-one.one-index _ _ WriteFault limits.0 limits.1 limits.2 (λ is. absurd (cc))
+    (gathered_cut c.args.form _ _ _ _ c.loop-one.lines.items (stopped_as c.loop-one.lines.items c.deref.result.now c.in-Err.field-0.sent _ _ c.deref.ensures.value c.in-Err.ensures.part.0 c.in-Err.ensures.part.1) c.loop-one.invariant.gathered)

@@ -1,14 +1,20 @@
-use Rattle.std.proofs.Common.{◌*◌, ◌^◌, inr, refl}
+use Rattle.std.proofs.Common.{◌*◌, ◌^◌, ◌∙◌, inr, refl}
+use Rattle.edge_disk.proofs.Calls.{calls_on}
 use Rattle.spool_log.specs.declared.opening.Opening.TheVariants.{Raise}
+use Rattle.spool_log.specs.Memory.{run_of}
 use Rattle.spool_log.specs.Opening.{opened}
 use Rattle.bridge_core.specs.Replayed.{IsStored}
 use Rattle.bridge_core.proofs.Replays.{served_as, stored_from}
 use Rattle.bridge_core.proofs.Durable.{acked_is_durable}
+use Rattle.bridge_core.proofs.Sure.{unopened_calls, unopened_reads, unopened_writes}
 use Rattle.bridge_core.proofs.replaying.replay.Goals as goal
+
+pub returns-in-Ok-clause-calls : goal.returns-in-Ok-clause-calls
+returns-in-Ok-clause-calls g c = calls_on _ _ _ _ _ c.in-Ok.ensures.calls (λ none. none) c.serve_input.ensures.calls
 
 pub returns-in-Ok-clause-replayed : goal.returns-in-Ok-clause-replayed
 returns-in-Ok-clause-replayed g c =
-    let run = c.in-Ok.spool.known.register.content.run in
+    let run = run_of c.in-Ok.spool.memory in
     let old = g.D.Disk.moment c.args.disk in
     let new = g.D.Disk.moment c.serve_input.result.disk in
     let served = served_as c.args.proto (run * 2 ^ 32) _ _ _ _ _ _ _ (λ calls. g.D.Disk.tells → IsStored old new (run * 2 ^ 32) calls) c.serve_input.result.note (λ calls made tells.
@@ -20,3 +26,12 @@ returns-in-Ok-clause-replayed g c =
       served = served;
       acknowledged = λ numbers tells says. acked_is_durable c.args.proto (run * 2 ^ 32) serves.bytes serves.calls serves.text served.attended.talk old new numbers serves.carried (serves.made tells) says;
     })
+
+pub returns-in-Err-clause-calls : goal.returns-in-Err-clause-calls
+returns-in-Err-clause-calls g c = unopened_calls c.in-Err.field-0.fault c.of.result.note _ _ (c.of.ensures.note ∙ c.recover_note.ensures) (rw c.of.ensures.disk c.in-Err.ensures.calls)
+
+pub returns-in-Err-clause-reads : goal.returns-in-Err-clause-reads
+returns-in-Err-clause-reads g c = unopened_reads c.in-Err.field-0.fault c.of.result.note _ (c.of.ensures.note ∙ c.recover_note.ensures)
+
+pub returns-in-Err-clause-writes : goal.returns-in-Err-clause-writes
+returns-in-Err-clause-writes g c = unopened_writes c.in-Err.field-0.fault c.of.result.note _ (c.of.ensures.note ∙ c.recover_note.ensures)

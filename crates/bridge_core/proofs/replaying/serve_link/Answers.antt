@@ -1,28 +1,46 @@
-use Rattle.std.proofs.Common.{◌≡◌, ℕ, ◌*◌, ◌^◌, sym, ◌∙◌, ap, subst}
-use Rattle.foundation.specs.Faults.{Rose}
+use Rattle.std.proofs.Common.{◌≡◌, ℕ, ◌*◌, ◌^◌, sym, ◌∙◌, ap, subst, arith}
+use Rattle.edge_disk.specs.Calls.{Calls}
+use Rattle.hec_ids.specs.Rows.{opened}
+use Rattle.bridge_words.specs.Notes.{note_of_talk}
+use Rattle.bridge_words.specs.declared.note.Note.{Note}
 use Rattle.conn_serve.specs.Serves.{CarriedBy}
+use Rattle.conn_serve.proofs.Faults.{counts_as}
 use Rattle.bridge_core.specs.Replayed.{Keeps}
-use Rattle.bridge_core.proofs.Replays.{runs_keep, disk_rose, no_ending}
+use Rattle.bridge_core.proofs.Failing.{disk_calls, talk_by_read, talk_by_write}
+use Rattle.bridge_core.proofs.Replays.{desk_at, ran_keeps, no_ending}
 use Rattle.bridge_core.proofs.replaying.serve_link.Goals as goal
+
+pub new-access-requires-clause-ids : goal.new-access-requires-clause-ids
+new-access-requires-clause-ids g c = (0, omega arith, c.new-ids.ensures ∙ ap (λ (n : ℕ). opened n 0) c.run-run.ensures)
 
 pub returns-clause-known : goal.returns-clause-known
 returns-clause-known g c = no_ending c.attend-attended.result.talk c.of.result.note (c.of.ensures.note ∙ c.of_talk.ensures)
 
-pub returns-clause-disk_cause : goal.returns-clause-disk_cause
-returns-clause-disk_cause g c = λ by_disk.
+pub returns-clause-calls : goal.returns-clause-calls
+returns-clause-calls g c =
     let run = c.attend-attended.ensures.carried in
     let before : c.new-access.result.desk.spool.disk ≡ c.args.spool.disk = ap (λ d. d.spool.disk) c.new-access.ensures.desk in
     let after : c.of.result.disk ≡ c.attend-attended.new.access.desk.spool.disk = c.of.ensures.disk ∙ c.into_disk.ensures ∙ ap (λ d. d.spool.disk) c.into_desk-desk.ensures in
-    subst (λ (d : _). Rose 1 (g.D.Disk.moment d).faults (g.D.Disk.moment c.of.result.disk).faults) before
-    (subst (λ (d : _). Rose 1 (g.D.Disk.moment c.new-access.result.desk.spool.disk).faults (g.D.Disk.moment d).faults) (sym after)
-    (disk_rose c.args.proto _ run.bytes run.calls run.text c.attend-attended.result.talk c.of.result.note _ _ (c.of.ensures.note ∙ c.of_talk.ensures) run.carried run.made.cause by_disk))
+    subst (λ (d : _). Calls (c.of.result.note ≡ Note.DiskFault) (g.D.Disk.moment d) (g.D.Disk.moment c.of.result.disk)) before
+    (subst (λ (d : _). Calls (c.of.result.note ≡ Note.DiskFault) (g.D.Disk.moment c.new-access.result.desk.spool.disk) (g.D.Disk.moment d)) (sym after)
+    (disk_calls c.args.proto _ run.bytes run.calls run.text c.attend-attended.result.talk c.of.result.note g.D.Disk.tells _ _ (c.of.ensures.note ∙ c.of_talk.ensures) run.carried run.made))
+
+pub returns-clause-reads : goal.returns-clause-reads
+returns-clause-reads g c =
+    let is : c.of.result.note ≡ note_of_talk c.attend-attended.result.talk = c.of.ensures.note ∙ c.of_talk.ensures in
+    counts_as _ _ _ _ (λ by. talk_by_read c.attend-attended.result.talk (sym is ∙ by)) (λ by. is ∙ ap note_of_talk by) c.attend-attended.ensures.reads
+
+pub returns-clause-writes : goal.returns-clause-writes
+returns-clause-writes g c =
+    let is : c.of.result.note ≡ note_of_talk c.attend-attended.result.talk = c.of.ensures.note ∙ c.of_talk.ensures in
+    counts_as _ _ _ _ (λ by. talk_by_write c.attend-attended.result.talk (sym is ∙ by)) (λ by. is ∙ ap note_of_talk by) c.attend-attended.ensures.writes
 
 pub returns-clause-served : goal.returns-clause-served
 returns-clause-served g c =
     let run = c.attend-attended.ensures.carried in
     let before : c.new-access.result.desk.spool.disk ≡ c.args.spool.disk = ap (λ d. d.spool.disk) c.new-access.ensures.desk in
     let after : c.of.result.disk ≡ c.attend-attended.new.access.desk.spool.disk = c.of.ensures.disk ∙ c.into_disk.ensures ∙ ap (λ d. d.spool.disk) c.into_desk-desk.ensures in
-    let number : c.from-conn.result * 2 ^ 32 ≡ c.args.spool.known.register.content.run * 2 ^ 32 = ap (λ (n : ℕ). n * 2 ^ 32) (c.from-conn.ensures ∙ c.run.ensures) in
+    let number : c.from-conn.result * 2 ^ 32 ≡ c.run-run.result * 2 ^ 32 = ap (λ (n : ℕ). n * 2 ^ 32) c.from-conn.ensures in
     record {
       attended = c.attend-attended.result;
       note_is = c.of.ensures.note ∙ c.of_talk.ensures;
@@ -34,11 +52,12 @@ returns-clause-served g c =
         consumed = run.consumed;
         wrote = run.wrote;
         made = λ s tells held.
+            let at = desk_at s c.new-ids.result c.run-run.result _ c.new-ids.ensures (c.run-run.ensures ∙ held.knows.run) (c.new-access.ensures.at s held) in
             subst (λ (d : _). Keeps s (g.D.Disk.moment d) (g.D.Disk.moment c.of.result.disk) run.calls) before
             (subst (λ (d : _). Keeps s (g.D.Disk.moment c.new-access.result.desk.spool.disk) (g.D.Disk.moment d) run.calls) (sym after)
-            (runs_keep s _ _ _ run.calls tells (c.new-access.ensures.at s held) run.made));
+            (ran_keeps s _ _ _ run.calls tells at run.made));
         counted = run.counted;
-        carried = subst (λ (n : ℕ). CarriedBy c.args.proto n run.bytes run.calls run.text c.attend-attended.result.talk) number run.carried;
+        carried = subst (λ (n : ℕ). CarriedBy c.args.proto n run.bytes run.calls run.text c.attend-attended.result.talk) (number ∙ ap (λ (n : ℕ). n * 2 ^ 32) c.run-run.ensures) run.carried;
       };
       ended = c.attend-attended.ensures.end;
     }

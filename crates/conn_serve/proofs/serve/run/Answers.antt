@@ -1,7 +1,8 @@
-use Rattle.std.proofs.Common.{◌∙◌, ℕ, List, arith, sym, subst}
+use Rattle.std.proofs.Common.{◌∙◌, ℕ, List, arith, sym, ap, subst}
 use Rattle.std.specs.Prelude.{Err}
 use Rattle.std.specs.Io.KnownBytes.{IsAtEnd}
 use Rattle.desk_access.specs.Call.{Call}
+use Rattle.conn_serve.proofs.Faults.{counts_from}
 use Rattle.conn_serve.proofs.Leading.{done_map}
 use Rattle.conn_serve.proofs.Running.{told, serves, serves_unread, progress_fed, progress_served, progress_ends, so_far_of, by_end}
 use Rattle.conn_serve.proofs.serve.run.Goals as goal
@@ -119,6 +120,17 @@ loop-total-preserved g c =
       extent = omega (arith, inv.extent, c.in-Ok.ensures.extent, call.extent);
       below = omega (arith, inv.below, c.in-Ok.ensures.room, c.min-room.ensures);
       same = g.L.Object.same_trans _ _ _ (g.L.Object.same_trans _ _ _ inv.same c.in-Ok.ensures.same) call.same;
-      reads = omega (arith, inv.reads, c.in-Ok.ensures.later, writes.2);
-      writes = omega (arith, inv.writes, call.later, reads.1);
+      reads = writes.2 ∙ (c.in-Ok.ensures.reads.quiet (λ is. cc) ∙ inv.reads);
+      writes = call.writes.quiet (λ is. cc) ∙ (reads.1 ∙ inv.writes);
     }
+
+pub returns-in-Err-serve-clause-writes : goal.returns-in-Err-serve-clause-writes
+returns-in-Err-serve-clause-writes g c =
+    let reads = g.met.L.Link.reads_keep _ _ c.in-Ok.ensures.apart in
+    counts_from _ _ _ _ _ (reads.1 ∙ c.loop-total.invariant.writes) (λ is. ap Err is) (λ is. cc) c.in-Err-serve.ensures.writes
+
+pub returns-in-Err-finish-clause-writes : goal.returns-in-Err-finish-clause-writes
+returns-in-Err-finish-clause-writes g c =
+    let reads = g.met.L.Link.reads_keep _ _ c.in-Ok.ensures.apart in
+    let served = c.in_default.ensures.writes.quiet (λ is. cc) in
+    counts_from _ _ _ _ _ (served ∙ (reads.1 ∙ c.loop-total.invariant.writes)) (λ is. ap Err is) (λ is. cc) c.in-Err-finish.ensures.writes

@@ -17,8 +17,8 @@ invariant-loop-total g l =
       extent : g.S.Session.extent l.session ≤ l.total;
       below : l.total ≤ 1099511627776;
       same : g.L.Object.same l.fn.link l.link;
-      reads : g.L.Source.read_faults l.fn.link ≤ g.L.Source.read_faults l.link;
-      writes : g.L.Sink.write_faults l.fn.link ≤ g.L.Sink.write_faults l.link;
+      reads : g.L.Source.read_faults l.link ≡ g.L.Source.read_faults l.fn.link;
+      writes : g.L.Sink.write_faults l.link ≡ g.L.Sink.write_faults l.fn.link;
     }
 
 abbrev pub decreases-loop-total : goal.decreases-loop-total

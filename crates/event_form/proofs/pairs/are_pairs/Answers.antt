@@ -1,6 +1,6 @@
 use Rattle.std.proofs.Common.{◌≡◌, ◌≢◌, ◌-◌, ◌+◌, ◌<◌, ◌^◌, [], length, refl, sym, ◌∙◌, ap, arith, eq-eqb}
 use Rattle.std.proofs.lemmas.Bool.{eqb-true, eqb-false}
-use Rattle.event_form.specs.declared.pairs.TheConstants.{MOST_PAIRS}
+use Rattle.event_form.specs.declared.limits.TheConstants.{MOST_PAIRS}
 use Rattle.event_form.proofs.Strings.{up_to_none, up_to_zero, up_to_less, up_to_more, up_to_stuck, pair_shorter, pairs_up_to, up_to_pairs}
 use Rattle.event_form.proofs.pairs.are_pairs.Goals as goal
 
@@ -23,9 +23,9 @@ loop-preserved c =
     let pair = c.in-Some.ensures.some in
     let one : MOST_PAIRS - c.loop.counter ≡ MOST_PAIRS - (c.loop.counter + 1) + 1 = omega arith in
     record {
-      short = omega (arith, pair_shorter pair.0 c.loop.rest.now c.in-Some.behind.now pair.1, c.loop.invariant.short);
-      there = λ h. c.loop.invariant.there (up_to_more (MOST_PAIRS - c.loop.counter) (MOST_PAIRS - (c.loop.counter + 1)) pair.0 c.loop.rest.now c.in-Some.behind.now one pair.1 h);
-      back = λ h. up_to_less (MOST_PAIRS - c.loop.counter) (MOST_PAIRS - (c.loop.counter + 1)) pair.0 c.loop.rest.now c.in-Some.behind.now one (omega (arith, c.loop.invariant.short)) pair.1 (c.loop.invariant.back h);
+      short = omega (arith, pair_shorter _ c.loop.rest.now c.in-Some.behind.now pair, c.loop.invariant.short);
+      there = λ h. c.loop.invariant.there (up_to_more (MOST_PAIRS - c.loop.counter) (MOST_PAIRS - (c.loop.counter + 1)) _ c.loop.rest.now c.in-Some.behind.now one pair h);
+      back = λ h. up_to_less (MOST_PAIRS - c.loop.counter) (MOST_PAIRS - (c.loop.counter + 1)) _ c.loop.rest.now c.in-Some.behind.now one (omega (arith, c.loop.invariant.short)) pair (c.loop.invariant.back h);
     }
 
 pub returns : goal.returns

@@ -1,6 +1,6 @@
-use Rattle.std.proofs.Common.{◌≡◌, ◌<◌, sym, ◌∙◌, ap, arith}
-use Rattle.std.specs.Int.{w32, from_be_bytes}
+use Rattle.std.proofs.Common.{◌<◌, sym, ◌∙◌, arith}
 use Rattle.std.proofs.lemmas.Bool.{eqb-true}
+use Rattle.event_form.specs.declared.limits.TheConstants.{MOST_TEXT}
 use Rattle.event_form.specs.Reading.{told_length}
 use Rattle.event_form.proofs.Faults.{bad_empty, bad_origin, bad_head, bad_length}
 use Rattle.event_form.proofs.reading.read_head.Goals as goal
@@ -16,6 +16,5 @@ returns-then-bytes-lt-HEAD_BYTES-clause-err c = bad_head c.in-Some.origin c.args
 
 pub returns-then-length-gt-MOST_TEXT-clause-err : goal.returns-then-length-gt-MOST_TEXT-clause-err
 returns-then-length-gt-MOST_TEXT-clause-err c =
-    let told : c.from_be_bytes-length.result ≡ told_length c.args.bytes.now = c.from_be_bytes-length.ensures ∙ ap (from_be_bytes w32) c.copy_from_slice.ensures.after in
-    let long : 131072 < told_length c.args.bytes.now = omega (arith, told, c.if-length-gt-MOST_TEXT.true) in
+    let long : MOST_TEXT < told_length c.args.bytes.now = omega (arith, c.text_length-length.ensures, c.if-length-gt-MOST_TEXT.true) in
     bad_length c.in-Some.origin c.args.bytes.now c.in-Some.ensures.some c.if-bytes-lt-HEAD_BYTES.false long

@@ -3,6 +3,7 @@ use Rattle.event_form.proofs.Fields.{length-head_text}
 use Rattle.spool_state.specs.Segment.{entries_text}
 use Rattle.spool_state.proofs.Entries.{entries_within, length-entries_more, parts_more}
 use Rattle.spool_slots.specs.Pen.{HasWritten}
+use Rattle.spool_slots.proofs.Faults.{calls_passed}
 use Rattle.spool_slots.proofs.Pens.{run_then}
 use Rattle.spool_slots.proofs.append.write_entries.Goals as goal
 
@@ -10,7 +11,7 @@ pub write-requires-clause-room : goal.write-requires-clause-room
 write-requires-clause-room g c =
     let i = c.loop-entry.entry-index in
     let e = c.entry-item.result in
-    omega (arith, c.requires.room, c.loop-entry.invariant.size, c.loop-entry.invariant.took, ap length c.entry_head.ensures, length-head_text e, length-entries_more c.args.entries.now i e c.loop-entry-test.true c.entry-item.is, entries_within c.args.entries.now (i + 1))
+    omega (arith, c.requires.room, c.loop-entry.invariant.calls.size, c.loop-entry.invariant.took, ap length c.entry_head.ensures, length-head_text e, length-entries_more c.args.entries.now i e c.loop-entry-test.true c.entry-item.is, entries_within c.args.entries.now (i + 1))
 
 pub returns-in_err-write-clause-any_moment : goal.returns-in_err-write-clause-any_moment
 returns-in_err-write-clause-any_moment g c = λ tells.
@@ -22,7 +23,7 @@ pub write-requires-in-loop-entry-clause-room : goal.write-requires-in-loop-entry
 write-requires-in-loop-entry-clause-room g c =
     let i = c.loop-entry.entry-index in
     let e = c.entry-item.result in
-    omega (arith, c.requires.room, c.write.ensures.same_size, c.in_ok-write.ensures.took, c.loop-entry.invariant.size, c.loop-entry.invariant.took, ap length c.entry_head.ensures, ap length c.bytes.ensures, length-head_text e, length-entries_more c.args.entries.now i e c.loop-entry-test.true c.entry-item.is, entries_within c.args.entries.now (i + 1))
+    omega (arith, c.requires.room, c.write.ensures.calls.size, c.in_ok-write.ensures.took, c.loop-entry.invariant.calls.size, c.loop-entry.invariant.took, ap length c.entry_head.ensures, ap length c.bytes.ensures, length-head_text e, length-entries_more c.args.entries.now i e c.loop-entry-test.true c.entry-item.is, entries_within c.args.entries.now (i + 1))
 
 pub returns-in_err-write-2-clause-any_moment : goal.returns-in_err-write-2-clause-any_moment
 returns-in_err-write-2-clause-any_moment g c = λ tells.
@@ -43,8 +44,7 @@ loop-entry-preserved g c =
     let pen = c.write-in-loop-entry.new.self in
     let done = entries_text (take i c.args.entries.now) in
     record {
-      size = omega (arith, c.write-in-loop-entry.ensures.same_size, c.write.ensures.same_size, c.loop-entry.invariant.size);
-      later = omega (arith, c.write-in-loop-entry.ensures.cause.later, c.write.ensures.cause.later, c.loop-entry.invariant.later);
+      calls = calls_passed _ _ _ _ (calls_passed _ _ _ _ c.loop-entry.invariant.calls c.in_ok-write.ensures.calls (λ f. cc)) c.in_ok-write-2.ensures.calls (λ f. cc);
       goes_on = omega (arith, c.loop-entry.invariant.goes_on, c.write.ensures.goes_on, c.write-in-loop-entry.ensures.goes_on);
       took = omega (arith, c.loop-entry.invariant.took, c.in_ok-write.ensures.took, c.in_ok-write-2.ensures.took, head, ap length c.bytes.ensures, more);
       run = λ tells.

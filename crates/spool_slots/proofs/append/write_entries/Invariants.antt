@@ -1,5 +1,6 @@
 use Rattle.std.proofs.Common.{◌≡◌, ◌+◌, ◌≤◌, ◌++◌, ℕ, List, length, take}
 use Rattle.foundation.specs.Bytes.{SameBut}
+use Rattle.edge_disk.specs.Calls.{Calls}
 use Rattle.edge_disk.specs.Disk.{LeavesOnly}
 use Rattle.edge_disk.specs.Gate.{ComesFrom}
 use Rattle.spool_state.specs.Segment.{entries_text}
@@ -11,8 +12,7 @@ invariant-loop-entry g l =
     let moment = g.D.Disk.moment in
     let done = entries_text (take l.entry-index l.entries) in
     record {
-      size : (moment l.disk).size ≡ (moment l.fn.disk).size;
-      later : (moment l.fn.disk).faults ≤ (moment l.disk).faults;
+      calls : Calls ⊥ (moment l.fn.disk) (moment l.disk);
       goes_on : l.fn.pen.at ≤ l.pen.at;
       took : l.pen.at + l.pen.filled ≡ l.fn.pen.at + l.fn.pen.filled + length done;
       run : g.D.Disk.tells → LeavesOnly (ComesFrom (moment l.fn.disk) (SameBut l.fn.pen.at (l.fn.pen.filled + length (entries_text l.entries)))) (moment l.fn.disk) (moment l.disk);

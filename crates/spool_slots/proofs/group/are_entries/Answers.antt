@@ -6,6 +6,7 @@ use Rattle.foundation.proofs.Bytes.{length-part}
 use Rattle.event_form.specs.Reading.{Begins, BeginsNoEntry}
 use Rattle.edge_disk.proofs.Moments.{untouched_then}
 use Rattle.spool_slots.specs.Groups.{BeginsEntries}
+use Rattle.spool_slots.proofs.Faults.{calls_passed}
 use Rattle.spool_slots.proofs.Walks.{walk_more, walk_none, walk_all, walk_long}
 use Rattle.spool_slots.proofs.group.are_entries.Goals as goal
 
@@ -27,8 +28,7 @@ loop-i-preserved g c =
     let n = c.in-Some.n in
     let inside = rw c.in-Some.is at c.in_ok-n.ensures.inside in
     record {
-      size = c.entry_at.ensures.same_size ∙ c.loop-i.invariant.size;
-      later = omega (arith, c.loop-i.invariant.later, c.entry_at.ensures.cause.later);
+      calls = calls_passed _ _ _ _ c.loop-i.invariant.calls c.in_ok-n.ensures.calls (λ f. cc);
       told = λ tells. untouched_then _ _ _ (g.met.D.Disk.lawful c.args.disk.now tells) (c.loop-i.invariant.told tells) (c.entry_at.ensures.told tells);
       window = λ tells. c.in_ok-n.ensures.window tells;
       begins = omega (arith, c.loop-i.invariant.begins, inside.0);

@@ -1,5 +1,6 @@
 use Rattle.std.proofs.Common.{◌≡◌, ◌+◌, ◌-◌, ◌*◌, ◌≤◌}
 use Rattle.foundation.specs.Bytes.{part}
+use Rattle.edge_disk.specs.Calls.{Calls}
 use Rattle.edge_disk.specs.Disk.{IsUntouched}
 use Rattle.spool_slots.specs.Groups.{BeginsEntries}
 use Rattle.spool_slots.specs.Window.{IsWindow}
@@ -9,8 +10,7 @@ abbrev pub invariant-loop-i : goal.invariant-loop-i
 invariant-loop-i g l =
     let moment = g.D.Disk.moment in
     record {
-      size : (moment l.disk).size ≡ (moment l.fn.disk).size;
-      later : (moment l.fn.disk).faults ≤ (moment l.disk).faults;
+      calls : Calls ⊥ (moment l.fn.disk) (moment l.disk);
       told : g.D.Disk.tells → IsUntouched (moment l.fn.disk) (moment l.disk);
       window : g.D.Disk.tells → IsWindow l.at l.window (moment l.disk).reads;
       begins : l.from + 29 * l.i ≤ l.place;

@@ -1,64 +1,43 @@
-use Rattle.std.proofs.Common.{◌≡◌, ◌+◌, ◌-◌, ◌^◌, ◌<◌, ◌≤◌, ℕ, List, take, drop, length, sym, ◌∙◌, ap, subst, arith}
-use Rattle.std.specs.Int.{w32, from_be_bytes}
+use Rattle.std.proofs.Common.{◌≡◌, ◌+◌, ◌-◌, ◌^◌, ◌<◌, ◌≤◌, ℕ, List, length, get_or, sym, ◌∙◌, ap, subst, arith}
 use Rattle.foundation.specs.Bytes.{part}
+use Rattle.foundation.proofs.Bytes.{length-part}
 use Rattle.edge_disk.proofs.Moments.{untouched_then}
-use Rattle.spool_slots.specs.Groups.{AreEntries}
-use Rattle.spool_slots.proofs.Found.{gate_read, broken_short, broken_count, broken_long, broken_entries, group_found}
+use Rattle.spool_slots.specs.Groups.{AreEntries, BeginsNoGroup, HasHead}
+use Rattle.spool_slots.proofs.Found.{group_found, group_none}
+use Rattle.spool_slots.proofs.Windows.{part-part, same_gate}
 use Rattle.spool_slots.proofs.group.look_at.Goals as goal
-use Rattle.spool_slots.proofs.group.look_at.Goals.{then-count-eq0-via-then-count-eq0, then-count-eq0-via-else-count-eq0+then-from-size}
 
-pub returns-then-size-gate-le9-clause-seen : goal.returns-then-size-gate-le9-clause-seen
-returns-then-size-gate-le9-clause-seen g c = λ tells.
-    let lawful = g.met.D.Disk.lawful c.args.disk.now tells in
-    let reads = (g.D.Disk.moment c.args.disk.now).reads in
-    let p = c.args.at + c.args.gate in
-    let k = c.args.size - c.args.gate in
-    let room : p + k ≤ length reads = omega (arith, c.requires.place, c.requires.gate, lawful.reads_size) in
-    let small : k < 2 ^ 32 = omega (arith, c.requires.small) in
-    let same = (c.cover.ensures.told tells).same in
-    let opens = gate_read p k c.bytes.result.now reads (omega (arith, c.requires.gate)) (c.bytes.ensures.value c.args.at _ (c.in_ok-cover.ensures.window tells) ∙ ap (part p 1) same) c.if-bytes-ne1.false in
-    (opens, broken_short p k reads room small c.if-size-gate-le9.true)
+pub returns-in_err-head-clause-told : goal.returns-in_err-head-clause-told
+returns-in_err-head-clause-told g c = λ tells. untouched_then _ _ _ (g.met.D.Disk.lawful c.args.disk.now tells) (c.cover.ensures.told tells) (c.head_at.ensures.told tells)
 
-pub returns-then-count-eq0-clause-told : goal.returns-then-count-eq0-clause-told
-returns-then-count-eq0-clause-told g c = λ tells.
-    let lawful = g.met.D.Disk.lawful c.args.disk.now tells in
-    untouched_then _ _ _ lawful (c.cover.ensures.told tells) (c.cover-2.ensures.told tells)
+pub returns-in_default-clause-told : goal.returns-in_default-clause-told
+returns-in_default-clause-told g c = λ tells. untouched_then _ _ _ (g.met.D.Disk.lawful c.args.disk.now tells) (c.cover.ensures.told tells) (c.head_at.ensures.told tells)
 
 pub returns-in_err-are_entries-clause-told : goal.returns-in_err-are_entries-clause-told
 returns-in_err-are_entries-clause-told g c = λ tells.
     let lawful = g.met.D.Disk.lawful c.args.disk.now tells in
-    untouched_then _ _ _ lawful (untouched_then _ _ _ lawful (c.cover.ensures.told tells) (c.cover-2.ensures.told tells)) (c.are_entries.ensures.told tells)
+    untouched_then _ _ _ lawful (untouched_then _ _ _ lawful (c.cover.ensures.told tells) (c.head_at.ensures.told tells)) (c.are_entries.ensures.told tells)
 
 pub returns-then-branch-clause-told : goal.returns-then-branch-clause-told
 returns-then-branch-clause-told g c = λ tells.
     let lawful = g.met.D.Disk.lawful c.args.disk.now tells in
-    untouched_then _ _ _ lawful (untouched_then _ _ _ lawful (c.cover.ensures.told tells) (c.cover-2.ensures.told tells)) (c.are_entries.ensures.told tells)
+    untouched_then _ _ _ lawful (untouched_then _ _ _ lawful (c.cover.ensures.told tells) (c.head_at.ensures.told tells)) (c.are_entries.ensures.told tells)
 
 pub returns-else-branch-clause-told : goal.returns-else-branch-clause-told
 returns-else-branch-clause-told g c = λ tells.
     let lawful = g.met.D.Disk.lawful c.args.disk.now tells in
-    untouched_then _ _ _ lawful (untouched_then _ _ _ lawful (c.cover.ensures.told tells) (c.cover-2.ensures.told tells)) (c.are_entries.ensures.told tells)
+    untouched_then _ _ _ lawful (untouched_then _ _ _ lawful (c.cover.ensures.told tells) (c.head_at.ensures.told tells)) (c.are_entries.ensures.told tells)
 
-pub returns-then-count-eq0-clause-seen : goal.returns-then-count-eq0-clause-seen
-returns-then-count-eq0-clause-seen g c = λ tells.
-    let lawful = g.met.D.Disk.lawful c.args.disk.now tells in
+pub returns-in_default-clause-seen : goal.returns-in_default-clause-seen
+returns-in_default-clause-seen g c = λ tells.
     let reads = (g.D.Disk.moment c.args.disk.now).reads in
     let p = c.args.at + c.args.gate in
     let k = c.args.size - c.args.gate in
-    let room : p + k ≤ length reads = omega (arith, c.requires.place, c.requires.gate, lawful.reads_size) in
-    let small : k < 2 ^ 32 = omega (arith, c.requires.small) in
     let same = (c.cover.ensures.told tells).same in
-    let opens = gate_read p k c.bytes.result.now reads (omega (arith, c.requires.gate)) (c.bytes.ensures.value c.args.at _ (c.in_ok-cover.ensures.window tells) ∙ ap (part p 1) same) c.if-bytes-ne1.false in
-    let same_2 = (c.cover-2.ensures.told tells).same ∙ same in
-    let p_is : c.args.at + (c.args.gate + 1) ≡ p + 1 = omega arith in
-    let head_is = c.bytes-head.ensures.value c.args.at _ (c.in_ok-cover-2.ensures.window tells) ∙ ap (part (c.args.at + (c.args.gate + 1)) 8) same_2 ∙ ap (λ (j : ℕ). part j 8 reads) p_is in
-    let len_is = c.u32_at-len.ensures.value ∙ ap (λ (l : List ℕ). from_be_bytes w32 (take 4 (drop 0 l))) head_is in
-    let count_is = c.u32_at-count.ensures.value ∙ ap (λ (l : List ℕ). from_be_bytes w32 (take 4 (drop 4 l))) head_is in (
-      opens,
-      λ group begins. elim c.then-count-eq0.branch [
-        | then-count-eq0-via-then-count-eq0 w ↦ broken_count p k reads room small c.u32_at-count.result count_is w.if-count-eq0.true group begins
-        | then-count-eq0-via-else-count-eq0+then-from-size w ↦ broken_long p k reads room small c.u32_at-len.result len_is (omega (arith, w.if-from-size.true, w.from.ensures)) group begins
-      ],
+    let byte_is = c.bytes.ensures.value c.args.at _ (c.in_ok-cover.ensures.window tells) ∙ ap (part p 1) same in
+    let none = rw c.in_default.is at (c.in_ok-head.ensures.found tells) in (
+      sym (ap (λ (l : List ℕ). get_or l 0 0) byte_is ∙ same_gate p 1 k reads (omega arith) (omega (arith, c.requires.gate))) ∙ c.if-bytes-ne1.false,
+      subst (λ (l : List ℕ). BeginsNoGroup (part p k l)) same none,
     )
 
 pub returns-then-branch-clause-seen : goal.returns-then-branch-clause-seen
@@ -67,24 +46,15 @@ returns-then-branch-clause-seen g c = λ tells.
     let reads = (g.D.Disk.moment c.args.disk.now).reads in
     let p = c.args.at + c.args.gate in
     let k = c.args.size - c.args.gate in
-    let room : p + k ≤ length reads = omega (arith, c.requires.place, c.requires.gate, lawful.reads_size) in
-    let small : k < 2 ^ 32 = omega (arith, c.requires.small) in
+    let head = c.in-Some.head in
     let same = (c.cover.ensures.told tells).same in
-    let opens = gate_read p k c.bytes.result.now reads (omega (arith, c.requires.gate)) (c.bytes.ensures.value c.args.at _ (c.in_ok-cover.ensures.window tells) ∙ ap (part p 1) same) c.if-bytes-ne1.false in
-    let same_2 = (c.cover-2.ensures.told tells).same ∙ same in
-    let p_is : c.args.at + (c.args.gate + 1) ≡ p + 1 = omega arith in
-    let head_is = c.bytes-head.ensures.value c.args.at _ (c.in_ok-cover-2.ensures.window tells) ∙ ap (part (c.args.at + (c.args.gate + 1)) 8) same_2 ∙ ap (λ (j : ℕ). part j 8 reads) p_is in
-    let len_is = c.u32_at-len.ensures.value ∙ ap (λ (l : List ℕ). from_be_bytes w32 (take 4 (drop 0 l))) head_is in
-    let count_is = c.u32_at-count.ensures.value ∙ ap (λ (l : List ℕ). from_be_bytes w32 (take 4 (drop 4 l))) head_is in
-    let q_is : c.args.at + (c.args.gate + 9) ≡ p + 9 = omega arith in
-    let len = c.u32_at-len.result in
-    let n_is : c.args.gate + 9 + c.from-2.result - (c.args.gate + 9) ≡ len = omega (arith, c.from-2.ensures) in
-    let there : part (c.args.at + (c.args.gate + 9)) (c.args.gate + 9 + c.from-2.result - (c.args.gate + 9)) (g.D.Disk.moment c.cover-2.new.disk).reads ≡ part (p + 9) len reads =
-    ap (part (c.args.at + (c.args.gate + 9)) (c.args.gate + 9 + c.from-2.result - (c.args.gate + 9))) same_2 ∙ ap (λ (j : ℕ). part j (c.args.gate + 9 + c.from-2.result - (c.args.gate + 9)) reads) q_is ∙ ap (λ (j : ℕ). part (p + 9) j reads) n_is in
-    let are = subst (AreEntries c.u32_at-count.result) there ((c.in_ok-are_entries.ensures.exact tells).0 c.if-branch.true) in
-    let len_bytes = c.u32_at-len.ensures.bytes ∙ ap (λ (l : List ℕ). take 4 (drop 0 l)) head_is in
-    let count_bytes = c.u32_at-count.ensures.bytes ∙ ap (λ (l : List ℕ). take 4 (drop 4 l)) head_is in
-    group_found p k reads room small len c.u32_at-count.result len_is count_is len_bytes count_bytes opens (omega (arith, c.if-from-size.false, c.from.ensures)) (omega (arith, c.if-count-eq0.false)) are
+    let same_2 = (c.head_at.ensures.told tells).same ∙ same in
+    let long : length (part p k reads) ≡ k = length-part p k reads (omega (arith, c.requires.place, c.requires.gate, lawful.reads_size)) in
+    let has = subst (λ (l : List ℕ). HasHead (part p k l) head) same (rw c.in-Some.is at (c.in_ok-head.ensures.found tells)) in
+    let are = subst (λ (l : List ℕ). AreEntries head.count (part (c.args.at + (c.args.gate + 9)) (c.args.gate + 9 + c.from.result - (c.args.gate + 9)) l)) same_2 ((c.in_ok-are_entries.ensures.exact tells).0 c.if-branch.true) in
+    let there : part (c.args.at + (c.args.gate + 9)) (c.args.gate + 9 + c.from.result - (c.args.gate + 9)) reads ≡ part 9 head.size (part p k reads) =
+    ap (λ (n : ℕ). part (c.args.at + (c.args.gate + 9)) n reads) (omega (arith, c.from.ensures)) ∙ ap (λ (q : ℕ). part q head.size reads) (omega arith) ∙ sym (part-part p k 9 head.size reads (omega (arith, has.room, long))) in
+    group_found (part p k reads) head (omega (arith, long, c.requires.small)) has (subst (AreEntries head.count) there are)
 
 pub returns-else-branch-clause-seen : goal.returns-else-branch-clause-seen
 returns-else-branch-clause-seen g c = λ tells.
@@ -92,19 +62,12 @@ returns-else-branch-clause-seen g c = λ tells.
     let reads = (g.D.Disk.moment c.args.disk.now).reads in
     let p = c.args.at + c.args.gate in
     let k = c.args.size - c.args.gate in
-    let room : p + k ≤ length reads = omega (arith, c.requires.place, c.requires.gate, lawful.reads_size) in
-    let small : k < 2 ^ 32 = omega (arith, c.requires.small) in
+    let head = c.in-Some.head in
     let same = (c.cover.ensures.told tells).same in
-    let opens = gate_read p k c.bytes.result.now reads (omega (arith, c.requires.gate)) (c.bytes.ensures.value c.args.at _ (c.in_ok-cover.ensures.window tells) ∙ ap (part p 1) same) c.if-bytes-ne1.false in
-    let same_2 = (c.cover-2.ensures.told tells).same ∙ same in
-    let p_is : c.args.at + (c.args.gate + 1) ≡ p + 1 = omega arith in
-    let head_is = c.bytes-head.ensures.value c.args.at _ (c.in_ok-cover-2.ensures.window tells) ∙ ap (part (c.args.at + (c.args.gate + 1)) 8) same_2 ∙ ap (λ (j : ℕ). part j 8 reads) p_is in
-    let len_is = c.u32_at-len.ensures.value ∙ ap (λ (l : List ℕ). from_be_bytes w32 (take 4 (drop 0 l))) head_is in
-    let count_is = c.u32_at-count.ensures.value ∙ ap (λ (l : List ℕ). from_be_bytes w32 (take 4 (drop 4 l))) head_is in
-    let q_is : c.args.at + (c.args.gate + 9) ≡ p + 9 = omega arith in
-    let len = c.u32_at-len.result in
-    let n_is : c.args.gate + 9 + c.from-2.result - (c.args.gate + 9) ≡ len = omega (arith, c.from-2.ensures) in
-    let there : part (c.args.at + (c.args.gate + 9)) (c.args.gate + 9 + c.from-2.result - (c.args.gate + 9)) (g.D.Disk.moment c.cover-2.new.disk).reads ≡ part (p + 9) len reads =
-    ap (part (c.args.at + (c.args.gate + 9)) (c.args.gate + 9 + c.from-2.result - (c.args.gate + 9))) same_2 ∙ ap (λ (j : ℕ). part j (c.args.gate + 9 + c.from-2.result - (c.args.gate + 9)) reads) q_is ∙ ap (λ (j : ℕ). part (p + 9) j reads) n_is in
-    let none = λ (are : AreEntries c.u32_at-count.result (part (p + 9) len reads)). (c.in_ok-are_entries.ensures.exact tells).1 (subst (AreEntries c.u32_at-count.result) (sym there) are) in
-    (opens, broken_entries p k reads room small len c.u32_at-count.result len_is count_is (λ are. let t = none are in let f = c.if-branch.false in cc))
+    let same_2 = (c.head_at.ensures.told tells).same ∙ same in
+    let long : length (part p k reads) ≡ k = length-part p k reads (omega (arith, c.requires.place, c.requires.gate, lawful.reads_size)) in
+    let has = subst (λ (l : List ℕ). HasHead (part p k l) head) same (rw c.in-Some.is at (c.in_ok-head.ensures.found tells)) in
+    let there : part (c.args.at + (c.args.gate + 9)) (c.args.gate + 9 + c.from.result - (c.args.gate + 9)) (g.D.Disk.moment c.head_at.new.disk).reads ≡ part 9 head.size (part p k reads) =
+    ap (part (c.args.at + (c.args.gate + 9)) (c.args.gate + 9 + c.from.result - (c.args.gate + 9))) same_2 ∙ ap (λ (n : ℕ). part (c.args.at + (c.args.gate + 9)) n reads) (omega (arith, c.from.ensures)) ∙ ap (λ (q : ℕ). part q head.size reads) (omega arith) ∙ sym (part-part p k 9 head.size reads (omega (arith, has.room, long))) in
+    let none = λ (are : AreEntries head.count (part 9 head.size (part p k reads))). (c.in_ok-are_entries.ensures.exact tells).1 (subst (AreEntries head.count) (sym there) are) in
+    (has.opens, group_none (part p k reads) head (omega (arith, long, c.requires.small)) has (λ are. let t = none are in let f = c.if-branch.false in cc))

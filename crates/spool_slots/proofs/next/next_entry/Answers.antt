@@ -2,7 +2,8 @@ use Rattle.std.proofs.Common.{◌+◌, ◌-◌, ℕ, List, refl, sym, subst, ari
 use Rattle.foundation.specs.Bytes.{part}
 use Rattle.event_form.specs.Reading.{Begins}
 use Rattle.edge_disk.proofs.Moments.{untouched_then}
-use Rattle.spool_slots.proofs.Marks.{first_left, entry_here, next_as, next_fault, next_is}
+use Rattle.spool_slots.proofs.Faults.{handed}
+use Rattle.spool_slots.proofs.Marks.{first_left, entry_here, next_as, next_is}
 use Rattle.spool_slots.proofs.next.next_entry.Goals as goal
 
 pub returns-clause-told : goal.returns-clause-told
@@ -17,7 +18,7 @@ returns-in_err-entry-clause-next g c = λ segment tells holds sound mark lt.
     let left = first_left here.0.left here.0.some in
     let there = entry_here c.args.at c.args.size segment reads (omega (arith, c.requires.place, lawful.reads_size)) holds entered sound here.0 left.0 left.1 left.2 in
     let begins = subst (λ (l : List ℕ). Begins left.0 (part (c.args.at + entered.at) (c.args.size - entered.at) l) there.0) (sym (c.enter.ensures.told tells).same) there.1 in
-    next_fault segment c.args.mark left.0 _ _ c.from_residual-in_err-entry.ensures.1 (c.in_err-entry.ensures.read left.0 there.0 tells begins)
+    handed _ _ _ _ c.from_residual-in_err-entry.ensures.1 (c.in_err-entry.ensures.read left.0 there.0 tells begins)
 
 pub returns-clause-next : goal.returns-clause-next
 returns-clause-next g c = λ segment tells holds sound mark lt.

@@ -16,7 +16,7 @@ invariant-loop-frame g l =
       same_number : l.connection.number ≡ number;
       may : g.A.Access.may_take l.access number l.connection.taken;
       extent : now.reader.at + length now.reader.rest ≤ was.reader.at + length was.reader.rest;
-      later : g.L.Sink.write_faults l.fn.link ≤ g.L.Sink.write_faults l.link;
+      writes : g.L.Sink.write_faults l.link ≡ g.L.Sink.write_faults l.fn.link;
       same : g.L.Object.same l.fn.link l.link;
       apart : g.L.Sink.write_apart l.fn.link l.link;
     }

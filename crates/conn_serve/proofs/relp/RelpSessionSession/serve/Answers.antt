@@ -1,9 +1,10 @@
-use Rattle.std.proofs.Common.{◌∙◌, length, refl, ap, arith}
+use Rattle.std.proofs.Common.{◌∙◌, length, refl, sym, ap, arith}
 use Rattle.relp_frame.specs.Reading.{Reader}
 use Rattle.conn_serve.specs.Protocol.{Carried}
 use Rattle.conn_serve.specs.Relp.{relp}
 use Rattle.conn_serve.specs.RelpServing.{Served}
 use Rattle.conn_serve.proofs.Acting.{err_is}
+use Rattle.conn_serve.proofs.Faults.{counts_from, counts_none, err_of}
 use Rattle.conn_serve.proofs.Counting.{count_carries}
 use Rattle.conn_serve.proofs.Leading.{done_start, done_then}
 use Rattle.conn_serve.proofs.Sessions.{served_frame, served_halt}
@@ -16,7 +17,7 @@ loop-frame-init g c = record {
   same_number = refl;
   may = c.requires.may;
   extent = omega arith;
-  later = omega arith;
+  writes = refl;
   same = g.L.Object.same_refl _;
   apart = g.met.L.Sink.apart_refl _;
 }
@@ -35,7 +36,7 @@ loop-frame-preserved g c =
       same_number = call.number ∙ inv.same_number;
       may = rw (← inv.same_number) call.may;
       extent = omega (arith, inv.extent, ap (λ (r : Reader). r.at) took.same, ap (λ (r : Reader). length r.rest) took.same);
-      later = omega (arith, inv.later, call.later);
+      writes = call.writes.quiet (λ is. cc) ∙ inv.writes;
       same = g.L.Object.same_trans _ _ _ inv.same call.same;
       apart = g.met.L.Sink.apart_trans _ _ _ inv.apart call.apart;
     }
@@ -50,3 +51,11 @@ returns-in_err-serve_frame-clause-halts g c =
     err_is c.from_residual.result talk _ c.from_residual.ensures.1
     (done_then _ _ _ _ _ _ _ _ _ _ _ (λ fed calls text. Carried (relp number) fed calls text talk) (λ xs ys p q. g.met.A.Access.ran_more _ _ _ xs ys p q) inv.done
     (served_halt _ _ _ _ _ number c.loop-frame.self.reader c.loop-frame.self.core c.loop-frame.self.fault c.in-Some.frame c.take.new.self.waiting talk took.gives call.only c.loop-frame.connection.number inv.same_number call.halts))
+
+pub returns-in_err-serve_frame-clause-writes : goal.returns-in_err-serve_frame-clause-writes
+returns-in_err-serve_frame-clause-writes g c =
+    let err = err_of c.from_residual.result c.in_err-serve_frame.field-0.0 c.from_residual.ensures.1 in
+    counts_from _ _ _ _ _ c.loop-frame.invariant.writes (λ is. sym err ∙ is) (λ is. err ∙ is) c.in_err-serve_frame.ensures.writes
+
+pub returns-clause-writes : goal.returns-clause-writes
+returns-clause-writes g c = counts_none _ _ _ (λ is. cc) c.loop-frame.invariant.writes

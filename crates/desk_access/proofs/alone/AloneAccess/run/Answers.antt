@@ -1,6 +1,11 @@
 use Rattle.std.proofs.Common.{◌∙◌}
-use Rattle.desk_access.proofs.Lasting.{goes_later}
+use Rattle.desk_access.specs.Alone.{alone_at}
+use Rattle.desk_access.specs.Journal.{ran_none}
+use Rattle.desk_access.proofs.Steps.{goes_later}
 use Rattle.desk_access.proofs.alone.AloneAccess.run.Goals as goal
 
+pub returns-clause-ran : goal.returns-clause-ran
+returns-clause-ran g c = ran_none g.D.Disk.tells (alone_at c.args.self.now) (g.met.D.Disk.lawful c.args.self.now.desk.spool.disk)
+
 pub returns-clause-seen : goal.returns-clause-seen
-returns-clause-seen g c = λ x journal seen. c.run.ensures ∙ seen.here.spool.knows.run ∙ (goes_later x seen.met journal seen.rules seen.goes).1.run
+returns-clause-seen g c = λ x journal seen. c.run.ensures ∙ seen.here.spool.knows.run ∙ (goes_later x seen.found journal seen.rules seen.goes).1.run

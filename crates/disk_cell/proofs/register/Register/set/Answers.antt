@@ -1,28 +1,34 @@
 use Rattle.std.proofs.Common.{◌∙◌, ap, refl, arith}
 use Rattle.edge_disk.proofs.Moments.{started, weaker}
 use Rattle.disk_cell.specs.Cell.{place_of}
-use Rattle.disk_cell.proofs.Setting.{set_moments, known_step, known_then, closing_holds}
+use Rattle.disk_cell.proofs.Setting.{set_moments, set_outside, known_step, known_then, closing_holds}
 use Rattle.disk_cell.proofs.register.Register.set.Goals as goal
 
 pub returns-then-self-clause-any_moment : goal.returns-then-self-clause-any_moment
 returns-then-self-clause-any_moment g c = λ tells.
-    started _ _ (g.met.D.Disk.lawful c.args.disk.now tells) (λ d i. (d, i, closing_holds c.args.self.now c.args.content d d (known_step c.args.self.now d (c.requires.known tells d i))))
+    let r = c.args.self.now in
+    started _ _ (g.met.D.Disk.lawful c.args.disk.now tells) (λ d i. (d, i, closing_holds r c.args.run c.args.cursor c.args.known.now c.requires.few d d (known_step r d (c.requires.known tells d i))))
 
 pub returns-in_err-close_other-clause-any_moment : goal.returns-in_err-close_other-clause-any_moment
 returns-in_err-close_other-clause-any_moment g c = λ tells.
-    weaker _ _ _ _ (c.close_other.ensures.any_moment tells) (λ d from. (from.0, from.1, closing_holds c.args.self.now c.args.content from.0 d from.2))
+    weaker _ _ _ _ (c.close_other.ensures.any_moment tells) (λ d from. (from.0, from.1, closing_holds c.args.self.now c.args.run c.args.cursor c.args.known.now c.requires.few from.0 d from.2))
 
-pub returns-in_err-write_behind-clause-any_moment : goal.returns-in_err-write_behind-clause-any_moment
-returns-in_err-write_behind-clause-any_moment g c = λ tells.
-    set_moments c.args.self.now c.args.content _ _ _ (g.met.D.Disk.lawful c.args.disk.now tells) c.requires.room (omega (arith, c.args.self.now.last)) (c.close_other.ensures.any_moment tells) c.offset.result c.body.result (c.offset.ensures ∙ ap (λ x. place_of x) c.other-counting.ensures) c.body.ensures (c.write_behind.ensures.any_moment tells)
+pub returns-in_err-write_cell-clause-any_moment : goal.returns-in_err-write_cell-clause-any_moment
+returns-in_err-write_cell-clause-any_moment g c = λ tells.
+    set_moments c.args.self.now c.args.run c.args.cursor c.args.known.now c.requires.few _ _ _ (g.met.D.Disk.lawful c.args.disk.now tells) c.requires.room (omega (arith, c.args.self.now.last)) (c.close_other.ensures.any_moment tells) c.offset.result (c.offset.ensures ∙ ap (λ x. place_of x) c.other-counting.ensures) (c.write_cell.ensures.any_moment tells)
 
 pub returns-clause-any_moment : goal.returns-clause-any_moment
 returns-clause-any_moment g c = λ tells.
-    set_moments c.args.self.now c.args.content _ _ _ (g.met.D.Disk.lawful c.args.disk.now tells) c.requires.room (omega (arith, c.args.self.now.last)) (c.close_other.ensures.any_moment tells) c.offset.result c.body.result (c.offset.ensures ∙ ap (λ x. place_of x) c.other-counting.ensures) c.body.ensures (c.write_behind.ensures.any_moment tells)
+    set_moments c.args.self.now c.args.run c.args.cursor c.args.known.now c.requires.few _ _ _ (g.met.D.Disk.lawful c.args.disk.now tells) c.requires.room (omega (arith, c.args.self.now.last)) (c.close_other.ensures.any_moment tells) c.offset.result (c.offset.ensures ∙ ap (λ x. place_of x) c.other-counting.ensures) (c.write_cell.ensures.any_moment tells)
 
 pub returns-clause-known : goal.returns-clause-known
 returns-clause-known g c = λ tells.
     let old = g.met.D.Disk.lawful c.args.disk.now tells in
     let mid = g.met.D.Disk.lawful c.close_other.new.disk tells in
     let from = (c.close_other.ensures.any_moment tells).now _ mid.reads_image in
-    known_then c.args.self.now _ c.args.content from.0 _ _ (omega (arith, c.requires.room, old.image_size from.0 from.1)) (omega (arith, c.args.self.now.last)) from.2 c.offset.result c.body.result (c.offset.ensures ∙ ap (λ x. place_of x) c.other-counting.ensures) c.body.ensures (c.in_ok-write_behind.ensures.written tells) c.other-counting.ensures refl refl refl
+    known_then c.args.self.now c.args.run c.args.cursor c.args.known.now c.requires.few _ from.0 _ _ (omega (arith, c.requires.room, old.image_size from.0 from.1)) (omega (arith, c.args.self.now.last)) from.2 c.offset.result (c.offset.ensures ∙ ap (λ x. place_of x) c.other-counting.ensures) (c.in_ok-write_cell.ensures.written tells) c.other-counting.ensures refl refl c.set.ensures.content
+
+pub returns-clause-outside : goal.returns-clause-outside
+returns-clause-outside g c = λ tells.
+    let old = g.met.D.Disk.lawful c.args.disk.now tells in
+    set_outside c.args.self.now c.args.run c.args.cursor c.args.known.now _ _ _ c.requires.few (omega (arith, c.requires.room, old.reads_size)) (c.in_ok-close_other.ensures.outside tells) c.offset.result (c.offset.ensures ∙ ap (λ x. place_of x) c.other-counting.ensures) (c.in_ok-write_cell.ensures.written tells)

@@ -1,7 +1,5 @@
-use Rattle.std.proofs.Common.{ap}
-use Rattle.std.specs.Prelude.{Err}
 use Rattle.spool_log.specs.Opening.{opened}
-use Rattle.spool_log.proofs.Recovering.{opens}
+use Rattle.spool_log.proofs.Opens.Recovering.{opens}
 use Rattle.spool_log.proofs.spool.Spool.recover.Goals as goal
 
 pub invariant_of-result-clause-long : goal.invariant_of-result-clause-long
@@ -18,7 +16,4 @@ invariant_of-result-clause-stored g c = λ is tells.
 pub returns-in-Ok-open-clause-opened : goal.returns-in-Ok-open-clause-opened
 returns-in-Ok-open-clause-opened g c = λ tells.
     let found = c.in-Ok-open.ensures.found tells in
-    (found.0, opens c.args.opening found.0 _ c.in-Ok-open.known _ found.1 found.2 (c.in-Ok-open.ensures.durable tells) found.3)
-
-pub returns-in-Err-clause-cause : goal.returns-in-Err-clause-cause
-returns-in-Err-clause-cause g c = λ is. c.in-Err.ensures.cause (ap Err is)
+    (found.0, opens c.args.opening found.0 _ c.in-Ok-open.memory _ found.1 found.2 (c.in-Ok-open.ensures.durable tells) found.3)

@@ -1,5 +1,6 @@
 use Rattle.std.proofs.Common.{◌++◌, ℕ, List, take, drop, ◌∙◌, ap, subst, arith, append_assoc, take-append-drop}
 use Rattle.spool_slots.specs.Pen.{HasWritten}
+use Rattle.spool_slots.proofs.Faults.{calls_passed}
 use Rattle.spool_slots.proofs.Pens.{run_then}
 use Rattle.spool_slots.proofs.pen.Pen.write.Goals as goal
 
@@ -14,8 +15,7 @@ loop-rest-preserved g c =
     let rest = c.loop-rest.rest.now in
     let before = c.loop-rest.invariant.written.0 in
     record {
-      size = c.take_some.ensures.same_size ∙ c.loop-rest.invariant.size;
-      later = omega (arith, c.loop-rest.invariant.later, c.take_some.ensures.cause.later);
+      calls = calls_passed _ _ _ _ c.loop-rest.invariant.calls c.in_ok-n.ensures.calls (λ f. cc);
       goes_on = omega (arith, c.loop-rest.invariant.goes_on, c.take_some.ensures.goes_on);
       took = omega (arith, c.loop-rest.invariant.took, took.2, c.split_at.ensures.back_len);
       run = λ tells. run_then _ _ _ _ _ _ _ c.loop-rest.invariant.goes_on (omega (arith, c.loop-rest.invariant.took)) (c.loop-rest.invariant.run tells) (c.take_some.ensures.any_moment tells);

@@ -1,5 +1,6 @@
 use Rattle.std.proofs.Common.{◌≡◌, ◌+◌, ◌≤◌, ◌++◌, ℕ, List, length}
 use Rattle.foundation.specs.Bytes.{SameBut}
+use Rattle.edge_disk.specs.Calls.{Calls}
 use Rattle.edge_disk.specs.Disk.{LeavesOnly}
 use Rattle.edge_disk.specs.Gate.{ComesFrom}
 use Rattle.spool_slots.specs.Pen.{HasWritten}
@@ -9,8 +10,7 @@ abbrev pub invariant-loop-rest : goal.invariant-loop-rest
 invariant-loop-rest g l =
     let moment = g.D.Disk.moment in
     record {
-      size : (moment l.disk).size ≡ (moment l.fn.disk).size;
-      later : (moment l.fn.disk).faults ≤ (moment l.disk).faults;
+      calls : Calls ⊥ (moment l.fn.disk) (moment l.disk);
       goes_on : l.fn.self.at ≤ l.self.at;
       took : l.self.at + l.self.filled + length l.rest ≡ l.fn.self.at + l.fn.self.filled + length l.text;
       run : g.D.Disk.tells → LeavesOnly (ComesFrom (moment l.fn.disk) (SameBut l.fn.self.at (l.fn.self.filled + length l.text))) (moment l.fn.disk) (moment l.disk);

@@ -29,4 +29,4 @@ returns-clause-known g c = λ tells.
 pub returns-clause-closed : goal.returns-clause-closed
 returns-clause-closed g c = λ tells b image.
     let is : b ≡ (g.D.Disk.moment c.write_behind.new.disk).reads = (c.in_ok-write_behind.ensures.durable tells).only b image in
-    subst (λ (l : List ℕ). get_or l (c.args.at + 17) 0 ≢ 1) (sym is) (closed_known _ _ _ (omega (arith, c.requires.place, c.write_behind.ensures.size, (g.met.D.Disk.lawful c.write_behind.new.disk tells).reads_size)) (returns-clause-known g c tells))
+    subst (λ (l : List ℕ). get_or l (c.args.at + 17) 0 ≢ 1) (sym is) (closed_known _ _ _ (omega (arith, c.requires.place, c.write_behind.ensures.calls.size, (g.met.D.Disk.lawful c.write_behind.new.disk tells).reads_size)) (returns-clause-known g c tells))

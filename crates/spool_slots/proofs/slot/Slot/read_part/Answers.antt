@@ -4,7 +4,8 @@ use Rattle.event_form.specs.Entry.{IsEntry}
 use Rattle.edge_disk.proofs.Moments.{untouched_then}
 use Rattle.spool_state.specs.Image.{HoldsSegment}
 use Rattle.spool_state.proofs.Segments.{holds_front}
-use Rattle.spool_slots.proofs.Marks.{mark_from, part_fault, read_all, read_more}
+use Rattle.spool_slots.proofs.Faults.{calls_passed, handed}
+use Rattle.spool_slots.proofs.Marks.{mark_from, read_all, read_more}
 use Rattle.spool_slots.proofs.slot.Slot.read_part.Goals as goal
 
 pub returns-in_err-entry-clause-part : goal.returns-in_err-entry-clause-part
@@ -15,7 +16,7 @@ returns-in_err-entry-clause-part g c = λ segment tells knows mark.
     let holds = subst (λ (n : ℕ). HoldsSegment slot.at (n + 1) segment reads) (sym knows.gate) (holds_front slot.at slot.size segment reads (omega (arith, c.requires.place, lawful.reads_size)) knows.holds) in
     let holds_now = subst (HoldsSegment slot.at (slot.gate + 1) segment) (sym (c.loop-i.invariant.told tells).same) holds in
     let here = c.loop-i.invariant.read segment tells knows mark in
-    part_fault segment c.args.mark c.loop-i.here c.args.most _ _ c.from_residual-in_err-entry.ensures.1
+    handed _ _ _ _ c.from_residual.ensures.1
     (c.in_err-entry.ensures.next segment tells holds_now knows.sound here.0 (omega (arith, c.loop-i.invariant.number, c.loop-i-test.true, c.min-wanted.ensures, c.saturating_sub-left.ensures, knows.first, knows.count)))
 
 pub loop-i-preserved : goal.loop-i-preserved
@@ -23,8 +24,7 @@ loop-i-preserved g c =
     let slot = c.args.self.now in
     let pushed = rw c.in-Ok.is at c.push.ensures.items in
     record {
-      same_size = c.next_entry.ensures.same_size ∙ c.loop-i.invariant.same_size;
-      later = omega (arith, c.loop-i.invariant.later, c.next_entry.ensures.faults);
+      calls = calls_passed _ _ _ _ c.loop-i.invariant.calls c.in_ok-entry.ensures.calls (λ f. cc);
       told = λ tells. untouched_then _ _ _ (g.met.D.Disk.lawful c.args.disk.now tells) (c.loop-i.invariant.told tells) (c.next_entry.ensures.told tells);
       window = λ tells. c.in_ok-entry.ensures.window tells;
       number = omega (arith, c.in_ok-entry.ensures.number, c.loop-i.invariant.number);

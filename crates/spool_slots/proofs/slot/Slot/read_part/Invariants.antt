@@ -1,5 +1,6 @@
 use Rattle.std.proofs.Common.{◌≡◌, ◌+◌, ◌-◌, ◌≤◌, length, take, drop, All}
 use Rattle.event_form.specs.Entry.{IsEntry}
+use Rattle.edge_disk.specs.Calls.{Calls}
 use Rattle.edge_disk.specs.Disk.{IsUntouched}
 use Rattle.spool_state.specs.Segment.{Segment, entries_of}
 use Rattle.spool_slots.specs.Mark.{IsMark}
@@ -11,8 +12,7 @@ abbrev pub invariant-loop-i : goal.invariant-loop-i
 invariant-loop-i g l =
     let moment = g.D.Disk.moment in
     record {
-      same_size : (moment l.disk).size ≡ (moment l.fn.disk).size;
-      later : (moment l.fn.disk).faults ≤ (moment l.disk).faults;
+      calls : Calls ⊥ (moment l.fn.disk) (moment l.disk);
       told : g.D.Disk.tells → IsUntouched (moment l.fn.disk) (moment l.disk);
       window : g.D.Disk.tells → IsWindow l.self.at l.window (moment l.disk).reads;
       number : l.here.number ≡ l.fn.mark.number + l.i;

@@ -1,4 +1,5 @@
 use Rattle.std.proofs.Common.{◌≡◌, ◌-◌, ◌<◌, ◌≤◌}
+use Rattle.edge_disk.specs.Calls.{Calls}
 use Rattle.edge_disk.specs.Disk.{IsUntouched}
 use Rattle.spool_slots.specs.Scan.{IsScanned}
 use Rattle.spool_slots.specs.Window.{IsWindow}
@@ -8,13 +9,12 @@ abbrev pub invariant-groups : goal.invariant-groups
 invariant-groups g l =
     let moment = g.D.Disk.moment in
     record {
-      same_size : (moment l.disk).size ≡ (moment l.fn.disk).size;
-      later : (moment l.fn.disk).faults ≤ (moment l.disk).faults;
+      calls : Calls ⊥ (moment l.fn.disk) (moment l.disk);
       told : g.D.Disk.tells → IsUntouched (moment l.fn.disk) (moment l.disk);
       window : g.D.Disk.tells → IsWindow l.at l.window (moment l.disk).reads;
       inside : l.gate < l.size;
       few : l.count ≤ l.gate;
-      scanned : g.D.Disk.tells → IsScanned l.at l.size l.ordinal l.first l.gate l.count (moment l.fn.disk).reads;
+      scanned : g.D.Disk.tells → IsScanned l.at l.size l.head.ordinal l.head.first l.gate l.count (moment l.fn.disk).reads;
     }
 
 abbrev pub decreases-groups : goal.decreases-groups

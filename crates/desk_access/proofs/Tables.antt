@@ -1,0 +1,36 @@
+-- The table of ids after a call.
+use Rattle.std.proofs.Common.{◌≡◌, ◌⊎◌, inl, inr, ℕ, List, [], ◌∷◌, Option, sym, ap, subst}
+use Rattle.spool_state.specs.SpoolState.{SpoolState}
+use Rattle.spool_log.specs.declared.fault.PendFault.{PendFault}
+use Rattle.hec_ids.specs.Table.{Table}
+use Rattle.hec_ids.specs.Rows.{Issues, Settles, Forgets, Asks}
+use Rattle.desk_access.specs.declared.standing.Standing.{Standing}
+use Rattle.desk_access.specs.Call.{Call, takes, pends, confirms, marks, counts, issues, settles, forgets, asks}
+use Rattle.desk_access.specs.Desk.{DeskState, Mending, Leaving, Answers}
+
+-- a call of ids made it from the one before, and no other call changes it
+abbrev pub TableAfter : Table → Call → Table → Type 0
+TableAfter t (issues channel result) u = Issues t channel result u
+TableAfter t (settles channel id answer) u = Settles t channel id answer u
+TableAfter t (forgets channel id answer) u = Forgets t channel id answer u
+TableAfter t (asks channel ids known) u = Asks t channel ids known u
+TableAfter t _ u = u ≡ t
+
+same_table : (x y : DeskState) (met : Option Standing) (Fails : PendFault → Type 0) (GoesOn : SpoolState → Type 0) → ((m : SpoolState) → GoesOn m → y.ids ≡ x.ids) → Mending x met Fails GoesOn y → y.ids ≡ x.ids
+same_table x y met Fails GoesOn on (inl stayed) = ap (λ (d : DeskState). d.ids) stayed.2.same
+same_table x y met Fails GoesOn on (inr went) = on went.0 went.2
+
+left_table : (x y : DeskState) (met : Option Standing) (ids : Table) → Leaving x met ids y → y.ids ≡ ids
+left_table x y met ids leaving = ap (λ (d : DeskState). d.ids) leaving.1
+
+pub table_after : (x y : DeskState) (call : Call) (met : Option Standing) → Answers x call met y → TableAfter x.ids call y.ids
+table_after x y (takes [] result) met answers = left_table x y met x.ids answers.1
+table_after x y (takes (entry ∷ entries) result) met answers = same_table x y met _ _ (λ m h. ap (λ (d : DeskState). d.ids) h.1) answers.1
+table_after x y (pends from most result) met answers = same_table x y met _ _ (λ m h. ap (λ (d : DeskState). d.ids) h.1) answers
+table_after x y (confirms upto result) met answers = same_table x y met _ _ (λ m h. ap (λ (d : DeskState). d.ids) h.1) answers.1
+table_after x y (marks stretches result) met answers = same_table x y met _ _ (λ m h. ap (λ (d : DeskState). d.ids) h.1) answers.1
+table_after x y (counts number) met answers = left_table x y met x.ids answers.1
+table_after x y (issues channel result) met answers = subst (λ (t : Table). Issues x.ids channel result t) (sym (left_table x y met answers.0 answers.2)) answers.1
+table_after x y (settles channel id answer) met answers = subst (λ (t : Table). Settles x.ids channel id answer t) (sym (left_table x y met answers.0 answers.2)) answers.1
+table_after x y (forgets channel id answer) met answers = subst (λ (t : Table). Forgets x.ids channel id answer t) (sym (left_table x y met answers.0 answers.2)) answers.1
+table_after x y (asks channel ids known) met answers = subst (λ (t : Table). Asks x.ids channel ids known t) (sym (left_table x y met answers.0 answers.2)) answers.1

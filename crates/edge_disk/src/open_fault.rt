@@ -1,0 +1,47 @@
+//! Why a file was not opened as a disk, and with whom it is shared.
+use std::fs::TryLockError;
+use std::io::{self, ErrorKind};
+
+/// Who else may have a file open as a disk while this program has it.
+#[derive(Clone, Copy, Debug, PartialEq, Eq)]
+pub enum Sharing {
+    /// Nobody. A program that changes the disk wants this.
+    Exclusive,
+    /// Others that share it too, so that none of them may change the disk.
+    Shared,
+}
+
+/// Why a file was not opened as a disk.
+#[derive(Clone, Copy, Debug, PartialEq, Eq)]
+pub enum OpenFault {
+    /// There is no file of this name, or no folder to make it in.
+    NotFound,
+    /// The system doesn't let this program read and write it.
+    NotAllowed,
+    /// The name is a folder's.
+    IsFolder,
+    /// Another program has it open, and doesn't share it.
+    InUse,
+    /// Any other failure of the system's.
+    Other,
+}
+
+impl From<io::Error> for OpenFault {
+    fn from(error: io::Error) -> OpenFault {
+        match error.kind() {
+            ErrorKind::NotFound => OpenFault::NotFound,
+            ErrorKind::PermissionDenied | ErrorKind::ReadOnlyFilesystem => OpenFault::NotAllowed,
+            ErrorKind::IsADirectory => OpenFault::IsFolder,
+            _ => OpenFault::Other,
+        }
+    }
+}
+
+impl From<TryLockError> for OpenFault {
+    fn from(error: TryLockError) -> OpenFault {
+        match error {
+            TryLockError::WouldBlock => OpenFault::InUse,
+            TryLockError::Error(error) => OpenFault::from(error),
+        }
+    }
+}

@@ -1,0 +1,3 @@
+-- How a device is opened, and a doubt mended.
+pub mod Mending
+pub mod Recovering

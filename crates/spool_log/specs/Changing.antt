@@ -1,0 +1,5 @@
+-- How a spool changes.
+pub mod Next
+pub mod Target
+pub mod Take
+pub mod Mark

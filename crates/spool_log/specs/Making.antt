@@ -1,0 +1,2 @@
+-- How a device is made an empty spool.
+pub mod Format

@@ -1,0 +1,3 @@
+//! How a device is made an empty spool.
+pub(crate) mod formatting;
+mod steps;

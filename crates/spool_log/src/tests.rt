@@ -1,0 +1,6 @@
+mod calls;
+mod devices;
+mod marks;
+mod opening;
+mod spool;
+mod stops;
