@@ -17,6 +17,7 @@ use desk_access::{Alone, Desk};
 use edge_disk::MemDisk;
 use edge_io::{Both, MemSource, Proto};
 use event_form::Talk;
+use hec_ids::Ids;
 use spool_log::Spool;
 use std::alloc::Global;
 use std::hint::black_box;
@@ -52,11 +53,12 @@ fn carry(rt: &HostRuntime, stream: &Stream, spool: Spool<MemDisk>) -> anyhow::Re
         token: None,
         ack_token: None,
     };
-    let mut alone = Alone::new(Desk { spool });
+    let ids = Ids::new(alloc, spool.run(), 0);
+    let mut alone = Alone::new(Desk { spool, ids });
     let start = Instant::now(rt)?;
     let attended = attend(alloc, &mut link, &rules, &mut alone, 1);
     let taken = start.elapsed(rt)?;
-    let Desk { spool } = alone.into_desk();
+    let Desk { spool, .. } = alone.into_desk();
     let held = spool.end();
     if attended.talk != Talk::Ended || attended.taken != u64::from(EVENTS) {
         bail!("{attended:?}");
