@@ -30,7 +30,7 @@ pub record IsLayout (slots size : ℕ) (slots_word size_word : List ℕ) : Type 
   pub size_is : IsNumber size size_word
   pub in_range : IsSize slots size
 
--- the words behind `list` that ask for a form
+-- the words after `list` that ask for a form
 abbrev pub form_words : ListForm → List (List ℕ)
 form_words Plain = []
 form_words Text = codes "--as" ∷ codes "relp" ∷ []

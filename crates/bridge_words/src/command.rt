@@ -67,7 +67,7 @@ fn form_of(word: &String) -> Option<ListForm>
     }
 }
 
-// The protocol that the word behind `replay` names.
+// The protocol that the word after `replay` names.
 fn proto_of(word: &String) -> Option<Proto>
     ensures some { IfSome result (λ proto. AreReplay proto (codes "replay" ∷ string_bytes word.now ∷ [])) }
     ensures none { IfNone result ((proto : Proto) → AreReplay proto (codes "replay" ∷ string_bytes word.now ∷ []) → ⊥) }

@@ -16,15 +16,15 @@ pub enum Note {
     Usage,
     /// The device breaks a rule of the layout, the first one at this offset.
     NotSpool { at: u64 },
-    /// The device has so many bytes, and the spool that is wanted has others.
+    /// The device has another number of bytes than the spool that is wanted.
     WrongLength { have: u64, want: u64 },
     /// The input breaks its protocol at this offset of it.
     Fault { at: u64, why: Why },
-    /// The next event needs so many bytes, and the active slot has room for `room`. No slot is free.
+    /// The group of the next event needs `need` bytes, and the active slot has `room` bytes left. No slot is free.
     Full { need: u64, room: u64 },
     /// The next event needs more bytes than an empty slot has room for.
     TooLarge { need: u64, most: u64 },
-    /// The table of ids is full: so many are held.
+    /// The table of ids is full: it holds `held` of them.
     Busy { held: u32 },
     /// No memory was found.
     NoMemory,
@@ -44,7 +44,7 @@ pub enum Note {
     Worn { ordinal: u64 },
     /// The ids of this run are spent.
     NoMore { run: u32 },
-    /// The input has so many bytes, 2^40, which are all that a connection may have.
+    /// `at` bytes of the input were read, 2^40, which are all that a connection may have.
     TooMuch { at: u64 },
 }
 

@@ -97,7 +97,7 @@ call_kept : (x w y : DeskState) (call : Call) (met : Option Standing) (t : Spool
 call_kept x w y (takes group (Ok receipt)) met t rules answers later = λ k lt. kept_there x w y group receipt met t rules answers later (omega arith) k lt
 call_kept x w y _ met t rules answers later = tt
 
--- Each entry of each group that was taken stands at its number, or is confirmed, in each state behind the calls.
+-- Each entry of each group that was taken stands at its number, or is confirmed, in each state after the calls.
 pub goes_kept : (x y : DeskState) (records : List Record) (t : SpoolState) → IsDesk x → Goes x records y → IsOneOf y.spool y.doubt t → AllKept t (calls_of records)
 goes_kept x y [] t rules goes one = tt
 goes_kept x y (first ∷ records) t rules goes one =

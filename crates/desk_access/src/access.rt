@@ -22,8 +22,8 @@ use spool_log::{ConfirmFault, Numbered, PendFault, Receipt, TakeFault};
 /// confirms them, and issues acknowledgement ids to channels. Its calls answer as those of
 /// [`spool_log::Spool`] and [`hec_ids::Ids`] do.
 ///
-/// What generic code did is told by one relation: `ran` says which calls of this caller lead from the one
-/// value to the other, each with its answer. What stands after them is told by `seen`: a state of the desk
+/// What generic code did is said by one relation: `ran` says which calls of this caller lead from the one
+/// value to the other, each with its answer. What stands after them is said by `seen`: a state of the desk
 /// at its beginning, and the journal of all calls since, of which this caller's are a part. A caller whose
 /// disk tells no bytes has seen no journal.
 pub trait Access {

@@ -59,7 +59,7 @@ module _ (here other ordinal : ℕ) (content : List ℕ) (apart : AreApart here 
     ];
   }
 
-  -- a body that comes to stand behind a closed gate
+  -- a body that comes to stand after a closed gate
   pub shut_counts : (n : ℕ) (d c : List ℕ) → n ≤ 4096 → 12288 ≤ length d → Counts here other ordinal content d → SameBut other n d c → get_or c other 0 ≢ 1 → Counts here other ordinal content c
   shut_counts n d c le room counts same shut = record { holds = part_stays n d c le room same ∙ counts.holds; other_less = inl shut }
 
@@ -119,7 +119,7 @@ module _ (r : Register) (run cursor : ℕ) (known : List Stretch) (few : length 
   pub closing_holds : (d c : List ℕ) → IsClosingStep r d c → IsSetStep r run cursor known d c
   closing_holds d c step = record { outside = step.outside; inside = inl (holds r.counting r.ordinal (text_of r.content) c step.counts) }
 
-  -- the new cell written behind its gate
+  -- the new cell written after its gate
   pub gate_step : (d mid c : List ℕ) → 12288 ≤ length d → r.ordinal < 2 ^ 64 → IsClosingStep r d mid → IsGateStep (place_of (other_of r.counting)) (body_text (r.ordinal + 1) (content_text run cursor known)) mid c → IsSetStep r run cursor known d c
   gate_step d mid c room fits step gated =
       let here = place_of r.counting in

@@ -86,7 +86,7 @@ impl Register {
     }
 
     // Closes the gate of the other cell where it is open. A gate that is closed is not written, since a
-    // write that is torn could open it over what stands behind it.
+    // write that is torn could open it over what stands after it.
     fn close_other<D: Disk>(&self, disk: &mut D) -> Result<(), DiskFault>
         requires room { first_slot ≤ (D.moment disk.old).size }
         requires known { D.tells → (c : List ℕ) → (D.moment disk.old).image c → Knows self.now c }

@@ -19,11 +19,11 @@ pub(crate) const CONTENT: usize = 19;
 /// The bytes of the stretches of a content at most.
 pub(crate) const MOST_KNOWN: usize = STRETCH * MOST_STRETCHES;
 
-/// The bytes behind a cell's gate before the stretches: the ordinal, the length, the version, the run, the
+/// The bytes after a cell's gate before the stretches: the ordinal, the length, the version, the run, the
 /// cursor and the count.
 const HEAD: usize = 12 + CONTENT;
 
-/// The bytes behind a cell's gate at most.
+/// The bytes after a cell's gate at most.
 pub(crate) const MOST_BODY: usize = HEAD + MOST_KNOWN;
 
 // The bytes before the stretches.
@@ -62,7 +62,7 @@ fn put_stretches(body: &mut [u8], at: usize, known: &[Stretch])
     }
 }
 
-/// Puts what stands behind the gate of a cell at the front of `body`, and gives how many bytes that is.
+/// Puts what stands after the gate of a cell at the front of `body`, and gives how many bytes that is.
 pub(crate) fn put_body(
     body: &mut [u8],
     ordinal: u64,

@@ -1,4 +1,4 @@
--- What a crash leaves in each step of a write behind a gate, and of a gate that is opened or closed.
+-- What a crash leaves in each step of a write after a gate, and of a gate that is opened or closed.
 use Rattle.std.proofs.Common.{◌≡◌, ◌≢◌, ◌⊎◌, inl, inr, ℕ, ◌+◌, ◌<◌, ◌≤◌, List, [], ◌∷◌, length, get_or, sym, ◌∙◌, ap, subst, arith}
 use Rattle.std.proofs.lemmas.Bool.{cases_eq, cases_order}
 use Rattle.std.proofs.lemmas.List.{ext_get_or}
@@ -20,7 +20,7 @@ only_gate gate x old c room same is =
       ]
     ])
 
--- what a gate reads that was written, with what was put behind it
+-- what a gate reads that was written, with what was put after it
 pub gate_reads : (gate x : ℕ) (piece old : List ℕ) → gate + length piece + 1 ≤ length old → get_or (put gate (x ∷ piece) old) gate 0 ≡ x
 gate_reads gate x piece old room = put_at gate (x ∷ piece) old 0 gate (omega arith) (omega arith) (omega arith)
 
@@ -41,7 +41,7 @@ closed_or_before gate old c room open_before step = elim step.inside [
   | inr is ↦ inr (is ∙ sym (only_gate gate 1 old old room (same_but_refl gate 1 old) open_before))
 ]
 
--- bytes that a crash leaves while the piece is written behind the closed gate
+-- bytes that a crash leaves while the piece is written after the closed gate
 pub behind : (gate : ℕ) (piece old c : List ℕ) → get_or old gate 0 ≢ 1 → SameBut (gate + 1) (length piece) old c → IsGateStep gate piece old c
 behind gate piece old c closed torn = record {
   outside = same_but_wider gate (length piece + 1) (gate + 1) (length piece) old c torn (omega arith) (omega arith);
@@ -80,7 +80,7 @@ opening gate piece old c room step =
       ];
     }
 
--- a piece that is written behind a gate that is closed in each image
+-- a piece that is written after a gate that is closed in each image
 pub piece_written : (gate : ℕ) (piece : List ℕ) (m new : Moment) → ((c : List ℕ) → m.image c → get_or c gate 0 ≢ 1)
     → LeavesOnly (ComesFrom m (SameBut (gate + 1) (length piece))) m new → LeavesOnly (ComesFrom m (IsGateStep gate piece)) m new
 piece_written gate piece m new closed run = weaker _ _ m new run (λ c from. (from.0, from.1, behind gate piece from.0 c (closed from.0 from.1) from.2))

@@ -1,4 +1,4 @@
--- How a run of calls on a disk goes on, for the layers above: what each call leaves, one behind another.
+-- How a run of calls on a disk goes on, for the layers above: what each call leaves, one after another.
 use Rattle.std.proofs.Common.{inl, inr, ⊎_elim, ℕ, ◌∙◌, List, arith, refl, subst, sym}
 use Rattle.foundation.specs.Bytes.{SameBut}
 use Rattle.foundation.proofs.Bytes.{same_but_refl}
@@ -48,7 +48,7 @@ torn_from Q m new at n lawful call here =
 pub written_from : (m new : Moment) (at n : ℕ) → IsLawful m → IsTorn at n m new → LeavesOnly (ComesFrom m (SameBut at n)) m new
 written_from m new at n lawful call = torn_from (SameBut at n) m new at n lawful call (λ d c i same. same)
 
--- one run behind another
+-- one run after another
 pub both : (P Q R : List ℕ → Type 0) (old mid new : Moment) → LeavesOnly P old mid → LeavesOnly Q mid new → ((c : List ℕ) → P c → R c) → ((c : List ℕ) → Q c → R c) → LeavesOnly R old new
 both P Q R old mid new first second p q = record {
   later = omega (arith, first.later, second.later);
@@ -57,7 +57,7 @@ both P Q R old mid new first second p q = record {
   before = λ t c le since. ⊎_elim (λ had. ⊎_elim (λ was. inl was) (λ h. inr (p c h)) (first.before t c le had)) (λ h. inr (q c h)) (second.before t c (omega (arith, le, first.later)) since);
 }
 
--- one run behind another that is seen from the images between them
+-- one run after another that is seen from the images between them
 pub both_from : (P R : List ℕ → Type 0) (Q : List ℕ → List ℕ → Type 0) (old mid new : Moment) → LeavesOnly P old mid → LeavesOnly (ComesFrom mid Q) mid new → ((c : List ℕ) → P c → R c) → ((d c : List ℕ) → P d → Q d c → R c) → LeavesOnly R old new
 both_from P R Q old mid new first second p q = both P (ComesFrom mid Q) R old mid new first second p (λ c from. q from.0 c (first.now from.0 from.1) from.2)
 
@@ -86,7 +86,7 @@ untouched_refl m = record {
   time = record { later = omega arith; nothing_else = λ t c le since. inl since };
 }
 
--- and so do reads and syncs one behind another
+-- and so do reads and syncs one after another
 pub untouched_then : (old mid new : Moment) → IsLawful old → IsUntouched old mid → IsUntouched mid new → IsUntouched old new
 untouched_then old mid new lawful before call = record {
   same = call.same ∙ before.same;

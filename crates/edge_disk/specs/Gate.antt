@@ -1,9 +1,9 @@
--- A piece behind a gate. The gate is one byte: 1 is open, any other byte is closed.
+-- A piece after a gate. The gate is one byte: 1 is open, any other byte is closed.
 use Rattle.std.specs.Prelude.{◌≡◌, ◌≢◌, ◌⊎◌, ℕ, ◌+◌, List, ◌∷◌, length, slice_index}
 use Rattle.foundation.specs.Bytes.{put, SameBut}
 use Rattle.edge_disk.specs.Disk.{Moment}
 
--- The gate is closed, or the piece stands whole behind the open gate; all else is as it was.
+-- The gate is closed, or the piece stands whole after the open gate; all else is as it was.
 -- With no piece: the gate alone may have changed.
 pub record IsGateStep (gate : ℕ) (piece old c : List ℕ) : Type 0 where
   pub outside : SameBut gate (length piece + 1) old c

@@ -1,4 +1,4 @@
-//! A piece that comes to stand on the disk whole or not at all: it is written behind a closed gate, one
+//! A piece that comes to stand on the disk whole or not at all: it is written after a closed gate, one
 //! byte that is open where it is 1, and the gate is opened once the piece is durable.
 ghost use Rattle.std.specs.Prelude.{◌≡◌, ◌≢◌, List, ℕ, ◌+◌, ◌<◌, ◌≤◌, [], ◌∷◌, length, slice_index, IsErr, OnOk};
 ghost use Rattle.foundation.specs.Bytes.{put};
@@ -8,9 +8,9 @@ ghost use Rattle.edge_disk.specs.Gate.{IsGateStep, ComesFrom};
 
 use crate::{Disk, DiskFault};
 
-/// Writes `piece` behind the gate at offset `gate`, and opens the gate: a write, a sync, a write, a sync. The
+/// Writes `piece` after the gate at offset `gate`, and opens the gate: a write, a sync, a write, a sync. The
 /// disk may have writes that are not durable yet, but the gate is closed in every image. At each moment it
-/// still is, or the piece stands behind it whole, and no other byte of an image changed. After a fault, too,
+/// still is, or the piece stands after it whole, and no other byte of an image changed. After a fault, too,
 /// so a sync and a read of the gate tell which it is.
 pub fn write_behind<D: Disk>(disk: &mut D, gate: u64, piece: &[u8]) -> Result<(), DiskFault>
     requires room { gate + length piece.now + 1 ≤ (D.moment disk.old).size }
@@ -28,7 +28,7 @@ pub fn write_behind<D: Disk>(disk: &mut D, gate: u64, piece: &[u8]) -> Result<()
     open_gate(disk, gate)
 }
 
-/// Opens the gate at offset `gate`, where what stands behind it is durable: a write of 1, a sync. For a
+/// Opens the gate at offset `gate`, where what stands after it is durable: a write of 1, a sync. For a
 /// piece that was written in several parts. At each moment the gate is closed or open, and no other byte
 /// changes.
 pub fn open_gate<D: Disk>(disk: &mut D, gate: u64) -> Result<(), DiskFault>

@@ -39,7 +39,7 @@ impl MemDisk {
         MemDisk::make(bytes, true, failing, None)
     }
 
-    /// One that passes so many calls and fails each later one.
+    /// One whose first `calls` calls pass, and whose later ones all fail.
     pub fn stopped(bytes: Vec<u8>, calls: u64) -> MemDisk
         ensures { IsNew true bytes.items [] (Some calls) result }
     {
@@ -47,7 +47,7 @@ impl MemDisk {
         MemDisk::make(bytes, true, failing, Some(calls))
     }
 
-    /// A disk of so many zero bytes without a record: it tells what it reads, and no images. No call fails.
+    /// A disk of `len` zero bytes without a record: it tells what it reads, and no images. No call fails.
     pub fn plain(alloc: Global, len: u64) -> Result<MemDisk, AllocError>
         ensures new { IfOk result (λ disk. IsNew false (replicate len 0) [] None disk) }
         ensures never { IfOk result NeverFails }

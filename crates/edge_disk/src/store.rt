@@ -74,8 +74,8 @@ impl Store {
         &self.bytes
     }
 
-    /// Writes the piece at the front of a range of so many bytes. All of the range is one that a crash may
-    /// tear.
+    /// Writes the piece at the front of the `len` bytes from `at` on. A crash may tear all of that
+    /// range.
     pub(crate) fn write(&mut self, at: usize, len: usize, piece: &[u8]) -> Result<(), AllocError>
         requires sound { IsSound self.old }
         requires range { at + len ≤ length self.old.reads }

@@ -4,7 +4,7 @@ ghost use Rattle.std.proofs.Common.{◌∙◌};
 
 use crate::{Object, ReadFault, Sink, Source, WriteFault};
 
-/// The same reference, and behind it the same object.
+/// The same reference, to the same object.
 impl<S: Object> Object for &mut S {
     ghost same = { λ x y. (y.ghost_name ≡ x.ghost_name) × S.same x.now y.now };
 

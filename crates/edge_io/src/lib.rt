@@ -1,7 +1,7 @@
 //! Bytes in, bytes out, and counts of faults: the objects by which a connection reads and writes. A
 //! `Source` gives bytes and a `Sink` takes them; each tells which, where it can, and answers a fault
 //! only where its count of faults rose. It has memory forms of both, which tell all and fail at the
-//! calls that they are told to, an adapter over std's readers and writers, and `write_whole`, which
+//! calls that they were given, an adapter over std's readers and writers, and `write_whole`, which
 //! says how much of a piece was taken whatever comes.
 #![tactic(auto)]
 

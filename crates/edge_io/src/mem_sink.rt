@@ -5,7 +5,7 @@ use crate::script::Script;
 use crate::{Object, Sink, WriteFault};
 use std::alloc::Global;
 
-/// A sink that keeps what it takes, and whose writes fail at the calls that it was told, and where it
+/// A sink that keeps what it takes, and whose writes fail at the calls that it was given, and where it
 /// finds no memory. It tells all its bytes.
 #[derive(Drop)]
 pub struct MemSink {

@@ -4,7 +4,7 @@ ghost use Rattle.std.specs.Prelude.{◌≡◌, ◌-◌, ◌<◌, ◌≤◌, min,
 use crate::script::Script;
 use crate::{Object, ReadFault, Source};
 
-/// A source that gives bytes that it was made with, and whose reads fail at the calls that it was told.
+/// A source that gives bytes that it was made with, and whose reads fail at the calls that it was given.
 /// It tells all its bytes.
 #[derive(Drop)]
 pub struct MemSource {

@@ -14,11 +14,11 @@ use Rattle.event_form.proofs.Numbers.{IsBytes, IsBytes-take, IsBytes-drop, four_
 use Rattle.event_form.proofs.Fields.{length-entry_text}
 use Rattle.event_form.proofs.Unique.{one_entry}
 
--- n bytes from an offset on, and those behind them
+-- n bytes from an offset on, and those after them
 piece : (i n j : ℕ) (b : List ℕ) → i + n ≡ j → drop i b ≡ take n (drop i b) ++ drop j b
 piece i n j b e = sym (take-append-drop n (drop i b)) ∙ ap (λ (r : List ℕ). take n (drop i b) ++ r) (drop-drop n i b ∙ ap (λ k. drop k b) e)
 
--- the fields one behind the other
+-- the fields one after the other
 fields : (b text rest : List ℕ) → 29 ≤ length b → drop 29 b ≡ text ++ rest → b ≡ get_or b 0 0 ∷ (take 8 (drop 1 b) ++ (take 8 (drop 9 b) ++ (take 8 (drop 17 b) ++ (take 4 (drop 25 b) ++ (text ++ rest)))))
 fields b text rest there h =
     drop_more b 0 0 (omega arith)
@@ -77,7 +77,7 @@ taken e b rest h = ap (take (size_of e)) h.whole ∙ take_at (entry_text e) rest
 pub only : (d e : Entry) (b x y : List ℕ) → Begins d b x → Begins e b y → d ≡ e
 only d e b x y p q = (one_entry d e x y p.limits q.limits (sym p.whole ∙ q.whole)).0
 
--- what is behind the entry
+-- what is after the entry
 pub behind : (e : Entry) (b rest : List ℕ) → Begins e b rest → drop (size_of e) b ≡ rest
 behind e b rest h = ap (drop (size_of e)) h.whole ∙ drop_at (entry_text e) rest (size_of e) (length-entry_text e)
 

@@ -79,7 +79,7 @@ up_to_more m n p b rest e h k = record {
   whole = text_from_pair p b rest h ∙ ap (λ (r : List ℕ). pair_text p ++ r) k.whole;
 }
 
--- what is behind a pair is no longer
+-- what is after a pair is no longer
 pub pair_shorter : (p : List ℕ × List ℕ) (b rest : List ℕ) → BeginsPair p b rest → length rest ≤ length b
 pair_shorter p b rest h = omega (arith, ap length (text_from_pair p b rest h), length-append (pair_text p) rest)
 

@@ -55,7 +55,7 @@ one_entry d e x y hd he h =
 
 -- ---- lists of entries
 
--- the first entry's text, and what is behind it
+-- the first entry's text, and what is after it
 pub joined : (e : Entry) (es : List Entry) (x : List ℕ) → flat_map entry_text (e ∷ es) ++ x ≡ entry_text e ++ (flat_map entry_text es ++ x)
 joined e es x = ap (λ (b : List ℕ). b ++ x) (flat_map-cons entry_text e es) ∙ append_assoc (entry_text e) (flat_map entry_text es) x
 
@@ -75,7 +75,7 @@ one_list (d ∷ ds) (e ∷ es) x y hd he n h =
 pub one_run : (ds es : List Entry) (x y : List ℕ) → All IsEntry ds → All IsEntry es → length ds ≡ length es → flat_map entry_text ds ++ x ≡ flat_map entry_text es ++ y → (ds ≡ es) × (x ≡ y)
 one_run ds es x y hd he n h = one_list ds es x y (recursion_from_All IsEntry ds hd) (recursion_from_All IsEntry es he) n h
 
--- nothing behind them: the count needn't be known
+-- nothing after them: the count needn't be known
 same_list : (ds es : List Entry) → AllByRecursion IsEntry ds → AllByRecursion IsEntry es → flat_map entry_text ds ≡ flat_map entry_text es → ds ≡ es
 same_list [] [] hd he h = refl
 same_list [] (e ∷ es) hd he h = absurd (not_empty e (flat_map entry_text es) (sym h))

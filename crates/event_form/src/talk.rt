@@ -12,7 +12,7 @@ pub enum Why {
     Command,
     /// A length is above its limit.
     TooLong,
-    /// The byte behind the data isn't LF.
+    /// The byte after the data isn't LF.
     Trailer,
     /// The version isn't 2.
     Version,
@@ -28,7 +28,7 @@ pub enum Why {
     BadHead,
     /// The head says no length that is allowed.
     BadLength,
-    /// A chunk or the trailer behind the chunks is broken.
+    /// A chunk or the trailer after the chunks is broken.
     BadChunk,
     /// A peer's reply is none that may come.
     Reply,
@@ -45,17 +45,17 @@ pub enum Talk {
     Fault { at: u64, why: Why },
     /// The input ended inside the frame that begins at this offset.
     Truncated { at: u64 },
-    /// The spool has no room: the group needs so many bytes, and the active slot has so many.
+    /// The spool has no room: the group needs `need` bytes, the active slot has `room` left, and no slot is free.
     Full { need: u64, room: u64 },
     /// The group needs more bytes than an empty slot has.
     TooLarge { need: u64, most: u64 },
-    /// The table of ids is full: so many are held.
+    /// The table of ids is full: it holds `held` of them.
     Busy { held: u32 },
     /// The numbers of the entries are spent.
     Spent { end: u64 },
     /// The ids of this run are spent.
     NoMore { run: u32 },
-    /// So many bytes were read, 2^40, which are all that a connection may have.
+    /// `at` bytes were read, 2^40, which are all that a connection may have.
     TooMuch { at: u64 },
     /// A read failed.
     ReadFault,

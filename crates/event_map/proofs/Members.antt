@@ -32,7 +32,7 @@ closed text rest object none h = go h.pairs h.whole h.object
     go [] whole is = (h.all, is)
     go (p ∷ ps) whole is = absurd (none p (pairs_text ps) (pair_from_text p rest (pairs_text ps) (omega (arith, h.short)) whole))
 
--- the object behind a member: the same object, and a comma if a pair is left
+-- the object after a member: the same object, and a comma if a pair is left
 pub record Wrote (pair : List ℕ × List ℕ) (object new behind : List ℕ) : Type 0 where
   pub last : length behind ≡ 0 → new ≡ object ++ member_of pair
   pub more : 0 < length behind → new ≡ (object ++ member_of pair) ++ 44 ∷ []
@@ -63,7 +63,7 @@ comes_on text rest object new behind pair begins wrote h = go h.pairs h.whole h.
         on [] there so = ap (λ (n : List ℕ). n ++ left []) (wrote.last (ap length there)) ∙ behind_last object (member_of pair) (codes "}") ∙ so
         on (q ∷ qs) there so = ap (λ (n : List ℕ). n ++ left (q ∷ qs)) (wrote.more (omega (arith, ap length there, length_behind q qs))) ∙ behind_more object (member_of pair) (join_with_byte 44 (map member_of (q ∷ qs))) (codes "}") ∙ so
 
--- a key, a colon and a value behind what stood there
+-- a key, a colon and a value after what stood there
 pub member_written : (object key colon new : List ℕ) (pair : List ℕ × List ℕ) → key ≡ object ++ string_of pair.0 → colon ≡ key ++ 58 ∷ [] → new ≡ colon ++ string_of pair.1 → new ≡ object ++ member_of pair
 member_written object key colon new pair k c n =
     n ∙ ap (λ (x : List ℕ). x ++ string_of pair.1) (c ∙ ap (λ (x : List ℕ). x ++ 58 ∷ []) k) ∙ append_assoc (object ++ string_of pair.0) (58 ∷ []) (string_of pair.1) ∙ append_assoc object (string_of pair.0) (58 ∷ string_of pair.1)

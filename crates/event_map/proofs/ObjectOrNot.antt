@@ -18,7 +18,7 @@ spaces (c ∷ w) = go (is_space c) refl (spaces w)
     go true e (inr never) = inr (λ p. never p.1)
     go false e d = inr (λ p. absurd cc)
 
--- a value behind white space, by the machine
+-- a value after white space, by the machine
 value : (x : List ℕ) → Decided (Spaced (Json 127) x)
 value x = go (run (Value 127 []) x) refl
   where

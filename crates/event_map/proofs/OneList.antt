@@ -4,7 +4,7 @@ use Rattle.event_form.specs.Event.{pair_text, pairs_text, ArePairs}
 use Rattle.event_form.specs.Pairs.{BeginsPair}
 use Rattle.event_form.proofs.Strings.{one_string, pair_from_text, length-pair_text}
 
--- the pair that bytes begin with, and what is behind it
+-- the pair that bytes begin with, and what is after it
 pub same_pair : (p q : List ℕ × List ℕ) (b x y : List ℕ) → BeginsPair p b x → BeginsPair q b y → (p ≡ q) × (x ≡ y)
 same_pair p q b x y h k =
     let key = one_string p.0 q.0 b h.middle k.middle h.key k.key in
@@ -33,6 +33,6 @@ same_pairs (p ∷ ps) (q ∷ qs) short h =
 pub one_list : (text : List ℕ) → length text ≤ 131072 → (h k : ArePairs text) → h.pairs ≡ k.pairs
 one_list text short h k = same_pairs h.pairs k.pairs (omega (arith, ap length h.whole)) (sym h.whole ∙ k.whole)
 
--- what is behind a pair is shorter
+-- what is after a pair is shorter
 pub shorter : (pair : List ℕ × List ℕ) (rest behind : List ℕ) → BeginsPair pair rest behind → length behind < length rest
 shorter pair rest behind h = omega (arith, ap length h.key.whole, ap length h.value.whole, length-append pair.0 h.middle, length-append pair.1 behind)

@@ -38,7 +38,7 @@ escaped-replacement : escaped replacement_bytes ≡ 3
 unfolding escape_byte
 escaped-replacement = refl
 
--- at least one byte stands behind each U+FFFD
+-- at least one byte stands after each U+FFFD
 some_either : (n : ℕ) (b : Bool) (x y : Option ℕ) → 0 < unwrap_or x n → 0 < unwrap_or y n → 0 < unwrap_or (if b then x else y) n
 some_either n true x y h k = h
 some_either n false x y h k = k

@@ -18,6 +18,6 @@ range_over a b from to m n =
     let f : length (drop from a) + (to - length a) ≡ to - from = omega (arith, length-drop from a) in
     sym (ap (take (to - from)) d ∙ ap (λ k. take k (drop from a ++ b)) (sym f) ∙ take-append-add (drop from a) b (to - length a))
 
--- what was read of a piece behind what was held, with more of the piece
+-- what was read of a piece after what was held, with more of the piece
 pub join_more : (held piece spelt rest more : List ℕ) (i n : ℕ) → held ++ take i piece ≡ spelt ++ rest → take n (drop i piece) ≡ more → held ++ take (i + n) piece ≡ spelt ++ (rest ++ more)
 join_more held piece spelt rest more i n joined is = ap (λ v. held ++ v) (take-add i n piece ∙ ap (λ v. take i piece ++ v) is) ∙ sym (append_assoc held (take i piece) more) ∙ ap (λ v. v ++ more) joined ∙ append_assoc spelt rest more

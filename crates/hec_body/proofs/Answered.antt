@@ -41,7 +41,7 @@ texts_more i ids known d within same = map_more ack_member (zip ids known) i d (
 behind : (head j x : List ℕ) → ((head ++ j) ++ 44 ∷ []) ++ x ≡ head ++ ((j ++ 44 ∷ []) ++ x)
 behind head j x = simp append_assoc
 
--- the next member, behind a comma
+-- the next member, after a comma
 pub one_more : (head old comma new : List ℕ) (i : ℕ) (ids : List ℕ) (known : List Bool) (d : ℕ × Bool) → i < length ids → length ids ≡ length known → 0 < i
     → old ≡ head ++ members_to i ids known → comma ≡ old ++ 44 ∷ [] → new ≡ comma ++ member_at i ids known d → new ≡ head ++ members_to (i + 1) ids known
 one_more head old comma new i ids known d within same some o c n =

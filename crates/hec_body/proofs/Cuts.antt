@@ -19,7 +19,7 @@ spaces_no_object bytes text rest spaces o =
     let isnt : is_space 123 ≡ false = refl in
     cc
 
--- ---- what stands behind some events
+-- ---- what stands after some events
 
 -- the fault at the end of a body, if there is one
 at_end : ℕ → Option BodyFault
@@ -93,7 +93,7 @@ fault_ends number rest NoMemory m h = absurd (m refl)
 
 -- ---- the events before it
 
--- of two cuts into events, the longer one goes on behind the shorter
+-- of two cuts into events, the longer one goes on after the shorter
 goes_on : (body : List ℕ) (xs ys : List (List ℕ)) (r s : List ℕ) → BeginsEvents body xs r → BeginsEvents body ys s → length xs ≤ length ys → (zs : List (List ℕ)) × (ys ≡ xs ++ zs) × BeginsEvents r zs s
 goes_on body [] ys r s a b fewer = (ys, refl, subst (λ (z : List ℕ). BeginsEvents z ys s) a b)
 goes_on body (x ∷ xs) [] r s a b fewer = absurd (omega arith)

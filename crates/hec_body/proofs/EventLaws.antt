@@ -5,12 +5,12 @@ use Rattle.json_span.specs.Json.{is_space, AreSpaces}
 use Rattle.hec_body.specs.Events.{BeginsObject, IsEventObject, BeginsEvents}
 use Rattle.hec_body.proofs.Front.{object_brace}
 
--- one more event behind those so far
+-- one more event after those so far
 pub begins_more : (body : List ℕ) (texts : List (List ℕ)) (rest text more : List ℕ) → BeginsEvents body texts rest → BeginsObject rest text more → IsEventObject text → BeginsEvents body (texts ++ text ∷ []) more
 begins_more body [] rest text more b o e = (more, subst (λ (z : List ℕ). BeginsObject z text more) (sym b) o, e, refl)
 begins_more body (t ∷ texts) rest text more b o e = (b.0, b.1, b.2, begins_more b.0 texts rest text more b.3 o e)
 
--- what is behind an object is shorter
+-- what is after an object is shorter
 pub behind_shorter : (bytes text rest : List ℕ) → BeginsObject bytes text rest → length rest < length bytes
 behind_shorter bytes text rest o =
     let brace = object_brace 127 text o.object in

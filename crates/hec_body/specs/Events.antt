@@ -87,7 +87,7 @@ IsRefused text number NoMemory = ⊤
 abbrev pub RefusesNext : ℕ → List ℕ → BodyFault → Type 0
 RefusesNext number bytes fault = (number < 10000) × ((text : List ℕ) × (rest : List ℕ) × BeginsObject bytes text rest × IsRefused text number fault)
 
--- what is wrong behind so many events
+-- what is wrong after so many events
 abbrev pub IsFaultBehind : ℕ → List ℕ → BodyFault → Type 0
 IsFaultBehind number rest NoData = (number ≡ 0) × AreSpaces rest
 IsFaultBehind number rest (Format event) = ((event ≡ number) × BeginsNoObject rest) ⊎ RefusesNext number rest (Format event)

@@ -40,7 +40,7 @@ fn judge(alloc: Global, text: &[u8], event: u32) -> Result<(), BodyFault>
 /// Each object is judged before the next one is looked at, and the first fault decides. `NoData`: the body
 /// is white space or nothing. `Format`: no such object begins where this one is due. `NoEvent`: none of
 /// its members is spelt `"event"`; escapes aren't read. `Blank`: the first such member's value is `""` or
-/// `null`. Behind 10,000 events `TooMany` stands for a further object of at most 127 levels, and `Format`
+/// `null`. After 10,000 events `TooMany` stands for a further object of at most 127 levels, and `Format`
 /// for anything else than white space. `NoMemory`: no memory was found; it can come in place of any answer.
 pub fn event_pieces(alloc: Global, body: &[u8]) -> Result<Vec<Blob>, BodyFault>
     ensures events { IfOk result (λ pieces. AreEvents body.now pieces.items) }

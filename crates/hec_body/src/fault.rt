@@ -14,7 +14,7 @@ pub enum BodyFault {
     NoEvent { event: u32 },
     /// The value of this event's first member `"event"` is `""` or `null`.
     Blank { event: u32 },
-    /// Another event stands behind 10,000 ones.
+    /// Another event stands after 10,000 ones.
     TooMany,
     /// No memory was found.
     NoMemory,

@@ -16,7 +16,7 @@ fn line_feed(bytes: &[u8]) -> Option<usize>
     bytes.iter().position(|&byte| byte == b'\n')
 }
 
-/// The first line of some bytes, and what is behind its end.
+/// The first line of some bytes, and what is after its end.
 fn first_line(bytes: &[u8]) -> (&[u8], &[u8])
     requires { 0 < length bytes.now }
     ensures line { lines bytes.now ≡ result.0.now ∷ lines result.1.now }
@@ -34,7 +34,7 @@ fn first_line(bytes: &[u8]) -> (&[u8], &[u8])
 /// least one event and at most 10,000, and each has at most 131,072 bytes.
 ///
 /// The first fault decides. `NoData`: no line has a byte. `Format`: this event, counted without the empty
-/// lines, has more than 131,072 bytes. `TooMany`: another event, however long, stands behind 10,000.
+/// lines, has more than 131,072 bytes. `TooMany`: another event, however long, stands after 10,000.
 /// `NoMemory`: no memory was found; it can come in place of any answer. `NoEvent` and `Blank` never come.
 pub fn raw_lines(alloc: Global, body: &[u8]) -> Result<Vec<Blob>, BodyFault>
     ensures lines { IfOk result (λ texts. texts.items ≡ filled_lines body.now) }

@@ -15,7 +15,7 @@ pub(crate) fn is_white_space(bytes: &[u8]) -> bool
     bytes.iter().all(|&byte| byte == b' ' || byte == b'\t' || byte == b'\n' || byte == b'\r')
 }
 
-/// The text of the object that the bytes begin with, white space before it allowed, and what is behind it.
+/// The text of the object that the bytes begin with, white space before it allowed, and what is after it.
 pub(crate) fn first_object(bytes: &[u8]) -> Option<(&[u8], &[u8])>
     ensures some { IfSome result (λ parts. BeginsObject bytes.now parts.0.now parts.1.now) }
     ensures none { IfNone result ((text rest : List ℕ) → BeginsObject bytes.now text rest → ⊥) }

@@ -1,6 +1,6 @@
 //! The acknowledgement ids of the HTTP Event Collector, as Splunk's manual has them under "HTTP Event
 //! Collector indexer acknowledgment": each channel holds ids, each settled or not, and a settled one is
-//! told once. How ids are numbered, and how many are held, is this project's own. The one contract is that
+//! reported once. How ids are numbered, and how many are held, is this project's own. The one contract is that
 //! of `Ids`: each call answers from a plain list of the ids held, and changes it as its definition says.
 #![tactic(auto)]
 

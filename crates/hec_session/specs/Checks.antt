@@ -64,7 +64,7 @@ endpoint_of r = endpoint_at r.method (path_of r.target)
 abbrev pub guid : List ℕ → Option ℕ
 guid text = option_map (from_be_bytes w128) (parsed text)
 
--- what stands behind the word Splunk, ASCII case aside, and one space
+-- what stands after the word Splunk, ASCII case aside, and one space
 abbrev pub credentials : List ℕ → Option (List ℕ)
 credentials value = if str_eq_ignore_ascii_case (take 7 value) (codes "Splunk ") then Some (drop 7 value) else None
 

@@ -1,4 +1,4 @@
--- The target of a request (RFC 9112, section 3.2.1): a path, and behind the first `?` (63) a query.
+-- The target of a request (RFC 9112, section 3.2.1): a path, and after the first `?` (63) a query.
 use Rattle.std.specs.Prelude.{ℕ, ◌+◌, ◌==◌, List, [], ◌∷◌, Option, Some, None, take, drop, position, if◌then◌else◌}
 use Rattle.std.specs.Str.{bytes_eq}
 use Rattle.std.specs.Str.Lossy.{utf8_lossy}

@@ -13,7 +13,7 @@ use event_form::{Blob, Event, Origin};
 use hec_body::{AckFault, BodyFault, ack_ids, event_pieces, raw_lines};
 use std::alloc::{AllocError, Global};
 
-// The number that is told of a body with too many events.
+// The number that is reported for a body with too many events.
 const MOST_EVENTS: u32 = 10_000;
 
 // The texts of a body's events.
@@ -58,7 +58,7 @@ fn events_of(alloc: Global, form: Form, body: &[u8]) -> Result<Vec<Event>, BodyF
     Ok(with_origin(alloc, form, texts)?)
 }
 
-// How a fault is told.
+// How a fault is reported.
 fn told(fault: BodyFault) -> Result<HecSay, AllocError>
     ensures told { MatchResult result (λ say. Tells fault say) (λ _. fault ≡ NoMemory) }
     ensures reply { IfOk result IsReply }
@@ -73,7 +73,7 @@ fn told(fault: BodyFault) -> Result<HecSay, AllocError>
     }
 }
 
-/// The act for a body whose events are stored before Success is told.
+/// The act for a body whose events are stored before Success is answered.
 pub fn store(alloc: Global, form: Form, body: &[u8]) -> Result<HecAct, AllocError>
     ensures act { IfOk result (Stores form body.now) }
     ensures sound { IfOk result IsSound }

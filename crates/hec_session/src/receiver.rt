@@ -40,7 +40,7 @@ impl HecCore {
     /// What is done for a request. The checks are made in this order, and the first that doesn't pass
     /// answers ("HTTP Event Collector REST API endpoints"; the order and the limits are this project's own):
     ///
-    /// - the path, by its bytes, and the method: 404, 405; health is told at once, 17
+    /// - the path, by its bytes, and the method: 404, 405; health is answered at once, 17
     /// - the Authorization, `Splunk` and one space before a GUID: 2, 16 where the query has a `token`, 3, 4
     /// - on `ack`, a token that uses acks: 14
     /// - with such a token the channel, a GUID of X-Splunk-Request-Channel or else of the query: 10, 11

@@ -8,7 +8,7 @@ use crate::say::HecSay;
 use event_form::Blob;
 use std::alloc::{AllocError, Global};
 
-// A member with this number, behind a comma.
+// A member with this number, after a comma.
 fn member(alloc: Global, name: &[u8], number: u64) -> Result<Vec<u8>, AllocError>
     requires { length name.now ≤ 20 }
     ensures value { IfOk result (λ text. text.items ≡ member_of name.now (Some number)) }

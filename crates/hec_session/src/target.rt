@@ -23,7 +23,7 @@ pub fn path_of(target: &[u8]) -> &[u8]
     }
 }
 
-// The query: what stands behind it.
+// The query: what stands after it.
 fn query_of(target: &[u8]) -> &[u8]
     ensures { result.now ≡ query_of target.now }
 {

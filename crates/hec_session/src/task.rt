@@ -16,7 +16,7 @@ use std::alloc::Global;
 /// What is to be done with a request's body.
 #[derive(Clone, Copy, PartialEq, Eq, Debug)]
 pub enum Task {
-    /// Its events are stored, and then Success is told.
+    /// Its events are stored, and then Success is answered.
     Store(Form),
     /// Its events are stored under an id of this channel.
     StoreOn(Form, u128),

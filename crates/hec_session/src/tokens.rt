@@ -21,9 +21,9 @@ pub struct Tokens {
 /// What a token grants.
 #[derive(Clone, Copy, PartialEq, Eq, Debug)]
 pub enum Grant {
-    /// Success is told once the events are durable.
+    /// Success is answered once the events are durable.
     WithoutAcks,
-    /// Success is told at once, with an id that can be asked for later.
+    /// Success is answered at once, with an id that can be asked for later.
     WithAcks,
 }
 
@@ -38,7 +38,7 @@ pub fn guid(text: &[u8]) -> Option<u128>
     }
 }
 
-// What stands behind the word Splunk and one space.
+// What stands after the word Splunk and one space.
 fn credentials(value: &[u8]) -> Option<&[u8]>
     ensures { MatchOption result (credentials value.now ≡ None) (λ text. credentials value.now ≡ Some text.now) }
 {

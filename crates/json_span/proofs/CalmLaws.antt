@@ -148,7 +148,7 @@ calm_run s t (c ∷ x) h e = go (step s c) refl (λ u. calm_run u t x) e
     go (Goes u) q k f = k u (calm_step s u c h q) f
     go (Fails w) q k f = cc
 
--- nothing goes on behind a value that is no number
+-- nothing goes on after a value that is no number
 pub calm_stops : (t : State) (c : ℕ) → accepts t ≡ true → loose t ≡ false → step t c ≡ Fails Bad
 unfolding step behind next
 calm_stops (In Closed d []) c a l = refl

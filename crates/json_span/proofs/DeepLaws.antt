@@ -1,4 +1,4 @@
--- Where a bracket is too deep: at a bracket, and never behind a value.
+-- Where a bracket is too deep: at a bracket, and never after a value.
 use Rattle.std.proofs.Common.{◌≡◌, ℕ, Bool, true, false, cond, eqb, List, [], ◌∷◌, ◌++◌, refl, sym, ap, ◌∙◌, suc, subst, inl, inr, ◌⊎◌, Option, Some, None}
 use Rattle.std.proofs.lemmas.Bool.{eqb-true}
 use Rattle.json_span.specs.Json.{is_space, Json}
@@ -6,7 +6,7 @@ use Rattle.json_span.specs.Machine.{Bracket, Array, Object, Token, Closed, Chars
 use Rattle.json_span.proofs.TextLaws.{spaced_now}
 use Rattle.json_span.proofs.Fronts.{value_run, run_behind}
 
--- Behind a value no bracket is opened.
+-- After a value no bracket is opened.
 stays : (k : Token) (d : ℕ) (t : State) (y : List ℕ) → run (In k d []) y ≡ Going t → (u : Token) × (t ≡ In u d [])
 unfolding step behind
 stays k d t [] e = (k, let q : In k d [] ≡ t = cc in sym q)

@@ -1,4 +1,4 @@
--- A value with a byte behind it that may follow one goes no further.
+-- A value with a byte after it that may follow one goes no further.
 use Rattle.std.proofs.Common.{◌≡◌, ℕ, ◌+◌, ◌≤◌, ◌<◌, true, List, [], ◌∷◌, ◌++◌, get_or, refl, sym, ap, ◌∙◌, subst, append_assoc, arith, None}
 use Rattle.std.specs.Prelude.{slice_range}
 use Rattle.json_span.specs.Json.{AreSpaces, Json}

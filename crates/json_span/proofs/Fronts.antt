@@ -127,7 +127,7 @@ begins_front d x y h = (y ++ h.0, subst (Spaced (Json d)) (append_assoc x y h.0)
 pub begins_value : (d : ℕ) (x y : List ℕ) → Json d (x ++ y) → Begins d x
 begins_value d x y i = (y, spaced_now (Json d) (x ++ y) i)
 
--- Behind a value the machine stays in its last token.
+-- After a value the machine stays in its last token.
 pub run_behind : (s t u : State) (x y : List ℕ) → run s x ≡ Going u → run s (x ++ y) ≡ Going t → run u y ≡ Going t
 run_behind s t u [] y e f = let q : s ≡ u = cc in subst (λ z. run z y ≡ Going t) q f
 run_behind s t u (c ∷ x) y e f = go (step s c) (λ v. run_behind v t u x y) e f

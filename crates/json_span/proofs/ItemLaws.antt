@@ -1,4 +1,4 @@
--- Items, groups and members with more bytes behind them.
+-- Items, groups and members with more bytes after them.
 use Rattle.std.proofs.Common.{◌≡◌, ℕ, true, List, [], ◌∷◌, ◌++◌, refl, sym, suc, zero, subst, inl, inr, ◌⊎◌}
 use Rattle.json_span.specs.Strings.{IsString}
 use Rattle.json_span.specs.Json.{Byte, IsEmpty, IsMember, Items, Spaced, Then, is_space}
@@ -40,7 +40,7 @@ items_comma I close K b h =
     let t = h.4 in
     (suc t.4.0, spaced_now (Byte 44 (Spaced (Then I (ClosesThen I close K t.4.0)))) (44 ∷ b) (b, refl, (h.0, h.1, h.2, h.3, (t.0, t.1, t.2, t.3, t.4.1))))
 
--- a group and more behind it
+-- a group and more after it
 pub group_join : (I : List ℕ → Type 0) (close : ℕ) (K : List ℕ → Type 0) (y : List ℕ) → K y → (z : List ℕ) → Byte close IsEmpty z ⊎ Then I (Items I close) z → Byte close K (z ++ y) ⊎ Then I (ItemsThen I close K) (z ++ y)
 group_join I close K y k z (inl h) = inl (byte_join IsEmpty close z y K (λ v e. subst (λ u. K (u ++ y)) (sym e) k) h)
 group_join I close K y k z (inr h) = inr (then_join I (Items I close) z y (ItemsThen I close K) (λ v i. (i.0, closes_join I close i.0 K v y k i.1)) h)
@@ -49,7 +49,7 @@ pub group_split : (I : List ℕ → Type 0) (close : ℕ) (K : List ℕ → Type
 group_split I close K z (inl h) = let s = byte_split K K IsEmpty close z (λ v k. ([], v, refl, refl, k)) h in (s.0, s.1, inl s.2, s.3, s.4)
 group_split I close K z (inr h) = let s = then_split I (ItemsThen I close K) K (Items I close) z (λ v i. let t = closes_split I close i.0 K v i.1 in (t.0, t.1, (i.0, t.2), t.3, t.4)) h in (s.0, s.1, inr s.2, s.3, s.4)
 
--- a member and more behind it
+-- a member and more after it
 pub member_flat : (V K : List ℕ → Type 0) (b : List ℕ) → Then (IsMember V) K b → Then IsString (Spaced (Byte 58 (Spaced (Then V K)))) b
 member_flat V K b h =
     subst (Then IsString (Spaced (Byte 58 (Spaced (Then V K))))) (sym h.3)

@@ -10,11 +10,11 @@ use Rattle.json_span.specs.declared.span.Span.{Span}
 use Rattle.json_span.proofs.Stretches.{drop_split}
 use Rattle.json_span.proofs.NumberLaws.{first_there, object_there}
 
--- the first value's text, with what is before and behind it
+-- the first value's text, with what is before and after it
 pub first_text : (bytes : List ℕ) (at : ℕ) (s : Span) → IsFirst bytes at s → drop at bytes ≡ slice_range bytes at s.start ++ (slice_range bytes s.start s.end ++ drop s.end bytes)
 first_text bytes at s f = drop_split bytes at s.start f.space.order ∙ ap (λ z. slice_range bytes at s.start ++ z) (drop_split bytes s.start s.end f.value.order)
 
--- what stands first behind a place
+-- what stands first after a place
 pub record StandsFirst (bytes : List ℕ) (at : ℕ) (w rest : List ℕ) : Type 0 where
   pub bound : at + length w ≤ length bytes
   pub text : slice_range bytes at (at + length w) ≡ w
@@ -35,7 +35,7 @@ stands_first bytes at w rest h e =
 stretch_of : (P : List ℕ → Type 0) (bytes : List ℕ) (at : ℕ) (w rest : List ℕ) → StandsFirst bytes at w rest → P w → Stretch P bytes at (at + length w)
 stretch_of P bytes at w rest s p = record { order = omega arith; bound = s.bound; text = subst P (sym s.text) p }
 
--- White space and a value that is no number: the value is the first one, whatever is behind it.
+-- White space and a value that is no number: the value is the first one, whatever is after it.
 pub first_by_text : (bytes : List ℕ) (at : ℕ) (w x rest : List ℕ) → at ≤ length bytes → drop at bytes ≡ w ++ (x ++ rest) → AreSpaces w → Json 127 x → (IsNumber x → ⊥) → IsFirst bytes at (record { start = at + length w; end = at + length w + length x })
 first_by_text bytes at w x rest h e a i n =
     let s = stands_first bytes at w (x ++ rest) h e in

@@ -114,7 +114,7 @@ member_here bytes at end m result n v =
       subst (λ z. Stretch K bytes z end) (sym d) m.rest,
     )
 
--- behind a member
+-- after a member
 pub record ItemParts (bytes : List ℕ) (from end : ℕ) : Type 0 where
   pub next : ℕ
   pub before : Stretch AreSpaces bytes from next
@@ -150,7 +150,7 @@ item_parts bytes from end s = go s.text.0 s.text.1
 pub next_found : (bytes : List ℕ) (from end found : ℕ) (m : ItemParts bytes from end) → Stretch AreSpaces bytes from found → (found < length bytes → is_space (get_or bytes found 0) ≡ false) → found ≡ m.next
 next_found bytes from end found m s f = space_ends bytes from found m.next s m.before f m.inside m.space
 
--- a place where a member is due, behind white space
+-- a place where a member is due, after white space
 pub left_found : (bytes : List ℕ) (from at end : ℕ) → Stretch (Spaced IsLeft) bytes from end → Stretch AreSpaces bytes from at → (at < length bytes → is_space (get_or bytes at 0) ≡ false) → Stretch IsLeft bytes at end
 left_found bytes from at end s w f =
     let t = then_at AreSpaces IsLeft bytes from end s in
@@ -179,7 +179,7 @@ left_inside bytes at end l = go (left_split bytes at end l)
     go (inl i) = omega (arith, (byte_at 125 IsEmpty bytes at end i).order, i.bound)
     go (inr i) = omega (arith, (member_byte bytes at end i).0, i.bound)
 
--- The byte behind a member tells what is left.
+-- The byte after a member tells what is left.
 pub comma_left : (bytes : List ℕ) (from next result end : ℕ) → Stretch K bytes from end → Stretch AreSpaces bytes from next → (next < length bytes → is_space (get_or bytes next 0) ≡ false) → get_or bytes next 0 ≡ 44 → Stretch AreSpaces bytes (next + 1) result → (result < length bytes → is_space (get_or bytes result 0) ≡ false) → Stretch MembersLeft bytes result end
 comma_left bytes from next result end s w f c v g = go (item_parts bytes from end s)
   where

@@ -16,7 +16,7 @@ use Rattle.json_span.proofs.Following.{first_followed}
 use Rattle.json_span.proofs.Parts.{then_at, byte_at, followed}
 use Rattle.json_span.proofs.MemberLaws.{name_value, value_more, string_byte}
 
--- a structural character behind white space, and what is behind it
+-- a structural character after white space, and what is after it
 record StructureAt (c : ℕ) (P : List ℕ → Type 0) (bytes : List ℕ) (a b : ℕ) : Type 0 where
   place : ℕ
   before : Stretch AreSpaces bytes a place

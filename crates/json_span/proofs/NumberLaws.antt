@@ -55,7 +55,7 @@ value_number (suc d) c x (inl i) o = scalar_number c x i o
 value_number (suc d) c x (inr (inl i)) o = absurd (no_number c 91 (head c 91 x i.0 i.1) refl o)
 value_number (suc d) c x (inr (inr i)) o = absurd (no_number c 123 (head c 123 x i.0 i.1) refl o)
 
--- behind the first byte of another value
+-- after the first byte of another value
 calm_first : (d c n : ℕ) (t u : State) → c ≡ n → step (Value d []) n ≡ Goes u → loose u ≡ false → step (Value d []) c ≡ Goes t → loose t ≡ false
 calm_first d c n t u q e h f = to u t h (sym e ∙ subst (λ z. step (Value d []) z ≡ Goes t) q f)
 
@@ -94,7 +94,7 @@ more_number : (n : ℕ) (x z : List ℕ) (e : ℕ) → IsNumber x → Json n (x 
 more_number n [] z e i j = absurd (json_some 0 (inr (inl i)))
 more_number n (c ∷ x) z e i j = value_number n c (x ++ e ∷ z) j (number_opens c x i)
 
--- one list goes on behind another, or they are one
+-- one list goes on after another, or they are one
 Compared : List ℕ → List ℕ → Type 0
 Compared x y = (x ≡ y) ⊎ (((e : ℕ) × (z : List ℕ) × (y ≡ x ++ e ∷ z)) ⊎ ((e : ℕ) × (z : List ℕ) × (x ≡ y ++ e ∷ z)))
 

@@ -12,7 +12,7 @@ use Rattle.json_span.proofs.Values.{range_head}
 pub stretch_map : (P Q : List ℕ → Type 0) (bytes : List ℕ) (a b : ℕ) → ((x : List ℕ) → P x → Q x) → Stretch P bytes a b → Stretch Q bytes a b
 stretch_map P Q bytes a b f s = record { order = s.order; bound = s.bound; text = f (slice_range bytes a b) s.text }
 
--- one text and another behind it, at some place between
+-- one text and another after it, at some place between
 pub then_at : (P Q : List ℕ → Type 0) (bytes : List ℕ) (a c : ℕ) → Stretch (Then P Q) bytes a c → (b : ℕ) × Stretch P bytes a b × Stretch Q bytes b c
 then_at P Q bytes a c s =
     let t = s.text in
@@ -29,7 +29,7 @@ then_back P Q bytes a b c s t = record {
   text = (slice_range bytes a b, slice_range bytes b c, s.text, range_split bytes a b c s.order t.order, t.text);
 }
 
--- a byte and a text behind it
+-- a byte and a text after it
 pub record ByteAt (c : ℕ) (P : List ℕ → Type 0) (bytes : List ℕ) (a b : ℕ) : Type 0 where
   pub order : a < b
   pub byte : get_or bytes a 0 ≡ c
@@ -55,7 +55,7 @@ byte_back c P bytes a b e s =
 pub separator_back : (c : ℕ) (bytes : List ℕ) (a b d : ℕ) → Stretch AreSpaces bytes a b → get_or bytes b 0 ≡ c → Stretch AreSpaces bytes (b + 1) d → Stretch (Separator c) bytes a d
 separator_back c bytes a b d s e t = then_back AreSpaces (Byte c AreSpaces) bytes a b d s (byte_back c AreSpaces bytes b d e t)
 
--- the first byte of white space and a byte behind it
+-- the first byte of white space and a byte after it
 pub followed : (c : ℕ) (P : List ℕ → Type 0) (bytes : List ℕ) (a b : ℕ) → Follows c → Stretch (Spaced (Byte c P)) bytes a b → IsFollowed bytes a
 followed c P bytes a b f s = λ l. go s.text.0 s.text.2 s.text.3 l
   where

@@ -74,7 +74,7 @@ found_more bytes start i t end result a b f e h y n = go (accepts t) refl
             let no : k ≡ i + 1 → ⊥ = λ w. going_no_value 127 d t (slice_range bytes start (i + 1)) e q (spaced_now (Json d) (slice_range bytes start (i + 1)) (subst (λ z. Json d (slice_range bytes start z)) w s.text)) in
             omega (arith, l, no)
 
--- behind a byte at which the machine fails no value ends
+-- after a byte at which the machine fails no value ends
 bad_longest : (bytes : List ℕ) (start i : ℕ) (s : State) → start ≤ i → i < length bytes → run (Value 127 []) (slice_range bytes start i) ≡ Going s → Fails Bad ≡ step s (get_or bytes i 0) → (d e : ℕ) → Stretch (Json d) bytes start e → e ≤ i
 bad_longest bytes start i s a b r f d e v =
     let no : i < e → ⊥ = λ h. bad_none 127 d (slice_range bytes start (i + 1)) (stopped_more bytes start i s Bad a b r f) (value_front bytes d start (i + 1) e v (omega (arith, a)) (omega (arith, h))) in

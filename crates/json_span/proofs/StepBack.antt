@@ -1,4 +1,4 @@
--- A byte that takes the machine on, and what completes the state behind it, complete the state before it.
+-- A byte that takes the machine on, and what completes the state after it, complete the state before it.
 use Rattle.std.proofs.Common.{◌≡◌, ℕ, Bool, true, false, cond, eqb, List, [], ◌∷◌, ◌++◌, refl, sym, ap, ◌∙◌, suc, zero, subst, inl, inr, ◌⊎◌, Option, Some, None}
 use Rattle.std.proofs.lemmas.Bool.{eqb-true}
 use Rattle.json_span.specs.Json.{Byte, IsEmpty, IsMember, Items, Json, Spaced, Then, is_space}

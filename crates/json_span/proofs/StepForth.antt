@@ -70,7 +70,7 @@ pub json_scalar : (d : ℕ) (x : List ℕ) → IsScalar x → Json d x
 json_scalar zero x i = i
 json_scalar (suc d) x i = inl i
 
--- behind a value
+-- after a value
 closed : (d : ℕ) (st : List Bracket) (b : List ℕ) → Rest st d b → Completes (In Closed d st) b
 closed d st b r = ([], b, refl, refl, r)
 
@@ -120,7 +120,7 @@ spaces s P c b o f g h =
     yes : is_space c ≡ true → Completes s b → After (cond (is_space c) (Goes s) o) b
     yes e a = rw e a
 
--- behind a token
+-- after a token
 part_forth : (t : Token) (K : List ℕ → Type 0) (f : Token → State) (o : ℕ → Step) (c : ℕ) (b : List ℕ) → ((u : Token) → Then (Ends u) K b → Completes (f u) b) → (K (c ∷ b) → After (o c) b × Follows c) → Then (Ends t) K (c ∷ b) → After (or_else (next t c) f (cond (done t) (o c) (Fails Bad))) b
 part_forth t K f o c b g k h = go h.0 h.2 h.3
   where
@@ -138,7 +138,7 @@ part_forth t K f o c b g k h = go h.0 h.2 h.3
         let s = token_forth t c x (subst (λ v. Ends t (v ∷ x)) q i) in
         on s.0 s.1 (g s.0 (x, h.1, s.2, r, h.4))
 
--- behind a name
+-- after a name
 unfoldable pub colon : ℕ → List Bracket → ℕ → Step
 unfolding step
 colon d st c = cond (is_space c) (Goes (InName Closed d st)) (cond (eqb c 58) (Goes (Value d (Object ∷ st))) (Fails Bad))

@@ -7,7 +7,7 @@ use Rattle.std.proofs.Math.Seq.{take-add}
 use Rattle.json_span.specs.Json.{is_space, AreSpaces}
 use Rattle.json_span.specs.Spans.{Stretch}
 
--- Two stretches behind one another.
+-- Two stretches after one another.
 pub range_split : (bytes : List ℕ) (a b c : ℕ) → a ≤ b → b ≤ c → slice_range bytes a c ≡ slice_range bytes a b ++ slice_range bytes b c
 range_split bytes a b c h k =
     let n : b - a + (c - b) ≡ c - a = omega arith in

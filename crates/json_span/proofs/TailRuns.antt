@@ -151,7 +151,7 @@ tail_step (First d st) t w m c e i f = cc
 tail_step (Names d st) t w m c e i f = cc
 tail_step (Name d st) t w m c e i f = cc
 
--- Behind bytes that begin a character and do not end it the machine is in its tail.
+-- After bytes that begin a character and do not end it the machine is in its tail.
 run_tail : (u t : State) (w : Bounds) (n : ℕ) (y z : List ℕ) → token_in u ≡ Some (Tail w n) → run u y ≡ Going t → AreTail w n (y ++ z) → z ≢ [] → is_tail (token_in t) ≡ true
 run_tail u t w n [] z a e h i = let q : u ≡ t = cc in subst (λ v. is_tail (token_in v) ≡ true) q (ap is_tail a)
 run_tail u t w zero (c ∷ y) z a e h i = absurd (i (empty y z (let q = h.1 in cc)))
@@ -193,7 +193,7 @@ begun_run s t (c ∷ y) w e b = go (step s c) refl e
 pub run_begun : (s u t : State) (x y : List ℕ) → LowToken (token_in s) → run s x ≡ Going u → run u y ≡ Going t → IsBegun y → is_tail (token_in t) ≡ true
 run_begun s u t x y w e f b = begun_run u t y (run_low s u x w e) f b
 
--- And in a tail the machine is behind such bytes.
+-- And in a tail the machine is after such bytes.
 record Tailed (x : List ℕ) (w : Bounds) (n : ℕ) : Type 0 where
   front : List ℕ
   first : ℕ

@@ -1,4 +1,4 @@
--- Texts behind one another: a rule of the grammar with more bytes behind it, put together and taken apart.
+-- Texts after one another: a rule of the grammar with more bytes after it, put together and taken apart.
 use Rattle.std.proofs.Common.{◌≡◌, ℕ, true, false, List, [], ◌∷◌, ◌++◌, refl, sym, ap, ◌∙◌, suc, zero, subst, append_assoc, inl, inr, ◌⊎◌}
 use Rattle.json_span.specs.Json.{AreSpaces, Byte, Further, IsEmpty, Spaced, Then, is_space}
 use Rattle.json_span.specs.Machine.{ClosesThen}

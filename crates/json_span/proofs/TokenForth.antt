@@ -20,7 +20,7 @@ not_digit c n f e = go (eqb c n) refl
     go true q = let r : c ≡ n = eqb-true c n q in let k : is_digit n ≡ true = subst (λ z. is_digit z ≡ true) r e in cc
     go false q = q
 
--- an exponent, behind a number that may go on by other bytes too
+-- an exponent, after a number that may go on by other bytes too
 pub exponent_forth : (c : ℕ) (b : List ℕ) → IsExp (c ∷ b) → IsE c × Ends E b
 exponent_forth c b (inl e) = cc
 exponent_forth c b (inr h) =

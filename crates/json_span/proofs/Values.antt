@@ -29,18 +29,18 @@ value_byte bytes d start end s =
 pub first_within : (bytes : List ℕ) (at : ℕ) (s : Span) → IsFirst bytes at s → IsWithin at s (length bytes)
 first_within bytes at s f = record { behind = f.space.order; some = value_some bytes 127 s.start s.end f.value; bound = f.value.bound }
 
--- white space that ends where none stands, or where the bytes end, ends where each value behind it begins
+-- white space that ends where none stands, or where the bytes end, ends where each value after it begins
 pub value_start : (bytes : List ℕ) (at start d from end : ℕ) → Stretch AreSpaces bytes at start → (start < length bytes → is_space (get_or bytes start 0) ≡ false) → Stretch AreSpaces bytes at from → Stretch (Json d) bytes from end → start ≡ from
 value_start bytes at start d from end s u t v =
     space_ends bytes at start from s t u (omega (arith, value_some bytes d from end v, v.bound)) (value_byte bytes d from end v)
 
--- what begins a value behind white space
+-- what begins a value after white space
 pub begins_at : (bytes : List ℕ) (d at start to : ℕ) → Stretch AreSpaces bytes at start → start ≤ to → Begins d (slice_range bytes start to) → Begins d (slice_range bytes at to)
 begins_at bytes d at start to s h b = subst (Begins d) (sym (range_split bytes at start to s.order h)) (begins_spaced d (slice_range bytes at start) (slice_range bytes start to) s.text b)
 
 pub begins_from : (bytes : List ℕ) (d at start to : ℕ) → Stretch AreSpaces bytes at start → start ≤ to → Begins d (slice_range bytes at to) → Begins d (slice_range bytes start to)
 begins_from bytes d at start to s h b = begins_behind d (slice_range bytes at start) (slice_range bytes start to) s.text (subst (Begins d) (range_split bytes at start to s.order h) b)
 
--- a value that ends behind a place begins by the bytes before it
+-- a value that ends after a place begins by the bytes before it
 pub value_front : (bytes : List ℕ) (d start to end : ℕ) → Stretch (Json d) bytes start end → start ≤ to → to ≤ end → Begins d (slice_range bytes start to)
 value_front bytes d start to end s h k = begins_value d (slice_range bytes start to) (slice_range bytes to end) (subst (Json d) (range_split bytes start to end h k) s.text)

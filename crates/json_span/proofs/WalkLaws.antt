@@ -10,7 +10,7 @@ use Rattle.json_span.specs.declared.object.Member.{Member}
 use Rattle.json_span.proofs.Parts.{ByteAt, byte_at, byte_back, then_back}
 use Rattle.json_span.proofs.MemberLaws.{left_found, left_split, member_byte}
 
--- the members so far, and those ahead behind them, are the object's
+-- the members so far, and those ahead after them, are the object's
 pub record Walk (bytes : List ℕ) (object : Span) (at : ℕ) (found : List Member) : Type 0 where
   pub left : Stretch IsLeft bytes at object.end
   pub ahead : (rest : List Member) → AreAhead bytes at rest object.end → HasMembers bytes object (found ++ rest)

@@ -52,12 +52,12 @@ done t = false
 abbrev pub is_e : ℕ → Bool
 is_e c = (c == 101) || (c == 69)
 
--- behind the first byte of a character of several bytes
+-- after the first byte of a character of several bytes
 abbrev pub wide_token : Option Lead → Option Token
 wide_token None = None
 wide_token (Some l) = Some (Tail l.bounds l.more)
 
--- the token behind one byte more, if that byte belongs to it
+-- the token after one byte more, if that byte belongs to it
 unfoldable pub next : Token → ℕ → Option Token
 next Closed c = None
 next (Word a []) c = if c == a then Some Closed else None
@@ -104,7 +104,7 @@ ClosesThen Item close K (suc n) x = Spaced (Byte 44 (Spaced (Then Item (ClosesTh
 abbrev pub ItemsThen : (List ℕ → Type 0) → ℕ → (List ℕ → Type 0) → List ℕ → Type 0
 ItemsThen Item close K x = (n : ℕ) × ClosesThen Item close K n x
 
--- what stands behind a value within open brackets
+-- what stands after a value within open brackets
 abbrev pub Rest : List Bracket → ℕ → List ℕ → Type 0
 Rest [] d x = x ≡ []
 Rest (Array ∷ st) d x = ItemsThen (Json d) 93 (Rest st (suc d)) x
@@ -119,7 +119,7 @@ Completes (Name d st) x = Spaced (Then (IsMember (Json d)) (Rest (Object ∷ st)
 Completes (InName t d st) x = Then (Ends t) (Spaced (Byte 58 (Spaced (Then (Json d) (Rest (Object ∷ st) d))))) x
 Completes (In t d st) x = Then (Ends t) (Rest st d) x
 
--- a byte that may stand behind a value or a name
+-- a byte that may stand after a value or a name
 pub data Follows : ℕ → Type 0 where
   Space : {c : ℕ} → is_space c ≡ true → Follows c
   Comma : {c : ℕ} → c ≡ 44 → Follows c
@@ -151,7 +151,7 @@ begin_object (suc d) st = Goes (Names d st)
 unfoldable pub begin : ℕ → List Bracket → ℕ → Step
 begin d st c = if c == 91 then begin_array d st else (if c == 123 then begin_object d st else or_else (first c) (λ t. In t d st) (Fails Bad))
 
--- behind a value
+-- after a value
 unfoldable pub behind : List Bracket → ℕ → ℕ → Step
 behind [] d c = Fails Bad
 behind (Array ∷ st) d c = if is_space c then Goes (In Closed d (Array ∷ st)) else (if c == 44 then Goes (Value d (Array ∷ st)) else (if c == 93 then Goes (In Closed (suc d) st) else Fails Bad))
@@ -171,7 +171,7 @@ abbrev pub accepts : State → Bool
 accepts (In t d []) = done t
 accepts s = false
 
--- what completes the state behind a step
+-- what completes the state after a step
 abbrev pub After : Step → List ℕ → Type 0
 After (Goes s) b = Completes s b
 After (Fails w) b = ⊥

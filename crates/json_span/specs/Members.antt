@@ -24,7 +24,7 @@ pub record IsMemberAt (bytes : List ℕ) (m : Member) : Type 0 where
   pub colon : Stretch (Separator 58) bytes m.name.end m.value.start
   pub value : Stretch (Json 126) bytes m.value.start m.value.end
 
--- *( value-separator member ) end-object, from a place behind a member up to the object's end
+-- *( value-separator member ) end-object, from a place after a member up to the object's end
 abbrev pub AreFurther : List ℕ → ℕ → List Member → ℕ → Type 0
 AreFurther bytes at [] end = Stretch (Spaced (Byte 125 IsEmpty)) bytes at end
 AreFurther bytes at (m ∷ ms) end = Stretch (Separator 44) bytes at m.name.start × IsMemberAt bytes m × AreFurther bytes m.value.end ms end

@@ -1,4 +1,4 @@
--- What is answered for the first value behind a place of some bytes.
+-- What is answered for the first value after a place of some bytes.
 use Rattle.std.specs.Prelude.{◌≡◌, ℕ, ◌+◌, ◌≤◌, ◌<◌, ◌⊎◌, List, ◌++◌, length, drop, slice_index, slice_range, Result, Ok, Err}
 use Rattle.json_span.specs.Strings.{IsBegun}
 use Rattle.json_span.specs.Json.{AreSpaces, Spaced, Json}
@@ -16,7 +16,7 @@ pub record Stretch (P : List ℕ → Type 0) (bytes : List ℕ) (start end : ℕ
 abbrev pub Begins : ℕ → List ℕ → Type 0
 Begins levels x = (more : List ℕ) × Spaced (Json levels) (x ++ more)
 
--- the span is the longest value, of any depth, behind the white space at `at`; it has at most 127 levels
+-- the span is the longest value, of any depth, after the white space at `at`; it has at most 127 levels
 pub record IsFirst (bytes : List ℕ) (at : ℕ) (s : Span) : Type 0 where
   pub space : Stretch AreSpaces bytes at s.start
   pub value : Stretch (Json 127) bytes s.start s.end
@@ -28,7 +28,7 @@ pub record IsWithin (at : ℕ) (s : Span) (len : ℕ) : Type 0 where
   pub some : s.start < s.end
   pub bound : s.end ≤ len
 
--- no value, of any depth, stands behind the white space at `at`
+-- no value, of any depth, stands after the white space at `at`
 abbrev pub NoValue : List ℕ → ℕ → Type 0
 NoValue bytes at = (levels start end : ℕ) → Stretch AreSpaces bytes at start → Stretch (Json levels) bytes start end → ⊥
 

@@ -13,7 +13,7 @@ within To9F c = between 128 159 c
 within From90 c = between 144 191 c
 within To8F c = between 128 143 c
 
--- what stands behind the first byte of a character of several bytes: a byte within the bounds, and so many more of UTF8-tail
+-- what stands after the first byte of a character of several bytes: a byte within the bounds, and so many more of UTF8-tail
 pub record Lead : Type 0 where
   pub bounds : Bounds
   pub more : ℕ
@@ -41,7 +41,7 @@ AreTail bounds (suc n) x = (c : ℕ) × (y : List ℕ) × (x ≡ c ∷ y) × (wi
 abbrev pub is_plain : ℕ → Bool
 is_plain c = between 32 33 c || (between 35 91 c || between 93 127 c)
 
--- what may stand behind a backslash, but u: " \ / b f n r t
+-- what may stand after a backslash, but u: " \ / b f n r t
 abbrev pub is_escape : ℕ → Bool
 is_escape c = ((c == 34) || ((c == 92) || (c == 47))) || (((c == 98) || (c == 102)) || ((c == 110) || ((c == 114) || (c == 116))))
 

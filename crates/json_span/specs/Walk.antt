@@ -6,11 +6,11 @@ use Rattle.json_span.specs.Spans.{Stretch}
 use Rattle.json_span.specs.Members.{IsMemberAt, AreFurther}
 use Rattle.json_span.specs.declared.object.Member.{Member}
 
--- the bytes end, or a byte that may stand behind a value or a name does
+-- the bytes end, or a byte that may stand after a value or a name does
 abbrev pub IsFollowed : List ℕ → ℕ → Type 0
 IsFollowed bytes end = end < length bytes → Follows (slice_index bytes end)
 
--- a member and all behind it
+-- a member and all after it
 abbrev pub MembersLeft : List ℕ → Type 0
 MembersLeft x = Then (IsMember (Json 126)) (Items (IsMember (Json 126)) 125) x
 

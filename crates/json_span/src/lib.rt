@@ -1,4 +1,4 @@
-//! Where JSON values stand in bytes: the first value behind a place, whether some bytes are one
+//! Where JSON values stand in bytes: the first value after a place, whether some bytes are one
 //! object, and an object's members. JSON is as RFC 8259 has it, in UTF-8 as RFC 3629 has it, of at
 //! most 127 levels of arrays and objects; an escape of a lone surrogate passes. Nothing is decoded and
 //! nothing is copied: what the callers get are spans.

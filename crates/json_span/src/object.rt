@@ -55,7 +55,7 @@ fn member_at(bytes: &[u8], at: usize) -> Member
     Member { name, value }
 }
 
-/// Where the next member begins, or else the closing brace stands, behind a member.
+/// Where the next member begins, or else the closing brace stands, after a member.
 fn behind_member(bytes: &[u8], at: usize) -> usize
     requires { (end : ℕ) × Stretch (Items (IsMember (Json 126)) 125) bytes.now at end }
     ensures order { at ≤ result }

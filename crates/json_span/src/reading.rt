@@ -115,7 +115,7 @@ fn begin_value(r: Reading, byte: u8) -> Turn
     }
 }
 
-/// A byte behind a value.
+/// A byte after a value.
 #[tactic(auto, unfolding(crate::specs::Machine::behind))]
 fn behind_value(r: Reading, byte: u8) -> Turn
     requires fits { Fits r }
@@ -197,7 +197,7 @@ fn in_name(r: Reading, byte: u8) -> Turn
     }
 }
 
-/// A byte within a name, or behind it where the colon is due.
+/// A byte within a name, or after it where the colon is due.
 #[tactic(auto, unfolding(crate::specs::Machine::step))]
 fn in_member(r: Reading, token: Token, byte: u8) -> Turn
     requires fits { Fits r }
@@ -221,7 +221,7 @@ fn in_member(r: Reading, token: Token, byte: u8) -> Turn
     }
 }
 
-/// A byte within a string, number or literal that is a value, or behind a value.
+/// A byte within a string, number or literal that is a value, or after a value.
 #[tactic(auto, unfolding(crate::specs::Machine::step))]
 fn in_token(r: Reading, token: Token, byte: u8) -> Turn
     requires fits { Fits r }
@@ -284,7 +284,7 @@ pub(crate) fn may_end(r: Reading) -> bool
     }
 }
 
-/// Whether the byte stands for itself in a string. Then neither it nor any such byte behind it changes the
+/// Whether the byte stands for itself in a string. Then neither it nor any such byte after it changes the
 /// reading.
 #[tactic(auto, unfolding(crate::specs::Machine::step))]
 pub(crate) fn stays(r: Reading, byte: u8) -> bool

@@ -48,9 +48,9 @@ fn longest(next: Reading, end: Option<usize>, place: usize) -> Option<usize>
     if may_end(next) { Some(place) } else { end }
 }
 
-/// The longest JSON value (RFC 8259, section 2) that begins at `at` behind white space: `at` is an
+/// The longest JSON value (RFC 8259, section 2) that begins at `at` after white space: `at` is an
 /// offset of the bytes, at most their length, and so are the places of the span and of the errors. A
-/// number takes as many bytes as it can, and what stands behind a value is no matter.
+/// number takes as many bytes as it can, and what stands after a value is no matter.
 ///
 /// `Cut` where the bytes end within the white space or the value, `NotJson` and `TooDeep` where no value
 /// of at most 127 levels is possible, whichever comes first. It takes no memory.

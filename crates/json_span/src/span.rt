@@ -1,7 +1,7 @@
 //! Places of bytes, and what may be wrong with them.
 
 /// The bytes from `start` up to `end`, as offsets from the first of all bytes; the byte at `end` is
-/// the first behind it.
+/// the first after it.
 #[derive(Clone, Copy, PartialEq, Eq, Debug)]
 pub struct Span {
     pub start: usize,

@@ -16,7 +16,7 @@ pub(crate) enum Range {
     To8F,
 }
 
-/// Where in a string, number or literal. `Closed` is behind one that its own last byte ends.
+/// Where in a string, number or literal. `Closed` is after one that its own last byte ends.
 #[derive(Clone, Copy)]
 pub(crate) enum Token {
     Closed,
@@ -51,7 +51,7 @@ fn when(test: bool, token: Token) -> Option<Token>
     if test { Some(token) } else { None }
 }
 
-/// A byte behind the whole part of a number.
+/// A byte after the whole part of a number.
 #[tactic(auto, unfolding(crate::specs::Machine::next))]
 fn fraction(byte: u8) -> Option<Token>
     ensures { token_option result ≡ next Zero byte }
@@ -237,7 +237,7 @@ pub(crate) fn done(token: Token) -> bool
     }
 }
 
-/// Whether the byte stands for itself in a string. Then no such byte behind it changes the token either.
+/// Whether the byte stands for itself in a string. Then no such byte after it changes the token either.
 #[tactic(auto, using(crate::proofs::PlainLaws::plain_next))]
 pub(crate) fn same_token(token: Token, byte: u8) -> bool
     ensures plain { IsTrue result → is_plain byte ≡ true }

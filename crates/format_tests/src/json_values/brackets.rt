@@ -1,4 +1,4 @@
-//! Arrays and objects, as the cases of `scalars` are written, and which bytes can stand behind some fronts.
+//! Arrays and objects, as the cases of `scalars` are written, and which bytes can stand after some fronts.
 
 /// Arrays (section 5).
 pub(super) const ARRAYS: &str = r#"0 2|[]
@@ -132,7 +132,7 @@ at 6|{"a":-}
 cut|{"a\u12
 at 4|{"a\q":1}"#;
 
-/// Fronts of values, a bar, and each byte that can stand behind: any other is a fault at the end of the front.
+/// Fronts of values, a bar, and each byte that can stand after: any other is a fault at the end of the front.
 pub(super) const NEXT: &str = r#"|%09%0a%0d "-0123456789[fnt{
 %20|%09%0a%0d "-0123456789[fnt{
 [|%09%0a%0d "-0123456789[]fnt{
@@ -175,7 +175,7 @@ nul|l
 "\u12|0123456789ABCDEFabcdef
 "\u123|0123456789ABCDEFabcdef"#;
 
-/// Fronts of strings, the place of the fault of a byte that can't stand behind, and those that can, by the first
+/// Fronts of strings, the place of the fault of a byte that can't stand after, and those that can, by the first
 /// and the last of each stretch.
 pub(super) const NEXT_IN_STRING: &[(&[u8], usize, &[(u8, u8)])] = &[
     (b"\"", 1, &[(0x20, 0x7f), (0xc2, 0xf4)]),
