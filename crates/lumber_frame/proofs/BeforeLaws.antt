@@ -56,7 +56,7 @@ Before side (Key seq left len) text h = (side ≡ Receiver) × ((pairs : List �
 Before side (ValueLength seq left) text h = (side ≡ Receiver) × KeyRead left text h
 Before side (Value seq left len) text h = (side ≡ Receiver) × ((front : List ℕ) × (before : List ℕ) × (number : List ℕ) × KeyRead left front before × IsNumber len number × (length front + 4 + len ≤ 131072) × (text ≡ front ++ number) × (h ≡ before ++ number))
 
--- what a turn leads to stands behind the field, or the field breaks a rule
+-- what a turn leads to stands after the field, or the field breaks a rule
 abbrev Holds : Side → List ℕ → List ℕ → Turning → Type 0
 Holds side h b (Goes (At field text g)) = (g ≡ []) × Before side field text (h ++ b)
 Holds side h b (Ends f) = Unit {0}

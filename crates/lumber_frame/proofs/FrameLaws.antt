@@ -78,7 +78,7 @@ start_good = (omega arith, omega arith)
 number_is : (b : List ℕ) → length b ≡ 4 → IsNumber (from_be_bytes w32 b) b
 number_is b l = record { four = l; value = refl }
 
--- behind the version and the type
+-- after the version and the type
 to_start : (side : Side) (f : LumberFrame) (c : ℕ) (b rest : List ℕ) → b ≡ 50 ∷ c ∷ rest → AfterType side [] c f rest → Completes side start f b
 to_start side f c b rest e k = (50 ∷ [], c ∷ rest, omega arith, omega arith, e, (refl, (c, rest, refl, k)))
 

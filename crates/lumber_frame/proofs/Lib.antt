@@ -7,7 +7,7 @@ pub mod BeforeLaws
 pub mod RunLaws
 pub mod BytesLaws
 pub mod ScanLaws
-pub mod FeedLaws
+pub mod RunningLaws
 pub mod ReadingLaws
 pub mod WriteLaws
 pub mod CountLaws

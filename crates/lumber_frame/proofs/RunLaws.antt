@@ -47,7 +47,7 @@ run_whole side field text g (c ∷ d ∷ b) y some l =
     let a : (g ++ c ∷ []) ++ d ∷ b ≡ g ++ c ∷ d ∷ b = append_assoc g (c ∷ []) (d ∷ b) in
     ap (λ p. then p (λ u. run (step side) u ((d ∷ b) ++ y)) ((d ∷ b) ++ y)) s ∙ run_whole side field text (g ++ c ∷ []) (d ∷ b) y (omega arith) (omega (arith, l, push_length g c)) ∙ ap (λ z. then (turn side field text z (value_of field z)) (λ u. run (step side) u y) y) a
 
--- a whole field behind what led to it
+-- a whole field after what led to it
 then_goes : (side : Side) (field : Field) (text b : List ℕ) (s t : State) → 0 < length b → length b ≡ size_of field → s ≡ At field text [] → turn side field text b (value_of field b) ≡ Goes t → run (step side) s b ≡ Going t
 then_goes side field text b s t some l is q =
     ap (λ z. run (step side) z b) is ∙ ap (λ z. run (step side) (At field text []) z) (sym (append-nil b)) ∙ run_whole side field text [] b [] some (omega (arith, l)) ∙ ap (λ p. then p (λ u. run (step side) u []) []) q

@@ -1,4 +1,4 @@
--- The bytes behind the first ten, as a field comes.
+-- The bytes after the first ten, as a field comes.
 use Rattle.std.proofs.Common.{◌≡◌, ℕ, ◌+◌, ◌-◌, ◌≤◌, ◌∙◌, List, [], ◌++◌, length, drop, sym, arith, length-append, length-drop}
 use Rattle.std.proofs.lemmas.List.{drop-append-le, nil_from_length}
 

@@ -1,4 +1,4 @@
--- What stands behind a whole field is what completes the state that it leads to, and only that.
+-- What stands after a whole field is what completes the state that it leads to, and only that.
 use Rattle.std.proofs.Common.{◌≡◌, ℕ, zero, suc, ◌+◌, ◌-◌, ◌≤◌, Bool, true, false, cond, eqb, List, [], ◌∷◌, ◌++◌, refl, sym, ap, ◌∙◌, subst, get_or, length, append_assoc, length-append, inl, inr, w32, arith}
 use Rattle.std.specs.Int.{from_be_bytes}
 use Rattle.std.proofs.lemmas.Bool.{le-leb, ne_eqb}

@@ -107,6 +107,6 @@ written_spells (Json seq text) b i w = (
 )
 written_spells (Ack seq) b i w = (to_be_bytes w32 seq, w, number_written seq i)
 
-pub written_is_read : WrittenIsRead
-written_is_read side f text more frames at rest None i w r = field_stream_behind (lumber side) (f ∷ []) frames text more rest at (spelled_one (lumber side) f text (i.0, written_spells f text i.1 w)) r
-written_is_read side f text more frames at rest (Some e) i w r = (field_fault_behind (lumber side) (f ∷ []) frames text more at e.at e.why (spelled_one (lumber side) f text (i.0, written_spells f text i.1 w)) r.0, r.1)
+pub written_is_read : (Held : List ℕ → List ℕ → Type 0) → WrittenIsRead Held
+written_is_read Held side f text more frames at held None i w r = field_stream_behind (lumber side) (f ∷ []) frames text more held at (spelled_one (lumber side) f text (i.0, written_spells f text i.1 w)) r
+written_is_read Held side f text more frames at held (Some e) i w r = (r.0, field_fault_behind (lumber side) (f ∷ []) frames text more r.0 at e.at e.why (spelled_one (lumber side) f text (i.0, written_spells f text i.1 w)) r.1, r.2)

@@ -1,5 +1,7 @@
 -- Which fields break a rule, by what stands before them in their frame.
 use Rattle.std.specs.Prelude.{◌≡◌, ◌≢◌, ℕ, ◌+◌, ◌<◌, ◌≤◌, ◌⊎◌, List, [], ◌∷◌, ◌++◌, length}
+use Rattle.event_form.specs.declared.limits.TheConstants.{MOST_TEXT, MOST_PAIRS}
+use Rattle.lumber_frame.specs.declared.limits.TheConstants.{MOST_FRAMES}
 use Rattle.lumber_frame.specs.declared.fault.LumberWhy.{LumberWhy}
 use Rattle.lumber_frame.specs.declared.fault.LumberWhy.TheVariants.{Version, Kind, Compressed, AckFromWriter, TooLong, TooMany}
 use Rattle.lumber_frame.specs.declared.side.Side.{Side}
@@ -25,10 +27,10 @@ pub record BeforePair (pairs h : List ℕ) : Type 0 where
   pub done : ℕ
   pub head_is : IsHead 68 head
   pub number_is : IsNumber count number
-  pub few : count ≤ 1024
+  pub few : count ≤ MOST_PAIRS
   pub pairs_are : ArePairsOf done pairs
   pub left : done < count
-  pub short : length pairs ≤ 131072
+  pub short : length pairs ≤ MOST_TEXT
   pub whole : h ≡ head ++ (number ++ pairs)
 
 -- the same, and the key of the next pair
@@ -36,32 +38,32 @@ pub record BeforeValue (pairs key h : List ℕ) : Type 0 where
   pub front : List ℕ
   pub before : BeforePair pairs front
   pub key_is : IsString key
-  pub short : length pairs + length key + 4 ≤ 131072
+  pub short : length pairs + length key + 4 ≤ MOST_TEXT
   pub whole : h ≡ front ++ key
 
--- the number n is too large where it stands behind the bytes h of its frame:
+-- the number n is too large where it stands after the bytes h of its frame:
 
 -- a window size above 65,536
 abbrev pub IsLargeWindow : List ℕ → ℕ → Type 0
-IsLargeWindow h n = (h ≡ 50 ∷ 87 ∷ []) × (65536 < n)
+IsLargeWindow h n = (h ≡ 50 ∷ 87 ∷ []) × (MOST_FRAMES < n)
 
 -- a pair count above 1,024
 abbrev pub IsLargeCount : List ℕ → ℕ → Type 0
-IsLargeCount h n = IsHead 68 h × (1024 < n)
+IsLargeCount h n = IsHead 68 h × (MOST_PAIRS < n)
 
 -- a payload length above 131,072
 abbrev pub IsLongPayload : List ℕ → ℕ → Type 0
-IsLongPayload h n = IsHead 74 h × (131072 < n)
+IsLongPayload h n = IsHead 74 h × (MOST_TEXT < n)
 
 -- a key length by which the pair bytes before it, eight more and the key are above 131,072
 abbrev pub IsLongKey : List ℕ → ℕ → Type 0
-IsLongKey h n = (pairs : List ℕ) × BeforePair pairs h × (131072 < length pairs + 8 + n)
+IsLongKey h n = (pairs : List ℕ) × BeforePair pairs h × (MOST_TEXT < length pairs + 8 + n)
 
 -- a value length by which the sum so far and the value are
 abbrev pub IsLongValue : List ℕ → ℕ → Type 0
-IsLongValue h n = (pairs : List ℕ) × (key : List ℕ) × BeforeValue pairs key h × (131072 < length pairs + length key + 4 + n)
+IsLongValue h n = (pairs : List ℕ) × (key : List ℕ) × BeforeValue pairs key h × (MOST_TEXT < length pairs + length key + 4 + n)
 
--- The field behind the bytes h of its frame breaks this rule.
+-- The field after the bytes h of its frame breaks this rule.
 abbrev pub Broken : Side → List ℕ → List ℕ → LumberWhy → Type 0
 -- the version isn't `2`
 Broken side h field Version = (h ≡ []) × ((c : ℕ) × (field ≡ c ∷ []) × (c ≢ 50))

@@ -2,6 +2,8 @@ pub mod Spelling
 pub mod Broken
 pub mod Machine
 pub mod Places
+pub mod Running
 pub mod Scanning
-pub mod Keeping
 pub mod Reading
+pub mod Lent
+pub mod Window

@@ -2,6 +2,8 @@
 use Rattle.std.specs.Prelude.{◌≡◌, ℕ, ◌+◌, ◌-◌, ◌<◌, ◌≤◌, nat_lt, nat_le, ◌==◌, if◌then◌else◌, ◌⊎◌, List, [], ◌∷◌, ◌++◌, length, slice_index}
 use Rattle.std.specs.Int.{from_be_bytes}
 use mir.Syntax.{w32}
+use Rattle.event_form.specs.declared.limits.TheConstants.{MOST_TEXT, MOST_PAIRS}
+use Rattle.lumber_frame.specs.declared.limits.TheConstants.{MOST_FRAMES}
 use Rattle.lumber_frame.specs.declared.fault.LumberWhy.{LumberWhy}
 use Rattle.lumber_frame.specs.declared.fault.LumberWhy.TheVariants.{Version, Kind, Compressed, AckFromWriter, TooLong, TooMany}
 use Rattle.lumber_frame.specs.declared.field.Field.{Field}
@@ -57,7 +59,7 @@ value_of (Value seq left len) b = 0
 abbrev pub Turning : Type 0
 Turning = Step State LumberFrame LumberWhy
 
--- the field behind a type byte
+-- the field after a type byte
 abbrev pub type_turn : Side → List ℕ → ℕ → Turning
 type_turn Receiver text c =
     if c == 87 then Goes (At WindowSize text []) else
@@ -81,7 +83,7 @@ payload_turn seq text len = if len == 0 then Ends (Json seq []) else Goes (At (P
 abbrev pub key_turn : ℕ → ℕ → List ℕ → ℕ → Turning
 key_turn seq left text len = if len == 0 then Goes (At (ValueLength seq left) text []) else Goes (At (Key seq left len) text [])
 
--- the value, or what stands behind it where it is empty
+-- the value, or what stands after it where it is empty
 abbrev pub value_turn : ℕ → ℕ → List ℕ → ℕ → Turning
 value_turn seq left text len = if len == 0 then pairs_turn seq left text else Goes (At (Value seq left len) text [])
 
@@ -89,16 +91,16 @@ value_turn seq left text len = if len == 0 then pairs_turn seq left text else Go
 unfoldable pub turn : Side → Field → List ℕ → List ℕ → ℕ → Turning
 turn side VersionByte text b n = if n == 50 then Goes (At TypeByte text []) else Fails Version
 turn side TypeByte text b n = type_turn side text n
-turn side WindowSize text b n = if nat_le n 65536 then Ends (Window n) else Fails TooMany
+turn side WindowSize text b n = if nat_le n MOST_FRAMES then Ends (Window n) else Fails TooMany
 turn side AckSequence text b n = Ends (Ack n)
 turn side PairsSequence text b n = Goes (At (PairCount n) text [])
 turn side JsonSequence text b n = Goes (At (PayloadLength n) text [])
-turn side (PairCount seq) text b n = if nat_le n 1024 then pairs_turn seq n text else Fails TooMany
-turn side (PayloadLength seq) text b n = if nat_le n 131072 then payload_turn seq text n else Fails TooLong
+turn side (PairCount seq) text b n = if nat_le n MOST_PAIRS then pairs_turn seq n text else Fails TooMany
+turn side (PayloadLength seq) text b n = if nat_le n MOST_TEXT then payload_turn seq text n else Fails TooLong
 turn side (Payload seq len) text b n = Ends (Json seq b)
-turn side (KeyLength seq left) text b n = if nat_le (length text + 8 + n) 131072 then key_turn seq left (text ++ b) n else Fails TooLong
+turn side (KeyLength seq left) text b n = if nat_le (length text + 8 + n) MOST_TEXT then key_turn seq left (text ++ b) n else Fails TooLong
 turn side (Key seq left len) text b n = Goes (At (ValueLength seq left) (text ++ b) [])
-turn side (ValueLength seq left) text b n = if nat_le (length text + 4 + n) 131072 then value_turn seq left (text ++ b) n else Fails TooLong
+turn side (ValueLength seq left) text b n = if nat_le (length text + 4 + n) MOST_TEXT then value_turn seq left (text ++ b) n else Fails TooLong
 turn side (Value seq left len) text b n = pairs_turn seq left (text ++ b)
 
 -- what one byte does: it makes a field longer, or whole
@@ -114,40 +116,40 @@ step side (At field text g) c =
 abbrev pub Four : (List ℕ → List ℕ → Type 0) → List ℕ → Type 0
 Four P b = (number : List ℕ) × (rest : List ℕ) × (length number ≡ 4) × (b ≡ number ++ rest) × P number rest
 
--- so many more pairs behind the text so far, and the frame
+-- so many more pairs after the text so far, and the frame
 abbrev pub PairsEnd : ℕ → ℕ → List ℕ → LumberFrame → List ℕ → Type 0
-PairsEnd seq left text f b = ArePairsOf left b × (length (text ++ b) ≤ 131072) × (f ≡ Pairs seq (text ++ b))
+PairsEnd seq left text f b = ArePairsOf left b × (length (text ++ b) ≤ MOST_TEXT) × (f ≡ Pairs seq (text ++ b))
 
--- behind a pair count
+-- after a pair count
 abbrev pub AfterCount : ℕ → List ℕ → List ℕ → LumberFrame → List ℕ → Type 0
-AfterCount seq text number f b = (from_be_bytes w32 number ≤ 1024) × PairsEnd seq (from_be_bytes w32 number) text f b
+AfterCount seq text number f b = (from_be_bytes w32 number ≤ MOST_PAIRS) × PairsEnd seq (from_be_bytes w32 number) text f b
 
--- behind a payload length
+-- after a payload length
 abbrev pub AfterLength : ℕ → List ℕ → LumberFrame → List ℕ → Type 0
-AfterLength seq number f b = (from_be_bytes w32 number ≤ 131072) × (length b ≡ from_be_bytes w32 number) × (f ≡ Json seq b)
+AfterLength seq number f b = (from_be_bytes w32 number ≤ MOST_TEXT) × (length b ≡ from_be_bytes w32 number) × (f ≡ Json seq b)
 
--- behind the sequence number of a D frame
+-- after the sequence number of a D frame
 abbrev pub AfterPairsSequence : List ℕ → List ℕ → LumberFrame → List ℕ → Type 0
 AfterPairsSequence text number f b = Four (λ n rest. AfterCount (from_be_bytes w32 number) text n f rest) b
 
--- behind that of a J frame
+-- after that of a J frame
 abbrev pub AfterJsonSequence : List ℕ → LumberFrame → List ℕ → Type 0
 AfterJsonSequence number f b = Four (λ n rest. AfterLength (from_be_bytes w32 number) n f rest) b
 
--- behind a window size
+-- after a window size
 abbrev pub AfterSize : List ℕ → LumberFrame → List ℕ → Type 0
-AfterSize number f b = (from_be_bytes w32 number ≤ 65536) × (b ≡ []) × (f ≡ Window (from_be_bytes w32 number))
+AfterSize number f b = (from_be_bytes w32 number ≤ MOST_FRAMES) × (b ≡ []) × (f ≡ Window (from_be_bytes w32 number))
 
--- behind the sequence number of an A frame
+-- after the sequence number of an A frame
 abbrev pub AfterAck : List ℕ → LumberFrame → List ℕ → Type 0
 AfterAck number f b = (b ≡ []) × (f ≡ Ack (from_be_bytes w32 number))
 
--- behind a type byte
+-- after a type byte
 abbrev pub AfterType : Side → List ℕ → ℕ → LumberFrame → List ℕ → Type 0
 AfterType Receiver text c f b = ((c ≡ 87) × Four (λ n rest. AfterSize n f rest) b) ⊎ (((c ≡ 68) × Four (λ n rest. AfterPairsSequence text n f rest) b) ⊎ ((c ≡ 74) × Four (λ n rest. AfterJsonSequence n f rest) b))
 AfterType Sender text c f b = (c ≡ 65) × Four (λ n rest. AfterAck n f rest) b
 
--- what stands behind a whole field
+-- what stands after a whole field
 abbrev pub Behind : Side → Field → List ℕ → List ℕ → LumberFrame → List ℕ → Type 0
 Behind side VersionByte text b f y = (b ≡ 50 ∷ []) × ((c : ℕ) × (rest : List ℕ) × (y ≡ c ∷ rest) × AfterType side text c f rest)
 Behind side TypeByte text b f y = AfterType side text (slice_index b 0) f y
@@ -163,6 +165,6 @@ Behind side (Key seq left len) text b f y = (value : List ℕ) × (more : List �
 Behind side (ValueLength seq left) text b f y = (value : List ℕ) × (more : List ℕ) × (length value ≡ from_be_bytes w32 b) × (y ≡ value ++ more) × PairsEnd seq left (text ++ (b ++ value)) f more
 Behind side (Value seq left len) text b f y = PairsEnd seq left (text ++ b) f y
 
--- the rest of the field, and what stands behind it
+-- the rest of the field, and what stands after it
 abbrev pub Completes : Side → State → LumberFrame → List ℕ → Type 0
 Completes side (At field text g) f b = (more : List ℕ) × (rest : List ℕ) × (0 < length more) × (length g + length more ≡ size_of field) × (b ≡ more ++ rest) × Behind side field text (g ++ more) f rest

@@ -1,5 +1,6 @@
--- What the reader keeps of an unfinished frame: the place of the field that it reads.
+-- What is kept of an unfinished frame: the field that is read, and its place.
 use Rattle.std.specs.Prelude.{◌≡◌, ℕ, ◌+◌, ◌<◌, ◌≤◌, List, [], ◌++◌, drop, length, take}
+use Rattle.event_form.specs.declared.limits.TheConstants.{MOST_TEXT}
 use Rattle.lumber_frame.specs.declared.field.Field.{Field}
 use Rattle.lumber_frame.specs.declared.field.Field.TheVariants.{VersionByte, TypeByte, WindowSize, AckSequence, PairsSequence, JsonSequence, PairCount, PayloadLength, Payload, KeyLength, Key, ValueLength, Value}
 use Rattle.lumber_frame.specs.declared.field.Phase.{Phase}
@@ -10,10 +11,10 @@ use Rattle.lumber_frame.specs.declared.field.Turn.TheVariants.{Go, Done, Bad}
 use Rattle.lumber_frame.specs.declared.frame.LumberFrame.{LumberFrame}
 use Rattle.lumber_frame.specs.declared.frame.LumberFrame.TheVariants.{Window, Pairs, Json, Ack}
 use Rattle.lumber_frame.specs.declared.side.Side.{Side}
-use Rattle.stream_grammar.specs.Automaton.{Goes, Ends, Fails}
-use Rattle.lumber_frame.specs.Machine.{State, At, Turning, size_of, turn}
+use Rattle.stream_grammar.specs.Automaton.{Goes, Ends, Fails, Going, run}
+use Rattle.lumber_frame.specs.Machine.{At, Turning, size_of, start, step, turn}
 
--- the frame of these bytes: its text stands behind the first ten
+-- the frame of these bytes: its text stands after the first ten
 abbrev pub frame_of : Whole → List ℕ → LumberFrame
 frame_of (whole.Window size) h = Window size
 frame_of (whole.Pairs seq) h = Pairs seq (drop 10 h)
@@ -30,21 +31,23 @@ Stands PairsSequence at = at ≡ 2
 Stands JsonSequence at = at ≡ 2
 Stands (PairCount seq) at = at ≡ 6
 Stands (PayloadLength seq) at = at ≡ 6
-Stands (Payload seq len) at = (at ≡ 10) × (0 < len) × (len ≤ 131072)
-Stands (KeyLength seq left) at = (10 ≤ at) × (at ≤ 131082)
-Stands (Key seq left len) at = (10 ≤ at) × (0 < len) × (at + len ≤ 131082)
-Stands (ValueLength seq left) at = (10 ≤ at) × (at ≤ 131082)
-Stands (Value seq left len) at = (10 ≤ at) × (0 < len) × (at + len ≤ 131082)
+Stands (Payload seq len) at = (at ≡ 10) × (0 < len) × (len ≤ MOST_TEXT)
+Stands (KeyLength seq left) at = (10 ≤ at) × (at ≤ 10 + MOST_TEXT)
+Stands (Key seq left len) at = (10 ≤ at) × (0 < len) × (at + len ≤ 10 + MOST_TEXT)
+Stands (ValueLength seq left) at = (10 ≤ at) × (at ≤ 10 + MOST_TEXT)
+Stands (Value seq left len) at = (10 ≤ at) × (0 < len) × (at + len ≤ 10 + MOST_TEXT)
 
--- the machine's state, by the place of the field and the bytes of the frame so far
-abbrev pub state_of : Phase → List ℕ → State
-state_of now h = At now.field (drop 10 (take now.at h)) (drop now.at h)
-
--- of so many bytes of the frame, some are the field's, and not all of it
-pub record Fits (now : Phase) (n : ℕ) : Type 0 where
+-- Of these bytes, which begin with a frame's first one, those before the place have brought the machine to
+-- the field.
+pub record Reaches (side : Side) (b : List ℕ) (now : Phase) : Type 0 where
   pub stands : Stands now.field now.at
-  pub before : now.at ≤ n
-  pub within : n < now.at + size_of now.field
+  pub inside : now.at ≤ length b
+  pub runs : run (step side) start (take now.at b) ≡ Going (At now.field (drop 10 (take now.at b)) [])
+
+-- The same, and the field isn't whole: they are an unfinished frame.
+pub record IsUnfinished (side : Side) (b : List ℕ) (now : Phase) : Type 0 where
+  pub reaches : Reaches side b now
+  pub short : length b < now.at + size_of now.field
 
 -- what a turn makes of the machine, of the bytes of the frame so far
 abbrev pub step_of : Turn → List ℕ → Turning
@@ -52,7 +55,7 @@ step_of (Go field) h = Goes (At field (drop 10 h) [])
 step_of (Done w) h = Ends (frame_of w h)
 step_of (Bad w) h = Fails w
 
--- the place of the field behind, or of the text's end
+-- the place of the field after it, or of the text's end
 abbrev pub StandsBehind : Turn → ℕ → Type 0
 StandsBehind (Go field) at = Stands field at
 StandsBehind (Done (whole.Window size)) at = Unit {0}

@@ -1,15 +1,19 @@
--- What a reader has read and holds.
+-- Lumberjack as a format, one for each side, and what a reader has read and holds.
 use Rattle.std.specs.Prelude.{◌≡◌, ℕ, ◌+◌, ◌++◌, List, [], ◌∷◌, length, Option, Some, None, Result, Ok, Err}
 use Rattle.lumber_frame.specs.declared.fault.LumberFault.{LumberFault}
+use Rattle.lumber_frame.specs.declared.fault.LumberWhy.{LumberWhy}
 use Rattle.lumber_frame.specs.declared.frame.LumberFrame.{LumberFrame}
 use Rattle.lumber_frame.specs.declared.side.Side.{Side}
+use Rattle.lumber_frame.specs.declared.side.Side.TheVariants.{Receiver}
 use Rattle.event_form.specs.declared.feed_fault.FeedFault.{FeedFault}
 use Rattle.event_form.specs.declared.feed_fault.FeedFault.TheVariants.{Fault, NoMemory}
 use Rattle.stream_grammar.specs.FieldFaults.{IsFieldStream, IsFieldFault}
+use Rattle.stream_grammar.specs.Reading as stream
+use Rattle.stream_grammar.specs.Reading.{Format}
 use Rattle.lumber_frame.specs.Broken.{Broken}
 use Rattle.lumber_frame.specs.Spelling.{IsFrameFor, IsWritten, Spells}
 
--- What contracts see of a reader: its side, the whole frames that wait to be taken, the offset behind
+-- What contracts see of a reader: its side, the whole frames that wait to be taken, the offset after
 -- the last whole frame, the bytes held from there on, and the fault. With a fault no bytes are held.
 pub record Reader : Type 0 where
   pub side : Side
@@ -22,16 +26,30 @@ pub record Reader : Type 0 where
 abbrev pub unfed : Side → Reader
 unfed side = record { side = side; waiting = []; at = 0; rest = []; fault = None }
 
+-- the fault at an offset
+abbrev pub fault_of : ℕ → LumberWhy → LumberFault
+fault_of at why = record { at = at; why = why }
+
+-- what a side reads
+abbrev pub format : Side → Format LumberFrame LumberFault
+format side = record {
+  IsWhole = IsFieldStream (Spells side) (Broken side);
+  IsFaulty = λ b frames at rest e. IsFieldFault (Spells side) (Broken side) b frames at rest e.at e.why;
+}
+
+-- what a receiver reads
+abbrev pub receiver : Format LumberFrame LumberFault
+receiver = format Receiver
+
 -- the bytes are these frames, up to an offset, and then a rest or a fault
 abbrev pub ReadsTo : Side → List ℕ → List LumberFrame → ℕ → List ℕ → Option LumberFault → Type 0
-ReadsTo side fed frames at rest None = IsFieldStream (Spells side) (Broken side) fed frames at rest
-ReadsTo side fed frames at rest (Some e) = IsFieldFault (Spells side) (Broken side) fed frames at e.at e.why × (rest ≡ [])
+ReadsTo side = stream.ReadsTo (format side) stream.Drops
 
 -- the bytes fed so far are the frames that were taken, those that wait, and a rest or a fault
 abbrev pub Reads : List ℕ → List LumberFrame → Reader → Type 0
 Reads fed taken r = ReadsTo r.side fed (taken ++ r.waiting) r.at r.rest r.fault
 
--- whatever was read before, that and the piece behind it are read now
+-- whatever was read before, that and the piece after it are read now
 abbrev pub ReadsOn : Reader → List ℕ → Reader → Type 0
 ReadsOn old piece new = (fed : List ℕ) (taken : List LumberFrame) → Reads fed taken old → Reads (fed ++ piece) taken new
 
@@ -41,20 +59,12 @@ Feeds old piece (Ok u) new = (new.fault ≡ None) × ReadsOn old piece new
 Feeds old piece (Err (Fault e)) new = (new.fault ≡ Some e) × ReadsOn old piece new
 Feeds old piece (Err NoMemory) new = new ≡ old
 
--- The bytes alone decide the frames, the offset, the rest and the fault.
-abbrev pub OneReading : Type 0
-OneReading = (side : Side) (fed : List ℕ) (fs gs : List LumberFrame) (m n : ℕ) (h k : List ℕ) (d e : Option LumberFault) → ReadsTo side fed fs m h d → ReadsTo side fed gs n k e → (fs ≡ gs) × (m ≡ n) × (h ≡ k) × (d ≡ e)
-
--- All bytes have one: they are frames and a rest, or frames and a field that breaks its rule.
-abbrev pub SomeReading : Type 0
-SomeReading = (side : Side) (fed : List ℕ) → (frames : List LumberFrame) × (at : ℕ) × (rest : List ℕ) × (fault : Option LumberFault) × ReadsTo side fed frames at rest fault
-
 -- a fault so many bytes further on
 abbrev pub moved : ℕ → Option LumberFault → Option LumberFault
 moved n None = None
-moved n (Some e) = Some (record { at = n + e.at; why = e.why })
+moved n (Some e) = Some (fault_of (n + e.at) e.why)
 
 -- What is written for a frame that may come is read first, whatever follows, and what follows is read
--- behind it.
-abbrev pub WrittenIsRead : Type 0
-WrittenIsRead = (side : Side) (f : LumberFrame) (text more : List ℕ) (frames : List LumberFrame) (at : ℕ) (rest : List ℕ) (fault : Option LumberFault) → IsFrameFor side f → IsWritten f text → ReadsTo side more frames at rest fault → ReadsTo side (text ++ more) (f ∷ frames) (length text + at) rest (moved (length text) fault)
+-- after it.
+abbrev pub WrittenIsRead : (List ℕ → List ℕ → Type 0) → Type 0
+WrittenIsRead Held = (side : Side) (f : LumberFrame) (text more : List ℕ) (frames : List LumberFrame) (at : ℕ) (held : List ℕ) (fault : Option LumberFault) → IsFrameFor side f → IsWritten f text → stream.ReadsTo (format side) Held more frames at held fault → stream.ReadsTo (format side) Held (text ++ more) (f ∷ frames) (length text + at) held (moved (length text) fault)

@@ -1,7 +1,9 @@
--- The layout of a frame of Lumberjack, version 2: the byte `2`, a type byte, and what stands behind them.
+-- The layout of a frame of Lumberjack, version 2: the byte `2`, a type byte, and what stands after them.
 use Rattle.std.specs.Prelude.{◌≡◌, ℕ, zero, suc, ◌^◌, ◌<◌, ◌≤◌, List, [], ◌∷◌, ◌++◌, length}
 use Rattle.std.specs.Int.{from_be_bytes, to_be_bytes}
 use mir.Syntax.{w32}
+use Rattle.event_form.specs.declared.limits.TheConstants.{MOST_TEXT, MOST_PAIRS}
+use Rattle.lumber_frame.specs.declared.limits.TheConstants.{MOST_FRAMES}
 use Rattle.event_form.specs.Event.{pairs_text, ArePairs}
 use Rattle.lumber_frame.specs.declared.frame.LumberFrame.{LumberFrame}
 use Rattle.lumber_frame.specs.declared.frame.LumberFrame.TheVariants.{Window, Pairs, Json, Ack}
@@ -25,7 +27,7 @@ abbrev pub ArePairsOf : ℕ → List ℕ → Type 0
 ArePairsOf zero b = b ≡ []
 ArePairsOf (suc n) b = (key : List ℕ) × (value : List ℕ) × (more : List ℕ) × IsString key × IsString value × (b ≡ key ++ (value ++ more)) × ArePairsOf n more
 
--- behind the type D: the sequence number, the pair count, and the pairs, which are the text
+-- after the type D: the sequence number, the pair count, and the pairs, which are the text
 pub record IsData (seq : ℕ) (text b : List ℕ) : Type 0 where
   pub sequence : List ℕ
   pub count : List ℕ
@@ -33,23 +35,23 @@ pub record IsData (seq : ℕ) (text b : List ℕ) : Type 0 where
   pub whole : b ≡ sequence ++ (count ++ text)
   pub sequence_is : IsNumber seq sequence
   pub count_is : IsNumber pairs count
-  pub few : pairs ≤ 1024
+  pub few : pairs ≤ MOST_PAIRS
   pub pairs_are : ArePairsOf pairs text
-  pub short : length text ≤ 131072
+  pub short : length text ≤ MOST_TEXT
 
--- behind the type J: the sequence number, the payload length, and the payload, which is the text
+-- after the type J: the sequence number, the payload length, and the payload, which is the text
 pub record IsPayload (seq : ℕ) (text b : List ℕ) : Type 0 where
   pub sequence : List ℕ
   pub number : List ℕ
   pub whole : b ≡ sequence ++ (number ++ text)
   pub sequence_is : IsNumber seq sequence
   pub number_is : IsNumber (length text) number
-  pub short : length text ≤ 131072
+  pub short : length text ≤ MOST_TEXT
 
--- the bytes spell the frame: `2`, the type, and what stands behind it
+-- the bytes spell the frame: `2`, the type, and what stands after it
 abbrev pub IsSpelling : LumberFrame → List ℕ → Type 0
 -- W, and the window size
-IsSpelling (Window size) b = (rest : List ℕ) × (b ≡ 50 ∷ 87 ∷ rest) × IsNumber size rest × (size ≤ 65536)
+IsSpelling (Window size) b = (rest : List ℕ) × (b ≡ 50 ∷ 87 ∷ rest) × IsNumber size rest × (size ≤ MOST_FRAMES)
 -- D
 IsSpelling (Pairs seq text) b = (rest : List ℕ) × (b ≡ 50 ∷ 68 ∷ rest) × IsData seq text rest
 -- J
@@ -74,9 +76,9 @@ Spells side f b = MayCome side f × IsSpelling f b
 
 -- the limits of a frame
 abbrev pub IsFrame : LumberFrame → Type 0
-IsFrame (Window size) = size ≤ 65536
-IsFrame (Pairs seq text) = (seq < 2 ^ 32) × (length text ≤ 131072) × ArePairs text
-IsFrame (Json seq text) = (seq < 2 ^ 32) × (length text ≤ 131072)
+IsFrame (Window size) = size ≤ MOST_FRAMES
+IsFrame (Pairs seq text) = (seq < 2 ^ 32) × (length text ≤ MOST_TEXT) × ArePairs text
+IsFrame (Json seq text) = (seq < 2 ^ 32) × (length text ≤ MOST_TEXT)
 IsFrame (Ack seq) = seq < 2 ^ 32
 
 -- a frame that the side reads, within the limits

@@ -3,7 +3,9 @@ ghost use Rattle.std.specs.Prelude.{◌≡◌, ℕ, List, ◌≤◌, length};
 ghost use Rattle.event_form.specs.Event.{ArePairs, pairs_text};
 ghost use Rattle.event_form.specs.Pairs.{BeginsString};
 
-/// What stands behind the key or the value that the bytes begin with.
+use event_form::MOST_TEXT;
+
+/// What stands after the key or the value that the bytes begin with.
 fn behind_string(bytes: &[u8]) -> &[u8]
     requires { (string : List ℕ) × (rest : List ℕ) × BeginsString string bytes.now rest }
     ensures { (string rest : List ℕ) → BeginsString string bytes.now rest → result.now ≡ rest }
@@ -16,7 +18,7 @@ fn behind_string(bytes: &[u8]) -> &[u8]
 
 /// How many pairs the text has, which is at most 1,024 whole pairs.
 pub fn pair_count(text: &[u8]) -> u32
-    requires short { length text.now ≤ 131072 }
+    requires short { length text.now ≤ MOST_TEXT }
     requires pairs { ArePairs text.now }
     ensures { (pairs : List (List ℕ × List ℕ)) → text.now ≡ pairs_text pairs → result ≡ length pairs }
 {

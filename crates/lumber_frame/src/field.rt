@@ -8,7 +8,7 @@ use crate::fault::LumberWhy;
 pub const TEXT: usize = 10;
 
 /// A field of a frame, with what the fields before it told: the sequence number, how many pairs come
-/// behind this one, and of a string its length.
+/// after this one, and of a string its length.
 #[derive(Clone, Copy)]
 pub enum Field {
     VersionByte,
@@ -39,7 +39,7 @@ pub const START: Phase = Phase {
     at: 0,
 };
 
-/// A whole frame without its text, which stands behind the frame's first ten bytes.
+/// A whole frame without its text, which stands after the frame's first ten bytes.
 #[derive(Clone, Copy)]
 pub enum Whole {
     Window { size: u32 },

@@ -9,10 +9,11 @@ ghost use Rattle.lumber_frame.specs.Spelling.{IsFrame, MayCome};
 use crate::fault::LumberFault;
 use crate::field::{Phase, START};
 use crate::frame::LumberFrame;
-use crate::joined::copy_range;
+use crate::limits::ROOM;
 use crate::scan::{Scanned, scan};
 use crate::side::Side;
 use event_form::FeedFault;
+use foundation::copy_range;
 use std::alloc::Global;
 use std::collections::VecDeque;
 use std::marker::Model;
@@ -20,7 +21,7 @@ use std::marker::Model;
 /// A reader of a Lumberjack stream that comes in pieces, cut anywhere. Of an unfinished frame it holds
 /// at most 131,140 bytes.
 ///
-/// Contracts see its side, the frames that wait to be taken, the offset behind the last whole frame,
+/// Contracts see its side, the frames that wait to be taken, the offset after the last whole frame,
 /// the bytes held from there on, and the fault.
 #[derive(Drop)]
 pub struct LumberReader {
@@ -38,11 +39,13 @@ impl Model for LumberReader {
 
     ghost Value = { Reader };
 
-    ghost use Rattle.lumber_frame.specs.Keeping.{Keeps};
+    ghost use Rattle.stream_grammar.specs.Splitting.{Holds};
+    ghost use Rattle.lumber_frame.specs.Running.{layout};
+    ghost use Rattle.lumber_frame.specs.Spelling.{IsFrameFor};
 
     ghost view = { λ r. record { side = r.side; waiting = r.waiting.items; at = r.at; rest = r.rest.items; fault = r.fault } };
 
-    ghost invariant = { λ r. Keeps r.side r.waiting.items r.at r.rest.items r.phase };
+    ghost invariant = { λ r. Holds (layout r.side) (IsFrameFor r.side) r.waiting.items r.at r.rest.items r.phase };
 }
 
 impl LumberReader {
@@ -76,7 +79,7 @@ impl LumberReader {
         ensures stays { (e : LumberFault) → self.old.fault ≡ Some e → (result ≡ Err (Fault e)) × (self.new ≡ self.old) }
         ensures side { self.new.side ≡ self.old.side }
         ensures room { self.new.at + length self.new.rest ≤ self.old.at + length self.old.rest + length piece.now }
-        ensures bound { length self.new.rest ≤ 131140 }
+        ensures bound { length self.new.rest ≤ ROOM }
     {
         if let Some(fault) = self.fault {
             return Err(FeedFault::Fault(fault));

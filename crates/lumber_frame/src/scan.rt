@@ -1,18 +1,16 @@
 //! The frames that a piece completes.
 ghost use Rattle.std.specs.Prelude.{◌≡◌, ◌+◌, ◌-◌, ◌≤◌, ◌++◌, length, IfOk, slice_range};
 ghost use Rattle.lumber_frame.specs.declared.field.Turn.TheVariants.{Done};
-ghost use Rattle.lumber_frame.specs.Machine.{start, step};
-ghost use Rattle.lumber_frame.specs.Places.{Fits, StandsBehind, frame_of, state_of};
+ghost use Rattle.lumber_frame.specs.Places.{IsUnfinished, StandsBehind, frame_of};
 ghost use Rattle.lumber_frame.specs.Scanning.{Scans};
-ghost use Rattle.stream_grammar.specs.Automaton.{Going, run};
 
 use crate::fault::LumberWhy;
-use crate::field::{Phase, START, TEXT, Turn, Whole, field_size};
+use crate::field::{Phase, START, TEXT, Whole};
 use crate::frame::LumberFrame;
-use crate::joined::copy_range;
+use crate::run::{Ran, run_on};
 use crate::side::Side;
-use crate::turn::after_field;
 use event_form::Blob;
+use foundation::copy_range;
 use std::alloc::{AllocError, Global};
 use std::collections::VecDeque;
 
@@ -23,7 +21,7 @@ pub struct Scanned {
     pub frames: VecDeque<LumberFrame>,
     /// How many bytes they take, of those held and then of the piece.
     pub end: usize,
-    /// What has been read of the frame behind them; with a fault the field that breaks a rule.
+    /// What has been read of the frame after them; with a fault, up to the field that breaks a rule.
     pub phase: Phase,
     pub fault: Option<LumberWhy>,
 }
@@ -63,8 +61,7 @@ fn build(
     }
 }
 
-/// Reads a piece behind the bytes held of an unfinished frame, field by field, to its end or to the
-/// first fault.
+/// Reads a piece that follows the bytes held of an unfinished frame, to its end or to the first fault.
 pub fn scan(
     alloc: Global,
     side: Side,
@@ -72,47 +69,37 @@ pub fn scan(
     phase: Phase,
     piece: &[u8],
 ) -> Result<Scanned, AllocError>
-    requires fits { Fits phase (length held.now) }
-    requires runs { run (step side) start held.now ≡ Going (state_of phase held.now) }
-    ensures { IfOk result (λ s. Scans side held.now piece.now s) }
+    requires { IsUnfinished side held.now phase }
+    ensures scans { IfOk result (λ s. Scans side (held.now ++ piece.now) s) }
+    ensures room { IfOk result (λ s. s.end + s.phase.at ≤ length held.now + length piece.now) }
 {
     let mut frames = VecDeque::new(alloc);
     let mut end = 0;
     let mut now = phase;
-    let mut i = 0;
-    while i < piece.len() {
-        let from = end + now.at;
-        let due = from + field_size(now.field) - (held.len() + i);
-        if piece.len() - i < due {
-            i = piece.len();
-            continue;
-        }
-        i += due;
-        match after_field(side, now.field, now.at, held, piece, from) {
-            Turn::Go(field) => {
-                let at = held.len() + i - end;
-                now = Phase { field, at };
-            }
-            Turn::Done(whole) => {
-                let frame = build(alloc, held, piece, end, held.len() + i, whole)?;
-                frames.push_back(frame)?;
-                end = held.len() + i;
-                now = START;
-            }
-            Turn::Bad(why) => {
+    loop {
+        match run_on(side, held, piece, end, now) {
+            Ran::Rest(phase) => {
                 return Ok(Scanned {
                     frames,
                     end,
-                    phase: now,
+                    phase,
+                    fault: None,
+                });
+            }
+            Ran::Ends(whole, n) => {
+                let frame = build(alloc, held, piece, end, end + n, whole)?;
+                frames.push_back(frame)?;
+                end += n;
+                now = START;
+            }
+            Ran::Bad(why, phase) => {
+                return Ok(Scanned {
+                    frames,
+                    end,
+                    phase,
                     fault: Some(why),
                 });
             }
         }
     }
-    Ok(Scanned {
-        frames,
-        end,
-        phase: now,
-        fault: None,
-    })
 }

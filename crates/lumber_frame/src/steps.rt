@@ -7,16 +7,9 @@ ghost use Rattle.lumber_frame.specs.Places.{Stands, StandsBehind, Turns, step_of
 
 use crate::fault::LumberWhy;
 use crate::field::{Field, TEXT, Turn, Whole};
+use crate::limits::MOST_FRAMES;
 use crate::side::Side;
-
-/// How many bytes a text may have.
-const MOST_TEXT: usize = 131_072;
-
-/// How many pairs a frame may have.
-const MOST_PAIRS: u32 = 1_024;
-
-/// How many data frames a window may have.
-const MOST_FRAMES: u32 = 65_536;
+use event_form::{MOST_PAIRS, MOST_TEXT};
 
 /// What the version byte does.
 #[tactic(auto, using(crate::proofs::TextLaws::drop_early), unfolding(crate::specs::Machine::turn))]
@@ -50,7 +43,7 @@ pub fn after_type(side: Side, kind: u8) -> Turn
 
 /// Another pair, or the frame's end.
 pub fn next_pair(seq: u32, left: u32) -> Turn
-    ensures stands { (at : ℕ) → 10 ≤ at → at ≤ 131082 → StandsBehind result at }
+    ensures stands { (at : ℕ) → 10 ≤ at → at ≤ 10 + MOST_TEXT → StandsBehind result at }
     ensures turn { (h : List ℕ) → step_of result h ≡ pairs_turn seq left (drop 10 h) }
 {
     if left == 0 {
@@ -82,7 +75,7 @@ pub fn after_count(seq: u32, count: u32) -> Turn
     ensures stands { StandsBehind result 10 }
     ensures turn { (side : Side) → Turns result side (PairCount seq) 6 count }
 {
-    if count <= MOST_PAIRS {
+    if count as usize <= MOST_PAIRS {
         next_pair(seq, count)
     } else {
         Turn::Bad(LumberWhy::TooMany)

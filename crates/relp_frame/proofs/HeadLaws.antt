@@ -1,15 +1,16 @@
 -- A head that is read at once is what the machine reads of it.
-use Rattle.std.proofs.Common.{◌≡◌, ℕ, ◌+◌, ◌-◌, ◌*◌, ◌^◌, ◌<◌, ◌≤◌, ◌∙◌, true, List, [], ◌∷◌, ◌++◌, inl, inr, length, take, drop, get_or, refl, sym, ap, subst, lit<, add-one, length-take-le, arith, append_assoc, length-append, length-drop}
+use Rattle.std.proofs.Common.{◌≡◌, ℕ, ◌+◌, ◌-◌, ◌*◌, ◌^◌, ◌<◌, ◌≤◌, ◌∙◌, true, List, [], ◌∷◌, ◌++◌, inl, inr, length, take, drop, get_or, refl, sym, ap, subst, add-one, length-take-le, arith, append_assoc, length-append, length-drop}
 use Rattle.std.specs.Prelude.{slice_range}
 use Rattle.std.specs.Char.{is_ascii_alphabetic, digit_value}
-use Rattle.std.specs.Str.Parse.{digits_value, digits_value_after, AllDigits}
+use Rattle.std.specs.Str.Parse.{digits_value, AllDigits}
 use Rattle.std.proofs.lemmas.Bool.{ltb-true}
 use Rattle.std.proofs.lemmas.Int.Digits.{digits_push}
 use Rattle.std.proofs.lemmas.Str.Parse.{numerals_by_value, tells_digits, digits_value_short}
 use Rattle.std.proofs.lemmas.List.{append-nil, take_at, drop_at}
 use Rattle.std.proofs.Math.Nat.{pow-suc}
 use Rattle.std.proofs.Math.Seq.{drop-cons}
-use Rattle.relp_frame.specs.declared.frame.Frame.{Frame}
+use Rattle.relp_frame.specs.declared.limits.TheConstants.{MOST_DATA, MOST_DIGITS, MOST_LETTERS}
+use Rattle.relp_frame.specs.declared.phase.Head.{Head}
 use Rattle.relp_frame.specs.declared.phase.Phase.{Phase}
 use Rattle.relp_frame.specs.declared.phase.Phase.TheVariants.{Txnr, Body}
 use Rattle.stream_grammar.specs.Automaton.{Going, run}
@@ -19,11 +20,10 @@ use Rattle.relp_frame.specs.Machine.{State, step, start}
 use Rattle.relp_frame.specs.Machine as m
 use Rattle.relp_frame.specs.Places.{Fits, state_of}
 use Rattle.relp_frame.specs.Running.{RunsTo}
-use Rattle.relp_frame.specs.Scanning.{Scan}
 use Rattle.relp_frame.proofs.ReasonLaws.{letters_push, value_push}
 use Rattle.relp_frame.proofs.RunLaws.{onward, both, run_txnr, txnr_space, run_letters, command_space, run_length, length_space}
-use Rattle.relp_frame.proofs.ScanLaws.{join_more}
-use Rattle.relp_frame.proofs.WindowLaws.{two_parts, part_whole}
+use Rattle.foundation.proofs.Joined.{join_more}
+use Rattle.stream_grammar.proofs.Windows.{two_parts, part_whole}
 
 -- what stands at a place, in front of the rest
 at_place : (bytes : List ℕ) (from i : ℕ) → from ≤ i → i < length bytes → drop from bytes ≡ slice_range bytes from i ++ get_or bytes i 0 ∷ drop (i + 1) bytes
@@ -37,7 +37,7 @@ slice_push bytes from i o l =
     let e : drop from bytes ≡ (s ++ c ∷ []) ++ drop (i + 1) bytes = at_place bytes from i o l ∙ sym (append_assoc s (c ∷ []) (drop (i + 1) bytes)) in
     ap (take (i + 1 - from)) e ∙ take_at (s ++ c ∷ []) (drop (i + 1) bytes) (i + 1 - from) (omega (arith, length-append s (c ∷ []), part_whole bytes from i o (omega arith)))
 
-pub digits_on : (bytes : List ℕ) (from i value digit : ℕ) → DigitsTo bytes from i value → i < length bytes → i - from < 9 → is_digit (get_or bytes i 0) ≡ true → digit ≡ digit_value (get_or bytes i 0) → digit < 10 → DigitsTo bytes from (i + 1) (value * 10 + digit)
+pub digits_on : (bytes : List ℕ) (from i value digit : ℕ) → DigitsTo bytes from i value → i < length bytes → i - from < MOST_DIGITS → is_digit (get_or bytes i 0) ≡ true → digit ≡ digit_value (get_or bytes i 0) → digit < 10 → DigitsTo bytes from (i + 1) (value * 10 + digit)
 digits_on bytes from i value digit d l few is v small =
     let s = slice_push bytes from i d.order l in
     let c = get_or bytes i 0 in
@@ -54,7 +54,7 @@ digits_on bytes from i value digit d l few is v small =
       value_is = ap (digits_value 10) s ∙ value_push (slice_range bytes from i) c value d.value_is ∙ ap (λ n. value * 10 + n) (sym v);
     }
 
-pub letters_on : (bytes : List ℕ) (from i : ℕ) → LettersTo bytes from i → i < length bytes → i - from < 32 → is_ascii_alphabetic (get_or bytes i 0) ≡ true → LettersTo bytes from (i + 1)
+pub letters_on : (bytes : List ℕ) (from i : ℕ) → LettersTo bytes from i → i < length bytes → i - from < MOST_LETTERS → is_ascii_alphabetic (get_or bytes i 0) ≡ true → LettersTo bytes from (i + 1)
 letters_on bytes from i d l few is = record {
   order = omega (arith, d.order);
   inside = omega arith;
@@ -66,8 +66,9 @@ letters_on bytes from i d l few is = record {
 at_space : (bytes : List ℕ) (from to : ℕ) → from ≤ to → to < length bytes → get_or bytes to 0 ≡ 32 → drop from bytes ≡ slice_range bytes from to ++ 32 ∷ drop (to + 1) bytes
 at_space bytes from to o l s = at_place bytes from to o l ∙ ap (λ c. slice_range bytes from to ++ c ∷ drop (to + 1) bytes) s
 
-pub head_at : (bytes : List ℕ) (txnr first to value last : ℕ) → NumberAt bytes 0 txnr first → CommandAt bytes (first + 1) to → NumberAt bytes (to + 1) value last → value ≤ 131072 → HeadAt bytes (Body txnr (first + 1) to (last + 1) value) (last + 1)
+pub head_at : (bytes : List ℕ) (txnr first to value last : ℕ) → NumberAt bytes 0 txnr first → CommandAt bytes (first + 1) to → NumberAt bytes (to + 1) value last → value ≤ MOST_DATA → HeadAt bytes (Body (record { txnr = txnr; from = first + 1; to = to }) (last + 1) value) (last + 1)
 head_at bytes txnr first to value last a k b l =
+    let head : Head = record { txnr = txnr; from = first + 1; to = to } in
     let x = slice_range bytes 0 first in
     let y = slice_range bytes (first + 1) to in
     let z = slice_range bytes (to + 1) last in
@@ -84,7 +85,7 @@ head_at bytes txnr first to value last a k b l =
     let vx : digits_value 10 x ≡ txnr = a.text.value_is in
     let vz : digits_value 10 z ≡ value = b.text.value_is in
     let own = numerals_by_value (AllDigits 10) tells_digits in
-    let short = digits_value_short own x 9 a.text.digits (omega (arith, nx, a.text.few)) in
+    let short = digits_value_short own x MOST_DIGITS a.text.digits (omega (arith, nx, a.text.few)) in
     let rz : run step (m.InLength txnr y 0 0) tail ≡ Going (m.InBody txnr y value []) =
     both (m.InLength txnr y 0 0) (m.InLength txnr y (length z) value) (m.InBody txnr y value []) z (32 ∷ [])
     (run_length txnr y 0 0 z b.text.digits (omega (arith, nz, b.text.few)) (omega (arith, vz, l)) ∙ ap (λ j. Going (m.InLength txnr y j (digits_value 10 z))) (omega arith) ∙ ap (λ j. Going (m.InLength txnr y (length z) j)) vz)
@@ -101,11 +102,11 @@ head_at bytes txnr first to value last a k b l =
     let cut : drop (first + 1) w ≡ y ++ 32 ∷ tail = ap (drop (first + 1)) front ∙ drop_at (x ++ 32 ∷ []) (y ++ 32 ∷ tail) (first + 1) (omega (arith, nx, length-append x (32 ∷ []))) in
     let command : slice_range w (first + 1) to ≡ y = ap (take (to - (first + 1))) cut ∙ take_at y (32 ∷ tail) (to - (first + 1)) ny in
     let none : drop (last + 1) w ≡ [] = ap (drop (last + 1)) (sym (append-nil w)) ∙ drop_at w [] (last + 1) nw in
-    let state : Going (m.InBody txnr y value []) ≡ Going (state_of (Body txnr (first + 1) to (last + 1) value) w) = ap (λ v. Going (m.InBody txnr v value [])) (sym command) ∙ ap (λ v. Going (m.InBody txnr (slice_range w (first + 1) to) value v)) (sym none) in
+    let state : Going (m.InBody txnr y value []) ≡ Going (state_of (Body head (last + 1) value) w) = ap (λ v. Going (m.InBody txnr v value [])) (sym command) ∙ ap (λ v. Going (m.InBody txnr (slice_range w (first + 1) to) value v)) (sym none) in
     record {
       inside = omega (arith, b.inside);
-      fits = (omega (arith, a.text.few), omega (arith, k.some), omega (arith, k.text.few), omega (arith, b.some), omega (arith, b.text.few), omega arith, omega (arith, l), omega (arith, short, vx));
-      runs = subst (λ v. run step start v ≡ Going (state_of (Body txnr (first + 1) to (last + 1) value) v)) (sym t) (rx ∙ state);
+      fits = (record { first = omega (arith, a.text.few); order = omega (arith, k.some); few = omega (arith, k.text.few); txnr = omega (arith, short, vx) }, omega (arith, b.some), omega (arith, b.text.few), omega arith, omega (arith, l));
+      runs = subst (λ v. run step start v ≡ Going (state_of (Body head (last + 1) value) v)) (sym t) (rx ∙ state);
     }
 
 -- a run that begins with it

@@ -1,0 +1,13 @@
+//! The limits of a frame, and what a window holds.
+
+/// How many digits a transaction number or a length may have, leading zeros counted.
+pub const MOST_DIGITS: usize = 9;
+
+/// How many letters a command may have.
+pub const MOST_LETTERS: usize = 32;
+
+/// How many bytes of data a frame may have.
+pub const MOST_DATA: usize = 131_072;
+
+/// How many bytes a window holds: the longest frame has 131,126.
+pub const ROOM: usize = 131_136;
