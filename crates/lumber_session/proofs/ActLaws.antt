@@ -1,16 +1,17 @@
--- The acts for a list of frames make its batches; and any list is cut in some way.
+-- The acts for a list of frames make its batches; any list is cut in some way; and a frame has one act.
 use Rattle.std.proofs.Common.{◌≡◌, ℕ, ◌-◌, ◌<◌, ◌≤◌, ◌⊎◌, ◌↔◌, inl, inr, ◌∙◌, Bool, true, false, List, [], ◌∷◌, ◌++◌, map, length, refl, sym, ap, subst, arith, append_assoc}
 use Rattle.std.specs.Prelude.{IsTrue}
-use Rattle.std.proofs.lemmas.List.{append-nil}
+use Rattle.std.proofs.lemmas.List.{append-nil, append_cancel_right}
 use Rattle.std.proofs.lemmas.List.Elements.{All-nil}
 use Rattle.std.proofs.lemmas.Bool.{false≢true, cases_lt}
 use Rattle.lumber_frame.specs.declared.frame.LumberFrame.{LumberFrame}
 use Rattle.lumber_frame.specs.declared.frame.LumberFrame.TheVariants.{Window, Pairs, Json, Ack}
 use Rattle.lumber_session.specs.declared.act.LumberAct.{LumberAct}
+use Rattle.lumber_session.specs.declared.limits.TheConstants.{BATCH_FRAMES, BATCH_BYTES}
 use Rattle.lumber_session.specs.Staged.{Staged, staged_by, staged, bytes_of}
 use Rattle.lumber_session.specs.Windows.{BeginsNone, NextCompletes, HasLeft}
 use Rattle.lumber_session.specs.Batches.{EndsData, Ends, IsCut, SomeCut}
-use Rattle.lumber_session.specs.Acts.{Tells, AreTold, Batch, batch_of, act_of, stored, waiting, ActsMakeBatches}
+use Rattle.lumber_session.specs.Acts.{Tells, AreTold, Batch, batch_of, act_of, stored, waiting, ActsMakeBatches, OneAct}
 use Rattle.lumber_session.proofs.WindowLaws.{staged_push, completes, completes_only, left_on, left_new}
 use Rattle.lumber_session.proofs.CutLaws.{nowhere_none, cut_whole, cut_on, cut_end, one_cut}
 
@@ -44,7 +45,7 @@ waiting_end so_far (Pairs seq text) acts before front i = refl
 waiting_end so_far (Json seq text) acts before front i = refl
 waiting_end so_far (Ack seq) acts before front i = absurd i
 
--- What acts make of further frames, behind frames that are cut.
+-- What acts make of further frames, after frames that are cut.
 record Made (frames more : List LumberFrame) (bs : List (List LumberFrame)) (rest : List LumberFrame) (acts : List LumberAct) : Type 0 where
   pub batches : List (List LumberFrame)
   pub last : List LumberFrame
@@ -61,7 +62,8 @@ made_on frames more bs rest f acts m = record {
   waits = waiting_on (staged rest) f acts ∙ ap (λ v. waiting v acts) (sym (staged_push rest f)) ∙ m.waits;
 }
 
-made_end : (frames more : List LumberFrame) (bs : List (List LumberFrame)) (rest : List LumberFrame) (f : LumberFrame) (acts : List LumberAct) (before : List LumberFrame) → Ends before rest f → Made (frames ++ f ∷ []) more (bs ++ (rest ++ f ∷ []) ∷ []) [] acts → Made frames (f ∷ more) bs rest (act_of f true ∷ acts)
+made_end : (frames more : List LumberFrame) (bs : List (List LumberFrame)) (rest : List LumberFrame) (f : LumberFrame) (acts : List LumberAct) (before : List LumberFrame)
+    → Ends before rest f → Made (frames ++ f ∷ []) more (bs ++ (rest ++ f ∷ []) ∷ []) [] acts → Made frames (f ∷ more) bs rest (act_of f true ∷ acts)
 made_end frames more bs rest f acts before i m =
     let c = subst (λ v. IsCut v ((bs ++ (rest ++ f ∷ []) ∷ []) ++ m.batches) m.last) (append_assoc frames (f ∷ []) more) m.cut in
     record {
@@ -72,8 +74,10 @@ made_end frames more bs rest f acts before i m =
       waits = waiting_end (staged rest) f acts before rest i ∙ m.waits;
     }
 
--- the act of a frame by whether a batch ends with it, and what comes behind
-told_next : (frames more : List LumberFrame) (bs : List (List LumberFrame)) (rest before : List LumberFrame) (f : LumberFrame) (acts : List LumberAct) (ends : Bool) → IsCut frames bs rest → frames ≡ before ++ rest → IsTrue ends ↔ Ends before rest f → ((cs : List (List LumberFrame)) (r : List LumberFrame) → IsCut (frames ++ f ∷ []) cs r → Made (frames ++ f ∷ []) more cs r acts) → Made frames (f ∷ more) bs rest (act_of f ends ∷ acts)
+-- the act of a frame by whether a batch ends with it, and what comes after
+told_next : (frames more : List LumberFrame) (bs : List (List LumberFrame)) (rest before : List LumberFrame) (f : LumberFrame) (acts : List LumberAct) (ends : Bool)
+    → IsCut frames bs rest → frames ≡ before ++ rest → IsTrue ends ↔ Ends before rest f → ((cs : List (List LumberFrame)) (r : List LumberFrame) → IsCut (frames ++ f ∷ []) cs r
+    → Made (frames ++ f ∷ []) more cs r acts) → Made frames (f ∷ more) bs rest (act_of f ends ∷ acts)
 told_next frames more bs rest before f acts true c w x k =
     let i = x.0 refl in
     made_end frames more bs rest f acts before i (k (bs ++ (rest ++ f ∷ []) ∷ []) [] (cut_end [] frames bs rest before f c w i))
@@ -137,7 +141,7 @@ decide_completes frames n l = elim (decide_le n 1) [ inl h ↦ inl (completes fr
 decide_data : (before front : List LumberFrame) (f : LumberFrame) (n : ℕ) → HasLeft (before ++ front) n → Decided (EndsData before front f)
 decide_data before front f n l =
     let s = staged (front ++ f ∷ []) in
-    decide_or (decide_completes (before ++ front) n l) (decide_or (decide_le 256 (length s)) (decide_le 262144 (bytes_of s)))
+    decide_or (decide_completes (before ++ front) n l) (decide_or (decide_le BATCH_FRAMES (length s)) (decide_le BATCH_BYTES (bytes_of s)))
 
 decide_ends : (before front : List LumberFrame) (f : LumberFrame) (n : ℕ) → HasLeft (before ++ front) n → Decided (Ends before front f)
 decide_ends before front (Window size) n l = decide_and (decide_lt 0 size) (decide_lt 0 (length (staged front)))
@@ -172,7 +176,42 @@ known : (frames more : List LumberFrame) → Known frames → Known (frames ++ m
 known frames [] k = subst Known (sym (append-nil frames)) k
 known frames (f ∷ more) k = subst Known (append_assoc frames (f ∷ []) more) (known (frames ++ f ∷ []) more (known_next frames f k))
 
+known_all : (frames : List LumberFrame) → Known frames
+known_all frames = known [] frames (record { batches = []; rest = []; cut = (refl, nowhere_none []); left = 0; has_left = inl (All-nil BeginsNone, refl) })
+
 pub some_cut : SomeCut
 some_cut frames =
-    let k = known [] frames (record { batches = []; rest = []; cut = (refl, nowhere_none []); left = 0; has_left = inl (All-nil BeginsNone, refl) }) in
+    let k = known_all frames in
     (k.batches, k.rest, k.cut)
+
+-- one act
+
+some_act : (frames : List LumberFrame) (f : LumberFrame) → (act : LumberAct) × Tells frames f act
+some_act frames f =
+    let k = known_all frames in
+    let w = cut_whole [] frames k.batches k.rest k.cut in
+    elim (decide_ends w.0 k.rest f k.left (subst (λ v. HasLeft v k.left) w.1 k.has_left)) [
+      | inl i ↦ (act_of f true, record { batches = k.batches; before = w.0; rest = k.rest; cut = k.cut; whole = w.1; ends = true; exactly = (λ t. i, λ e. refl); told = refl })
+      | inr n ↦ (act_of f false, record { batches = k.batches; before = w.0; rest = k.rest; cut = k.cut; whole = w.1; ends = false; exactly = (λ t. absurd (false≢true t), λ e. absurd (n e)); told = refl })
+    ]
+
+-- what holds exactly where the same fact does is the same
+same_test : {P : Type 0} (a b : Bool) → IsTrue a ↔ P → IsTrue b ↔ P → a ≡ b
+same_test true true p q = refl
+same_test true false p q = sym (q.1 (p.0 refl))
+same_test false true p q = p.1 (q.0 refl)
+same_test false false p q = refl
+
+told_once : (frames : List LumberFrame) (f : LumberFrame) (a b : LumberAct) → Tells frames f a → Tells frames f b → b ≡ a
+told_once frames f a b t u =
+    let rests : u.rest ≡ t.rest = (one_cut frames u.batches t.batches u.rest t.rest u.cut t.cut).1 in
+    let whole : frames ≡ u.before ++ t.rest = u.whole ∙ ap (λ v. u.before ++ v) rests in
+    let befores : u.before ≡ t.before = append_cancel_right u.before t.before t.rest (sym whole ∙ t.whole) in
+    let there : IsTrue u.ends ↔ Ends u.before t.rest f = subst (λ v. IsTrue u.ends ↔ Ends u.before v f) rests u.exactly in
+    let here : IsTrue u.ends ↔ Ends t.before t.rest f = subst (λ v. IsTrue u.ends ↔ Ends v t.rest f) befores there in
+    u.told ∙ ap (act_of f) (same_test u.ends t.ends here t.exactly) ∙ sym t.told
+
+pub one_act : OneAct
+one_act frames f =
+    let some = some_act frames f in
+    (some.0, some.1, λ other t. told_once frames f some.0 other some.1 t)

@@ -5,6 +5,7 @@ use Rattle.std.proofs.lemmas.List.{append-nil, append_cancel_right}
 use Rattle.std.proofs.lemmas.List.Elements.{All-nil, All-cons}
 use Rattle.lumber_frame.specs.declared.frame.LumberFrame.{LumberFrame}
 use Rattle.lumber_frame.specs.declared.frame.LumberFrame.TheVariants.{Window, Pairs, Json, Ack}
+use Rattle.lumber_session.specs.declared.limits.TheConstants.{BATCH_FRAMES, BATCH_BYTES}
 use Rattle.lumber_session.specs.Staged.{Staged, staged_by, staged, bytes_of}
 use Rattle.lumber_session.specs.Batches.{AreEnough, Ends, EndsNowhere, IsBatch, AreBatches, OneCut, HasEvents, BatchSizes}
 use Rattle.lumber_session.proofs.ListLaws.{Same, Later, Earlier, two_cuts, not_empty}
@@ -86,11 +87,11 @@ one_cut frames bs cs r s = batches_once [] frames bs cs r s
 
 -- fewer than a batch are staged
 pub record IsFew (events : List Staged) : Type 0 where
-  pub frames : length events < 256
-  pub bytes : bytes_of events < 262144
+  pub frames : length events < BATCH_FRAMES
+  pub bytes : bytes_of events < BATCH_BYTES
 
 few_more : (events : List Staged) → ¬ AreEnough events → IsFew events
-few_more events n = record { frames = omega (arith, λ (h : 256 ≤ length events). n (inl h)); bytes = omega (arith, λ (h : 262144 ≤ bytes_of events). n (inr h)) }
+few_more events n = record { frames = omega (arith, λ (h : BATCH_FRAMES ≤ length events). n (inl h)); bytes = omega (arith, λ (h : BATCH_BYTES ≤ bytes_of events). n (inr h)) }
 
 -- a frame with which nowhere batch ends
 few_on : (before x : List LumberFrame) (f : LumberFrame) → ¬ Ends before x f → IsFew (staged x) → IsFew (staged (x ++ f ∷ []))

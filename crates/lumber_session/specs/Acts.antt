@@ -17,7 +17,7 @@ act_of (Pairs seq text) ends = Stage (data_event text) seq ends
 act_of (Json seq text) ends = Stage (json_event text) seq ends
 act_of (Ack seq) ends = Nothing
 
--- The act is that of a frame behind these frames.
+-- The act is that of a frame after these frames.
 pub record Tells (frames : List LumberFrame) (f : LumberFrame) (act : LumberAct) : Type 0 where
   pub batches : List (List LumberFrame)
   pub before : List LumberFrame
@@ -28,14 +28,18 @@ pub record Tells (frames : List LumberFrame) (f : LumberFrame) (act : LumberAct)
   pub exactly : IsTrue ends ↔ Ends before rest f
   pub told : act ≡ act_of f ends
 
--- each act is that of its frame, behind the frames so far and those before it
+-- For any frame, after any frames, there is an act, and only one.
+abbrev pub OneAct : Type 0
+OneAct = (frames : List LumberFrame) (f : LumberFrame) → (act : LumberAct) × Tells frames f act × ((other : LumberAct) → Tells frames f other → other ≡ act)
+
+-- each act is that of its frame, after the frames so far and those before it
 abbrev pub AreTold : List LumberFrame → List LumberFrame → List LumberAct → Type 0
 AreTold before [] [] = Unit {0}
 AreTold before [] (a ∷ acts) = ⊥
 AreTold before (f ∷ frames) [] = ⊥
 AreTold before (f ∷ frames) (a ∷ acts) = Tells before f a × AreTold (before ++ f ∷ []) frames acts
 
--- whether a batch is due behind the act
+-- whether a batch is due after the act
 abbrev pub commits : LumberAct → Bool
 commits Nothing = false
 commits (Stage event seq commit) = commit

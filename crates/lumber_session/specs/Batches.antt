@@ -3,12 +3,13 @@ use Rattle.std.specs.Prelude.{◌≡◌, ◌<◌, ◌≤◌, ◌⊎◌, List, []
 use Rattle.std.specs.List.{All}
 use Rattle.lumber_frame.specs.declared.frame.LumberFrame.{LumberFrame}
 use Rattle.lumber_frame.specs.declared.frame.LumberFrame.TheVariants.{Window, Pairs, Json, Ack}
+use Rattle.lumber_session.specs.declared.limits.TheConstants.{BATCH_FRAMES, BATCH_BYTES}
 use Rattle.lumber_session.specs.Staged.{Staged, staged, bytes_of}
 use Rattle.lumber_session.specs.Windows.{NextCompletes}
 
--- staged events are enough for a batch: 256 of them, or texts of 262,144 bytes
+-- staged events are enough for a batch, by their number or by the bytes of their texts
 abbrev pub AreEnough : List Staged → Type 0
-AreEnough events = (256 ≤ length events) ⊎ (262144 ≤ bytes_of events)
+AreEnough events = (BATCH_FRAMES ≤ length events) ⊎ (BATCH_BYTES ≤ bytes_of events)
 
 -- A batch ends with a data frame that completes its window, or by which enough is staged. The frames
 -- before the batch come first, then those of the batch before this one.
@@ -23,7 +24,7 @@ Ends before front (Pairs seq text) = EndsData before front (Pairs seq text)
 Ends before front (Json seq text) = EndsData before front (Json seq text)
 Ends before front (Ack seq) = ⊥
 
--- no batch ends within these frames, which stand behind those before the batch
+-- no batch ends within these frames, which stand after those before the batch
 abbrev pub EndsNowhere : List LumberFrame → List LumberFrame → Type 0
 EndsNowhere before frames = (front : List LumberFrame) (f : LumberFrame) (more : List LumberFrame) → frames ≡ front ++ f ∷ more → ¬ Ends before front f
 
@@ -35,7 +36,7 @@ pub record IsBatch (before frames : List LumberFrame) : Type 0 where
   pub open_before : EndsNowhere before front
   pub ends : Ends before front last
 
--- the frames behind others are these batches, one after another, and a rest in which none ends
+-- the frames after others are these batches, one after another, and a rest in which none ends
 abbrev pub AreBatches : List LumberFrame → List LumberFrame → List (List LumberFrame) → List LumberFrame → Type 0
 AreBatches before frames [] rest = (frames ≡ rest) × EndsNowhere before rest
 AreBatches before frames (b ∷ bs) rest = (more : List LumberFrame) × (frames ≡ b ++ more) × IsBatch before b × AreBatches (before ++ b) more bs rest
@@ -52,10 +53,10 @@ OneCut = (frames : List LumberFrame) (bs cs : List (List LumberFrame)) (r s : Li
 abbrev pub SomeCut : Type 0
 SomeCut = (frames : List LumberFrame) → (batches : List (List LumberFrame)) × (rest : List LumberFrame) × IsCut frames batches rest
 
--- a batch stages 1 to 256 events
+-- a batch stages at least one event, and at most `BATCH_FRAMES`
 abbrev pub HasEvents : List LumberFrame → Type 0
-HasEvents batch = (0 < length (staged batch)) × (length (staged batch) ≤ 256)
+HasEvents batch = (0 < length (staged batch)) × (length (staged batch) ≤ BATCH_FRAMES)
 
--- Each batch of frames stages 1 to 256 events; the rest fewer, of fewer than 262,144 bytes.
+-- Each batch of frames stages 1 to `BATCH_FRAMES` events; the rest fewer, with fewer bytes than `BATCH_BYTES`.
 abbrev pub BatchSizes : Type 0
-BatchSizes = (frames : List LumberFrame) (batches : List (List LumberFrame)) (rest : List LumberFrame) → IsCut frames batches rest → All HasEvents batches × (length (staged rest) < 256) × (bytes_of (staged rest) < 262144)
+BatchSizes = (frames : List LumberFrame) (batches : List (List LumberFrame)) (rest : List LumberFrame) → IsCut frames batches rest → All HasEvents batches × (length (staged rest) < BATCH_FRAMES) × (bytes_of (staged rest) < BATCH_BYTES)

@@ -19,7 +19,7 @@ pub record HasWindow (frames : List LumberFrame) (size : ℕ) (since : List Lumb
   pub above : 0 < size
   pub last : All BeginsNone since
 
--- A data frame behind these completes its window: no window that they begin has more than one frame to
+-- A data frame after these completes its window: no window that they begin has more than one frame to
 -- come. So a frame outside a window is a window of one.
 abbrev pub NextCompletes : List LumberFrame → Type 0
 NextCompletes frames = (size : ℕ) (since : List LumberFrame) → HasWindow frames size since → size ≤ length (staged since) + 1

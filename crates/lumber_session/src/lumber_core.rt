@@ -1,5 +1,6 @@
 //! The core of a connection.
 ghost use Rattle.std.specs.Prelude.{◌≡◌, ◌≤◌, List, [], ◌∷◌, ◌++◌, length, false, true};
+ghost use Rattle.event_form.specs.declared.limits.TheConstants.{MOST_TEXT};
 ghost use Rattle.lumber_frame.specs.declared.frame.LumberFrame.{LumberFrame};
 ghost use Rattle.lumber_frame.specs.declared.side.Side.TheVariants.{Receiver};
 ghost use Rattle.lumber_frame.specs.Spelling.{IsFrameFor};
@@ -8,20 +9,15 @@ ghost use Rattle.lumber_session.specs.Counting.{Counted, IsBehind, Opened, empti
 ghost use Rattle.lumber_session.specs.declared.act.LumberAct.TheVariants.{Stage};
 
 use crate::act::LumberAct;
+use crate::limits::{BATCH_BYTES, BATCH_FRAMES};
 use event_form::{Event, Origin};
 use lumber_frame::LumberFrame;
 use std::marker::Model;
 
-/// How many frames are a batch.
-const MOST_FRAMES: u32 = 256;
-
-/// How many bytes of texts are.
-const MOST_BYTES: usize = 262_144;
-
 /// The receiver's side of a Lumberjack connection: it says of each frame what it asks for.
 ///
-/// Contracts see how many data frames are to come in the window, how many are staged, how many bytes
-/// their texts have, and whether a batch is due, which is to be stored before the next frame.
+/// Contracts see how many data frames are to come in the window, how many are staged, how many
+/// bytes their texts have, and whether a batch is due, which is to be stored before the next frame.
 #[derive(Drop)]
 pub struct LumberCore {
     left: u32,
@@ -110,7 +106,7 @@ impl LumberCore {
 
     /// Stages the event of a data frame.
     fn stage(&mut self, event: Event, seq: u32) -> LumberAct
-        requires short { length event.text ≤ 131072 }
+        requires short { length event.text ≤ MOST_TEXT }
         requires ready { self.old.due ≡ false }
         ensures stage { result ≡ Stage event seq self.new.due }
         ensures counted { Counted (length event.text) self.old self.new.due self.new }
@@ -119,9 +115,9 @@ impl LumberCore {
         LumberAct::Stage { event, seq, commit }
     }
 
-    /// Counts a data frame with a text of so many bytes, and says whether a batch ends with it.
+    /// Counts a data frame with a text of this length, and says whether a batch ends with it.
     fn count(&mut self, len: usize) -> bool
-        requires short { len ≤ 131072 }
+        requires short { len ≤ MOST_TEXT }
         requires ready { self.old.due ≡ false }
         ensures { Counted len self.old result self.new }
     {
@@ -129,7 +125,7 @@ impl LumberCore {
         self.left = self.left.saturating_sub(1);
         self.frames += 1;
         self.bytes += len;
-        self.due = completes || self.frames >= MOST_FRAMES || self.bytes >= MOST_BYTES;
+        self.due = completes || self.frames >= BATCH_FRAMES || self.bytes >= BATCH_BYTES;
         self.due
     }
 }

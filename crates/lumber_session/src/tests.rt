@@ -6,9 +6,9 @@ use event_form::{FeedFault, Origin};
 use lumber_frame::{LumberReader, Side, window_frame, write_json};
 use std::alloc::{AllocError, Global};
 
-/// What the frames of a connection asked for: a letter for each (`n` nothing, `d` and `j` an event that
-/// is staged, `D` and `J` one with which a batch is stored, `c` a batch that is stored first), the texts
-/// of the events, each in brackets, and the acknowledgments.
+/// What the frames of a connection asked for: a letter for each (`n` nothing, `d` and `j` an event
+/// that is staged, `D` and `J` one with which a batch is stored, `c` a batch that is stored first),
+/// the texts of the events, each in brackets, and the acknowledgments.
 #[derive(Drop)]
 struct Heard {
     acts: Vec<u8>,
@@ -109,7 +109,8 @@ fn connections(rt: HostRuntime) -> Result<(), AllocError> {
             b"[][]",
             b"2A\0\0\0\x02",
         ),
-        // A frame outside a window is a window of one, before the first one and behind a complete one.
+        // A frame outside a window is a window of one, before the first one and after a complete
+        // one.
         (b"2J\0\0\0\x07\0\0\0\x01x", "J", b"[x]", b"2A\0\0\0\x07"),
         (
             b"2W\0\0\0\x012J\0\0\0\x01\0\0\0\x01x2J\0\0\0\x02\0\0\0\x01y2J\0\0\0\x03\0\0\0\x01z",
@@ -131,7 +132,7 @@ fn connections(rt: HostRuntime) -> Result<(), AllocError> {
             b"[][]",
             b"2A\0\0\0\x02",
         ),
-        // A fault behind a staged event: the caller stores what is staged.
+        // A fault after a staged event: the caller stores what is staged.
         (
             b"2W\0\0\0\x022J\0\0\0\x01\0\0\0\x02{}2C",
             "nj",
@@ -158,7 +159,7 @@ fn connections(rt: HostRuntime) -> Result<(), AllocError> {
     Ok(())
 }
 
-/// A window of so many frames, numbered from 1, each with a payload of so many bytes.
+/// A window and its frames, numbered from 1, each with a payload of that length.
 fn window(alloc: Global, frames: u32, len: usize) -> Result<Vec<u8>, AllocError>
     requires few { frames ≤ 4096 }
     requires short { len ≤ 131072 }

@@ -1,2 +1,4 @@
 pub mod Table
+pub mod Words
+pub mod States
 pub mod Sessions

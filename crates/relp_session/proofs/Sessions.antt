@@ -1,58 +1,70 @@
--- Steps one after another give the acts of their frames.
-use Rattle.std.specs.Prelude.{◌≡◌, ℕ, Bool, true, false, ◌||◌, List, [], ◌∷◌, length, take, slice_get, Some}
-use Rattle.std.proofs.Math.Bool.{or_assoc}
-use Rattle.std.proofs.Common.{refl, sym, ◌∙◌, ap, subst, zero, suc, arith}
+-- Steps one after another give the acts of their frames, and nothing after a `close`.
+use Rattle.std.specs.Prelude.{◌≡◌, ℕ, List, [], ◌∷◌, ◌++◌, length, take, slice_get, Some}
+use Rattle.std.specs.List.{All}
+use Rattle.std.proofs.Common.{refl, sym, ap, subst, zero, suc, arith, append_assoc}
 use Rattle.std.proofs.lemmas.Option.{slice_get_within}
-use Rattle.std.proofs.lemmas.Bool.{false≢true}
-use Rattle.std.proofs.lemmas.List.Folds.{list_any-append}
+use Rattle.std.proofs.lemmas.List.{append-nil}
+use Rattle.std.proofs.lemmas.List.Elements.{All-nil, All-cons}
 use Rattle.relp_frame.specs.declared.frame.Frame.{Frame}
 use Rattle.relp_session.specs.declared.act.RelpAct.{RelpAct}
-use Rattle.relp_session.specs.Request.{is_opening}
+use Rattle.relp_session.specs.declared.state.State.{State}
+use Rattle.relp_session.specs.declared.state.State.TheVariants.{Unopened, Closed}
 use Rattle.relp_session.specs.Answer.{IsAnswer}
-use Rattle.relp_session.specs.Session.{opened, after, Steps, ActsByFrames, OpenedOn, OpenedByOne}
+use Rattle.relp_session.specs.Session.{state_after, Steps, ActsByFrames, IsNothing, EndsAtClose}
+use Rattle.relp_session.proofs.States.{state_on, closed_after}
 
-or_false : (b : Bool) → (b || false) ≡ b
-or_false true = refl
-or_false false = refl
+steps_count : (state : State) (frames : List Frame) (acts : List RelpAct) → Steps state frames acts → length acts ≡ length frames
+steps_count state [] [] s = refl
+steps_count state [] (act ∷ acts) s = absurd s
+steps_count state (f ∷ frames) [] s = absurd s
+steps_count state (f ∷ frames) (act ∷ acts) s = ap suc (steps_count s.1.0 frames acts s.1.2)
 
-pub opened_on : OpenedOn
-opened_on before f = list_any-append is_opening before (f ∷ []) ∙ ap (λ b. opened before || b) (or_false (is_opening f))
-
--- what was open before, or was opened by these frames
-abbrev since : Bool → List Frame → Bool
-since was frames = was || opened frames
-
-steps_count : (was : Bool) (frames : List Frame) (acts : List RelpAct) → Steps was frames acts → length acts ≡ length frames
-steps_count was [] [] s = refl
-steps_count was [] (act ∷ acts) s = absurd s
-steps_count was (f ∷ frames) [] s = absurd s
-steps_count was (f ∷ frames) (act ∷ acts) s = ap suc (steps_count (after was f) frames acts s.1)
-
--- the i-th act is the row by what was open and what the frames before it opened
-steps_at : (was : Bool) (frames : List Frame) (acts : List RelpAct) → Steps was frames acts → (i : ℕ) (f : Frame) (act : RelpAct) → slice_get frames i ≡ Some f → slice_get acts i ≡ Some act → IsAnswer (since was (take i frames)) f act
-steps_at was [] [] s i f act p q = absurd (omega (arith, slice_get_within {A = Frame} [] i f p))
-steps_at was [] (a ∷ acts) s i f act p q = absurd s
-steps_at was (g ∷ frames) [] s i f act p q = absurd s
-steps_at was (g ∷ frames) (a ∷ acts) s zero f act p q =
+-- the i-th act is the row by how far the frames before it have brought the session
+steps_at : (before frames : List Frame) (acts : List RelpAct) → Steps (state_after before) frames acts → (i : ℕ) (f : Frame) (act : RelpAct) → slice_get frames i ≡ Some f → slice_get acts i ≡ Some act → IsAnswer (state_after (before ++ take i frames)) f act
+steps_at before [] [] s i f act p q = absurd (omega (arith, slice_get_within {A = Frame} [] i f p))
+steps_at before [] (a ∷ acts) s i f act p q = absurd s
+steps_at before (g ∷ frames) [] s i f act p q = absurd s
+steps_at before (g ∷ frames) (a ∷ acts) s zero f act p q =
     let e : g ≡ f = cc in
     let d : a ≡ act = cc in
-    subst (λ b. IsAnswer b f act) (sym (or_false was)) (subst (λ x. IsAnswer was x act) e (subst (λ x. IsAnswer was g x) d s.0))
-steps_at was (g ∷ frames) (a ∷ acts) s (suc i) f act p q = subst (λ b. IsAnswer b f act) (or_assoc was (is_opening g) (opened (take i frames))) (steps_at (after was g) frames acts s.1 i f act p q)
+    subst (λ l. IsAnswer (state_after l) f act) (sym (append-nil before)) (subst (λ x. IsAnswer (state_after before) x act) e (subst (λ x. IsAnswer (state_after before) g x) d s.0))
+steps_at before (g ∷ frames) (a ∷ acts) (row, (after, goes, rest)) (suc i) f act p q =
+    let here = subst (λ state. Steps state frames acts) (state_on before g after goes) rest in
+    subst (λ l. IsAnswer (state_after l) f act) (append_assoc before (g ∷ []) (take i frames)) (steps_at (before ++ g ∷ []) frames acts here i f act p q)
 
 pub acts_by_frames : ActsByFrames
-acts_by_frames frames acts s = record { count = steps_count false frames acts s; each = steps_at false frames acts s }
+acts_by_frames frames acts s = record { count = steps_count Unopened frames acts s; each = steps_at [] frames acts s }
 
--- the frame that opened the session
-abbrev Opener : List Frame → Type 0
-Opener frames = (i : ℕ) × (f : Frame) × (slice_get frames i ≡ Some f) × (opened (take i frames) ≡ false) × (is_opening f ≡ true)
+-- a session that was closed does nothing
+steps_closed : (frames : List Frame) (acts : List RelpAct) → Steps Closed frames acts → All IsNothing acts
+steps_closed [] [] s = All-nil IsNothing
+steps_closed [] (act ∷ acts) s = absurd s
+steps_closed (f ∷ frames) [] s = absurd s
+steps_closed (f ∷ frames) (act ∷ acts) (row, (after, goes, rest)) = All-cons IsNothing act acts row.2 (steps_closed frames acts (subst (λ state. Steps state frames acts) goes.2 rest))
 
-opener_behind : (f : Frame) (fs : List Frame) → is_opening f ≡ false → Opener fs → Opener (f ∷ fs)
-opener_behind f fs h o = (suc o.0, o.1, o.2, ap (λ b. b || opened (take o.0 fs)) h ∙ o.3, o.4)
+-- steps over two lists of frames, one after the other
+record Split (before frames more : List Frame) (acts : List RelpAct) : Type 0 where
+  done : List RelpAct
+  rest : List RelpAct
+  whole : acts ≡ done ++ rest
+  first : Steps (state_after before) frames done
+  then : Steps (state_after (before ++ frames)) more rest
 
-opener_among : (f : Frame) (fs : List Frame) (b : Bool) → is_opening f ≡ b → (b || opened fs) ≡ true → (opened fs ≡ true → Opener fs) → Opener (f ∷ fs)
-opener_among f fs true h e later = (0, f, refl, refl, h)
-opener_among f fs false h e later = opener_behind f fs h (later e)
+steps_split : (before frames more : List Frame) (acts : List RelpAct) → Steps (state_after before) (frames ++ more) acts → Split before frames more acts
+steps_split before [] more acts s = record { done = []; rest = acts; whole = refl; first = tt; then = subst (λ l. Steps (state_after l) more acts) (sym (append-nil before)) s }
+steps_split before (f ∷ frames) more [] s = absurd s
+steps_split before (f ∷ frames) more (act ∷ acts) (row, (after, goes, rest)) =
+    let on = state_on before f after goes in
+    let p = steps_split (before ++ f ∷ []) frames more acts (subst (λ state. Steps state (frames ++ more) acts) on rest) in record {
+      done = act ∷ p.done;
+      rest = p.rest;
+      whole = ap (λ l. act ∷ l) p.whole;
+      first = (row, (after, goes, subst (λ state. Steps state frames p.done) (sym on) p.first));
+      then = subst (λ l. Steps (state_after l) more p.rest) (append_assoc before (f ∷ []) frames) p.then;
+    }
 
-pub opened_by_one : OpenedByOne
-opened_by_one [] e = absurd (false≢true e)
-opened_by_one (f ∷ fs) e = opener_among f fs (is_opening f) refl e (opened_by_one fs)
+pub ends_at_close : EndsAtClose
+ends_at_close front f later acts closing s =
+    let p = steps_split [] (front ++ f ∷ []) later acts (subst (λ l. Steps Unopened l acts) (sym (append_assoc front (f ∷ []) later)) s) in
+    let over = subst (λ state. Steps state later p.rest) (closed_after front f closing) p.then in
+    (p.done, p.rest, p.whole, acts_by_frames (front ++ f ∷ []) p.done p.first, steps_closed later p.rest over)

@@ -1,4 +1,4 @@
--- The receiver's table has one row for each frame.
+-- The receiver's table has one row for each frame in each state.
 use Rattle.std.specs.Prelude.{◌≡◌, ◌≢◌, ◌⊎◌, ℕ, Bool, true, false, List, length, bytes_eq, codes}
 use Rattle.std.proofs.Common.{refl, sym, ◌∙◌, ap, inl, inr, arith}
 use Rattle.std.proofs.lemmas.Bool.{true≢false}
@@ -7,10 +7,11 @@ use Rattle.relp_frame.specs.declared.frame.Frame.{Frame}
 use Rattle.relp_session.specs.declared.request.Request.{Request}
 use Rattle.relp_session.specs.declared.request.Request.TheVariants.{Open, OpenOther, Syslog, Close, Other}
 use Rattle.relp_session.specs.Request.{Asks, speaks}
-use Rattle.relp_session.specs.Answer.{act_of, OneAnswer}
+use Rattle.relp_session.specs.State.{next, IsNext}
+use Rattle.relp_session.specs.Answer.{act_of, IsAnswer, One, OneAnswer}
 
 -- a frame asks for one thing only
-one_request : (f : Frame) (r s : Request) → Asks f r → Asks f s → r ≡ s
+pub one_request : (f : Frame) (r s : Request) → Asks f r → Asks f s → r ≡ s
 one_request f Open Open a b = refl
 one_request f Open OpenOther a b = absurd (true≢false (sym a.1 ∙ b.1))
 one_request f Open Syslog a b = absurd (omega (arith, ap length (sym a.0 ∙ b)))
@@ -65,6 +66,9 @@ some_request f = elim (same_or_not f.command (codes "open")) [
 ]
 
 pub one_answer : OneAnswer
-one_answer opened f =
+one_answer state f =
     let r = some_request f in
-    (act_of opened r.0 f, (r.0, r.1, refl), λ other a. a.2 ∙ ap (λ q. act_of opened q f) (one_request f a.0 r.0 a.1 r.1))
+    let once : (s : Request) → Asks f s → s ≡ r.0 = λ s a. one_request f s r.0 a r.1 in
+    let act : One (IsAnswer state f) = (act_of state r.0 f, (r.0, r.1, refl), λ other a. a.2 ∙ ap (λ q. act_of state q f) (once a.0 a.1)) in
+    let after : One (IsNext state f) = (next state r.0, (r.0, r.1, refl), λ other a. a.2 ∙ ap (λ q. next state q) (once a.0 a.1)) in
+    (act, after)

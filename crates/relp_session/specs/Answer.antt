@@ -1,5 +1,5 @@
--- The receiver's table: what is done for a frame, by whether the session is open.
-use Rattle.std.specs.Prelude.{◌≡◌, ℕ, ◌<◌, ◌≤◌, Bool, true, false, List, [], ◌∷◌, ◌++◌, length, codes}
+-- The receiver's table: what is done for a frame, by how far the session is.
+use Rattle.std.specs.Prelude.{◌≡◌, ℕ, ◌<◌, ◌≤◌, List, [], ◌∷◌, ◌++◌, length, codes}
 use Rattle.event_form.specs.declared.event.Event.{Event}
 use Rattle.event_form.specs.declared.event.Origin.TheVariants.{Relp}
 use Rattle.event_form.specs.Event.{IsEvent}
@@ -9,13 +9,16 @@ use Rattle.relp_session.specs.declared.act.RelpAct.{RelpAct}
 use Rattle.relp_session.specs.declared.act.RelpAct.TheVariants.{Store, Say, End}
 use Rattle.relp_session.specs.declared.request.Request.{Request}
 use Rattle.relp_session.specs.declared.request.Request.TheVariants.{Open, OpenOther, Syslog, Close, Other}
+use Rattle.relp_session.specs.declared.state.State.{State}
+use Rattle.relp_session.specs.declared.state.State.TheVariants.{Unopened, Opened, Closed}
 use Rattle.relp_session.specs.Request.{Asks}
+use Rattle.relp_session.specs.State.{IsNext}
 
 -- an answer repeats the transaction number, and its command is `rsp`
 abbrev pub reply : ℕ → List ℕ → List ℕ
 reply txnr text = canonical (record { txnr = txnr; command = codes "rsp"; body = text })
 
--- what is offered, a line each, behind the code of success
+-- what is offered, a line each, after the code of success
 abbrev pub offers : List ℕ
 offers = codes "200 OK" ++ 10 ∷ codes "relp_version=0" ++ 10 ∷ codes "relp_software=bridge,1,local" ++ 10 ∷ codes "commands=syslog"
 
@@ -31,29 +34,47 @@ hint = canonical (record { txnr = 0; command = codes "serverclose"; body = [] })
 abbrev pub event_of : Frame → Event
 event_of f = record { origin = Relp; text = f.body }
 
--- the table, by whether the session is open and what the frame asks for
-abbrev pub act_of : Bool → Request → Frame → RelpAct
-act_of false Open f = Say (reply f.txnr offers)
-act_of false OpenOther f = Say (reply f.txnr (codes "500 unsupported relp_version"))
-act_of false Syslog f = Say (reply f.txnr (codes "500 not open"))
-act_of false Close f = End (reply f.txnr [] ++ hint)
-act_of false Other f = Say (reply f.txnr (codes "500 not open"))
-act_of true Open f = Say (reply f.txnr (codes "500 already open"))
-act_of true OpenOther f = Say (reply f.txnr (codes "500 already open"))
-act_of true Syslog f = Store (event_of f) f.txnr
-act_of true Close f = End (reply f.txnr [] ++ hint)
-act_of true Other f = Say (reply f.txnr (codes "500 unknown command"))
+-- the table, by the state and what the frame asks for
+abbrev pub act_of : State → Request → Frame → RelpAct
+act_of Unopened Open f = Say (reply f.txnr offers)
+act_of Unopened OpenOther f = Say (reply f.txnr (codes "500 unsupported relp_version"))
+act_of Unopened Syslog f = Say (reply f.txnr (codes "500 not open"))
+act_of Unopened Close f = End (reply f.txnr [] ++ hint)
+act_of Unopened Other f = Say (reply f.txnr (codes "500 not open"))
+act_of Opened Open f = Say (reply f.txnr (codes "500 already open"))
+act_of Opened OpenOther f = Say (reply f.txnr (codes "500 already open"))
+act_of Opened Syslog f = Store (event_of f) f.txnr
+act_of Opened Close f = End (reply f.txnr [] ++ hint)
+act_of Opened Other f = Say (reply f.txnr (codes "500 unknown command"))
+-- after a `close` nothing is stored, and nothing is written
+act_of Closed r f = End []
 
 -- the act is the table's row for the frame
-abbrev pub IsAnswer : Bool → Frame → RelpAct → Type 0
-IsAnswer opened f act = (r : Request) × Asks f r × (act ≡ act_of opened r f)
+abbrev pub IsAnswer : State → Frame → RelpAct → Type 0
+IsAnswer state f act = (r : Request) × Asks f r × (act ≡ act_of state r f)
 
--- an event that is stored keeps its limits, and a text that is written has bytes
+-- an event that is stored keeps its limits
 abbrev pub IsSound : RelpAct → Type 0
 IsSound (Store event txnr) = IsEvent event × (txnr ≤ 999999999)
-IsSound (Say text) = 0 < length text
-IsSound (End text) = 0 < length text
+IsSound (Say text) = Unit {0}
+IsSound (End text) = Unit {0}
 
--- For each frame there is an act, and only one.
+-- a text that is to be written has bytes
+abbrev pub HasText : RelpAct → Type 0
+HasText (Store event txnr) = Unit {0}
+HasText (Say text) = 0 < length text
+HasText (End text) = 0 < length text
+
+-- the connection ends
+abbrev pub IsEnd : RelpAct → Type 0
+IsEnd (Store event txnr) = ⊥
+IsEnd (Say text) = ⊥
+IsEnd (End text) = Unit {0}
+
+-- exactly one value is such
+abbrev pub One : {A : Type 0} → (A → Type 0) → Type 0
+One {A} P = (x : A) × P x × ((y : A) → P y → y ≡ x)
+
+-- For each frame, in each state, there is one act and one next state.
 abbrev pub OneAnswer : Type 0
-OneAnswer = (opened : Bool) (f : Frame) → (act : RelpAct) × IsAnswer opened f act × ((other : RelpAct) → IsAnswer opened f other → other ≡ act)
+OneAnswer = (state : State) (f : Frame) → One (IsAnswer state f) × One (IsNext state f)

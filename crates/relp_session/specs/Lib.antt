@@ -1,3 +1,4 @@
 pub mod Request
+pub mod State
 pub mod Answer
 pub mod Session

@@ -27,6 +27,10 @@ speaks offer = option_map_or (λ line. is_word (codes "relp_version=0") line) (f
 abbrev pub is_opening : Frame → Bool
 is_opening f = is_word (codes "open") f.command && speaks f.body
 
+-- the frame is a `close`
+abbrev pub is_closing : Frame → Bool
+is_closing f = is_word (codes "close") f.command
+
 -- the frame asks for this
 abbrev pub Asks : Frame → Request → Type 0
 Asks f Open = (f.command ≡ codes "open") × (speaks f.body ≡ true)

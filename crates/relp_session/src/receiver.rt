@@ -1,34 +1,37 @@
 //! The receiver's side of a session.
-ghost use Rattle.std.specs.Prelude.{◌≡◌, true, false, List, [], ◌∷◌, ◌++◌, OnOk, OnErr, IfOk};
+ghost use Rattle.std.specs.Prelude.{◌≡◌, ◌≢◌, ◌↔◌, List, [], ◌∷◌, ◌++◌, Ok, OnOk, OnErr, IfOk};
 ghost use Rattle.relp_frame.specs.declared.frame.Frame.{Frame};
 ghost use Rattle.relp_frame.specs.Spelling.{IsFrame};
-ghost use Rattle.relp_session.specs.declared.act.RelpAct.TheVariants.{Say};
-ghost use Rattle.relp_session.specs.Answer.{IsAnswer, IsSound, act_of, reply};
-ghost use Rattle.relp_session.specs.Session.{after, opened};
+ghost use Rattle.relp_session.specs.declared.act.RelpAct.TheVariants.{Say, End};
+ghost use Rattle.relp_session.specs.declared.state.State.TheVariants.{Unopened, Opened, Closed};
+ghost use Rattle.relp_session.specs.State.{IsNext};
+ghost use Rattle.relp_session.specs.Answer.{HasText, IsAnswer, IsEnd, IsSound, act_of, reply};
+ghost use Rattle.relp_session.specs.Session.{state_after};
 
 use crate::act::RelpAct;
 use crate::reply::{closing_reply, reply};
 use crate::request::{Request, request_of};
-use event_form::{Event, Origin};
+use crate::state::{State, next_state};
+use event_form::{Blob, Event, Origin};
 use relp_frame::Frame;
 use std::alloc::{AllocError, Global};
 use std::marker::Model;
 
 const OFFERS: &[u8] = b"200 OK\nrelp_version=0\nrelp_software=bridge,1,local\ncommands=syslog";
 
-/// The receiver's side of one session (rsyslog's RELP specification, COMMAND SEMANTICS). Contracts see
-/// whether the session is open.
+/// The receiver's side of one session (rsyslog's RELP specification, COMMAND SEMANTICS). Contracts
+/// see how far the session is.
 #[derive(Drop, Debug)]
 pub struct RelpCore {
-    open: bool,
+    state: State,
 }
 
 impl Model for RelpCore {
-    ghost use Rattle.std.specs.Prelude.{Bool};
+    ghost use Rattle.relp_session.specs.declared.state.State.{State};
 
-    ghost Value = { Bool };
+    ghost Value = { State };
 
-    ghost view = { λ core. core.open };
+    ghost view = { λ core. core.state };
 }
 
 // The text is the answer.
@@ -40,7 +43,7 @@ fn say(alloc: Global, txnr: u32, text: &[u8]) -> Result<RelpAct, AllocError>
 
 // What is done for a frame while the session isn't open.
 fn act_unopened(alloc: Global, request: Request, frame: &Frame) -> Result<RelpAct, AllocError>
-    ensures { IfOk result (λ act. act ≡ act_of false request frame.now) }
+    ensures { IfOk result (λ act. act ≡ act_of Unopened request frame.now) }
 {
     let txnr = frame.txnr;
     match request {
@@ -52,8 +55,8 @@ fn act_unopened(alloc: Global, request: Request, frame: &Frame) -> Result<RelpAc
 }
 
 // What is done for a frame while the session is open.
-fn act_open(alloc: Global, request: Request, frame: Frame) -> Result<RelpAct, AllocError>
-    ensures { IfOk result (λ act. act ≡ act_of true request frame) }
+fn act_opened(alloc: Global, request: Request, frame: Frame) -> Result<RelpAct, AllocError>
+    ensures { IfOk result (λ act. act ≡ act_of Opened request frame) }
 {
     let txnr = frame.txnr;
     match request {
@@ -70,32 +73,53 @@ fn act_open(alloc: Global, request: Request, frame: Frame) -> Result<RelpAct, Al
     }
 }
 
+// What is done for a frame in this state.
+fn act_for(
+    alloc: Global,
+    state: State,
+    request: Request,
+    frame: Frame,
+) -> Result<RelpAct, AllocError>
+    ensures value { IfOk result (λ act. act ≡ act_of state request frame) }
+    ensures closed { state ≡ Closed → result ≡ Ok (End []) }
+{
+    match state {
+        State::Unopened => act_unopened(alloc, request, &frame),
+        State::Opened => act_opened(alloc, request, frame),
+        State::Closed => Ok(RelpAct::End(Blob::of(Vec::new(alloc)))),
+    }
+}
+
 impl RelpCore {
     /// A session that isn't open. It takes no memory.
     pub fn new() -> RelpCore
-        ensures { result ≡ false }
+        ensures { result ≡ Unopened }
     {
-        RelpCore { open: false }
+        RelpCore {
+            state: State::Unopened,
+        }
     }
 
-    /// What is done for the next frame, by the table of states. An event that is to be stored has the
-    /// frame's body as its text.
+    /// What is done for the next frame, by the table of states. An event that is to be stored has
+    /// the frame's body as its text. The answer to a `close` is the last: after it each frame is
+    /// answered by `End` with an empty text, which takes no memory.
     ///
-    /// The only error is want of memory. After it the session is as before, and the frame is given up.
+    /// The only error is want of memory. After it the session is as before, and the frame is given
+    /// up.
     pub fn step(&mut self, alloc: Global, frame: Frame) -> Result<RelpAct, AllocError>
         requires { IsFrame frame }
         ensures answer { IfOk result (IsAnswer self.old frame) }
         ensures sound { IfOk result IsSound }
-        ensures after { OnOk result (self.new ≡ after self.old frame) }
-        ensures opened { OnOk result ((before : List Frame) → self.old ≡ opened before → self.new ≡ opened (before ++ frame ∷ [])) }
+        ensures written { self.old ≢ Closed → IfOk result HasText }
+        ensures closed { self.old ≡ Closed → result ≡ Ok (End []) }
+        ensures next { OnOk result (IsNext self.old frame self.new) }
+        ensures after { OnOk result ((before : List Frame) → self.old ≡ state_after before → self.new ≡ state_after (before ++ frame ∷ [])) }
+        ensures ends { IfOk result (λ act. IsEnd act ↔ (self.new ≡ Closed)) }
         ensures err { OnErr result (self.new ≡ self.old) }
     {
         let request = request_of(&frame);
-        if self.open {
-            return act_open(alloc, request, frame);
-        }
-        let act = act_unopened(alloc, request, &frame)?;
-        self.open = request == Request::Open;
+        let act = act_for(alloc, self.state, request, frame)?;
+        self.state = next_state(self.state, request);
         Ok(act)
     }
 }

@@ -16,7 +16,7 @@ pub fn reply(alloc: Global, txnr: u32, text: &[u8]) -> Result<Blob, AllocError>
     Ok(Blob::of(out))
 }
 
-/// The answer to a `close` of that transaction number, without data, and the hint behind it.
+/// The answer to a `close` of that transaction number, without data, and after it the hint.
 pub fn closing_reply(alloc: Global, txnr: u32) -> Result<Blob, AllocError>
     ensures value { IfOk result (λ answer. answer ≡ reply txnr [] ++ hint) }
     ensures bytes { IfOk result (λ answer. 0 < length answer) }
@@ -27,8 +27,9 @@ pub fn closing_reply(alloc: Global, txnr: u32) -> Result<Blob, AllocError>
     Ok(Blob::of(text))
 }
 
-/// The answer to the `syslog` of that transaction number, once its event is durable: `TXNR rsp 6 200 OK`
-/// and LF (rsyslog's RELP specification, COMMAND SEMANTICS, "rsp"). The only error is want of memory.
+/// The answer to the `syslog` of that transaction number, once its event is durable: `TXNR rsp 6
+/// 200 OK` and LF (rsyslog's RELP specification, COMMAND SEMANTICS, "rsp"). The only error is want
+/// of memory.
 pub fn stored_reply(alloc: Global, txnr: u32) -> Result<Blob, AllocError>
     ensures value { IfOk result (λ answer. answer ≡ stored txnr) }
     ensures bytes { IfOk result (λ answer. 0 < length answer) }
@@ -36,8 +37,8 @@ pub fn stored_reply(alloc: Global, txnr: u32) -> Result<Blob, AllocError>
     reply(alloc, txnr, b"200 OK")
 }
 
-/// The hint that the connection ends, which answers no frame: `0 serverclose 0` and LF (rsyslog's RELP
-/// specification, COMMAND SEMANTICS, "serverclose"). The only error is want of memory.
+/// The hint that the connection ends, which answers no frame: `0 serverclose 0` and LF (rsyslog's
+/// RELP specification, COMMAND SEMANTICS, "serverclose"). The only error is want of memory.
 pub fn closing_hint(alloc: Global) -> Result<Blob, AllocError>
     ensures value { IfOk result (λ text. text ≡ hint) }
     ensures bytes { IfOk result (λ text. 0 < length text) }

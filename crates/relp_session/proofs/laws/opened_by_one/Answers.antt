@@ -1,4 +1,4 @@
-use Rattle.relp_session.proofs.Sessions as laws
+use Rattle.relp_session.proofs.States as laws
 use Rattle.relp_session.proofs.laws.opened_by_one.Goals as goal
 
 pub returns : goal.returns
