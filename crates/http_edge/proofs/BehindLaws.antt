@@ -10,21 +10,20 @@ use Rattle.http_edge.specs.declared.fault.HttpWhy.TheVariants.{BadHead, BadLengt
 use Rattle.http_edge.specs.declared.gather.Ending.{Ending}
 use Rattle.http_edge.specs.declared.gather.Ending.TheVariants.{Whole, Open, Bad}
 use Rattle.http_edge.specs.declared.head.Head.{Head}
-use Rattle.http_edge.specs.declared.left.Left.{Left}
 use Rattle.http_edge.specs.declared.request.HttpItem.{HttpItem}
 use Rattle.http_edge.specs.declared.request.HttpItem.TheVariants.{Request}
 use Rattle.http_edge.specs.declared.request.HttpRequest.{HttpRequest}
-use Rattle.http_edge.specs.declared.scan.Scanned.{Scanned}
 use Rattle.http_edge.specs.declared.stage.Stage.{Stage}
 use Rattle.http_edge.specs.Lengths.{size_of}
 use Rattle.http_edge.specs.Bodies.{Reaches}
 use Rattle.http_edge.specs.HttpStream.{BeginsWith, IsRequest, IsFault, IsFaulty, AreRequests, items_of, told_of}
-use Rattle.http_edge.specs.Reading.{Reader, ReadsTo, Reads, Holds, Feeds}
-use Rattle.http_edge.specs.Keeping.{FeedsAll, answer, moved, settled}
+use Rattle.http_edge.specs.Reading.{Reading, ReadsTo, Reads, Holds, Feeds}
+use Rattle.http_edge.specs.Keeping.{FeedsAll, answer, moved}
 use Rattle.http_edge.specs.Gathering.{GathersTo}
-use Rattle.http_edge.specs.Scanning.{IsCleared, Scans, ScansTo, place_of}
+use Rattle.http_edge.specs.Scanning.{ScansTo, place_of}
 use Rattle.http_edge.proofs.FaultLaws.{begins_more}
-use Rattle.http_edge.proofs.NextLaws.{with_body, is_request, told_first, is_open}
+use Rattle.http_edge.specs.Waits.{with_body}
+use Rattle.http_edge.proofs.NextLaws.{is_request, told_first, is_open}
 use Rattle.http_edge.proofs.StreamLaws.{requests_then}
 use Rattle.http_edge.proofs.FeedLaws.{told_head, reads_none, requests_more_text}
 
@@ -32,7 +31,7 @@ use Rattle.http_edge.proofs.FeedLaws.{told_head, reads_none, requests_more_text}
 text_more : (front unread piece all : List ℕ) (used : ℕ) → all ≡ unread ++ piece → (front ++ unread) ++ piece ≡ (front ++ take used all) ++ drop used all
 text_more front unread piece all used e = append_assoc front unread piece ∙ ap (λ (v : List ℕ). front ++ v) (sym e ∙ sym (take-append-drop used all)) ∙ sym (append_assoc front (take used all) (drop used all))
 
-pub open_feeds : (old : Reader) (all : List ℕ) (head : Head) (got : List ℕ) (used : ℕ) (now : Stage) (new : Reader) → old.fault ≡ None → old.begun ≡ Some head → GathersTo old.stage (length old.body) all got used (Open now) → new ≡ record { waiting = old.waiting; at = old.at; begun = old.begun; stage = now; body = old.body ++ got; read = old.read + used; unread = drop used all; fault = old.fault } → FeedsAll old all (Ok tt) new
+pub open_feeds : (old : Reading) (all : List ℕ) (head : Head) (got : List ℕ) (used : ℕ) (now : Stage) (new : Reading) → old.fault ≡ None → old.begun ≡ Some head → GathersTo old.stage (length old.body) all got used (Open now) → new ≡ record { waiting = old.waiting; at = old.at; begun = old.begun; stage = now; body = old.body ++ got; read = old.read + used; unread = drop used all; fault = old.fault } → FeedsAll old all (Ok tt) new
 open_feeds old all head got used now new e b (brings, awaits, short) n piece f = subst (Feeds old piece (Ok tt)) (sym n) (
   e,
   λ fed taken r.
@@ -59,34 +58,27 @@ open_feeds old all head got used now new e b (brings, awaits, short) n piece f =
       ),
 )
 
-pub bad_feeds : (old : Reader) (all : List ℕ) (head : Head) (got : List ℕ) (used : ℕ) (why : HttpWhy) (place : ℕ) (l : Left) (new : Reader) (result : Result (Unit {0}) (FeedFault HttpFault)) → old.fault ≡ None → old.begun ≡ Some head → GathersTo old.stage (length old.body) all got used (Bad why) → place ≡ place_of why (old.read + used) → IsCleared l 0 (record { at = place; why = why }) → new ≡ settled old old.at l → result ≡ answer (moved old.at l.fault) → FeedsAll old all result new
-bad_feeds old all head got used why place l new result e b g p z n a piece f =
-    let fault : HttpFault = record { at = old.at + place; why = why } in
-    let now : Reader = record { waiting = old.waiting; at = old.at + l.from; begun = l.begun; stage = l.stage; body = l.body.items; read = l.read; unread = l.unread.items; fault = Some fault } in
-    let new_is : new ≡ now = n ∙ ap (λ (q : Option HttpFault). record { waiting = old.waiting; at = old.at + l.from; begun = l.begun; stage = l.stage; body = l.body.items; read = l.read; unread = l.unread.items; fault = moved old.at q }) z.fault_is in
-    let result_is : result ≡ Err (Fault fault) = a ∙ ap (λ (q : Option HttpFault). answer (moved old.at q)) z.fault_is in
-    let at_is : old.at + l.from ≡ old.at = let i = z.from_is in omega (arith, i) in
-    let none : l.read + length l.unread.items ≡ 0 = let i = z.read_is in let m : length l.unread.items ≡ 0 = ap length z.unread_is in omega (arith, i, m) in
-    subst (λ (q : Result (Unit {0}) (FeedFault HttpFault)). Feeds old piece q new) (sym result_is) (subst (Feeds old piece (Err (Fault fault))) (sym new_is) (
-      refl,
-      λ fed taken r.
-          let x = reads_none fed (taken ++ old.waiting) old e r in
-          let h = subst (λ (k : Option Head). Holds k old.stage old.body old.read old.unread x.0) b x.2 in
-          let told = told_head x.0 x.1.told h.0 (h.1 ++ old.unread) x.1.going h.2 in
-          let begins : BeginsWith (x.0 ++ piece) h.0 (h.1 ++ all) = subst (BeginsWith (x.0 ++ piece) h.0) (append_assoc h.1 old.unread piece ∙ ap (λ (v : List ℕ). h.1 ++ v) (sym f)) (begins_more x.0 h.0 (h.1 ++ old.unread) piece h.2) in (
-            subst (λ (m : ℕ). IsFaulty (fed ++ piece) (taken ++ old.waiting) m (old.at + place) why) (sym at_is) (record {
-              before = x.1.before;
-              told = x.1.told;
-              rest = x.0 ++ piece;
-              behind = place;
-              requests = requests_more_text fed piece x.0 x.1.before old.at x.1.requests;
-              items_are = x.1.items_are;
-              place_is = refl;
-              fault = subst (λ (m : ℕ). IsFault (x.0 ++ piece) why m x.1.told) (sym p) (faulty why g h.0 h.1 begins h.4 h.6 told);
-            }),
-            none,
-          ),
-    ))
+pub bad_feeds : (old : Reading) (all : List ℕ) (head : Head) (got : List ℕ) (used : ℕ) (why : HttpWhy) (place : ℕ) (begun : Option Head) (stage : Stage) (body : List ℕ) (read : ℕ) (unread : List ℕ) → old.fault ≡ None → old.begun ≡ Some head → GathersTo old.stage (length old.body) all got used (Bad why) → place ≡ place_of why (old.read + used) → read + length unread ≡ 0 → FeedsAll old all (Err (Fault (record { at = old.at + place; why = why }))) (record { waiting = old.waiting; at = old.at; begun = begun; stage = stage; body = body; read = read; unread = unread; fault = Some (record { at = old.at + place; why = why }) })
+bad_feeds old all head got used why place begun stage body read unread e b g p none piece f = (
+  refl,
+  λ fed taken r.
+      let x = reads_none fed (taken ++ old.waiting) old e r in
+      let h = subst (λ (k : Option Head). Holds k old.stage old.body old.read old.unread x.0) b x.2 in
+      let told = told_head x.0 x.1.told h.0 (h.1 ++ old.unread) x.1.going h.2 in
+      let begins : BeginsWith (x.0 ++ piece) h.0 (h.1 ++ all) = subst (BeginsWith (x.0 ++ piece) h.0) (append_assoc h.1 old.unread piece ∙ ap (λ (v : List ℕ). h.1 ++ v) (sym f)) (begins_more x.0 h.0 (h.1 ++ old.unread) piece h.2) in (
+        record {
+          before = x.1.before;
+          told = x.1.told;
+          rest = x.0 ++ piece;
+          behind = place;
+          requests = requests_more_text fed piece x.0 x.1.before old.at x.1.requests;
+          items_are = x.1.items_are;
+          place_is = refl;
+          fault = subst (λ (m : ℕ). IsFault (x.0 ++ piece) why m x.1.told) (sym p) (faulty why g h.0 h.1 begins h.4 h.6 told);
+        },
+        none,
+      ),
+)
   where
     faulty : (why : HttpWhy) → GathersTo old.stage (length old.body) all got used (Bad why) → (tree : RequestHead) (front : List ℕ) → {rest : List ℕ} → BeginsWith rest tree (front ++ all) → Reaches (size_of tree) old.stage old.body front → old.read ≡ length (print_request tree) + length front → {told : List HttpItem} → told ≡ told_of tree → IsFault rest why (place_of why (old.read + used)) told
     faulty BadHead g tree front begins r read told = absurd g
@@ -119,7 +111,7 @@ some_head (Some head) s = (head, refl)
 pub gathered : (stage : Stage) (n : ℕ) (body all got : List ℕ) (used : ℕ) (e f : Ending) → n ≡ length body → e ≡ f → GathersTo stage n all got used e → GathersTo stage (length body) all got used f
 gathered stage n body all got used e f k i g = subst (GathersTo stage (length body) all got used) i (subst (λ (m : ℕ). GathersTo stage m all got used e) k g)
 
-pub feeds_behind : (old : Reader) (all : List ℕ) (head : Head) (got : List ℕ) (used base : ℕ) (items : List HttpItem) (from : ℕ) (begun : Option Head) (stage : Stage) (body : List ℕ) (read : ℕ) (unread : List ℕ) (fault : Option HttpFault) → old.fault ≡ None → old.begun ≡ Some head → GathersTo old.stage (length old.body) all got used Whole → base ≡ old.at + (old.read + used) → ScansTo (drop used all) items from begun stage body read unread fault → FeedsAll old all (answer (moved base fault)) (record { waiting = (old.waiting ++ Request (with_body head (old.body ++ got)) ∷ []) ++ items; at = base + from; begun = begun; stage = stage; body = body; read = read; unread = unread; fault = moved base fault })
+pub feeds_behind : (old : Reading) (all : List ℕ) (head : Head) (got : List ℕ) (used base : ℕ) (items : List HttpItem) (from : ℕ) (begun : Option Head) (stage : Stage) (body : List ℕ) (read : ℕ) (unread : List ℕ) (fault : Option HttpFault) → old.fault ≡ None → old.begun ≡ Some head → GathersTo old.stage (length old.body) all got used Whole → base ≡ old.at + (old.read + used) → ScansTo (drop used all) items from begun stage body read unread fault → FeedsAll old all (answer (moved base fault)) (record { waiting = (old.waiting ++ Request (with_body head (old.body ++ got)) ∷ []) ++ items; at = base + from; begun = begun; stage = stage; body = body; read = read; unread = unread; fault = moved base fault })
 feeds_behind old all head got used base items from begun stage body read unread fault e b (few, is) place s piece f = go fault s
   where
     known : (fed : List ℕ) (taken : List HttpItem) → Reads fed taken old → (before told : List HttpItem) → AreRequests (drop used all) before from (drop from (drop used all)) → items ≡ before ++ told → (first : List HttpItem) × AreRequests (fed ++ piece) (first ++ before) (base + from) (drop from (drop used all)) × (taken ++ ((old.waiting ++ Request (with_body head (old.body ++ got)) ∷ []) ++ items) ≡ (first ++ before) ++ told)
@@ -169,10 +161,3 @@ feeds_behind old all head got used base items from begun stage body read unread 
             (let n : length unread ≡ 0 = ap length l.4 in let m = l.3 in omega (arith, n, m)),
           ),
     )
-
-pub behind_feeds : (old : Reader) (all : List ℕ) (head : Head) (got : List ℕ) (used base : ℕ) (s : Scanned) (waiting : List HttpItem) (new : Reader) (result : Result (Unit {0}) (FeedFault HttpFault)) → old.fault ≡ None → old.begun ≡ Some head → GathersTo old.stage (length old.body) all got used Whole → base ≡ old.at + (old.read + used) → Scans (drop used all) s → waiting ≡ (old.waiting ++ Request (with_body head (old.body ++ got)) ∷ []) ++ s.items.items → new ≡ settled (record old { waiting = waiting }) base s.left → result ≡ answer (moved base s.left.fault) → FeedsAll old all result new
-behind_feeds old all head got used base s waiting new result e b g p x w n a =
-    let l = s.left in
-    let now : List HttpItem → Reader = λ v. settled (record old { waiting = v }) base l in
-    let done = feeds_behind old all head got used base s.items.items l.from l.begun l.stage l.body.items l.read l.unread.items l.fault e b g p x in
-    subst (FeedsAll old all result) (sym (n ∙ ap now w)) (subst (λ (q : Result (Unit {0}) (FeedFault HttpFault)). FeedsAll old all q (now ((old.waiting ++ Request (with_body head (old.body ++ got)) ∷ []) ++ s.items.items))) (sym a) done)

@@ -23,9 +23,9 @@ window_front m n u w x y e f k =
       omega (arith, lw, lf, k),
     )
 
-some_line : (l : ChunkLine) → 0 < length (print_chunk_line l)
+pub some_chunk_line : (l : ChunkLine) → 0 < length (print_chunk_line l)
 unfolding print_chunk_line
-some_line l =
+some_chunk_line l =
     let n : length (print_chunk_line l) ≡ length (l.digits ++ l.pad ++ print_extension l.extension) + 2 = length-append (l.digits ++ l.pad ++ print_extension l.extension) (print_end crlf) in
     omega (arith, n)
 
@@ -33,7 +33,7 @@ pub line_of : (u w : List ℕ) (used size : ℕ) (l : ChunkLine) → w ≡ take 
 line_of u w used size l e at =
     let f = window_front 1024 used u w (print_chunk_line l) (drop used w) e at.reads.1 at.len_is in
     let n : length (take used u) ≡ used = ap length f.0 ∙ sym at.len_is in
-    (record { line = l; is = at.reads.0; text_is = f.0; short = omega (arith, n, f.2); size_is = at.size_is }, f.1, omega (arith, some_line l, at.len_is))
+    (record { line = l; is = at.reads.0; text_is = f.0; short = omega (arith, n, f.2); size_is = at.size_is }, f.1, omega (arith, some_chunk_line l, at.len_is))
 
 -- no section is no trailer
 pub no_trailer : (t : List ℕ) → HasNoSection t → HasNoTrailer t

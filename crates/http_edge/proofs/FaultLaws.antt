@@ -38,7 +38,7 @@ never_more P m rest piece never more =
 pub begins_more : (b : List ℕ) (h : RequestHead) (text piece : List ℕ) → BeginsWith b h text → BeginsWith (b ++ piece) h (text ++ piece)
 begins_more b h text piece x = record { holds = record { reads = ReadsRequest-append b h text piece x.holds.reads; few = x.holds.few }; short = x.short }
 
-long_more : (size : BodySize) (text piece : List ℕ) → IsTooLong size text → IsTooLong size (text ++ piece)
+pub long_more : (size : BodySize) (text piece : List ℕ) → IsTooLong size text → IsTooLong size (text ++ piece)
 long_more (Sized n) text piece x = x
 long_more Chunked text piece (body, front, line, more, n, r, is, e, long) =
     (body, front, line, more ++ piece, n, r, is, ap (λ (v : List ℕ). v ++ piece) e ∙ append_assoc front (line ++ more) piece ∙ ap (λ (v : List ℕ). front ++ v) (append_assoc line more piece), long)
@@ -58,7 +58,7 @@ breaks_more Trailer u piece (inr (long, none)) =
     let n = length-append u piece in
     inr (omega (arith, long, n), subst HasNoTrailer (sym (take-append-le 16384 u piece long)) none)
 
-bad_more : (text piece : List ℕ) (at : ℕ) → IsBadChunk text at → IsBadChunk (text ++ piece) at
+pub bad_more : (text piece : List ℕ) (at : ℕ) → IsBadChunk text at → IsBadChunk (text ++ piece) at
 bad_more text piece at x = record {
   stage = x.stage;
   body = x.body;

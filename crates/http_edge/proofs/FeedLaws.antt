@@ -8,13 +8,12 @@ use Rattle.event_form.specs.declared.feed_fault.FeedFault.TheVariants.{Fault}
 use Rattle.http_edge.specs.declared.fault.HttpFault.{HttpFault}
 use Rattle.http_edge.specs.declared.head.Head.{Head}
 use Rattle.http_edge.specs.declared.request.HttpItem.{HttpItem}
-use Rattle.http_edge.specs.declared.scan.Scanned.{Scanned}
 use Rattle.http_edge.specs.declared.stage.Stage.{Stage}
 use Rattle.http_edge.specs.Heads.{IsOpenHead}
 use Rattle.http_edge.specs.HttpStream.{BeginsWith, IsOpen, IsStream, IsFaulty, AreRequests, told_of}
-use Rattle.http_edge.specs.Reading.{Reader, ReadsTo, Reads, Holds, Feeds}
-use Rattle.http_edge.specs.Keeping.{FeedsAll, answer, moved, settled}
-use Rattle.http_edge.specs.Scanning.{Scans, ScansTo}
+use Rattle.http_edge.specs.Reading.{Reading, ReadsTo, Reads, Holds, Feeds}
+use Rattle.http_edge.specs.Keeping.{FeedsAll, answer, moved}
+use Rattle.http_edge.specs.Scanning.{ScansTo}
 use Rattle.http_edge.proofs.FaultLaws.{fault_more}
 use Rattle.http_edge.proofs.StreamLaws.{requests_then}
 
@@ -29,7 +28,7 @@ told_head rest told h text (inl (a, o, e)) begins = absurd (o.none h text begins
 told_head rest told h text (inr (k, other, b, o, e)) begins = e ∙ ap told_of (request_unique rest k h other text b.holds.reads begins.holds.reads).0
 
 -- a reader without a fault
-pub reads_none : (fed : List ℕ) (items : List HttpItem) (r : Reader) → r.fault ≡ None → ReadsTo fed items r r.fault → (rest : List ℕ) × IsStream fed items r.at rest × Holds r.begun r.stage r.body r.read r.unread rest
+pub reads_none : (fed : List ℕ) (items : List HttpItem) (r : Reading) → r.fault ≡ None → ReadsTo fed items r r.fault → (rest : List ℕ) × IsStream fed items r.at rest × Holds r.begun r.stage r.body r.read r.unread rest
 reads_none fed items r e x = subst (ReadsTo fed items r) e x
 
 -- a piece behind whole requests
@@ -43,7 +42,7 @@ requests_more_text fed piece rest items at s = record {
   items_are = s.items_are;
 }
 
-pub feeds_faulty : (old : Reader) (piece : List ℕ) (e : HttpFault) → old.fault ≡ Some e → Feeds old piece (Err (Fault e)) old
+pub feeds_faulty : (old : Reading) (piece : List ℕ) (e : HttpFault) → old.fault ≡ Some e → Feeds old piece (Err (Fault e)) old
 feeds_faulty old piece e q = (
   q,
   λ fed taken r.
@@ -68,7 +67,7 @@ feeds_faulty old piece e q = (
 pub items_then : (taken waiting more first before told : List HttpItem) → taken ++ waiting ≡ first → more ≡ before ++ told → taken ++ (waiting ++ more) ≡ (first ++ before) ++ told
 items_then taken waiting more first before told e f = sym (append_assoc taken waiting more) ∙ (λ i. e i ++ f i) ∙ sym (append_assoc first before told)
 
-pub feeds_begin : (old : Reader) (all : List ℕ) (items : List HttpItem) (from : ℕ) (begun : Option Head) (stage : Stage) (body : List ℕ) (read : ℕ) (unread : List ℕ) (fault : Option HttpFault) → old.fault ≡ None → old.begun ≡ None → ScansTo all items from begun stage body read unread fault → FeedsAll old all (answer (moved old.at fault)) (record { waiting = old.waiting ++ items; at = old.at + from; begun = begun; stage = stage; body = body; read = read; unread = unread; fault = moved old.at fault })
+pub feeds_begin : (old : Reading) (all : List ℕ) (items : List HttpItem) (from : ℕ) (begun : Option Head) (stage : Stage) (body : List ℕ) (read : ℕ) (unread : List ℕ) (fault : Option HttpFault) → old.fault ≡ None → old.begun ≡ None → ScansTo all items from begun stage body read unread fault → FeedsAll old all (answer (moved old.at fault)) (record { waiting = old.waiting ++ items; at = old.at + from; begun = begun; stage = stage; body = body; read = read; unread = unread; fault = moved old.at fault })
 feeds_begin old all items from begun stage body read unread fault e b s piece f = go fault s
   where
     first : (fed : List ℕ) (taken : List HttpItem) → Reads fed taken old → (rest : List ℕ) × (before : List HttpItem) × AreRequests fed before old.at rest × (taken ++ old.waiting ≡ before) × (all ≡ rest ++ piece)
@@ -114,14 +113,7 @@ feeds_begin old all items from begun stage body read unread fault e b s piece f 
           ),
     )
 
-pub begin_feeds : (old : Reader) (all : List ℕ) (s : Scanned) (waiting : List HttpItem) (new : Reader) (result : Result (Unit {0}) (FeedFault HttpFault)) → old.fault ≡ None → old.begun ≡ None → Scans all s → waiting ≡ old.waiting ++ s.items.items → new ≡ settled (record old { waiting = waiting }) old.at s.left → result ≡ answer (moved old.at s.left.fault) → FeedsAll old all result new
-begin_feeds old all s waiting new result e b x w n a =
-    let l = s.left in
-    let now : List HttpItem → Reader = λ v. settled (record old { waiting = v }) old.at l in
-    let done = feeds_begin old all s.items.items l.from l.begun l.stage l.body.items l.read l.unread.items l.fault e b x in
-    subst (FeedsAll old all result) (sym (n ∙ ap now w)) (subst (λ (q : Result (Unit {0}) (FeedFault HttpFault)). FeedsAll old all q (now (old.waiting ++ s.items.items))) (sym a) done)
-
 -- what waits is no part of what was read
-pub reads_waiting : (fed : List ℕ) (items more : List HttpItem) (r : Reader) (waiting : List HttpItem) (fault : Option HttpFault) → items ≡ more → ReadsTo fed items r fault → ReadsTo fed more (record r { waiting = waiting }) fault
+pub reads_waiting : (fed : List ℕ) (items more : List HttpItem) (r : Reading) (waiting : List HttpItem) (fault : Option HttpFault) → items ≡ more → ReadsTo fed items r fault → ReadsTo fed more (record r { waiting = waiting }) fault
 reads_waiting fed items more r waiting None e x = (x.0, subst (λ (v : List HttpItem). IsStream fed v r.at x.0) e x.1, x.2)
 reads_waiting fed items more r waiting (Some f) e x = (subst (λ (v : List HttpItem). IsFaulty fed v r.at f.at f.why) e x.0, x.1)

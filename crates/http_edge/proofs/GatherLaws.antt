@@ -1,5 +1,5 @@
 -- How a piece is read behind a body, turn by turn.
-use Rattle.std.proofs.Common.{◌≡◌, ℕ, ◌+◌, ◌-◌, ◌≤◌, List, [], ◌++◌, length, take, drop, sym, ap, ◌∙◌, subst, arith, length-append, length-drop, length-take-le, append_assoc, append-nil, take-append-drop}
+use Rattle.std.proofs.Common.{refl, ◌≡◌, ℕ, ◌+◌, ◌-◌, ◌≤◌, List, [], ◌++◌, length, take, drop, sym, ap, ◌∙◌, subst, arith, length-append, length-drop, length-take-le, append_assoc, append-nil, take-append-drop}
 use Rattle.std.proofs.lemmas.List.{take_all}
 use Rattle.std.proofs.Math.Seq.{take-add}
 use Rattle.http_edge.specs.declared.fault.HttpWhy.{HttpWhy}
@@ -111,3 +111,38 @@ gathers_bad stage held piece got now from BadChunk b t = (
         },
       ),
 )
+
+-- what has been read of a piece, and appended
+pub record GatherAt (stage : Stage) (held : ℕ) (piece old : List ℕ) (now : Stage) (items : List ℕ) (from : ℕ) : Type 0 where
+  pub got : List ℕ
+  pub added : items ≡ old ++ got
+  pub few : length got ≤ from
+  pub brings : Brings stage held piece now got from
+
+pub at_first : (stage : Stage) (held : ℕ) (piece old : List ℕ) → Fits stage held → GatherAt stage held piece old stage old 0
+at_first stage held piece old fits = record { got = []; added = sym (append-nil old); few = omega arith; brings = brings_none stage held piece [] refl fits }
+
+-- how many bytes were appended
+pub count_got : (old items got : List ℕ) (n before : ℕ) → items ≡ old ++ got → n ≡ length items → before ≡ length old → n - before ≡ length got
+count_got old items got n before e f g =
+    let k : length items ≡ length old + length got = ap length e ∙ length-append old got in
+    omega (arith, k, f, g)
+
+pub at_took : (stage : Stage) (held : ℕ) (piece old : List ℕ) (now next : Stage) (items more : List ℕ) (from n : ℕ) → (a : GatherAt stage held piece old now items from) → Turns now (held + length a.got) (drop from piece) (Took next n) → more ≡ items ++ take (from + n - from) (drop from piece) → GatherAt stage held piece old next more (from + n)
+at_took stage held piece old now next items more from n a t e =
+    let d = take (from + n - from) (drop from piece) in
+    let k : from + n - from ≡ n = omega arith in
+    let len : length d ≡ n = ap (λ (m : ℕ). length (take m (drop from piece))) k ∙ length-take-le n (drop from piece) t.1 in
+    let sum = length-append a.got d in
+    let few = a.few in
+    record {
+      got = a.got ++ d;
+      added = e ∙ ap (λ (v : List ℕ). v ++ d) a.added ∙ append_assoc old a.got d;
+      few = omega (arith, len, sum, few);
+      brings = brings_took stage held piece a.got now next from n (a.got ++ d) a.brings t refl;
+    }
+
+pub at_past : (stage : Stage) (held : ℕ) (piece old : List ℕ) (now next : Stage) (items : List ℕ) (from n : ℕ) → (a : GatherAt stage held piece old now items from) → Turns now (held + length a.got) (drop from piece) (Past next n) → GatherAt stage held piece old next items (from + n)
+at_past stage held piece old now next items from n a t =
+    let few = a.few in
+    record { got = a.got; added = a.added; few = omega (arith, few); brings = brings_past stage held piece a.got now next from n a.brings t }

@@ -1,5 +1,5 @@
 -- What a head and what is gathered behind it come to.
-use Rattle.std.proofs.Common.{◌≡◌, ℕ, ◌+◌, ◌-◌, ◌<◌, ◌≤◌, List, [], ◌∷◌, ◌++◌, length, take, drop, refl, sym, ap, ◌∙◌, subst, arith, inr, length-drop, length-take-le, take-append-drop}
+use Rattle.std.proofs.Common.{append-nil, false, ◌≡◌, ℕ, ◌+◌, ◌-◌, ◌<◌, ◌≤◌, List, [], ◌∷◌, ◌++◌, length, take, drop, refl, sym, ap, ◌∙◌, subst, arith, inr, length-drop, length-take-le, take-append-drop}
 use Rattle.std.specs.Prelude.{Some}
 use Rattle.std.proofs.lemmas.List.{drop-drop, take_all}
 use Rattle.std.proofs.Math.Seq.{take-add, take-append_seam}
@@ -8,7 +8,10 @@ use Rattle.http_edge.specs.declared.fault.HttpWhy.{HttpWhy}
 use Rattle.http_edge.specs.declared.fault.HttpWhy.TheVariants.{BadHead, BadLength, TooLong, BadChunk}
 use Rattle.http_edge.specs.declared.gather.Ending.{Ending}
 use Rattle.http_edge.specs.declared.gather.Ending.TheVariants as ending
+use Rattle.http_edge.specs.declared.gather.Gathered.{Gathered}
 use Rattle.http_edge.specs.declared.head.Head.{Head}
+use Rattle.http_edge.specs.declared.next.Next.TheVariants as next
+use Rattle.http_edge.specs.Heads.{IsOpenHead}
 use Rattle.http_edge.specs.declared.look.Opening.{Opening}
 use Rattle.http_edge.specs.declared.request.HttpRequest.{HttpRequest}
 use Rattle.http_edge.specs.declared.request.HttpItem.{HttpItem}
@@ -19,12 +22,9 @@ use Rattle.http_edge.specs.Bodies.{Reaches, IsBody, Awaits}
 use Rattle.http_edge.specs.HttpStream.{BeginsWith, IsRequest, IsFault, IsOpen, items_if, items_of, told_of}
 use Rattle.http_edge.specs.Reading.{head_of}
 use Rattle.http_edge.specs.Steps.{Fits, IsOpening}
-use Rattle.http_edge.specs.Gathering.{GathersTo}
-use Rattle.http_edge.specs.Scanning.{IsLeft, place_of}
-
--- the request of a head and a body
-abbrev pub with_body : Head → List ℕ → HttpRequest
-with_body head body = record { method = head.method; target = head.target; minor = head.minor; fields = head.fields; body = body }
+use Rattle.http_edge.specs.Gathering.{Gathers, GathersTo}
+use Rattle.http_edge.specs.Scanning.{IsLeft, NextsInto, place_of}
+use Rattle.http_edge.specs.Waits.{IsHead, with_body}
 
 -- a head and a body's text are a request
 pub is_request : (b : List ℕ) (h : RequestHead) (head : Head) (text x z body : List ℕ) → BeginsWith b h text → head ≡ head_of h → IsBody (size_of h) body x → z ≡ print_request h ++ x → IsRequest (with_body head body) z
@@ -50,9 +50,6 @@ opening_rest b o used inside = drop-drop used o.len b
 
 pub window : (b : List ℕ) (len : ℕ) → take (length b - len) (drop len b) ≡ drop len b
 window b len = let n = length-drop len b in take_all (length b - len) (drop len b) (omega (arith, n))
-
-pub gathers_at : (stage : Stage) (b data_read : List ℕ) (len used : ℕ) (e f : Ending) → e ≡ f → GathersTo stage 0 (take (length b - len) (drop len b)) data_read used e → GathersTo stage 0 (drop len b) data_read used f
-gathers_at stage b data_read len used e f i g = subst (GathersTo stage 0 (drop len b) data_read used) i (subst (λ (v : List ℕ). GathersTo stage 0 v data_read used e) (window b len) g)
 
 front_of : (b : List ℕ) (h : RequestHead) (text : List ℕ) (len used : ℕ) → BeginsWith b h text → len ≡ length (print_request h) → len ≤ length b → take (len + used) b ≡ print_request h ++ take used (drop len b)
 front_of b h text len used begins e inside =
@@ -114,3 +111,45 @@ next_bad b o data_read used BadChunk i (few, is) =
     let inside = i.inside in
     let told : items_if o.asks ≡ told_of h = ap items_if (i.asks_is ∙ ap (λ (k : Head). asks k.minor k.fields) i.head_is) in
     ((h, drop o.len b, 0 + used, i.begins, bad.0, bad.1, omega (arith, i.len_is), told), omega (arith, room, few, inside))
+
+is_head : (b : List ℕ) (o : Opening) → IsOpening b o → IsHead o.head o.len
+is_head b o i = (i.head, i.head_is, i.len_is, (let n = i.begins.short in let m = i.len_is in omega (arith, n, m)))
+
+-- what is behind a head, where the body's bytes are appended
+pub into_whole : (b old new behind : List ℕ) (o : Opening) (g : Gathered) (body : ℕ) → IsOpening b o → behind ≡ drop o.len b → (x : Gathers o.stage 0 behind old new g) → g.end ≡ ending.Whole → body ≡ length x.got → NextsInto b old new (next.Whole (record { head = o.head; size = o.len; body = body }) o.asks (o.len + g.used))
+into_whole b old new behind o g body i e x w n =
+    let y : GathersTo o.stage 0 (drop o.len b) x.got g.used ending.Whole = subst (λ (v : List ℕ). GathersTo o.stage 0 v x.got g.used ending.Whole) e (subst (GathersTo o.stage 0 behind x.got g.used) w x.gathers) in
+    let z = next_whole b o x.got g.used i y (with_body o.head x.got) refl in
+    let few = x.few in
+    let inside = z.2 in
+    record { got = x.got; added = x.added; few = omega (arith, few, inside); nexts = (z.0, z.1, z.2, z.3, is_head b o i, n, omega (arith, few)) }
+
+pub into_part : (b old new behind : List ℕ) (o : Opening) (g : Gathered) (body : ℕ) (stage : Stage) → IsOpening b o → behind ≡ drop o.len b → (x : Gathers o.stage 0 behind old new g) → g.end ≡ ending.Open stage → body ≡ length x.got → NextsInto b old new (next.Part (record { head = o.head; size = o.len; asks = o.asks; body = body; stage = stage; used = o.len + g.used }))
+into_part b old new behind o g body stage i e x w n =
+    let y : GathersTo o.stage 0 (drop o.len b) x.got g.used (ending.Open stage) = subst (λ (v : List ℕ). GathersTo o.stage 0 v x.got g.used (ending.Open stage)) e (subst (GathersTo o.stage 0 behind x.got g.used) w x.gathers) in
+    let z = next_part b o x.got g.used stage i y in
+    let few = x.few in
+    let inside = z.1 in
+    record { got = x.got; added = x.added; few = omega (arith, few, inside); nexts = (z.0, z.1, is_head b o i, n, omega (arith, few)) }
+
+pub into_bad : (b old new behind : List ℕ) (o : Opening) (g : Gathered) (why : HttpWhy) (at : ℕ) → IsOpening b o → behind ≡ drop o.len b → (x : Gathers o.stage 0 behind old new g) → g.end ≡ ending.Bad why → at ≡ place_of why (o.len + g.used) → NextsInto b old new (next.Bad why o.asks at)
+into_bad b old new behind o g why at i e x w p =
+    let y : GathersTo o.stage 0 (drop o.len b) x.got g.used (ending.Bad why) = subst (λ (v : List ℕ). GathersTo o.stage 0 v x.got g.used (ending.Bad why)) e (subst (GathersTo o.stage 0 behind x.got g.used) w x.gathers) in
+    let z = next_bad b o x.got g.used why i y in
+    let few = x.few in
+    let used = used_inside o.stage (drop o.len b) x.got why g.used y in
+    let n = length-drop o.len b in
+    record { got = x.got; added = x.added; few = omega (arith, few, used, n); nexts = subst (λ (m : ℕ). IsFault b why m (items_if o.asks) × (m ≤ length b)) (sym p) z }
+  where
+    used_inside : (stage : Stage) (v got : List ℕ) (why : HttpWhy) (used : ℕ) → GathersTo stage 0 v got used (ending.Bad why) → used ≤ length v
+    used_inside stage v got BadHead used y = absurd y
+    used_inside stage v got BadLength used y = absurd y
+    used_inside stage v got TooLong used y = y.0
+    used_inside stage v got BadChunk used y = y.0
+
+-- where no head is whole nothing is appended
+pub into_open : (b old : List ℕ) → (length b < 16384) → IsOpenHead b → NextsInto b old old next.Open
+into_open b old short head = record { got = []; added = sym (append-nil old); few = omega arith; nexts = (short, head, refl) }
+
+pub into_fault : (b old : List ℕ) (why : HttpWhy) → IsFault b why 0 [] → NextsInto b old old (next.Bad why false 0)
+into_fault b old why x = record { got = []; added = sym (append-nil old); few = omega arith; nexts = (x, omega arith) }

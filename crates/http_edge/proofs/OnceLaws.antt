@@ -1,5 +1,5 @@
 -- Requests are read in one way only.
-use Rattle.std.proofs.Common.{◌≡◌, ℕ, List, [], ◌∷◌, ◌++◌, length, refl, sym, ap, ◌∙◌, subst, arith, inl, inr, length-append, append_assoc}
+use Rattle.std.proofs.Common.{◌≡◌, ℕ, ◌+◌, ◌≤◌, List, [], ◌∷◌, ◌++◌, length, refl, sym, ap, ◌∙◌, subst, arith, inl, inr, length-append, append_assoc}
 use Rattle.std.specs.Prelude.{◌⊎◌}
 use Rattle.httparse.specs.Ascii.{crlf_bytes}
 use Rattle.httparse.specs.Grammar.{RequestHead, ReadsRequest, print_request, print_chunk_line, chunk_size}
@@ -37,30 +37,49 @@ chunk_once d e k l u v i j f =
     let w : u ≡ v = (cut crlf_bytes crlf_bytes u v refl p.1).1 in
     (p.0, i.text_is ∙ (λ h. q.1 h ++ (p.0 h ++ crlf_bytes)) ∙ sym j.text_is, w)
 
--- the bytes begin with a chunk
-abbrev pub StartsChunk : List ℕ → Type 0
-StartsChunk u = (d : List ℕ) × (chunk : List ℕ) × (w : List ℕ) × IsChunk d chunk × (u ≡ chunk ++ w)
+-- the bytes begin with a chunk, whose data and this body aren't longer than another body
+abbrev pub StartsChunk : List ℕ → List ℕ → List ℕ → Type 0
+StartsChunk body u other = (d : List ℕ) × (chunk : List ℕ) × (w : List ℕ) × IsChunk d chunk × (u ≡ chunk ++ w) × (length body + length d ≤ length other)
 
 -- two lists of chunks in front of the same bytes
-pub walk : (ds es : List (List ℕ)) (body other text back u v : List ℕ) → AreChunks ds body text → AreChunks es other back → text ++ u ≡ back ++ v → ((body ≡ other) × (text ≡ back) × (u ≡ v)) ⊎ (StartsChunk u ⊎ StartsChunk v)
+pub walk : (ds es : List (List ℕ)) (body other text back u v : List ℕ) → AreChunks ds body text → AreChunks es other back → text ++ u ≡ back ++ v → ((body ≡ other) × (text ≡ back) × (u ≡ v)) ⊎ (StartsChunk body u other ⊎ StartsChunk other v body)
 walk [] [] body other text back u v (a, b) (c, d) e =
     let t : text ≡ back = b ∙ sym d in
     inl (a ∙ sym c, t, (cut text back u v (ap length t) e).1)
 walk [] (f ∷ fs) body other text back u v (a, b) (chunk, rb, rt, one, c, d, are) e =
-    inr (inl (f, chunk, rt ++ v, one, ap (λ (w : List ℕ). w ++ u) (sym b) ∙ e ∙ ap (λ (w : List ℕ). w ++ v) d ∙ append_assoc chunk rt v))
+    let n : length other ≡ length f + length rb = ap length c ∙ length-append f rb in
+    let z : length body ≡ 0 = ap length a in
+    inr (inl (f, chunk, rt ++ v, one, ap (λ (w : List ℕ). w ++ u) (sym b) ∙ e ∙ ap (λ (w : List ℕ). w ++ v) d ∙ append_assoc chunk rt v, omega (arith, n, z)))
 walk (f ∷ fs) [] body other text back u v (chunk, rb, rt, one, c, d, are) (a, b) e =
-    inr (inr (f, chunk, rt ++ u, one, ap (λ (w : List ℕ). w ++ v) (sym b) ∙ sym e ∙ ap (λ (w : List ℕ). w ++ u) d ∙ append_assoc chunk rt u))
+    let n : length body ≡ length f + length rb = ap length c ∙ length-append f rb in
+    let z : length other ≡ 0 = ap length a in
+    inr (inr (f, chunk, rt ++ u, one, ap (λ (w : List ℕ). w ++ v) (sym b) ∙ sym e ∙ ap (λ (w : List ℕ). w ++ u) d ∙ append_assoc chunk rt u, omega (arith, n, z)))
 walk (f ∷ fs) (g ∷ gs) body other text back u v (k, rb, rt, one, c, d, are) (l, sb, st, two, a, b, others) e =
     let q = chunk_once f g k l (rt ++ u) (st ++ v) one two (sym (ap (λ (w : List ℕ). w ++ u) d ∙ append_assoc k rt u) ∙ e ∙ ap (λ (w : List ℕ). w ++ v) b ∙ append_assoc l st v) in
     go (walk fs gs rb sb rt st u v are others q.2) q.0 q.1
   where
-    go : ((rb ≡ sb) × (rt ≡ st) × (u ≡ v)) ⊎ (StartsChunk u ⊎ StartsChunk v) → f ≡ g → k ≡ l → ((body ≡ other) × (text ≡ back) × (u ≡ v)) ⊎ (StartsChunk u ⊎ StartsChunk v)
+    more : (d : List ℕ) → f ≡ g → length rb + length d ≤ length sb → length (f ++ rb) + length d ≤ length (g ++ sb)
+    more d h few = let n = length-append f rb in let m = length-append g sb in let k : length f ≡ length g = ap length h in omega (arith, n, m, k, few)
+
+    less : (d : List ℕ) → f ≡ g → length sb + length d ≤ length rb → length (g ++ sb) + length d ≤ length (f ++ rb)
+    less d h few = let n = length-append f rb in let m = length-append g sb in let k : length f ≡ length g = ap length h in omega (arith, n, m, k, few)
+
+    go : ((rb ≡ sb) × (rt ≡ st) × (u ≡ v)) ⊎ (StartsChunk rb u sb ⊎ StartsChunk sb v rb) → f ≡ g → k ≡ l → ((body ≡ other) × (text ≡ back) × (u ≡ v)) ⊎ (StartsChunk body u other ⊎ StartsChunk other v body)
     go (inl (x, y, z)) h i = inl (c ∙ (λ j. h j ++ x j) ∙ sym a, d ∙ (λ j. i j ++ y j) ∙ sym b, z)
-    go (inr r) h i = inr r
+    go (inr (inl (p, chunk, w, is, at, few))) h i =
+        let n : length body ≡ length (f ++ rb) = ap length c in
+        let m : length other ≡ length (g ++ sb) = ap length a in
+        let l = more p h few in
+        inr (inl (p, chunk, w, is, at, omega (arith, n, m, l)))
+    go (inr (inr (p, chunk, w, is, at, few))) h i =
+        let n : length body ≡ length (f ++ rb) = ap length c in
+        let m : length other ≡ length (g ++ sb) = ap length a in
+        let l = less p h few in
+        inr (inr (p, chunk, w, is, at, omega (arith, n, m, l)))
 
 -- the last chunk's line is no chunk's
-pub line_no_chunk : (line u w : List ℕ) → IsLine 0 line → w ≡ line ++ u → StartsChunk w → ⊥
-line_no_chunk line u w is e (d, chunk, x, one, f) =
+pub line_no_chunk : (body other line u w : List ℕ) → IsLine 0 line → w ≡ line ++ u → StartsChunk body w other → ⊥
+line_no_chunk body other line u w is e (d, chunk, x, one, f, few) =
     let q = line_once 0 (length d) line one.line u (d ++ (crlf_bytes ++ x)) is one.line_is (sym e ∙ f ∙ chunk_opens d chunk x one) in
     let some = one.some in
     let n = q.0 in
@@ -85,15 +104,15 @@ chunked_once body other text back a b i j e = go i.reaches.2 j.reaches.2
             flat : (f l t a : List ℕ) → ((f ++ l) ++ t) ++ a ≡ f ++ (l ++ (t ++ a))
             flat f l t a = simp append_assoc
 
-        choose : ((body ≡ other) × (p.front ≡ q.front) × (p.line ++ (i.trailer ++ a) ≡ q.line ++ (j.trailer ++ b))) ⊎ (StartsChunk (p.line ++ (i.trailer ++ a)) ⊎ StartsChunk (q.line ++ (j.trailer ++ b))) → (body ≡ other) × (text ≡ back) × (a ≡ b)
+        choose : ((body ≡ other) × (p.front ≡ q.front) × (p.line ++ (i.trailer ++ a) ≡ q.line ++ (j.trailer ++ b))) ⊎ (StartsChunk body (p.line ++ (i.trailer ++ a)) other ⊎ StartsChunk other (q.line ++ (j.trailer ++ b)) body) → (body ≡ other) × (text ≡ back) × (a ≡ b)
         choose (inl (x, y, z)) =
             let l = line_once 0 0 p.line q.line (i.trailer ++ a) (j.trailer ++ b) p.line_is q.line_is z in
             let t = trailer_once i.trailer j.trailer a b i.holds j.holds l.2 in
             (x, i.text_is ∙ (λ h. (p.text_is ∙ (λ k. y k ++ l.1 k) ∙ sym q.text_is) h ++ t.0 h) ∙ sym j.text_is, t.1)
-        choose (inr (inl s)) = absurd (line_no_chunk p.line (i.trailer ++ a) (p.line ++ (i.trailer ++ a)) p.line_is refl s)
-        choose (inr (inr s)) = absurd (line_no_chunk q.line (j.trailer ++ b) (q.line ++ (j.trailer ++ b)) q.line_is refl s)
+        choose (inr (inl s)) = absurd (line_no_chunk body other p.line (i.trailer ++ a) (p.line ++ (i.trailer ++ a)) p.line_is refl s)
+        choose (inr (inr s)) = absurd (line_no_chunk other body q.line (j.trailer ++ b) (q.line ++ (j.trailer ++ b)) q.line_is refl s)
 
-body_once : (size : BodySize) (body other text back a b : List ℕ) → IsBody size body text → IsBody size other back → text ++ a ≡ back ++ b → (body ≡ other) × (text ≡ back) × (a ≡ b)
+pub body_once : (size : BodySize) (body other text back a b : List ℕ) → IsBody size body text → IsBody size other back → text ++ a ≡ back ++ b → (body ≡ other) × (text ≡ back) × (a ≡ b)
 body_once (Sized n) body other text back a b (x, l, m) (y, k, o) e =
     let lengths : length text ≡ length back = ap length x ∙ l ∙ sym k ∙ sym (ap length y) in
     let q = cut text back a b lengths e in

@@ -6,8 +6,6 @@ use Rattle.std.proofs.lemmas.List.{drop-drop, take_all}
 use Rattle.stream_grammar.specs.Framing.{AreSpelled}
 use Rattle.http_edge.specs.declared.fault.HttpWhy.{HttpWhy}
 use Rattle.http_edge.specs.declared.head.Head.{Head}
-use Rattle.http_edge.specs.declared.next.Next.{Next}
-use Rattle.http_edge.specs.declared.next.Next.TheVariants.{Whole}
 use Rattle.http_edge.specs.declared.request.HttpItem.{HttpItem}
 use Rattle.http_edge.specs.declared.request.HttpItem.TheVariants.{Request}
 use Rattle.http_edge.specs.declared.request.HttpRequest.{HttpRequest}
@@ -15,9 +13,7 @@ use Rattle.http_edge.specs.declared.stage.Stage.{Stage}
 use Rattle.http_edge.specs.declared.stage.Stage.TheVariants.{Plain}
 use Rattle.http_edge.specs.Heads.{IsOpenHead}
 use Rattle.http_edge.specs.HttpStream.{IsRequest, items_if, items_of, IsFault, AreRequests}
-use Rattle.http_edge.specs.declared.fault.HttpFault.{HttpFault}
-use Rattle.http_edge.specs.declared.left.Left.{Left}
-use Rattle.http_edge.specs.Scanning.{Nexts, IsLeft, IsCleared, ScansTo}
+use Rattle.http_edge.specs.Scanning.{IsLeft, ScansTo}
 use Rattle.http_edge.specs.Steps.{Fits}
 
 pub spelled_append : (rs ss : List HttpRequest) (a b : List ℕ) → AreSpelled IsRequest rs a → AreSpelled IsRequest ss b → AreSpelled IsRequest (rs ++ ss) (a ++ b)
@@ -46,14 +42,9 @@ requests_then fed piece rest before more at from last s f = record {
 pub one_request : (r : HttpRequest) (x : List ℕ) (y : List ℕ) → IsRequest r x → AreRequests (x ++ y) (items_of r) (length x) y
 one_request r x y is = record { requests = r ∷ []; front = x; spelled = (x, [], is, sym (append-nil x), refl); whole = refl; at_is = refl; items_are = sym (append-nil (items_of r)) }
 
-pub window_at : (b : List ℕ) (from : ℕ) (s t : Next) → s ≡ t → Nexts (take (length b - from) (drop from b)) s → Nexts (drop from b) t
-window_at b from s t e x =
-    let n = length-drop from b in
-    subst (Nexts (drop from b)) e (subst (λ (v : List ℕ). Nexts v s) (take_all (length b - from) (drop from b) (omega (arith, n))) x)
-
 -- one more request of a piece
-pub requests_more : (b : List ℕ) (items : List HttpItem) (from used : ℕ) (r : HttpRequest) (asks : Bool) → AreRequests b items from (drop from b) → Nexts (drop from b) (Whole r asks used) → (now : List HttpItem) → now ≡ (items ++ items_if asks) ++ Request r ∷ [] → AreRequests b now (from + used) (drop (from + used) b)
-requests_more b items from used r asks s (is, some, few, told) now e =
+pub requests_more : (b : List ℕ) (items : List HttpItem) (from used : ℕ) (r : HttpRequest) (asks : Bool) → AreRequests b items from (drop from b) → IsRequest r (take used (drop from b)) → used ≤ length (drop from b) → items_of r ≡ items_if asks ++ Request r ∷ [] → (now : List HttpItem) → now ≡ (items ++ items_if asks) ++ Request r ∷ [] → AreRequests b now (from + used) (drop (from + used) b)
+requests_more b items from used r asks s is few told now e =
     let w = drop from b in
     let one : AreRequests (take used w ++ drop used w) (items_of r) (length (take used w)) (drop used w) = one_request r (take used w) (drop used w) is in
     let one_here : AreRequests (w ++ []) (items_of r) (length (take used w)) (drop used w) = subst (λ (v : List ℕ). AreRequests v (items_of r) (length (take used w)) (drop used w)) (take-append-drop used w ∙ sym (append-nil w)) one in
@@ -95,25 +86,22 @@ scans_left b before told items from begun stage body read unread s e few u l =
       leaves = now;
     }
 
-pub scans_bad : (b : List ℕ) (before told items : List HttpItem) (from at : ℕ) (why : HttpWhy) (l : Left) → AreRequests b before from (drop from b) → items ≡ before ++ told → IsFault (drop from b) why at told → at ≤ length (drop from b) → IsCleared l from (record { at = from + at; why = why }) → ScansTo b items l.from l.begun l.stage l.body.items l.read l.unread.items l.fault
-scans_bad b before told items from at why l s e bad few z =
+pub scans_bad : (b : List ℕ) (before told items : List HttpItem) (from at : ℕ) (why : HttpWhy) (unread : List ℕ) → AreRequests b before from (drop from b) → items ≡ before ++ told → IsFault (drop from b) why at told → at ≤ length (drop from b) → unread ≡ [] → ScansTo b items from None (Plain 0) [] 0 unread (Some (record { at = from + at; why = why }))
+scans_bad b before told items from at why unread s e bad few none =
     let inside = requests_inside b before from (drop from b) s in
     let n = length-drop from b in
-    let m : length l.unread.items ≡ 0 = ap length z.unread_is in
-    let k : length l.body.items ≡ 0 = ap length z.body_is in
-    let fault : HttpFault = record { at = from + at; why = why } in
-    let here : ScansTo b items from l.begun l.stage l.body.items l.read l.unread.items (Some fault) = record {
+    let m : length unread ≡ 0 = ap length none in
+    record {
       before = before;
       told = told;
       requests = s;
       items_are = e;
-      fits = subst (λ (t : Stage). Fits t (length l.body.items)) (sym z.stage_is) (omega (arith, k));
+      fits = omega arith;
       short = omega (arith, m);
-      room = let r = z.read_is in omega (arith, m, r, inside);
+      room = omega (arith, m, inside);
       place = omega (arith, inside, few, n);
-      leaves = (at, bad, refl, z.read_is, z.unread_is);
-    } in
-    subst (λ (q : Option HttpFault). ScansTo b items l.from l.begun l.stage l.body.items l.read l.unread.items q) (sym z.fault_is) (subst (λ (f : ℕ). ScansTo b items f l.begun l.stage l.body.items l.read l.unread.items (Some fault)) (sym z.from_is) here)
+      leaves = (at, bad, refl, refl, none);
+    }
 
 pub left_moved : (b : List ℕ) (from : ℕ) (told : List HttpItem) (begun : Option Head) (stage : Stage) (body : List ℕ) (used : ℕ) → IsLeft (drop from b) told begun stage body used (drop used (drop from b)) → IsLeft (drop from b) told begun stage body used (drop (from + used) b)
 left_moved b from told begun stage body used l = subst (IsLeft (drop from b) told begun stage body used) (drop-drop used from b) l

@@ -32,5 +32,9 @@ GathersTo stage held piece data_read used (Bad TooLong) =
 GathersTo stage held piece data_read used (Bad BadChunk) =
     (used ≤ length piece) × Wherever stage held (λ size body front. (size ≡ Chunked) × IsBadChunk (front ++ piece) (length front + used))
 
-abbrev pub Gathers : Stage → ℕ → List ℕ → Gathered → Type 0
-Gathers stage held piece g = GathersTo stage held piece g.«data».items g.used g.end
+-- so a piece is read, and the bytes of the body are appended
+pub record Gathers (stage : Stage) (held : ℕ) (piece old new : List ℕ) (g : Gathered) : Type 0 where
+  pub got : List ℕ
+  pub added : new ≡ old ++ got
+  pub few : length got ≤ g.used
+  pub gathers : GathersTo stage held piece got g.used g.end

@@ -13,3 +13,11 @@ pub mod Gathering
 pub mod Scanning
 pub mod Keeping
 pub mod Laws
+pub mod Parts
+pub mod Waits
+pub mod Cutting
+pub mod Window
+pub mod Filling
+pub mod Lending
+pub mod Giving
+pub mod Loan

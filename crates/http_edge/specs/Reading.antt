@@ -1,4 +1,4 @@
--- What a reader has read and holds.
+-- What has been read of a stream, and what is held of it.
 use Rattle.std.specs.Prelude.{◌≡◌, ℕ, ◌+◌, ◌++◌, List, [], length, Option, Some, None, Result, Ok, Err, ◌<◌}
 use Rattle.httparse.specs.Grammar.{RequestHead, print_request}
 use Rattle.event_form.specs.declared.feed_fault.FeedFault.{FeedFault}
@@ -13,10 +13,10 @@ use Rattle.http_edge.specs.Lengths.{size_of}
 use Rattle.http_edge.specs.Bodies.{Reaches, Awaits}
 use Rattle.http_edge.specs.HttpStream.{BeginsWith, IsStream, IsFaulty}
 
--- What contracts see of a reader: the items that wait to be taken; the offset of the unfinished
+-- What has been read of a stream: the items that wait to be taken; the offset of the unfinished
 -- request's first byte; its head, once that is whole; of its body the stage and the bytes so far; how many
 -- of its bytes have been read; those that haven't; and the fault. With a fault nothing is held.
-pub record Reader : Type 0 where
+pub record Reading : Type 0 where
   pub waiting : List HttpItem
   pub at : ℕ
   pub begun : Option Head
@@ -26,16 +26,16 @@ pub record Reader : Type 0 where
   pub unread : List ℕ
   pub fault : Option HttpFault
 
--- a reader that was fed nothing
-abbrev pub unfed : Reader
+-- nothing was fed
+abbrev pub unfed : Reading
 unfed = record { waiting = []; at = 0; begun = None; stage = Plain 0; body = []; read = 0; unread = []; fault = None }
 
 -- how many bytes of the unfinished request have come
-abbrev pub come : Reader → ℕ
+abbrev pub come : Reading → ℕ
 come r = r.read + length r.unread
 
 -- how many bytes are held of it: those not read yet, and the body so far
-abbrev pub held : Reader → ℕ
+abbrev pub held : Reading → ℕ
 held r = length r.body + length r.unread
 
 -- the head's parts
@@ -50,20 +50,20 @@ Holds (Some head) stage body read unread rest =
     × Reaches (size_of h) stage body front × Awaits stage unread × (read ≡ length (print_request h) + length front)
 
 -- the bytes are these items, and an unfinished request that is held, or a fault
-abbrev pub ReadsTo : List ℕ → List HttpItem → Reader → Option HttpFault → Type 0
+abbrev pub ReadsTo : List ℕ → List HttpItem → Reading → Option HttpFault → Type 0
 ReadsTo fed items r None = (rest : List ℕ) × IsStream fed items r.at rest × Holds r.begun r.stage r.body r.read r.unread rest
 ReadsTo fed items r (Some e) = IsFaulty fed items r.at e.at e.why × (come r ≡ 0)
 
 -- the bytes fed so far are the items that were taken, those that wait, and what is held or a fault
-abbrev pub Reads : List ℕ → List HttpItem → Reader → Type 0
+abbrev pub Reads : List ℕ → List HttpItem → Reading → Type 0
 Reads fed taken r = ReadsTo fed (taken ++ r.waiting) r r.fault
 
 -- whatever was read before, that and the piece behind it are read now
-abbrev pub ReadsOn : Reader → List ℕ → Reader → Type 0
+abbrev pub ReadsOn : Reading → List ℕ → Reading → Type 0
 ReadsOn old piece new = (fed : List ℕ) (taken : List HttpItem) → Reads fed taken old → Reads (fed ++ piece) taken new
 
 -- what a call that feeds a piece leaves
-abbrev pub Feeds : Reader → List ℕ → Result (Unit {0}) (FeedFault HttpFault) → Reader → Type 0
+abbrev pub Feeds : Reading → List ℕ → Result (Unit {0}) (FeedFault HttpFault) → Reading → Type 0
 Feeds old piece (Ok u) new = (new.fault ≡ None) × ReadsOn old piece new
 Feeds old piece (Err (Fault e)) new = (new.fault ≡ Some e) × ReadsOn old piece new
 Feeds old piece (Err NoMemory) new = new ≡ old

@@ -1,5 +1,5 @@
 -- What has been read of bytes that begin where a request does.
-use Rattle.std.specs.Prelude.{◌≡◌, ℕ, ◌+◌, ◌≤◌, ◌<◌, List, [], ◌∷◌, ◌++◌, length, take, drop, Option, Some, None}
+use Rattle.std.specs.Prelude.{◌≡◌, ℕ, ◌+◌, ◌-◌, ◌≤◌, ◌<◌, List, [], ◌∷◌, ◌++◌, length, take, drop, Option, Some, None}
 use Rattle.http_edge.specs.declared.fault.HttpFault.{HttpFault}
 use Rattle.http_edge.specs.declared.fault.HttpWhy.{HttpWhy}
 use Rattle.http_edge.specs.declared.fault.HttpWhy.TheVariants.{BadHead, BadLength, TooLong, BadChunk}
@@ -10,11 +10,13 @@ use Rattle.http_edge.specs.declared.request.HttpItem.{HttpItem}
 use Rattle.http_edge.specs.declared.request.HttpItem.TheVariants.{Request}
 use Rattle.http_edge.specs.declared.left.Left.{Left}
 use Rattle.http_edge.specs.declared.scan.Scanned.{Scanned}
+use Rattle.http_edge.specs.declared.waiting.Waiting.{Waiting}
 use Rattle.http_edge.specs.declared.stage.Stage.{Stage}
 use Rattle.http_edge.specs.declared.stage.Stage.TheVariants.{Plain}
 use Rattle.http_edge.specs.Heads.{IsOpenHead}
 use Rattle.http_edge.specs.HttpStream.{IsRequest, items_if, items_of, IsOpen, IsFault, AreRequests}
 use Rattle.http_edge.specs.Reading.{Holds}
+use Rattle.http_edge.specs.Waits.{AreHeads, IsHead, bodies_of, heads_of, items_in, with_body}
 use Rattle.http_edge.specs.Steps.{Fits}
 
 -- how far behind a request's first byte a fault of its body stands, which was found at a place
@@ -31,22 +33,28 @@ pub record IsLeft (rest : List ℕ) (told : List HttpItem) (begun : Option Head)
   pub fits : Fits stage (length body)
   pub short : length unread < 16384
 
--- what stands at the front of bytes
-abbrev pub Nexts : List ℕ → Next → Type 0
-Nexts b (Whole request asks used) = IsRequest request (take used b) × (0 < used) × (used ≤ length b) × (items_of request ≡ items_if asks ++ Request request ∷ [])
-Nexts b (Part p) = IsLeft b (items_if p.asks) (Some p.head) p.stage p.body.items p.used (drop p.used b) × (p.used ≤ length b)
-Nexts b Open = (length b < 16384) × IsOpenHead b
-Nexts b (Bad why asks at) = IsFault b why at (items_if asks) × (at ≤ length b)
+-- What stands at the front of bytes, of whose body these are the bytes.
+abbrev pub Nexts : List ℕ → List ℕ → Next → Type 0
+Nexts b got (Whole p asks used) =
+    IsRequest (with_body p.head got) (take used b) × (0 < used) × (used ≤ length b)
+    × (items_of (with_body p.head got) ≡ items_if asks ++ Request (with_body p.head got) ∷ [])
+    × IsHead p.head p.size × (p.body ≡ length got) × (p.size + length got ≤ used)
+Nexts b got (Part p) =
+    IsLeft b (items_if p.asks) (Some p.head) p.stage got p.used (drop p.used b) × (p.used ≤ length b)
+    × IsHead p.head p.size × (p.body ≡ length got) × (p.size + length got ≤ p.used)
+Nexts b got Open = (length b < 16384) × IsOpenHead b × (got ≡ [])
+Nexts b got (Bad why asks at) = IsFault b why at (items_if asks) × (at ≤ length b)
 
--- behind a fault nothing is held
-pub record IsCleared (l : Left) (from : ℕ) (fault : HttpFault) : Type 0 where
-  pub from_is : l.from ≡ from
-  pub begun_is : l.begun ≡ None
-  pub stage_is : l.stage ≡ Plain 0
-  pub body_is : l.body.items ≡ []
-  pub read_is : l.read ≡ 0
-  pub unread_is : l.unread.items ≡ []
-  pub fault_is : l.fault ≡ Some fault
+-- the same, where they are appended
+pub record NextsInto (b old new : List ℕ) (n : Next) : Type 0 where
+  pub got : List ℕ
+  pub added : new ≡ old ++ got
+  pub few : length got ≤ length b
+  pub nexts : Nexts b got n
+
+-- after a fault nothing is held
+abbrev pub cleared : ℕ → HttpFault → Left
+cleared from fault = record { from = from; begun = None; size = 0; stage = Plain 0; body = 0; read = 0; rest = 0; fault = Some fault }
 
 -- what is behind the last whole request: an unfinished one, or one at fault
 abbrev pub Leaves : Option HttpFault → ℕ → List ℕ → List HttpItem → Option Head → Stage → List ℕ → ℕ → List ℕ → Type 0
@@ -70,5 +78,26 @@ pub record ScansTo (b : List ℕ) (items : List HttpItem) (from : ℕ) (begun : 
   pub place : StandsWithin fault (length b)
   pub leaves : Leaves fault from (drop from b) told begun stage body read unread
 
-abbrev pub Scans : List ℕ → Scanned → Type 0
-Scans b s = ScansTo b s.items.items s.left.from s.left.begun s.left.stage s.left.body.items s.left.read s.left.unread.items s.left.fault
+-- a head of so many bytes, if there is one
+abbrev pub IsBegun : Option Head → ℕ → Type 0
+IsBegun None size = size ≡ 0
+IsBegun (Some head) size = IsHead head size
+
+-- what some bytes brought, whose bodies are these bytes and then those of the unfinished request
+pub record Scans (b got body : List ℕ) (queue : List Waiting) (heads : ℕ) (l : Left) : Type 0 where
+  pub scans : ScansTo b (items_in queue got) l.from l.begun l.stage body l.read (drop (length b - l.rest) b) l.fault
+  pub bodies : bodies_of queue ≡ length got
+  pub heads_are : heads ≡ heads_of queue
+  pub are_heads : AreHeads queue
+  pub begun : IsBegun l.begun l.size
+  pub body_is : l.body ≡ length body
+  pub whole : heads + length got ≤ l.from
+  pub part : l.size + length body ≤ l.read
+  pub rest : l.from + l.read + l.rest ≤ length b
+
+-- the same, where they are appended
+pub record ScansInto (b old new : List ℕ) (s : Scanned) : Type 0 where
+  pub got : List ℕ
+  pub body : List ℕ
+  pub added : new ≡ old ++ (got ++ body)
+  pub scans : Scans b got body s.queue.items s.heads s.left

@@ -1,5 +1,7 @@
 //! Parts of what was fed, as bytes of their own.
 ghost use Rattle.std.specs.Prelude.{◌≡◌, ◌≤◌, ◌++◌, All, IfOk, length, map, take};
+ghost use Rattle.std.specs.Prelude.{◌+◌};
+ghost use Rattle.std.specs.Vec.{vec_len, vec_capacity};
 ghost use Rattle.httparse.specs.Spans.{IsHeaderWithin, IsWithin, header_bytes, span_bytes};
 ghost use Rattle.http_edge.specs.Heads.{field_of};
 
@@ -14,6 +16,17 @@ pub fn front(buf: &[u8], most: usize) -> &[u8]
     ensures short { length result.now ≤ most }
 {
     if buf.len() < most { buf } else { &buf[..most] }
+}
+
+/// Appends bytes for which there is room.
+pub fn append(bytes: &mut Vec<u8>, piece: &[u8])
+    requires { vec_len bytes.old + length piece.now ≤ vec_capacity bytes.old }
+    ensures items { bytes.new.items ≡ bytes.old.items ++ piece.now }
+    ensures capacity { vec_capacity bytes.old ≤ vec_capacity bytes.new }
+{
+    let Ok(()) = bytes.extend_from_slice(piece) else {
+        unreachable!()
+    };
 }
 
 /// The bytes of two lists, joined.

@@ -1,12 +1,13 @@
 //! The bytes of a body, gathered from a piece.
-ghost use Rattle.std.specs.Prelude.{IfOk};
+ghost use Rattle.std.specs.Prelude.{◌+◌, ◌≤◌, length};
+ghost use Rattle.std.specs.Vec.{vec_len, vec_capacity};
 ghost use Rattle.http_edge.specs.Gathering.{Gathers};
 ghost use Rattle.http_edge.specs.Steps.{Fits};
 
+use crate::copy::append;
 use crate::fault::HttpWhy;
 use crate::stage::Stage;
 use crate::step::{Turn, step};
-use std::alloc::{AllocError, Global};
 
 /// Where a body stands at the end of a piece.
 #[derive(Clone, Copy)]
@@ -19,33 +20,28 @@ pub enum Ending {
 }
 
 /// What a piece brought of a body.
-#[derive(Drop)]
+#[derive(Clone, Copy)]
 pub struct Gathered {
-    /// The bytes of the body.
-    pub data: Vec<u8>,
     /// How many bytes of the piece were read.
     pub used: usize,
     pub end: Ending,
 }
 
 /// Reads a piece behind a body of so many bytes so far that has come to this stage: to the end of the
-/// request or of the piece, or to the first fault.
-pub fn gather(
-    alloc: Global,
-    stage: Stage,
-    held: usize,
-    piece: &[u8],
-) -> Result<Gathered, AllocError>
-    requires { Fits stage held }
-    ensures { IfOk result (Gathers stage held piece.now) }
+/// request or of the piece, or to the first fault. The body's bytes are appended. It takes no memory.
+pub fn gather(bytes: &mut Vec<u8>, stage: Stage, held: usize, piece: &[u8]) -> Gathered
+    requires fits { Fits stage held }
+    requires room { vec_len bytes.old + length piece.now ≤ vec_capacity bytes.old }
+    ensures gathers { Gathers stage held piece.now bytes.old.items bytes.new.items result }
+    ensures capacity { vec_capacity bytes.old ≤ vec_capacity bytes.new }
 {
-    let mut data = Vec::new(alloc);
+    let before = bytes.len();
     let mut now = stage;
     let mut from = 0;
     'turns: loop {
-        match step(now, held + data.len(), &piece[from..]) {
+        match step(now, held + (bytes.len() - before), &piece[from..]) {
             Turn::Took { stage, used } => {
-                data.extend_from_slice(&piece[from..from + used])?;
+                append(bytes, &piece[from..from + used]);
                 now = stage;
                 from += used;
             }
@@ -54,25 +50,22 @@ pub fn gather(
                 from += used;
             }
             Turn::Done { used } => {
-                return Ok(Gathered {
-                    data,
+                return Gathered {
                     used: from + used,
                     end: Ending::Whole,
-                });
+                };
             }
             Turn::Open => {
-                return Ok(Gathered {
-                    data,
+                return Gathered {
                     used: from,
                     end: Ending::Open(now),
-                });
+                };
             }
             Turn::Bad(why) => {
-                return Ok(Gathered {
-                    data,
+                return Gathered {
                     used: from,
                     end: Ending::Bad(why),
-                });
+                };
             }
         }
     }

@@ -1,12 +1,10 @@
-//! What is held behind the last whole request.
-ghost use Rattle.std.specs.Prelude.{◌≡◌, [], None, Some};
-ghost use Rattle.http_edge.specs.declared.stage.Stage.TheVariants.{Plain};
-ghost use Rattle.http_edge.specs.Scanning.{IsCleared};
+//! What is held of the last request of some bytes.
+ghost use Rattle.std.specs.Prelude.{◌≡◌};
+ghost use Rattle.http_edge.specs.Scanning.{cleared};
 
 use crate::fault::HttpFault;
 use crate::head::Head;
 use crate::stage::Stage;
-use std::alloc::Global;
 
 /// What is held of the request behind some whole ones, or the fault that it has.
 #[derive(Drop)]
@@ -15,28 +13,31 @@ pub struct Left {
     pub from: usize,
     /// Its head, once that is whole.
     pub begun: Option<Head>,
+    /// How many bytes the head has, once it is whole.
+    pub size: usize,
     pub stage: Stage,
-    /// Its body so far.
-    pub body: Vec<u8>,
+    /// How many bytes its body has so far.
+    pub body: usize,
     /// How many of its bytes were read.
     pub read: usize,
-    /// Those that weren't.
-    pub unread: Vec<u8>,
+    /// How many weren't, at the end of all.
+    pub rest: usize,
     pub fault: Option<HttpFault>,
 }
 
 impl Left {
     /// Nothing is held of a request with a fault.
-    pub fn cleared(alloc: Global, from: usize, fault: HttpFault) -> Left
-        ensures { IsCleared result from fault }
+    pub fn cleared(from: usize, fault: HttpFault) -> Left
+        ensures { result ≡ cleared from fault }
     {
         Left {
             from,
             begun: None,
+            size: 0,
             stage: Stage::Plain { left: 0 },
-            body: Vec::new(alloc),
+            body: 0,
             read: 0,
-            unread: Vec::new(alloc),
+            rest: 0,
             fault: Some(fault),
         }
     }

@@ -8,30 +8,41 @@
 
 mod chunk;
 mod copy;
+mod cut;
 mod fault;
 mod field;
 mod gather;
 mod head;
+mod held;
+mod item;
 mod laws;
 mod left;
 mod length;
 mod lines;
 mod look;
 mod next;
-mod reader;
+mod part;
 mod reply;
 mod request;
 mod scan;
 mod stage;
 mod step;
+mod taking;
 mod text;
+mod waiting;
+mod window;
 
 pub use fault::{HttpFault, HttpWhy};
 pub use field::{Field, Fields};
-pub use laws::{one_reading, requests_once};
-pub use reader::HttpReader;
+pub use head::Head;
+pub use item::ItemRef;
+pub use laws::{
+    both_readings, fault_or_stream, faults_stay, fronts_are_open, one_fault, one_reading,
+    open_bodies, places_are_open, requests_once, some_body, some_reading, whole_bodies,
+};
 pub use reply::write_reply;
 pub use request::{HttpItem, HttpRequest};
+pub use window::HttpWindow;
 
 #[cfg(test)]
 mod tests;

@@ -1,24 +1,27 @@
 //! The next request of some bytes.
-ghost use Rattle.std.specs.Prelude.{◌≡◌, IfOk};
-ghost use Rattle.http_edge.specs.Scanning.{Nexts, place_of};
-ghost use Rattle.http_edge.specs.Steps.{IsOpening};
+ghost use Rattle.std.specs.Prelude.{◌≡◌, ◌+◌, ◌≤◌, ℕ, List, IfOk, OnErr, drop, length};
+ghost use Rattle.std.specs.Vec.{vec_len, vec_capacity};
+ghost use Rattle.http_edge.specs.Scanning.{NextsInto, place_of};
+ghost use Rattle.http_edge.specs.Steps.{Fits, IsOpening};
 
 use crate::fault::HttpWhy;
 use crate::gather::{Ending, Gathered, gather};
 use crate::head::Head;
 use crate::look::{Look, Opening, look_at};
-use crate::request::HttpRequest;
 use crate::stage::Stage;
+use crate::waiting::Parked;
 use std::alloc::{AllocError, Global};
 
 /// A request whose head is whole and whose body isn't.
 #[derive(Drop)]
-pub struct Part {
+pub struct Unfinished {
     pub head: Head,
+    /// How many bytes the head has.
+    pub size: usize,
     /// Whether the item Continue is told.
     pub asks: bool,
-    /// The body so far.
-    pub body: Vec<u8>,
+    /// How many bytes the body has so far.
+    pub body: usize,
     pub stage: Stage,
     /// How many bytes of the request were read.
     pub used: usize,
@@ -29,11 +32,11 @@ pub struct Part {
 pub enum Next {
     /// A request of so many bytes, and whether the item Continue is told before it.
     Whole {
-        request: HttpRequest,
+        parked: Parked,
         asks: bool,
         used: usize,
     },
-    Part(Part),
+    Part(Unfinished),
     /// A head that isn't whole.
     Open,
     /// A fault at this place, and whether the item Continue is told before it.
@@ -54,43 +57,58 @@ pub fn place(why: HttpWhy, at: usize) -> usize
     }
 }
 
-// Behind a whole head.
-fn next_body(alloc: Global, buf: &[u8], opening: Opening) -> Result<Next, AllocError>
-    requires { IsOpening buf.now opening }
-    ensures { IfOk result (Nexts buf.now) }
+/// What stands at the front of bytes that begin with a head and go on so. The body's bytes are appended.
+/// It takes no memory.
+pub fn next_body(bytes: &mut Vec<u8>, behind: &[u8], opening: Opening) -> Next
+    requires fits { Fits opening.stage 0 }
+    requires short { opening.len ≤ 16384 }
+    requires room { vec_len bytes.old + length behind.now ≤ vec_capacity bytes.old }
+    ensures next { (b : List ℕ) → IsOpening b opening → behind.now ≡ drop opening.len b → NextsInto b bytes.old.items bytes.new.items result }
+    ensures capacity { vec_capacity bytes.old ≤ vec_capacity bytes.new }
 {
+    let before = bytes.len();
     let Opening {
         head,
         len,
         stage,
         asks,
     } = opening;
-    let Gathered { data, used, end } = gather(alloc, stage, 0, &buf[len..])?;
+    let Gathered { used, end } = gather(bytes, stage, 0, behind);
+    let body = bytes.len() - before;
     let used = len + used;
     match end {
-        Ending::Whole => Ok(Next::Whole {
-            request: head.with_body(data),
+        Ending::Whole => Next::Whole {
+            parked: Parked {
+                head,
+                size: len,
+                body,
+            },
             asks,
             used,
-        }),
-        Ending::Open(stage) => Ok(Next::Part(Part {
+        },
+        Ending::Open(stage) => Next::Part(Unfinished {
             head,
+            size: len,
             asks,
-            body: data,
+            body,
             stage,
             used,
-        })),
-        Ending::Bad(why) => Ok(Next::Bad {
+        }),
+        Ending::Bad(why) => Next::Bad {
             why,
             asks,
             at: place(why, used),
-        }),
+        },
     }
 }
 
-/// The next request of bytes that begin where one does.
-pub fn next_request(alloc: Global, buf: &[u8]) -> Result<Next, AllocError>
-    ensures { IfOk result (Nexts buf.now) }
+/// The next request of bytes that begin where one does. The bytes of its body, or of what came of it, are
+/// appended.
+pub fn next_request(alloc: Global, bytes: &mut Vec<u8>, buf: &[u8]) -> Result<Next, AllocError>
+    requires { vec_len bytes.old + length buf.now ≤ vec_capacity bytes.old }
+    ensures next { IfOk result (NextsInto buf.now bytes.old.items bytes.new.items) }
+    ensures kept { OnErr result (bytes.new.items ≡ bytes.old.items) }
+    ensures capacity { vec_capacity bytes.old ≤ vec_capacity bytes.new }
 {
     match look_at(alloc, buf)? {
         Look::Open => Ok(Next::Open),
@@ -99,6 +117,9 @@ pub fn next_request(alloc: Global, buf: &[u8]) -> Result<Next, AllocError>
             asks: false,
             at: 0,
         }),
-        Look::Whole(opening) => next_body(alloc, buf, opening),
+        Look::Whole(opening) => {
+            let len = opening.len;
+            Ok(next_body(bytes, &buf[len..], opening))
+        }
     }
 }

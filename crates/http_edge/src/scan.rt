@@ -1,13 +1,14 @@
 //! The requests of some bytes.
-ghost use Rattle.std.specs.Prelude.{◌≡◌, ◌≤◌, ◌^◌, ◌++◌, IfOk, OnOk, length};
-ghost use Rattle.http_edge.specs.HttpStream.{items_if};
-ghost use Rattle.http_edge.specs.Scanning.{Scans};
+ghost use Rattle.std.specs.Prelude.{◌≡◌, ◌≤◌, ◌+◌, ℕ, List, ◌++◌, IfOk, OnOk, OnErr, drop, length};
+ghost use Rattle.std.specs.Vec.{vec_len, vec_capacity};
+ghost use Rattle.http_edge.specs.Scanning.{ScansInto};
+ghost use Rattle.http_edge.specs.Waits.{told_if};
 
 use crate::fault::HttpFault;
 use crate::left::Left;
 use crate::next::{Next, next_request};
-use crate::request::HttpItem;
 use crate::stage::Stage;
+use crate::waiting::Waiting;
 use std::alloc::{AllocError, Global};
 use std::collections::VecDeque;
 
@@ -15,74 +16,97 @@ use std::collections::VecDeque;
 #[derive(Drop)]
 pub struct Scanned {
     /// The items of the whole requests, and those told of the next one.
-    pub items: VecDeque<HttpItem>,
+    pub queue: VecDeque<Waiting>,
+    /// How many bytes the heads of the whole requests have.
+    pub heads: usize,
     pub left: Left,
 }
 
 // Adds the item Continue, where it is told.
-fn tell(items: &mut VecDeque<HttpItem>, asks: bool) -> Result<(), AllocError>
-    ensures { OnOk result (items.new.items ≡ items.old.items ++ items_if asks) }
+fn tell(queue: &mut VecDeque<Waiting>, asks: bool) -> Result<(), AllocError>
+    ensures { OnOk result (queue.new.items ≡ queue.old.items ++ told_if asks) }
 {
     if asks {
-        items.push_back(HttpItem::Continue)?;
+        queue.push_back(Waiting::Continue)?;
     }
     Ok(())
 }
 
-/// Reads bytes that begin where a request does, to their end or to the first fault. Places are counted
-/// from the first of these bytes.
-pub fn scan(alloc: Global, buf: &[u8]) -> Result<Scanned, AllocError>
-    ensures { IfOk result (Scans buf.now) }
+// Reads bytes that begin where a request does, to their end or to the first fault.
+fn scan_all(alloc: Global, bytes: &mut Vec<u8>, buf: &[u8]) -> Result<Scanned, AllocError>
+    requires { vec_len bytes.old + length buf.now ≤ vec_capacity bytes.old }
+    ensures scans { IfOk result (ScansInto buf.now bytes.old.items bytes.new.items) }
+    ensures added { (added : List ℕ) × (bytes.new.items ≡ bytes.old.items ++ added) }
+    ensures capacity { vec_capacity bytes.old ≤ vec_capacity bytes.new }
 {
-    let mut items = VecDeque::new(alloc);
+    let mut queue = VecDeque::new(alloc);
+    let mut heads = 0;
     let mut from = 0;
     'requests: loop {
-        match next_request(alloc, &buf[from..])? {
-            Next::Whole {
-                request,
-                asks,
-                used,
-            } => {
-                tell(&mut items, asks)?;
-                items.push_back(HttpItem::Request(request))?;
+        let body = bytes.len();
+        match next_request(alloc, bytes, &buf[from..])? {
+            Next::Whole { parked, asks, used } => {
+                tell(&mut queue, asks)?;
+                heads += parked.size;
+                queue.push_back(Waiting::Request(parked))?;
                 from += used;
             }
             Next::Part(part) => {
-                tell(&mut items, part.asks)?;
-                let unread = Vec::from_slice(alloc, &buf[from + part.used..])?;
+                tell(&mut queue, part.asks)?;
                 let left = Left {
                     from,
                     begun: Some(part.head),
+                    size: part.size,
                     stage: part.stage,
                     body: part.body,
                     read: part.used,
-                    unread,
+                    rest: buf.len() - from - part.used,
                     fault: None,
                 };
-                return Ok(Scanned { items, left });
+                return Ok(Scanned { queue, heads, left });
             }
             Next::Open => {
-                let unread = Vec::from_slice(alloc, &buf[from..])?;
                 let left = Left {
                     from,
                     begun: None,
+                    size: 0,
                     stage: Stage::Plain { left: 0 },
-                    body: Vec::new(alloc),
+                    body: 0,
                     read: 0,
-                    unread,
+                    rest: buf.len() - from,
                     fault: None,
                 };
-                return Ok(Scanned { items, left });
+                return Ok(Scanned { queue, heads, left });
             }
             Next::Bad { why, asks, at } => {
-                tell(&mut items, asks)?;
+                bytes.truncate(body);
+                tell(&mut queue, asks)?;
                 let fault = HttpFault {
                     at: (from + at) as u64,
                     why,
                 };
-                let left = Left::cleared(alloc, from, fault);
-                return Ok(Scanned { items, left });
+                let left = Left::cleared(from, fault);
+                return Ok(Scanned { queue, heads, left });
             }
+        }
+    }
+}
+
+/// Reads bytes that begin where a request does, to their end or to the first fault. Places are counted
+/// from the first of these bytes. The bodies' bytes are appended, those of whole requests first; where no
+/// memory was found, nothing is.
+pub fn scan(alloc: Global, bytes: &mut Vec<u8>, buf: &[u8]) -> Result<Scanned, AllocError>
+    requires { vec_len bytes.old + length buf.now ≤ vec_capacity bytes.old }
+    ensures scans { IfOk result (ScansInto buf.now bytes.old.items bytes.new.items) }
+    ensures kept { OnErr result (bytes.new.items ≡ bytes.old.items) }
+    ensures capacity { vec_capacity bytes.old ≤ vec_capacity bytes.new }
+{
+    let before = bytes.len();
+    match scan_all(alloc, bytes, buf) {
+        Ok(scanned) => Ok(scanned),
+        Err(error) => {
+            bytes.truncate(before);
+            Err(error)
         }
     }
 }

@@ -1,0 +1,66 @@
+-- What a window holds of a cut head.
+use Rattle.std.proofs.Common.{◌≡◌, ◌∙◌, ◌+◌, ◌-◌, ◌++◌, ◌≤◌, ℕ, List, [], length, take, drop, refl, sym, ap, subst, arith, append-nil, append_assoc, take-append-drop, length-append}
+use Rattle.std.specs.Prelude.{None}
+use Rattle.std.proofs.lemmas.List.{take_at}
+use Rattle.http_edge.specs.declared.cut.Cut.{Cut}
+use Rattle.http_edge.specs.declared.cut.Cut.TheVariants.{Open, Bad, Whole}
+use Rattle.http_edge.specs.declared.fault.HttpFault.{HttpFault}
+use Rattle.http_edge.specs.declared.held.Held.{Held}
+use Rattle.http_edge.specs.declared.left.Left.{Left}
+use Rattle.http_edge.specs.Cutting.{GoesOn}
+use Rattle.http_edge.specs.Filling.{FeedsWith, IsHeldOf, Settles}
+use Rattle.http_edge.specs.Heads.{IsOpenHead}
+use Rattle.http_edge.specs.Keeping.{answer, moved}
+use Rattle.http_edge.proofs.CutHeldLaws.{bad_head_feed, open_head_feeds}
+use Rattle.http_edge.proofs.NextLaws.{window}
+use Rattle.http_edge.proofs.OpeningLaws.{open_nil}
+use Rattle.http_edge.proofs.held.Held.read_head.Goals as goal
+
+pub settle-requires-clause-head : goal.settle-requires-clause-head
+settle-requires-clause-head c = λ e. subst (λ (l : Left). IsOpenHead (drop (0 - l.rest) [])) (sym c.cleared.ensures) open_nil
+
+pub returns-in-Open : goal.returns-in-Open
+returns-in-Open c =
+    let h = c.args.self.now in
+    let f = c.requires.fills in
+    let more = c.args.more.now in
+    let new = c.read_cut.new.unread.items in
+    let g = subst (GoesOn h.unread.items more new) c.in-Open.is c.in-Ok.ensures.goes_on in
+    let n : length new ≡ length h.unread.items + length more = ap length g.0 ∙ length-append h.unread.items more in
+    let room = c.requires.room in
+    let place = c.requires.place in
+    record {
+      fills = record {
+        space = f.space;
+        unread_space = c.read_cut.ensures.room;
+        order = f.order;
+        inside = f.inside;
+        bodies = f.bodies;
+        heads_are = f.heads_are;
+        are_heads = f.are_heads;
+        begun_is = f.begun_is;
+        first = f.first;
+        alone = f.alone;
+        bound = omega (arith, n, room);
+        fits = f.fits;
+        short = g.1;
+        room = omega (arith, n, place);
+        head = λ e. g.2;
+        none = f.none;
+        broken = subst (λ v. IsHeldOf v h.read new) (sym c.requires.open.0) tt;
+      };
+      feeds = open_head_feeds h more new c.in-Open.part f c.requires.open.0 c.requires.open.1 g.0 g.1 g.2;
+      room = omega (arith, n);
+    }
+
+pub returns-in-Bad : goal.returns-in-Bad
+returns-in-Bad c =
+    let h = c.args.self.now in
+    let more = c.args.more.now in
+    let new = c.read_cut.new.unread.items in
+    let g = subst (GoesOn h.unread.items more new) c.in-Bad.is c.in-Ok.ensures.goes_on in
+    let fault : HttpFault = record { at = 0; why = c.in-Bad.why } in
+    let mid : Held = record h { unread = c.read_cut.new.unread } in
+    let st = subst (λ (l : Left). Settles mid h.at [] l c.settle.new.self) c.cleared.ensures c.settle.ensures.settles in
+    let told = c.settle.ensures.told ∙ ap (λ (l : Left). answer (moved h.at l.fault)) c.cleared.ensures in
+    bad_head_feed h mid c.settle.new.self more new c.in-Bad.why c.settle.result c.requires.fills c.requires.open.0 c.requires.open.1 refl refl refl refl refl (let s = c.requires.fills.space in s) c.requires.room c.requires.place g.0.0 g.0.2 g.1 st told

@@ -1,0 +1,10 @@
+-- From a head's first byte on.
+use Rattle.std.proofs.Common.{◌∙◌, ◌++◌, [], sym, subst, take, take_all, refl, ap, arith}
+use Rattle.http_edge.specs.Parts.{IsPart}
+use Rattle.http_edge.proofs.part.part_of.Goals as goal
+
+pub returns-then-ran-buf : goal.returns-then-ran-buf
+returns-then-ran-buf c = subst (IsPart c.run-ran.result.part) (ap (λ n. take n c.args.buf.now) c.if-ran-buf.true ∙ take_all _ _ (omega arith)) (c.run-ran.ensures.part [] refl ([], refl))
+
+pub after_target-requires-clause-target : goal.after_target-requires-clause-target
+after_target-requires-clause-target c = subst (λ p. IsPart p (take c.run-ran.result.used c.args.buf.now)) c.in-Target.is (c.run-ran.ensures.part [] refl ([], refl))

@@ -1,0 +1,154 @@
+//! The window over a stream that comes in pieces.
+ghost use Rattle.std.specs.Prelude.{◌≡◌, ℕ, ◌+◌, ◌≤◌, ◌^◌, List, [], length, slice_range, ◌↔◌, IsNone, IfOk, IfSome, Some, None, Err};
+ghost use Rattle.std.specs.Borrow.{sem};
+ghost use Rattle.event_form.specs.declared.feed_fault.FeedFault.TheVariants.{Fault};
+ghost use Rattle.http_edge.specs.declared.fault.HttpFault.{HttpFault};
+ghost use Rattle.http_edge.specs.Reading.{come};
+
+use crate::fault::HttpFault;
+use crate::field::Fields;
+use crate::head::{Head, MOST_HEAD};
+use crate::held::{Given, Held};
+use crate::item::ItemRef;
+use crate::length::MOST_BODY;
+use crate::part::HeadPart;
+use crate::stage::Stage;
+use event_form::{Blob, FeedFault};
+use std::alloc::{AllocError, Global};
+use std::collections::VecDeque;
+use std::marker::Model;
+
+/// How many bytes a window holds.
+const ROOM: usize = MOST_HEAD + MOST_BODY;
+
+/// A window over a stream of requests that comes in pieces, cut anywhere. It holds at most 1,064,960 bytes:
+/// those of whole requests that wait, and of an unfinished one; the first request's parsed head of at most
+/// 16,384 bytes is kept beside it. It lends its items.
+///
+/// Of a request that waits its head's bytes and its body's count, those of its chunks joined; of the
+/// unfinished one its head's, its body's so far and the bytes that aren't read yet.
+#[derive(Drop)]
+pub struct HttpWindow {
+    alloc: Global,
+    held: Held,
+}
+
+impl Model for HttpWindow {
+    ghost use Rattle.http_edge.specs.Window.{Window};
+
+    ghost Value = { Window };
+
+    ghost use Rattle.http_edge.specs.Filling.{Fills, window_of};
+
+    ghost view = { λ w. window_of w.held };
+
+    ghost invariant = { λ w. Fills w.held };
+}
+
+// A body that a window lends.
+fn part(bytes: &Vec<u8>, from: usize, to: usize) -> &[u8]
+    requires order { from ≤ to }
+    requires inside { to ≤ length bytes.now.items }
+    ensures { result.now ≡ slice_range bytes.now.items from to }
+{
+    &bytes[from..to]
+}
+
+impl HttpWindow {
+    ghost use Rattle.http_edge.specs.Window.{CountsHeads, Feeds, Reads, clear, held_of, taken_of};
+    ghost use Rattle.http_edge.specs.Loan.{Leaves};
+
+    /// A window at the stream's first byte. It keeps the allocator for the heads of what it is fed.
+    pub fn new(alloc: Global) -> Result<HttpWindow, AllocError>
+        ensures clear { IfOk result (λ w. w ≡ clear) }
+        ensures reads { IfOk result (λ w. Reads [] [] w) }
+    {
+        let bytes = Vec::with_capacity(alloc, ROOM)?;
+        let unread = Vec::with_capacity(alloc, MOST_HEAD)?;
+        let lent = Head {
+            method: Blob::of(Vec::new(alloc)),
+            target: Blob::of(Vec::new(alloc)),
+            minor: 0,
+            fields: Fields::of(Vec::new(alloc)),
+        };
+        let held = Held {
+            queue: VecDeque::new(alloc),
+            heads: 0,
+            beside: 0,
+            bytes,
+            from: 0,
+            whole: 0,
+            at: 0,
+            begun: None,
+            size: 0,
+            stage: Stage::Plain { left: 0 },
+            read: 0,
+            unread,
+            part: HeadPart::Blank,
+            fault: None,
+            lent,
+        };
+        Ok(HttpWindow { alloc, held })
+    }
+
+    /// Adds as much of the piece as there is room for, and says how much.
+    ///
+    /// `Fault` comes exactly where the bytes so far have a fault, with its offset and rule; where they end
+    /// inside a request's target, a target that is no text may be told only at its end. The items before a
+    /// fault still wait; later calls answer the same and take nothing. After `NoMemory` the window is as
+    /// before, and nothing was taken.
+    pub fn feed(&mut self, piece: &[u8]) -> Result<usize, FeedFault<HttpFault>>
+        requires { self.old.reading.at + come self.old.reading + length piece.now ≤ 2 ^ 40 }
+        ensures feeds { Feeds self.old piece.now result self.new }
+        ensures stays { (e : HttpFault) → self.old.reading.fault ≡ Some e → (result ≡ Err (Fault e)) × (self.new ≡ self.old) }
+        ensures bound { held_of self.new ≤ 1064960 }
+        ensures room { self.new.reading.at + come self.new.reading ≤ self.old.reading.at + come self.old.reading + taken_of self.old piece.now }
+    {
+        if let Some(fault) = self.held.fault {
+            return Err(FeedFault::Fault(fault));
+        }
+        let taken = piece.len().min(ROOM - self.held.count());
+        self.held.take(self.alloc, &piece[..taken])?;
+        Ok(taken)
+    }
+
+    /// The next item; `None` exactly where none waits, and then there is room. Its own room is free from the
+    /// next call on. It takes no memory.
+    pub fn next(&mut self) -> Option<ItemRef<'_>>
+        ensures* after { sem 𝓛 (Leaves self.entry result) }
+    {
+        let given = self.held.give()?;
+        let held = &self.held;
+        match given {
+            Given::Continue => Some(ItemRef::Continue),
+            Given::Request { from, to } => Some(ItemRef::Request {
+                head: &held.lent,
+                body: part(&held.bytes, from, to),
+            }),
+        }
+    }
+
+    /// How many bytes are held: those of the requests that wait, and those of the unfinished one. It takes
+    /// no memory.
+    pub fn held(&self) -> usize
+        ensures count { result ≡ held_of self.now }
+        ensures bound { result ≤ 1064960 }
+        ensures heads { CountsHeads self.now }
+    {
+        self.held.count()
+    }
+
+    /// The offset of the unfinished request's first byte; `None` where the bytes taken end at a request's
+    /// end. After a fault it is the offset of the request that has the fault. It takes no memory.
+    pub fn rest_at(&self) -> Option<u64>
+        ensures none { IsNone result ↔ ((come self.now.reading ≡ 0) × (self.now.reading.fault ≡ None)) }
+        ensures some { IfSome result (λ at. at ≡ self.now.reading.at) }
+    {
+        let held = &self.held;
+        if held.read == 0 && held.unread.is_empty() && held.fault.is_none() {
+            None
+        } else {
+            Some(held.at)
+        }
+    }
+}
