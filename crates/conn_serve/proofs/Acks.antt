@@ -1,16 +1,19 @@
 -- The answers in the text of a RELP connection are those to the entries taken.
-use Rattle.std.proofs.Common.{◌≡◌, inl, inr, ℕ, ◌≤◌, ◌∙◌, Bool, true, false, if◌then◌else◌, List, [], ◌∷◌, ◌++◌, length, drop, refl, sym, ap, subst, arith, append_assoc}
+use Rattle.std.proofs.Common.{◌≡◌, inl, inr, ℕ, ◌≤◌, ◌∙◌, Bool, true, false, if◌then◌else◌, List, [], ◌∷◌, ◌++◌, Option, length, drop, refl, sym, ap, subst, arith, append_assoc}
 use Rattle.std.specs.Prelude.{codes, Ok, Err}
 use Rattle.std.proofs.lemmas.List.{append-nil, take-append-drop}
 use Rattle.event_form.specs.declared.event.Event.{Event}
 use Rattle.event_form.specs.declared.talk.Talk.{Talk}
-use Rattle.event_form.specs.declared.talk.Talk.TheVariants.{Ended, Closed, Fault, Truncated, Full, TooLarge, Busy, Spent, NoMore, TooMuch, ReadFault, WriteFault, DiskFault, NotSpool, NoMemory}
+use Rattle.event_form.specs.declared.talk.Talk.TheVariants as talk
+use Rattle.event_form.specs.declared.talk.Talk.TheVariants.{Ended, Fault, Truncated, Full, TooLarge, Busy, Spent, NoMore, TooMuch, ReadFault, WriteFault, DiskFault, NotSpool, NoMemory}
 use Rattle.relp_frame.specs.declared.frame.Frame.{Frame}
 use Rattle.relp_frame.specs.Spelling.{IsSpelling}
 use Rattle.relp_frame.proofs.FrameLaws as frames
 use Rattle.relp_frame.proofs.WriteLaws.{canonical_spells, spelling_fits}
 use Rattle.relp_session.specs.declared.act.RelpAct.{RelpAct}
 use Rattle.relp_session.specs.declared.act.RelpAct.TheVariants.{Store, Say, End}
+use Rattle.relp_session.specs.declared.state.State.{State}
+use Rattle.relp_session.specs.declared.state.State.TheVariants.{Unopened, Opened, Closed}
 use Rattle.relp_session.specs.declared.request.Request.{Request}
 use Rattle.relp_session.specs.declared.request.Request.TheVariants as ask
 use Rattle.relp_session.specs.Answer.{act_of, reply, offers, stored, hint}
@@ -21,12 +24,14 @@ use Rattle.spool_log.specs.declared.fault.Receipt.{Receipt}
 use Rattle.spool_log.specs.declared.fault.TakeFault.{TakeFault}
 use Rattle.spool_log.specs.declared.fault.TakeFault.TheVariants as fault
 use Rattle.desk_access.specs.Call.{Call}
-use Rattle.conn_serve.specs.Step.{Step, frames_of, calls_of, text_of}
-use Rattle.conn_serve.specs.Protocol.{Carried, IsNothing, EndsAtFrame, EndsAtMove, Ending, AreMoves}
+use Rattle.desk_access.specs.Step.{Step, frames_of, calls_of, text_of}
+use Rattle.desk_access.specs.Carried.{Carried, EndsAtMove, Ending}
+use Rattle.desk_access.specs.Protocol.{IsNothing, AreMoves}
 use Rattle.conn_serve.specs.Relp.{relp, one_take, entry_of, last_text, Carries, IsDue, IsRefused, IsStarved, EndsAtAct}
 use Rattle.conn_serve.specs.Acked.{is_success, successes, Acknowledges, AreOfFirst}
 use Rattle.conn_serve.proofs.Grouping.{Told, told_none, told_refused, told_taken, told_then, of_first}
-use Rattle.conn_serve.proofs.Splitting.{spelled_parts}
+use Rattle.conn_serve.proofs.Fronts.{spelled_parts}
+use Rattle.desk_access.proofs.Moves.{ending_cases}
 
 pushed : (b : Bool) (t : ℕ) (xs ys : List ℕ) → (if b then t ∷ xs else xs) ++ ys ≡ (if b then t ∷ (xs ++ ys) else (xs ++ ys))
 pushed true t xs ys = refl
@@ -77,18 +82,19 @@ closes txnr calls text low d = record {
 }
 
 -- the answers in the text that is due
-due_answers : (is_open : Bool) (r : Request) (f : Frame) (conn index : ℕ) (calls : List Call) (text : List ℕ) → f.txnr ≤ 999999999 → IsDue conn index (act_of is_open r f) calls text → Answers calls text
-due_answers false ask.Open f conn index calls text low d = said f.txnr offers calls text low (omega arith) refl d
-due_answers false ask.OpenOther f conn index calls text low d = said f.txnr (codes "500 unsupported relp_version") calls text low (omega arith) refl d
-due_answers false ask.Syslog f conn index calls text low d = said f.txnr (codes "500 not open") calls text low (omega arith) refl d
-due_answers false ask.Close f conn index calls text low d = closes f.txnr calls text low d
-due_answers false ask.Other f conn index calls text low d = said f.txnr (codes "500 not open") calls text low (omega arith) refl d
-due_answers true ask.Open f conn index calls text low d = said f.txnr (codes "500 already open") calls text low (omega arith) refl d
-due_answers true ask.OpenOther f conn index calls text low d = said f.txnr (codes "500 already open") calls text low (omega arith) refl d
-due_answers true ask.Syslog f conn index calls text low (inl d) = one_answer (rsp f.txnr (codes "200 OK")) calls text (stored f.txnr) (rsp_spells f.txnr (codes "200 OK") low (omega arith)) d.2 (took conn index f.txnr _ d.0 calls d.1)
-due_answers true ask.Syslog f conn index calls text low (inr d) = one_answer closing calls text hint hint_spells d.3 (refused conn index f.txnr _ d.0 calls d.2)
-due_answers true ask.Close f conn index calls text low d = closes f.txnr calls text low d
-due_answers true ask.Other f conn index calls text low d = said f.txnr (codes "500 unknown command") calls text low (omega arith) refl d
+due_answers : (state : State) (r : Request) (f : Frame) (conn index : ℕ) (calls : List Call) (text : List ℕ) → f.txnr ≤ 999999999 → IsDue conn index (act_of state r f) calls text → Answers calls text
+due_answers Unopened ask.Open f conn index calls text low d = said f.txnr offers calls text low (omega arith) refl d
+due_answers Unopened ask.OpenOther f conn index calls text low d = said f.txnr (codes "500 unsupported relp_version") calls text low (omega arith) refl d
+due_answers Unopened ask.Syslog f conn index calls text low d = said f.txnr (codes "500 not open") calls text low (omega arith) refl d
+due_answers Unopened ask.Close f conn index calls text low d = closes f.txnr calls text low d
+due_answers Unopened ask.Other f conn index calls text low d = said f.txnr (codes "500 not open") calls text low (omega arith) refl d
+due_answers Opened ask.Open f conn index calls text low d = said f.txnr (codes "500 already open") calls text low (omega arith) refl d
+due_answers Opened ask.OpenOther f conn index calls text low d = said f.txnr (codes "500 already open") calls text low (omega arith) refl d
+due_answers Opened ask.Syslog f conn index calls text low (inl d) = one_answer (rsp f.txnr (codes "200 OK")) calls text (stored f.txnr) (rsp_spells f.txnr (codes "200 OK") low (omega arith)) d.2 (took conn index f.txnr _ d.0 calls d.1)
+due_answers Opened ask.Syslog f conn index calls text low (inr d) = one_answer closing calls text hint hint_spells d.3 (refused conn index f.txnr _ d.0 calls d.2)
+due_answers Opened ask.Close f conn index calls text low d = closes f.txnr calls text low d
+due_answers Opened ask.Other f conn index calls text low d = said f.txnr (codes "500 unknown command") calls text low (omega arith) refl d
+due_answers Closed r f conn index calls text low d = record { frames = []; spelled = d.1; own = told_none calls d.0 }
 
 -- what is done for an act writes the text that is due
 carries_due : (conn index : ℕ) (act : RelpAct) (calls : List Call) (text : List ℕ) → Carries conn index act calls text → IsDue conn index act calls text
@@ -109,7 +115,7 @@ step_answers conn before (x ∷ steps) front m s =
     let first = due_answers _ row.1.0 f conn _ x.calls x.text low due in
     let rest = step_answers conn (before ++ x ∷ []) steps here.1 m.1 here.4 in record {
       frames = first.frames ++ rest.frames;
-      spelled = spelled_append frames.relp first.frames rest.frames x.text (text_of steps) first.spelled rest.spelled;
+      spelled = spelled_append frames.relp_machine first.frames rest.frames x.text (text_of steps) first.spelled rest.spelled;
       own = subst (λ (l : List ℕ). Told l (x.calls ++ calls_of steps)) (sym (successes_then first.frames rest.frames)) (told_then (successes first.frames) (successes rest.frames) x.calls (calls_of steps) first.own rest.own);
     }
 
@@ -145,68 +151,51 @@ starved_said conn index (Store event txnr) late part s e = nothing_said late par
 starved_said conn index (Say answer) late part s e = absurd s
 starved_said conn index (End answer) late part s e = absurd s
 
-act_answers : (is_open : Bool) (r : Request) (f : Frame) (conn index : ℕ) (late : List Call) (part : List ℕ) (talk : Talk) → f.txnr ≤ 999999999 → EndsAtAct conn index (act_of is_open r f) late part talk → LastAnswers late part
-act_answers is_open r f conn index late part Closed low e =
+act_answers : (state : State) (r : Request) (f : Frame) (conn index : ℕ) (late : List Call) (part : List ℕ) (talk : Talk) → f.txnr ≤ 999999999 → EndsAtAct conn index (act_of state r f) late part talk → LastAnswers late part
+act_answers state r f conn index late part talk.Closed low e =
     let due = subst (λ (a : RelpAct). IsDue conn index a late part) (sym e.0) (e.1, refl) in
-    all_said late part (due_answers is_open r f conn index late part low due)
-act_answers is_open r f conn index late part WriteFault low e =
+    all_said late part (due_answers state r f conn index late part low due)
+act_answers state r f conn index late part WriteFault low e =
     let is : e.0 ≡ part ++ drop e.1 e.0 = sym (take-append-drop e.1 e.0) ∙ ap (λ (l : List ℕ). l ++ drop e.1 e.0) (sym e.4) in
-    record { behind = drop e.1 e.0; answers = subst (Answers late) is (due_answers is_open r f conn index late e.0 low e.2) }
-act_answers is_open r f conn index late part NoMemory low e = starved_said conn index (act_of is_open r f) late part e.0 e.1
-act_answers is_open r f conn index late part Ended low e = refusal_said conn index (act_of is_open r f) late part Ended e
-act_answers is_open r f conn index late part (Fault at why) low e = refusal_said conn index (act_of is_open r f) late part (Fault at why) e
-act_answers is_open r f conn index late part (Truncated at) low e = refusal_said conn index (act_of is_open r f) late part (Truncated at) e
-act_answers is_open r f conn index late part (Full need room) low e = refusal_said conn index (act_of is_open r f) late part (Full need room) e
-act_answers is_open r f conn index late part (TooLarge need most) low e = refusal_said conn index (act_of is_open r f) late part (TooLarge need most) e
-act_answers is_open r f conn index late part (Busy held) low e = refusal_said conn index (act_of is_open r f) late part (Busy held) e
-act_answers is_open r f conn index late part (Spent end) low e = refusal_said conn index (act_of is_open r f) late part (Spent end) e
-act_answers is_open r f conn index late part (NoMore run) low e = refusal_said conn index (act_of is_open r f) late part (NoMore run) e
-act_answers is_open r f conn index late part (TooMuch at) low e = refusal_said conn index (act_of is_open r f) late part (TooMuch at) e
-act_answers is_open r f conn index late part ReadFault low e = refusal_said conn index (act_of is_open r f) late part ReadFault e
-act_answers is_open r f conn index late part DiskFault low e = refusal_said conn index (act_of is_open r f) late part DiskFault e
-act_answers is_open r f conn index late part (NotSpool at) low e = refusal_said conn index (act_of is_open r f) late part (NotSpool at) e
+    record { behind = drop e.1 e.0; answers = subst (Answers late) is (due_answers state r f conn index late e.0 low e.2) }
+act_answers state r f conn index late part NoMemory low e = starved_said conn index (act_of state r f) late part e.0 e.1
+act_answers state r f conn index late part Ended low e = refusal_said conn index (act_of state r f) late part Ended e
+act_answers state r f conn index late part (Fault at why) low e = refusal_said conn index (act_of state r f) late part (Fault at why) e
+act_answers state r f conn index late part (Truncated at) low e = refusal_said conn index (act_of state r f) late part (Truncated at) e
+act_answers state r f conn index late part (Full need room) low e = refusal_said conn index (act_of state r f) late part (Full need room) e
+act_answers state r f conn index late part (TooLarge need most) low e = refusal_said conn index (act_of state r f) late part (TooLarge need most) e
+act_answers state r f conn index late part (Busy held) low e = refusal_said conn index (act_of state r f) late part (Busy held) e
+act_answers state r f conn index late part (Spent end) low e = refusal_said conn index (act_of state r f) late part (Spent end) e
+act_answers state r f conn index late part (NoMore run) low e = refusal_said conn index (act_of state r f) late part (NoMore run) e
+act_answers state r f conn index late part (TooMuch at) low e = refusal_said conn index (act_of state r f) late part (TooMuch at) e
+act_answers state r f conn index late part ReadFault low e = refusal_said conn index (act_of state r f) late part ReadFault e
+act_answers state r f conn index late part DiskFault low e = refusal_said conn index (act_of state r f) late part DiskFault e
+act_answers state r f conn index late part (NotSpool at) low e = refusal_said conn index (act_of state r f) late part (NotSpool at) e
 
-frame_answers : (conn : ℕ) (steps : List (Step Frame)) (held : List Frame) (tail : List ℕ) (late : List Call) (part : List ℕ) (talk : Talk) → EndsAtFrame (relp conn) steps held tail late part talk → LastAnswers late part
-frame_answers conn steps held tail late part talk e =
-    let f = e.0 in
-    let stops = e.5 in
-    let low : f.txnr ≤ 999999999 = (spelling_fits f e.1 e.3).txnr in
-    let at = subst (λ (a : RelpAct). EndsAtAct conn _ a late part talk) stops.1.2 stops.2 in
-    act_answers _ stops.1.0 f conn _ late part talk low at
+module _ (conn : ℕ) (left : Option (List ℕ)) (b : List ℕ) (steps : List (Step Frame)) (held : List Frame) (at : ℕ) (late : List Call) (part : List ℕ) where
+  move_answers : (talk : Talk) → EndsAtMove (relp conn) left b steps held at late part talk → LastAnswers late part
+  move_answers talk (inl e) =
+      let f = e.0 in
+      let stops = e.3 in
+      let last = (spelled_parts IsSpelling (frames_of steps ++ held) (f ∷ []) e.2.front e.2.spelled).3 in
+      let low : f.txnr ≤ 999999999 = (spelling_fits f last.0 last.2).txnr in
+      act_answers _ stops.1.0 f conn _ late part talk low (subst (λ (a : RelpAct). EndsAtAct conn _ a late part talk) stops.1.2 stops.2)
+  move_answers talk (inr e) = absurd e.2
 
-move_answers : (conn : ℕ) (b : List ℕ) (steps : List (Step Frame)) (held : List Frame) (at : ℕ) (tail : List ℕ) (late : List Call) (part : List ℕ) (talk : Talk) → EndsAtMove (relp conn) b steps held at tail late part talk → LastAnswers late part
-move_answers conn b steps held at tail late part talk (inl e) = frame_answers conn steps held tail late part talk e
-move_answers conn b steps held at tail late part talk (inr e) = absurd e.2
-
-end_answers : (conn : ℕ) (b : List ℕ) (steps : List (Step Frame)) (held : List Frame) (at : ℕ) (tail : List ℕ) (late : List Call) (part : List ℕ) (talk : Talk) → Ending (relp conn) b steps held at tail late part talk → LastAnswers late part
-end_answers conn b steps held at tail late part Ended e = nothing late part e.1
-end_answers conn b steps held at tail late part (Truncated place) e = nothing late part e.1
-end_answers conn b steps held at tail late part (Fault place why) e = nothing late part e.1
-end_answers conn b steps held at tail late part ReadFault e = nothing late part e.1
-end_answers conn b steps held at tail late part (TooMuch place) e = nothing late part e.3
-end_answers conn b steps held at tail late part NoMemory (inl e) = nothing late part e
-end_answers conn b steps held at tail late part NoMemory (inr e) = move_answers conn b steps held at tail late part NoMemory e
-end_answers conn b steps held at tail late part Closed e = move_answers conn b steps held at tail late part Closed e
-end_answers conn b steps held at tail late part (Full need room) e = move_answers conn b steps held at tail late part (Full need room) e
-end_answers conn b steps held at tail late part (TooLarge need most) e = move_answers conn b steps held at tail late part (TooLarge need most) e
-end_answers conn b steps held at tail late part (Busy count) e = move_answers conn b steps held at tail late part (Busy count) e
-end_answers conn b steps held at tail late part (Spent end) e = move_answers conn b steps held at tail late part (Spent end) e
-end_answers conn b steps held at tail late part (NoMore run) e = move_answers conn b steps held at tail late part (NoMore run) e
-end_answers conn b steps held at tail late part WriteFault e = move_answers conn b steps held at tail late part WriteFault e
-end_answers conn b steps held at tail late part DiskFault e = move_answers conn b steps held at tail late part DiskFault e
-end_answers conn b steps held at tail late part (NotSpool place) e = move_answers conn b steps held at tail late part (NotSpool place) e
+  end_answers : (talk : Talk) → Ending (relp conn) left b steps held at late part talk → LastAnswers late part
+  end_answers talk e = ending_cases (relp conn) left b steps held at late part (λ _. LastAnswers late part) (λ _ n. nothing late part n) (λ _ n. nothing late part n) move_answers talk e
 
 -- what is acknowledged was taken
-pub relp_acked : (conn : ℕ) (b : List ℕ) (calls : List Call) (text : List ℕ) (talk : Talk) → Carried (relp conn) b calls text talk → (numbers : List ℕ) → Acknowledges Relp text numbers → AreOfFirst calls numbers
-relp_acked conn b calls text talk c numbers (answers, front, rest, spelled, whole, are) =
-    let own_front = spelled_parts IsSpelling (frames_of c.steps) c.held c.front c.spelled in
+pub relp_acked : (conn : ℕ) (left : Option (List ℕ)) (b : List ℕ) (calls : List Call) (text : List ℕ) (talk : Talk) → Carried (relp conn) left b calls text talk → (numbers : List ℕ) → Acknowledges Relp text numbers → AreOfFirst calls numbers
+relp_acked conn left b calls text talk c numbers (answers, front, rest, spelled, whole, are) =
+    let own_front = spelled_parts IsSpelling (frames_of c.steps) c.held c.front.front c.front.spelled in
     let first = step_answers conn [] c.steps own_front.0 c.each own_front.2 in
-    let last = end_answers conn b c.steps c.held (length c.front) c.tail c.late c.part talk c.ending in
+    let last = end_answers conn left b c.steps c.held c.at c.late c.part talk c.ending in
     let behind = last.answers in
-    let all = spelled_append frames.relp first.frames behind.frames (text_of c.steps) (c.part ++ last.behind) first.spelled behind.spelled in
+    let all = spelled_append frames.relp_machine first.frames behind.frames (text_of c.steps) (c.part ++ last.behind) first.spelled behind.spelled in
     let same : text_of c.steps ++ (c.part ++ last.behind) ≡ front ++ (rest ++ last.behind) =
     sym (append_assoc (text_of c.steps) c.part last.behind) ∙ ap (λ (l : List ℕ). l ++ last.behind) (sym c.wrote ∙ whole) ∙ append_assoc front rest last.behind in
-    let cut = spelled_strip frames.relp answers (first.frames ++ behind.frames) front (rest ++ last.behind) spelled (subst (AreSpelled IsSpelling (first.frames ++ behind.frames)) same all) in
+    let cut = spelled_strip frames.relp_machine answers (first.frames ++ behind.frames) front (rest ++ last.behind) spelled (subst (AreSpelled IsSpelling (first.frames ++ behind.frames)) same all) in
     let own : successes first.frames ++ successes behind.frames ≡ numbers ++ successes cut.0 =
     sym (successes_then first.frames behind.frames) ∙ ap successes cut.1 ∙ successes_then answers cut.0 ∙ ap (λ (l : List ℕ). l ++ successes cut.0) (sym are) in
     let told : Told (successes first.frames ++ successes behind.frames) calls =

@@ -1,6 +1,6 @@
 -- What was done for an act.
-use Rattle.std.proofs.Common.{◌≡◌, ◌⊎◌, inl, inr, ℕ, ◌+◌, ◌<◌, List, [], Option, length, take, refl, sym, ◌∙◌, ap, subst, arith}
-use Rattle.std.specs.Prelude.{Result, Ok, Err, IfErr, OnOk, IsErrAnd}
+use Rattle.std.proofs.Common.{◌≡◌, ◌⊎◌, inl, inr, ℕ, ◌+◌, ◌<◌, List, [], ◌∷◌, Option, Some, None, length, take, refl, sym, ◌∙◌, ap, subst, arith}
+use Rattle.std.specs.Prelude.{Result, Ok, Err, IfErr, IfNone, OnOk, IsErrAnd}
 use Rattle.std.specs.Io.KnownBytes.{Appends}
 use Rattle.edge_io.proofs.Known.{appends_none}
 use Rattle.event_form.specs.declared.talk.Talk.{Talk}
@@ -8,7 +8,7 @@ use Rattle.event_form.specs.declared.talk.Talk.TheVariants.{WriteFault, Closed}
 use Rattle.relp_session.specs.declared.act.RelpAct.{RelpAct}
 use Rattle.relp_session.specs.declared.act.RelpAct.TheVariants.{Say, End}
 use Rattle.desk_access.specs.Call.{Call}
-use Rattle.conn_serve.specs.Step.{count}
+use Rattle.desk_access.specs.Step.{count}
 use Rattle.conn_serve.specs.Done.{Done}
 use Rattle.conn_serve.specs.Relp.{Carries, IsDue, EndsAtAct}
 use Rattle.conn_serve.specs.RelpServing.{HaltsAtAct}
@@ -80,3 +80,19 @@ err_is (Err x) e P h p = subst P (sym h) p
 pub err_both : {T E : Type 0} (r : Result T E) (P Q R : E → Type 0) → IfErr r P → IfErr r Q → ((e : E) → P e → Q e → R e) → IfErr r R
 err_both (Ok x) P Q R p q f = tt
 err_both (Err e) P Q R p q f = f e p q
+
+pub none_by : {A : Type 0} (l : List A) → length l ≡ 0 → l ≡ []
+none_by [] h = refl
+none_by (x ∷ l) h = absurd (omega (arith, h))
+
+pub some_by : {A : Type 0} (l : List A) → (l ≡ [] → ⊥) → 0 < length l
+some_by [] h = absurd (h refl)
+some_by (x ∷ l) h = omega arith
+
+pub no_fault : {E : Type 0} (o : Option E) → ((e : E) → o ≡ Some e → ⊥) → o ≡ None
+no_fault None h = refl
+no_fault (Some e) h = absurd (h e refl)
+
+pub if_none : {A : Type 0} (o : Option A) (P : Type 0) → P → IfNone o P
+if_none None P p = p
+if_none (Some x) P p = tt

@@ -19,12 +19,13 @@ use Rattle.lumber_session.proofs.CutLaws.{nowhere_none, nowhere_on, one_cut, now
 use Rattle.desk_access.specs.Batch.{AreNext, MayTake}
 use Rattle.desk_access.specs.Call.{Call}
 use Rattle.conn_serve.specs.Groups.{IsFrameEntry}
-use Rattle.conn_serve.specs.Step.{Step, frames_of, calls_of, text_of, count}
-use Rattle.conn_serve.specs.Protocol.{AreMoves}
+use Rattle.desk_access.specs.Step.{Step, frames_of, calls_of, count}
+use Rattle.desk_access.specs.Protocol.{AreMoves}
 use Rattle.conn_serve.specs.Relp.{entry_of}
 use Rattle.conn_serve.specs.Lumber.{lumberjack, entries_of, StoresGroup, EndsAtGroup}
-use Rattle.conn_serve.specs.LumberServing.{Handled, stages, last_behind}
-use Rattle.conn_serve.proofs.Counting.{frames_then, calls_then, text_then, moves_push}
+use Rattle.conn_serve.specs.LumberServing.{Handles, stages, last_behind}
+use Rattle.desk_access.proofs.Moves.{frames_then}
+use Rattle.conn_serve.proofs.Handling.{handled_none, handled_hold, handled_push}
 
 pub entries_then : (conn index : ℕ) (xs ys : List Staged) → entries_of conn index (xs ++ ys) ≡ entries_of conn index xs ++ entries_of conn (index + length xs) ys
 entries_then conn index [] ys = let same : index ≡ index + 0 = omega arith in ap (λ (n : ℕ). entries_of conn n ys) same
@@ -82,7 +83,7 @@ act_stages (Pairs seq text) ends = refl
 act_stages (Json seq text) ends = refl
 act_stages (Ack seq) ends = refl
 
--- What an act tells behind these steps and the frames held.
+-- What an act tells after these steps and the frames held.
 pub record Told (steps : List (Step LumberFrame)) (held : List LumberFrame) (f : LumberFrame) (act : LumberAct) : Type 0 where
   pub ends : IsTrue (commits act) ↔ Ends (frames_of steps) held f
   pub stages_are : staged (held ++ f ∷ []) ≡ staged held ++ stages act
@@ -106,15 +107,9 @@ some_staged before held (Pairs seq text) e = omega (arith, ap length (staged_pus
 some_staged before held (Json seq text) e = omega (arith, ap length (staged_push held (Json seq text)), length-append (staged held) (staged_by (Json seq text)))
 some_staged before held (Ack seq) e = absurd e
 
-pub handled_none : (conn : ℕ) (core : Core) (entries : List Entry) (last : ℕ) → IsBehind [] core → core.due ≡ false → entries ≡ [] → Handled conn core entries last [] [] []
-handled_none conn core entries last behind ready none = record {
-  steps = [];
-  each = tt;
-  held = [];
-  kept = nowhere_none [];
-  whole = refl;
-  made = refl;
-  wrote = refl;
+pub handles_none : (conn : ℕ) (core : Core) (entries : List Entry) (last : ℕ) → IsBehind [] core → core.due ≡ false → entries ≡ [] → Handles conn core entries last [] [] []
+handles_none conn core entries last behind ready none = record {
+  handled = handled_none (lumberjack conn) (nowhere_none []);
   behind = behind;
   ready = ready;
   entries_are = none;
@@ -124,39 +119,30 @@ handled_none conn core entries last behind ready none = record {
 
 -- What was handled, and the act for the next frame, of which the event was staged.
 module _ (conn : ℕ) (core : Core) (entries entries' : List Entry) (last last' taken : ℕ) (frames : List LumberFrame) (called : List Call) (said : List ℕ) (f : LumberFrame) (act : LumberAct)
-    (h : Handled conn core entries last frames called said) (tells : Tells frames f act) (counted : taken ≡ count called)
+    (h : Handles conn core entries last frames called said) (tells : Tells frames f act) (counted : taken ≡ count called)
     (entries_are : entries' ≡ entries ++ entries_of conn (taken + length entries) (stages act)) (last_is : last' ≡ last_behind last (stages act)) where
-  here : Told h.steps h.held f act
-  here = told conn h.steps h.held frames f act h.each h.kept h.whole tells
+  here : Told h.handled.steps h.handled.held f act
+  here = told conn h.handled.steps h.handled.held frames f act h.handled.each h.handled.kept h.handled.whole tells
 
   abbrev events : List Staged
-  events = staged (h.held ++ f ∷ [])
+  events = staged (h.handled.held ++ f ∷ [])
 
-  pub now_staged : entries' ≡ entries_of conn (count called) (staged (h.held ++ f ∷ []))
+  pub now_staged : entries' ≡ entries_of conn (count called) (staged (h.handled.held ++ f ∷ []))
   now_staged =
-      let size : length entries ≡ length (staged h.held) = ap length h.entries_are ∙ entries_count conn (count called) (staged h.held) in
-      let index : taken + length entries ≡ count called + length (staged h.held) = omega (arith, counted, size) in
+      let size : length entries ≡ length (staged h.handled.held) = ap length h.entries_are ∙ entries_count conn (count called) (staged h.handled.held) in
+      let index : taken + length entries ≡ count called + length (staged h.handled.held) = omega (arith, counted, size) in
       entries_are ∙ ap (λ (l : List Entry). l ++ entries_of conn (taken + length entries) (stages act)) h.entries_are
-      ∙ ap (λ (n : ℕ). entries_of conn (count called) (staged h.held) ++ entries_of conn n (stages act)) index
-      ∙ sym (entries_then conn (count called) (staged h.held) (stages act)) ∙ ap (entries_of conn (count called)) (sym here.stages_are)
+      ∙ ap (λ (n : ℕ). entries_of conn (count called) (staged h.handled.held) ++ entries_of conn n (stages act)) index
+      ∙ sym (entries_then conn (count called) (staged h.handled.held) (stages act)) ∙ ap (entries_of conn (count called)) (sym here.stages_are)
 
   now_last : 0 < length events → last' ≡ last_seq events
   now_last some =
-      last_is ∙ last_on last (staged h.held) (stages act) h.last_is (subst (λ (l : List Staged). 0 < length l) here.stages_are some) ∙ ap last_seq (sym here.stages_are)
-
-  whole_now : frames ++ f ∷ [] ≡ frames_of h.steps ++ (h.held ++ f ∷ [])
-  whole_now = ap (λ (l : List LumberFrame). l ++ f ∷ []) h.whole ∙ append_assoc (frames_of h.steps) h.held (f ∷ [])
+      last_is ∙ last_on last (staged h.handled.held) (stages act) h.last_is (subst (λ (l : List Staged). 0 < length l) here.stages_are some) ∙ ap last_seq (sym here.stages_are)
 
   -- no batch ends with the frame
-  pub handled_on : (core' : Core) → IsBehind (frames ++ f ∷ []) core' → core'.due ≡ false → commits act ≡ false → All IsFrameEntry entries' → Handled conn core' entries' last' (frames ++ f ∷ []) called said
-  handled_on core' behind ready none limits = record {
-    steps = h.steps;
-    each = h.each;
-    held = h.held ++ f ∷ [];
-    kept = nowhere_on (frames_of h.steps) h.held f h.kept (λ e. false≢true (sym none ∙ here.ends.1 e));
-    whole = whole_now;
-    made = h.made;
-    wrote = h.wrote;
+  pub handles_on : (core' : Core) → IsBehind (frames ++ f ∷ []) core' → core'.due ≡ false → commits act ≡ false → All IsFrameEntry entries' → Handles conn core' entries' last' (frames ++ f ∷ []) called said
+  handles_on core' behind ready none limits = record {
+    handled = handled_hold (lumberjack conn) frames called said h.handled f (nowhere_on (frames_of h.handled.steps) h.handled.held f h.handled.kept (λ e. false≢true (sym none ∙ here.ends.1 e)));
     behind = behind;
     ready = ready;
     entries_are = now_staged;
@@ -166,34 +152,27 @@ module _ (conn : ℕ) (core : Core) (entries entries' : List Entry) (last last' 
 
   -- a batch ends with it
   module _ (due : commits act ≡ true) where
-    ended : Ends (frames_of h.steps) h.held f
+    ended : Ends (frames_of h.handled.steps) h.handled.held f
     ended = here.ends.0 due
 
-    batch : IsBatch (frames_of h.steps) (h.held ++ f ∷ [])
-    batch = record { front = h.held; last = f; whole = refl; open_before = h.kept; ends = ended }
+    batch : IsBatch (frames_of h.handled.steps) (h.handled.held ++ f ∷ [])
+    batch = record { front = h.handled.held; last = f; whole = refl; open_before = h.handled.kept; ends = ended }
 
-    index_is : count called ≡ count (calls_of h.steps)
-    index_is = ap count h.made
+    index_is : count called ≡ count (calls_of h.handled.steps)
+    index_is = ap count h.handled.made
 
-    group_is : entries' ≡ entries_of conn (count (calls_of h.steps)) events
+    group_is : entries' ≡ entries_of conn (count (calls_of h.handled.steps)) events
     group_is = now_staged ∙ ap (λ (n : ℕ). entries_of conn n events) index_is
 
     last_staged : last' ≡ last_seq events
-    last_staged = now_last (some_staged (frames_of h.steps) h.held f ended)
+    last_staged = now_last (some_staged (frames_of h.handled.steps) h.handled.held f ended)
 
-    pub handled_batch : (core' : Core) (last'' : ℕ) (calls : List Call) (text : List ℕ) → IsBehind (frames ++ f ∷ []) core' → core'.due ≡ false → StoresGroup entries' last' calls text → Handled conn core' [] last'' (frames ++ f ∷ []) (called ++ calls) (said ++ text)
-    handled_batch core' last'' calls text behind ready stores =
-        let step : Step LumberFrame = record { frames = h.held ++ f ∷ []; calls = calls; text = text } in
-        let there : StoresGroup (entries_of conn (count (calls_of h.steps)) events) (last_seq events) calls text =
-        subst (λ (n : ℕ). StoresGroup (entries_of conn (count (calls_of h.steps)) events) n calls text) last_staged (subst (λ (g : List Entry). StoresGroup g last' calls text) group_is stores) in
-        let frames_are : frames_of (h.steps ++ step ∷ []) ≡ frames_of h.steps ++ (h.held ++ f ∷ []) = frames_then h.steps (step ∷ []) ∙ ap (λ (l : List LumberFrame). frames_of h.steps ++ l) (append-nil (h.held ++ f ∷ [])) in record {
-          steps = h.steps ++ step ∷ [];
-          each = moves_push (lumberjack conn) [] h.steps step h.each (batch, there);
-          held = [];
-          kept = nowhere_none (frames_of (h.steps ++ step ∷ []));
-          whole = whole_now ∙ sym frames_are ∙ sym (append-nil (frames_of (h.steps ++ step ∷ [])));
-          made = ap (λ (l : List Call). l ++ calls) h.made ∙ ap (λ (l : List Call). calls_of h.steps ++ l) (sym (append-nil calls)) ∙ sym (calls_then h.steps (step ∷ []));
-          wrote = ap (λ (l : List ℕ). l ++ text) h.wrote ∙ ap (λ (l : List ℕ). text_of h.steps ++ l) (sym (append-nil text)) ∙ sym (text_then h.steps (step ∷ []));
+    pub handles_batch : (core' : Core) (last'' : ℕ) (calls : List Call) (text : List ℕ) → IsBehind (frames ++ f ∷ []) core' → core'.due ≡ false → StoresGroup entries' last' calls text → Handles conn core' [] last'' (frames ++ f ∷ []) (called ++ calls) (said ++ text)
+    handles_batch core' last'' calls text behind ready stores =
+        let step : Step LumberFrame = record { frames = h.handled.held ++ f ∷ []; calls = calls; text = text } in
+        let there : StoresGroup (entries_of conn (count (calls_of h.handled.steps)) events) (last_seq events) calls text =
+        subst (λ (n : ℕ). StoresGroup (entries_of conn (count (calls_of h.handled.steps)) events) n calls text) last_staged (subst (λ (g : List Entry). StoresGroup g last' calls text) group_is stores) in record {
+          handled = handled_push (lumberjack conn) frames called said h.handled f step refl (batch, there) (nowhere_none (frames_of (h.handled.steps ++ step ∷ [])));
           behind = behind;
           ready = ready;
           entries_are = refl;
@@ -201,15 +180,15 @@ module _ (conn : ℕ) (core : Core) (entries entries' : List Entry) (last last' 
           limits = All-nil IsFrameEntry;
         }
 
-    pub handled_stop : (late : List Call) (part : List ℕ) (talk : Talk) → EndsAtGroup entries' last' late part talk → (lumberjack conn).Stops h.steps h.held f late part talk
-    handled_stop late part talk e =
-        (batch, subst (λ (n : ℕ). EndsAtGroup (entries_of conn (count (calls_of h.steps)) events) n late part talk) last_staged (subst (λ (g : List Entry). EndsAtGroup g last' late part talk) group_is e))
+    pub handles_stop : (late : List Call) (part : List ℕ) (talk : Talk) → EndsAtGroup entries' last' late part talk → (lumberjack conn).Stops h.handled.steps h.handled.held f late part talk
+    handles_stop late part talk e =
+        (batch, subst (λ (n : ℕ). EndsAtGroup (entries_of conn (count (calls_of h.handled.steps)) events) n late part talk) last_staged (subst (λ (g : List Entry). EndsAtGroup g last' late part talk) group_is e))
 
 -- fewer entries are staged than a batch has
-pub handled_few : (conn : ℕ) (core : Core) (entries : List Entry) (last : ℕ) (frames : List LumberFrame) (called : List Call) (said : List ℕ) → Handled conn core entries last frames called said → length entries < 256
-handled_few conn core entries last frames called said h =
-    omega (arith, ap length h.entries_are, entries_count conn (count called) (staged h.held), (nowhere_few (frames_of h.steps) h.held h.kept).frames)
+pub handles_few : (conn : ℕ) (core : Core) (entries : List Entry) (last : ℕ) (frames : List LumberFrame) (called : List Call) (said : List ℕ) → Handles conn core entries last frames called said → length entries < 256
+handles_few conn core entries last frames called said h =
+    omega (arith, ap length h.entries_are, entries_count conn (count called) (staged h.handled.held), (nowhere_few (frames_of h.handled.steps) h.handled.held h.handled.kept).frames)
 
-pub handled_next : (conn : ℕ) (core : Core) (entries : List Entry) (last taken : ℕ) (frames : List LumberFrame) (called : List Call) (said : List ℕ) → Handled conn core entries last frames called said → taken ≡ count called → AreNext conn taken entries
-handled_next conn core entries last taken frames called said h counted =
-    subst (λ (n : ℕ). AreNext conn n entries) (sym counted) (subst (AreNext conn (count called)) (sym h.entries_are) (entries_next conn (count called) (staged h.held)))
+pub handles_next : (conn : ℕ) (core : Core) (entries : List Entry) (last taken : ℕ) (frames : List LumberFrame) (called : List Call) (said : List ℕ) → Handles conn core entries last frames called said → taken ≡ count called → AreNext conn taken entries
+handles_next conn core entries last taken frames called said h counted =
+    subst (λ (n : ℕ). AreNext conn n entries) (sym counted) (subst (AreNext conn (count called)) (sym h.entries_are) (entries_next conn (count called) (staged h.handled.held)))

@@ -1,5 +1,5 @@
 -- Counts of faults over calls one after another.
-use Rattle.std.proofs.Common.{◌≡◌, ℕ, refl, sym, ◌∙◌, ap, subst, arith}
+use Rattle.std.proofs.Common.{◌≡◌, ℕ, refl, ◌∙◌, ap, subst, arith}
 use Rattle.std.specs.Prelude.{Result, Ok, Err, IsErrAnd}
 use Rattle.foundation.specs.Faults.{Rose}
 use Rattle.conn_serve.specs.Endings.{CountsFaults}

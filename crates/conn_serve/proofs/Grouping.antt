@@ -44,7 +44,7 @@ taking entries receipt some = record { some = All-cons HasEntries (record { firs
 pub told_taken : (calls : List Call) (entries : List Entry) (receipt : Receipt) → 0 < length entries → calls ≡ takes entries (Ok receipt) ∷ [] → Told (last_unit entries ∷ []) calls
 told_taken calls entries receipt some is = subst (Told (last_unit entries ∷ [])) (sym is) (taking entries receipt some)
 
--- calls behind others
+-- calls after others
 pub told_then : (ms ns : List ℕ) (xs ys : List Call) → Told ms xs → Told ns ys → Told (ms ++ ns) (xs ++ ys)
 told_then ms ns xs ys a b = record {
   some = subst (All HasEntries) (sym (groups_then xs ys)) (All-append HasEntries (groups_of xs) (groups_of ys) a.some b.some);

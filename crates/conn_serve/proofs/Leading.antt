@@ -1,11 +1,11 @@
 -- What was done goes on, from one moment to the next.
-use Rattle.std.proofs.Common.{◌≡◌, ℕ, List, [], ◌++◌, Option, sym, subst, arith, append_assoc}
+use Rattle.std.proofs.Common.{◌≡◌, ℕ, ◌+◌, ◌≤◌, List, [], ◌++◌, Option, length, sym, subst, arith, append_assoc, length-append}
 use Rattle.std.proofs.lemmas.List.{append-nil}
 use Rattle.edge_io.proofs.Known.{appends_none, appends_then}
 use Rattle.desk_access.specs.Call.{Call}
-use Rattle.conn_serve.specs.Step.{count}
+use Rattle.desk_access.specs.Step.{count}
 use Rattle.conn_serve.specs.Done.{Done, Leads, SoFar}
-use Rattle.conn_serve.proofs.Counting.{count_then}
+use Rattle.desk_access.proofs.Moves.{count_then}
 
 -- where nothing was done, what was so is so
 pub leads_start : (n : ℕ) (From : List ℕ → List Call → List ℕ → Type 0) → Leads n From From [] []
@@ -32,18 +32,35 @@ done_then first second both u v w l m n From Between To join p q = record {
 }
 
 -- what was so of all that was done so far is so of it now
-pub so_far_then : (ran : List Call → Type 0) (w w' : Option (List ℕ)) (n n' : ℕ) (From To : List ℕ → List Call → List ℕ → Type 0) → SoFar From n → Done ran w w' n n' (Leads n From To) → SoFar To n'
-so_far_then ran w w' n n' From To s d = record {
+pub so_far_then : (ran : List Call → Type 0) (w w' : Option (List ℕ)) (n n' : ℕ) (more : ℕ) (From To : List ℕ → List Call → List ℕ → Type 0) → SoFar From n more → Done ran w w' n n' (Leads n From To) → SoFar To n' more
+so_far_then ran w w' n n' more From To s d = record {
   bytes = s.bytes;
   calls = s.calls ++ d.calls;
   text = s.text ++ d.text;
   counted = omega (arith, s.counted, d.counted, count_then s.calls d.calls);
+  short = s.short;
   served = d.is s.bytes s.calls s.text s.counted s.served;
 }
 
-pub so_far_map : (n : ℕ) (From To : List ℕ → List Call → List ℕ → Type 0) → ((fed : List ℕ) (calls : List Call) (text : List ℕ) → From fed calls text → To fed calls text) → SoFar From n → SoFar To n
-so_far_map n From To on s = record { bytes = s.bytes; calls = s.calls; text = s.text; counted = s.counted; served = on s.bytes s.calls s.text s.served }
+-- a part of what may still come has come
+pub so_far_fed : (n more less : ℕ) (piece : List ℕ) (From To : List ℕ → List Call → List ℕ → Type 0) → ((fed : List ℕ) (calls : List Call) (text : List ℕ) → From fed calls text → To (fed ++ piece) calls text) → length piece + less ≤ more → SoFar From n more → SoFar To n less
+so_far_fed n more less piece From To on fits s = record {
+  bytes = s.bytes ++ piece;
+  calls = s.calls;
+  text = s.text;
+  counted = s.counted;
+  short = omega (arith, s.short, fits, length-append s.bytes piece);
+  served = on s.bytes s.calls s.text s.served;
+}
+
+-- nothing came
+pub so_far_less : (n more less : ℕ) (From : List ℕ → List Call → List ℕ → Type 0) → less ≤ more → SoFar From n more → SoFar From n less
+so_far_less n more less From fits s = record { bytes = s.bytes; calls = s.calls; text = s.text; counted = s.counted; short = omega (arith, s.short, fits); served = s.served }
 
 -- what is so of what was done follows from what is
 pub done_map : (ran : List Call → Type 0) (w w' : Option (List ℕ)) (n n' : ℕ) (Is Is' : List Call → List ℕ → Type 0) → Done ran w w' n n' Is → ((calls : List Call) (text : List ℕ) → Is calls text → Is' calls text) → Done ran w w' n n' Is'
 done_map ran w w' n n' Is Is' d on = record { calls = d.calls; text = d.text; made = d.made; wrote = d.wrote; counted = d.counted; is = on d.calls d.text d.is }
+
+-- nothing was done, and what is so now follows
+pub done_ends : (ran : List Call → Type 0) (w : Option (List ℕ)) (n : ℕ) (From To : List ℕ → List Call → List ℕ → Type 0) → ran [] → ((fed : List ℕ) (calls : List Call) (text : List ℕ) → From fed calls text → To fed calls text) → Done ran w w n n (Leads n From To)
+done_ends ran w n From To none on = done_map ran w w n n (Leads n From From) (Leads n From To) (done_start ran w n From none) (λ calls text leads fed called said counted from. on fed (called ++ calls) (said ++ text) (leads fed called said counted from))

@@ -1,13 +1,14 @@
 pub mod Acting
 pub mod Faults
-mod Counting
 mod Leading
-mod Splitting
-mod Moving
+mod Fronts
+mod Handling
 mod Batching
-mod Sessions
+mod Windowed
+mod RelpSessions
 mod LumberActing
 mod LumberSessions
+mod Feeding
 mod Running
 mod Grouping
 mod Acks

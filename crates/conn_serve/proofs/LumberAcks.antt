@@ -1,5 +1,5 @@
 -- The text of a Lumberjack connection is the acknowledgments of the groups taken.
-use Rattle.std.proofs.Common.{◌≡◌, inl, inr, ℕ, ◌+◌, ◌<◌, ◌^◌, ◌∙◌, List, [], ◌∷◌, ◌++◌, map, length, drop, refl, sym, ap, subst, arith, append_assoc}
+use Rattle.std.proofs.Common.{◌≡◌, inl, inr, ℕ, ◌+◌, ◌<◌, ◌^◌, ◌∙◌, List, [], ◌∷◌, ◌++◌, Option, map, length, drop, refl, sym, ap, subst, arith, append_assoc}
 use Rattle.std.specs.Prelude.{Ok, Err}
 use Rattle.std.specs.List.{All}
 use Rattle.std.proofs.lemmas.List.{append-nil, take-append-drop}
@@ -21,14 +21,16 @@ use Rattle.lumber_session.specs.Batches.{IsBatch}
 use Rattle.stream_grammar.specs.Framing.{AreSpelled}
 use Rattle.stream_grammar.proofs.Streams.{spelled_strip}
 use Rattle.desk_access.specs.Call.{Call, takes}
-use Rattle.conn_serve.specs.Step.{Step, frames_of, calls_of, text_of, count}
-use Rattle.conn_serve.specs.Protocol.{Carried, AreMoves, IsNothing, EndsAtMove, Ending}
+use Rattle.desk_access.specs.Step.{Step, frames_of, calls_of, text_of, count}
+use Rattle.desk_access.specs.Carried.{Carried, EndsAtMove, Ending}
+use Rattle.desk_access.specs.Protocol.{AreMoves, IsNothing}
 use Rattle.conn_serve.specs.Relp.{talk_of}
 use Rattle.conn_serve.specs.Lumber.{lumberjack, entries_of, EndsAtBatch, StoresLast}
 use Rattle.conn_serve.specs.Groups.{last_unit}
 use Rattle.conn_serve.specs.Acked.{Acknowledges, AreOfFirst, acks_of, AcksAreOfGroups}
 use Rattle.conn_serve.proofs.Grouping.{Told, told_none, told_refused, told_taken, told_then, of_first}
 use Rattle.conn_serve.proofs.Batching.{entries_count, some_staged}
+use Rattle.desk_access.proofs.Moves.{ending_cases}
 
 -- a number of four bytes
 abbrev Low : ℕ → Type 0
@@ -121,33 +123,19 @@ batch_acks conn index events late part DiskFault some e = refused conn index eve
 batch_acks conn index events late part (NotSpool place) some e = refused conn index events late part (NotSpool place) e
 batch_acks conn index events late part NoMemory some e = refused conn index events late part NoMemory e
 
-move_acks : (conn : ℕ) (b : List ℕ) (steps : List (Step LumberFrame)) (held : List LumberFrame) (at : ℕ) (tail : List ℕ) (late : List Call) (part : List ℕ) (talk : Talk) → EndsAtMove (lumberjack conn) b steps held at tail late part talk → Acks late part
-move_acks conn b steps held at tail late part talk (inl e) = let stops = e.5 in batch_acks conn (count (calls_of steps)) (staged (held ++ e.0 ∷ [])) late part talk (batch_some (frames_of steps) (held ++ e.0 ∷ []) stops.0) stops.1
-move_acks conn b steps held at tail late part talk (inr e) = let stops = e.2 in batch_acks conn (count (calls_of steps)) (staged held) late part talk stops.0 stops.1
+module _ (conn : ℕ) (left : Option (List ℕ)) (b : List ℕ) (steps : List (Step LumberFrame)) (held : List LumberFrame) (at : ℕ) (late : List Call) (part : List ℕ) where
+  move_acks : (talk : Talk) → EndsAtMove (lumberjack conn) left b steps held at late part talk → Acks late part
+  move_acks talk (inl e) = let stops = e.3 in batch_acks conn (count (calls_of steps)) (staged (held ++ e.0 ∷ [])) late part talk (batch_some (frames_of steps) (held ++ e.0 ∷ []) stops.0) stops.1
+  move_acks talk (inr e) = let stops = e.2 in batch_acks conn (count (calls_of steps)) (staged held) late part talk stops.0 stops.1
 
-end_acks : (conn : ℕ) (b : List ℕ) (steps : List (Step LumberFrame)) (held : List LumberFrame) (at : ℕ) (tail : List ℕ) (late : List Call) (part : List ℕ) (talk : Talk) → Ending (lumberjack conn) b steps held at tail late part talk → Acks late part
-end_acks conn b steps held at tail late part Ended e = last_acks conn (count (calls_of steps)) (staged held) late part e.1
-end_acks conn b steps held at tail late part (Truncated place) e = last_acks conn (count (calls_of steps)) (staged held) late part e.1
-end_acks conn b steps held at tail late part (Fault place why) e = last_acks conn (count (calls_of steps)) (staged held) late part e.1
-end_acks conn b steps held at tail late part ReadFault e = nothing late part e.1
-end_acks conn b steps held at tail late part (TooMuch place) e = nothing late part e.3
-end_acks conn b steps held at tail late part NoMemory (inl e) = nothing late part e
-end_acks conn b steps held at tail late part NoMemory (inr e) = move_acks conn b steps held at tail late part NoMemory e
-end_acks conn b steps held at tail late part Closed e = move_acks conn b steps held at tail late part Closed e
-end_acks conn b steps held at tail late part (Full need room) e = move_acks conn b steps held at tail late part (Full need room) e
-end_acks conn b steps held at tail late part (TooLarge need most) e = move_acks conn b steps held at tail late part (TooLarge need most) e
-end_acks conn b steps held at tail late part (Busy many) e = move_acks conn b steps held at tail late part (Busy many) e
-end_acks conn b steps held at tail late part (Spent end) e = move_acks conn b steps held at tail late part (Spent end) e
-end_acks conn b steps held at tail late part (NoMore run) e = move_acks conn b steps held at tail late part (NoMore run) e
-end_acks conn b steps held at tail late part WriteFault e = move_acks conn b steps held at tail late part WriteFault e
-end_acks conn b steps held at tail late part DiskFault e = move_acks conn b steps held at tail late part DiskFault e
-end_acks conn b steps held at tail late part (NotSpool place) e = move_acks conn b steps held at tail late part (NotSpool place) e
+  end_acks : (talk : Talk) → Ending (lumberjack conn) left b steps held at late part talk → Acks late part
+  end_acks talk e = ending_cases (lumberjack conn) left b steps held at late part (λ _. Acks late part) (λ _ m. last_acks conn (count (calls_of steps)) (staged held) late part m) (λ _ n. nothing late part n) move_acks talk e
 
 -- all that a connection says
-said : (conn : ℕ) (b : List ℕ) (calls : List Call) (text : List ℕ) (talk : Talk) → Carried (lumberjack conn) b calls text talk → Acks calls text
-said conn b calls text talk c =
+said : (conn : ℕ) (left : Option (List ℕ)) (b : List ℕ) (calls : List Call) (text : List ℕ) (talk : Talk) → Carried (lumberjack conn) left b calls text talk → Acks calls text
+said conn left b calls text talk c =
     let first = steps_acks conn [] c.steps c.each in
-    let last = end_acks conn b c.steps c.held (length c.front) c.tail c.late c.part talk c.ending in record {
+    let last = end_acks conn left b c.steps c.held c.at c.late c.part talk c.ending in record {
       numbers = first.numbers ++ last.numbers;
       behind = last.behind;
       low = All-append Low first.numbers last.numbers first.low last.low;
@@ -156,8 +144,8 @@ said conn b calls text talk c =
     }
 
 pub acks_are_of_groups : AcksAreOfGroups
-acks_are_of_groups conn b calls text talk c =
-    let s = said conn b calls text talk c in
+acks_are_of_groups conn left b calls text talk c =
+    let s = said conn left b calls text talk c in
     (s.behind, s.told.some, s.whole ∙ ap acks_of s.told.own)
 
 abbrev acks : List ℕ → List LumberFrame
@@ -178,9 +166,9 @@ acks_split (n ∷ ns) (m ∷ ms) more e =
     (r.0, ap (λ (k : ℕ). k ∷ ms) first ∙ ap (λ (l : List ℕ). n ∷ l) r.1)
 
 -- what is acknowledged was taken
-pub lumber_acked : (conn : ℕ) (b : List ℕ) (calls : List Call) (text : List ℕ) (talk : Talk) → Carried (lumberjack conn) b calls text talk → (numbers : List ℕ) → Acknowledges Lumberjack text numbers → AreOfFirst calls numbers
-lumber_acked conn b calls text talk c numbers (front, rest, spelled, whole) =
-    let s = said conn b calls text talk c in
+pub lumber_acked : (conn : ℕ) (left : Option (List ℕ)) (b : List ℕ) (calls : List Call) (text : List ℕ) (talk : Talk) → Carried (lumberjack conn) left b calls text talk → (numbers : List ℕ) → Acknowledges Lumberjack text numbers → AreOfFirst calls numbers
+lumber_acked conn left b calls text talk c numbers (front, rest, spelled, whole) =
+    let s = said conn left b calls text talk c in
     let same : acks_of s.numbers ≡ front ++ (rest ++ s.behind) = sym s.whole ∙ ap (λ (l : List ℕ). l ++ s.behind) whole ∙ append_assoc front rest s.behind in
     let all = subst (AreSpelled (Spells Sender) (acks s.numbers)) same (acks_spelled s.numbers s.low) in
     let cut = spelled_strip (lumber Sender) (acks numbers) (acks s.numbers) front (rest ++ s.behind) spelled all in

@@ -22,10 +22,10 @@ use Rattle.conn_serve.specs.Groups.{IsFrameEntry}
 use Rattle.conn_serve.specs.Done.{Done, Leads, SoFar}
 use Rattle.conn_serve.specs.Relp.{talk_of}
 use Rattle.conn_serve.specs.Lumber.{StoresGroup, EndsAtGroup, entries_of}
-use Rattle.conn_serve.specs.LumberServing.{Handled, HaltsAtFrame, stages, last_behind}
-use Rattle.conn_serve.proofs.Batching.{next_conn, entries_count, entries_next, handled_few, handled_on, handled_batch, handled_stop, now_staged}
+use Rattle.conn_serve.specs.LumberServing.{Handles, HaltsAtFrame, stages, last_behind}
+use Rattle.conn_serve.proofs.Batching.{next_conn, entries_count, entries_next, handles_few, handles_on, handles_batch, handles_stop, now_staged}
 
--- behind a group that was taken, the next one may be
+-- after a group that was taken, the next one may be
 pub may_behind : (may : ℕ → ℕ → Type 0) (conn index n : ℕ) (es : List Entry) (receipt : Receipt) → may conn (index + length (taken_of (takes es (Ok receipt) ∷ []))) → n ≡ index + length es → may conn n
 may_behind may conn index n es receipt m is = let same : index + length (taken_of (takes es (Ok receipt) ∷ [])) ≡ n = omega (arith, is, length-append es []) in subst (may conn) same m
 
@@ -38,7 +38,8 @@ group_refused group seq (NotSpool at) = (NotSpool at, refl, refl, refl)
 group_refused group seq NoMemory = (NoMemory, refl, refl, refl)
 group_refused group seq DiskFault = (DiskFault, refl, refl, refl)
 
-pub done_refused : (ran : List Call → Type 0) (w : Option (List ℕ)) (n n' : ℕ) (group group' : List Entry) → group' ≡ group → (seq : ℕ) (fault : TakeFault) (talk : Talk) → ran (takes group' (Err fault) ∷ []) → n' ≡ n → talk ≡ talk_of fault → Done ran w w n n' (λ late part. EndsAtGroup group seq late part talk)
+pub done_refused : (ran : List Call → Type 0) (w : Option (List ℕ)) (n n' : ℕ) (group group' : List Entry) → group' ≡ group → (seq : ℕ) (fault : TakeFault) (talk : Talk) → ran (takes group' (Err fault) ∷ []) → n' ≡ n → talk ≡ talk_of fault
+    → Done ran w w n n' (λ late part. EndsAtGroup group seq late part talk)
 done_refused ran w n n' group group' handed seq fault talk made same is = record {
   calls = takes group (Err fault) ∷ [];
   text = [];
@@ -53,24 +54,24 @@ stages_few Nothing = omega arith
 stages_few (Stage event seq commit) = omega arith
 stages_few CommitFirst = omega arith
 
--- A frame is served behind what was handled: the core has stepped, and the event of its act is staged.
+-- A frame is served after what was handled: the core has stepped, and the event of its act is staged.
 module _ (n conn : ℕ) (core core' : Core) (entries entries' : List Entry) (last last' : ℕ) (f : LumberFrame) (act : LumberAct)
     (tells : (frames : List LumberFrame) → IsBehind frames core → Tells frames f act)
     (entries_are : entries' ≡ entries ++ entries_of conn (n + length entries) (stages act)) (last_is : last' ≡ last_behind last (stages act)) where
-  pub staged_few : SoFar (λ fed called said. (frames : List LumberFrame) × Handled conn core entries last frames called said) n → length entries' ≤ 256
+  pub staged_few : SoFar (λ fed called said. (frames : List LumberFrame) × Handles conn core entries last frames called said) n 0 → length entries' ≤ 256
   staged_few so =
-      omega (arith, ap length entries_are, length-append entries (entries_of conn (n + length entries) (stages act)), entries_count conn (n + length entries) (stages act), stages_few act, handled_few conn core entries last so.served.0 so.calls so.text so.served.1)
+      omega (arith, ap length entries_are, length-append entries (entries_of conn (n + length entries) (stages act)), entries_count conn (n + length entries) (stages act), stages_few act, handles_few conn core entries last so.served.0 so.calls so.text so.served.1)
 
-  pub staged_next : SoFar (λ fed called said. (frames : List LumberFrame) × Handled conn core entries last frames called said) n → AreNext conn n entries'
+  pub staged_next : SoFar (λ fed called said. (frames : List LumberFrame) × Handles conn core entries last frames called said) n 0 → AreNext conn n entries'
   staged_next so =
       let h = so.served.1 in
       let is = now_staged conn core entries entries' last last' n so.served.0 so.calls so.text f act h (tells so.served.0 h.behind) so.counted entries_are last_is in
-      let events = staged (h.held ++ f ∷ []) in
+      let events = staged (h.handled.held ++ f ∷ []) in
       subst (AreNext conn n) (sym is) (subst (λ (k : ℕ). AreNext conn n (entries_of conn k events)) so.counted (entries_next conn n events))
 
   -- no batch ends with it
   pub frame_on : (ran : List Call → Type 0) (w : Option (List ℕ)) → ran [] → ((frames : List LumberFrame) → IsBehind frames core → IsBehind (frames ++ f ∷ []) core') → core'.due ≡ commits act → commits act ≡ false → (All IsFrameEntry entries → All IsFrameEntry entries')
-      → Done ran w w n n (λ calls text. (frames : List LumberFrame) → Leads n (λ fed called said. Handled conn core entries last frames called said) (λ fed called said. Handled conn core' entries' last' (frames ++ f ∷ []) called said) calls text)
+      → Done ran w w n n (λ calls text. (frames : List LumberFrame) → Leads n (λ fed called said. Handles conn core entries last frames called said) (λ fed called said. Handles conn core' entries' last' (frames ++ f ∷ []) called said) calls text)
   frame_on ran w none behind due on limits = record {
     calls = [];
     text = [];
@@ -78,15 +79,15 @@ module _ (n conn : ℕ) (core core' : Core) (entries entries' : List Entry) (las
     wrote = appends_none w;
     counted = omega arith;
     is = λ frames fed called said counted h.
-        subst (λ (l : List Call). Handled conn core' entries' last' (frames ++ f ∷ []) l (said ++ [])) (sym (append-nil called))
-        (subst (λ (l : List ℕ). Handled conn core' entries' last' (frames ++ f ∷ []) called l) (sym (append-nil said))
-        (handled_on conn core entries entries' last last' n frames called said f act h (tells frames h.behind) counted entries_are last_is core' (behind frames h.behind) (due ∙ on) on (limits h.limits)));
+        subst (λ (l : List Call). Handles conn core' entries' last' (frames ++ f ∷ []) l (said ++ [])) (sym (append-nil called))
+        (subst (λ (l : List ℕ). Handles conn core' entries' last' (frames ++ f ∷ []) called l) (sym (append-nil said))
+        (handles_on conn core entries entries' last last' n frames called said f act h (tells frames h.behind) counted entries_are last_is core' (behind frames h.behind) (due ∙ on) on (limits h.limits)));
   }
 
   module _ (due : commits act ≡ true) (ran : List Call → Type 0) (w w' : Option (List ℕ)) (n' : ℕ) where
     -- a batch ends with it, and was stored and acknowledged
     pub frame_batch : (core'' : Core) (entries'' : List Entry) (last'' : ℕ) → ((frames : List LumberFrame) → IsBehind frames core → IsBehind (frames ++ f ∷ []) core'') → core''.due ≡ false → entries'' ≡ [] → Done ran w w' n n' (StoresGroup entries' last')
-        → Done ran w w' n n' (λ calls text. (frames : List LumberFrame) → Leads n (λ fed called said. Handled conn core entries last frames called said) (λ fed called said. Handled conn core'' entries'' last'' (frames ++ f ∷ []) called said) calls text)
+        → Done ran w w' n n' (λ calls text. (frames : List LumberFrame) → Leads n (λ fed called said. Handles conn core entries last frames called said) (λ fed called said. Handles conn core'' entries'' last'' (frames ++ f ∷ []) called said) calls text)
     frame_batch core'' entries'' last'' behind ready empty d = record {
       calls = d.calls;
       text = d.text;
@@ -94,8 +95,8 @@ module _ (n conn : ℕ) (core core' : Core) (entries entries' : List Entry) (las
       wrote = d.wrote;
       counted = d.counted;
       is = λ frames fed called said counted h.
-          subst (λ (es : List Entry). Handled conn core'' es last'' (frames ++ f ∷ []) (called ++ d.calls) (said ++ d.text)) (sym empty)
-          (handled_batch conn core entries entries' last last' n frames called said f act h (tells frames h.behind) counted entries_are last_is due core'' last'' d.calls d.text (behind frames h.behind) ready d.is);
+          subst (λ (es : List Entry). Handles conn core'' es last'' (frames ++ f ∷ []) (called ++ d.calls) (said ++ d.text)) (sym empty)
+          (handles_batch conn core entries entries' last last' n frames called said f act h (tells frames h.behind) counted entries_are last_is due core'' last'' d.calls d.text (behind frames h.behind) ready d.is);
     }
 
     -- it was not
@@ -106,7 +107,7 @@ module _ (n conn : ℕ) (core core' : Core) (entries entries' : List Entry) (las
       made = d.made;
       wrote = d.wrote;
       counted = d.counted;
-      is = inr (λ frames called said counted h. handled_stop conn core entries entries' last last' n frames called said f act h (tells frames h.behind) counted entries_are last_is due d.calls d.text talk d.is);
+      is = inr (λ frames called said counted h. handles_stop conn core entries entries' last last' n frames called said f act h (tells frames h.behind) counted entries_are last_is due d.calls d.text talk d.is);
     }
 
 pub group_sure : (es : List Entry) (receipt : Receipt) → All TookSurely (takes es (Ok receipt) ∷ [])

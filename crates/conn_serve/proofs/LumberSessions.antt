@@ -1,76 +1,93 @@
 -- How a session of Lumberjack goes on, and how it ends.
-use Rattle.std.proofs.Common.{◌≡◌, inl, inr, ℕ, ◌+◌, ◌^◌, ◌<◌, ◌≤◌, ◌∙◌, List, [], ◌∷◌, ◌++◌, Option, Some, None, length, refl, sym, ap, subst, arith, append_assoc, length-append}
-use Rattle.std.proofs.lemmas.List.{append-nil}
+use Rattle.std.proofs.Common.{◌≡◌, inl, inr, ℕ, ◌+◌, ◌^◌, ◌<◌, ◌≤◌, ◌∙◌, List, [], ◌∷◌, ◌++◌, Option, length, refl, sym, ap, subst, arith, append_assoc, length-append}
 use Rattle.event_form.specs.declared.event.Entry.{Entry}
 use Rattle.event_form.specs.declared.talk.Talk.{Talk}
-use Rattle.event_form.specs.declared.talk.Talk.TheVariants.{Ended, Closed, Fault, Truncated, Full, TooLarge, Busy, Spent, NoMore, TooMuch, ReadFault, WriteFault, DiskFault, NotSpool, NoMemory}
+use Rattle.event_form.specs.declared.talk.Talk.TheVariants.{NoMemory}
+use Rattle.event_form.specs.declared.talk.Why.{Why}
 use Rattle.lumber_frame.specs.declared.frame.LumberFrame.{LumberFrame}
-use Rattle.lumber_frame.specs.declared.frame.LumberFrame.TheVariants.{Window, Pairs, Json, Ack}
+use Rattle.lumber_frame.specs.declared.frame.LumberFrame.TheVariants as frame
 use Rattle.lumber_frame.specs.declared.fault.LumberFault.{LumberFault}
-use Rattle.lumber_frame.specs.declared.side.Side.{Side}
 use Rattle.lumber_frame.specs.declared.side.Side.TheVariants.{Receiver}
-use Rattle.lumber_frame.specs.Broken.{Broken}
+use Rattle.lumber_frame.specs.Reading.{receiver}
 use Rattle.lumber_frame.specs.Spelling.{IsSpelling, Spells}
-use Rattle.lumber_frame.specs.Reading.{Reader, Reads, ReadsTo, ReadsOn}
 use Rattle.lumber_session.specs.Staged.{Staged, staged}
 use Rattle.lumber_session.specs.Acts.{last_seq}
 use Rattle.lumber_session.specs.Counting.{Core}
-use Rattle.stream_grammar.specs.Framing.{AreSpelled}
-use Rattle.stream_grammar.specs.FieldFaults.{IsFieldStream, IsFieldFault}
+use Rattle.lumber_session.proofs.CutLaws.{nowhere_none}
+use Rattle.stream_grammar.specs.Reading.{Window, Reads, Gives}
 use Rattle.desk_access.specs.Call.{Call}
-use Rattle.conn_serve.specs.Step.{Step, frames_of, calls_of, count}
-use Rattle.conn_serve.specs.Protocol.{AreMoves, IsOver, Ending, Carried}
+use Rattle.desk_access.specs.Step.{Step, frames_of, calls_of, count}
+use Rattle.desk_access.specs.Protocol.{AreMoves}
+use Rattle.desk_access.specs.Carried.{Carried}
+use Rattle.desk_access.specs.Endings.{IsAtMove}
+use Rattle.desk_access.proofs.Moves.{count_then}
 use Rattle.conn_serve.specs.Lumber.{lumberjack, why_of, entries_of, StoresGroup, EndsAtGroup, StoresLast}
-use Rattle.conn_serve.specs.Done.{Done, Leads, SoFar}
-use Rattle.conn_serve.specs.Endings.{MayEnd, IsAtFrame}
-use Rattle.conn_serve.specs.LumberServing.{Handled, Served, Closing, HaltsAtFrame}
-use Rattle.conn_serve.proofs.Counting.{count_then}
-use Rattle.conn_serve.proofs.Splitting.{spelled_parts}
-use Rattle.conn_serve.proofs.Moving.{at_move}
+use Rattle.conn_serve.specs.Handled.{Served, Closing, ReadBy}
+use Rattle.conn_serve.specs.Done.{Done, Leads, SoFar, Anyway}
+use Rattle.conn_serve.specs.LumberServing.{Handles, HaltsAtFrame}
+use Rattle.conn_serve.proofs.Handling.{handled_none, carried_starved, carried_at, carried_over, carried_instead}
+use Rattle.conn_serve.proofs.Windowed.{Laws, Framed, Kind, read_next}
+use Rattle.conn_serve.proofs.Windowed as windowed
 use Rattle.conn_serve.proofs.Batching.{entries_count}
 
--- The bytes are the spelt frames, those that wait, and what stands behind them.
-pub record Parts (b : List ℕ) (frames waiting : List LumberFrame) : Type 0 where
-  pub front : List ℕ
-  pub next : List ℕ
-  pub behind : List ℕ
-  pub spelled : AreSpelled (Spells Receiver) frames front
-  pub waits : AreSpelled (Spells Receiver) waiting next
-  pub whole : b ≡ front ++ (next ++ behind)
+-- ---- the format
 
-parts_of : (b : List ℕ) (frames waiting : List LumberFrame) (front behind : List ℕ) → AreSpelled (Spells Receiver) (frames ++ waiting) front → b ≡ front ++ behind → Parts b frames waiting
-parts_of b frames waiting front behind s whole =
-    let r = spelled_parts (Spells Receiver) frames waiting front s in
-    record { front = r.0; next = r.1; behind = behind; spelled = r.2; waits = r.3; whole = whole ∙ ap (λ (l : List ℕ). l ++ behind) r.4 ∙ append_assoc r.0 r.1 behind }
-
-parts_to : (b : List ℕ) (frames waiting : List LumberFrame) (at : ℕ) (rest : List ℕ) (fault : Option LumberFault) → ReadsTo Receiver b (frames ++ waiting) at rest fault → Parts b frames waiting
-parts_to b frames waiting at rest None r = parts_of b frames waiting r.front rest r.spelled r.whole
-parts_to b frames waiting at rest (Some e) r = let i = r.0 in parts_of b frames waiting i.front (i.rest ++ (i.field ++ i.more)) i.spelled i.whole
-
-receives : (b : List ℕ) (frames : List LumberFrame) (r : Reader) → r.side ≡ Receiver → Reads b frames r → ReadsTo Receiver b (frames ++ r.waiting) r.at r.rest r.fault
-receives b frames r side k = subst (λ (s : Side). ReadsTo s b (frames ++ r.waiting) r.at r.rest r.fault) side k
-
-parts : (b : List ℕ) (frames : List LumberFrame) (r : Reader) → r.side ≡ Receiver → Reads b frames r → Parts b frames r.waiting
-parts b frames r side k = parts_to b frames r.waiting r.at r.rest r.fault (receives b frames r side k)
-
--- there are no more frames than bytes
 frame_some : (f : LumberFrame) (b : List ℕ) → IsSpelling f b → 0 < length b
-frame_some (Window size) b s = omega (arith, ap length s.1)
-frame_some (Pairs seq text) b s = omega (arith, ap length s.1)
-frame_some (Json seq text) b s = omega (arith, ap length s.1)
-frame_some (Ack seq) b s = omega (arith, ap length s.1)
+frame_some (frame.Window size) b s = omega (arith, ap length s.1)
+frame_some (frame.Pairs seq text) b s = omega (arith, ap length s.1)
+frame_some (frame.Json seq text) b s = omega (arith, ap length s.1)
+frame_some (frame.Ack seq) b s = omega (arith, ap length s.1)
 
-spelled_count : (fs : List LumberFrame) (b : List ℕ) → AreSpelled (Spells Receiver) fs b → length fs ≤ length b
-spelled_count [] b s = omega arith
-spelled_count (f ∷ fs) b s = omega (arith, spelled_count fs s.1 s.4, ap length s.3, length-append s.0 s.1, frame_some f s.0 s.2.1)
+laws : Laws receiver (Spells Receiver)
+laws = record {
+  whole_front = λ b frames at rest i. record { front = i.front; rest = rest; spelled = i.spelled; ends = i.ends; whole = i.whole };
+  whole_size = λ b frames at rest i. omega (arith, i.ends, ap length i.whole, length-append i.front rest);
+  faulty_front = λ b frames at rest e i. record { front = i.front; rest = rest ++ (i.field ++ i.more); spelled = i.spelled; ends = i.ends; whole = i.whole };
+  faulty_fed = λ b more frames at rest e i.
+      let whole : b ++ more ≡ i.front ++ (rest ++ (i.field ++ (i.more ++ more))) =
+      ap (λ (l : List ℕ). l ++ more) i.whole ∙ append_assoc i.front (rest ++ (i.field ++ i.more)) more
+      ∙ ap (λ (l : List ℕ). i.front ++ l) (append_assoc rest (i.field ++ i.more) more ∙ ap (λ (l : List ℕ). rest ++ l) (append_assoc i.field i.more more)) in
+      record { front = i.front; field = i.field; more = i.more ++ more; spelled = i.spelled; ends = i.ends; whole = whole; place_is = i.place_is; broken = i.broken };
+  some = λ f x is. frame_some f x is.1;
+}
+
+-- the place and the reason of a fault
+abbrev pub place : LumberFault → ℕ
+place e = e.at
+
+abbrev pub reason : LumberFault → Why
+reason e = why_of e.why
+
+pub framed : (conn : ℕ) → Framed (lumberjack conn) receiver (Spells Receiver) place reason
+framed conn = record {
+  laws = laws;
+  fronts = λ b frames at i. i;
+  wholes = λ b frames at rest i. (rest, i);
+  faults = λ b frames at rest e i. (at, rest, e, i, refl, refl);
+}
+
+-- ---- what was handled
+
+-- a session of Lumberjack
+abbrev pub kind : ℕ → Core → List Entry → ℕ → Kind LumberFrame LumberFault
+kind conn core entries last = record {
+  protocol = lumberjack conn;
+  format = receiver;
+  Spells = Spells Receiver;
+  place_of = place;
+  why_of = reason;
+  framed = framed conn;
+  Handles = Handles conn core entries last;
+  handled = λ frames calls text h. h.handled;
+}
 
 -- a frame stages one event at most
 staged_few : (fs : List LumberFrame) → length (staged fs) ≤ length fs
 staged_few [] = omega arith
-staged_few (Window size ∷ fs) = omega (arith, staged_few fs)
-staged_few (Pairs seq text ∷ fs) = omega (arith, staged_few fs)
-staged_few (Json seq text ∷ fs) = omega (arith, staged_few fs)
-staged_few (Ack seq ∷ fs) = omega (arith, staged_few fs)
+staged_few (frame.Window size ∷ fs) = omega (arith, staged_few fs)
+staged_few (frame.Pairs seq text ∷ fs) = omega (arith, staged_few fs)
+staged_few (frame.Json seq text ∷ fs) = omega (arith, staged_few fs)
+staged_few (frame.Ack seq ∷ fs) = omega (arith, staged_few fs)
 
 -- there are no more entries than frames
 count_moves : (conn : ℕ) (before steps : List (Step LumberFrame)) → AreMoves (lumberjack conn) before steps → count (calls_of steps) ≤ length (frames_of steps)
@@ -80,191 +97,63 @@ count_moves conn before (s ∷ steps) m =
     let index = count (calls_of before) in
     omega (arith, count_then s.calls (calls_of steps), ap count stores.1, length-append (entries_of conn index (staged s.frames)) [], entries_count conn index (staged s.frames), staged_few s.frames, length-append s.frames (frames_of steps), count_moves conn (before ++ s ∷ []) steps m.1)
 
-pub served_count : (conn : ℕ) (reader : Reader) (core : Core) (entries : List Entry) (last : ℕ) (fault : Option LumberFault) (fed : List ℕ) (calls : List Call) (text : List ℕ)
-    → Served conn reader core entries last fault fed calls text → count calls + (length reader.waiting + length entries) ≤ length fed
-served_count conn reader core entries last fault fed calls text s =
-    let h = s.handled in
-    let p = parts fed s.frames reader s.side s.reads in
-    omega (
-      arith,
-      ap count h.made,
-      count_moves conn [] h.steps h.each,
-      ap length h.entries_are,
-      entries_count conn (count calls) (staged h.held),
-      staged_few h.held,
-      ap length h.whole,
-      length-append (frames_of h.steps) h.held,
-      spelled_count s.frames p.front p.spelled,
-      spelled_count reader.waiting p.next p.waits,
-      ap length p.whole,
-      length-append p.front (p.next ++ p.behind),
-      length-append p.next p.behind,
-    )
+handles_sum : (conn : ℕ) (core : Core) (entries : List Entry) (last : ℕ) (frames : List LumberFrame) (calls : List Call) (text : List ℕ) → Handles conn core entries last frames calls text → count calls + length entries ≤ length frames
+handles_sum conn core entries last frames calls text k =
+    let h = k.handled in
+    omega (arith, ap count h.made, count_moves conn [] h.steps h.each, ap length k.entries_are, entries_count conn (count calls) (staged h.held), staged_few h.held, ap length h.whole, length-append (frames_of h.steps) h.held)
 
--- more bytes
-pub served_fed : (conn : ℕ) (reader reader' : Reader) (core : Core) (entries : List Entry) (last : ℕ) (fault fault' : Option LumberFault) (fed piece : List ℕ) (calls : List Call) (text : List ℕ)
-    → ReadsOn reader piece reader' → reader'.side ≡ reader.side → fault' ≡ reader'.fault → Served conn reader core entries last fault fed calls text → Served conn reader' core entries last fault' (fed ++ piece) calls text
-served_fed conn reader reader' core entries last fault fault' fed piece calls text on side told s = record {
-  frames = s.frames;
-  handled = s.handled;
-  side = side ∙ s.side;
-  reads = on fed s.frames s.reads;
-  told = told;
-}
+-- no more entries are taken and staged than a connection may have bytes
+pub so_far_few : (conn : ℕ) (w : Window LumberFault) (core : Core) (entries : List Entry) (last : ℕ) (fault : Option LumberFault) (n more : ℕ) → SoFar (Served (Handles conn core entries last) (ReadBy receiver (Spells Receiver) w fault)) n more → n + length entries ≤ 2 ^ 40
+so_far_few conn w core entries last fault n more s =
+    omega (arith, s.counted, handles_sum conn core entries last s.served.frames s.calls s.text s.served.handled, windowed.frames_few (kind conn core entries last) w fault n more s)
 
--- a frame more
-pub served_frame : (ran : List Call → Type 0) (w w' : Option (List ℕ)) (n n' conn : ℕ) (reader reader' : Reader) (core core' : Core) (entries entries' : List Entry) (last last' : ℕ) (fault : Option LumberFault) (f : LumberFrame)
-    → ((fed : List ℕ) (taken : List LumberFrame) → Reads fed taken reader → Reads fed (taken ++ f ∷ []) reader') → reader'.side ≡ reader.side → reader'.fault ≡ reader.fault
-    → (k : ℕ) → k ≡ conn
-    → Done ran w w' n n' (λ calls text. (frames : List LumberFrame) → Leads n (λ fed called said. Handled k core entries last frames called said) (λ fed called said. Handled k core' entries' last' (frames ++ f ∷ []) called said) calls text)
-    → Done ran w w' n n' (Leads n (Served conn reader core entries last fault) (Served conn reader' core' entries' last' fault))
-served_frame ran w w' n n' conn reader reader' core core' entries entries' last last' fault f took side kept k same d = record {
-  calls = d.calls;
-  text = d.text;
-  made = d.made;
-  wrote = d.wrote;
-  counted = d.counted;
-  is = λ fed called said counted s. record {
-    frames = s.frames ++ f ∷ [];
-    handled = subst (λ (c : ℕ). Handled c core' entries' last' (s.frames ++ f ∷ []) (called ++ d.calls) (said ++ d.text)) same
-        (d.is s.frames fed called said counted (subst (λ (c : ℕ). Handled c core entries last s.frames called said) (sym same) s.handled));
-    side = side ∙ s.side;
-    reads = took fed s.frames s.reads;
-    told = s.told ∙ sym kept;
-  };
-}
+-- nothing was served
+pub served_none : (conn : ℕ) (w : Window LumberFault) (core : Core) (entries : List Entry) (last : ℕ) (fault : Option LumberFault) → Handles conn core entries last [] [] [] → Reads receiver (Spells Receiver) [] [] w → fault ≡ w.fault
+    → Served (Handles conn core entries last) (ReadBy receiver (Spells Receiver) w fault) [] [] []
+served_none conn w core entries last fault handled reads told = record { frames = []; handled = handled; reads = record { reads = reads; told = told } }
 
-module _ (conn : ℕ) (core : Core) (entries : List Entry) (last : ℕ) (frames : List LumberFrame) (called : List Call) (said : List ℕ) (h : Handled conn core entries last frames called said) where
-  -- the frames handled, and what belongs to an ending
-  pub carried_by : (fed front tail : List ℕ) (late : List Call) (part : List ℕ) (talk : Talk) → AreSpelled (Spells Receiver) frames front → fed ≡ front ++ tail → Ending (lumberjack conn) fed h.steps h.held (length front) tail late part talk
-      → Carried (lumberjack conn) fed (called ++ late) (said ++ part) talk
-  carried_by fed front tail late part talk spelled bytes ending = record {
-    steps = h.steps;
-    each = h.each;
-    held = h.held;
-    kept = h.kept;
-    front = front;
-    tail = tail;
-    late = late;
-    part = part;
-    spelled = subst (λ (l : List LumberFrame). AreSpelled (Spells Receiver) l front) h.whole spelled;
-    bytes = bytes;
-    made = ap (λ (l : List Call). l ++ late) h.made;
-    wrote = ap (λ (l : List ℕ). l ++ part) h.wrote;
-    ending = ending;
+-- no memory was found for a session
+pub none_carried : (conn : ℕ) (left : Option (List ℕ)) → Carried (lumberjack conn) left [] [] [] NoMemory
+none_carried conn left = carried_starved (lumberjack conn) left [] [] 0 [] [] (handled_none (lumberjack conn) (nowhere_none [])) (record { front = []; rest = []; spelled = refl; ends = refl; whole = refl })
+
+module _ (ran : List Call → Type 0) (written written' : Option (List ℕ)) (n n' conn : ℕ) (w w' : Window LumberFault) (core : Core) (entries : List Entry) (last : ℕ) (fault : Option LumberFault) (f : LumberFrame) (g : Gives receiver (Spells Receiver) w f w') (k : ℕ) (same : k ≡ conn) where
+  -- a frame more
+  pub served_frame : (core' : Core) (entries' : List Entry) (last' : ℕ)
+      → Done ran written written' n n' (λ calls text. (frames : List LumberFrame) → Leads n (λ fed called said. Handles k core entries last frames called said) (λ fed called said. Handles k core' entries' last' (frames ++ f ∷ []) called said) calls text)
+      → Done ran written written' n n' (Leads n (Served (Handles conn core entries last) (ReadBy receiver (Spells Receiver) w fault)) (Served (Handles conn core' entries' last') (ReadBy receiver (Spells Receiver) w' fault)))
+  served_frame core' entries' last' d = record {
+    calls = d.calls;
+    text = d.text;
+    made = d.made;
+    wrote = d.wrote;
+    counted = d.counted;
+    is = λ fed called said counted s. record {
+      frames = s.frames ++ f ∷ [];
+      handled = subst (λ (c : ℕ). Handles c core' entries' last' (s.frames ++ f ∷ []) (called ++ d.calls) (said ++ d.text)) same
+          (d.is s.frames fed called said counted (subst (λ (c : ℕ). Handles c core entries last s.frames called said) (sym same) s.handled));
+      reads = read_next receiver (Spells Receiver) w w' fault f g fed s.frames s.reads;
+    };
   }
 
-  -- an ending with nothing done for it
-  pub carried_nothing : (fed front tail : List ℕ) (talk : Talk) → AreSpelled (Spells Receiver) frames front → fed ≡ front ++ tail → Ending (lumberjack conn) fed h.steps h.held (length front) tail [] [] talk → Carried (lumberjack conn) fed called said talk
-  carried_nothing fed front tail talk spelled bytes ending =
-      subst (λ (l : List Call). Carried (lumberjack conn) fed l said talk) (append-nil called)
-      (subst (λ (l : List ℕ). Carried (lumberjack conn) fed (called ++ []) l talk) (append-nil said) (carried_by fed front tail [] [] talk spelled bytes ending))
+  -- the connection ends at the frame, or for want of memory
+  pub served_halt : (talk : Talk) → IsAtMove talk → Done ran written written' n n' (HaltsAtFrame k core entries last n f talk) → Done ran written written' n n' (Leads n (Served (Handles conn core entries last) (ReadBy receiver (Spells Receiver) w fault)) (Anyway (Carried (lumberjack conn)) talk))
+  served_halt talk is d = record {
+    calls = d.calls;
+    text = d.text;
+    made = d.made;
+    wrote = d.wrote;
+    counted = d.counted;
+    is = λ fed called said counted s left more.
+        let front = windowed.front_more (kind conn core entries last) w fault left fed called said s more in
+        let next = windowed.front_next (kind conn core entries last) w fault left fed called said s more f w' g in
+        carried_at (lumberjack conn) left (fed ++ more) s.frames front.0 called said s.handled.handled front.1 f next.0 d.calls d.text talk is next.1
+        (elim (subst (λ (c : ℕ). HaltsAtFrame c core entries last n f talk d.calls d.text) same d.is) [
+          | inl starved ↦ inl starved
+          | inr stops ↦ inr (stops s.frames called said counted s.handled)
+        ]);
+  }
 
--- the connection ends at the first frame that waits, or for want of memory
-pub served_halt : (ran : List Call → Type 0) (w w' : Option (List ℕ)) (n n' conn : ℕ) (reader : Reader) (core : Core) (entries : List Entry) (last : ℕ) (fault : Option LumberFault) (f : LumberFrame) (ws : List LumberFrame) (talk : Talk) → reader.waiting ≡ f ∷ ws → IsAtFrame talk
-    → (k : ℕ) → k ≡ conn → Done ran w w' n n' (HaltsAtFrame k core entries last n f talk) → Done ran w w' n n' (Leads n (Served conn reader core entries last fault) (λ fed calls text. Carried (lumberjack conn) fed calls text talk))
-served_halt ran w w' n n' conn reader core entries last fault f ws talk waits at k same d = record {
-  calls = d.calls;
-  text = d.text;
-  made = d.made;
-  wrote = d.wrote;
-  counted = d.counted;
-  is = λ fed called said counted s.
-      let p = subst (Parts fed s.frames) waits (parts fed s.frames reader s.side s.reads) in
-      let h = s.handled in
-      let first = p.waits in
-      let tail = p.next ++ p.behind in
-      carried_by conn core entries last s.frames called said h fed p.front tail d.calls d.text talk p.spelled p.whole
-      (elim (subst (λ (c : ℕ). HaltsAtFrame c core entries last n f talk d.calls d.text) same d.is) [
-        | inl starved ↦ subst (λ (t : Talk). Ending (lumberjack conn) fed h.steps h.held (length p.front) tail d.calls d.text t) (sym starved.1) (inl starved.0)
-        | inr stops ↦
-            let begins : tail ≡ first.0 ++ (first.1 ++ p.behind) = ap (λ (l : List ℕ). l ++ p.behind) first.3 ∙ append_assoc first.0 first.1 p.behind in
-            at_move (lumberjack conn) fed h.steps h.held (length p.front) tail d.calls d.text talk at (inl (f, first.0, first.1 ++ p.behind, first.2, begins, stops s.frames called said counted h))
-      ]);
-}
-
-module _ (conn : ℕ) (reader : Reader) (core : Core) (entries : List Entry) (last : ℕ) (fault : Option LumberFault) (fed : List ℕ) (calls : List Call) (text : List ℕ) (s : Served conn reader core entries last fault fed calls text) where
-  abbrev h : Handled conn core entries last s.frames calls text
-  h = s.handled
-
-  whole_to : (told : Option LumberFault) → told ≡ None → ReadsTo Receiver fed s.frames reader.at reader.rest told → IsFieldStream (Spells Receiver) (Broken Receiver) fed s.frames reader.at reader.rest
-  whole_to None is r = r
-  whole_to (Some e) is r = cc
-
-  all_taken : reader.waiting ≡ [] → ReadsTo Receiver fed s.frames reader.at reader.rest reader.fault
-  all_taken none = subst (λ (l : List LumberFrame). ReadsTo Receiver fed l reader.at reader.rest reader.fault) (ap (λ (w : List LumberFrame). s.frames ++ w) none ∙ append-nil s.frames) (receives fed s.frames reader s.side s.reads)
-
-  whole : reader.waiting ≡ [] → fault ≡ None → IsFieldStream (Spells Receiver) (Broken Receiver) fed s.frames reader.at reader.rest
-  whole none sound = whole_to reader.fault (sym s.told ∙ sound) (all_taken none)
-
-  there : (i : IsFieldStream (Spells Receiver) (Broken Receiver) fed s.frames reader.at reader.rest) → IsFieldStream (Spells Receiver) (Broken Receiver) fed s.frames (length i.front) reader.rest
-  there i = subst (λ (n : ℕ). IsFieldStream (Spells Receiver) (Broken Receiver) fed s.frames n reader.rest) (sym i.ends) i
-
-  of_steps : (at : ℕ) → IsFieldStream (Spells Receiver) (Broken Receiver) fed s.frames at reader.rest → IsFieldStream (Spells Receiver) (Broken Receiver) fed (frames_of h.steps ++ h.held) at reader.rest
-  of_steps at i = subst (λ (l : List LumberFrame). IsFieldStream (Spells Receiver) (Broken Receiver) fed l at reader.rest) h.whole i
-
-  pub closing_ended : reader.waiting ≡ [] → fault ≡ None → reader.rest ≡ [] → Closing conn core entries last Ended fed calls text
-  closing_ended none sound empty =
-      let i = whole none sound in
-      record { frames = s.frames; handled = h; front = i.front; tail = reader.rest; spelled = i.spelled; bytes = i.whole; over = empty }
-
-  pub closing_truncated : reader.waiting ≡ [] → fault ≡ None → 0 < length reader.rest → Closing conn core entries last (Truncated reader.at) fed calls text
-  closing_truncated none sound some =
-      let i = whole none sound in
-      record { frames = s.frames; handled = h; front = i.front; tail = reader.rest; spelled = i.spelled; bytes = i.whole; over = (there i, some, sym i.ends) }
-
-  faulty_to : (e : LumberFault) (told : Option LumberFault) → told ≡ Some e → ReadsTo Receiver fed s.frames reader.at reader.rest told → IsFieldFault (Spells Receiver) (Broken Receiver) fed s.frames reader.at e.at e.why
-  faulty_to e None is r = cc
-  faulty_to e (Some d) is r =
-      let same : d ≡ e = cc in
-      subst (λ (x : LumberFault). IsFieldFault (Spells Receiver) (Broken Receiver) fed s.frames reader.at x.at x.why) same r.0
-
-  pub closing_faulty : (e : LumberFault) → reader.waiting ≡ [] → fault ≡ Some e → Closing conn core entries last (Fault e.at (why_of e.why)) fed calls text
-  closing_faulty e none is =
-      let i = faulty_to e reader.fault (sym s.told ∙ is) (all_taken none) in
-      record { frames = s.frames; handled = h; front = i.front; tail = i.rest ++ (i.field ++ i.more); spelled = i.spelled; bytes = i.whole; over = (reader.at, e.why, i, refl) }
-
-  pub carried_unread : reader.waiting ≡ [] → fault ≡ None → Carried (lumberjack conn) fed calls text ReadFault
-  carried_unread none sound =
-      let i = whole none sound in
-      carried_nothing conn core entries last s.frames calls text h fed i.front reader.rest ReadFault i.spelled i.whole (of_steps (length i.front) (there i), (refl, refl))
-
-  pub carried_too_much : reader.waiting ≡ [] → fault ≡ None → length fed ≡ 2 ^ 40 → Carried (lumberjack conn) fed calls text (TooMuch (2 ^ 40))
-  carried_too_much none sound size =
-      let i = whole none sound in
-      carried_nothing conn core entries last s.frames calls text h fed i.front reader.rest (TooMuch (2 ^ 40)) i.spelled i.whole (of_steps (length i.front) (there i), sym size, refl, (refl, refl))
-
-  pub carried_starved : (piece : List ℕ) → Carried (lumberjack conn) (fed ++ piece) calls text NoMemory
-  carried_starved piece =
-      let p = parts fed s.frames reader s.side s.reads in
-      carried_nothing conn core entries last s.frames calls text h (fed ++ piece) p.front ((p.next ++ p.behind) ++ piece) NoMemory p.spelled (ap (λ (l : List ℕ). l ++ piece) p.whole ∙ append_assoc p.front (p.next ++ p.behind) piece) (inl (refl, refl))
-
--- a connection may end here for want of more
-pub may_end : (conn : ℕ) (reader : Reader) (core : Core) (entries : List Entry) (last : ℕ) (fault : Option LumberFault) → reader.waiting ≡ [] → fault ≡ None → MayEnd (Served conn reader core entries last fault) (Carried (lumberjack conn))
-may_end conn reader core entries last fault none sound = record {
-  read_fault = λ fed calls text s. carried_unread conn reader core entries last fault fed calls text s none sound;
-  too_much = λ fed calls text s size. carried_too_much conn reader core entries last fault fed calls text s none sound size;
-  no_memory = λ fed piece calls text s. carried_starved conn reader core entries last fault fed calls text s piece;
-}
-
--- where the input is over, and the last moves are carried out
-at_over : (conn : ℕ) (b : List ℕ) (steps : List (Step LumberFrame)) (held frames : List LumberFrame) (at : ℕ) (tail : List ℕ) (late : List Call) (part : List ℕ) (talk : Talk) → frames ≡ frames_of steps ++ held
-    → IsOver (lumberjack conn) b frames at tail talk → (lumberjack conn).IsLastMove steps held late part → Ending (lumberjack conn) b steps held at tail late part talk
-at_over conn b steps held frames at tail late part Ended whole o m = (o, m)
-at_over conn b steps held frames at tail late part Closed whole o m = absurd o
-at_over conn b steps held frames at tail late part (Fault place why) whole o m = (subst (λ (l : List LumberFrame). IsOver (lumberjack conn) b l at tail (Fault place why)) whole o, m)
-at_over conn b steps held frames at tail late part (Truncated place) whole o m = (subst (λ (l : List LumberFrame). IsOver (lumberjack conn) b l at tail (Truncated place)) whole o, m)
-at_over conn b steps held frames at tail late part (Full need room) whole o m = absurd o
-at_over conn b steps held frames at tail late part (TooLarge need most) whole o m = absurd o
-at_over conn b steps held frames at tail late part (Busy count) whole o m = absurd o
-at_over conn b steps held frames at tail late part (Spent end) whole o m = absurd o
-at_over conn b steps held frames at tail late part (NoMore run) whole o m = absurd o
-at_over conn b steps held frames at tail late part (TooMuch place) whole o m = absurd o
-at_over conn b steps held frames at tail late part ReadFault whole o m = absurd o
-at_over conn b steps held frames at tail late part WriteFault whole o m = absurd o
-at_over conn b steps held frames at tail late part DiskFault whole o m = absurd o
-at_over conn b steps held frames at tail late part (NotSpool place) whole o m = absurd o
-at_over conn b steps held frames at tail late part NoMemory whole o m = absurd o
+-- ---- where the input is over
 
 stores_last : (conn index : ℕ) (events : List Staged) (calls : List Call) (text : List ℕ) → 0 < length events → StoresGroup (entries_of conn index events) (last_seq events) calls text → StoresLast conn index events calls text
 stores_last conn index [] calls text some s = absurd (omega (arith, some))
@@ -274,58 +163,47 @@ stores_none : (conn index : ℕ) (events : List Staged) → length events ≡ 0 
 stores_none conn index [] none = (refl, refl)
 stores_none conn index (e ∷ more) none = absurd (omega (arith, none))
 
-module _ (conn : ℕ) (core : Core) (entries : List Entry) (last : ℕ) (over : Talk) (fed : List ℕ) (called : List Call) (said : List ℕ) (c : Closing conn core entries last over fed called said) where
-  abbrev k : Handled conn core entries last c.frames called said
+module _ (conn : ℕ) (core : Core) (entries : List Entry) (last : ℕ) (left : Option (List ℕ)) (over : Talk) (fed : List ℕ) (called : List Call) (said : List ℕ) (c : Closing (lumberjack conn) (Handles conn core entries last) left over fed called said) where
+  abbrev k : Handles conn core entries last c.frames called said
   k = c.handled
 
   abbrev index : ℕ
-  index = count (calls_of k.steps)
+  index = count (calls_of k.handled.steps)
 
-  size : length entries ≡ length (staged k.held)
-  size = ap length k.entries_are ∙ entries_count conn (count called) (staged k.held)
+  size : length entries ≡ length (staged k.handled.held)
+  size = ap length k.entries_are ∙ entries_count conn (count called) (staged k.handled.held)
 
-  group_is : entries ≡ entries_of conn index (staged k.held)
-  group_is = k.entries_are ∙ ap (λ (n : ℕ). entries_of conn n (staged k.held)) (ap count k.made)
+  group_is : entries ≡ entries_of conn index (staged k.handled.held)
+  group_is = k.entries_are ∙ ap (λ (n : ℕ). entries_of conn n (staged k.handled.held)) (ap count k.handled.made)
 
-  last_of : 0 < length entries → last ≡ last_seq (staged k.held)
+  last_of : 0 < length entries → last ≡ last_seq (staged k.handled.held)
   last_of some = k.last_is (omega (arith, some, size))
 
-  finished : (late : List Call) (part : List ℕ) → (lumberjack conn).IsLastMove k.steps k.held late part → Carried (lumberjack conn) fed (called ++ late) (said ++ part) over
-  finished late part m = carried_by conn core entries last c.frames called said k fed c.front c.tail late part over c.spelled c.bytes (at_over conn fed k.steps k.held c.frames (length c.front) c.tail late part over k.whole c.over m)
-
   -- nothing is staged
-  pub finished_none : entries ≡ [] → Carried (lumberjack conn) fed (called ++ []) (said ++ []) over
-  finished_none none = finished [] [] (stores_none conn index (staged k.held) (omega (arith, size, ap length none)))
+  pub finished_none : entries ≡ [] → Carried (lumberjack conn) left fed (called ++ []) (said ++ []) over
+  finished_none none = carried_over (lumberjack conn) left fed c.frames c.at called said k.handled c.front over [] [] c.is_over (stores_none conn index (staged k.handled.held) (omega (arith, size, ap length none)))
 
   -- what is staged was stored and acknowledged
-  pub finished_batch : (late : List Call) (part : List ℕ) → 0 < length entries → StoresGroup entries last late part → Carried (lumberjack conn) fed (called ++ late) (said ++ part) over
+  pub finished_batch : (late : List Call) (part : List ℕ) → 0 < length entries → StoresGroup entries last late part → Carried (lumberjack conn) left fed (called ++ late) (said ++ part) over
   finished_batch late part some s =
-      finished late part (stores_last conn index (staged k.held) late part (omega (arith, some, size))
-      (subst (λ (n : ℕ). StoresGroup (entries_of conn index (staged k.held)) n late part) (last_of some) (subst (λ (g : List Entry). StoresGroup g last late part) group_is s)))
+      carried_over (lumberjack conn) left fed c.frames c.at called said k.handled c.front over late part c.is_over
+      (stores_last conn index (staged k.handled.held) late part (omega (arith, some, size))
+      (subst (λ (n : ℕ). StoresGroup (entries_of conn index (staged k.handled.held)) n late part) (last_of some) (subst (λ (g : List Entry). StoresGroup g last late part) group_is s)))
 
   -- it was not
-  pub finished_halt : (late : List Call) (part : List ℕ) (talk : Talk) → IsAtFrame talk → 0 < length entries → EndsAtGroup entries last late part talk → Carried (lumberjack conn) fed (called ++ late) (said ++ part) talk
+  pub finished_halt : (late : List Call) (part : List ℕ) (talk : Talk) → IsAtMove talk → 0 < length entries → EndsAtGroup entries last late part talk → Carried (lumberjack conn) left fed (called ++ late) (said ++ part) talk
   finished_halt late part talk at some e =
-      let ends : EndsAtGroup (entries_of conn index (staged k.held)) (last_seq (staged k.held)) late part talk =
-      subst (λ (n : ℕ). EndsAtGroup (entries_of conn index (staged k.held)) n late part talk) (last_of some) (subst (λ (g : List Entry). EndsAtGroup g last late part talk) group_is e) in
-      carried_by conn core entries last c.frames called said k fed c.front c.tail late part talk c.spelled c.bytes
-      (at_move (lumberjack conn) fed k.steps k.held (length c.front) c.tail late part talk at
-      (inr (over, subst (λ (l : List LumberFrame). IsOver (lumberjack conn) fed l (length c.front) c.tail over) k.whole c.over, (omega (arith, some, size), ends))))
-
-pub no_fault : (o : Option LumberFault) → ((e : LumberFault) → o ≡ Some e → ⊥) → o ≡ None
-no_fault None h = refl
-no_fault (Some e) h = absurd (h e refl)
-
--- nothing was served
-pub served_none : (conn : ℕ) (reader : Reader) (core : Core) (entries : List Entry) (last : ℕ) (fault : Option LumberFault) → Handled conn core entries last [] [] [] → reader.side ≡ Receiver → Reads [] [] reader → fault ≡ reader.fault → Served conn reader core entries last fault [] [] []
-served_none conn reader core entries last fault handled side reads told = record { frames = []; handled = handled; side = side; reads = reads; told = told }
+      carried_instead (lumberjack conn) left fed c.frames c.at called said k.handled c.front over late part talk at c.is_over
+      (inr (omega (arith, some, size), subst (λ (n : ℕ). EndsAtGroup (entries_of conn index (staged k.handled.held)) n late part talk) (last_of some) (subst (λ (g : List Entry). EndsAtGroup g last late part talk) group_is e)))
 
 -- what was served was handled
-pub so_far_handled : (conn : ℕ) (reader : Reader) (core : Core) (entries : List Entry) (last : ℕ) (fault : Option LumberFault) (n k : ℕ) → k ≡ conn → SoFar (Served conn reader core entries last fault) n → SoFar (λ fed called said. (frames : List LumberFrame) × Handled k core entries last frames called said) n
-so_far_handled conn reader core entries last fault n k same s = record {
+pub so_far_handles : (conn : ℕ) (w : Window LumberFault) (core : Core) (entries : List Entry) (last : ℕ) (fault : Option LumberFault) (n more k : ℕ) → k ≡ conn
+    → SoFar (Served (Handles conn core entries last) (ReadBy receiver (Spells Receiver) w fault)) n more → SoFar (λ fed called said. (frames : List LumberFrame) × Handles k core entries last frames called said) n more
+so_far_handles conn w core entries last fault n more k same s = record {
   bytes = s.bytes;
   calls = s.calls;
   text = s.text;
   counted = s.counted;
-  served = (s.served.frames, subst (λ (c : ℕ). Handled c core entries last s.served.frames s.calls s.text) (sym same) s.served.handled);
+  short = s.short;
+  served = (s.served.frames, subst (λ (c : ℕ). Handles c core entries last s.served.frames s.calls s.text) (sym same) s.served.handled);
 }

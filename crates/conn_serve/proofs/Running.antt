@@ -1,25 +1,15 @@
 -- A connection from its first byte on.
-use Rattle.std.proofs.Common.{◌≡◌, ◌⊎◌, inl, inr, ℕ, ◌+◌, List, [], ◌++◌, Option, length, refl, sym, subst, arith, length-append}
+use Rattle.std.proofs.Common.{◌≡◌, ℕ, ◌+◌, ◌≤◌, ◌^◌, List, [], ◌++◌, Option, length, refl, sym, subst, arith, length-append}
 use Rattle.std.proofs.lemmas.List.{append-nil}
-use Rattle.std.specs.Io.KnownBytes.{Appends, Consumes}
-use Rattle.edge_io.proofs.Known.{appends_none, appends_then, consumes_none, consumes_then}
+use Rattle.edge_io.proofs.Known.{appends_none, appends_then, appends_keeps, consumes_none, consumes_then, consumes_keeps}
+use Rattle.std.specs.Io.KnownBytes.{Appends, Consumes, Keeps}
 use Rattle.event_form.specs.declared.talk.Talk.{Talk}
-use Rattle.event_form.specs.declared.talk.Talk.TheVariants.{Ended, Closed, Fault, Truncated, Full, TooLarge, Busy, Spent, NoMore, TooMuch, ReadFault, WriteFault, DiskFault, NotSpool, NoMemory}
 use Rattle.desk_access.specs.Call.{Call}
-use Rattle.conn_serve.specs.Step.{count}
-use Rattle.conn_serve.specs.Done.{Done, Leads, SoFar}
-use Rattle.conn_serve.specs.Endings.{MayEnd, IsByFault, IsAtEndOfInput}
+use Rattle.desk_access.specs.Step.{count}
+use Rattle.desk_access.proofs.Moves.{count_then}
+use Rattle.conn_serve.specs.Done.{Done, Leads, LeadsOn, SoFar, Told, told, Turn}
 use Rattle.conn_serve.specs.Serves.{Serves}
-use Rattle.conn_serve.proofs.Counting.{count_then}
-
--- What the link told at the beginning and tells now: the bytes given, those that are left, and those written.
-pub record Told : Type 0 where
-  pub given : Option (List ℕ)
-  pub left : Option (List ℕ)
-  pub written : Option (List ℕ)
-
-abbrev pub told : Option (List ℕ) → Option (List ℕ) → Option (List ℕ) → Told
-told given left written = record { given = given; left = left; written = written }
+use Rattle.conn_serve.proofs.Leading.{leads_start}
 
 -- So many bytes were read since the beginning, calls made and a text written; of these this is so.
 pub record Progress (Served : List ℕ → List Call → List ℕ → Type 0) (start now : Told) (ran : List Call → Type 0) (taken total : ℕ) : Type 0 where
@@ -48,28 +38,91 @@ progress_start Served start ran taken none zero served = record {
   served = served;
 }
 
--- a read
-pub progress_fed : (Served Served' : List ℕ → List Call → List ℕ → Type 0) (start : Told) (given given' left left' written written' : Option (List ℕ)) (ran : List Call → Type 0) (taken total n : ℕ) (piece : List ℕ)
-    → Progress Served start (told given left written) ran taken total → length piece ≡ n → Appends given given' piece → Consumes left left' piece → written' ≡ written
-    → ((fed : List ℕ) (calls : List Call) (text : List ℕ) → Served fed calls text → Served' (fed ++ piece) calls text) → Progress Served' start (told given' left' written') ran taken (total + n)
-progress_fed Served Served' start given given' left left' written written' ran taken total n piece p size read consumed kept on = record {
-  bytes = p.bytes ++ piece;
-  calls = p.calls;
-  text = p.text;
-  read = appends_then start.given given given' p.bytes piece p.read read;
-  consumed = consumes_then start.left left left' p.bytes piece p.consumed consumed;
-  wrote = subst (λ (o : Option (List ℕ)). Appends start.written o p.text) (sym kept) p.wrote;
-  made = p.made;
-  counted = p.counted;
-  sized = omega (arith, p.sized, size, length-append p.bytes piece);
-  served = on p.bytes p.calls p.text p.served;
+-- all that was done so far, said of the same number
+pub so_far_of : (Served : ℕ → List ℕ → List Call → List ℕ → Type 0) (start now : Told) (ran : List Call → Type 0) (taken total more k number : ℕ) → k ≡ number → total + more ≤ 2 ^ 40 → Progress (Served number) start now ran taken total → SoFar (Served k) taken more
+so_far_of Served start now ran taken total more k number same most p = record { bytes = p.bytes; calls = p.calls; text = p.text; counted = p.counted; short = omega (arith, most, p.sized); served = subst (λ (n : ℕ). Served n p.bytes p.calls p.text) (sym same) p.served }
+
+-- the connection has ended so
+pub serves : (Carried : Option (List ℕ) → List ℕ → List Call → List ℕ → Talk → Type 0) (start now : Told) (ran : List Call → Type 0) (taken total : ℕ) (talk : Talk)
+    → Progress (λ bytes calls text. Carried now.left bytes calls text talk) start now ran taken total → Serves Carried start.given now.given start.left now.left start.written now.written ran (record { talk = talk; taken = taken })
+serves Carried start now ran taken total talk p = record { bytes = p.bytes; calls = p.calls; text = p.text; read = p.read; consumed = p.consumed; wrote = p.wrote; made = p.made; counted = p.counted; carried = p.served }
+
+-- at its beginning
+pub serves_none : (Carried : Option (List ℕ) → List ℕ → List Call → List ℕ → Talk → Type 0) (now : Told) (ran : List Call → Type 0) (talk : Talk) → ran [] → Carried now.left [] [] [] talk
+    → Serves Carried now.given now.given now.left now.left now.written now.written ran (record { talk = talk; taken = 0 })
+serves_none Carried now ran talk none carried = serves Carried now now ran 0 0 talk (progress_start (λ bytes calls text. Carried now.left bytes calls text talk) now ran 0 none refl carried)
+
+-- a read failed
+pub turn_unread : (ran : List Call → Type 0) (given given' left left' written written' : Option (List ℕ)) (n : ℕ) (Served Carried : List ℕ → List Call → List ℕ → Type 0) → ran [] → Keeps given given' → Keeps left left' → written' ≡ written
+    → ((fed : List ℕ) (calls : List Call) (text : List ℕ) → Served fed calls text → Carried fed calls text) → Turn ran (told given left written) (told given' left' written') n n (λ piece calls text. LeadsOn n piece Served Carried calls text)
+turn_unread ran given given' left left' written written' n Served Carried none kept rest same on = record {
+  piece = [];
+  calls = [];
+  text = [];
+  read = appends_keeps given given given' [] (appends_none given) kept;
+  consumed = consumes_keeps left left left' [] (consumes_none left) rest;
+  wrote = subst (λ (o : Option (List ℕ)). Appends written o []) (sym same) (appends_none written);
+  made = none;
+  counted = omega arith;
+  is = λ fed called said counted served. subst (λ (l : List ℕ). Carried l (called ++ []) (said ++ [])) (sym (append-nil fed)) (leads_start n Carried fed called said counted (on fed called said served));
 }
 
--- frames were served
-pub progress_served : (Served Served' : ℕ → List ℕ → List Call → List ℕ → Type 0) (start : Told) (given given' left left' written written' : Option (List ℕ)) (first second both : List Call → Type 0) (taken taken' total k number : ℕ)
-    → ((xs ys : List Call) → first xs → second ys → both (xs ++ ys)) → k ≡ number → given' ≡ given → left' ≡ left
-    → Progress (Served number) start (told given left written) first taken total → Done second written written' taken taken' (Leads taken (Served k) (Served' k)) → Progress (Served' number) start (told given' left' written') both taken' total
-progress_served Served Served' start given given' left left' written written' first second both taken taken' total k number join same given_is left_is p d = record {
+-- a piece was read, and the connection ended in it
+pub turn_halts : (ran : List Call → Type 0) (given given' given'' left left' left'' written written' written'' : Option (List ℕ)) (n n' : ℕ) (piece : List ℕ) (Served : List ℕ → List Call → List ℕ → Type 0) (Carried : Option (List ℕ) → List ℕ → List Call → List ℕ → Type 0)
+    → Appends given given' piece → given'' ≡ given' → Consumes left left' piece → left'' ≡ left' → written' ≡ written → Done ran written' written'' n n' (LeadsOn n piece Served (λ fed calls text. (end : Option (List ℕ)) → Carried end fed calls text))
+    → Turn ran (told given left written) (told given'' left'' written'') n n' (λ p calls text. LeadsOn n p Served (Carried left'') calls text)
+turn_halts ran given given' given'' left left' left'' written written' written'' n n' piece Served Carried read same_given consumed same_left same_written d = record {
+  piece = piece;
+  calls = d.calls;
+  text = d.text;
+  read = subst (λ (o : Option (List ℕ)). Appends given o piece) (sym same_given) read;
+  consumed = subst (λ (o : Option (List ℕ)). Consumes left o piece) (sym same_left) consumed;
+  wrote = subst (λ (o : Option (List ℕ)). Appends o written'' d.text) same_written d.wrote;
+  made = d.made;
+  counted = d.counted;
+  is = λ fed called said counted served. d.is fed called said counted served left'';
+}
+
+-- A turn follows.
+module _ (start now next : Told) (first second both : List Call → Type 0) (join : (xs ys : List Call) → first xs → second ys → both (xs ++ ys)) (taken taken' total k number : ℕ) (same : k ≡ number) where
+  pub progress_turn : (Served Served' : ℕ → List ℕ → List Call → List ℕ → Type 0) (len : ℕ) → Progress (Served number) start now first taken total
+      → Turn second now next taken taken' (λ piece calls text. (length piece ≡ len) × LeadsOn taken piece (Served k) (Served' k) calls text) → Progress (Served' number) start next both taken' (total + len)
+  progress_turn Served Served' len p t = record {
+    bytes = p.bytes ++ t.piece;
+    calls = p.calls ++ t.calls;
+    text = p.text ++ t.text;
+    read = appends_then start.given now.given next.given p.bytes t.piece p.read t.read;
+    consumed = consumes_then start.left now.left next.left p.bytes t.piece p.consumed t.consumed;
+    wrote = appends_then start.written now.written next.written p.text t.text p.wrote t.wrote;
+    made = join p.calls t.calls p.made t.made;
+    counted = omega (arith, p.counted, t.counted, count_then p.calls t.calls);
+    sized = omega (arith, p.sized, t.is.0, length-append p.bytes t.piece);
+    served = (subst (λ (n : ℕ). LeadsOn taken t.piece (Served n) (Served' n) t.calls t.text) same t.is.1) p.bytes p.calls p.text p.counted p.served;
+  }
+
+  -- the connection ends in it
+  pub serves_turn : (Served : ℕ → List ℕ → List Call → List ℕ → Type 0) (Carried : ℕ → Option (List ℕ) → List ℕ → List Call → List ℕ → Talk → Type 0) (talk : Talk) → Progress (Served number) start now first taken total
+      → Turn second now next taken taken' (λ piece calls text. LeadsOn taken piece (Served k) (λ fed called said. Carried k next.left fed called said talk) calls text)
+      → Serves (Carried number) start.given next.given start.left next.left start.written next.written both (record { talk = talk; taken = taken' })
+  serves_turn Served Carried talk p t = record {
+    bytes = p.bytes ++ t.piece;
+    calls = p.calls ++ t.calls;
+    text = p.text ++ t.text;
+    read = appends_then start.given now.given next.given p.bytes t.piece p.read t.read;
+    consumed = consumes_then start.left now.left next.left p.bytes t.piece p.consumed t.consumed;
+    wrote = appends_then start.written now.written next.written p.text t.text p.wrote t.wrote;
+    made = join p.calls t.calls p.made t.made;
+    counted = omega (arith, p.counted, t.counted, count_then p.calls t.calls);
+    carried = (subst (λ (n : ℕ). LeadsOn taken t.piece (Served n) (λ fed called said. Carried n next.left fed called said talk) t.calls t.text) same t.is) p.bytes p.calls p.text p.counted p.served;
+  }
+
+-- The input is over, and what is to be done for that is done.
+pub serves_close : (start : Told) (given given' left left' written written' : Option (List ℕ)) (first second both : List Call → Type 0) (taken taken' total k number : ℕ) (Served : ℕ → List ℕ → List Call → List ℕ → Type 0) (Closing : ℕ → Option (List ℕ) → List ℕ → List Call → List ℕ → Type 0)
+    (Carried : ℕ → Option (List ℕ) → List ℕ → List Call → List ℕ → Talk → Type 0) (talk : Talk) → ((xs ys : List Call) → first xs → second ys → both (xs ++ ys)) → k ≡ number → given' ≡ given → left' ≡ left
+    → Progress (Served number) start (told given left written) first taken total → ((fed : List ℕ) (calls : List Call) (text : List ℕ) → Served number fed calls text → Closing number left fed calls text)
+    → Done second written written' taken taken' (λ calls text. (end : Option (List ℕ)) → Leads taken (Closing k end) (λ fed called said. Carried k end fed called said talk) calls text)
+    → Serves (Carried number) start.given given' start.left left' start.written written' both (record { talk = talk; taken = taken' })
+serves_close start given given' left left' written written' first second both taken taken' total k number Served Closing Carried talk join same given_is left_is p closes d = record {
   bytes = p.bytes;
   calls = p.calls ++ d.calls;
   text = p.text ++ d.text;
@@ -78,66 +131,6 @@ progress_served Served Served' start given given' left left' written written' fi
   wrote = appends_then start.written written written' p.text d.text p.wrote d.wrote;
   made = join p.calls d.calls p.made d.made;
   counted = omega (arith, p.counted, d.counted, count_then p.calls d.calls);
-  sized = p.sized;
-  served = (subst (λ (n : ℕ). Leads taken (Served n) (Served' n) d.calls d.text) same d.is) p.bytes p.calls p.text p.counted p.served;
+  carried = subst (λ (o : Option (List ℕ)). Carried number o p.bytes (p.calls ++ d.calls) (p.text ++ d.text) talk) (sym left_is)
+      ((subst (λ (n : ℕ). Leads taken (Closing n left) (λ fed called said. Carried n left fed called said talk) d.calls d.text) same (d.is left)) p.bytes p.calls p.text p.counted (closes p.bytes p.calls p.text p.served));
 }
-
--- the connection has ended so
-pub serves : (Carried : List ℕ → List Call → List ℕ → Talk → Type 0) (start now : Told) (ran : List Call → Type 0) (taken total : ℕ) (talk : Talk)
-    → Progress (λ bytes calls text. Carried bytes calls text talk) start now ran taken total → Serves Carried start.given now.given start.left now.left start.written now.written ran (record { talk = talk; taken = taken })
-serves Carried start now ran taken total talk p = record { bytes = p.bytes; calls = p.calls; text = p.text; read = p.read; consumed = p.consumed; wrote = p.wrote; made = p.made; counted = p.counted; carried = p.served }
-
--- what was served may end so
-pub progress_ends : (Served Served' : List ℕ → List Call → List ℕ → Type 0) (start now : Told) (ran : List Call → Type 0) (taken total : ℕ)
-    → ((bytes : List ℕ) (calls : List Call) (text : List ℕ) → length bytes ≡ total → Served bytes calls text → Served' bytes calls text) → Progress Served start now ran taken total → Progress Served' start now ran taken total
-progress_ends Served Served' start now ran taken total on p = record {
-  bytes = p.bytes;
-  calls = p.calls;
-  text = p.text;
-  read = p.read;
-  consumed = p.consumed;
-  wrote = p.wrote;
-  made = p.made;
-  counted = p.counted;
-  sized = p.sized;
-  served = on p.bytes p.calls p.text p.sized p.served;
-}
-
--- a read failed, or no memory was found for what it brought
-pub serves_unread : (Served : List ℕ → List Call → List ℕ → Type 0) (Carried : List ℕ → List Call → List ℕ → Talk → Type 0) (start : Told) (given given' left left' written written' : Option (List ℕ)) (ran : List Call → Type 0) (taken total : ℕ) (talk : Talk)
-    → MayEnd Served Carried → Progress Served start (told given left written) ran taken total → written' ≡ written → (talk ≡ ReadFault) ⊎ (talk ≡ NoMemory)
-    → (talk ≡ ReadFault → Appends given given' [] × Consumes left left' []) → (talk ≡ NoMemory → (piece : List ℕ) × Appends given given' piece × Consumes left left' piece)
-    → Serves Carried start.given given' start.left left' start.written written' ran (record { talk = talk; taken = taken })
-serves_unread Served Carried start given given' left left' written written' ran taken total talk may p kept (inl is) unread starved =
-    let none = unread is in
-    serves Carried start (told given' left' written') ran taken (total + 0) talk
-    (progress_fed Served (λ bytes calls text. Carried bytes calls text talk) start given given' left left' written written' ran taken total 0 [] p refl none.0 none.1 kept
-    (λ fed calls text s. subst (λ (t : Talk). Carried (fed ++ []) calls text t) (sym is) (subst (λ (l : List ℕ). Carried l calls text ReadFault) (sym (append-nil fed)) (may.read_fault fed calls text s))))
-serves_unread Served Carried start given given' left left' written written' ran taken total talk may p kept (inr is) unread starved =
-    let more = starved is in
-    serves Carried start (told given' left' written') ran taken (total + length more.0) talk
-    (progress_fed Served (λ bytes calls text. Carried bytes calls text talk) start given given' left left' written written' ran taken total (length more.0) more.0 p refl more.1 more.2 kept
-    (λ fed calls text s. subst (λ (t : Talk). Carried (fed ++ more.0) calls text t) (sym is) (may.no_memory fed more.0 calls text s)))
-
--- all that was done so far, told of the same number
-pub so_far_of : (Served : ℕ → List ℕ → List Call → List ℕ → Type 0) (start now : Told) (ran : List Call → Type 0) (taken total k number : ℕ) → k ≡ number → Progress (Served number) start now ran taken total → SoFar (Served k) taken
-so_far_of Served start now ran taken total k number same p = record { bytes = p.bytes; calls = p.calls; text = p.text; counted = p.counted; served = subst (λ (n : ℕ). Served n p.bytes p.calls p.text) (sym same) p.served }
-
--- an ending by the end of the input comes where nothing more came
-pub by_end : (talk : Talk) (len : ℕ) → IsByFault talk ⊎ ((len ≡ 0) × IsAtEndOfInput talk) → IsAtEndOfInput talk → len ≡ 0
-by_end talk len (inr e) at = e.0
-by_end Ended len (inl f) at = absurd f
-by_end (Truncated place) len (inl f) at = absurd f
-by_end (Fault place why) len (inl f) at = absurd at
-by_end Closed len (inl f) at = absurd at
-by_end (Full need room) len (inl f) at = absurd at
-by_end (TooLarge need most) len (inl f) at = absurd at
-by_end (Busy held) len (inl f) at = absurd at
-by_end (Spent end) len (inl f) at = absurd at
-by_end (NoMore run) len (inl f) at = absurd at
-by_end (TooMuch place) len (inl f) at = absurd at
-by_end ReadFault len (inl f) at = absurd at
-by_end WriteFault len (inl f) at = absurd at
-by_end DiskFault len (inl f) at = absurd at
-by_end (NotSpool place) len (inl f) at = absurd at
-by_end NoMemory len (inl f) at = absurd at

@@ -1,5 +1,5 @@
 -- What the text of a connection acknowledges, as its sender reads it.
-use Rattle.std.specs.Prelude.{◌≡◌, ℕ, Bool, ◌&&◌, if◌then◌else◌, List, [], ◌∷◌, ◌++◌, map, flat_map, codes}
+use Rattle.std.specs.Prelude.{◌≡◌, ℕ, Bool, ◌&&◌, if◌then◌else◌, List, [], ◌∷◌, ◌++◌, map, flat_map, Option, codes}
 use Rattle.std.specs.List.{All}
 use Rattle.event_form.specs.declared.talk.Talk.{Talk}
 use Rattle.edge_io.specs.declared.proto.Proto.{Proto}
@@ -12,7 +12,7 @@ use Rattle.lumber_frame.specs.declared.side.Side.TheVariants.{Sender}
 use Rattle.lumber_frame.specs.Spelling.{Spells, ack_text}
 use Rattle.stream_grammar.specs.Framing.{AreSpelled}
 use Rattle.desk_access.specs.Call.{Call}
-use Rattle.conn_serve.specs.Protocol.{Carried}
+use Rattle.desk_access.specs.Carried.{Carried}
 use Rattle.conn_serve.specs.Lumber.{lumberjack}
 use Rattle.conn_serve.specs.Serves.{CarriedBy}
 use Rattle.conn_serve.specs.Groups.{Group, HasEntries, groups_of, units}
@@ -45,7 +45,7 @@ pub record AreOfFirst (calls : List Call) (numbers : List ℕ) : Type 0 where
 
 -- Whatever numbers the text of a connection acknowledges, they are those of the first groups that were taken.
 abbrev pub AckedIsTaken : Type 0
-AckedIsTaken = (proto : Proto) (conn : ℕ) (b : List ℕ) (calls : List Call) (text : List ℕ) (talk : Talk) → CarriedBy proto conn b calls text talk
+AckedIsTaken = (proto : Proto) (conn : ℕ) (left : Option (List ℕ)) (b : List ℕ) (calls : List Call) (text : List ℕ) (talk : Talk) → CarriedBy proto conn left b calls text talk
     → (numbers : List ℕ) → Acknowledges proto text numbers → AreOfFirst calls numbers
 
 -- acknowledgments of Lumberjack for these numbers, one after another
@@ -55,5 +55,5 @@ acks_of numbers = flat_map (λ seq. ack_text seq) numbers
 -- The text of a Lumberjack connection is the acknowledgments of the groups that were taken, in order, one each, but the
 -- last one perhaps in part or not at all.
 abbrev pub AcksAreOfGroups : Type 0
-AcksAreOfGroups = (conn : ℕ) (b : List ℕ) (calls : List Call) (text : List ℕ) (talk : Talk) → Carried (lumberjack conn) b calls text talk
+AcksAreOfGroups = (conn : ℕ) (left : Option (List ℕ)) (b : List ℕ) (calls : List Call) (text : List ℕ) (talk : Talk) → Carried (lumberjack conn) left b calls text talk
     → (behind : List ℕ) × All HasEntries (groups_of calls) × (text ++ behind ≡ acks_of (units (groups_of calls)))

@@ -1,8 +1,9 @@
 -- What was done between two moments of a connection.
-use Rattle.std.specs.Prelude.{◌≡◌, ℕ, ◌+◌, List, ◌++◌, Option}
-use Rattle.std.specs.Io.KnownBytes.{Appends}
+use Rattle.std.specs.Prelude.{◌≡◌, ℕ, ◌+◌, ◌≤◌, ◌^◌, List, ◌++◌, length, Option}
+use Rattle.std.specs.Io.KnownBytes.{Appends, Consumes}
+use Rattle.event_form.specs.declared.talk.Talk.{Talk}
 use Rattle.desk_access.specs.Call.{Call}
-use Rattle.conn_serve.specs.Step.{count}
+use Rattle.desk_access.specs.Step.{count}
 
 -- Calls were made on the desk, which led from the one moment to the other, and a text was written, and
 -- the entries taken were counted. Of the calls and the text this is so.
@@ -14,15 +15,48 @@ pub record Done (ran : List Call → Type 0) (written written' : Option (List �
   pub counted : after ≡ before + count calls
   pub is : Is calls text
 
--- Where the first was so of the bytes read and of all calls and text before, which stored so many
+-- Where the first was so of the bytes read and of all calls and text before, which stored that many
 -- entries, the other is so of them now.
 abbrev pub Leads : ℕ → (List ℕ → List Call → List ℕ → Type 0) → (List ℕ → List Call → List ℕ → Type 0) → List Call → List ℕ → Type 0
 Leads before From To calls text = (fed : List ℕ) (called : List Call) (said : List ℕ) → before ≡ count called → From fed called said → To fed (called ++ calls) (said ++ text)
 
--- So far, some bytes were served, of which so many entries were taken.
-pub record SoFar (Served : List ℕ → List Call → List ℕ → Type 0) (taken : ℕ) : Type 0 where
+-- Where the first was so of the bytes read and of all calls and text before, which stored that many
+-- entries, the other is so of them now, with a piece more.
+abbrev pub LeadsOn : ℕ → List ℕ → (List ℕ → List Call → List ℕ → Type 0) → (List ℕ → List Call → List ℕ → Type 0) → List Call → List ℕ → Type 0
+LeadsOn before piece From To calls text = (fed : List ℕ) (called : List Call) (said : List ℕ) → before ≡ count called → From fed called said → To (fed ++ piece) (called ++ calls) (said ++ text)
+
+-- So far some bytes were served, of which that many entries were taken. With that many bytes more they are no more
+-- than a connection may have.
+pub record SoFar (Served : List ℕ → List Call → List ℕ → Type 0) (taken more : ℕ) : Type 0 where
   pub bytes : List ℕ
   pub calls : List Call
   pub text : List ℕ
   pub counted : taken ≡ count calls
+  pub short : length bytes + more ≤ 2 ^ 40
   pub served : Served bytes calls text
+
+-- What a link says of its bytes: those given so far and those that are left, and those written.
+pub record Told : Type 0 where
+  pub given : Option (List ℕ)
+  pub left : Option (List ℕ)
+  pub written : Option (List ℕ)
+
+abbrev pub told : Option (List ℕ) → Option (List ℕ) → Option (List ℕ) → Told
+told given left written = record { given = given; left = left; written = written }
+
+-- A piece was read, calls were made on the desk, a text was written, and the entries taken were counted. Of the
+-- piece, the calls and the text this is so.
+pub record Turn (ran : List Call → Type 0) (was now : Told) (before after : ℕ) (Is : List ℕ → List Call → List ℕ → Type 0) : Type 0 where
+  pub piece : List ℕ
+  pub calls : List Call
+  pub text : List ℕ
+  pub read : Appends was.given now.given piece
+  pub consumed : Consumes was.left now.left piece
+  pub wrote : Appends was.written now.written text
+  pub made : ran calls
+  pub counted : after ≡ before + count calls
+  pub is : Is piece calls text
+
+-- a connection that ends so has carried this, whatever its input has left, and whatever was read after these bytes
+abbrev pub Anyway : (Option (List ℕ) → List ℕ → List Call → List ℕ → Talk → Type 0) → Talk → List ℕ → List Call → List ℕ → Type 0
+Anyway Carried talk fed calls text = (left : Option (List ℕ)) (more : List ℕ) → Carried left (fed ++ more) calls text talk

@@ -1,5 +1,5 @@
 -- The groups of entries that calls took.
-use Rattle.std.specs.Prelude.{◌<◌, ℕ, List, [], ◌∷◌, ◌++◌, length, map, Ok, Err}
+use Rattle.std.specs.Prelude.{◌<◌, ℕ, List, [], ◌∷◌, ◌++◌, length, map, Ok}
 use Rattle.event_form.specs.declared.event.Entry.{Entry}
 use Rattle.event_form.specs.Entry.{IsEntry}
 use Rattle.desk_access.specs.Batch.{IsPlain}

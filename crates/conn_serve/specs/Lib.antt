@@ -1,7 +1,7 @@
-pub mod Step
-pub mod Protocol
+pub mod Front
 pub mod Relp
 pub mod Lumber
+pub mod Handled
 pub mod Done
 pub mod Endings
 pub mod RelpServing

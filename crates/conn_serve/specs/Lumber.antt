@@ -9,20 +9,20 @@ use Rattle.lumber_frame.specs.declared.frame.LumberFrame.{LumberFrame}
 use Rattle.lumber_frame.specs.declared.fault.LumberWhy.{LumberWhy}
 use Rattle.lumber_frame.specs.declared.fault.LumberWhy.TheVariants.{Version, Kind, Compressed, AckFromWriter, TooLong, TooMany}
 use Rattle.lumber_frame.specs.declared.side.Side.TheVariants.{Receiver}
-use Rattle.lumber_frame.specs.Broken.{Broken}
+use Rattle.lumber_frame.specs.Reading.{receiver}
 use Rattle.lumber_frame.specs.Spelling.{Spells, ack_text}
 use Rattle.lumber_session.specs.Staged.{Staged, staged}
 use Rattle.lumber_session.specs.Acts.{last_seq}
 use Rattle.lumber_session.specs.Batches.{EndsNowhere, IsBatch}
-use Rattle.stream_grammar.specs.FieldFaults.{IsFieldStream, IsFieldFault}
 use Rattle.spool_log.specs.declared.fault.Receipt.{Receipt}
 use Rattle.spool_log.specs.declared.fault.TakeFault.{TakeFault}
 use Rattle.desk_access.specs.Call.{Call, takes}
-use Rattle.conn_serve.specs.Step.{frames_of, calls_of, count}
-use Rattle.conn_serve.specs.Protocol.{Protocol, IsNothing}
+use Rattle.desk_access.specs.Step.{frames_of, calls_of, count}
+use Rattle.desk_access.specs.Protocol.{Protocol, IsNothing}
+use Rattle.conn_serve.specs.Front.{IsFront, IsWholeBy, IsFaultyBy}
 use Rattle.conn_serve.specs.Relp.{entry_of, talk_of}
 
--- the entries of staged events of the connection, which has so many entries before them
+-- the entries of staged events of the connection, which has that many entries before them
 abbrev pub entries_of : ℕ → ℕ → List Staged → List Entry
 entries_of conn index [] = []
 entries_of conn index (s ∷ more) = entry_of conn index s.seq s.event ∷ entries_of conn (index + 1) more
@@ -59,16 +59,16 @@ why_of TooLong = why.TooLong
 why_of TooMany = why.TooMany
 
 -- Lumberjack, on the connection of this number. A step is for one batch: its data frames, and the window
--- frames that stand among them. The frames held are those behind the last batch. The index of an entry
+-- frames that stand among them. The frames held are those after the last batch. The index of an entry
 -- counts those that were taken before.
 abbrev pub lumberjack : ℕ → Protocol LumberFrame
 lumberjack conn = record {
-  Spells = Spells Receiver;
-  IsWhole = IsFieldStream (Spells Receiver) (Broken Receiver);
-  IsFaulty = λ b frames place why. (at : ℕ) × (reason : LumberWhy) × IsFieldFault (Spells Receiver) (Broken Receiver) b frames at place reason × (why ≡ why_of reason);
+  IsFront = IsFront (Spells Receiver);
+  IsWhole = IsWholeBy receiver;
+  IsFaulty = IsFaultyBy receiver (λ e. e.at) (λ e. why_of e.why);
   IsMove = λ before s. IsBatch (frames_of before) s.frames × StoresBatch conn (count (calls_of before)) (staged s.frames) s.calls s.text;
   AreHeld = λ before held. EndsNowhere (frames_of before) held;
   Stops = λ before held f late part talk. IsBatch (frames_of before) (held ++ f ∷ []) × EndsAtBatch conn (count (calls_of before)) (staged (held ++ f ∷ [])) late part talk;
-  IsLastMove = λ before held. StoresLast conn (count (calls_of before)) (staged held);
-  StopsLast = λ before held late part talk. (0 < length (staged held)) × EndsAtBatch conn (count (calls_of before)) (staged held) late part talk;
+  IsLastMove = λ before held over. StoresLast conn (count (calls_of before)) (staged held);
+  StopsLast = λ before held over late part talk. (0 < length (staged held)) × EndsAtBatch conn (count (calls_of before)) (staged held) late part talk;
 }

@@ -1,5 +1,5 @@
 -- What a connection does for the frames of RELP.
-use Rattle.std.specs.Prelude.{◌≡◌, ◌⊎◌, ℕ, ◌<◌, Bool, List, [], ◌∷◌, length, take, Result, Ok, Err}
+use Rattle.std.specs.Prelude.{◌≡◌, ◌⊎◌, ℕ, ◌<◌, List, [], ◌∷◌, length, take, Result, Ok, Err}
 use Rattle.event_form.specs.declared.event.Event.{Event}
 use Rattle.event_form.specs.declared.event.Entry.{Entry}
 use Rattle.event_form.specs.declared.talk.Talk.{Talk}
@@ -9,22 +9,23 @@ use Rattle.event_form.specs.declared.talk.Why.TheVariants as why
 use Rattle.relp_frame.specs.declared.frame.Frame.{Frame}
 use Rattle.relp_frame.specs.declared.fault.RelpWhy.{RelpWhy}
 use Rattle.relp_frame.specs.declared.fault.RelpWhy.TheVariants.{Digits, Space, Command, TooLong, Trailer}
-use Rattle.relp_frame.specs.Reason.{IsReason}
+use Rattle.relp_frame.specs.Reading as stream
 use Rattle.relp_frame.specs.Spelling.{IsSpelling}
 use Rattle.relp_session.specs.declared.act.RelpAct.{RelpAct}
 use Rattle.relp_session.specs.declared.act.RelpAct.TheVariants.{Store, Say, End}
 use Rattle.relp_session.specs.Answer.{IsAnswer, stored, hint}
-use Rattle.relp_session.specs.Session.{opened}
-use Rattle.stream_grammar.specs.Framing.{IsStream, IsFaulty}
+use Rattle.relp_session.specs.declared.state.State.{State}
+use Rattle.relp_session.specs.Session.{state_after}
 use Rattle.spool_log.specs.declared.fault.Receipt.{Receipt}
 use Rattle.spool_log.specs.declared.fault.TakeFault.{TakeFault}
 use Rattle.spool_log.specs.declared.fault.TakeFault.TheVariants.{TooLarge, Spent, Full, NotSpool, NoMemory, DiskFault}
 use Rattle.spool_log.specs.Changing.Take.{IsRefusal}
 use Rattle.desk_access.specs.Call.{Call, takes}
-use Rattle.conn_serve.specs.Step.{frames_of, calls_of, count}
-use Rattle.conn_serve.specs.Protocol.{Protocol, IsNothing}
+use Rattle.desk_access.specs.Step.{frames_of, calls_of, count}
+use Rattle.desk_access.specs.Protocol.{Protocol, IsNothing}
+use Rattle.conn_serve.specs.Front.{IsFront, IsWholeBy, IsFaultyBy}
 
--- the entry of an event of the connection, which has so many entries before it
+-- the entry of an event of the connection, which has that many entries before it
 abbrev pub entry_of : ℕ → ℕ → ℕ → Event → Entry
 entry_of conn index unit event = record { conn = conn; index = index; unit = unit; event = event }
 
@@ -32,7 +33,7 @@ entry_of conn index unit event = record { conn = conn; index = index; unit = uni
 abbrev pub one_take : ℕ → ℕ → ℕ → Event → Result Receipt TakeFault → List Call
 one_take conn index unit event answer = takes (entry_of conn index unit event ∷ []) answer ∷ []
 
--- what is done for an act, behind so many entries of the connection
+-- what is done for an act, after that many entries of the connection
 abbrev pub Carries : ℕ → ℕ → RelpAct → List Call → List ℕ → Type 0
 Carries conn index (Store event txnr) calls text = (receipt : Receipt) × (calls ≡ one_take conn index txnr event (Ok receipt)) × (text ≡ stored txnr)
 Carries conn index (Say answer) calls text = (calls ≡ []) × (text ≡ answer)
@@ -55,7 +56,7 @@ talk_of (NotSpool at) = talk.NotSpool at
 talk_of NoMemory = talk.NoMemory
 talk_of DiskFault = talk.DiskFault
 
--- what is written before it: the hint behind a refusal
+-- what is written before it: the hint after a refusal
 abbrev pub last_text : TakeFault → List ℕ
 last_text (TooLarge need most) = hint
 last_text (Spent end) = hint
@@ -83,13 +84,13 @@ EndsAtAct conn index act late part talk.WriteFault = (text : List ℕ) × (k : �
 EndsAtAct conn index act late part talk.NoMemory = IsStarved conn index act late × (part ≡ [])
 EndsAtAct conn index act late part talk = IsRefused conn index act late part talk
 
--- what is done for a frame, by whether the session is open and how many entries stand before it
-abbrev pub CarriesFrame : ℕ → Bool → ℕ → Frame → List Call → List ℕ → Type 0
-CarriesFrame conn is_open index f calls text = (act : RelpAct) × IsAnswer is_open f act × Carries conn index act calls text
+-- what is done for a frame, by how far the session is and how many entries stand before it
+abbrev pub CarriesFrame : ℕ → State → ℕ → Frame → List Call → List ℕ → Type 0
+CarriesFrame conn state index f calls text = (act : RelpAct) × IsAnswer state f act × Carries conn index act calls text
 
 -- how the connection ends at a frame
-abbrev pub StopsAtFrame : ℕ → Bool → ℕ → Frame → List Call → List ℕ → Talk → Type 0
-StopsAtFrame conn is_open index f late part talk = (act : RelpAct) × IsAnswer is_open f act × EndsAtAct conn index act late part talk
+abbrev pub StopsAtFrame : ℕ → State → ℕ → Frame → List Call → List ℕ → Talk → Type 0
+StopsAtFrame conn state index f late part talk = (act : RelpAct) × IsAnswer state f act × EndsAtAct conn index act late part talk
 
 -- the reason, as a connection tells it
 abbrev pub why_of : RelpWhy → Why
@@ -99,17 +100,17 @@ why_of Command = why.Command
 why_of TooLong = why.TooLong
 why_of Trailer = why.Trailer
 
--- RELP, on the connection of this number. A step is for one frame. The session is open where a frame
--- before it opened it, and the index of an entry counts those that were taken before. No frame is held, and
--- where the input is over nothing is left to be done.
+-- RELP, on the connection of this number. A step is for one frame. The frames before it say how far the session is,
+-- and the index of an entry counts those that were taken before. No frame is held, and where the input is over
+-- nothing is left to be done.
 abbrev pub relp : ℕ → Protocol Frame
 relp conn = record {
-  Spells = IsSpelling;
-  IsWhole = IsStream IsSpelling;
-  IsFaulty = λ b frames place why. (at : ℕ) × (reason : RelpWhy) × IsFaulty IsSpelling IsReason b frames at place reason × (why ≡ why_of reason);
-  IsMove = λ before s. (f : Frame) × (s.frames ≡ f ∷ []) × CarriesFrame conn (opened (frames_of before)) (count (calls_of before)) f s.calls s.text;
+  IsFront = IsFront IsSpelling;
+  IsWhole = IsWholeBy stream.relp;
+  IsFaulty = IsFaultyBy stream.relp (λ e. e.at) (λ e. why_of e.why);
+  IsMove = λ before s. (f : Frame) × (s.frames ≡ f ∷ []) × CarriesFrame conn (state_after (frames_of before)) (count (calls_of before)) f s.calls s.text;
   AreHeld = λ before held. held ≡ [];
-  Stops = λ before held. StopsAtFrame conn (opened (frames_of before)) (count (calls_of before));
-  IsLastMove = λ before held. IsNothing;
-  StopsLast = λ before held late part talk. ⊥;
+  Stops = λ before held. StopsAtFrame conn (state_after (frames_of before)) (count (calls_of before));
+  IsLastMove = λ before held over. IsNothing;
+  StopsLast = λ before held over late part talk. ⊥;
 }

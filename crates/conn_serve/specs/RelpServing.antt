@@ -1,29 +1,23 @@
 -- What a session of RELP has served, and what its functions do for a frame.
-use Rattle.std.specs.Prelude.{◌≡◌, ◌⊎◌, ◌<◌, ℕ, Bool, List, [], length, take, Option}
+use Rattle.std.specs.Prelude.{◌≡◌, ◌⊎◌, ◌<◌, ℕ, List, [], length, take}
 use Rattle.event_form.specs.declared.talk.Talk.{Talk}
 use Rattle.event_form.specs.declared.talk.Talk.TheVariants.{WriteFault, NoMemory}
 use Rattle.relp_frame.specs.declared.frame.Frame.{Frame}
-use Rattle.relp_frame.specs.declared.fault.RelpFault.{RelpFault}
-use Rattle.relp_frame.specs.Reading.{Reader, Reads}
 use Rattle.relp_session.specs.declared.act.RelpAct.{RelpAct}
 use Rattle.relp_session.specs.Answer.{hint}
-use Rattle.relp_session.specs.Session.{opened}
+use Rattle.relp_session.specs.declared.state.State.{State}
+use Rattle.relp_session.specs.Session.{state_after}
 use Rattle.spool_log.specs.declared.fault.TakeFault.{TakeFault}
 use Rattle.spool_log.specs.Changing.Take.{IsRefusal}
 use Rattle.desk_access.specs.Call.{Call}
-use Rattle.conn_serve.specs.Step.{Step, frames_of, calls_of, text_of}
-use Rattle.conn_serve.specs.Protocol.{AreMoves, IsNothing}
+use Rattle.desk_access.specs.Protocol.{IsNothing}
+use Rattle.conn_serve.specs.Handled.{Handled}
 use Rattle.conn_serve.specs.Relp.{relp, talk_of, last_text, EndsAtAct, StopsAtFrame}
 
--- Of these bytes all whole frames but those that wait were served, by these calls and this text.
-pub record Served (conn : ℕ) (reader : Reader) (is_open : Bool) (fault : Option RelpFault) (fed : List ℕ) (calls : List Call) (text : List ℕ) : Type 0 where
-  pub steps : List (Step Frame)
-  pub each : AreMoves (relp conn) [] steps
-  pub reads : Reads fed (frames_of steps) reader
-  pub made : calls ≡ calls_of steps
-  pub wrote : text ≡ text_of steps
-  pub opens : is_open ≡ opened (frames_of steps)
-  pub told : fault ≡ reader.fault
+-- after these frames the session is that far, and they were served by these calls and this text
+pub record Handles (conn : ℕ) (state : State) (frames : List Frame) (calls : List Call) (text : List ℕ) : Type 0 where
+  pub handled : Handled (relp conn) frames calls text
+  pub state_is : state ≡ state_after frames
 
 -- a take was answered with this fault: what is written then, and how the connection ends
 abbrev pub EndsByFault : TakeFault → List ℕ → Talk → Type 0
@@ -37,5 +31,5 @@ abbrev pub HaltsAtAct : ℕ → ℕ → RelpAct → Talk → List Call → List 
 HaltsAtAct conn index act talk late part = (IsNothing late part × (talk ≡ NoMemory)) ⊎ EndsAtAct conn index act late part talk
 
 -- the same of a frame
-abbrev pub HaltsAtFrame : ℕ → Bool → ℕ → Frame → Talk → List Call → List ℕ → Type 0
-HaltsAtFrame conn is_open index f talk late part = (IsNothing late part × (talk ≡ NoMemory)) ⊎ StopsAtFrame conn is_open index f late part talk
+abbrev pub HaltsAtFrame : ℕ → State → ℕ → Frame → Talk → List Call → List ℕ → Type 0
+HaltsAtFrame conn state index f talk late part = (IsNothing late part × (talk ≡ NoMemory)) ⊎ StopsAtFrame conn state index f late part talk

@@ -6,20 +6,21 @@ use Rattle.event_form.specs.declared.talk.Attended.{Attended}
 use Rattle.edge_io.specs.declared.proto.Proto.{Proto}
 use Rattle.edge_io.specs.declared.proto.Proto.TheVariants.{Relp, Lumberjack, Hec}
 use Rattle.desk_access.specs.Call.{Call}
-use Rattle.conn_serve.specs.Step.{count}
-use Rattle.conn_serve.specs.Protocol.{Carried}
+use Rattle.desk_access.specs.Step.{count}
+use Rattle.desk_access.specs.Carried.{Carried}
 use Rattle.conn_serve.specs.Relp.{relp}
 use Rattle.conn_serve.specs.Lumber.{lumberjack}
 
 -- What was carried, by the protocol of the rules. HEC is not served yet.
-abbrev pub CarriedBy : Proto → ℕ → List ℕ → List Call → List ℕ → Talk → Type 0
-CarriedBy Relp conn b calls text talk = Carried (relp conn) b calls text talk
-CarriedBy Lumberjack conn b calls text talk = Carried (lumberjack conn) b calls text talk
-CarriedBy Hec conn b calls text talk = ⊥
+abbrev pub CarriedBy : Proto → ℕ → Option (List ℕ) → List ℕ → List Call → List ℕ → Talk → Type 0
+CarriedBy Relp conn left b calls text talk = Carried (relp conn) left b calls text talk
+CarriedBy Lumberjack conn left b calls text talk = Carried (lumberjack conn) left b calls text talk
+CarriedBy Hec conn left b calls text talk = ⊥
 
--- Some bytes were read, calls made on the desk and a text written, and of these this was carried. The
--- entries that were taken are counted.
-pub record Serves (Is : List ℕ → List Call → List ℕ → Talk → Type 0) (given given' left left' written written' : Option (List ℕ)) (ran : List Call → Type 0) (attended : Attended) : Type 0 where
+-- Some bytes were read, calls made on the desk and a text written, and of these this was carried: of what is left
+-- of the input too, so that an ending at its end says that it was read to there. The entries that were taken are
+-- counted.
+pub record Serves (Is : Option (List ℕ) → List ℕ → List Call → List ℕ → Talk → Type 0) (given given' left left' written written' : Option (List ℕ)) (ran : List Call → Type 0) (attended : Attended) : Type 0 where
   pub bytes : List ℕ
   pub calls : List Call
   pub text : List ℕ
@@ -28,4 +29,4 @@ pub record Serves (Is : List ℕ → List Call → List ℕ → Talk → Type 0)
   pub wrote : Appends written written' text
   pub made : ran calls
   pub counted : attended.taken ≡ count calls
-  pub carried : Is bytes calls text attended.talk
+  pub carried : Is left' bytes calls text attended.talk

@@ -8,19 +8,14 @@
 #![tactic(auto)]
 
 mod connection;
+mod feed;
 mod laws;
-mod lumber;
-mod lumber_act;
-#[cfg(test)]
-mod lumber_tests;
+mod lumberjack;
 mod relp;
-mod relp_act;
 mod rules;
 mod serve;
 mod session;
-#[cfg(test)]
-mod tests;
-mod text;
+mod talk;
 
 pub use laws::{acked_is_taken, acks_are_of_groups};
 pub use rules::Rules;

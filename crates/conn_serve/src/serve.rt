@@ -1,14 +1,16 @@
 //! Serving one connection.
-ghost use Rattle.std.specs.Prelude.{◌≡◌, ◌⊎◌, ◌+◌, ◌<◌, ◌≤◌, ◌^◌, ℕ, List, [], ◌++◌, length, IfOk, IfErr, IfSome, IfNone, OnErr, IsErrOf};
-ghost use Rattle.std.specs.Io.KnownBytes.{Appends, Consumes, IsAtEnd};
+ghost use Rattle.std.specs.Prelude.{◌≡◌, ◌≢◌, ◌⊎◌, ◌+◌, ◌<◌, ◌≤◌, ◌^◌, ℕ, List, [], length, Option, IfSome, IfNone};
+ghost use Rattle.std.specs.Io.KnownBytes.{IsAtEnd};
 ghost use Rattle.desk_access.specs.Call.{Call};
-ghost use Rattle.conn_serve.specs.Step.{count};
-ghost use Rattle.conn_serve.specs.Endings.{MayEnd, CountsFaults, IsByFault, IsAtEndOfInput};
+ghost use Rattle.desk_access.specs.Endings.{IsByFault, IsAtEndOfInput};
+ghost use Rattle.conn_serve.specs.Done.{Done, Leads, SoFar};
+ghost use Rattle.conn_serve.specs.Endings.{MayEnd, CountsFaults};
 ghost use Rattle.conn_serve.specs.Serves.{CarriedBy, Serves};
 
 use crate::connection::Connection;
-use crate::lumber::LumberSession;
-use crate::relp::RelpSession;
+use crate::feed::{PIECE, turn};
+use crate::lumberjack::session::LumberSession;
+use crate::relp::session::RelpSession;
 use crate::rules::Rules;
 use crate::session::Session;
 use desk_access::Access;
@@ -19,51 +21,14 @@ use std::alloc::Global;
 /// How many bytes a connection may have.
 const LIMIT: u64 = 1 << 40;
 
-/// How many bytes a read asks for at most.
-const PIECE: usize = 8192;
-
-// Reads once, at most `room` bytes, and feeds the session what came. Answers how many bytes it was; 0 is
-// the end of the input. The error is the ending: `ReadFault` or `NoMemory`.
-fn read_piece<L: Link, S: Session>(
-    link: &mut L,
-    session: &mut S,
-    room: usize,
-) -> Result<usize, Talk>
-    requires some { 0 < room }
-    requires few { room ≤ 8192 }
-    requires fits { S.extent session.old + room ≤ 2 ^ 40 }
-
-    ensures room { IfOk result (λ len. len ≤ room) }
-    ensures fed { IfOk result (λ len. (piece : List ℕ) × (length piece ≡ len) × Appends (L.given link.old) (L.given link.new) piece × Consumes (L.left link.old) (L.left link.new) piece
-        × ((number : ℕ) (fed : List ℕ) (calls : List Call) (text : List ℕ) → S.served number session.old fed calls text → S.served number session.new (fed ++ piece) calls text × (count calls + S.waiting session.new ≤ length fed + len))) }
-    ensures extent { IfOk result (λ len. S.extent session.new ≤ S.extent session.old + len) }
-    ensures end { IfOk result (λ len. len ≡ 0 → IsAtEnd (L.left link.new)) }
-    ensures unread { IsErrOf result Talk.ReadFault → Appends (L.given link.old) (L.given link.new) [] × Consumes (L.left link.old) (L.left link.new) [] }
-    ensures starved { IsErrOf result Talk.NoMemory → (piece : List ℕ) × Appends (L.given link.old) (L.given link.new) piece × Consumes (L.left link.old) (L.left link.new) piece }
-    ensures only { IfErr result (λ talk. (talk ≡ Talk.ReadFault) ⊎ (talk ≡ Talk.NoMemory)) }
-    ensures same_session { OnErr result (session.new ≡ session.old) }
-    ensures reads { CountsFaults (IsErrOf result Talk.ReadFault) (L.read_faults link.old) (L.read_faults link.new) }
-    ensures same { L.same link.old link.new }
-    ensures apart { L.read_apart link.old link.new }
-{
-    let mut buf = [0; PIECE];
-    let len = match link.read(&mut buf[..room]) {
-        Ok(len) => len,
-        Err(_) => return Err(Talk::ReadFault),
-    };
-    match session.feed(&buf[..len]) {
-        Ok(()) => Ok(len),
-        Err(_) => Err(Talk::NoMemory),
-    }
-}
-
-// Where no frame waits, and the last read brought so many bytes: how the connection is to end if its input
+// Where no frame waits, and the last read brought that many bytes: how the connection is to end if its input
 // is over, by a fault of the bytes or because nothing came.
 fn over<S: Session>(session: &S, len: usize) -> Option<Talk>
     requires idle { S.idle session.now }
 
-    ensures closing { IfSome result (λ talk. (number : ℕ) (fed : List ℕ) (calls : List Call) (text : List ℕ) → S.served number session.now fed calls text → S.closing number session.now talk fed calls text) }
-    ensures only { IfSome result (λ talk. IsByFault talk ⊎ ((len ≡ 0) × IsAtEndOfInput talk)) }
+    ensures closing { IfSome result (λ talk. (number : ℕ) (left : Option (List ℕ)) (fed : List ℕ) (calls : List Call) (text : List ℕ) → (len ≡ 0 → IsAtEnd left)
+        → S.served number session.now fed calls text → S.closing number session.now left talk fed calls text) }
+    ensures only { IfSome result (λ talk. IsByFault talk ⊎ IsAtEndOfInput talk) }
     ensures may_end { IfNone result ((number : ℕ) → MayEnd (S.served number session.now) (S.carried number)) }
     ensures more { IfNone result (0 < len) }
 {
@@ -71,6 +36,33 @@ fn over<S: Session>(session: &S, len: usize) -> Option<Talk>
         return Some(talk);
     }
     if len == 0 { Some(session.end()) } else { None }
+}
+
+// Where the input is over, and would end the connection so: does what is to be done for that, and answers
+// how the connection ends.
+fn close<L: Link, A: Access, S: Session>(
+    link: &mut L,
+    access: &mut A,
+    connection: &mut Connection,
+    session: &mut S,
+    over: Talk,
+) -> Talk
+    requires so_far { SoFar (S.served connection.old.number session.old) connection.old.taken 0 }
+    requires may { A.may_take access.old connection.old.number connection.old.taken }
+    requires only { IsByFault over ⊎ IsAtEndOfInput over }
+
+    ensures closes { Done (λ calls. A.ran access.old calls access.new) (L.taken link.old) (L.taken link.new)
+        connection.old.taken connection.new.taken (λ calls text. (left : Option (List ℕ)) → Leads connection.old.taken
+        (S.closing connection.old.number session.old left over) (λ fed called said. S.carried connection.old.number left fed called said result) calls text) }
+    ensures unread { result ≢ Talk.ReadFault }
+    ensures writes { CountsFaults (result ≡ Talk.WriteFault) (L.write_faults link.old) (L.write_faults link.new) }
+    ensures same { L.same link.old link.new }
+    ensures apart { L.write_apart link.old link.new }
+{
+    match session.finish(link, access, connection, over) {
+        Ok(()) => over,
+        Err(talk) => talk,
+    }
 }
 
 // Serves the connection to its end. The order in which endings are judged stands here: what a frame
@@ -84,33 +76,28 @@ fn run<L: Link, A: Access, S: Session>(
     session: &mut S,
 ) -> Talk
     requires start { S.served connection.old.number session.old [] [] [] }
+    requires idle { S.idle session.old }
     requires unfed { S.extent session.old ≡ 0 }
     requires may_end { MayEnd (S.served connection.old.number session.old) (S.carried connection.old.number) }
     requires first { connection.old.taken ≡ 0 }
     requires may { A.may_take access.old connection.old.number 0 }
 
-    ensures serves { Serves (S.carried connection.old.number) (L.given link.old) (L.given link.new) (L.left link.old) (L.left link.new) (L.taken link.old) (L.taken link.new) (λ calls. A.ran access.old calls access.new) (record { talk = result; taken = connection.new.taken }) }
+    ensures serves { Serves (S.carried connection.old.number) (L.given link.old) (L.given link.new) (L.left link.old) (L.left link.new)
+        (L.taken link.old) (L.taken link.new) (λ calls. A.ran access.old calls access.new) (record { talk = result; taken = connection.new.taken }) }
     ensures reads { CountsFaults (result ≡ Talk.ReadFault) (L.read_faults link.old) (L.read_faults link.new) }
     ensures writes { CountsFaults (result ≡ Talk.WriteFault) (L.write_faults link.old) (L.write_faults link.new) }
     ensures same { L.same link.old link.new }
-    ensures end { IsAtEndOfInput result → IsAtEnd (L.left link.new) }
 {
     let mut total = 0;
     while total < LIMIT {
         let room = (LIMIT - total).min(PIECE as u64) as usize;
-        let len = match read_piece(link, session, room) {
+        let len = match turn(alloc, link, access, connection, session, room) {
             Ok(len) => len,
             Err(talk) => return talk,
         };
         total += len as u64;
-        if let Err(talk) = session.serve(alloc, link, access, connection) {
-            return talk;
-        }
         if let Some(talk) = over(session, len) {
-            return match session.finish(link, access, connection) {
-                Ok(()) => talk,
-                Err(other) => other,
-            };
+            return close(link, access, connection, session, talk);
         }
     }
     Talk::TooMuch { at: LIMIT }
@@ -133,11 +120,12 @@ fn run<L: Link, A: Access, S: Session>(
 /// Endings, in the order in which they are judged: what a whole frame asks for that isn't carried whole
 /// (`WriteFault`; `Full`, `TooLarge` and `Spent`, with RELP's hint written and no answer; `DiskFault`,
 /// `NotSpool` and `NoMemory`, with nothing written; a `close` of RELP, which is answered, with the hint:
-/// `Closed`, and bytes behind it are dropped); the fault of the bytes; the end of the input, `Ended` at a
+/// `Closed`, and bytes after it are dropped); the fault of the bytes; the end of the input, `Ended` at a
 /// frame's end and else `Truncated`; a read that fails; and `TooMuch` once 2^40 bytes were read. Where the
 /// last batch isn't stored or acknowledged whole, that is the ending in place of the fault or the end.
-/// `ReadFault` and `WriteFault` come only where the link's count rose. `NoMemory` may come at any frame
-/// and any read.
+/// `Ended` and `Truncated` come only where the input was read to its end, `ReadFault` and `WriteFault` only
+/// where the link's count rose. `NoMemory` may come at the
+/// beginning, with nothing read, and at any frame.
 pub fn attend<L: Link, A: Access>(
     alloc: Global,
     link: &mut L,
@@ -148,25 +136,25 @@ pub fn attend<L: Link, A: Access>(
     requires proto { (rules.now.proto ≡ Proto.Relp) ⊎ (rules.now.proto ≡ Proto.Lumberjack) }
     requires may { A.may_take access.old conn 0 }
 
-    ensures carried { Serves (CarriedBy rules.now.proto conn) (L.given link.old) (L.given link.new) (L.left link.old) (L.left link.new) (L.taken link.old) (L.taken link.new) (λ calls. A.ran access.old calls access.new) result }
+    ensures carried { Serves (CarriedBy rules.now.proto conn) (L.given link.old) (L.given link.new) (L.left link.old) (L.left link.new)
+        (L.taken link.old) (L.taken link.new) (λ calls. A.ran access.old calls access.new) result }
     ensures reads { CountsFaults (result.talk ≡ Talk.ReadFault) (L.read_faults link.old) (L.read_faults link.new) }
     ensures writes { CountsFaults (result.talk ≡ Talk.WriteFault) (L.write_faults link.old) (L.write_faults link.new) }
     ensures same { L.same link.old link.new }
-    ensures end { IsAtEndOfInput result.talk → IsAtEnd (L.left link.new) }
 {
     let mut connection = Connection {
         number: conn,
         taken: 0,
     };
     let talk = match rules.proto {
-        Proto::Relp => {
-            let mut session = RelpSession::new(alloc);
-            run(alloc, link, access, &mut connection, &mut session)
-        }
-        Proto::Lumberjack => {
-            let mut session = LumberSession::new(alloc);
-            run(alloc, link, access, &mut connection, &mut session)
-        }
+        Proto::Relp => match RelpSession::new(alloc) {
+            Ok(mut session) => run(alloc, link, access, &mut connection, &mut session),
+            Err(_) => Talk::NoMemory,
+        },
+        Proto::Lumberjack => match LumberSession::new(alloc) {
+            Ok(mut session) => run(alloc, link, access, &mut connection, &mut session),
+            Err(_) => Talk::NoMemory,
+        },
         Proto::Hec => unreachable!(),
     };
     Attended {

@@ -14,3 +14,4 @@ pub mod Issued
 pub mod OneGroup
 pub mod InOrder
 pub mod LegalEntries
+pub mod Moves

@@ -7,3 +7,7 @@ pub mod Alone
 pub mod Journal
 pub mod Legal
 pub mod Laws
+pub mod Step
+pub mod Protocol
+pub mod Carried
+pub mod Endings

@@ -1,37 +1,45 @@
-use Rattle.std.proofs.Common.{◌∙◌, ap, sym, arith, length}
-use Rattle.relp_frame.specs.Reading.{Reader}
-use Rattle.lumber_frame.specs.Reading.{Reader as LumberReader}
+use Rattle.std.proofs.Common.{◌∙◌, [], ap, sym, subst}
+use Rattle.edge_io.specs.declared.proto.Proto.{Proto}
+use Rattle.stream_grammar.specs.Reading.{Window}
+use Rattle.relp_frame.specs.declared.fault.RelpFault.{RelpFault}
+use Rattle.lumber_frame.specs.declared.fault.LumberFault.{LumberFault}
 use Rattle.lumber_session.specs.Counting.{Core}
-use Rattle.conn_serve.proofs.Sessions.{served_none, may_end}
-use Rattle.conn_serve.proofs.Batching.{handled_none}
-use Rattle.conn_serve.proofs.LumberSessions as lumber
+use Rattle.event_form.specs.declared.talk.Talk.TheVariants.{NoMemory}
+use Rattle.conn_serve.specs.Done.{told}
+use Rattle.conn_serve.specs.Serves.{CarriedBy}
+use Rattle.conn_serve.proofs.Batching.{handles_none}
+use Rattle.conn_serve.proofs.RelpSessions as relp_sessions
+use Rattle.conn_serve.proofs.LumberSessions as lumber_sessions
+use Rattle.conn_serve.proofs.Running.{serves_none}
+use Rattle.conn_serve.proofs.Windowed as windowed
 use Rattle.conn_serve.proofs.serve.attend.Goals as goal
 
-pub run-talk-requires-clause-start : goal.run-talk-requires-clause-start
-run-talk-requires-clause-start g c =
-    let new = c.new-session.ensures in
-    served_none c.args.conn c.new-session.result.reader c.new-session.result.core c.new-session.result.fault new.reads new.core (new.fault ∙ sym (ap (λ (r : Reader). r.fault) new.reader))
+pub run-requires-clause-may_end : goal.run-requires-clause-may_end
+run-requires-clause-may_end g c =
+    let session = c.in-Ok.session in
+    let new = c.in-Ok.ensures in
+    windowed.may_end (relp_sessions.kind c.args.conn session.core) session.window session.fault (ap (λ (w : Window RelpFault). w.whole) new.window) new.fault
 
-pub run-talk-requires-clause-unfed : goal.run-talk-requires-clause-unfed
-run-talk-requires-clause-unfed g c =
-    let new = c.new-session.ensures in
-    omega (arith, ap (λ (r : Reader). r.at) new.reader, ap (λ (r : Reader). length r.rest) new.reader)
+pub run-requires-in-Ok-new-clause-start : goal.run-requires-in-Ok-new-clause-start
+run-requires-in-Ok-new-clause-start g c =
+    let session = c.in-Ok-new.session in
+    let new = c.in-Ok-new.ensures in
+    lumber_sessions.served_none c.args.conn session.window session.core session.staged.entries.items session.staged.last session.fault
+    (handles_none c.args.conn session.core session.staged.entries.items session.staged.last new.behind (ap (λ (x : Core). x.due) new.core) new.staged)
+    new.reads (new.fault ∙ sym (ap (λ (w : Window LumberFault). w.fault) new.window))
 
-pub run-talk-requires-clause-may_end : goal.run-talk-requires-clause-may_end
-run-talk-requires-clause-may_end g c =
-    let new = c.new-session.ensures in
-    may_end c.args.conn c.new-session.result.reader c.new-session.result.core c.new-session.result.fault (ap (λ (r : Reader). r.waiting) new.reader) new.fault
+pub run-requires-in-Ok-new-clause-may_end : goal.run-requires-in-Ok-new-clause-may_end
+run-requires-in-Ok-new-clause-may_end g c =
+    let session = c.in-Ok-new.session in
+    let new = c.in-Ok-new.ensures in
+    windowed.may_end (lumber_sessions.kind c.args.conn session.core session.staged.entries.items session.staged.last) session.window session.fault (ap (λ (w : Window LumberFault). w.whole) new.window) new.fault
 
-pub run-talk-requires-in-Lumberjack-clause-start : goal.run-talk-requires-in-Lumberjack-clause-start
-run-talk-requires-in-Lumberjack-clause-start g c =
-    let session = c.new-session-in-Lumberjack.result in
-    let new = c.new-session-in-Lumberjack.ensures in
-    lumber.served_none c.args.conn session.reader session.core session.staged.entries.items session.staged.last session.fault
-    (handled_none c.args.conn session.core session.staged.entries.items session.staged.last new.behind (ap (λ (x : Core). x.due) new.core) new.staged)
-    (ap (λ (r : LumberReader). r.side) new.reader) new.reads (new.fault ∙ sym (ap (λ (r : LumberReader). r.fault) new.reader))
+pub returns-in-Err-clause-carried : goal.returns-in-Err-clause-carried
+returns-in-Err-clause-carried g c =
+    let now = told (g.L.Source.given c.args.link.now) (g.L.Source.left c.args.link.now) (g.L.Sink.taken c.args.link.now) in
+    serves_none (CarriedBy c.args.rules.now.proto c.args.conn) now _ NoMemory (g.met.A.Access.ran_none _) (subst (λ (p : Proto). CarriedBy p c.args.conn now.left [] [] [] NoMemory) (sym c.in-Relp.is) (relp_sessions.none_carried c.args.conn now.left))
 
-pub run-talk-requires-in-Lumberjack-clause-may_end : goal.run-talk-requires-in-Lumberjack-clause-may_end
-run-talk-requires-in-Lumberjack-clause-may_end g c =
-    let session = c.new-session-in-Lumberjack.result in
-    let new = c.new-session-in-Lumberjack.ensures in
-    lumber.may_end c.args.conn session.reader session.core session.staged.entries.items session.staged.last session.fault (ap (λ (r : LumberReader). r.waiting) new.reader) new.fault
+pub returns-in-Err-new-clause-carried : goal.returns-in-Err-new-clause-carried
+returns-in-Err-new-clause-carried g c =
+    let now = told (g.L.Source.given c.args.link.now) (g.L.Source.left c.args.link.now) (g.L.Sink.taken c.args.link.now) in
+    serves_none (CarriedBy c.args.rules.now.proto c.args.conn) now _ NoMemory (g.met.A.Access.ran_none _) (subst (λ (p : Proto). CarriedBy p c.args.conn now.left [] [] [] NoMemory) (sym c.in-Lumberjack.is) (lumber_sessions.none_carried c.args.conn now.left))

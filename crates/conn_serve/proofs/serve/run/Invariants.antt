@@ -1,6 +1,7 @@
 use Rattle.std.proofs.Common.{◌-◌, ◌≡◌, ◌≤◌}
+use Rattle.conn_serve.specs.Done.{told}
 use Rattle.conn_serve.specs.Endings.{MayEnd}
-use Rattle.conn_serve.proofs.Running.{Progress, told}
+use Rattle.conn_serve.proofs.Running.{Progress}
 use Rattle.conn_serve.proofs.serve.run.Given as goal
 
 abbrev pub invariant-loop-total : goal.invariant-loop-total
@@ -11,6 +12,7 @@ invariant-loop-total g l =
           (told (g.L.Source.given l.fn.link) (g.L.Source.left l.fn.link) (g.L.Sink.taken l.fn.link))
           (told (g.L.Source.given l.link) (g.L.Source.left l.link) (g.L.Sink.taken l.link))
           (λ calls. g.A.Access.ran l.fn.access calls l.access) l.connection.taken l.total;
+      idle : g.S.Session.idle l.session;
       may_end : MayEnd (g.S.Session.served number l.session) (g.S.Session.carried number);
       same_number : l.connection.number ≡ number;
       may : g.A.Access.may_take l.access number l.connection.taken;

@@ -1,0 +1,102 @@
+use Rattle.std.proofs.Common.{◌≡◌, ◌∙◌, ◌-◌, ◌+◌, ◌≤◌, ℕ, List, ◌++◌, length, take, drop, refl, sym, ap, subst, arith, length-drop, take_all}
+use Rattle.std.proofs.lemmas.List.{length-take-le, take-append-drop}
+use Rattle.std.proofs.Math.Seq.{take-add}
+use Rattle.conn_serve.specs.Done.{Anyway, SoFar}
+use Rattle.conn_serve.proofs.Acting.{err_is}
+use Rattle.conn_serve.proofs.Faults.{counts_from, counts_none, err_of}
+use Rattle.conn_serve.proofs.Feeding.{on_start, on_fed, on_then, on_halts, on_is, goes_as}
+use Rattle.conn_serve.proofs.Leading.{so_far_fed, so_far_less, so_far_then}
+use Rattle.conn_serve.proofs.feed.take_in.Goals as goal
+
+pub loop-fed-init : goal.loop-fed-init
+loop-fed-init g c = record {
+  done = on_start _ _ _ _ (g.met.A.Access.ran_none _);
+  within = omega arith;
+  so_far = so_far_less _ _ _ _ (omega arith) c.requires.so_far;
+  idle = c.requires.idle;
+  extent = omega arith;
+  same_number = refl;
+  may = c.requires.may;
+  writes = refl;
+  same = g.L.Object.same_refl _;
+  apart = g.met.L.Sink.apart_refl _;
+}
+
+pub serve-requires-clause-so_far : goal.serve-requires-clause-so_far
+serve-requires-clause-so_far g c =
+    let l = c.loop-fed in
+    let inv = l.invariant in
+    let piece = c.args.piece.now in
+    let number = c.args.connection.now.number in
+    let rest = drop l.fed piece in
+    let left : take (length piece - l.fed) rest ≡ rest = take_all (length piece - l.fed) rest (omega (arith, length-drop l.fed piece)) in
+    let n = c.feed-fed.result in
+    let within : n ≤ length rest = omega (arith, c.feed-fed.ensures.within, ap length left) in
+    let on = λ (b : List ℕ) (cs : _) (t : List ℕ) (s : _). subst (λ (v : List ℕ). g.S.Session.served number c.feed-fed.new.self (b ++ take n v) cs t) left (c.feed-fed.ensures.fed number b cs t s) in
+    subst (λ (k : ℕ). SoFar (g.S.Session.served k c.feed-fed.new.self) l.connection.taken 0) (sym inv.same_number)
+    (so_far_fed _ _ 0 (take n rest) (g.S.Session.served number l.session) _ on (omega (arith, length-take-le n rest within, length-drop l.fed piece, inv.within, within)) inv.so_far)
+
+pub loop-fed-preserved : goal.loop-fed-preserved
+loop-fed-preserved g c =
+    let l = c.loop-fed in
+    let inv = l.invariant in
+    let piece = c.args.piece.now in
+    let number = c.args.connection.now.number in
+    let rest = drop l.fed piece in
+    let left : take (length piece - l.fed) rest ≡ rest = take_all (length piece - l.fed) rest (omega (arith, length-drop l.fed piece)) in
+    let n = c.feed-fed.result in
+    let within : n ≤ length rest = omega (arith, c.feed-fed.ensures.within, ap length left) in
+    let on = λ (b : List ℕ) (cs : _) (t : List ℕ) (s : _). subst (λ (v : List ℕ). g.S.Session.served number c.feed-fed.new.self (b ++ take n v) cs t) left (c.feed-fed.ensures.fed number b cs t s) in
+    let call = c.in_ok-serve.ensures in
+    let goes = goes_as _ _ _ _ _ _ number (λ k. g.S.Session.served k c.feed-fed.new.self) (λ k. g.S.Session.served k c.serve.new.self) inv.same_number call.goes in
+    let from = g.S.Session.served number c.args.session.now in
+    let mid = g.S.Session.served number c.feed-fed.new.self in
+    let to = g.S.Session.served number c.serve.new.self in
+    let fed = on_fed _ _ _ _ _ (take l.fed piece) (take n rest) from (g.S.Session.served number l.session) mid on inv.done in
+    let so_far = so_far_fed _ _ (length piece - (l.fed + n)) (take n rest) (g.S.Session.served number l.session) (g.S.Session.served number c.feed-fed.new.self) on (omega (arith, length-take-le n rest within, length-drop l.fed piece, inv.within, within)) inv.so_far in
+    record {
+      done = on_is _ _ _ _ _ (take l.fed piece ++ take n rest) (take (l.fed + n) piece) from to (sym (take-add l.fed n piece)) (on_then _ _ _ _ _ _ _ _ _ (take l.fed piece ++ take n rest) from mid to (λ xs ys p q. g.met.A.Access.ran_more _ _ _ xs ys p q) fed goes);
+      within = omega (arith, within, length-drop l.fed piece, inv.within);
+      so_far = so_far_then _ _ _ _ _ _ _ _ so_far goes;
+      idle = call.idle;
+      extent = omega (arith, inv.extent, c.feed-fed.ensures.extent, call.extent);
+      same_number = call.number ∙ inv.same_number;
+      may = rw (← inv.same_number) call.may;
+      writes = call.writes.quiet (λ is. cc) ∙ inv.writes;
+      same = g.L.Object.same_trans _ _ _ inv.same call.same;
+      apart = g.met.L.Sink.apart_trans _ _ _ inv.apart call.apart;
+    }
+
+pub returns-in_err-serve-clause-halts : goal.returns-in_err-serve-clause-halts
+returns-in_err-serve-clause-halts g c =
+    let l = c.loop-fed in
+    let inv = l.invariant in
+    let piece = c.args.piece.now in
+    let number = c.args.connection.now.number in
+    let rest = drop l.fed piece in
+    let left : take (length piece - l.fed) rest ≡ rest = take_all (length piece - l.fed) rest (omega (arith, length-drop l.fed piece)) in
+    let n = c.feed-fed.result in
+    let on = λ (b : List ℕ) (cs : _) (t : List ℕ) (s : _). subst (λ (v : List ℕ). g.S.Session.served number c.feed-fed.new.self (b ++ take n v) cs t) left (c.feed-fed.ensures.fed number b cs t s) in
+    let call = c.in_err-serve.ensures in
+    let talk = c.in_err-serve.field-0.0 in
+    let halts = goes_as _ _ _ _ _ _ number (λ k. g.S.Session.served k c.feed-fed.new.self) (λ k. Anyway (g.S.Session.carried k) talk) inv.same_number call.halts in
+    let from = g.S.Session.served number c.args.session.now in
+    let mid = g.S.Session.served number c.feed-fed.new.self in
+    let fed = on_fed _ _ _ _ _ (take l.fed piece) (take n rest) from (g.S.Session.served number l.session) mid on inv.done in
+    err_is c.from_residual.result talk _ c.from_residual.ensures.1
+    (on_halts _ _ _ _ _ (take l.fed piece ++ take n rest) (drop (l.fed + n) piece) piece from (g.S.Session.carried number) talk (ap (λ (v : List ℕ). v ++ drop (l.fed + n) piece) (sym (take-add l.fed n piece)) ∙ take-append-drop (l.fed + n) piece)
+    (on_then _ _ _ _ _ _ _ _ _ (take l.fed piece ++ take n rest) from mid (Anyway (g.S.Session.carried number) talk) (λ xs ys p q. g.met.A.Access.ran_more _ _ _ xs ys p q) fed halts))
+
+pub returns-in_err-serve-clause-writes : goal.returns-in_err-serve-clause-writes
+returns-in_err-serve-clause-writes g c =
+    let err = err_of c.from_residual.result c.in_err-serve.field-0.0 c.from_residual.ensures.1 in
+    counts_from _ _ _ _ _ c.loop-fed.invariant.writes (λ is. sym err ∙ is) (λ is. err ∙ is) c.in_err-serve.ensures.writes
+
+pub returns-clause-goes : goal.returns-clause-goes
+returns-clause-goes g c =
+    let l = c.loop-fed in
+    let all : take l.fed c.args.piece.now ≡ c.args.piece.now = take_all l.fed c.args.piece.now (omega arith) in
+    on_is _ _ _ _ _ (take l.fed c.args.piece.now) c.args.piece.now (g.S.Session.served c.args.connection.now.number c.args.session.now) (g.S.Session.served c.args.connection.now.number l.session) all l.invariant.done
+
+pub returns-clause-writes : goal.returns-clause-writes
+returns-clause-writes g c = counts_none _ _ _ (λ is. cc) c.loop-fed.invariant.writes

@@ -1,0 +1,104 @@
+//! How a session gets the bytes of its connection.
+ghost use Rattle.std.specs.Prelude.{◌≡◌, ◌⊎◌, ◌+◌, ◌<◌, ◌≤◌, ◌^◌, ℕ, List, Option, length, IfOk, IfErr, OnOk, IsErrOf};
+ghost use Rattle.std.specs.Io.KnownBytes.{IsAtEnd};
+ghost use Rattle.desk_access.specs.Endings.{IsAtMove};
+ghost use Rattle.conn_serve.specs.Done.{Done, LeadsOn, SoFar, Turn, told};
+ghost use Rattle.conn_serve.specs.Endings.{CountsFaults, MayEnd};
+
+use crate::connection::Connection;
+use crate::session::Session;
+use desk_access::Access;
+use edge_io::Link;
+use event_form::Talk;
+use std::alloc::Global;
+
+/// How many bytes a read asks for at most.
+pub const PIECE: usize = 8192;
+
+/// Takes in a piece that was read, to its end: feeds as much of it as there is room for and serves the
+/// frames that are whole by then, in turn. The error is the ending of the connection.
+pub fn take_in<L: Link, A: Access, S: Session>(
+    alloc: Global,
+    link: &mut L,
+    access: &mut A,
+    connection: &mut Connection,
+    session: &mut S,
+    piece: &[u8],
+) -> Result<(), Talk>
+    requires idle { S.idle session.old }
+    requires fits { S.extent session.old + length piece.now ≤ 2 ^ 40 }
+    requires so_far { SoFar (S.served connection.old.number session.old) connection.old.taken (length piece.now) }
+    requires may { A.may_take access.old connection.old.number connection.old.taken }
+
+    ensures goes { OnOk result (Done (λ calls. A.ran access.old calls access.new) (L.taken link.old) (L.taken link.new)
+        connection.old.taken connection.new.taken (LeadsOn connection.old.taken piece.now (S.served connection.old.number session.old)
+        (S.served connection.old.number session.new))) }
+    ensures halts { IfErr result (λ talk. Done (λ calls. A.ran access.old calls access.new) (L.taken link.old) (L.taken link.new)
+        connection.old.taken connection.new.taken (LeadsOn connection.old.taken piece.now (S.served connection.old.number session.old)
+        (λ fed calls text. (left : Option (List ℕ)) → S.carried connection.old.number left fed calls text talk))) }
+    ensures only { IfErr result IsAtMove }
+    ensures idle { OnOk result (S.idle session.new) }
+    ensures extent { OnOk result (S.extent session.new ≤ S.extent session.old + length piece.now) }
+    ensures number { connection.new.number ≡ connection.old.number }
+    ensures may { OnOk result (A.may_take access.new connection.old.number connection.new.taken) }
+    ensures writes { CountsFaults (IsErrOf result Talk.WriteFault) (L.write_faults link.old) (L.write_faults link.new) }
+    ensures same { L.same link.old link.new }
+    ensures apart { L.write_apart link.old link.new }
+{
+    let mut fed = 0;
+    while fed < piece.len() {
+        fed += session.feed(&piece[fed..]);
+        session.serve(alloc, link, access, connection)?;
+    }
+    Ok(())
+}
+
+/// Reads once, at most `room` bytes, and takes in what came. Answers how many bytes it was; 0 is the end
+/// of the input. The error is the ending of the connection.
+pub fn turn<L: Link, A: Access, S: Session>(
+    alloc: Global,
+    link: &mut L,
+    access: &mut A,
+    connection: &mut Connection,
+    session: &mut S,
+    room: usize,
+) -> Result<usize, Talk>
+    requires some { 0 < room }
+    requires few { room ≤ PIECE }
+    requires idle { S.idle session.old }
+    requires fits { S.extent session.old + room ≤ 2 ^ 40 }
+    requires so_far { SoFar (S.served connection.old.number session.old) connection.old.taken room }
+    requires may { A.may_take access.old connection.old.number connection.old.taken }
+    requires may_end { MayEnd (S.served connection.old.number session.old) (S.carried connection.old.number) }
+
+    ensures room { IfOk result (λ len. len ≤ room) }
+    ensures goes { IfOk result (λ len. Turn (λ calls. A.ran access.old calls access.new)
+        (told (L.given link.old) (L.left link.old) (L.taken link.old))
+        (told (L.given link.new) (L.left link.new) (L.taken link.new)) connection.old.taken connection.new.taken
+        (λ piece calls text. (length piece ≡ len) × LeadsOn connection.old.taken piece (S.served connection.old.number session.old)
+        (S.served connection.old.number session.new) calls text)) }
+    ensures halts { IfErr result (λ talk. Turn (λ calls. A.ran access.old calls access.new)
+        (told (L.given link.old) (L.left link.old) (L.taken link.old))
+        (told (L.given link.new) (L.left link.new) (L.taken link.new)) connection.old.taken connection.new.taken
+        (λ piece calls text. LeadsOn connection.old.taken piece (S.served connection.old.number session.old)
+        (λ fed called said. S.carried connection.old.number (L.left link.new) fed called said talk) calls text)) }
+    ensures end { IfOk result (λ len. len ≡ 0 → IsAtEnd (L.left link.new)) }
+    ensures only { IfErr result (λ talk. (talk ≡ Talk.ReadFault) ⊎ IsAtMove talk) }
+    ensures idle { OnOk result (S.idle session.new) }
+    ensures extent { IfOk result (λ len. S.extent session.new ≤ S.extent session.old + len) }
+    ensures number { connection.new.number ≡ connection.old.number }
+    ensures may { OnOk result (A.may_take access.new connection.old.number connection.new.taken) }
+    ensures reads { CountsFaults (IsErrOf result Talk.ReadFault) (L.read_faults link.old) (L.read_faults link.new) }
+    ensures writes { CountsFaults (IsErrOf result Talk.WriteFault) (L.write_faults link.old) (L.write_faults link.new) }
+    ensures same { L.same link.old link.new }
+{
+    let mut buf = [0; PIECE];
+    let len = match link.read(&mut buf[..room]) {
+        Ok(len) => len,
+        Err(_) => return Err(Talk::ReadFault),
+    };
+    match take_in(alloc, link, access, connection, session, &buf[..len]) {
+        Ok(()) => Ok(len),
+        Err(talk) => Err(talk),
+    }
+}

@@ -1,0 +1,143 @@
+//! The rows of each protocol, and a failing disk.
+ghost use Rattle.std.specs.Prelude.{◌≡◌, ◌⊎◌};
+
+use crate::harness::{Failing, NONE, Part, Row, device, joined, serve};
+use crate::{lumberjack_rows, relp_rows};
+use edge_io::Proto;
+use event_form::{Attended, Talk};
+use std::process::Abort;
+use std::test::Fail;
+
+// Serves each row's input in each of its steps.
+fn check(rt: &(impl Abort + AllocGlobal), proto: Proto, rows: &[Row]) -> Result<(), Fail>
+    requires { (proto ≡ Proto.Relp) ⊎ (proto ≡ Proto.Lumberjack) }
+{
+    let alloc = rt.alloc();
+    for (number, row) in rows.iter().enumerate() {
+        for step in row.steps {
+            let slot = row.slot.clamp(4096, 1_000_000);
+            let input = joined(alloc, row.input)?;
+            let step = (*step).max(1);
+            let served = serve(alloc, proto, device(alloc, slot)?, input, step, row.failing)?;
+            let left = served.ok_or("not opened")?;
+            let Row { talk, taken, .. } = *row;
+            let attended = Attended { talk, taken };
+            assert_eq!(rt; left.attended, attended, "row {number}, step {step}");
+            let written = joined(alloc, row.written)?;
+            assert_eq!(rt; left.written, written, "row {number}, step {step}");
+            assert_eq!(rt; left.count as u64, taken, "row {number}, step {step}");
+            if let Some(entries) = row.entries {
+                assert_eq!(rt;
+                    left.entries.as_slice(),
+                    entries,
+                    "row {number}, step {step}"
+                );
+            }
+        }
+    }
+    Ok(())
+}
+
+// A connection over a disk of which one call fails.
+struct Faulty {
+    proto: Proto,
+    input: &'static [u8],
+    /// What is written by how many entries were taken.
+    written: [(u64, &'static [u8]); 3],
+}
+
+const FAULTY: [Faulty; 2] = [
+    Faulty {
+        proto: Proto::Relp,
+        input: b"1 open 0\n2 syslog 5 first\n3 syslog 6 second\n",
+        written: [
+            (0, relp_rows::OPENED),
+            (
+                1,
+                b"1 rsp 66 200 OK\n\
+                relp_version=0\n\
+                relp_software=bridge,1,local\n\
+                commands=syslog\n\
+                2 rsp 6 200 OK\n",
+            ),
+            (
+                2,
+                b"1 rsp 66 200 OK\n\
+                relp_version=0\n\
+                relp_software=bridge,1,local\n\
+                commands=syslog\n\
+                2 rsp 6 200 OK\n\
+                3 rsp 6 200 OK\n",
+            ),
+        ],
+    },
+    Faulty {
+        proto: Proto::Lumberjack,
+        input: b"2W\0\0\0\x022J\0\0\0\x01\0\0\0\x05xxxxx2J\0\0\0\x02\0\0\0\x06xxxxxx\
+            2W\0\0\0\x022J\0\0\0\x01\0\0\0\x07xxxxxxx",
+        written: [
+            (0, b""),
+            (2, b"2A\0\0\0\x02"),
+            (3, b"2A\0\0\0\x022A\0\0\0\x01"),
+        ],
+    },
+];
+
+// Whichever call of the disk fails, nothing is answered that isn't there, and nothing is written after
+// the answers. Each of the two takes makes four calls.
+#[test]
+fn a_failed_call_of_the_disk_ends_the_connection(rt: HostRuntime) -> Result<(), Fail> {
+    let alloc = rt.alloc();
+    for row in &FAULTY {
+        let Faulty {
+            proto,
+            input,
+            written,
+        } = row;
+        let mut faults = [0_u32; 3];
+        for call in 0..40 {
+            let call = [call];
+            let failing = Failing {
+                disk: &call,
+                ..NONE
+            };
+            let device = device(alloc, 4096)?;
+            let Some(left) = serve(alloc, *proto, device, input.to_vec(alloc)?, 1000, failing)?
+            else {
+                continue;
+            };
+            let takes = written
+                .iter()
+                .position(|(taken, _)| *taken == left.attended.taken);
+            let takes = takes.ok_or("another count")?;
+            assert_eq!(rt;
+                left.written.as_slice(),
+                written[takes].1,
+                "call {}",
+                call[0]
+            );
+            if left.attended.talk == Talk::DiskFault {
+                faults[takes] = faults[takes].saturating_add(1);
+            } else {
+                assert_eq!(rt;
+                    (left.attended.talk, takes),
+                    (Talk::Ended, 2),
+                    "call {}",
+                    call[0]
+                );
+            }
+        }
+        assert_eq!(rt; faults, [4, 4, 0]);
+    }
+    Ok(())
+}
+
+#[test]
+fn relp_is_served(rt: HostRuntime) -> Result<(), Fail> {
+    check(&rt, Proto::Relp, &relp_rows::ROWS)
+}
+
+#[test]
+fn lumberjack_is_served(rt: HostRuntime) -> Result<(), Fail> {
+    check(&rt, Proto::Lumberjack, &lumberjack_rows::ROWS)
+}

@@ -1,0 +1,13 @@
+//! Tests of whole connections: what senders of each protocol send, cut in pieces of each size, and what
+//! is stored, answered and reported for it. They stand in a crate of their own, since the gate proves a
+//! crate with tests twice, with and without them.
+#![tactic(auto)]
+
+#[cfg(test)]
+mod connections;
+#[cfg(test)]
+mod harness;
+#[cfg(test)]
+mod lumberjack_rows;
+#[cfg(test)]
+mod relp_rows;
