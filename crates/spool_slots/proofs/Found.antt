@@ -1,7 +1,7 @@
 -- Whether a group begins at a gate, by its head and its entries.
-use Rattle.std.proofs.Common.{◌≡◌, ◌≢◌, ℕ, ◌+◌, ◌-◌, ◌^◌, ◌<◌, ◌≤◌, List, [], ◌∷◌, ◌++◌, length, take, drop, get_or, refl, sym, ◌∙◌, ap, subst, arith, append_assoc, length-append, take-append-drop}
+use Rattle.std.proofs.Common.{◌≡◌, ◌≢◌, ℕ, ◌+◌, ◌-◌, ◌^◌, ◌<◌, ◌≤◌, List, [], ◌∷◌, ◌++◌, length, take, drop, get_or, refl, sym, ◌∙◌, ap, arith, append_assoc, length-append, take-append-drop}
 use Rattle.std.specs.Int.{w32, to_be_bytes}
-use Rattle.std.proofs.lemmas.List.{take_at, drop-drop, length-drop}
+use Rattle.std.proofs.lemmas.List.{take_at, take-take, drop-drop, length-drop}
 use Rattle.foundation.specs.Bytes.{part}
 use Rattle.foundation.proofs.Bytes.{length-part}
 use Rattle.event_form.specs.declared.event.Entry.{Entry}
@@ -12,7 +12,7 @@ use Rattle.spool_state.proofs.Once.{count_at, length_at, entries_at, count_below
 use Rattle.spool_state.proofs.Segments.{group_parts}
 use Rattle.spool_state.proofs.Texts.{length-group_text}
 use Rattle.spool_slots.specs.declared.group.GroupHead.{GroupHead}
-use Rattle.spool_slots.specs.Groups.{AreEntries, BeginsNoGroup, HasHead}
+use Rattle.spool_slots.specs.Groups.{AreEntries, BeginsNoGroup, HasHead, IsGroupIn}
 use Rattle.spool_slots.proofs.Windows.{same_field, same_gate}
 
 pub first_byte : (bytes : List ℕ) (x : ℕ) → 0 < length bytes → get_or bytes 0 0 ≡ x → bytes ≡ x ∷ drop 1 bytes
@@ -136,3 +136,27 @@ module _ (bytes : List ℕ) (head : GroupHead) (small : length bytes < 2 ^ 32) (
         size_here,
         count_here,
       )
+
+-- ---- a group that stands whole in some bytes
+
+pub group_here : (bytes : List ℕ) (head : GroupHead) → length bytes < 2 ^ 32 → HasHead bytes head → AreEntries head.count (part 9 head.size bytes) → IsGroupIn bytes head
+group_here bytes head small has are =
+    let found = group_found bytes head small has are in
+    record {
+      group = found.0;
+      begins = found.1;
+      size_is = found.2;
+      count_is = found.3;
+      inside = has.room;
+      some = omega (arith, found.2, found.3, count_below found.0);
+    }
+
+pub group_wider : (p n k : ℕ) (group : List Entry) (c : List ℕ) → n ≤ k → BeginsGroup group (part p n c) → BeginsGroup group (part p k c)
+group_wider p n k group c le begins =
+    let more = drop n (part p k c) in
+    record {
+      sound = begins.sound;
+      behind = begins.behind ++ more;
+      text = sym (take-append-drop n (part p k c)) ∙ ap (λ (l : List ℕ). l ++ more) (take-take n k (drop p c) le ∙ begins.text) ∙ append_assoc (1 ∷ group_text group) begins.behind more;
+      closing = omega (arith, begins.closing, length-append begins.behind more);
+    }

@@ -18,6 +18,10 @@ front p n k c le = take-take n k (drop p c) le
 long : (p k : ℕ) (c : List ℕ) (e : Entry) (rest : List ℕ) → Begins e (part p k c) rest → size_of e ≤ k
 long p k c e rest begins = omega (arith, length-take k (drop p c), ap length begins.whole, length-append (entry_text e) rest, length-entry_text e)
 
+-- an entry is no longer than the bytes that it begins
+pub entry_within : (bytes : List ℕ) (e : Entry) (rest : List ℕ) → Begins e bytes rest → size_of e ≤ length bytes
+entry_within bytes e rest begins = omega (arith, ap length begins.whole, length-append (entry_text e) rest, length-entry_text e)
+
 pub short_none : (p k : ℕ) (c : List ℕ) → k < 29 → BeginsNoEntry (part p k c)
 short_none p k c lt = λ e rest begins. absurd (omega (arith, long p k c e rest begins))
 

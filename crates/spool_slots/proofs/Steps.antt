@@ -1,9 +1,8 @@
 -- What each step of a gate in a slot does to the segment in it.
-use Rattle.std.proofs.Common.{◌≡◌, ◌≢◌, inl, inr, ℕ, suc, ◌+◌, ◌-◌, ◌<◌, ◌≤◌, List, [], ◌∷◌, ◌++◌, length, take, drop, get_or, refl, sym, ◌∙◌, ap, subst, arith, add-zero, zero-add, append_assoc, length-append, take-append-drop}
-use Rattle.std.proofs.lemmas.List.{take_at, get_or-drop, get_or_at, append-nil}
-use Rattle.std.proofs.lemmas.Grind.{common_steps}
+use Rattle.std.proofs.Common.{◌≡◌, ◌≢◌, inl, inr, ℕ, suc, ◌+◌, ◌-◌, ◌<◌, ◌≤◌, List, [], ◌∷◌, ◌++◌, length, drop, get_or, refl, sym, ◌∙◌, ap, subst, arith, add-zero, zero-add, append_assoc, length-append}
+use Rattle.std.proofs.lemmas.List.{get_or_at, append-nil}
 use Rattle.foundation.specs.Bytes.{part, put, SameBut}
-use Rattle.foundation.proofs.Bytes.{same_but_wider, get_or-part, length-part, put_at, length-put, part-put_within}
+use Rattle.foundation.proofs.Bytes.{same_but_wider, length-part, put_at, length-put, part-put_within}
 use Rattle.edge_disk.specs.Disk.{Moment, IsLawful, LeavesOnly}
 use Rattle.edge_disk.specs.Gate.{IsGateStep, ComesFrom}
 use Rattle.edge_disk.proofs.Moments.{weaker}
@@ -13,7 +12,7 @@ use Rattle.spool_state.specs.Segment.{Segment, empty_segment, with_group, group_
 use Rattle.spool_state.specs.Image.{HoldsSegment}
 use Rattle.spool_state.proofs.Segments.{holds_closed, holds_open}
 use Rattle.spool_state.proofs.Steps.{still_holds, holds_more}
-use Rattle.spool_state.proofs.Texts.{length-head_text, length-group_text, length-need, segment_text-with_group}
+use Rattle.spool_state.proofs.Texts.{length-head_text, length-group_text, length-need}
 use Rattle.spool_slots.specs.Slot.{Knows, IsClosedOrHolds, HoldsOldOrNew}
 use Rattle.spool_slots.specs.declared.slot.Slot.{Slot}
 

@@ -6,6 +6,7 @@ use Rattle.foundation.specs.Bytes.{part}
 use Rattle.event_form.specs.declared.event.Entry.{Entry}
 use Rattle.event_form.specs.Entry.{IsEntry, size_of}
 use Rattle.event_form.specs.Reading.{Begins}
+use Rattle.spool_state.specs.Layout.{group_head}
 use Rattle.spool_state.specs.Segment.{entries_text}
 use Rattle.spool_state.specs.Broken.{BeginsGroup}
 use Rattle.spool_slots.specs.declared.group.GroupHead.{GroupHead}
@@ -41,7 +42,16 @@ pub record HasHead (bytes : List ℕ) (head : GroupHead) : Type 0 where
   pub count_is : to_be_bytes w32 head.count ≡ part 5 4 bytes
   pub some : 0 < head.count
   pub fits : head.count < 2 ^ 32
-  pub room : 9 + head.size < length bytes
+  pub room : group_head + head.size < length bytes
+
+-- The bytes begin with a group, the gate after it is among them, and this is the group's head.
+pub record IsGroupIn (bytes : List ℕ) (head : GroupHead) : Type 0 where
+  pub group : List Entry
+  pub begins : BeginsGroup group bytes
+  pub size_is : head.size ≡ length (entries_text group)
+  pub count_is : head.count ≡ length group
+  pub inside : group_head + head.size < length bytes
+  pub some : head.count ≤ head.size
 
 -- What the slot's bytes are from a gate on: a gate that isn't open, an open one with no group after it, or one with a group.
 abbrev pub IsStep : List ℕ → Step → Type 0
@@ -53,4 +63,4 @@ IsStep bytes (Group head) = (group : List Entry) × BeginsGroup group bytes × (
 abbrev pub IsInside : ℕ → ℕ → Step → Type 0
 IsInside size gate End = Unit {0}
 IsInside size gate Broken = Unit {0}
-IsInside size gate (Group head) = (gate + 9 + head.size < size) × (head.count ≤ head.size)
+IsInside size gate (Group head) = (gate + group_head + head.size < size) × (head.count ≤ head.size)

@@ -3,6 +3,7 @@ use Rattle.std.specs.Prelude.{◌≡◌, ◌⊎◌, ◌+◌, ◌<◌, List, ◌�
 use Rattle.event_form.specs.declared.event.Entry.{Entry}
 use Rattle.event_form.specs.declared.reading.Took.{Took}
 use Rattle.event_form.specs.Entry.{size_of}
+use Rattle.spool_state.specs.Layout.{group_head}
 use Rattle.spool_state.specs.Segment.{Segment, entries_of, entries_text, segment_text}
 use Rattle.spool_slots.specs.declared.fault.ScanFault.{ScanFault}
 use Rattle.spool_slots.specs.declared.group.GroupHead.{GroupHead}
@@ -31,7 +32,7 @@ pub record IsInGroup (segment : Segment) (mark : Mark) : Type 0 where
   pub whole : segment.groups ≡ before ++ (passed ++ left) ∷ behind
   pub some : 0 < length left
   pub rest_is : mark.rest ≡ length left
-  pub place : mark.at ≡ length (segment_text (with_groups segment before)) + 9 + length (entries_text passed)
+  pub place : mark.at ≡ length (segment_text (with_groups segment before)) + group_head + length (entries_text passed)
   pub counted : mark.number ≡ segment.first + length (entries_of (with_groups segment before)) + length passed
 
 -- the mark is one of the segment

@@ -11,6 +11,7 @@ ghost use Rattle.spool_slots.specs.Fault.{CameOf};
 ghost use Rattle.spool_slots.specs.Pen.{HasWritten};
 ghost use Rattle.spool_slots.specs.Slot.{IsSlot, Knows, HoldsOldOrNew};
 
+use crate::layout::GROUP_HEAD;
 use crate::pen::Pen;
 use crate::{Slot, SlotFault};
 use edge_disk::{Disk, DiskFault, open_gate};
@@ -23,7 +24,7 @@ pub fn group_need(entries: &[Entry]) -> u64
     requires limits { All IsEntry entries.now }
     ensures { result ≡ need_of entries.now }
 {
-    let mut need = 9;
+    let mut need = GROUP_HEAD as u64;
     for entry in entries {
         need += entry_size(entry);
     }
@@ -132,7 +133,8 @@ impl Slot {
             return Err(SlotFault::NoRoom { need, room });
         }
         let gate = self.at + self.gate;
-        write_group(disk, gate + 1, entries, (need - 9) as u32, buffer)?;
+        let size = (need - GROUP_HEAD as u64) as u32;
+        write_group(disk, gate + 1, entries, size, buffer)?;
         disk.sync()?;
         open_gate(disk, gate)?;
         self.gate += need;

@@ -1,13 +1,15 @@
 //! The groups of a slot, one at a time.
 ghost use Rattle.std.specs.Prelude.{◌≡◌, ◌≢◌, ℕ, ◌+◌, ◌-◌, ◌*◌, ◌^◌, ◌<◌, ◌≤◌, ◌↔◌, IsErr, OnOk, IfOk, IfSome, IsTrue, MatchOption};
 ghost use Rattle.foundation.specs.Bytes.{part};
-ghost use Rattle.spool_state.specs.Layout.{most_size};
+ghost use Rattle.spool_state.specs.Layout.{group_head, most_size};
 ghost use Rattle.edge_disk.specs.Calls.{Calls};
 ghost use Rattle.edge_disk.specs.Disk.{IsUntouched};
 ghost use Rattle.spool_slots.specs.Groups.{AreEntries, BeginsNoGroup, HasHead, IsStep, IsInside};
 ghost use Rattle.spool_slots.specs.Window.{IsWindow};
 
 use crate::entry::entry_at;
+use crate::layout::GROUP_HEAD;
+use crate::seen::group_in;
 use crate::window::Window;
 use edge_disk::{Disk, DiskFault};
 use foundation::u32_at;
@@ -47,19 +49,19 @@ pub(crate) fn head_at<D: Disk>(
     ensures calls { Calls (IsErr result) (D.moment disk.old) (D.moment disk.new) }
     ensures told { D.tells → IsUntouched (D.moment disk.old) (D.moment disk.new) }
     ensures window { OnOk result (D.tells → IsWindow at window.new (D.moment disk.new).reads) }
-    ensures inside { IfOk result (λ found. IfSome found (λ head. (0 < head.count) × (gate + 9 + head.size < size))) }
+    ensures inside { IfOk result (λ found. IfSome found (λ head. (0 < head.count) × (gate + group_head + head.size < size))) }
     ensures found { IfOk result (λ found. D.tells → MatchOption found (BeginsNoGroup (part (at + gate) (size - gate) (D.moment disk.old).reads)) (HasHead (part (at + gate) (size - gate) (D.moment disk.old).reads))) }
 {
-    if size <= 9 || gate >= size - 9 {
+    if size <= GROUP_HEAD as u64 || gate >= size - GROUP_HEAD as u64 {
         return Ok(None);
     }
-    window.cover(disk, at, size, gate, 9)?;
-    let text = window.bytes(gate, 9);
+    window.cover(disk, at, size, gate, GROUP_HEAD)?;
+    let text = window.bytes(gate, GROUP_HEAD);
     let head = GroupHead {
         size: u32_at(text, 1),
         count: u32_at(text, 5),
     };
-    if text[0] != 1 || head.count == 0 || u64::from(head.size) >= size - gate - 9 {
+    if text[0] != 1 || head.count == 0 || u64::from(head.size) >= size - gate - GROUP_HEAD as u64 {
         return Ok(None);
     }
     Ok(Some(head))
@@ -122,11 +124,36 @@ pub(crate) fn look_at<D: Disk>(
     let Some(head) = head_at(window, disk, at, size, gate)? else {
         return Ok(Step::Broken);
     };
-    let first = gate + 9;
+    let first = gate + GROUP_HEAD as u64;
     let end = first + u64::from(head.size);
     if are_entries(window, disk, at, size, first, end, head.count)? {
         Ok(Step::Group(head))
     } else {
         Ok(Step::Broken)
+    }
+}
+
+/// The same. A group that the window has whole is judged there at once.
+pub(crate) fn step_at<D: Disk>(
+    window: &mut Window,
+    disk: &mut D,
+    at: u64,
+    size: u64,
+    gate: u64,
+) -> Result<Step, DiskFault>
+    requires place { at + size ≤ (D.moment disk.old).size }
+    requires small { size ≤ most_size }
+    requires gate { gate < size }
+    requires window { D.tells → IsWindow at window.old (D.moment disk.old).reads }
+
+    ensures calls { Calls (IsErr result) (D.moment disk.old) (D.moment disk.new) }
+    ensures told { D.tells → IsUntouched (D.moment disk.old) (D.moment disk.new) }
+    ensures window { OnOk result (D.tells → IsWindow at window.new (D.moment disk.new).reads) }
+    ensures inside { IfOk result (IsInside size gate) }
+    ensures seen { IfOk result (λ step. D.tells → IsStep (part (at + gate) (size - gate) (D.moment disk.old).reads) step) }
+{
+    match group_in(window.seen(gate, size - gate)) {
+        Some(whole) => Ok(Step::Group(whole)),
+        None => look_at(window, disk, at, size, gate),
     }
 }

@@ -10,12 +10,14 @@ mod append;
 mod entry;
 mod fault;
 mod group;
+mod layout;
 mod mark;
 mod next;
 mod part;
 mod pass;
 mod pen;
 mod scan;
+mod seen;
 mod slot;
 mod window;
 

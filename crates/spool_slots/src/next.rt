@@ -6,7 +6,7 @@ ghost use Rattle.event_form.specs.Entry.{IsEntry};
 ghost use Rattle.event_form.specs.Reading.{Begins};
 ghost use Rattle.spool_state.specs.Segment.{IsGroup, Segment, entries_of};
 ghost use Rattle.spool_state.specs.Image.{HoldsSegment};
-ghost use Rattle.spool_state.specs.Layout.{most_size};
+ghost use Rattle.spool_state.specs.Layout.{group_head, most_size};
 ghost use Rattle.edge_disk.specs.Calls.{Calls};
 ghost use Rattle.edge_disk.specs.Disk.{IsUntouched};
 ghost use Rattle.spool_slots.specs.Fault.{IsPartFault};
@@ -15,6 +15,7 @@ ghost use Rattle.spool_slots.specs.Window.{IsWindow};
 
 use crate::entry::length_at;
 use crate::group::{GroupHead, head_at};
+use crate::layout::GROUP_HEAD;
 use crate::window::Window;
 use crate::{Mark, ScanFault};
 use edge_disk::Disk;
@@ -47,7 +48,7 @@ pub(crate) fn group_at<D: Disk>(
     ensures told { D.tells → IsUntouched (D.moment disk.old) (D.moment disk.new) }
     ensures no_memory { result ≢ Err ScanFault.NoMemory }
     ensures window { OnOk result (D.tells → IsWindow at window.new (D.moment disk.new).reads) }
-    ensures inside { IfOk result (λ head. (0 < head.count) × (mark.at + 9 + head.size < size)) }
+    ensures inside { IfOk result (λ head. (0 < head.count) × (mark.at + group_head + head.size < size)) }
     ensures broken { IfErr result (λ fault. D.tells → IsPartFault (at + size) (D.moment disk.old).reads fault) }
     ensures group { (segment : Segment) → D.tells → HoldsSegment at size segment (D.moment disk.old).reads → All IsGroup segment.groups → IsMark segment mark → mark.rest ≡ 0 → mark.number < segment.first + length (entries_of segment) → FindsGroup segment mark result }
 {
@@ -82,7 +83,7 @@ fn enter<D: Disk>(
     let head = group_at(window, disk, at, size, mark)?;
     Ok(Mark {
         number: mark.number,
-        at: mark.at + 9,
+        at: mark.at + GROUP_HEAD as u64,
         rest: head.count,
     })
 }

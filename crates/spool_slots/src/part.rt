@@ -6,6 +6,7 @@ ghost use Rattle.edge_disk.specs.Calls.{Calls};
 ghost use Rattle.edge_disk.specs.Disk.{IsUntouched};
 ghost use Rattle.spool_slots.specs.Fault.{IsPartFault};
 
+use crate::layout::SLOT_HEAD;
 use crate::next::next_entry;
 use crate::window::Window;
 use crate::{Mark, ScanFault, Slot};
@@ -34,7 +35,7 @@ impl Slot {
     {
         Mark {
             number: self.first,
-            at: 17,
+            at: SLOT_HEAD as u64,
             rest: 0,
         }
     }

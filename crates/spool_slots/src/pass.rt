@@ -10,6 +10,7 @@ ghost use Rattle.spool_slots.specs.Mark.{IsInGroup, IsMark, IsPassed};
 ghost use Rattle.spool_slots.specs.Window.{IsWindow};
 
 use crate::entry::length_at;
+use crate::layout::GROUP_HEAD;
 use crate::next::{group_at, missing_at};
 use crate::window::Window;
 use crate::{Mark, ScanFault, Slot};
@@ -76,14 +77,14 @@ fn pass_some<D: Disk>(
     if u64::from(head.count) > number - mark.number {
         let entered = Mark {
             number: mark.number,
-            at: mark.at + 9,
+            at: mark.at + GROUP_HEAD as u64,
             rest: head.count,
         };
         return pass_entry(window, disk, at, size, entered);
     }
     Ok(Mark {
         number: mark.number + u64::from(head.count),
-        at: mark.at + 9 + u64::from(head.size),
+        at: mark.at + GROUP_HEAD as u64 + u64::from(head.size),
         rest: 0,
     })
 }

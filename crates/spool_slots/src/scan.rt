@@ -3,12 +3,13 @@ ghost use Rattle.std.specs.Prelude.{◌≡◌, ◌≢◌, ◌+◌, ◌^◌, ◌<
 ghost use Rattle.foundation.specs.Bytes.{part};
 ghost use Rattle.spool_state.specs.Segment.{IsGroup, Segment, head_text};
 ghost use Rattle.spool_state.specs.Image.{HoldsSegment};
-ghost use Rattle.spool_state.specs.Layout.{least_size, most_size};
+ghost use Rattle.spool_state.specs.Layout.{slot_head, least_size, most_size};
 ghost use Rattle.edge_disk.specs.Calls.{Calls};
 ghost use Rattle.edge_disk.specs.Disk.{IsUntouched};
 ghost use Rattle.spool_slots.specs.Scan.{KnowsSome, IsScanFault, IsScanOf};
 
-use crate::group::{Step, look_at};
+use crate::group::{Step, step_at};
+use crate::layout::{GROUP_HEAD, SLOT_HEAD};
 use crate::window::Window;
 use crate::{ScanFault, Slot};
 use edge_disk::{Disk, DiskFault};
@@ -23,13 +24,13 @@ struct SlotHead {
 
 /// The head of the slot at offset `at` of the device, where its gate is open.
 fn read_head<D: Disk>(disk: &mut D, at: u64) -> Result<Option<SlotHead>, DiskFault>
-    requires { at + 17 ≤ (D.moment disk.old).size }
+    requires { at + slot_head ≤ (D.moment disk.old).size }
 
     ensures calls { Calls (IsErr result) (D.moment disk.old) (D.moment disk.new) }
     ensures told { D.tells → IsUntouched (D.moment disk.old) (D.moment disk.new) }
-    ensures found { IfOk result (λ found. D.tells → MatchOption found (slice_index (D.moment disk.old).reads at ≢ 1) (λ head. part at 17 (D.moment disk.old).reads ≡ head_text head.ordinal head.first)) }
+    ensures found { IfOk result (λ found. D.tells → MatchOption found (slice_index (D.moment disk.old).reads at ≢ 1) (λ head. part at slot_head (D.moment disk.old).reads ≡ head_text head.ordinal head.first)) }
 {
-    let mut head = [0; 17];
+    let mut head = [0; SLOT_HEAD];
     disk.read_at(at, &mut head)?;
     if head[0] != 1 {
         return Ok(None);
@@ -74,10 +75,10 @@ impl Slot {
             return Ok(None);
         };
         window.empty();
-        let mut gate = 17;
+        let mut gate = SLOT_HEAD as u64;
         let mut count = 0;
         'groups: loop {
-            match look_at(window, disk, at, size, gate)? {
+            match step_at(window, disk, at, size, gate)? {
                 Step::End => {
                     return Ok(Some(Slot {
                         at,
@@ -90,7 +91,7 @@ impl Slot {
                 }
                 Step::Broken => return Err(ScanFault::NotSpool { at: at + gate }),
                 Step::Group(group) => {
-                    gate += 9 + u64::from(group.size);
+                    gate += GROUP_HEAD as u64 + u64::from(group.size);
                     count += u64::from(group.count);
                 }
             }

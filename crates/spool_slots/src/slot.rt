@@ -2,11 +2,12 @@
 ghost use Rattle.std.specs.Prelude.{◌≡◌, ◌≢◌, ℕ, ◌+◌, ◌-◌, ◌<◌, ◌≤◌, List, [], ◌∷◌, ◌++◌, length, slice_index, IsErr, OnOk, IfOk};
 ghost use Rattle.spool_state.specs.Segment.{Segment, head_text, empty_segment};
 ghost use Rattle.spool_state.specs.Image.{HoldsSegment};
-ghost use Rattle.spool_state.specs.Layout.{least_size, most_size};
+ghost use Rattle.spool_state.specs.Layout.{slot_head, least_size, most_size};
 ghost use Rattle.edge_disk.specs.Calls.{Calls};
 ghost use Rattle.edge_disk.specs.Disk.{IsSettled, LeavesOnly};
 ghost use Rattle.edge_disk.specs.Gate.{ComesFrom};
 
+use crate::layout::SLOT_HEAD;
 use edge_disk::{Disk, DiskFault, close_gate, write_behind};
 
 /// What memory knows of a slot whose gate is open. `begin` and `scan` give one, and `append_entries` keeps
@@ -32,10 +33,10 @@ pub struct Slot {
 }
 
 /// The ordinal and the first number of a slot, and the closed gate of its first group.
-fn head(ordinal: u64, first: u64) -> [u8; 17]
+fn head(ordinal: u64, first: u64) -> [u8; SLOT_HEAD]
     ensures { 1 ∷ result ≡ head_text ordinal first ++ 0 ∷ [] }
 {
-    let mut piece = [0; 17];
+    let mut piece = [0; SLOT_HEAD];
     piece[..8].copy_from_slice(&ordinal.to_be_bytes());
     piece[8..16].copy_from_slice(&first.to_be_bytes());
     piece
@@ -60,7 +61,7 @@ impl Slot {
         requires closed { D.tells → (c : List ℕ) → (D.moment disk.old).image c → slice_index c at ≢ 1 }
 
         ensures calls { Calls (IsErr result) (D.moment disk.old) (D.moment disk.new) }
-        ensures slot { IfOk result (IsSlot at size ordinal first 17 0) }
+        ensures slot { IfOk result (IsSlot at size ordinal first slot_head 0) }
         ensures durable { OnOk result (D.tells → IsSettled (D.moment disk.new)) }
         ensures closed { IfOk result (λ slot. D.tells → (c : List ℕ) → (D.moment disk.new).image c → slice_index c (slot.at + slot.gate) ≢ 1) }
         ensures known { IfOk result (λ slot. D.tells → Knows slot (empty_segment ordinal first) (D.moment disk.new).reads) }
@@ -72,7 +73,7 @@ impl Slot {
             size,
             ordinal,
             first,
-            gate: 17,
+            gate: SLOT_HEAD as u64,
             count: 0,
         })
     }

@@ -160,6 +160,18 @@ impl Window {
         self.read_on(disk, at, size - from, n)
     }
 
+    /// The bytes that the window has from offset `from` of the slot on, the first `most` of them or all.
+    pub(crate) fn seen(&self, from: u64, most: u64) -> &[u8]
+        ensures value { (at : ℕ) (c : List ℕ) → IsWindow at self.now c → result.now ≡ part (at + from) (length result.now) c }
+        ensures few { length result.now ≤ most }
+    {
+        let n = (self.held(from) as u64).min(most) as usize;
+        if n == 0 {
+            return &self.bytes[..0];
+        }
+        self.bytes(from, n)
+    }
+
     /// Bytes that the window has.
     pub(crate) fn bytes(&self, from: u64, n: usize) -> &[u8]
         requires begin { self.now.from ≤ from }

@@ -44,6 +44,10 @@ slot_head = 17
 abbrev pub slot_loss : ℕ
 slot_loss = 18
 
+-- a group's gate, the length of its entries and their count
+abbrev pub group_head : ℕ
+group_head = 9
+
 -- ---- limits
 
 abbrev pub most_slots : ℕ

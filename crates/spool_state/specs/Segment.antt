@@ -5,6 +5,7 @@ use Rattle.std.specs.Int.{to_be_bytes}
 use mir.Syntax.{w32, w64}
 use Rattle.event_form.specs.declared.event.Entry.{Entry}
 use Rattle.event_form.specs.Entry.{IsEntry, entry_text}
+use Rattle.spool_state.specs.Layout.{group_head}
 
 -- at least one entry, each within its limits; what was stored by one call
 pub record IsGroup (group : List Entry) : Type 0 where
@@ -36,9 +37,10 @@ entries_text entries = flat_map entry_text entries
 unfoldable pub group_text : List Entry → List ℕ
 group_text group = to_be_bytes w32 (length (entries_text group)) ++ to_be_bytes w32 (length group) ++ entries_text group
 
--- how many bytes a group takes of a slot's room: its length, its count, its entries, and the closed gate after it
+-- how many bytes a group takes of a slot's room: its length, its count and the closed gate after it, which are as many
+-- as a head has, and its entries
 abbrev pub need_of : List Entry → ℕ
-need_of group = 9 + length (entries_text group)
+need_of group = group_head + length (entries_text group)
 
 -- the open gate of a slot, the ordinal and the first number
 unfoldable pub head_text : ℕ → ℕ → List ℕ

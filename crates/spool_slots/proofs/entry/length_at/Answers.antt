@@ -1,4 +1,4 @@
-use Rattle.std.proofs.Common.{◌+◌, ◌-◌, ◌≤◌, ◌∙◌, ap, arith}
+use Rattle.std.proofs.Common.{◌+◌, ◌-◌, ◌∙◌, ap, arith}
 use Rattle.foundation.specs.Bytes.{part}
 use Rattle.spool_slots.proofs.Peeks.{short_none, head_none, long_none, size_told}
 use Rattle.spool_slots.proofs.entry.length_at.Goals as goal

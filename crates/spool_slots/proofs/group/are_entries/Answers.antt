@@ -1,4 +1,4 @@
-use Rattle.std.proofs.Common.{◌≡◌, ◌+◌, ◌-◌, ℕ, List, length, ◌∙◌, subst, arith}
+use Rattle.std.proofs.Common.{◌≡◌, ◌+◌, ◌-◌, ℕ, List, length, subst, arith}
 use Rattle.std.proofs.lemmas.Bool.{eqb-true, eq-eqb, cases_lt}
 use Rattle.std.proofs.Common.{inl, inr}
 use Rattle.foundation.specs.Bytes.{part}

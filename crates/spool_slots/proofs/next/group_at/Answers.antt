@@ -1,5 +1,5 @@
-use Rattle.std.proofs.Common.{◌+◌, ◌^◌, ◌≤◌, ◌<◌, length, sym, subst, arith}
-use Rattle.spool_slots.specs.Fault.{IsPartFault, IsNotBroken}
+use Rattle.std.proofs.Common.{◌+◌, ◌≤◌, length, sym, subst, arith}
+use Rattle.spool_slots.specs.Fault.{IsPartFault}
 use Rattle.spool_slots.proofs.Marks.{at_gate, group_is, group_at}
 use Rattle.spool_slots.proofs.Peeks.{no_group_at}
 use Rattle.spool_slots.proofs.next.group_at.Goals as goal

@@ -1,4 +1,4 @@
-use Rattle.std.proofs.Common.{ℕ, ◌+◌, ◌≤◌, length, refl, sym, ap, subst, arith}
+use Rattle.std.proofs.Common.{ℕ, ◌+◌, refl, sym, ap, subst, arith}
 use Rattle.spool_slots.specs.Fault.{IsPartFault}
 use Rattle.spool_slots.proofs.Marks.{first_left, entry_here, goes_on}
 use Rattle.spool_slots.proofs.Peeks.{no_entry_at}

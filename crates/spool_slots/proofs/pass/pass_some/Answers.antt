@@ -1,5 +1,4 @@
 use Rattle.std.proofs.Common.{refl, sym, subst, arith}
-use Rattle.edge_disk.proofs.Moments.{untouched_then}
 use Rattle.spool_state.specs.Image.{HoldsSegment}
 use Rattle.spool_slots.proofs.Faults.{handed}
 use Rattle.spool_slots.proofs.Marks.{entered_is, group_passed, in_group}

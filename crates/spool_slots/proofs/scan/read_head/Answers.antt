@@ -1,5 +1,4 @@
-use Rattle.std.proofs.Common.{◌+◌, ℕ, List, length, get_or, sym, ◌∙◌, ap, arith}
-use Rattle.foundation.specs.Bytes.{part}
+use Rattle.std.proofs.Common.{ℕ, List, length, get_or, sym, ◌∙◌, ap, arith}
 use Rattle.foundation.proofs.Bytes.{get_or-part, length-part}
 use Rattle.spool_slots.proofs.Scans.{head_read}
 use Rattle.spool_slots.proofs.scan.read_head.Goals as goal

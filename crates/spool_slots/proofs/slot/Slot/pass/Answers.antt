@@ -1,4 +1,4 @@
-use Rattle.std.proofs.Common.{◌+◌, ◌≤◌, ℕ, length, sym, subst, arith}
+use Rattle.std.proofs.Common.{◌+◌, ℕ, sym, subst, arith}
 use Rattle.edge_disk.proofs.Moments.{untouched_then}
 use Rattle.spool_state.specs.Image.{HoldsSegment}
 use Rattle.spool_state.proofs.Segments.{holds_front}

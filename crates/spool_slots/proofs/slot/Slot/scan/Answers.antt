@@ -21,21 +21,21 @@ groups-init g c = record {
   scanned = λ tells. scan_start c.args.at c.args.size c.in-Some.head.ordinal c.in-Some.head.first (g.D.Disk.moment c.args.disk.now).reads (omega (arith, c.requires.large)) (rw c.in-Some.is at (c.in_ok-head.ensures.found tells));
 }
 
-pub returns-in_err-look_at-clause-told : goal.returns-in_err-look_at-clause-told
-returns-in_err-look_at-clause-told g c = λ tells. untouched_then _ _ _ (g.met.D.Disk.lawful c.args.disk.now tells) (c.groups.invariant.told tells) (c.look_at.ensures.told tells)
+pub returns-in_err-step_at-clause-told : goal.returns-in_err-step_at-clause-told
+returns-in_err-step_at-clause-told g c = λ tells. untouched_then _ _ _ (g.met.D.Disk.lawful c.args.disk.now tells) (c.groups.invariant.told tells) (c.step_at.ensures.told tells)
 
 pub returns-in-End-clause-told : goal.returns-in-End-clause-told
-returns-in-End-clause-told g c = λ tells. untouched_then _ _ _ (g.met.D.Disk.lawful c.args.disk.now tells) (c.groups.invariant.told tells) (c.look_at.ensures.told tells)
+returns-in-End-clause-told g c = λ tells. untouched_then _ _ _ (g.met.D.Disk.lawful c.args.disk.now tells) (c.groups.invariant.told tells) (c.step_at.ensures.told tells)
 
 pub returns-in-Broken-clause-told : goal.returns-in-Broken-clause-told
-returns-in-Broken-clause-told g c = λ tells. untouched_then _ _ _ (g.met.D.Disk.lawful c.args.disk.now tells) (c.groups.invariant.told tells) (c.look_at.ensures.told tells)
+returns-in-Broken-clause-told g c = λ tells. untouched_then _ _ _ (g.met.D.Disk.lawful c.args.disk.now tells) (c.groups.invariant.told tells) (c.step_at.ensures.told tells)
 
 pub returns-in-End-clause-found : goal.returns-in-End-clause-found
 returns-in-End-clause-found g c = λ tells.
     let lawful = g.met.D.Disk.lawful c.args.disk.now tells in
     let reads = (g.D.Disk.moment c.args.disk.now).reads in
     let scanned = c.groups.invariant.scanned tells in
-    let seen = subst (λ (s : Step). IsStep (part (c.args.at + c.groups.gate) (c.args.size - c.groups.gate) (g.D.Disk.moment c.groups.disk).reads) s) c.in-End.is (c.in_ok-look_at.ensures.seen tells) in
+    let seen = subst (λ (s : Step). IsStep (part (c.args.at + c.groups.gate) (c.args.size - c.groups.gate) (g.D.Disk.moment c.groups.disk).reads) s) c.in-End.is (c.in_ok-step_at.ensures.seen tells) in
     let closed = subst (λ (l : List ℕ). IsStep (part (c.args.at + c.groups.gate) (c.args.size - c.groups.gate) l) End) (c.groups.invariant.told tells).same seen in (
       scanned.before,
       record {
@@ -51,23 +51,23 @@ returns-in-End-clause-found g c = λ tells.
 pub returns-in-Broken-clause-broken : goal.returns-in-Broken-clause-broken
 returns-in-Broken-clause-broken g c = λ tells.
     let reads = (g.D.Disk.moment c.args.disk.now).reads in
-    let seen = subst (λ (s : Step). IsStep (part (c.args.at + c.groups.gate) (c.args.size - c.groups.gate) (g.D.Disk.moment c.groups.disk).reads) s) c.in-Broken.is (c.in_ok-look_at.ensures.seen tells) in
+    let seen = subst (λ (s : Step). IsStep (part (c.args.at + c.groups.gate) (c.args.size - c.groups.gate) (g.D.Disk.moment c.groups.disk).reads) s) c.in-Broken.is (c.in_ok-step_at.ensures.seen tells) in
     let broken = subst (λ (l : List ℕ). IsStep (part (c.args.at + c.groups.gate) (c.args.size - c.groups.gate) l) Broken) (c.groups.invariant.told tells).same seen in
     scan_broken c.args.at c.args.size c.in-Some.head.ordinal c.in-Some.head.first c.groups.gate c.groups.count reads (c.groups.invariant.scanned tells) broken.0 broken.1
 
 pub groups-preserved : goal.groups-preserved
 groups-preserved g c =
-    let inside = subst (IsInside c.args.size c.groups.gate) c.in-Group.is c.in_ok-look_at.ensures.inside in
+    let inside = subst (IsInside c.args.size c.groups.gate) c.in-Group.is c.in_ok-step_at.ensures.inside in
     record {
-      calls = calls_passed _ _ _ _ c.groups.invariant.calls c.in_ok-look_at.ensures.calls (λ f. cc);
-      told = λ tells. untouched_then _ _ _ (g.met.D.Disk.lawful c.args.disk.now tells) (c.groups.invariant.told tells) (c.look_at.ensures.told tells);
-      window = λ tells. c.in_ok-look_at.ensures.window tells;
+      calls = calls_passed _ _ _ _ c.groups.invariant.calls c.in_ok-step_at.ensures.calls (λ f. cc);
+      told = λ tells. untouched_then _ _ _ (g.met.D.Disk.lawful c.args.disk.now tells) (c.groups.invariant.told tells) (c.step_at.ensures.told tells);
+      window = λ tells. c.in_ok-step_at.ensures.window tells;
       inside = omega (arith, inside.0, c.from.ensures);
       few = omega (arith, inside.1, c.groups.invariant.few, c.from.ensures, c.from-count.ensures);
       scanned = λ tells.
           let lawful = g.met.D.Disk.lawful c.args.disk.now tells in
           let reads = (g.D.Disk.moment c.args.disk.now).reads in
-          let seen = subst (λ (s : Step). IsStep (part (c.args.at + c.groups.gate) (c.args.size - c.groups.gate) (g.D.Disk.moment c.groups.disk).reads) s) c.in-Group.is (c.in_ok-look_at.ensures.seen tells) in
+          let seen = subst (λ (s : Step). IsStep (part (c.args.at + c.groups.gate) (c.args.size - c.groups.gate) (g.D.Disk.moment c.groups.disk).reads) s) c.in-Group.is (c.in_ok-step_at.ensures.seen tells) in
           let found = subst (λ (l : List ℕ). IsStep (part (c.args.at + c.groups.gate) (c.args.size - c.groups.gate) l) (Group c.in-Group.group)) (c.groups.invariant.told tells).same seen in
           scan_more c.args.at c.args.size c.in-Some.head.ordinal c.in-Some.head.first c.groups.gate c.groups.count _ _ found.0 reads (omega (arith, c.requires.place, lawful.reads_size)) c.groups.invariant.inside (c.groups.invariant.scanned tells) found.1 (omega (arith, c.from.ensures, found.2)) (c.from-count.ensures ∙ found.3);
     }

@@ -1,4 +1,4 @@
-use Rattle.std.proofs.Common.{◌+◌, ◌≤◌, take, sym, ◌∙◌, ap, arith, rules}
+use Rattle.std.proofs.Common.{◌+◌, take, sym, ◌∙◌, ap, arith, rules}
 use Rattle.std.proofs.lemmas.List.{with_items_is, places}
 use Rattle.foundation.specs.Bytes.{part}
 use Rattle.spool_slots.proofs.Windows.{window_more}
