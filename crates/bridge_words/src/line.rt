@@ -1,9 +1,14 @@
 //! The lines that bridge prints.
 ghost use Rattle.std.specs.Prelude.{◌≡◌, ◌++◌, OnOk, IfOk, string_bytes};
+ghost use Rattle.std.specs.Fmt.{decimal};
 ghost use Rattle.bridge_words.specs.Lines.{spool_line, origin_word, entry_line};
 
 use event_form::{Entry, Origin};
+use itoa::Buffer;
 use std::alloc::{AllocError, Global};
+
+/// How many bytes are reserved for the line of an entry: no line has more.
+const MOST_LINE: usize = 112;
 
 /// The line that says which spool was made.
 pub fn spool_line(alloc: Global, slots: u32, size: u64) -> Result<String, AllocError>
@@ -25,15 +30,27 @@ fn origin_word(origin: Origin) -> &'static str
     }
 }
 
+// Adds a number and the text after it.
+fn add_number(line: &mut String, number: u64, after: &str) -> Result<(), AllocError>
+    ensures { OnOk result (string_bytes line.new ≡ string_bytes line.old ++ (decimal number ++ after.now)) }
+{
+    let mut digits = Buffer::new();
+    line.push_str(digits.format(number))?;
+    line.push_str(after)
+}
+
 /// The line of an entry with this number: `NUMBER CONN INDEX UNIT ORIGIN LENGTH` and LF, where the length
 /// is that of the event's text in bytes.
 pub fn entry_line(alloc: Global, number: u64, entry: &Entry) -> Result<String, AllocError>
     ensures { IfOk result (λ line. string_bytes line ≡ entry_line number entry.now) }
 {
-    let conn = entry.conn;
-    let index = entry.index;
-    let unit = entry.unit;
-    let origin = origin_word(entry.event.origin);
-    let length = entry.event.text.bytes().len();
-    format!(in alloc; "{number} {conn} {index} {unit} {origin} {length}\n")
+    let mut line = String::with_capacity(alloc, MOST_LINE)?;
+    add_number(&mut line, number, " ")?;
+    add_number(&mut line, entry.conn, " ")?;
+    add_number(&mut line, entry.index, " ")?;
+    add_number(&mut line, entry.unit, " ")?;
+    line.push_str(origin_word(entry.event.origin))?;
+    line.push_str(" ")?;
+    add_number(&mut line, entry.event.text.bytes().len() as u64, "\n")?;
+    Ok(line)
 }
