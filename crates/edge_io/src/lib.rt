@@ -17,8 +17,6 @@ mod proto;
 mod script;
 mod sink;
 mod source;
-#[cfg(test)]
-mod tests;
 mod whole;
 
 pub use both::Both;

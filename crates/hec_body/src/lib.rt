@@ -21,6 +21,3 @@ pub use events::event_pieces;
 pub use fault::{AckFault, BodyFault};
 pub use laws::{one_cut, one_line_cut, one_query};
 pub use lines::raw_lines;
-
-#[cfg(test)]
-mod tests;

@@ -10,8 +10,6 @@ mod fault;
 mod ids;
 mod issued;
 mod laws;
-#[cfg(test)]
-mod tests;
 
 pub use fault::IssueFault;
 pub use ids::Ids;

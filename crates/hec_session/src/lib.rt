@@ -17,8 +17,6 @@ mod say;
 mod stop;
 mod target;
 mod task;
-#[cfg(test)]
-mod tests;
 mod tokens;
 
 pub use act::HecAct;

@@ -1,6 +1,9 @@
 ghost use Rattle.std.specs.Prelude.{Some};
 
-use super::*;
+use edge_io::{
+    Both, FileIo, Link, MemLink, MemSink, MemSource, Object, ReadFault, Sink, Source, Stopped,
+    WriteFault, write_whole,
+};
 use std::collections::VecDeque;
 use std::io::{self, ErrorKind, Read, Write};
 use std::test::Fail;

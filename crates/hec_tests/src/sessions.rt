@@ -1,6 +1,7 @@
 //! Requests and what is done for them, and the bodies of replies.
-use crate::{HecAct, HecCode, HecCore, HecSay, say_body, success_body};
+
 use event_form::{Blob, Event, Origin};
+use hec_session::{HecAct, HecCode, HecCore, HecSay, say_body, success_body};
 use http_edge::{Field, Fields, HttpRequest};
 use std::alloc::{AllocError, Global};
 
@@ -26,8 +27,8 @@ fn field(alloc: Global, name: &str, value: &str) -> Result<Field, AllocError> {
     })
 }
 
-/// The field that a letter stands for: a channel, `Z` one that is no GUID, `T` an Authorization, and a coding,
-/// `G` or `I`.
+/// The field that a letter stands for: a channel, `Z` one that is no GUID, `T` an Authorization,
+/// and a coding, `G` or `I`.
 fn lettered(alloc: Global, letter: u8) -> Result<Field, AllocError> {
     match letter {
         b'C' => field(
@@ -133,7 +134,8 @@ fn show(alloc: Global, act: HecAct) -> Result<Vec<u8>, AllocError> {
     Ok(text)
 }
 
-/// Method, target, Authorization, letters of further fields and body of a request, and what is done.
+/// Method, target, Authorization, letters of further fields and body of a request, and what is
+/// done.
 type Row = (
     &'static str,
     &'static str,
@@ -398,55 +400,19 @@ const CHANNELS_AND_BODIES: [Row; 18] = [
 ];
 
 /// What is done for the request of a row.
-fn done(alloc: Global, row: Row) -> Result<Vec<u8>, AllocError> {
+fn done(alloc: Global, core: &HecCore, row: Row) -> Result<Vec<u8>, AllocError> {
     let (method, target, authorization, letters, body, _) = row;
-    let core = HecCore::new(Some(TOKEN), Some(ACK_TOKEN));
     let request = request(alloc, method, target, authorization, letters, body)?;
     show(alloc, core.step(alloc, &request)?)
 }
 
-#[test]
-fn paths(rt: HostRuntime) -> Result<(), AllocError> {
-    for row in EVENTS_AND_PATHS {
-        let text = done(rt.alloc(), row)?;
-        assert_eq!(rt; text.as_slice(), row.5.as_bytes(), "{row:?}");
-    }
-    Ok(())
-}
+/// Requests to a receiver with one token for both, and to one with none.
+const ALIKE: [Row; 2] = [
+    ("POST", "/services/collector/raw", T, "C", "p", "say r[p]"),
+    ("POST", "/services/collector/raw", T, "", "p", "400 10"),
+];
 
-#[test]
-fn authorizations(rt: HostRuntime) -> Result<(), AllocError> {
-    for row in AUTHORIZATIONS {
-        let text = done(rt.alloc(), row)?;
-        assert_eq!(rt; text.as_slice(), row.5.as_bytes(), "{row:?}");
-    }
-    Ok(())
-}
-
-#[test]
-fn later_checks(rt: HostRuntime) -> Result<(), AllocError> {
-    for row in CHANNELS_AND_BODIES {
-        let text = done(rt.alloc(), row)?;
-        assert_eq!(rt; text.as_slice(), row.5.as_bytes(), "{row:?}");
-    }
-    Ok(())
-}
-
-#[test]
-fn other_tokens(rt: HostRuntime) -> Result<(), AllocError> {
-    let alloc = rt.alloc();
-    let with_channel = request(alloc, "POST", "/services/collector/raw", T, "C", "p")?;
-    let without_channel = request(alloc, "POST", "/services/collector/raw", T, "", "p")?;
-    let alike = HecCore::new(Some(TOKEN), Some(TOKEN));
-    let text = show(alloc, alike.step(alloc, &with_channel)?)?;
-    assert_eq!(rt; text.as_slice(), b"say r[p]".as_slice());
-    let text = show(alloc, alike.step(alloc, &without_channel)?)?;
-    assert_eq!(rt; text.as_slice(), b"400 10".as_slice());
-    let none = HecCore::new(None, None);
-    let text = show(alloc, none.step(alloc, &with_channel)?)?;
-    assert_eq!(rt; text.as_slice(), b"403 4".as_slice());
-    Ok(())
-}
+const NO_TOKENS: [Row; 1] = [("POST", "/services/collector/raw", T, "C", "p", "403 4")];
 
 /// Codes with a number or without one, and the body.
 const SAYS: [(HecCode, Option<u32>, &str); 9] = [
@@ -497,19 +463,38 @@ const SAYS: [(HecCode, Option<u32>, &str); 9] = [
     ),
 ];
 
+/// The id of a success, if one was issued, and the body.
+const SUCCESSES: [(Option<u64>, &str); 2] = [
+    (None, r#"{"text":"Success","code":0}"#),
+    (
+        Some(4_294_967_296),
+        r#"{"text":"Success","code":0,"ackId":4294967296}"#,
+    ),
+];
+
 #[test]
-fn bodies_of_replies(rt: HostRuntime) -> Result<(), AllocError> {
+fn requests_and_replies(rt: HostRuntime) -> Result<(), AllocError> {
     let alloc = rt.alloc();
+    for (token, ack_token, rows) in [
+        (Some(TOKEN), Some(ACK_TOKEN), EVENTS_AND_PATHS.as_slice()),
+        (Some(TOKEN), Some(ACK_TOKEN), AUTHORIZATIONS.as_slice()),
+        (Some(TOKEN), Some(ACK_TOKEN), CHANNELS_AND_BODIES.as_slice()),
+        (Some(TOKEN), Some(TOKEN), ALIKE.as_slice()),
+        (None, None, NO_TOKENS.as_slice()),
+    ] {
+        let core = HecCore::new(token, ack_token);
+        for row in rows {
+            let text = done(alloc, &core, *row)?;
+            assert_eq!(rt; text.as_slice(), row.5.as_bytes(), "{row:?}");
+        }
+    }
     for (code, event, want) in SAYS {
         let body = say_body(alloc, &HecSay::of(code, event))?;
         assert_eq!(rt; body.bytes(), want.as_bytes());
     }
-    let body = success_body(alloc, None)?;
-    assert_eq!(rt; body.bytes(), br#"{"text":"Success","code":0}"#.as_slice());
-    let body = success_body(alloc, Some(4_294_967_296))?;
-    assert_eq!(rt;
-        body.bytes(),
-        br#"{"text":"Success","code":0,"ackId":4294967296}"#.as_slice()
-    );
+    for (ack, want) in SUCCESSES {
+        let body = success_body(alloc, ack)?;
+        assert_eq!(rt; body.bytes(), want.as_bytes());
+    }
     Ok(())
 }
