@@ -1,5 +1,5 @@
 -- What was acknowledged is durable.
-use Rattle.std.proofs.Common.{◌≡◌, ℕ, List, [], ◌∷◌, ◌++◌, subst}
+use Rattle.std.proofs.Common.{◌≡◌, ℕ, List, [], ◌∷◌, ◌++◌, Option, subst}
 use Rattle.std.specs.Prelude.{Ok, Err}
 use Rattle.std.specs.List.{All}
 use Rattle.std.proofs.lemmas.List.Elements.{All-nil, All-cons, All-head, All-tail}
@@ -27,9 +27,9 @@ first_kept : (s : SpoolState) (groups more : List Group) → All (IsGroupKept s)
 first_kept s [] more k = All-nil (IsGroupKept s)
 first_kept s (g ∷ groups) more k = All-cons (IsGroupKept s) g groups (All-head (IsGroupKept s) g (groups ++ more) k) (first_kept s groups more (All-tail (IsGroupKept s) g (groups ++ more) k))
 
-pub acked_is_durable : (proto : Proto) (conn : ℕ) (b : List ℕ) (calls : List Call) (text : List ℕ) (talk : Talk) (old new : Moment) (numbers : List ℕ) → CarriedBy proto conn b calls text talk → IsStored old new conn calls → Acknowledges proto text numbers → AckedIsDurable calls new numbers
-acked_is_durable proto conn b calls text talk old new numbers carried stored says =
-    let taken : AreOfFirst calls numbers = acked_is_taken proto conn b calls text talk carried numbers says in record {
+pub acked_is_durable : (proto : Proto) (conn : ℕ) (left : Option (List ℕ)) (b : List ℕ) (calls : List Call) (text : List ℕ) (talk : Talk) (old new : Moment) (numbers : List ℕ) → CarriedBy proto conn left b calls text talk → IsStored old new conn calls → Acknowledges proto text numbers → AckedIsDurable calls new numbers
+acked_is_durable proto conn left b calls text talk old new numbers carried stored says =
+    let taken : AreOfFirst calls numbers = acked_is_taken proto conn left b calls text talk carried numbers says in record {
       taken = taken;
       durable = λ c image.
           let kept = stored.reached.each c image in

@@ -1,5 +1,5 @@
 -- Which calls of a connection were answered that the disk failed: one where it ended so, and else none.
-use Rattle.std.proofs.Common.{◌≡◌, ◌⊎◌, inl, inr, ℕ, ◌+◌, ◌≤◌, List, [], ◌∷◌, ◌++◌, refl, sym, ◌∙◌, ap, subst, arith}
+use Rattle.std.proofs.Common.{◌≡◌, ◌⊎◌, inl, inr, ℕ, ◌+◌, ◌≤◌, List, [], ◌∷◌, ◌++◌, Option, refl, sym, ◌∙◌, ap, subst, arith}
 use Rattle.std.specs.Prelude.{Err}
 use Rattle.foundation.specs.Faults.{Rose}
 use Rattle.event_form.specs.declared.talk.Talk.{Talk}
@@ -19,8 +19,10 @@ use Rattle.relp_session.specs.declared.act.RelpAct.{RelpAct}
 use Rattle.relp_session.specs.declared.act.RelpAct.TheVariants.{Store, Say, End}
 use Rattle.lumber_frame.specs.declared.frame.LumberFrame.{LumberFrame}
 use Rattle.lumber_session.specs.Staged.{Staged}
-use Rattle.conn_serve.specs.Step.{Step, calls_of}
-use Rattle.conn_serve.specs.Protocol.{Protocol, AreMoves, Carried, Ending, EndsAtMove}
+use Rattle.desk_access.specs.Step.{Step, calls_of}
+use Rattle.desk_access.specs.Protocol.{Protocol, AreMoves}
+use Rattle.desk_access.specs.Carried.{Carried, Ending, EndsAtMove}
+use Rattle.desk_access.proofs.Moves.{ending_cases}
 use Rattle.conn_serve.specs.Relp.{relp, entry_of, one_take, talk_of, Carries, IsDue, IsRefused, IsStarved, EndsAtAct}
 use Rattle.conn_serve.specs.Lumber.{lumberjack, EndsAtGroup, StoresLast}
 use Rattle.conn_serve.specs.Serves.{CarriedBy}
@@ -96,24 +98,17 @@ refused_by_disk conn index (Store event txnr) late part r =
 refused_by_disk conn index (Say answer) late part r = absurd r
 refused_by_disk conn index (End answer) late part r = absurd r
 
-module _ (conn : ℕ) (b : List ℕ) (steps : List (Step Frame)) (held : List Frame) (at : ℕ) (tail : List ℕ) (late : List Call) (part : List ℕ) where
-  relp_by_disk : EndsAtMove (relp conn) b steps held at tail late part Talk.DiskFault → failures_of late ≡ 1
-  relp_by_disk (inl frame) = refused_by_disk conn _ frame.5.0 late part frame.5.2
+module _ (conn : ℕ) (left : Option (List ℕ)) (b : List ℕ) (steps : List (Step Frame)) (held : List Frame) (at : ℕ) (late : List Call) (part : List ℕ) where
+  relp_by_disk : EndsAtMove (relp conn) left b steps held at late part Talk.DiskFault → failures_of late ≡ 1
+  relp_by_disk (inl frame) = refused_by_disk conn _ frame.3.0 late part frame.3.2
   relp_by_disk (inr last) = absurd last.2
 
-  relp_move : (talk : Talk) → EndsAtMove (relp conn) b steps held at tail late part talk → IsOther talk → failures_of late ≡ 0
-  relp_move talk (inl frame) other = act_quiet conn _ frame.5.0 late part talk frame.5.2 other
+  relp_move : (talk : Talk) → EndsAtMove (relp conn) left b steps held at late part talk → IsOther talk → failures_of late ≡ 0
+  relp_move talk (inl frame) other = act_quiet conn _ frame.3.0 late part talk frame.3.2 other
   relp_move talk (inr last) other = absurd last.2
 
-  relp_quiet : (talk : Talk) → Ending (relp conn) b steps held at tail late part talk → IsOther talk → failures_of late ≡ 0
-  relp_quiet Talk.Ended e other = ap failures_of e.1.0
-  relp_quiet (Talk.Truncated place) e other = ap failures_of e.1.0
-  relp_quiet (Talk.Fault place why) e other = ap failures_of e.1.0
-  relp_quiet Talk.ReadFault e other = ap failures_of e.1.0
-  relp_quiet (Talk.TooMuch place) e other = ap failures_of e.3.0
-  relp_quiet Talk.NoMemory (inl nothing) other = ap failures_of nothing.0
-  relp_quiet Talk.NoMemory (inr move) other = relp_move Talk.NoMemory move other
-  relp_quiet talk e other = relp_move talk e other
+  relp_quiet : (talk : Talk) → Ending (relp conn) left b steps held at late part talk → IsOther talk → failures_of late ≡ 0
+  relp_quiet talk e = ending_cases (relp conn) left b steps held at late part (λ t. IsOther t → failures_of late ≡ 0) (λ t none other. ap failures_of none.0) (λ t none other. ap failures_of none.0) relp_move talk e
 
 -- ---- Lumberjack
 
@@ -128,60 +123,53 @@ last_quiet : (conn index : ℕ) (events : List Staged) (late : List Call) (part 
 last_quiet conn index [] late part none = ap failures_of none.0
 last_quiet conn index (s ∷ more) late part stored = ap failures_of stored.1
 
-module _ (conn : ℕ) (b : List ℕ) (steps : List (Step LumberFrame)) (held : List LumberFrame) (at : ℕ) (tail : List ℕ) (late : List Call) (part : List ℕ) where
-  lumber_by_disk : EndsAtMove (lumberjack conn) b steps held at tail late part Talk.DiskFault → failures_of late ≡ 1
-  lumber_by_disk (inl frame) = group_by_disk _ late part frame.5.1
+module _ (conn : ℕ) (left : Option (List ℕ)) (b : List ℕ) (steps : List (Step LumberFrame)) (held : List LumberFrame) (at : ℕ) (late : List Call) (part : List ℕ) where
+  lumber_by_disk : EndsAtMove (lumberjack conn) left b steps held at late part Talk.DiskFault → failures_of late ≡ 1
+  lumber_by_disk (inl frame) = group_by_disk _ late part frame.3.1
   lumber_by_disk (inr last) = group_by_disk _ late part last.2.1
 
-  lumber_move : (talk : Talk) → EndsAtMove (lumberjack conn) b steps held at tail late part talk → IsOther talk → failures_of late ≡ 0
-  lumber_move talk (inl frame) other = group_quiet _ _ late part talk frame.5.1 other
+  lumber_move : (talk : Talk) → EndsAtMove (lumberjack conn) left b steps held at late part talk → IsOther talk → failures_of late ≡ 0
+  lumber_move talk (inl frame) other = group_quiet _ _ late part talk frame.3.1 other
   lumber_move talk (inr last) other = group_quiet _ _ late part talk last.2.1 other
 
-  lumber_quiet : (talk : Talk) → Ending (lumberjack conn) b steps held at tail late part talk → IsOther talk → failures_of late ≡ 0
-  lumber_quiet Talk.Ended e other = last_quiet conn _ _ late part e.1
-  lumber_quiet (Talk.Truncated place) e other = last_quiet conn _ _ late part e.1
-  lumber_quiet (Talk.Fault place why) e other = last_quiet conn _ _ late part e.1
-  lumber_quiet Talk.ReadFault e other = ap failures_of e.1.0
-  lumber_quiet (Talk.TooMuch place) e other = ap failures_of e.3.0
-  lumber_quiet Talk.NoMemory (inl nothing) other = ap failures_of nothing.0
-  lumber_quiet Talk.NoMemory (inr move) other = lumber_move Talk.NoMemory move other
-  lumber_quiet talk e other = lumber_move talk e other
+  lumber_quiet : (talk : Talk) → Ending (lumberjack conn) left b steps held at late part talk → IsOther talk → failures_of late ≡ 0
+  lumber_quiet talk e = ending_cases (lumberjack conn) left b steps held at late part (λ t. IsOther t → failures_of late ≡ 0) (λ t m other. last_quiet conn _ _ late part m) (λ t none other. ap failures_of none.0) lumber_move talk e
 
 -- ---- a connection
 
-failures_in_all : {F : Type 0} (p : Protocol F) (b : List ℕ) (calls : List Call) (text : List ℕ) (talk : Talk) (carried : Carried p b calls text talk) → failures_of calls ≡ failures_of (calls_of carried.steps) + failures_of carried.late
-failures_in_all p b calls text talk carried = ap failures_of carried.made ∙ failures_then (calls_of carried.steps) carried.late
+failures_in_all : {F : Type 0} (p : Protocol F) (left : Option (List ℕ)) (b : List ℕ) (calls : List Call) (text : List ℕ) (talk : Talk) (carried : Carried p left b calls text talk) → failures_of calls ≡ failures_of (calls_of carried.steps) + failures_of carried.late
+failures_in_all p left b calls text talk carried = ap failures_of carried.made ∙ failures_then (calls_of carried.steps) carried.late
 
 steps_quiet : {F : Type 0} (p : Protocol F) → ((before : List (Step F)) (s : Step F) → p.IsMove before s → failures_of s.calls ≡ 0) → (before steps : List (Step F)) → AreMoves p before steps → failures_of (calls_of steps) ≡ 0
 steps_quiet p quiet before [] are = refl
 steps_quiet p quiet before (s ∷ steps) are = omega (arith, failures_then s.calls (calls_of steps), quiet before s are.0, steps_quiet p quiet (before ++ s ∷ []) steps are.1)
 
-some_failed : {F : Type 0} (p : Protocol F) (b : List ℕ) (calls : List Call) (text : List ℕ) (talk : Talk) (carried : Carried p b calls text talk) → failures_of carried.late ≡ 1 → 1 ≤ failures_of calls
-some_failed p b calls text talk carried one = omega (arith, failures_in_all p b calls text talk carried, one)
+some_failed : {F : Type 0} (p : Protocol F) (left : Option (List ℕ)) (b : List ℕ) (calls : List Call) (text : List ℕ) (talk : Talk) (carried : Carried p left b calls text talk) → failures_of carried.late ≡ 1 → 1 ≤ failures_of calls
+some_failed p left b calls text talk carried one = omega (arith, failures_in_all p left b calls text talk carried, one)
 
 -- a connection that ended by a fault of the disk made a call that was answered so
-disk_failed : (proto : Proto) (conn : ℕ) (b : List ℕ) (calls : List Call) (text : List ℕ) → CarriedBy proto conn b calls text Talk.DiskFault → 1 ≤ failures_of calls
-disk_failed Relp conn b calls text c = some_failed (relp conn) b calls text Talk.DiskFault c (relp_by_disk conn b c.steps c.held _ c.tail c.late c.part c.ending)
-disk_failed Lumberjack conn b calls text c = some_failed (lumberjack conn) b calls text Talk.DiskFault c (lumber_by_disk conn b c.steps c.held _ c.tail c.late c.part c.ending)
-disk_failed Hec conn b calls text c = absurd c
+disk_failed : (proto : Proto) (conn : ℕ) (left : Option (List ℕ)) (b : List ℕ) (calls : List Call) (text : List ℕ) → CarriedBy proto conn left b calls text Talk.DiskFault → 1 ≤ failures_of calls
+disk_failed Relp conn left b calls text c = some_failed (relp conn) left b calls text Talk.DiskFault c (relp_by_disk conn left b c.steps c.held c.at c.late c.part c.ending)
+disk_failed Lumberjack conn left b calls text c = some_failed (lumberjack conn) left b calls text Talk.DiskFault c (lumber_by_disk conn left b c.steps c.held c.at c.late c.part c.ending)
+disk_failed Hec conn left b calls text c = absurd c
 
 -- one that ended otherwise made none
-none_failed : (proto : Proto) (conn : ℕ) (b : List ℕ) (calls : List Call) (text : List ℕ) (talk : Talk) → CarriedBy proto conn b calls text talk → IsOther talk → failures_of calls ≡ 0
-none_failed Relp conn b calls text talk c other =
+none_failed : (proto : Proto) (conn : ℕ) (left : Option (List ℕ)) (b : List ℕ) (calls : List Call) (text : List ℕ) (talk : Talk) → CarriedBy proto conn left b calls text talk → IsOther talk → failures_of calls ≡ 0
+none_failed Relp conn left b calls text talk c other =
     omega (
       arith,
-      failures_in_all (relp conn) b calls text talk c,
+      failures_in_all (relp conn) left b calls text talk c,
       steps_quiet (relp conn) (λ before s move. carries_quiet conn _ move.2.0 s.calls s.text move.2.2) [] c.steps c.each,
-      relp_quiet conn b c.steps c.held _ c.tail c.late c.part talk c.ending other,
+      relp_quiet conn left b c.steps c.held c.at c.late c.part talk c.ending other,
     )
-none_failed Lumberjack conn b calls text talk c other =
+none_failed Lumberjack conn left b calls text talk c other =
     omega (
       arith,
-      failures_in_all (lumberjack conn) b calls text talk c,
+      failures_in_all (lumberjack conn) left b calls text talk c,
       steps_quiet (lumberjack conn) (λ before s move. ap failures_of move.1.1) [] c.steps c.each,
-      lumber_quiet conn b c.steps c.held _ c.tail c.late c.part talk c.ending other,
+      lumber_quiet conn left b c.steps c.held c.at c.late c.part talk c.ending other,
     )
-none_failed Hec conn b calls text talk c other = absurd c
+none_failed Hec conn left b calls text talk c other = absurd c
 
 -- ---- as the note says
 
@@ -201,14 +189,14 @@ rose_once : (n before now : ℕ) → 1 ≤ n → Rose n before now → Rose 1 be
 rose_once n before now some rose = omega arith
 
 -- The note says whether a call of the disk failed.
-pub disk_calls : (proto : Proto) (conn : ℕ) (b : List ℕ) (calls : List Call) (text : List ℕ) (talk : Talk) (note : Note) (tells : Type 0) (old new : AloneView) → note ≡ note_of_talk talk
-    → CarriedBy proto conn b calls text talk → Ran tells old calls new → Calls (note ≡ Note.DiskFault) old.spool.moment new.spool.moment
-disk_calls proto conn b calls text talk note tells old new is carried ran =
+pub disk_calls : (proto : Proto) (conn : ℕ) (left : Option (List ℕ)) (b : List ℕ) (calls : List Call) (text : List ℕ) (talk : Talk) (note : Note) (tells : Type 0) (old new : AloneView) → note ≡ note_of_talk talk
+    → CarriedBy proto conn left b calls text talk → Ran tells old calls new → Calls (note ≡ Note.DiskFault) old.spool.moment new.spool.moment
+disk_calls proto conn left b calls text talk note tells old new is carried ran =
     let own = ap failures_of (calls_by 0 calls ran.records ran.by) in record {
       size = ran.runs.size;
       later = ran.runs.later;
       cause = λ by_disk.
-          let some = disk_failed proto conn b calls text (subst (CarriedBy proto conn b calls text) (talk_by_disk talk (sym is ∙ by_disk)) carried) in
+          let some = disk_failed proto conn left b calls text (subst (CarriedBy proto conn left b calls text) (talk_by_disk talk (sym is ∙ by_disk)) carried) in
           rose_once (failures_of calls) old.spool.moment.faults new.spool.moment.faults some (subst (λ (n : ℕ). Rose n old.spool.moment.faults new.spool.moment.faults) own ran.runs.cause);
-      quiet = λ other. ran.runs.quiet (own ∙ none_failed proto conn b calls text talk carried (λ by_disk. other (is ∙ ap note_of_talk by_disk)));
+      quiet = λ other. ran.runs.quiet (own ∙ none_failed proto conn left b calls text talk carried (λ by_disk. other (is ∙ ap note_of_talk by_disk)));
     }

@@ -62,7 +62,6 @@ served_as proto conn given given' left left' taken taken' Made Also note also se
     counted = served.serves.counted;
     carried = served.serves.carried;
   };
-  ended = served.ended;
 }
 
 -- a spool that was opened from a device, and then served

@@ -1,6 +1,5 @@
 -- What the top call does with the words of `replay`.
 use Rattle.std.specs.Prelude.{◌≡◌, ◌⊎◌, ℕ, ◌+◌, ◌*◌, ◌^◌, List, [], Option}
-use Rattle.std.specs.Io.KnownBytes.{IsAtEnd}
 use Rattle.event_form.specs.declared.talk.Attended.{Attended}
 use Rattle.edge_io.specs.declared.proto.Proto.{Proto}
 use Rattle.edge_disk.specs.Disk.{Moment, LeavesOnly}
@@ -15,7 +14,6 @@ use Rattle.desk_access.specs.Call.{Call, Record, AreBy}
 use Rattle.desk_access.specs.Desk.{DeskState, desk_of, Goes, Stood}
 use Rattle.desk_access.specs.History.{IsLater, Grows, AllKept}
 use Rattle.conn_serve.specs.Acked.{Acknowledges}
-use Rattle.conn_serve.specs.Endings.{IsAtEndOfInput}
 use Rattle.conn_serve.specs.Serves.{CarriedBy, Serves}
 use Rattle.bridge_words.specs.declared.note.Note.{Note}
 use Rattle.bridge_words.specs.Notes.{note_of_talk}
@@ -76,13 +74,12 @@ pub record IsUnopened (tells : Type 0) (old new : Moment) (note : Note) : Type 0
   pub any_moment : tells → LeavesOnly (IsRefusing Raise fault old) old new
 
 -- The input was served by this protocol, as one connection of this number: the bytes read are its frames, from
--- the first one, none skipped; the calls on the spool and the bytes written are those that they ask for; and the
--- note is that of the connection's ending.
+-- the first one, none skipped; the calls on the spool and the bytes written are those that they ask for; where it
+-- ended with the input, the input was read to its end; and the note is that of the connection's ending.
 pub record IsServed (proto : Proto) (conn : ℕ) (given given' left left' taken taken' : Option (List ℕ)) (Made : List Call → Type 0) (note : Note) : Type 0 where
   pub attended : Attended
   pub note_is : note ≡ note_of_talk attended.talk
   pub serves : Serves (CarriedBy proto conn) given given' left left' taken taken' Made attended
-  pub ended : IsAtEndOfInput attended.talk → IsAtEnd left'
 
 -- And that was done over the spool that the device stood for. Whatever the text that was written acknowledges is durable.
 pub record IsReplayed (proto : Proto) (tells : Type 0) (old new : Moment) (given given' left left' taken taken' : Option (List ℕ)) (note : Note) : Type 0 where

@@ -10,15 +10,9 @@ mod bridge;
 mod ended;
 mod formatting;
 mod lines;
-#[cfg(test)]
-mod list_tests;
 mod listing;
-#[cfg(test)]
-mod lumber_tests;
 mod program;
 mod refused;
-#[cfg(test)]
-mod register_tests;
 mod replaying;
 #[cfg(test)]
 mod tests;

@@ -24,8 +24,8 @@ use std::alloc::Global;
 /// How many numbers the connections of a run have.
 const CONNECTIONS: u64 = 1 << 32;
 
-// Serves the link by this protocol, as the first connection of the spool's run.
-fn serve_link<D: Disk, L: Link>(
+/// Serves the link by this protocol, as the first connection of the spool's run.
+pub(crate) fn serve_link<D: Disk, L: Link>(
     alloc: Global,
     proto: Proto,
     spool: Spool<D>,

@@ -24,7 +24,7 @@ returns-in-Ok-clause-replayed g c =
     inr (record {
       conn = run * 2 ^ 32;
       served = served;
-      acknowledged = λ numbers tells says. acked_is_durable c.args.proto (run * 2 ^ 32) serves.bytes serves.calls serves.text served.attended.talk old new numbers serves.carried (serves.made tells) says;
+      acknowledged = λ numbers tells says. acked_is_durable c.args.proto (run * 2 ^ 32) _ serves.bytes serves.calls serves.text served.attended.talk old new numbers serves.carried (serves.made tells) says;
     })
 
 pub returns-in-Err-clause-calls : goal.returns-in-Err-clause-calls

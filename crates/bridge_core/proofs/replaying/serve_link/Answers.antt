@@ -23,7 +23,7 @@ returns-clause-calls g c =
     let after : c.of.result.disk ≡ c.attend-attended.new.access.desk.spool.disk = c.of.ensures.disk ∙ c.into_disk.ensures ∙ ap (λ d. d.spool.disk) c.into_desk-desk.ensures in
     subst (λ (d : _). Calls (c.of.result.note ≡ Note.DiskFault) (g.D.Disk.moment d) (g.D.Disk.moment c.of.result.disk)) before
     (subst (λ (d : _). Calls (c.of.result.note ≡ Note.DiskFault) (g.D.Disk.moment c.new-access.result.desk.spool.disk) (g.D.Disk.moment d)) (sym after)
-    (disk_calls c.args.proto _ run.bytes run.calls run.text c.attend-attended.result.talk c.of.result.note g.D.Disk.tells _ _ (c.of.ensures.note ∙ c.of_talk.ensures) run.carried run.made))
+    (disk_calls c.args.proto _ _ run.bytes run.calls run.text c.attend-attended.result.talk c.of.result.note g.D.Disk.tells _ _ (c.of.ensures.note ∙ c.of_talk.ensures) run.carried run.made))
 
 pub returns-clause-reads : goal.returns-clause-reads
 returns-clause-reads g c =
@@ -57,7 +57,6 @@ returns-clause-served g c =
             (subst (λ (d : _). Keeps s (g.D.Disk.moment c.new-access.result.desk.spool.disk) (g.D.Disk.moment d) run.calls) (sym after)
             (ran_keeps s _ _ _ run.calls tells at run.made));
         counted = run.counted;
-        carried = subst (λ (n : ℕ). CarriedBy c.args.proto n run.bytes run.calls run.text c.attend-attended.result.talk) (number ∙ ap (λ (n : ℕ). n * 2 ^ 32) c.run-run.ensures) run.carried;
+        carried = subst (λ (n : ℕ). CarriedBy c.args.proto n (g.L.Source.left c.attend-attended.new.link) run.bytes run.calls run.text c.attend-attended.result.talk) (number ∙ ap (λ (n : ℕ). n * 2 ^ 32) c.run-run.ensures) run.carried;
       };
-      ended = c.attend-attended.ensures.end;
     }

@@ -1,0 +1,73 @@
+//! Calls over a disk that fails or stops.
+
+/// What is left of an event, of two batches, and of a register whose version is raised.
+pub(crate) const FAULTS: &str =
+    r#"- an event is stored by four calls of the disk: where the third one fails, which writes the gate, it is not stored,
+- and where the fourth fails, a sync, it is
+device 16384
+call format 1 4096
+out text 1 slots of 4096 bytes%0a
+ends 0
+call replay relp
+open
+in text 2 syslog 5 hello%0a
+out text 2 rsp 6 200 OK%0a
+outcome 0 text
+outcome 76 text
+outcome 76 text 0 4294967296 0 2 relp 5%0a
+outcome 91 text 0 4294967296 0 2 relp 5%0a
+fails 0 1 1 1 2
+stops
+
+- a batch is one group
+device 16384
+call format 1 4096
+out text 1 slots of 4096 bytes%0a
+ends 0
+call replay lumberjack
+in text 2W%00%00%00%022J%00%00%00%01%00%00%00%02{}2J%00%00%00%02%00%00%00%02{}2J%00%00%00%03%00%00%00%02{}
+out text 2A%00%00%00%022A%00%00%00%03
+outcome 0 text
+outcome 0 text 0 4294967296 0 1 json 2%0a1 4294967296 1 2 json 2%0a
+outcome 6 text 0 4294967296 0 1 json 2%0a1 4294967296 1 2 json 2%0a
+outcome 6 text 0 4294967296 0 1 json 2%0a1 4294967296 1 2 json 2%0a2 4294967296 2 3 json 2%0a
+outcome 12 text 0 4294967296 0 1 json 2%0a1 4294967296 1 2 json 2%0a2 4294967296 2 3 json 2%0a
+fails 0 0 0 1 2 2 2 3
+stops
+
+- a device as the first version left it after one event, with cells of version 1 of ordinal 1 and run 0, and of
+- ordinal 2 and run 1; the next run writes a cell of version 2, of ordinal 3 and run 2
+device 16384
+call format 1 4096
+out text 1 slots of 4096 bytes%0a
+ends 0
+call replay relp
+open
+in text 2 syslog 5 hello%0a
+out text 2 rsp 6 200 OK%0a
+ends 0
+put 4096 text %01%00%00%00%00%00%00%00%01%00%00%00%11%01%00%00%00%00%00%00%00%00
+put 4118 times 8 %00
+put 8192 text %01%00%00%00%00%00%00%00%02%00%00%00%11%01%00%00%00%00%00%00%00%01
+put 8214 times 8 %00
+call list
+out text 0 4294967296 0 2 relp 5%0a
+ends 0
+same
+call replay relp
+outcome 0 text 0 4294967296 0 2 relp 5%0a
+fails 0
+stops
+call replay relp
+open
+in text 2 syslog 2 hi%0a
+out text 2 rsp 6 200 OK%0a
+ends 0
+holds 4096 text %01%00%00%00%00%00%00%00%03%00%00%00%13%02%00%00%00%00%00%00%00%02
+holds 4118 times 10 %00
+holds 8192 text %01%00%00%00%00%00%00%00%02%00%00%00%11%01%00%00%00%00%00%00%00%01
+holds 8214 times 8 %00
+call list
+out text 0 4294967296 0 2 relp 5%0a1 8589934592 0 2 relp 2%0a
+ends 0
+same"#;

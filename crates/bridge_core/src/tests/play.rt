@@ -1,0 +1,90 @@
+//! A device, the next call of `bridge` over it, and what that call has to leave.
+
+use crate::bridge::bridge;
+use crate::ended::Ended;
+use bridge_words::Note;
+use edge_disk::MemDisk;
+use edge_io::{MemSink, MemSource};
+use std::alloc::{AllocError, Global};
+
+/// What a call over a disk that fails may leave: how many bytes of the output, and what `list` then
+/// prints.
+#[derive(Drop)]
+pub(crate) struct Outcome {
+    pub(crate) written: u64,
+    pub(crate) lines: Vec<u8>,
+}
+
+/// A device and the next call.
+#[derive(Drop)]
+pub(crate) struct Play {
+    /// The device as it stands, and as it stood before the last call.
+    pub(crate) device: Vec<u8>,
+    pub(crate) before: Vec<u8>,
+    /// What the next call is given: its words and its input, and which reads and writes fail, from
+    /// 0.
+    pub(crate) words: Vec<String>,
+    pub(crate) input: Vec<u8>,
+    pub(crate) reads: Vec<u64>,
+    pub(crate) writes: Vec<u64>,
+    /// The most bytes of a read.
+    pub(crate) piece: usize,
+    /// The output that is wanted, and what may be left where the disk fails.
+    pub(crate) output: Vec<u8>,
+    pub(crate) outcomes: Vec<Outcome>,
+}
+
+/// What a call left.
+#[derive(Drop)]
+pub(crate) struct Left {
+    pub(crate) status: u8,
+    pub(crate) note: Note,
+    pub(crate) written: Vec<u8>,
+    pub(crate) disk: MemDisk,
+}
+
+impl Play {
+    /// No device and no words.
+    pub(crate) fn new(alloc: Global, piece: usize) -> Play {
+        Play {
+            device: Vec::new(alloc),
+            before: Vec::new(alloc),
+            words: Vec::new(alloc),
+            input: Vec::new(alloc),
+            reads: Vec::new(alloc),
+            writes: Vec::new(alloc),
+            piece,
+            output: Vec::new(alloc),
+            outcomes: Vec::new(alloc),
+        }
+    }
+
+    /// A call with no words yet, over the device as it stands.
+    pub(crate) fn clear(&mut self) {
+        self.words.clear();
+        self.input.clear();
+        self.reads.clear();
+        self.writes.clear();
+        self.output.clear();
+        self.outcomes.clear();
+    }
+
+    /// Makes the call over this disk.
+    pub(crate) fn call(&self, alloc: Global, disk: MemDisk) -> Result<Left, AllocError> {
+        let input = self.input.to_vec(alloc)?;
+        let mut source = MemSource::of(input, self.piece.max(1), self.reads.to_vec(alloc)?);
+        let mut sink = MemSink::of(alloc, self.writes.to_vec(alloc)?);
+        let Ended { status, note, disk } = bridge(alloc, &self.words, disk, &mut source, &mut sink);
+        Ok(Left {
+            status,
+            note,
+            written: sink.taken().to_vec(alloc)?,
+            disk,
+        })
+    }
+
+    /// The device as a disk on which no call fails.
+    pub(crate) fn sound(&self, alloc: Global) -> Result<MemDisk, AllocError> {
+        Ok(MemDisk::of(self.device.to_vec(alloc)?, Vec::new(alloc)))
+    }
+}
