@@ -1,10 +1,10 @@
-//! A connection of Lumberjack, and its reader alone.
+//! A connection of Lumberjack, and its window alone.
 ghost use Rattle.std.specs.Prelude.{◌+◌, ◌≤◌, ◌^◌, length};
 
 use crate::stream::Stream;
 use anyhow::bail;
 use edge_io::Proto;
-use lumber_frame::{LumberFrame, LumberReader, Side, window_frame, write_json};
+use lumber_frame::{LumberRef, LumberWindow, window_frame, write_json};
 use std::alloc::{AllocError, Global};
 
 /// How many frames a window has, but the last one.
@@ -17,9 +17,10 @@ const BATCH: u32 = 256;
 const PAYLOAD: &[u8] =
     br#"{"message":"connection from 192.0.2.17 closed","level":"info","pid":4711,"bytes":48213,"host":"h17"}"#;
 
-/// So many JSON frames, in windows, numbered in each from 1. The last window has fewer where they end.
+/// As many JSON frames as there are to be events, in windows, numbered in each from 1. The last window has
+/// fewer where they end. Memory is sought once, for all of it.
 pub fn stream(alloc: Global, events: u32) -> Result<Stream, AllocError> {
-    let mut bytes = Vec::new(alloc);
+    let mut bytes = Vec::with_capacity(alloc, 128 * (events as usize + 1))?;
     let mut left = events;
     for _ in 0..events {
         let size = left.min(WINDOW);
@@ -36,33 +37,34 @@ pub fn stream(alloc: Global, events: u32) -> Result<Stream, AllocError> {
     Ok(Stream {
         proto: Proto::Lumberjack,
         bytes,
+        events,
         data: PAYLOAD.len(),
         frames: u64::from(events),
         answers: u64::from(batches),
         groups: u64::from(batches),
-        events: BATCH,
+        group: BATCH,
     })
 }
 
 /// How many bytes a connection is fed at a time.
 const PIECE: usize = 8192;
 
-/// A reader, how many bytes it may still be fed, and how many JSON frames were taken from it.
+/// A window, how many bytes it may still be fed, and how many JSON frames it lent.
 #[derive(Drop)]
-struct Feeding {
-    reader: LumberReader,
+struct Looking {
+    window: LumberWindow,
     left: usize,
     frames: u64,
-    ghost room: { reader.at + length reader.rest + left ≤ 2 ^ 40 },
+    ghost room: { window.at + length window.rest + left ≤ 2 ^ 40 },
 }
 
-impl Feeding {
-    fn new(alloc: Global) -> Feeding {
-        Feeding {
-            reader: LumberReader::new(alloc, Side::Receiver),
+impl Looking {
+    fn new(alloc: Global) -> Result<Looking, AllocError> {
+        Ok(Looking {
+            window: LumberWindow::new(alloc)?,
             left: 1 << 40,
             frames: 0,
-        }
+        })
     }
 
     fn feed(&mut self, piece: &[u8]) -> anyhow::Result<()> {
@@ -70,13 +72,17 @@ impl Feeding {
             bail!("too many bytes");
         }
         self.left -= piece.len();
-        match self.reader.feed(piece) {
-            Ok(()) => {}
+        match self.window.feed(piece) {
+            Ok(taken) => {
+                if taken < piece.len() {
+                    bail!("{taken} bytes taken");
+                }
+            }
             Err(fault) => bail!("feed: {fault:?}"),
         }
         for _ in 0..PIECE {
-            match self.reader.take() {
-                Some(LumberFrame::Json { .. }) => self.frames = self.frames.wrapping_add(1),
+            match self.window.next() {
+                Some(LumberRef::Json { .. }) => self.frames = self.frames.wrapping_add(1),
                 Some(_) => {}
                 None => break,
             }
@@ -87,9 +93,9 @@ impl Feeding {
 
 /// Reads the stream, and gives how many JSON frames it has.
 pub fn read(alloc: Global, bytes: &[u8]) -> anyhow::Result<u64> {
-    let mut feeding = Feeding::new(alloc);
+    let mut looking = Looking::new(alloc)?;
     for piece in bytes.chunks(PIECE) {
-        feeding.feed(piece)?;
+        looking.feed(piece)?;
     }
-    Ok(feeding.frames)
+    Ok(looking.frames)
 }

@@ -1,7 +1,11 @@
 //! How fast a connection is carried: `attend` reads frames of 100 bytes of data out of memory, stores their
 //! events in a spool on a disk in memory, and its answers are counted. By RELP each event is a group and has
-//! an answer; by Lumberjack each batch. Beside it, in the same run, the reader alone over the same bytes, and
+//! an answer; by Lumberjack each batch. Beside it, in the same run, the window alone over the same bytes, and
 //! the disk's calls alone.
+//!
+//! With the word `times` it does that for both protocols and prints the figures. With `attend` or `read`, a
+//! protocol and a count of events it carries or reads one such connection and prints nothing, so that what it
+//! asks the allocator for can be counted from outside. With no word it does nothing.
 #![tactic(auto)]
 
 mod answers;
@@ -11,7 +15,7 @@ mod relp;
 mod stream;
 
 use answers::Answers;
-use anyhow::bail;
+use anyhow::{Context, bail};
 use conn_serve::{Rules, attend};
 use desk_access::{Alone, Desk};
 use edge_disk::MemDisk;
@@ -20,6 +24,7 @@ use event_form::Talk;
 use hec_ids::Ids;
 use spool_log::Spool;
 use std::alloc::Global;
+use std::env;
 use std::hint::black_box;
 use std::num::nearest_usize_to_f64;
 use std::time::{Duration, Instant};
@@ -60,16 +65,16 @@ fn carry(rt: &HostRuntime, stream: &Stream, spool: Spool<MemDisk>) -> anyhow::Re
     let taken = start.elapsed(rt)?;
     let Desk { spool, .. } = alone.into_desk();
     let held = spool.end();
-    if attended.talk != Talk::Ended || attended.taken != u64::from(EVENTS) {
+    if attended.talk != Talk::Ended || attended.taken != u64::from(stream.events) {
         bail!("{attended:?}");
     }
-    if held != u64::from(EVENTS) || link.sink.answers() != stream.answers {
+    if held != u64::from(stream.events) || link.sink.answers() != stream.answers {
         bail!("{held} entries, {} answers", link.sink.answers());
     }
     Ok(taken)
 }
 
-/// How many frames the reader alone gives.
+/// How many frames the window alone gives.
 fn read(alloc: Global, stream: &Stream) -> anyhow::Result<u64> {
     match stream.proto {
         Proto::Relp => relp::read(alloc, &stream.bytes),
@@ -79,8 +84,8 @@ fn read(alloc: Global, stream: &Stream) -> anyhow::Result<u64> {
 }
 
 /// Millions of events a second.
-fn events(taken: Duration) -> f64 {
-    nearest_usize_to_f64(EVENTS as usize) / taken.as_secs_f64() / 1e6
+fn events(stream: &Stream, taken: Duration) -> f64 {
+    nearest_usize_to_f64(stream.events as usize) / taken.as_secs_f64() / 1e6
 }
 
 /// Millions of bytes a second.
@@ -105,25 +110,27 @@ fn measure(rt: &HostRuntime, stream: &Stream) -> anyhow::Result<()> {
         }
         let mut disk = device::empty_disk(alloc)?;
         let start = Instant::now(rt)?;
-        device::store(&mut disk, stream.groups, stream.events, stream.data)?;
+        device::store(&mut disk, stream.groups, stream.group, stream.data)?;
         storing = storing.min(start.elapsed(rt)?);
         black_box(disk.bytes().len());
     }
     let whole = carrying.as_secs_f64();
     println!(rt;
-        "{:?}: {EVENTS} events of {} bytes, {} bytes, {} answers, the best of {ROUNDS} runs each",
+        "{:?}: {} events of {} bytes, {} bytes, {} answers, the best of {ROUNDS} runs each",
         stream.proto,
+        stream.events,
         stream.data,
         stream.bytes.len(),
         stream.answers
     )?;
     println!(rt;
         "    attend: {:.2} million events/s, {:.0} MB/s",
-        events(carrying),
+        events(stream, carrying),
         rate(&stream.bytes, carrying)
     )?;
     println!(rt;
-        "    the reader alone: {:.0} MB/s, {:.0} % of the time of attend",
+        "    the window alone: {:.2} million events/s, {:.0} MB/s, {:.0} % of the time of attend",
+        events(stream, reading),
         rate(&stream.bytes, reading),
         reading.as_secs_f64() / whole * 100.0
     )?;
@@ -134,9 +141,41 @@ fn measure(rt: &HostRuntime, stream: &Stream) -> anyhow::Result<()> {
     Ok(())
 }
 
+/// A connection by this protocol.
+fn connection(alloc: Global, protocol: &str, events: u32) -> anyhow::Result<Stream> {
+    match protocol {
+        "relp" => Ok(relp::stream(alloc, events)?),
+        "lumberjack" => Ok(lumberjack::stream(alloc, events)?),
+        _ => bail!("no protocol {protocol:?}"),
+    }
+}
+
+/// Carries or reads one connection.
+fn once(rt: &HostRuntime, what: &str, stream: &Stream) -> anyhow::Result<()> {
+    match what {
+        "attend" => {
+            black_box(carry(rt, stream, device::empty_spool(rt.alloc())?)?);
+        }
+        "read" => {
+            black_box(read(rt.alloc(), stream)?);
+        }
+        _ => bail!("nothing is measured by the word {what:?}"),
+    }
+    Ok(())
+}
+
 fn main(rt: HostRuntime) -> anyhow::Result<()> {
     let alloc = rt.alloc();
-    measure(&rt, &relp::stream(alloc, EVENTS)?)?;
-    measure(&rt, &lumberjack::stream(alloc, EVENTS)?)?;
-    Ok(())
+    let mut words = env::args(&rt)?.skip(1);
+    let Some(what) = words.next() else {
+        return Ok(());
+    };
+    if what.as_str() == "times" {
+        measure(&rt, &connection(alloc, "relp", EVENTS)?)?;
+        return measure(&rt, &connection(alloc, "lumberjack", EVENTS)?);
+    }
+    let protocol = words.next().context("which protocol?")?;
+    let count = words.next().context("how many events?")?.parse::<u32>()?;
+    let stream = connection(alloc, protocol.as_str(), count)?;
+    once(&rt, what.as_str(), &stream)
 }

@@ -1,10 +1,10 @@
-//! A connection of RELP, and its reader alone.
+//! A connection of RELP, and its window alone.
 ghost use Rattle.std.specs.Prelude.{◌+◌, ◌≤◌, ◌^◌, length};
 
 use crate::stream::Stream;
 use anyhow::bail;
 use edge_io::Proto;
-use relp_frame::RelpReader;
+use relp_frame::{RelpWindow, write_parts};
 use std::alloc::{AllocError, Global};
 use std::hint::black_box;
 
@@ -13,46 +13,44 @@ const OPEN: &[u8] = b"1 open 54 relp_version=0\nrelp_software=bench,1,x\ncommand
 const DATA: &[u8] =
     b"<13>Nov 27 02:00:00 host7 app[4711]: connection from 192.0.2.17:40312 closed, 48213 bytes in 0.187 s";
 
-/// An `open` and so many `syslog` frames.
+/// An `open` and as many `syslog` frames as there are to be events. Memory is sought once, for all of it.
 pub fn stream(alloc: Global, events: u32) -> Result<Stream, AllocError> {
-    let mut bytes = Vec::from_slice(alloc, OPEN)?;
+    let mut bytes = Vec::with_capacity(alloc, 128 * (events as usize + 1))?;
+    bytes.extend_from_slice(OPEN)?;
     for number in 0..events {
-        let txnr = 2 + number % 999_999_998;
-        bytes.extend_from_slice(txnr.to_string(alloc)?.as_bytes())?;
-        bytes.extend_from_slice(b" syslog 100 ")?;
-        bytes.extend_from_slice(DATA)?;
-        bytes.push(b'\n')?;
+        write_parts(2 + number % 999_999_998, b"syslog", DATA, &mut bytes)?;
     }
     Ok(Stream {
         proto: Proto::Relp,
         bytes,
+        events,
         data: DATA.len(),
         frames: u64::from(events) + 1,
         answers: u64::from(events) + 1,
         groups: u64::from(events),
-        events: 1,
+        group: 1,
     })
 }
 
 /// How many bytes a connection is fed at a time.
 const PIECE: usize = 8192;
 
-/// A reader, how many bytes it may still be fed, and how many frames were taken from it.
+/// A window, how many bytes it may still be fed, and how many frames it lent.
 #[derive(Drop)]
-struct Feeding {
-    reader: RelpReader,
+struct Looking {
+    window: RelpWindow,
     left: usize,
     frames: u64,
-    ghost room: { reader.at + length reader.rest + left ≤ 2 ^ 40 },
+    ghost room: { window.at + length window.rest + left ≤ 2 ^ 40 },
 }
 
-impl Feeding {
-    fn new(alloc: Global) -> Feeding {
-        Feeding {
-            reader: RelpReader::new(alloc),
+impl Looking {
+    fn new(alloc: Global) -> Result<Looking, AllocError> {
+        Ok(Looking {
+            window: RelpWindow::new(alloc)?,
             left: 1 << 40,
             frames: 0,
-        }
+        })
     }
 
     fn feed(&mut self, piece: &[u8]) -> anyhow::Result<()> {
@@ -60,12 +58,16 @@ impl Feeding {
             bail!("too many bytes");
         }
         self.left -= piece.len();
-        match self.reader.feed(piece) {
-            Ok(()) => {}
+        match self.window.feed(piece) {
+            Ok(taken) => {
+                if taken < piece.len() {
+                    bail!("{taken} bytes taken");
+                }
+            }
             Err(fault) => bail!("feed: {fault:?}"),
         }
         for _ in 0..PIECE {
-            let Some(frame) = self.reader.take() else {
+            let Some(frame) = self.window.next() else {
                 break;
             };
             self.frames = self.frames.wrapping_add(1);
@@ -77,9 +79,9 @@ impl Feeding {
 
 /// Reads the stream, and gives how many frames it has.
 pub fn read(alloc: Global, bytes: &[u8]) -> anyhow::Result<u64> {
-    let mut feeding = Feeding::new(alloc);
+    let mut looking = Looking::new(alloc)?;
     for piece in bytes.chunks(PIECE) {
-        feeding.feed(piece)?;
+        looking.feed(piece)?;
     }
-    Ok(feeding.frames)
+    Ok(looking.frames)
 }

@@ -6,7 +6,8 @@ use edge_io::Proto;
 pub struct Stream {
     pub proto: Proto,
     pub bytes: Vec<u8>,
-    /// How many bytes of data each event has.
+    /// How many events it has, and how many bytes of data each.
+    pub events: u32,
     pub data: usize,
     /// How many frames the reader gives, the windows of Lumberjack aside.
     pub frames: u64,
@@ -14,5 +15,5 @@ pub struct Stream {
     pub answers: u64,
     /// How many groups are stored, and of how many events each.
     pub groups: u64,
-    pub events: u32,
+    pub group: u32,
 }
