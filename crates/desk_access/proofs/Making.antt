@@ -1,5 +1,5 @@
 -- What one call makes, for a desk with one caller: what it leads to, and how often the disk failed.
-use Rattle.std.proofs.Common.{◌≡◌, ◌⊎◌, inl, inr, ℕ, ◌+◌, ◌≤◌, ◌<◌, ◌==◌, zero, suc, Bool, true, false, List, [], ◌∷◌, length, Option, None, Some, refl, sym, ◌∙◌, ap, subst, arith}
+use Rattle.std.proofs.Common.{◌≡◌, ◌⊎◌, inl, inr, ℕ, ◌+◌, ◌≤◌, ◌<◌, ◌==◌, zero, suc, Bool, true, false, List, [], ◌∷◌, length, Option, Some, refl, sym, ◌∙◌, ap, subst, arith}
 use Rattle.std.specs.Prelude.{min, All, Result, Ok, Err, IsErrOf}
 use Rattle.std.specs.Global.{Vec}
 use Rattle.std.proofs.lemmas.Grind.{common_steps}
@@ -25,7 +25,6 @@ use Rattle.spool_log.specs.State.{View, IsIn}
 use Rattle.spool_log.specs.Changing.Take.{TakesNothing}
 use Rattle.spool_log.specs.Changing.Mark.{EndsBy, all_below}
 use Rattle.spool_log.specs.Outcome.{TakesFrom, PendsFrom, MarksFrom, Mends, AreNumbered}
-use Rattle.spool_log.proofs.Numbers.{end_known}
 use Rattle.hec_ids.specs.Table.{Table}
 use Rattle.desk_access.specs.declared.standing.Standing.{Standing}
 use Rattle.desk_access.specs.Standing.{standing_in}

@@ -1,5 +1,5 @@
 -- What one call leads to.
-use Rattle.std.proofs.Common.{◌≡◌, ◌⊎◌, inl, inr, ℕ, ◌≤◌, ◌<◌, List, [], ◌∷◌, length, get_or, Option, Some, refl, sym, ◌∙◌, ap, subst, arith}
+use Rattle.std.proofs.Common.{◌≡◌, ◌⊎◌, inl, inr, ◌<◌, List, [], ◌∷◌, length, get_or, Option, refl, sym, ◌∙◌, ap, subst, arith}
 use Rattle.std.specs.Prelude.{All, Result, Ok, Err}
 use Rattle.known_numbers.specs.declared.stretch.Stretch.{Stretch}
 use Rattle.event_form.specs.declared.event.Entry.{Entry}

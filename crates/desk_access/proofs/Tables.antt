@@ -1,5 +1,5 @@
 -- The table of ids after a call.
-use Rattle.std.proofs.Common.{◌≡◌, ◌⊎◌, inl, inr, ℕ, List, [], ◌∷◌, Option, sym, ap, subst}
+use Rattle.std.proofs.Common.{◌≡◌, inl, inr, [], ◌∷◌, Option, sym, ap, subst}
 use Rattle.spool_state.specs.SpoolState.{SpoolState}
 use Rattle.spool_log.specs.declared.fault.PendFault.{PendFault}
 use Rattle.hec_ids.specs.Table.{Table}

@@ -7,7 +7,8 @@ ghost use Rattle.spool_state.specs.SpoolState.{end};
 ghost use Rattle.spool_log.specs.declared.fault.Receipt.{Receipt as TheReceipt};
 ghost use Rattle.spool_log.specs.Changing.Mark.{EndsBy};
 ghost use Rattle.spool_log.specs.Outcome.{AreNumbered};
-ghost use Rattle.desk_access.specs.Call.{Call, takes, pends, confirms, marks, counts, issues, settles, forgets, asks, Record, own_of, listed, taken_of, TookSurely};
+ghost use Rattle.desk_access.specs.Call.{Call, takes, pends, confirms, marks, counts, issues, settles, forgets, asks, Record};
+ghost use Rattle.desk_access.specs.Call.{own_of, listed, taken_of, TookSurely};
 ghost use Rattle.desk_access.specs.Batch.{MayTake, MayUse, AreOfUnit};
 ghost use Rattle.desk_access.specs.Desk.{DeskState, Goes};
 ghost use Rattle.desk_access.specs.History.{IsDesk};
@@ -151,8 +152,8 @@ pub trait Access {
 
     /// Where the entries taken are all of that connection, and no take failed at the disk, the next index is
     /// higher by their number.
-    ghost may_take_more: { (a b : Self) (calls : List Call) (conn index : ℕ) → ran a calls b → All TookSurely calls → All (λ (entry : Entry). entry.conn ≡ conn) (taken_of calls)
-        → may_take a conn index → may_take b conn (index + length (taken_of calls)) };
+    ghost may_take_more: { (a b : Self) (calls : List Call) (conn index : ℕ) → ran a calls b → All TookSurely calls
+        → All (λ (entry : Entry). entry.conn ≡ conn) (taken_of calls) → may_take a conn index → may_take b conn (index + length (taken_of calls)) };
 
     /// An id that was issued may be used, until a take uses it.
     ghost may_use_issued: { (a b : Self) (channel id : ℕ) → ran a (issues channel (Ok id) ∷ []) b → may_use b id };
@@ -160,7 +161,8 @@ pub trait Access {
     ghost may_use_more: { (a b : Self) (calls : List Call) (id : ℕ) → ran a calls b → AreUnused id calls → may_use a id → may_use b id };
 
     /// An id of which the entries were taken may be settled.
-    ghost may_settle_taken: { (a b : Self) (group : List Entry) (receipt : TheReceipt) (id : ℕ) → ran a (takes group (Ok receipt) ∷ []) b → 0 < length group → AreOfUnit id group → may_settle b id };
+    ghost may_settle_taken: { (a b : Self) (group : List Entry) (receipt : TheReceipt) (id : ℕ)
+        → ran a (takes group (Ok receipt) ∷ []) b → 0 < length group → AreOfUnit id group → may_settle b id };
 
     ghost may_settle_more: { (a b : Self) (calls : List Call) (id : ℕ) → ran a calls b → may_settle a id → may_settle b id };
 

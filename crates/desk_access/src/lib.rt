@@ -22,6 +22,3 @@ pub use laws::{
     journal_is_legal, journal_lasts, journal_leads_to_one_state, stood_was, told_was_taken,
 };
 pub use standing::Standing;
-
-#[cfg(test)]
-mod tests;

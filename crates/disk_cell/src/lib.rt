@@ -18,6 +18,3 @@ pub use content::Content;
 pub use fault::{LoadFault, SetFault};
 pub use known_numbers::Stretch;
 pub use register::Register;
-
-#[cfg(test)]
-mod tests;

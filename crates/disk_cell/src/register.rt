@@ -1,5 +1,6 @@
 //! The register in memory, and its cells on the disk.
-ghost use Rattle.std.specs.Prelude.{◌≡◌, ◌≢◌, List, ℕ, ◌+◌, ◌*◌, ◌<◌, ◌≤◌, length, slice_index, vec_capacity, All, IsErr, OnOk, OnErr, IfOk, IfErr, IsErrOf, MatchResult};
+ghost use Rattle.std.specs.Prelude.{◌≡◌, ◌≢◌, List, ℕ, ◌+◌, ◌*◌, ◌<◌, ◌≤◌, length, slice_index, vec_capacity, All, IsErr, OnOk};
+ghost use Rattle.std.specs.Prelude.{OnErr, IfOk, IfErr, IsErrOf, MatchResult};
 ghost use Rattle.foundation.specs.Bytes.{SameBut};
 ghost use Rattle.edge_disk.specs.Calls.{Calls};
 ghost use Rattle.edge_disk.specs.Disk.{IsSettled, IsUntouched, LeavesOnly};
@@ -131,7 +132,8 @@ impl Register {
         ensures known { OnOk result (D.tells → Knows self.new (D.moment disk.new).reads) }
 
         ensures outside { OnOk result (D.tells → SameBut first_cell (2 * cell_length) (D.moment disk.old).reads (D.moment disk.new).reads) }
-        ensures any_moment { D.tells → LeavesOnly (ComesFrom (D.moment disk.old) (IsSetStep self.old run cursor known.now)) (D.moment disk.old) (D.moment disk.new) }
+        ensures any_moment { D.tells
+            → LeavesOnly (ComesFrom (D.moment disk.old) (IsSetStep self.old run cursor known.now)) (D.moment disk.old) (D.moment disk.new) }
     {
         if self.ordinal == Register::LAST_ORDINAL {
             return Err(SetFault::Worn {

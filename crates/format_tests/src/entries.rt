@@ -11,9 +11,7 @@ const HELLO: [u8; 34] = [
     0x6c, 0x6f,
 ];
 
-#[test]
-fn an_entry_is_written_and_read(rt: HostRuntime) -> Result<(), Fail> {
-    let alloc = rt.alloc();
+pub(crate) fn an_entry_is_written_and_read(alloc: Global) -> Result<bool, Fail> {
     let entry = Entry {
         conn: 4_294_967_296,
         index: 0,
@@ -23,38 +21,61 @@ fn an_entry_is_written_and_read(rt: HostRuntime) -> Result<(), Fail> {
             text: Blob::of(Vec::from_slice(alloc, b"hello")?),
         },
     };
-    assert_eq!(rt; entry_size(&entry), 34);
-    assert_eq!(rt; entry_head(&entry).as_slice(), &HELLO[..29]);
+    if entry_size(&entry) != 34 {
+        return Ok(false);
+    }
+    if entry_head(&entry).as_slice() != &HELLO[..29] {
+        return Ok(false);
+    }
     let mut out = Vec::from_slice(alloc, &[9])?;
     write_entry(&entry, &mut out)?;
-    assert_eq!(rt; &out[..1], [9].as_slice());
-    assert_eq!(rt; &out[1..], HELLO.as_slice());
+    if &out[..1] != [9].as_slice() {
+        return Ok(false);
+    }
+    if &out[1..] != HELLO.as_slice() {
+        return Ok(false);
+    }
     out.push(7)?;
     let took = read_entry(alloc, &out[1..])
         .ok()
         .ok_or("the bytes begin with an entry")?;
-    assert_eq!(rt; took.used, 34);
-    assert_eq!(rt; entry_length(&HELLO[..29]), Some(34));
+    if took.used != 34 {
+        return Ok(false);
+    }
+    if entry_length(&HELLO[..29]) != Some(34) {
+        return Ok(false);
+    }
     let copy = took.entry.copy(alloc)?;
     for read in [took.entry, copy] {
-        assert_eq!(rt; read.conn, 4_294_967_296);
-        assert_eq!(rt; read.index, 0);
-        assert_eq!(rt; read.unit, 2);
-        assert_eq!(rt; read.event.origin, Origin::Relp);
-        assert_eq!(rt; read.event.text.bytes(), b"hello".as_slice());
+        if read.conn != 4_294_967_296 {
+            return Ok(false);
+        }
+        if read.index != 0 {
+            return Ok(false);
+        }
+        if read.unit != 2 {
+            return Ok(false);
+        }
+        if read.event.origin != Origin::Relp {
+            return Ok(false);
+        }
+        if read.event.text.bytes() != b"hello".as_slice() {
+            return Ok(false);
+        }
     }
-    Ok(())
+    Ok(true)
 }
 
-#[test]
-fn a_pair_is_read(rt: HostRuntime) -> Result<(), Fail> {
+pub(crate) fn a_pair_is_read() -> Result<bool, Fail> {
     let (key, value, rest) = first_pair(b"\0\0\0\x01k\0\0\0\x02xyz").ok_or(
         "the bytes begin with a pair",
     )?;
     for (part, want) in [(key, b"k".as_slice()), (value, b"xy"), (rest, b"z")] {
-        assert_eq!(rt; part, want);
+        if part != want {
+            return Ok(false);
+        }
     }
-    Ok(())
+    Ok(true)
 }
 
 /// Where the first so many of an entry's bytes are at fault, its text zeros and all its numbers 0.
@@ -69,8 +90,7 @@ fn place(alloc: Global, first: u8, length: u32, present: usize) -> Result<Option
     }
 }
 
-#[test]
-fn each_fault_has_its_place(rt: HostRuntime) -> Result<(), Fail> {
+pub(crate) fn each_fault_has_its_place(alloc: Global) -> Result<bool, Fail> {
     for (first, length, present, at) in [
         // The bytes end too early.
         (1, 5, 0, Some(0)),
@@ -96,11 +116,9 @@ fn each_fault_has_its_place(rt: HostRuntime) -> Result<(), Fail> {
         (2, 8_192, 8_221, None),
         (2, 8_200, 8_229, Some(29)),
     ] {
-        assert_eq!(rt;
-            place(rt.alloc(), first, length, present)?,
-            at,
-            "{first} {length} {present}"
-        );
+        if place(alloc, first, length, present)? != at {
+            return Ok(false);
+        }
     }
-    Ok(())
+    Ok(true)
 }

@@ -52,9 +52,7 @@ fn answer_of(text: &str, by: usize) -> Option<Result<Span, JsonFault>> {
 
 /// The expected answers are those of Python's `json` and `utf-8` on the same bytes and on their fronts with
 /// other ends, places of characters that are broken off aside, which follow from the definition.
-#[test]
-fn each_case_has_its_answer(rt: HostRuntime) -> Result<(), Fail> {
-    let alloc = rt.alloc();
+pub(crate) fn each_case_has_its_answer(alloc: Global) -> Result<bool, Fail> {
     let texts = [
         WHITE_SPACE,
         LITERALS,
@@ -69,20 +67,22 @@ fn each_case_has_its_answer(rt: HostRuntime) -> Result<(), Fail> {
             let (answer, bytes) = line.split_once('|').ok_or("no bar")?;
             let bytes = bytes_of(alloc, bytes)?;
             let here = answer_of(answer, 0).ok_or("no answer")?;
-            assert_eq!(rt; first_value(&bytes, 0), here, "{line}");
+            if first_value(&bytes, 0) != here {
+                return Ok(false);
+            }
             // What stands before `at` doesn't count.
             let mut later = Vec::from_slice(alloc, b"]\"x")?;
             later.extend_from_slice(&bytes)?;
             let there = answer_of(answer, 3).ok_or("no answer")?;
-            assert_eq!(rt; first_value(&later, 3), there, "{line}");
+            if first_value(&later, 3) != there {
+                return Ok(false);
+            }
         }
     }
-    Ok(())
+    Ok(true)
 }
 
-#[test]
-fn no_other_byte_can_stand_behind_a_front(rt: HostRuntime) -> Result<(), Fail> {
-    let alloc = rt.alloc();
+pub(crate) fn no_other_byte_can_stand_after_a_front(alloc: Global) -> Result<bool, Fail> {
     for line in NEXT.lines() {
         let (front, next) = line.split_once('|').ok_or("no bar")?;
         let front = bytes_of(alloc, front)?;
@@ -92,39 +92,40 @@ fn no_other_byte_can_stand_behind_a_front(rt: HostRuntime) -> Result<(), Fail> {
             bytes.push(byte)?;
             let answer = first_value(&bytes, 0);
             if next.contains(&byte) {
-                assert!(rt;
-                    matches!(answer, Ok(_) | Err(JsonFault::Cut)),
-                    "{line} {byte}"
-                );
+                if !matches!(answer, Ok(_) | Err(JsonFault::Cut)) {
+                    return Ok(false);
+                }
             } else {
-                assert_eq!(rt; answer, not_json(front.len()), "{line} {byte}");
+                if answer != not_json(front.len()) {
+                    return Ok(false);
+                }
             }
         }
     }
-    Ok(())
+    Ok(true)
 }
 
-#[test]
-fn no_other_byte_can_stand_in_a_string(rt: HostRuntime) -> Result<(), Fail> {
+pub(crate) fn no_other_byte_can_stand_in_a_string(alloc: Global) -> Result<bool, Fail> {
     for (front, at, next) in NEXT_IN_STRING {
         for byte in 0..=255 {
-            let mut bytes = Vec::from_slice(rt.alloc(), front)?;
+            let mut bytes = Vec::from_slice(alloc, front)?;
             bytes.push(byte)?;
             let answer = first_value(&bytes, 0);
             if next
                 .iter()
                 .any(|(first, last)| *first <= byte && byte <= *last)
             {
-                assert!(rt;
-                    matches!(answer, Ok(_) | Err(JsonFault::Cut)),
-                    "{front:?} {byte}"
-                );
+                if !matches!(answer, Ok(_) | Err(JsonFault::Cut)) {
+                    return Ok(false);
+                }
             } else {
-                assert_eq!(rt; answer, not_json(*at), "{front:?} {byte}");
+                if answer != not_json(*at) {
+                    return Ok(false);
+                }
             }
         }
     }
-    Ok(())
+    Ok(true)
 }
 
 /// Values that each end with a byte of their own, so that each of their fronts is cut.
@@ -137,81 +138,105 @@ const WHOLE: &[&str] = &[
     "null",
 ];
 
-#[test]
-fn each_front_of_a_value_is_cut(rt: HostRuntime) {
+pub(crate) fn each_front_of_a_value_is_cut() -> bool {
     for text in WHOLE {
         let bytes = text.as_bytes();
         for end in 0..bytes.len() {
-            assert_eq!(rt;
-                first_value(&bytes[..end], 0),
-                Err(JsonFault::Cut),
-                "{text} {end}"
-            );
+            if first_value(&bytes[..end], 0) != Err(JsonFault::Cut) {
+                return false;
+            }
         }
-        assert_eq!(rt; first_value(bytes, 0), span(0, bytes.len()), "{text}");
+        if first_value(bytes, 0) != span(0, bytes.len()) {
+            return false;
+        }
     }
+    true
 }
 
 /// Strings of each length about sixteen and thirty-two bytes, with something else at each place.
-#[test]
-fn long_strings_are_read_as_short_ones(rt: HostRuntime) -> Result<(), Fail> {
-    let alloc = rt.alloc();
+pub(crate) fn long_strings_are_read_as_short_ones(alloc: Global) -> Result<bool, Fail> {
     for length in 0..40 {
         let mut string = vec![in alloc; b'a'; length + 2]?;
         string[0] = b'"';
-        assert_eq!(rt; first_value(&string, 0), Err(JsonFault::Cut));
+        if first_value(&string, 0) != Err(JsonFault::Cut) {
+            return Ok(false);
+        }
         string[length + 1] = b'"';
-        assert_eq!(rt; first_value(&string, 0), span(0, length + 2));
+        if first_value(&string, 0) != span(0, length + 2) {
+            return Ok(false);
+        }
         for at in 1..length + 1 {
             for byte in [b' ', b'!', b'#', b'[', b']', 126, 127] {
                 string[at] = byte;
-                assert_eq!(rt; first_value(&string, 0), span(0, length + 2));
+                if first_value(&string, 0) != span(0, length + 2) {
+                    return Ok(false);
+                }
             }
             for byte in [0, 31, 128, 193, 245, 255] {
                 string[at] = byte;
-                assert_eq!(rt; first_value(&string, 0), not_json(at));
+                if first_value(&string, 0) != not_json(at) {
+                    return Ok(false);
+                }
             }
             string[at] = b'"';
-            assert_eq!(rt; first_value(&string, 0), span(0, at + 1));
+            if first_value(&string, 0) != span(0, at + 1) {
+                return Ok(false);
+            }
             string[at] = b'a';
         }
     }
-    Ok(())
+    Ok(true)
 }
 
-#[test]
-fn the_128th_level_is_refused_at_its_bracket(rt: HostRuntime) {
+pub(crate) fn the_128th_level_is_refused_at_its_bracket() -> bool {
     let mut bytes = [b'['; 254];
-    assert!(rt; first_value(&bytes, 0) == Err(JsonFault::TooDeep { at: 127 }));
-    assert!(rt; first_value(&[b'['; 127], 0) == Err(JsonFault::Cut));
+    let deep = Err(JsonFault::TooDeep { at: 127 });
+    if first_value(&bytes, 0) != deep {
+        return false;
+    }
+    if first_value(&[b'['; 127], 0) != Err(JsonFault::Cut) {
+        return false;
+    }
     bytes[127] = b'{';
-    assert!(rt; first_value(&bytes, 0) == Err(JsonFault::TooDeep { at: 127 }));
+    if first_value(&bytes, 0) != deep {
+        return false;
+    }
     bytes[127] = b'x';
-    assert!(rt; first_value(&bytes, 0) == not_json(127));
+    if first_value(&bytes, 0) != not_json(127) {
+        return false;
+    }
     for i in 127..254 {
         bytes[i] = b']';
     }
-    assert!(rt; first_value(&bytes, 0) == span(0, 254));
+    if first_value(&bytes, 0) != span(0, 254) {
+        return false;
+    }
     // A fault before that bracket comes first.
     bytes[100] = b',';
-    assert!(rt; first_value(&bytes, 0) == not_json(100));
+    if first_value(&bytes, 0) != not_json(100) {
+        return false;
+    }
+    true
 }
 
 /// Objects in objects, and a bracket in the innermost.
-#[test]
-fn objects_count_as_levels(rt: HostRuntime) -> Result<(), Fail> {
-    let alloc = rt.alloc();
+pub(crate) fn objects_count_as_levels(alloc: Global) -> Result<bool, Fail> {
     let mut bytes = Vec::new(alloc);
     for _ in 0..126 {
         bytes.extend_from_slice(b"{\"\":")?;
     }
     let mut deep = bytes.clone()?;
     deep.extend_from_slice(b"[[]]")?;
-    assert!(rt; first_value(&deep, 0) == Err(JsonFault::TooDeep { at: 505 }));
+    let refused = Err(JsonFault::TooDeep { at: 505 });
+    if first_value(&deep, 0) != refused {
+        return Ok(false);
+    }
     bytes.extend_from_slice(b"[1]")?;
     for _ in 0..126 {
         bytes.push(b'}')?;
     }
-    assert!(rt; first_value(&bytes, 0) == span(0, 633));
-    Ok(())
+    if first_value(&bytes, 0) != span(0, 633) {
+        return Ok(false);
+    }
+    Ok(true)
 }

@@ -12,4 +12,6 @@ mod json_values;
 #[cfg(test)]
 mod maps;
 #[cfg(test)]
+mod tests;
+#[cfg(test)]
 mod words;

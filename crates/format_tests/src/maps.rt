@@ -1,5 +1,6 @@
 use event_form::read_entry;
 use event_map::{as_hec_object, as_json_object, as_text};
+use std::alloc::Global;
 use std::test::*;
 
 // The bytes that stand for the origins in an entry.
@@ -14,9 +15,7 @@ const HEC_EVENT: u8 = 4;
 const HEC_RAW: u8 = 5;
 
 /// Each row is an origin, a text, and its JSON object and its event object.
-#[test]
-fn each_event_has_its_forms(rt: HostRuntime) -> Result<(), Fail> {
-    let alloc = rt.alloc();
+pub(crate) fn each_event_has_its_forms(alloc: Global) -> Result<bool, Fail> {
     for (origin, text, json, hec) in [
         (
             RELP,
@@ -159,20 +158,18 @@ fn each_event_has_its_forms(rt: HostRuntime) -> Result<(), Fail> {
                 } else {
                     text
                 };
-                assert_eq!(rt; as_text(alloc, &event)?.bytes(), plain, "{json}");
-                assert_eq!(rt;
-                    as_json_object(alloc, &event)?.bytes(),
-                    json.as_bytes(),
-                    "{json}"
-                );
-                assert_eq!(rt;
-                    as_hec_object(alloc, &event)?.bytes(),
-                    hec.as_bytes(),
-                    "{hec}"
-                );
+                if as_text(alloc, &event)?.bytes() != plain {
+                    return Ok(false);
+                }
+                if as_json_object(alloc, &event)?.bytes() != json.as_bytes() {
+                    return Ok(false);
+                }
+                if as_hec_object(alloc, &event)?.bytes() != hec.as_bytes() {
+                    return Ok(false);
+                }
             }
             Err(_) => return Err("no entry".into()),
         }
     }
-    Ok(())
+    Ok(true)
 }

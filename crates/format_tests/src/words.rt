@@ -82,15 +82,17 @@ const COMMANDS: [(&[&str], Command, Need); 9] = [
     ),
 ];
 
-#[test]
-fn commands(rt: HostRuntime) -> Result<(), Fail> {
-    let alloc = rt.alloc();
+pub(crate) fn commands(alloc: Global) -> Result<bool, Fail> {
     for (words, command, need) in COMMANDS {
         let words = words_of(alloc, words)?;
-        assert_eq!(rt; Command::of(&words), Some(command));
-        assert_eq!(rt; need_of(alloc, &words)?, need);
+        if Command::of(&words) != Some(command) {
+            return Ok(false);
+        }
+        if need_of(alloc, &words)? != need {
+            return Ok(false);
+        }
     }
-    Ok(())
+    Ok(true)
 }
 
 // Words that are no command.
@@ -125,15 +127,17 @@ const NO_COMMANDS: [&[&str]; 28] = [
     &["replay", "lumberjack", "relp"],
 ];
 
-#[test]
-fn no_commands(rt: HostRuntime) -> Result<(), Fail> {
-    let alloc = rt.alloc();
+pub(crate) fn no_commands(alloc: Global) -> Result<bool, Fail> {
     for words in NO_COMMANDS {
         let words = words_of(alloc, words)?;
-        assert_eq!(rt; Command::of(&words), None);
-        assert_eq!(rt; need_of(alloc, &words)?, Need::NoCommand);
+        if Command::of(&words) != None {
+            return Ok(false);
+        }
+        if need_of(alloc, &words)? != Need::NoCommand {
+            return Ok(false);
+        }
     }
-    Ok(())
+    Ok(true)
 }
 
 // Notes, their statuses and their texts.
@@ -256,13 +260,16 @@ const NOTES: [(Note, u8, &str); 23] = [
     ),
 ];
 
-#[test]
-fn texts(rt: HostRuntime) -> Result<(), Fail> {
+pub(crate) fn texts(alloc: Global) -> Result<bool, Fail> {
     for (note, status, text) in NOTES {
-        assert_eq!(rt; note.status(), status);
-        assert_eq!(rt; note_text(rt.alloc(), &note)?.bytes(), text.as_bytes());
+        if note.status() != status {
+            return Ok(false);
+        }
+        if note_text(alloc, &note)?.bytes() != text.as_bytes() {
+            return Ok(false);
+        }
     }
-    Ok(())
+    Ok(true)
 }
 
 // The line of an entry of each origin.
@@ -274,13 +281,10 @@ const LINES: [(Origin, &str); 5] = [
     (Origin::HecRaw, "7 4294967296 1 2 raw 5\n"),
 ];
 
-#[test]
-fn lines(rt: HostRuntime) -> Result<(), Fail> {
-    let alloc = rt.alloc();
-    assert_eq!(rt;
-        spool_line(alloc, 2, 4096)?.as_str(),
-        "2 slots of 4096 bytes\n"
-    );
+pub(crate) fn lines(alloc: Global) -> Result<bool, Fail> {
+    if spool_line(alloc, 2, 4096)?.as_str() != "2 slots of 4096 bytes\n" {
+        return Ok(false);
+    }
     for (origin, line) in LINES {
         let entry = Entry {
             conn: 4_294_967_296,
@@ -291,7 +295,9 @@ fn lines(rt: HostRuntime) -> Result<(), Fail> {
                 text: Blob::of(Vec::from_slice(alloc, b"hello")?),
             },
         };
-        assert_eq!(rt; entry_line(alloc, 7, &entry)?.as_str(), line);
+        if entry_line(alloc, 7, &entry)?.as_str() != line {
+            return Ok(false);
+        }
     }
-    Ok(())
+    Ok(true)
 }

@@ -2,7 +2,7 @@
 use Rattle.std.proofs.Common.{◌≡◌, ℕ, Bool, true, false, cond, eqb, List, [], ◌∷◌, refl, suc, zero, subst, Option, Some, None}
 use Rattle.json_span.specs.Strings.{Any, within, Lead, lead, is_plain, is_escape, is_hex}
 use Rattle.json_span.specs.Json.{is_space}
-use Rattle.json_span.specs.Machine.{Bracket, Array, Object, Token, Closed, Word, Minus, Zero, Int, Dot, Frac, E, Sign, Exp, Chars, Escape, Hex, Tail, done, wide_token, next, first, State, Value, First, Names, Name, InName, In, Bad, Step, Goes, Fails, or_else, begin_array, begin_object, begin, behind, step, accepts, Going, onward, run}
+use Rattle.json_span.specs.Machine.{Bracket, Array, Object, Token, Closed, Word, Minus, Zero, Int, Dot, Frac, E, Sign, Exp, Chars, Escape, Hex, Tail, done, wide_token, next, first, State, Value, First, Names, Name, InName, In, Bad, Step, Goes, Fails, or_else, begin_array, begin_object, begin, after_value, step, accepts, Going, onward, run}
 use Rattle.json_span.proofs.TailLaws.{pick, none}
 
 abbrev pub numeric : Token → Bool
@@ -74,17 +74,17 @@ calm_begin t d b st c e = go (eqb c 91) (eqb c 123) (first c) e
     go false false (Some u) e = to (In u d (b ∷ st)) t refl e
     go false false None e = cc
 
-calm_behind : (t : State) (st : List Bracket) (d c : ℕ) → behind st d c ≡ Goes t → loose t ≡ false
-unfolding behind
-calm_behind t [] d c e = cc
-calm_behind t (Array ∷ st) d c e = go (is_space c) (eqb c 44) (eqb c 93) e
+calm_after_value : (t : State) (st : List Bracket) (d c : ℕ) → after_value st d c ≡ Goes t → loose t ≡ false
+unfolding after_value
+calm_after_value t [] d c e = cc
+calm_after_value t (Array ∷ st) d c e = go (is_space c) (eqb c 44) (eqb c 93) e
   where
     go : (p q r : Bool) → cond p (Goes (In Closed d (Array ∷ st))) (cond q (Goes (Value d (Array ∷ st))) (cond r (Goes (In Closed (suc d) st)) (Fails Bad))) ≡ Goes t → loose t ≡ false
     go true q r e = to (In Closed d (Array ∷ st)) t refl e
     go false true r e = to (Value d (Array ∷ st)) t refl e
     go false false true e = to (In Closed (suc d) st) t (calm_closed (suc d) st) e
     go false false false e = cc
-calm_behind t (Object ∷ st) d c e = go (is_space c) (eqb c 44) (eqb c 125) e
+calm_after_value t (Object ∷ st) d c e = go (is_space c) (eqb c 44) (eqb c 125) e
   where
     go : (p q r : Bool) → cond p (Goes (In Closed d (Object ∷ st))) (cond q (Goes (Name d st)) (cond r (Goes (In Closed (suc d) st)) (Fails Bad))) ≡ Goes t → loose t ≡ false
     go true q r e = to (In Closed d (Object ∷ st)) t refl e
@@ -129,15 +129,15 @@ calm_step (InName k d st) t c h e = go (next k c) (done k) (is_space c) (eqb c 5
     go None false p q e = cc
 calm_step (In k d []) t c h e = go (next k c) refl (done k) e
   where
-    go : (o : Option Token) → next k c ≡ o → (i : Bool) → or_else o (λ u. In u d []) (cond i (behind [] d c) (Fails Bad)) ≡ Goes t → loose t ≡ false
+    go : (o : Option Token) → next k c ≡ o → (i : Bool) → or_else o (λ u. In u d []) (cond i (after_value [] d c) (Fails Bad)) ≡ Goes t → loose t ≡ false
     go (Some u) q i e = to (In u d []) t (calm_next k u c h q) e
-    go None q true e = calm_behind t [] d c e
+    go None q true e = calm_after_value t [] d c e
     go None q false e = cc
 calm_step (In k d (b ∷ st)) t c h e = go (next k c) (done k) e
   where
-    go : (o : Option Token) (i : Bool) → or_else o (λ u. In u d (b ∷ st)) (cond i (behind (b ∷ st) d c) (Fails Bad)) ≡ Goes t → loose t ≡ false
+    go : (o : Option Token) (i : Bool) → or_else o (λ u. In u d (b ∷ st)) (cond i (after_value (b ∷ st) d c) (Fails Bad)) ≡ Goes t → loose t ≡ false
     go (Some u) i e = to (In u d (b ∷ st)) t refl e
-    go None true e = calm_behind t (b ∷ st) d c e
+    go None true e = calm_after_value t (b ∷ st) d c e
     go None false e = cc
 
 pub calm_run : (s t : State) (x : List ℕ) → loose s ≡ false → run s x ≡ Going t → loose t ≡ false
@@ -150,7 +150,7 @@ calm_run s t (c ∷ x) h e = go (step s c) refl (λ u. calm_run u t x) e
 
 -- nothing goes on after a value that is no number
 pub calm_stops : (t : State) (c : ℕ) → accepts t ≡ true → loose t ≡ false → step t c ≡ Fails Bad
-unfolding step behind next
+unfolding step after_value next
 calm_stops (In Closed d []) c a l = refl
 calm_stops (In Zero d []) c a l = cc
 calm_stops (In Int d []) c a l = cc

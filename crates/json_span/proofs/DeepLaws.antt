@@ -2,13 +2,13 @@
 use Rattle.std.proofs.Common.{◌≡◌, ℕ, Bool, true, false, cond, eqb, List, [], ◌∷◌, ◌++◌, refl, sym, ap, ◌∙◌, suc, subst, inl, inr, ◌⊎◌, Option, Some, None}
 use Rattle.std.proofs.lemmas.Bool.{eqb-true}
 use Rattle.json_span.specs.Json.{is_space, Json}
-use Rattle.json_span.specs.Machine.{Bracket, Array, Object, Token, Closed, Chars, State, Value, First, Names, Name, InName, In, done, next, first, begin, begin_array, begin_object, behind, or_else, Goes, Fails, Bad, Deep, step, accepts, Going, onward, run}
+use Rattle.json_span.specs.Machine.{Bracket, Array, Object, Token, Closed, Chars, State, Value, First, Names, Name, InName, In, done, next, first, begin, begin_array, begin_object, after_value, or_else, Goes, Fails, Bad, Deep, step, accepts, Going, onward, run}
 use Rattle.json_span.proofs.TextLaws.{spaced_now}
-use Rattle.json_span.proofs.Fronts.{value_run, run_behind}
+use Rattle.json_span.proofs.Fronts.{value_run, run_after}
 
 -- After a value no bracket is opened.
 stays : (k : Token) (d : ℕ) (t : State) (y : List ℕ) → run (In k d []) y ≡ Going t → (u : Token) × (t ≡ In u d [])
-unfolding step behind
+unfolding step after_value
 stays k d t [] e = (k, let q : In k d [] ≡ t = cc in sym q)
 stays k d t (c ∷ y) e = go (next k c) (done k) (λ u f. stays u d t y f) e
   where
@@ -18,7 +18,7 @@ stays k d t (c ∷ y) e = go (next k c) (done k) (λ u f. stays u d t y f) e
     go None false h f = cc
 
 not_deep : (k : Token) (d c : ℕ) → Fails Deep ≡ step (In k d []) c → ⊥
-unfolding step behind
+unfolding step after_value
 not_deep k d c e = go (next k c) (done k) e
   where
     go : (o : Option Token) (p : Bool) → Fails Deep ≡ or_else o (λ u. In u d []) (cond p (Fails Bad) (Fails Bad)) → ⊥
@@ -39,7 +39,7 @@ pub deep_alone : (x y : List ℕ) (s : State) (c : ℕ) → Json 127 x → run (
 deep_alone x y s c i r f =
     let v = value_run 127 x (spaced_now (Json 127) x i) in
     let a = accepts_in v.0 v.2 in
-    let g : run v.0 y ≡ Going s = run_behind (Value 127 []) s v.0 x y v.1 r in
+    let g : run v.0 y ≡ Going s = run_after (Value 127 []) s v.0 x y v.1 r in
     let t = stays a.0 a.1 s y (subst (λ z. run z y ≡ Going s) a.2 g) in
     not_deep t.0 a.1 c (f ∙ ap (λ z. step z c) t.1)
 
@@ -54,17 +54,17 @@ deep_begin d st c e = go (eqb c 91) refl (eqb c 123) refl (first c) e
     go false p false r (Some u) e = cc
     go false p false r None e = let k : Deep ≡ Bad = cc in cc
 
-not_behind : (st : List Bracket) (d c : ℕ) → Fails Deep ≡ behind st d c → ⊥
-unfolding behind
-not_behind [] d c e = let k : Deep ≡ Bad = cc in cc
-not_behind (Array ∷ st) d c e = go (is_space c) (eqb c 44) (eqb c 93) e
+not_after_value : (st : List Bracket) (d c : ℕ) → Fails Deep ≡ after_value st d c → ⊥
+unfolding after_value
+not_after_value [] d c e = let k : Deep ≡ Bad = cc in cc
+not_after_value (Array ∷ st) d c e = go (is_space c) (eqb c 44) (eqb c 93) e
   where
     go : (p q r : Bool) → Fails Deep ≡ cond p (Goes (In Closed d (Array ∷ st))) (cond q (Goes (Value d (Array ∷ st))) (cond r (Goes (In Closed (suc d) st)) (Fails Bad))) → ⊥
     go true q r e = cc
     go false true r e = cc
     go false false true e = cc
     go false false false e = let k : Deep ≡ Bad = cc in cc
-not_behind (Object ∷ st) d c e = go (is_space c) (eqb c 44) (eqb c 125) e
+not_after_value (Object ∷ st) d c e = go (is_space c) (eqb c 44) (eqb c 125) e
   where
     go : (p q r : Bool) → Fails Deep ≡ cond p (Goes (In Closed d (Object ∷ st))) (cond q (Goes (Name d st)) (cond r (Goes (In Closed (suc d) st)) (Fails Bad))) → ⊥
     go true q r e = cc
@@ -108,7 +108,7 @@ deep_bracket (InName k d st) c e = go (next k c) (done k) (is_space c) (eqb c 58
     go None false p q e = let k : Deep ≡ Bad = cc in cc
 deep_bracket (In k d st) c e = go (next k c) (done k) e
   where
-    go : (o : Option Token) (i : Bool) → Fails Deep ≡ or_else o (λ u. In u d st) (cond i (behind st d c) (Fails Bad)) → (c ≡ 91) ⊎ (c ≡ 123)
+    go : (o : Option Token) (i : Bool) → Fails Deep ≡ or_else o (λ u. In u d st) (cond i (after_value st d c) (Fails Bad)) → (c ≡ 91) ⊎ (c ≡ 123)
     go (Some u) i e = cc
-    go None true e = absurd (not_behind st d c e)
+    go None true e = absurd (not_after_value st d c e)
     go None false e = let k : Deep ≡ Bad = cc in cc

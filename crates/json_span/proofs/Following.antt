@@ -2,7 +2,7 @@
 use Rattle.std.proofs.Common.{◌≡◌, ℕ, ◌+◌, ◌≤◌, ◌<◌, true, List, [], ◌∷◌, ◌++◌, get_or, refl, sym, ap, ◌∙◌, subst, append_assoc, arith, None}
 use Rattle.std.specs.Prelude.{slice_range}
 use Rattle.json_span.specs.Json.{AreSpaces, Json}
-use Rattle.json_span.specs.Machine.{State, Value, First, Names, Name, InName, In, next, behind, Follows, Fails, Bad, step, accepts, Going, Stopped, onward, run}
+use Rattle.json_span.specs.Machine.{State, Value, First, Names, Name, InName, In, next, after_value, Follows, Fails, Bad, step, accepts, Going, Stopped, onward, run}
 use Rattle.json_span.specs.Spans.{Stretch, IsFirst}
 use Rattle.json_span.specs.Walk.{IsFollowed}
 use Rattle.json_span.proofs.TextLaws.{spaced_now}
@@ -13,7 +13,7 @@ use Rattle.json_span.proofs.Stretches.{range_split}
 use Rattle.json_span.proofs.Values.{range_head}
 
 stops : (t : State) (c : ℕ) → accepts t ≡ true → Follows c → step t c ≡ Fails Bad
-unfolding step behind
+unfolding step after_value
 stops (In k d []) c a f = let n : next k c ≡ None = token_stops k c a f in rw (n, a) refl
 stops (In k d (b ∷ st)) c a f = cc
 stops (Value d st) c a f = cc

@@ -104,8 +104,8 @@ spaced_value d x f h = go h.0 h.2 h.3
     go (c ∷ w) a e = let q : is_space c ≡ false = f c (w ++ h.1) e in let r : is_space c ≡ true = a.0 in cc
 
 -- White space in front of what begins a value.
-pub begins_behind : (d : ℕ) (w x : List ℕ) → AreSpaces w → Begins d (w ++ x) → Begins d x
-begins_behind d w x a h = (h.0, go w a h.1)
+pub begins_after : (d : ℕ) (w x : List ℕ) → AreSpaces w → Begins d (w ++ x) → Begins d x
+begins_after d w x a h = (h.0, go w a h.1)
   where
     go : (w : List ℕ) → AreSpaces w → Spaced (Json d) ((w ++ x) ++ h.0) → Spaced (Json d) (x ++ h.0)
     go [] a k = k
@@ -128,9 +128,9 @@ pub begins_value : (d : ℕ) (x y : List ℕ) → Json d (x ++ y) → Begins d x
 begins_value d x y i = (y, spaced_now (Json d) (x ++ y) i)
 
 -- After a value the machine stays in its last token.
-pub run_behind : (s t u : State) (x y : List ℕ) → run s x ≡ Going u → run s (x ++ y) ≡ Going t → run u y ≡ Going t
-run_behind s t u [] y e f = let q : s ≡ u = cc in subst (λ z. run z y ≡ Going t) q f
-run_behind s t u (c ∷ x) y e f = go (step s c) (λ v. run_behind v t u x y) e f
+pub run_after : (s t u : State) (x y : List ℕ) → run s x ≡ Going u → run s (x ++ y) ≡ Going t → run u y ≡ Going t
+run_after s t u [] y e f = let q : s ≡ u = cc in subst (λ z. run z y ≡ Going t) q f
+run_after s t u (c ∷ x) y e f = go (step s c) (λ v. run_after v t u x y) e f
   where
     go : (p : Step) → ((v : State) → run v x ≡ Going u → run v (x ++ y) ≡ Going t → run u y ≡ Going t) → onward p (λ v. run v x) ≡ Going u → onward p (λ v. run v (x ++ y)) ≡ Going t → run u y ≡ Going t
     go (Goes v) k e f = k v e f

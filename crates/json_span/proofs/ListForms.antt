@@ -18,7 +18,7 @@ first_text bytes at s f = drop_split bytes at s.start f.space.order ∙ ap (λ z
 pub record StandsFirst (bytes : List ℕ) (at : ℕ) (w rest : List ℕ) : Type 0 where
   pub bound : at + length w ≤ length bytes
   pub text : slice_range bytes at (at + length w) ≡ w
-  pub behind : drop (at + length w) bytes ≡ rest
+  pub after : drop (at + length w) bytes ≡ rest
 
 pub stands_first : (bytes : List ℕ) (at : ℕ) (w rest : List ℕ) → at ≤ length bytes → drop at bytes ≡ w ++ rest → StandsFirst bytes at w rest
 stands_first bytes at w rest h e =
@@ -29,7 +29,7 @@ stands_first bytes at w rest h e =
     record {
       bound = omega (arith, l, m, h);
       text = ap (λ k. take k (drop at bytes)) n ∙ ap (λ z. take (length w) z) e ∙ take-append_seam w rest;
-      behind = sym (drop-drop (length w) at bytes ∙ ap (λ k. drop k bytes) (omega arith)) ∙ ap (λ z. drop (length w) z) e ∙ drop-append_seam w rest;
+      after = sym (drop-drop (length w) at bytes ∙ ap (λ k. drop k bytes) (omega arith)) ∙ ap (λ z. drop (length w) z) e ∙ drop-append_seam w rest;
     }
 
 stretch_of : (P : List ℕ → Type 0) (bytes : List ℕ) (at : ℕ) (w rest : List ℕ) → StandsFirst bytes at w rest → P w → Stretch P bytes at (at + length w)
@@ -39,12 +39,12 @@ stretch_of P bytes at w rest s p = record { order = omega arith; bound = s.bound
 pub first_by_text : (bytes : List ℕ) (at : ℕ) (w x rest : List ℕ) → at ≤ length bytes → drop at bytes ≡ w ++ (x ++ rest) → AreSpaces w → Json 127 x → (IsNumber x → ⊥) → IsFirst bytes at (record { start = at + length w; end = at + length w + length x })
 first_by_text bytes at w x rest h e a i n =
     let s = stands_first bytes at w (x ++ rest) h e in
-    let t = stands_first bytes (at + length w) x rest s.bound s.behind in
+    let t = stands_first bytes (at + length w) x rest s.bound s.after in
     first_there bytes at (at + length w) (at + length w + length x) (stretch_of AreSpaces bytes at w (x ++ rest) s a) (stretch_of (Json 127) bytes (at + length w) x rest t i) (λ k. n (subst IsNumber t.text k))
 
 -- So is an object.
 pub object_by_text : (bytes : List ℕ) (at : ℕ) (w x rest : List ℕ) → at ≤ length bytes → drop at bytes ≡ w ++ (x ++ rest) → AreSpaces w → JsonObject 127 x → IsFirst bytes at (record { start = at + length w; end = at + length w + length x })
 object_by_text bytes at w x rest h e a i =
     let s = stands_first bytes at w (x ++ rest) h e in
-    let t = stands_first bytes (at + length w) x rest s.bound s.behind in
+    let t = stands_first bytes (at + length w) x rest s.bound s.after in
     object_there bytes at (at + length w) (at + length w + length x) (stretch_of AreSpaces bytes at w (x ++ rest) s a) (stretch_of (JsonObject 127) bytes (at + length w) x rest t i)

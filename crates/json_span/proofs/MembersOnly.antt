@@ -22,13 +22,13 @@ record StructureAt (c : ℕ) (P : List ℕ → Type 0) (bytes : List ℕ) (a b :
   before : Stretch AreSpaces bytes a place
   inside : place < length bytes
   byte : get_or bytes place 0 ≡ c
-  behind : Stretch P bytes (place + 1) b
+  after : Stretch P bytes (place + 1) b
 
 structure_at : (c : ℕ) (P : List ℕ → Type 0) (bytes : List ℕ) (a b : ℕ) → Stretch (Spaced (Byte c P)) bytes a b → StructureAt c P bytes a b
 structure_at c P bytes a b s =
     let t = then_at AreSpaces (Byte c P) bytes a b s in
     let y = byte_at c P bytes t.0 b t.2 in
-    record { place = t.0; before = t.1; inside = omega (arith, y.order, s.bound); byte = y.byte; behind = y.rest }
+    record { place = t.0; before = t.1; inside = omega (arith, y.order, s.bound); byte = y.byte; after = y.rest }
 
 -- two of them at one place are one
 structure_only : (bytes : List ℕ) (c d : ℕ) (P Q : List ℕ → Type 0) (a b e : ℕ) → is_space c ≡ false → is_space d ≡ false → (s : StructureAt c P bytes a b) (t : StructureAt d Q bytes a e) → s.place ≡ t.place
@@ -39,7 +39,7 @@ separator_only bytes c a b e f s t m n p q =
     let x = structure_at c AreSpaces bytes a b s in
     let y = structure_at c AreSpaces bytes a e t in
     let o : x.place ≡ y.place = structure_only bytes c c AreSpaces AreSpaces a b e f f x y in
-    space_ends bytes (y.place + 1) b e (subst (λ z. Stretch AreSpaces bytes (z + 1) b) o x.behind) y.behind (λ _. n) p q
+    space_ends bytes (y.place + 1) b e (subst (λ z. Stretch AreSpaces bytes (z + 1) b) o x.after) y.after (λ _. n) p q
 
 name_byte : (bytes : List ℕ) (m : Member) → IsMemberAt bytes m → (m.name.start < length bytes) × (is_space (get_or bytes m.name.start 0) ≡ false)
 name_byte bytes m i =

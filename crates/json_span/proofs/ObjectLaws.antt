@@ -51,7 +51,7 @@ pub record ObjectFirst (bytes : List ℕ) : Type 0 where
   pub span : Span
   pub first : IsFirst bytes 0 span
   pub brace : get_or bytes span.start 0 ≡ 123
-  pub behind : Stretch AreSpaces bytes span.end (length bytes)
+  pub after : Stretch AreSpaces bytes span.end (length bytes)
 
 pub object_first : (bytes : List ℕ) → IsObjectText bytes → ObjectFirst bytes
 object_first bytes t =
@@ -62,7 +62,7 @@ object_first bytes t =
       span = record { start = a.0; end = b.0 };
       first = first_followed bytes 0 a.0 b.0 a.1 (stretch_map (JsonObject 127) (Json 127) bytes a.0 b.0 (object_json 127) b.1) (λ l. Space (space_within bytes b.0 (length bytes) b.0 b.2 (omega arith) l));
       brace = (byte_at 123 (λ y. Unit) bytes a.0 b.0 (stretch_map (JsonObject 127) (λ x. (y : List ℕ) × (x ≡ 123 ∷ y) × Unit) bytes a.0 b.0 (λ x i. (i.0, i.1, tt)) b.1)).byte;
-      behind = b.2;
+      after = b.2;
     }
 
 -- the first value is that object
@@ -76,6 +76,6 @@ pub object_end : (bytes : List ℕ) (s : Span) (to : ℕ) → IsFirst bytes 0 s 
 object_end bytes s to f t w g =
     let o = object_first bytes t in
     let e : s ≡ o.span = first_only bytes 0 s o.span f o.first in
-    let b : Stretch AreSpaces bytes s.end (length bytes) = subst (λ z. Stretch AreSpaces bytes z.end (length bytes)) (sym e) o.behind in
+    let b : Stretch AreSpaces bytes s.end (length bytes) = subst (λ z. Stretch AreSpaces bytes z.end (length bytes)) (sym e) o.after in
     let n : to < length bytes → ⊥ = λ l. let p : is_space (get_or bytes to 0) ≡ true = space_within bytes s.end (length bytes) to b w.order l in let q : is_space (get_or bytes to 0) ≡ false = g l in cc in
     omega (arith, n, w.bound)

@@ -1,7 +1,7 @@
 -- With more levels the machine does the same, but where it is too deep.
 use Rattle.std.proofs.Common.{◌≡◌, ℕ, ◌+◌, Bool, true, false, cond, eqb, List, [], ◌∷◌, refl, sym, ap, suc, zero, arith, Option, Some, None}
 use Rattle.json_span.specs.Json.{is_space}
-use Rattle.json_span.specs.Machine.{Array, Bad, Bracket, Chars, Closed, Deep, Fails, First, Goes, Going, In, InName, Name, Names, Object, State, Step, Stopped, Token, Value, accepts, begin, begin_array, begin_object, behind, done, first, next, onward, or_else, run, step}
+use Rattle.json_span.specs.Machine.{Array, Bad, Bracket, Chars, Closed, Deep, Fails, First, Goes, Going, In, InName, Name, Names, Object, State, Step, Stopped, Token, Value, accepts, begin, begin_array, begin_object, after_value, done, first, next, onward, or_else, run, step}
 
 -- With more levels the machine does the same, but where it would be too deep.
 
@@ -49,17 +49,17 @@ raise_begin k d st c = go (eqb c 91) (eqb c 123) (first c)
     go false false (Some t) = refl
     go false false None = refl
 
-raise_behind : (k : ℕ) (st : List Bracket) (d c : ℕ) → Raised k (behind st d c) (behind st (d + k) c)
-unfolding raise behind
-raise_behind k [] d c = refl
-raise_behind k (Array ∷ st) d c = go (is_space c) (eqb c 44) (eqb c 93)
+raise_after_value : (k : ℕ) (st : List Bracket) (d c : ℕ) → Raised k (after_value st d c) (after_value st (d + k) c)
+unfolding raise after_value
+raise_after_value k [] d c = refl
+raise_after_value k (Array ∷ st) d c = go (is_space c) (eqb c 44) (eqb c 93)
   where
     go : (p q r : Bool) → Raised k (cond p (Goes (In Closed d (Array ∷ st))) (cond q (Goes (Value d (Array ∷ st))) (cond r (Goes (In Closed (suc d) st)) (Fails Bad)))) (cond p (Goes (In Closed (d + k) (Array ∷ st))) (cond q (Goes (Value (d + k) (Array ∷ st))) (cond r (Goes (In Closed (suc (d + k)) st)) (Fails Bad))))
     go true q r = refl
     go false true r = refl
     go false false true = ap (λ n. Goes (In Closed n st)) (sym (plus_suc d k))
     go false false false = refl
-raise_behind k (Object ∷ st) d c = go (is_space c) (eqb c 44) (eqb c 125)
+raise_after_value k (Object ∷ st) d c = go (is_space c) (eqb c 44) (eqb c 125)
   where
     go : (p q r : Bool) → Raised k (cond p (Goes (In Closed d (Object ∷ st))) (cond q (Goes (Name d st)) (cond r (Goes (In Closed (suc d) st)) (Fails Bad)))) (cond p (Goes (In Closed (d + k) (Object ∷ st))) (cond q (Goes (Name (d + k) st)) (cond r (Goes (In Closed (suc (d + k)) st)) (Fails Bad))))
     go true q r = refl
@@ -103,9 +103,9 @@ raise_step k (InName t d st) c = go (next t c) (done t) (is_space c) (eqb c 58)
     go None false q r = refl
 raise_step k (In t d st) c = go (next t c) (done t)
   where
-    go : (o : Option Token) (p : Bool) → Raised k (or_else o (λ u. In u d st) (cond p (behind st d c) (Fails Bad))) (or_else o (λ u. In u (d + k) st) (cond p (behind st (d + k) c) (Fails Bad)))
+    go : (o : Option Token) (p : Bool) → Raised k (or_else o (λ u. In u d st) (cond p (after_value st d c) (Fails Bad))) (or_else o (λ u. In u (d + k) st) (cond p (after_value st (d + k) c) (Fails Bad)))
     go (Some u) p = refl
-    go None true = raise_behind k st d c
+    go None true = raise_after_value k st d c
     go None false = refl
 
 pub raise_accepts : (k : ℕ) (s : State) → accepts (raise k s) ≡ accepts s

@@ -2,7 +2,7 @@
 use Rattle.std.proofs.Common.{◌≡◌, ℕ, Bool, true, false, cond, eqb, List, [], ◌∷◌, ◌++◌, refl, sym, ap, ◌∙◌, suc, zero, subst, inl, inr, ◌⊎◌, Option, Some, None}
 use Rattle.std.proofs.lemmas.Bool.{eqb-true}
 use Rattle.json_span.specs.Json.{Byte, IsEmpty, IsMember, Items, Json, Spaced, Then, is_space}
-use Rattle.json_span.specs.Machine.{After, Array, Bad, Bracket, Chars, Closed, Completes, Ends, Fails, First, Goes, In, InName, InString, Name, Names, Object, Rest, State, Step, Token, Value, begin, begin_array, begin_object, behind, done, first, next, or_else, step}
+use Rattle.json_span.specs.Machine.{After, Array, Bad, Bracket, Chars, Closed, Completes, Ends, Fails, First, Goes, In, InName, InString, Name, Names, Object, Rest, State, Step, Token, Value, begin, begin_array, begin_object, after_value, done, first, next, or_else, step}
 use Rattle.json_span.proofs.TextLaws.{spaced_back, spaced_now, spaced_split}
 use Rattle.json_span.proofs.ItemLaws.{group_split, items_close, items_comma, items_space, member_fold}
 use Rattle.json_span.proofs.TokenBack.{token_back}
@@ -34,17 +34,17 @@ value_back d st c b h = go (eqb c 91) refl (eqb c 123) refl (first c) refl h
 unclosed : (d : ℕ) (st : List Bracket) (b : List ℕ) → Completes (In Closed d st) b → Rest st d b
 unclosed d st b h = subst (Rest st d) (sym (h.3 ∙ ap (λ z. z ++ h.1) h.2)) h.4
 
-behind_back : (st : List Bracket) (d c : ℕ) (b : List ℕ) → After (behind st d c) b → Rest st d (c ∷ b)
-unfolding behind
-behind_back [] d c b h = absurd h
-behind_back (Array ∷ st) d c b h = go (is_space c) refl (eqb c 44) refl (eqb c 93) refl h
+after_value_back : (st : List Bracket) (d c : ℕ) (b : List ℕ) → After (after_value st d c) b → Rest st d (c ∷ b)
+unfolding after_value
+after_value_back [] d c b h = absurd h
+after_value_back (Array ∷ st) d c b h = go (is_space c) refl (eqb c 44) refl (eqb c 93) refl h
   where
     go : (p : Bool) → is_space c ≡ p → (q : Bool) → eqb c 44 ≡ q → (r : Bool) → eqb c 93 ≡ r → After (cond p (Goes (In Closed d (Array ∷ st))) (cond q (Goes (Value d (Array ∷ st))) (cond r (Goes (In Closed (suc d) st)) (Fails Bad)))) b → Rest (Array ∷ st) d (c ∷ b)
     go true dp q dq r dr a = items_space (Json d) 93 (Rest st (suc d)) c b dp (unclosed d (Array ∷ st) b a)
     go false dp true dq r dr a = subst (λ z. Rest (Array ∷ st) d (z ∷ b)) (sym (eqb-true c 44 dq)) (items_comma (Json d) 93 (Rest st (suc d)) b a)
     go false dp false dq true dr a = subst (λ z. Rest (Array ∷ st) d (z ∷ b)) (sym (eqb-true c 93 dr)) (items_close (Json d) 93 (Rest st (suc d)) b (unclosed (suc d) st b a))
     go false dp false dq false dr a = absurd a
-behind_back (Object ∷ st) d c b h = go (is_space c) refl (eqb c 44) refl (eqb c 125) refl h
+after_value_back (Object ∷ st) d c b h = go (is_space c) refl (eqb c 44) refl (eqb c 125) refl h
   where
     go : (p : Bool) → is_space c ≡ p → (q : Bool) → eqb c 44 ≡ q → (r : Bool) → eqb c 125 ≡ r → After (cond p (Goes (In Closed d (Object ∷ st))) (cond q (Goes (Name d st)) (cond r (Goes (In Closed (suc d) st)) (Fails Bad)))) b → Rest (Object ∷ st) d (c ∷ b)
     go true dp q dq r dr a = items_space (IsMember (Json d)) 125 (Rest st (suc d)) c b dp (unclosed d (Object ∷ st) b a)
@@ -95,4 +95,4 @@ back (InName t d st) c b h = part_back t (Spaced (Byte 58 (Spaced (Then (Json d)
     go true e q f a = spaced_back (Byte 58 (Spaced (Then (Json d) (Rest (Object ∷ st) d)))) c b e (subst (Spaced (Byte 58 (Spaced (Then (Json d) (Rest (Object ∷ st) d))))) (sym (a.3 ∙ ap (λ z. z ++ a.1) a.2)) a.4)
     go false e true f a = spaced_now (Byte 58 (Spaced (Then (Json d) (Rest (Object ∷ st) d)))) (c ∷ b) (b, ap (λ z. z ∷ b) (eqb-true c 58 f), a)
     go false e false f a = absurd a
-back (In t d st) c b h = part_back t (Rest st d) (λ u. In u d st) (behind st d) c b (λ u k. k) (behind_back st d c b) h
+back (In t d st) c b h = part_back t (Rest st d) (λ u. In u d st) (after_value st d) c b (λ u k. k) (after_value_back st d c b) h

@@ -2,7 +2,7 @@
 use Rattle.std.proofs.Common.{◌≡◌, ℕ, Bool, true, false, cond, eqb, List, [], ◌∷◌, ◌++◌, refl, sym, ap, ◌∙◌, suc, zero, subst, inl, inr, ◌⊎◌, Some, None}
 use Rattle.std.proofs.lemmas.Bool.{eqb-true}
 use Rattle.json_span.specs.Json.{Byte, IsEmpty, IsMember, IsScalar, Items, Json, Spaced, Then, is_space}
-use Rattle.json_span.specs.Machine.{After, Array, Bad, Bracket, Chars, Closed, Colon, Comma, Completes, EndArray, EndObject, Ends, Fails, First, Follows, Goes, In, InName, InString, Name, Names, Object, Rest, Space, State, Step, Token, Value, begin, behind, done, first, next, or_else, step}
+use Rattle.json_span.specs.Machine.{After, Array, Bad, Bracket, Chars, Closed, Colon, Comma, Completes, EndArray, EndObject, Ends, Fails, First, Follows, Goes, In, InName, InString, Name, Names, Object, Rest, Space, State, Step, Token, Value, begin, after_value, done, first, next, or_else, step}
 use Rattle.json_span.proofs.TextLaws.{spaced_forth, spaced_join}
 use Rattle.json_span.proofs.ItemLaws.{group_join, items_forth, member_flat}
 use Rattle.json_span.proofs.TokenForth.{token_forth}
@@ -74,26 +74,26 @@ json_scalar (suc d) x i = inl i
 closed : (d : ℕ) (st : List Bracket) (b : List ℕ) → Rest st d b → Completes (In Closed d st) b
 closed d st b r = ([], b, refl, refl, r)
 
-behind_forth : (st : List Bracket) (d c : ℕ) (b : List ℕ) → Rest st d (c ∷ b) → After (behind st d c) b × Follows c
-unfolding behind
-behind_forth [] d c b h = cc
-behind_forth (Array ∷ st) d c b h =
+after_value_forth : (st : List Bracket) (d c : ℕ) (b : List ℕ) → Rest st d (c ∷ b) → After (after_value st d c) b × Follows c
+unfolding after_value
+after_value_forth [] d c b h = cc
+after_value_forth (Array ∷ st) d c b h =
     elim (items_forth (Json d) 93 (Rest st (suc d)) c b h) [
       | inl s ↦ (go s.0 (closed d (Array ∷ st) b s.1), Space s.0)
-      | inr (inl s) ↦ (subst (λ z. After (behind (Array ∷ st) d z) b) (sym s.0) (closed (suc d) st b s.1), EndArray s.0)
-      | inr (inr s) ↦ (subst (λ z. After (behind (Array ∷ st) d z) b) (sym s.0) s.1, Comma s.0)
+      | inr (inl s) ↦ (subst (λ z. After (after_value (Array ∷ st) d z) b) (sym s.0) (closed (suc d) st b s.1), EndArray s.0)
+      | inr (inr s) ↦ (subst (λ z. After (after_value (Array ∷ st) d z) b) (sym s.0) s.1, Comma s.0)
     ]
   where
-    go : is_space c ≡ true → Completes (In Closed d (Array ∷ st)) b → After (behind (Array ∷ st) d c) b
+    go : is_space c ≡ true → Completes (In Closed d (Array ∷ st)) b → After (after_value (Array ∷ st) d c) b
     go e k = rw e k
-behind_forth (Object ∷ st) d c b h =
+after_value_forth (Object ∷ st) d c b h =
     elim (items_forth (IsMember (Json d)) 125 (Rest st (suc d)) c b h) [
       | inl s ↦ (go s.0 (closed d (Object ∷ st) b s.1), Space s.0)
-      | inr (inl s) ↦ (subst (λ z. After (behind (Object ∷ st) d z) b) (sym s.0) (closed (suc d) st b s.1), EndObject s.0)
-      | inr (inr s) ↦ (subst (λ z. After (behind (Object ∷ st) d z) b) (sym s.0) s.1, Comma s.0)
+      | inr (inl s) ↦ (subst (λ z. After (after_value (Object ∷ st) d z) b) (sym s.0) (closed (suc d) st b s.1), EndObject s.0)
+      | inr (inr s) ↦ (subst (λ z. After (after_value (Object ∷ st) d z) b) (sym s.0) s.1, Comma s.0)
     ]
   where
-    go : is_space c ≡ true → Completes (In Closed d (Object ∷ st)) b → After (behind (Object ∷ st) d c) b
+    go : is_space c ≡ true → Completes (In Closed d (Object ∷ st)) b → After (after_value (Object ∷ st) d c) b
     go e k = rw e k
 
 -- a name
@@ -199,4 +199,4 @@ forth (InName t d st) c b h = part_forth t (Spaced (Byte 58 (Spaced (Then (Json 
           (subst (λ z. After (colon d st z) b) (sym q) (subst (Spaced (Then (Json d) (Rest (Object ∷ st) d))) (sym r) p.2), Colon q)
       | inr s ↦ (yes s.0 ([], b, refl, refl, s.1), Space s.0)
     ]
-forth (In t d st) c b h = part_forth t (Rest st d) (λ u. In u d st) (behind st d) c b (λ u k. k) (behind_forth st d c b) h
+forth (In t d st) c b h = part_forth t (Rest st d) (λ u. In u d st) (after_value st d) c b (λ u k. k) (after_value_forth st d c b) h

@@ -3,7 +3,7 @@ use Rattle.std.proofs.Common.{◌≡◌, ◌≢◌, ℕ, ◌<◌, Bool, true, fa
 use Rattle.std.proofs.lemmas.Bool.{eqb-true}
 use Rattle.json_span.specs.Strings.{Bounds, Any, within, Lead, lead, AreTail, Wide, IsChar, IsBegun}
 use Rattle.json_span.specs.Json.{is_space}
-use Rattle.json_span.specs.Machine.{Bracket, Array, Object, Token, Closed, Chars, Tail, done, next, first, State, Value, First, Names, Name, InName, In, Bad, Step, Goes, Fails, or_else, begin_array, begin_object, begin, behind, step, Going, onward, run, token_in, is_tail}
+use Rattle.json_span.specs.Machine.{Bracket, Array, Object, Token, Closed, Chars, Tail, done, next, first, State, Value, First, Names, Name, InName, In, Bad, Step, Goes, Fails, or_else, begin_array, begin_object, begin, after_value, step, Going, onward, run, token_in, is_tail}
 use Rattle.json_span.proofs.TokenForth.{lead_low}
 use Rattle.json_span.proofs.TokenLaws.{of_space}
 use Rattle.json_span.proofs.RunLaws.{tail_live}
@@ -45,17 +45,17 @@ taken_begin s t d st c e = go (eqb c 91) refl (eqb c 123) refl (first c) refl e
     go false dp false dq (Some u) do' e = Start u do' (let r : In u d st ≡ t = cc in ap token_in (sym r))
     go false dp false dq None do' e = cc
 
-taken_behind : (s t : State) (st : List Bracket) (d c : ℕ) → behind st d c ≡ Goes t → Taken s c t
-unfolding behind
-taken_behind s t [] d c e = cc
-taken_behind s t (Array ∷ st) d c e = go (is_space c) refl (eqb c 44) refl (eqb c 93) refl e
+taken_after_value : (s t : State) (st : List Bracket) (d c : ℕ) → after_value st d c ≡ Goes t → Taken s c t
+unfolding after_value
+taken_after_value s t [] d c e = cc
+taken_after_value s t (Array ∷ st) d c e = go (is_space c) refl (eqb c 44) refl (eqb c 93) refl e
   where
     go : (p : Bool) → is_space c ≡ p → (q : Bool) → eqb c 44 ≡ q → (r : Bool) → eqb c 93 ≡ r → cond p (Goes (In Closed d (Array ∷ st))) (cond q (Goes (Value d (Array ∷ st))) (cond r (Goes (In Closed (suc d) st)) (Fails Bad))) ≡ Goes t → Taken s c t
     go true dp q dq r dr e = shape s (In Closed d (Array ∷ st)) t c (space_low c dp) (inr (inl refl)) e
     go false dp true dq r dr e = shape s (Value d (Array ∷ st)) t c (byte_low 44 c (omega arith) dq) (inl refl) e
     go false dp false dq true dr e = shape s (In Closed (suc d) st) t c (byte_low 93 c (omega arith) dr) (inr (inl refl)) e
     go false dp false dq false dr e = cc
-taken_behind s t (Object ∷ st) d c e = go (is_space c) refl (eqb c 44) refl (eqb c 125) refl e
+taken_after_value s t (Object ∷ st) d c e = go (is_space c) refl (eqb c 44) refl (eqb c 125) refl e
   where
     go : (p : Bool) → is_space c ≡ p → (q : Bool) → eqb c 44 ≡ q → (r : Bool) → eqb c 125 ≡ r → cond p (Goes (In Closed d (Object ∷ st))) (cond q (Goes (Name d st)) (cond r (Goes (In Closed (suc d) st)) (Fails Bad))) ≡ Goes t → Taken s c t
     go true dp q dq r dr e = shape s (In Closed d (Object ∷ st)) t c (space_low c dp) (inr (inl refl)) e
@@ -99,9 +99,9 @@ taken (InName k d st) t c e = go (next k c) refl (done k) (is_space c) refl (eqb
     go None do' false p dp q dq e = cc
 taken (In k d st) t c e = go (next k c) refl (done k) e
   where
-    go : (o : Option Token) → next k c ≡ o → (i : Bool) → or_else o (λ u. In u d st) (cond i (behind st d c) (Fails Bad)) ≡ Goes t → Taken (In k d st) c t
+    go : (o : Option Token) → next k c ≡ o → (i : Bool) → or_else o (λ u. In u d st) (cond i (after_value st d c) (Fails Bad)) ≡ Goes t → Taken (In k d st) c t
     go (Some u) do' i e = On k u refl do' (let r : In u d st ≡ t = cc in ap token_in (sym r))
-    go None do' true e = taken_behind (In k d st) t st d c e
+    go None do' true e = taken_after_value (In k d st) t st d c e
     go None do' false e = cc
 
 -- words are ASCII all along

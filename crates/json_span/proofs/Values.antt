@@ -6,7 +6,7 @@ use Rattle.json_span.specs.Json.{is_space, AreSpaces, Json}
 use Rattle.json_span.specs.Spans.{Stretch, Begins, IsWithin, IsFirst}
 use Rattle.json_span.specs.declared.span.Span.{Span}
 use Rattle.json_span.proofs.StepForth.{json_some}
-use Rattle.json_span.proofs.Fronts.{value_first, begins_behind, begins_spaced, begins_value}
+use Rattle.json_span.proofs.Fronts.{value_first, begins_after, begins_spaced, begins_value}
 use Rattle.json_span.proofs.Stretches.{range_split, space_ends}
 
 pub range_head : (bytes : List ℕ) (a c : ℕ) → a < c → c ≤ length bytes → slice_range bytes a c ≡ get_or bytes a 0 ∷ slice_range bytes (a + 1) c
@@ -27,7 +27,7 @@ value_byte bytes d start end s =
 
 -- where the first value's span lies
 pub first_within : (bytes : List ℕ) (at : ℕ) (s : Span) → IsFirst bytes at s → IsWithin at s (length bytes)
-first_within bytes at s f = record { behind = f.space.order; some = value_some bytes 127 s.start s.end f.value; bound = f.value.bound }
+first_within bytes at s f = record { after = f.space.order; some = value_some bytes 127 s.start s.end f.value; bound = f.value.bound }
 
 -- white space that ends where none stands, or where the bytes end, ends where each value after it begins
 pub value_start : (bytes : List ℕ) (at start d from end : ℕ) → Stretch AreSpaces bytes at start → (start < length bytes → is_space (get_or bytes start 0) ≡ false) → Stretch AreSpaces bytes at from → Stretch (Json d) bytes from end → start ≡ from
@@ -39,7 +39,7 @@ pub begins_at : (bytes : List ℕ) (d at start to : ℕ) → Stretch AreSpaces b
 begins_at bytes d at start to s h b = subst (Begins d) (sym (range_split bytes at start to s.order h)) (begins_spaced d (slice_range bytes at start) (slice_range bytes start to) s.text b)
 
 pub begins_from : (bytes : List ℕ) (d at start to : ℕ) → Stretch AreSpaces bytes at start → start ≤ to → Begins d (slice_range bytes at to) → Begins d (slice_range bytes start to)
-begins_from bytes d at start to s h b = begins_behind d (slice_range bytes at start) (slice_range bytes start to) s.text (subst (Begins d) (range_split bytes at start to s.order h) b)
+begins_from bytes d at start to s h b = begins_after d (slice_range bytes at start) (slice_range bytes start to) s.text (subst (Begins d) (range_split bytes at start to s.order h) b)
 
 -- a value that ends after a place begins by the bytes before it
 pub value_front : (bytes : List ℕ) (d start to end : ℕ) → Stretch (Json d) bytes start end → start ≤ to → to ≤ end → Begins d (slice_range bytes start to)

@@ -152,10 +152,10 @@ unfoldable pub begin : ℕ → List Bracket → ℕ → Step
 begin d st c = if c == 91 then begin_array d st else (if c == 123 then begin_object d st else or_else (first c) (λ t. In t d st) (Fails Bad))
 
 -- after a value
-unfoldable pub behind : List Bracket → ℕ → ℕ → Step
-behind [] d c = Fails Bad
-behind (Array ∷ st) d c = if is_space c then Goes (In Closed d (Array ∷ st)) else (if c == 44 then Goes (Value d (Array ∷ st)) else (if c == 93 then Goes (In Closed (suc d) st) else Fails Bad))
-behind (Object ∷ st) d c = if is_space c then Goes (In Closed d (Object ∷ st)) else (if c == 44 then Goes (Name d st) else (if c == 125 then Goes (In Closed (suc d) st) else Fails Bad))
+unfoldable pub after_value : List Bracket → ℕ → ℕ → Step
+after_value [] d c = Fails Bad
+after_value (Array ∷ st) d c = if is_space c then Goes (In Closed d (Array ∷ st)) else (if c == 44 then Goes (Value d (Array ∷ st)) else (if c == 93 then Goes (In Closed (suc d) st) else Fails Bad))
+after_value (Object ∷ st) d c = if is_space c then Goes (In Closed d (Object ∷ st)) else (if c == 44 then Goes (Name d st) else (if c == 125 then Goes (In Closed (suc d) st) else Fails Bad))
 
 -- one byte more
 unfoldable pub step : State → ℕ → Step
@@ -164,7 +164,7 @@ step (First d st) c = if is_space c then Goes (First d st) else (if c == 93 then
 step (Names d st) c = if is_space c then Goes (Names d st) else (if c == 125 then Goes (In Closed (suc d) st) else (if c == 34 then Goes (InName Chars d st) else Fails Bad))
 step (Name d st) c = if is_space c then Goes (Name d st) else (if c == 34 then Goes (InName Chars d st) else Fails Bad)
 step (InName t d st) c = or_else (next t c) (λ u. InName u d st) (if done t then (if is_space c then Goes (InName Closed d st) else (if c == 58 then Goes (Value d (Object ∷ st)) else Fails Bad)) else Fails Bad)
-step (In t d st) c = or_else (next t c) (λ u. In u d st) (if done t then behind st d c else Fails Bad)
+step (In t d st) c = or_else (next t c) (λ u. In u d st) (if done t then after_value st d c else Fails Bad)
 
 -- the value may end here
 abbrev pub accepts : State → Bool

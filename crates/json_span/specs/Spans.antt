@@ -24,7 +24,7 @@ pub record IsFirst (bytes : List ℕ) (at : ℕ) (s : Span) : Type 0 where
 
 -- so it is not empty, and lies between `at` and the bytes' end
 pub record IsWithin (at : ℕ) (s : Span) (len : ℕ) : Type 0 where
-  pub behind : at ≤ s.start
+  pub after : at ≤ s.start
   pub some : s.start < s.end
   pub bound : s.end ≤ len
 

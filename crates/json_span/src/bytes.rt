@@ -42,7 +42,7 @@ pub(crate) fn plain(byte: u8) -> bool
 }
 
 /// The first place from `at` on where no white space stands.
-pub(crate) fn behind_space(bytes: &[u8], at: usize) -> usize
+pub(crate) fn after_space(bytes: &[u8], at: usize) -> usize
     requires { at ≤ length bytes.now }
     ensures spaces { Stretch AreSpaces bytes.now at result }
     ensures stops { result < length bytes.now → is_space (slice_index bytes.now result) ≡ false }

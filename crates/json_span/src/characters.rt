@@ -32,7 +32,7 @@ fn plain_lanes(bytes: &[u8], at: usize) -> usize
 }
 
 /// The first place from `at` on where a byte stands that doesn't stand for itself in a string.
-pub(crate) fn behind_plain(bytes: &[u8], at: usize) -> usize
+pub(crate) fn after_plain(bytes: &[u8], at: usize) -> usize
     requires { at ≤ length bytes.now }
     ensures { IsPlainRun bytes.now at (length bytes.now) result }
 {

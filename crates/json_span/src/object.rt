@@ -5,7 +5,7 @@ ghost use Rattle.json_span.specs.Spans.{Stretch};
 ghost use Rattle.json_span.specs.Members.{HasObject, IsObjectText, IsMemberAt, AreFurther, HasMembers};
 ghost use Rattle.json_span.specs.Walk.{IsFollowed, MembersLeft, IsLeft, AreAhead};
 
-use crate::bytes::behind_space;
+use crate::bytes::after_space;
 use crate::scan::first_value;
 use crate::span::Span;
 use std::alloc::{AllocError, Global};
@@ -24,7 +24,7 @@ pub fn is_object(bytes: &[u8]) -> bool
     ensures { IsTrue result ↔ IsObjectText bytes.now }
 {
     match first_value(bytes, 0) {
-        Ok(span) => bytes[span.start] == b'{' && behind_space(bytes, span.end) == bytes.len(),
+        Ok(span) => bytes[span.start] == b'{' && after_space(bytes, span.end) == bytes.len(),
         Err(_) => false,
     }
 }
@@ -50,13 +50,13 @@ fn member_at(bytes: &[u8], at: usize) -> Member
         × Stretch (Items (IsMember (Json 126)) 125) bytes.now result.value.end end }
 {
     let name = value_at(bytes, at);
-    let colon = behind_space(bytes, name.end);
+    let colon = after_space(bytes, name.end);
     let value = value_at(bytes, colon + 1);
     Member { name, value }
 }
 
 /// Where the next member begins, or else the closing brace stands, after a member.
-fn behind_member(bytes: &[u8], at: usize) -> usize
+fn after_member(bytes: &[u8], at: usize) -> usize
     requires { (end : ℕ) × Stretch (Items (IsMember (Json 126)) 125) bytes.now at end }
     ensures order { at ≤ result }
     ensures left { (end : ℕ) → Stretch (Items (IsMember (Json 126)) 125) bytes.now at end
@@ -65,9 +65,9 @@ fn behind_member(bytes: &[u8], at: usize) -> usize
         → (rest : List Member) → AreAhead bytes.now result rest end
         → AreFurther bytes.now at rest end }
 {
-    let next = behind_space(bytes, at);
+    let next = after_space(bytes, at);
     if bytes[next] == b',' {
-        behind_space(bytes, next + 1)
+        after_space(bytes, next + 1)
     } else {
         next
     }
@@ -80,11 +80,11 @@ pub fn members(alloc: Global, bytes: &[u8], object: Span) -> Result<Vec<Member>,
     ensures { IfOk result (λ v. HasMembers bytes.now object v.items) }
 {
     let mut members = Vec::new(alloc);
-    let mut at = behind_space(bytes, object.start + 1);
+    let mut at = after_space(bytes, object.start + 1);
     while bytes[at] != b'}' {
         let member = member_at(bytes, at);
         members.push(member)?;
-        at = behind_member(bytes, member.value.end);
+        at = after_member(bytes, member.value.end);
     }
     Ok(members)
 }

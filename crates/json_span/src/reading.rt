@@ -1,7 +1,9 @@
 //! A reading of a value as far as some bytes have come, and one byte more.
 ghost use Rattle.std.specs.Prelude.{◌≡◌, ℕ, ◌+◌, ◌<◌, List, ◌∷◌, IsTrue, true, false};
 ghost use Rattle.json_span.specs.Strings.{is_plain};
-ghost use Rattle.json_span.specs.Machine.{begin, behind, step, accepts, begin_array, begin_object, First as FirstState, Names as NamesState, Name as NameState, InName as InNameState, Value as ValueState, Goes, In, Closed, Array, Object, Bracket};
+ghost use Rattle.json_span.specs.Machine.{begin, after_value, step, accepts, begin_array, begin_object, First as FirstState};
+ghost use Rattle.json_span.specs.Machine.{Names as NamesState, Name as NameState, InName as InNameState, Value as ValueState, Goes};
+ghost use Rattle.json_span.specs.Machine.{In, Closed, Array, Object, Bracket};
 ghost use Rattle.json_span.specs.Reading.{token_of, brackets, state_of, step_of, Fits, FitsTurn, HasTop, TopTurn, state_at};
 ghost use Rattle.json_span.specs.declared.reading.Place.TheVariants.{First, Names};
 
@@ -116,12 +118,12 @@ fn begin_value(r: Reading, byte: u8) -> Turn
 }
 
 /// A byte after a value.
-#[tactic(auto, unfolding(crate::specs::Machine::behind))]
-fn behind_value(r: Reading, byte: u8) -> Turn
+#[tactic(auto, unfolding(crate::specs::Machine::after_value))]
+fn byte_after_value(r: Reading, byte: u8) -> Turn
     requires fits { Fits r }
     ensures fits { FitsTurn result }
     ensures top { TopTurn result }
-    ensures turn { step_of result ≡ behind (brackets r.depth r.bits) r.left byte }
+    ensures turn { step_of result ≡ after_value (brackets r.depth r.bits) r.left byte }
 {
     if r.depth == 0 {
         Turn::Bad
@@ -233,7 +235,7 @@ fn in_token(r: Reading, token: Token, byte: u8) -> Turn
         Some(token) => go(r, Place::In(token)),
         None => {
             if done(token) {
-                behind_value(r, byte)
+                byte_after_value(r, byte)
             } else {
                 Turn::Bad
             }

@@ -5,8 +5,8 @@ ghost use Rattle.json_span.specs.Reading.{state_of, HasTop, brackets};
 ghost use Rattle.json_span.specs.Spans.{IsWithin, IsFirst, IsCut, IsNotJson, IsTooDeep};
 ghost use Rattle.json_span.specs.declared.span.JsonFault.TheVariants.{Cut, NotJson, TooDeep};
 
-use crate::bytes::behind_space;
-use crate::characters::behind_plain;
+use crate::bytes::after_space;
+use crate::characters::after_plain;
 use crate::reading::{Place, Reading, Turn, after_byte, may_end, stays};
 use crate::span::{JsonFault, Span};
 use crate::token::Token;
@@ -62,7 +62,7 @@ pub fn first_value(bytes: &[u8], at: usize) -> Result<Span, JsonFault>
     ensures not_json { (place : ℕ) → (result ≡ Err (NotJson place)) ↔ IsNotJson bytes.now at place }
     ensures too_deep { (place : ℕ) → (result ≡ Err (TooDeep place)) ↔ IsTooDeep bytes.now at place }
 {
-    let start = behind_space(bytes, at);
+    let start = after_space(bytes, at);
     let mut reading = Reading {
         place: Place::Value,
         left: 127,
@@ -74,7 +74,7 @@ pub fn first_value(bytes: &[u8], at: usize) -> Result<Span, JsonFault>
     while i < bytes.len() {
         let byte = bytes[i];
         if stays(reading, byte) {
-            i = behind_plain(bytes, i + 1);
+            i = after_plain(bytes, i + 1);
             continue;
         }
         match after_byte(reading, byte) {

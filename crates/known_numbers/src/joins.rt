@@ -73,7 +73,8 @@ pub(crate) fn add(stretches: &mut Vec<Stretch>, more: Stretch)
     requires apart { AreApart 0 stretches.old.items }
     requires few { vec_len stretches.old ≤ MOST_STRETCHES }
     requires room { MOST_STRETCHES ≤ vec_capacity stretches.old }
-    ensures added { stretches.new.items ≡ (if leb (length (added more stretches.old.items)) MOST_STRETCHES then added more stretches.old.items else stretches.old.items) }
+    ensures added { stretches.new.items ≡
+        (if leb (length (added more stretches.old.items)) MOST_STRETCHES then added more stretches.old.items else stretches.old.items) }
     ensures room { vec_capacity stretches.old ≤ vec_capacity stretches.new }
 {
     let first = passed(stretches, more.from);

@@ -7,8 +7,6 @@ mod apart;
 mod joins;
 mod known;
 mod stretch;
-#[cfg(test)]
-mod tests;
 
 pub use apart::are_apart;
 pub use known::KnownNumbers;

@@ -8,7 +8,7 @@ use Rattle.spool_log.specs.Stages.{last_of, IsMidway, AllFollow}
 use Rattle.spool_log.specs.Outcome.{IsMended, GoesOn}
 use Rattle.spool_log.proofs.Stored.{none_follow}
 
--- a change behind it
+-- a change after it
 pub goes_on : (s : SpoolState) (doubt : List SpoolState) (m : SpoolState) (stages : List SpoolState) (after : SpoolState) (later : List SpoolState) (old mid new : View)
     → IsMended s doubt m old mid → Follows m after → AllFollow m stages → IsIn after later new → LeavesStages m stages mid.moment new.moment → GoesOn s doubt m stages after later old new
 goes_on s doubt m stages after later old mid new mended follows each reached run = record {
@@ -20,7 +20,7 @@ goes_on s doubt m stages after later old mid new mended follows each reached run
       (λ c h. elim h [ inl image ↦ inl (mended.any_moment.now c image) | inr midway ↦ inr midway ]);
 }
 
--- nothing behind it
+-- nothing after it
 pub goes_nowhere : (s : SpoolState) (doubt : List SpoolState) (m : SpoolState) (stages : List SpoolState) (old new : View) → stages ≡ [] → IsMended s doubt m old new → GoesOn s doubt m stages (last_of m stages) [] old new
 goes_nowhere s doubt m stages old new none mended = record {
   one = mended.one;

@@ -48,7 +48,7 @@ knows_push size [] (x ∷ known) slot k h one = absurd h
 knows_push size (x ∷ slots) [] slot k h one = absurd h
 knows_push size (x ∷ slots) (y ∷ known) slot k h one = (h.0, knows_push size slots known slot k h.1 one)
 
--- the buffer behind a call that was lent it
+-- the buffer after a call that was lent it
 pub length-lent : (n : ℕ) (lent new items : List ℕ) → lent ≡ items → length lent ≡ n → length new ≡ length lent → length items ≡ 65536 → length (take n (new ++ drop (length new) items)) ≡ 65536
 length-lent n lent new items same whole kept is =
     let long : n ≡ 65536 = omega (arith, ap length same) in

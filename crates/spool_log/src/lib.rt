@@ -20,6 +20,3 @@ pub use opening::recover::Refusal;
 pub use reading::bookmark::Bookmark;
 pub use reading::numbered::Numbered;
 pub use spool::Spool;
-
-#[cfg(test)]
-mod tests;

@@ -35,7 +35,7 @@ mark_start segment first is = inl (record {
   counted = omega (arith, is);
 })
 
--- a mark stays one where a group comes behind
+-- a mark stays one where a group comes after it
 pub mark_stays : (segment : Segment) (group : List Entry) (mark : Mark) → IsMark segment mark → IsMark (with_group segment group) mark
 mark_stays segment group mark (inl at_gate) = inl (record {
   before = at_gate.before;
@@ -87,7 +87,7 @@ module _ (at size : ℕ) (segment : Segment) (c : List ℕ) (room : at + size �
       sym (drop-part at n size c (omega (arith, n_is, ap length split, length-append text (groups_text behind ++ holds.rest), length-part at size c room)))
       ∙ ap (drop n) split ∙ drop_at text (groups_text behind ++ holds.rest) n (sym n_is)
 
-  -- the group at a gate with entries behind it
+  -- the group at a gate with entries after it
   some_behind : (behind : List (List Entry)) → 0 < length (entries_of (with_groups segment behind)) → (g : List Entry) × (more : List (List Entry)) × (behind ≡ g ∷ more)
   some_behind [] some = absurd (omega arith)
   some_behind (g ∷ more) some = (g, more, refl)
@@ -197,7 +197,7 @@ pub first_left : (left : List Entry) → 0 < length left → (e : Entry) × (mor
 first_left [] some = absurd (omega arith)
 first_left (e ∷ more) some = (e, more, refl)
 
--- the mark behind the head of a group at whose gate another stands
+-- the mark after the head of a group at whose gate another stands
 pub entered_is : (segment : Segment) (mark entered : Mark) (here : IsAtGate segment mark) (g : List Entry) (more : List (List Entry)) → here.behind ≡ g ∷ more → 0 < length g → entered.number ≡ mark.number → entered.at ≡ mark.at + 9 → entered.rest ≡ length g → IsInGroup segment entered
 entered_is segment mark entered here g more is some number_is at_is rest_is = record {
   before = here.before;

@@ -9,14 +9,14 @@ use Rattle.edge_disk.specs.Gate.{ComesFrom}
 use Rattle.edge_disk.proofs.Moments.{both, started, weaker}
 use Rattle.spool_slots.specs.Pen.{HasWritten}
 
--- the buffer's front after a piece was put behind it
+-- the buffer's front after a piece was put after it
 pub front_put : (filled : ℕ) (piece buffer : List ℕ) → filled + length piece ≤ length buffer → take (filled + length piece) (put filled piece buffer) ≡ take filled buffer ++ piece
 front_put filled piece buffer room =
     let front = length-take-le filled buffer (omega arith) in
     let joined : put filled piece buffer ≡ (take filled buffer ++ piece) ++ drop (filled + length piece) buffer = refl in
     ap (take (filled + length piece)) joined ∙ take_at (take filled buffer ++ piece) (drop (filled + length piece) buffer) (filled + length piece) (omega (arith, length-append (take filled buffer) piece))
 
--- one piece put behind another
+-- one piece put after another
 pub put_then : (at k : ℕ) (first second base : List ℕ) → k ≡ at + length first → k + length second ≤ length base → put k second (put at first base) ≡ put at (first ++ second) base
 put_then at k first second base is room =
     let long = length-append first second in
@@ -87,7 +87,7 @@ all_written start base text at buffer reads has = has.on_disk ∙ ap (λ (l : Li
 
 -- ---- what a crash leaves
 
--- one run of writes behind another, both in a range
+-- one run of writes after another, both in a range
 pub run_then : (at n i k : ℕ) (m mid new : Moment) → at ≤ i → i + k ≤ at + n → LeavesOnly (ComesFrom m (SameBut at n)) m mid → LeavesOnly (ComesFrom mid (SameBut i k)) mid new → LeavesOnly (ComesFrom m (SameBut at n)) m new
 run_then at n i k m mid new h1 h2 before after =
     both _ _ (ComesFrom m (SameBut at n)) m mid new before after (λ c p. p) (λ c q.

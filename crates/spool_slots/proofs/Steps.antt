@@ -94,7 +94,7 @@ append_run slot segment group m new lawful room le known run =
 pub body_from : (gate : ℕ) (group : List Entry) (m new : Moment) → LeavesOnly (ComesFrom m (SameBut (gate + 1) (need_of group))) m new → LeavesOnly (ComesFrom m (SameBut (gate + 1) (length (group_text group ++ 0 ∷ [])))) m new
 body_from gate group m new run = subst (λ (n : ℕ). LeavesOnly (ComesFrom m (SameBut (gate + 1) n)) m new) (sym (length-need group)) run
 
--- the group stands behind its open gate
+-- the group stands after its open gate
 pub append_holds : (slot : Slot) (segment : Segment) (group : List Entry) (old mid new : List ℕ) → slot.at + slot.size ≤ length old → need_of group ≤ slot.size - slot.gate - 1 → Knows slot segment old
     → mid ≡ put (slot.at + slot.gate + 1) (group_text group ++ 0 ∷ []) old → new ≡ put (slot.at + slot.gate) (1 ∷ []) mid → HoldsSegment slot.at slot.size (with_group segment group) new
 append_holds slot segment group old mid new room le knows is_mid is_new =
@@ -104,11 +104,11 @@ append_holds slot segment group old mid new room le knows is_mid is_new =
     subst (HoldsSegment slot.at slot.size (with_group segment group)) (sym whole)
     (holds_more slot.at slot.size slot.gate segment group old room (omega (arith, le, slot.inside, length-group_text group)) knows.gate knows.holds)
 
--- ---- the closed gate behind the last group
+-- ---- the closed gate after the last group
 
 -- in each image of a disk that is durable
-pub closed_behind : (gate k : ℕ) (piece old mid new c : List ℕ) → gate + length piece + 2 ≤ length old → mid ≡ put (gate + 1) (piece ++ 0 ∷ []) old → new ≡ put gate (1 ∷ []) mid → c ≡ new → k ≡ gate + 1 + length piece → get_or c k 0 ≢ 1
-closed_behind gate k piece old mid new c room is_mid is_new is k_is =
+pub closed_after : (gate k : ℕ) (piece old mid new c : List ℕ) → gate + length piece + 2 ≤ length old → mid ≡ put (gate + 1) (piece ++ 0 ∷ []) old → new ≡ put gate (1 ∷ []) mid → c ≡ new → k ≡ gate + 1 + length piece → get_or c k 0 ≢ 1
+closed_after gate k piece old mid new c room is_mid is_new is k_is =
     let all = piece ++ 0 ∷ [] in
     let long : length all ≡ length piece + 1 = length-append piece (0 ∷ []) in
     let whole : c ≡ put gate (1 ∷ all) old = is ∙ is_new ∙ ap (put gate (1 ∷ [])) is_mid ∙ open_whole gate all old (omega (arith, room, long)) in

@@ -14,7 +14,7 @@ use Rattle.spool_slots.specs.Fault.{IsNotBroken}
 abbrev pub with_groups : Segment → List (List Entry) → Segment
 with_groups segment groups = record { ordinal = segment.ordinal; first = segment.first; groups = groups }
 
--- The mark stands at the gate behind some of the segment's groups, and its entry is the next behind theirs.
+-- The mark stands at the gate after some of the segment's groups, and its entry is the next after theirs.
 pub record IsAtGate (segment : Segment) (mark : Mark) : Type 0 where
   pub before : List (List Entry)
   pub behind : List (List Entry)

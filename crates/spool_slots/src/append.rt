@@ -1,5 +1,6 @@
 //! A group of entries added to a slot.
-ghost use Rattle.std.specs.Prelude.{◌≡◌, ◌≢◌, ℕ, ◌+◌, ◌-◌, ◌^◌, ◌<◌, ◌≤◌, List, [], ◌∷◌, ◌++◌, length, slice_index, All, IsErr, OnOk, OnErr, IsErrOf, MatchResult};
+ghost use Rattle.std.specs.Prelude.{◌≡◌, ◌≢◌, ℕ, ◌+◌, ◌-◌, ◌^◌, ◌<◌, ◌≤◌, List, [], ◌∷◌, ◌++◌, length, slice_index, All, IsErr};
+ghost use Rattle.std.specs.Prelude.{OnOk, OnErr, IsErrOf, MatchResult};
 ghost use Rattle.std.specs.Int.{w32, to_be_bytes};
 ghost use Rattle.foundation.specs.Bytes.{put, SameBut};
 ghost use Rattle.event_form.specs.Entry.{IsEntry};
@@ -45,9 +46,12 @@ fn write_entries<D: Disk>(
     ensures calls { Calls (IsErr result) (D.moment disk.old) (D.moment disk.new) }
     ensures took { OnOk result (pen.new.at + pen.new.filled ≡ pen.old.at + pen.old.filled + length (entries_text entries.now)) }
     ensures goes_on { pen.old.at ≤ pen.new.at }
-    ensures written { OnOk result ((start : ℕ) (base done : List ℕ) → D.tells → HasWritten start base done pen.old.at pen.old.filled buffer.old (D.moment disk.old).reads
+    ensures written { OnOk result ((start : ℕ) (base done : List ℕ) → D.tells
+        → HasWritten start base done pen.old.at pen.old.filled buffer.old (D.moment disk.old).reads
         → HasWritten start base (done ++ entries_text entries.now) pen.new.at pen.new.filled buffer.new (D.moment disk.new).reads) }
-    ensures any_moment { D.tells → LeavesOnly (ComesFrom (D.moment disk.old) (SameBut pen.old.at (pen.old.filled + length (entries_text entries.now)))) (D.moment disk.old) (D.moment disk.new) }
+    ensures any_moment { D.tells
+        → LeavesOnly (ComesFrom (D.moment disk.old) (SameBut pen.old.at (pen.old.filled + length (entries_text entries.now))))
+        (D.moment disk.old) (D.moment disk.new) }
 {
     for entry in entries {
         pen.write(disk, buffer, &entry_head(entry))?;
@@ -114,16 +118,20 @@ impl Slot {
 
         // NoRoom comes exactly where the group needs more than there is room, with these numbers and before
         // any call.
-        ensures no_room { MatchResult result (λ _. need_of entries.now ≤ self.old.size - self.old.gate - 1) (CameOf (need_of entries.now) (self.old.size - self.old.gate - 1)) }
+        ensures no_room { MatchResult result (λ _. need_of entries.now ≤ self.old.size - self.old.gate - 1)
+            (CameOf (need_of entries.now) (self.old.size - self.old.gate - 1)) }
         ensures no_call { self.old.size - self.old.gate - 1 < need_of entries.now → disk.new ≡ disk.old }
         ensures calls { Calls (IsErrOf result SlotFault.DiskFault) (D.moment disk.old) (D.moment disk.new) }
 
-        ensures slot { OnOk result (IsSlot self.old.at self.old.size self.old.ordinal self.old.first (self.old.gate + need_of entries.now) (self.old.count + length entries.now) self.new) }
+        ensures slot { OnOk result
+            (IsSlot self.old.at self.old.size self.old.ordinal self.old.first (self.old.gate + need_of entries.now)
+            (self.old.count + length entries.now) self.new) }
         ensures err { OnErr result (self.new ≡ self.old) }
 
         ensures durable { OnOk result (D.tells → IsSettled (D.moment disk.new)) }
-        ensures closed_behind { OnOk result (D.tells → (c : List ℕ) → (D.moment disk.new).image c → slice_index c (self.new.at + self.new.gate) ≢ 1) }
-        ensures known { OnOk result ((segment : Segment) → D.tells → ((c : List ℕ) → (D.moment disk.old).image c → Knows self.old segment c) → Knows self.new (with_group segment entries.now) (D.moment disk.new).reads) }
+        ensures closed_after { OnOk result (D.tells → (c : List ℕ) → (D.moment disk.new).image c → slice_index c (self.new.at + self.new.gate) ≢ 1) }
+        ensures known { OnOk result ((segment : Segment) → D.tells → ((c : List ℕ) → (D.moment disk.old).image c → Knows self.old segment c)
+            → Knows self.new (with_group segment entries.now) (D.moment disk.new).reads) }
         ensures any_moment { (segment : Segment) → D.tells → ((c : List ℕ) → (D.moment disk.old).image c → Knows self.old segment c)
             → LeavesOnly (ComesFrom (D.moment disk.old) (HoldsOldOrNew self.old.at self.old.size segment entries.now)) (D.moment disk.old) (D.moment disk.new) }
     {

@@ -31,7 +31,10 @@ pub(crate) fn length_at<D: Disk>(
     ensures told { D.tells → IsUntouched (D.moment disk.old) (D.moment disk.new) }
     ensures window { OnOk result (D.tells → IsWindow at window.new (D.moment disk.new).reads) }
     ensures inside { IfOk result (λ found. IfSome found (λ n. (29 ≤ n) × (n ≤ 131101) × (from + n ≤ end))) }
-    ensures found { IfOk result (λ found. D.tells → MatchOption found (BeginsNoEntry (part (at + from) (end - from) (D.moment disk.old).reads)) (HasSize (part (at + from) (end - from) (D.moment disk.old).reads))) }
+    ensures found { IfOk result
+        (λ found. D.tells
+        → MatchOption found (BeginsNoEntry (part (at + from) (end - from) (D.moment disk.old).reads))
+        (HasSize (part (at + from) (end - from) (D.moment disk.old).reads))) }
 {
     let rest = end.saturating_sub(from);
     if rest < HEAD_BYTES as u64 {

@@ -25,7 +25,7 @@ impl From<DiskFault> for SlotFault {
 /// Why a slot was not read.
 #[derive(Clone, Copy, Debug, PartialEq, Eq)]
 pub enum ScanFault {
-    /// At this offset of the device an open gate stands, and behind it no group that ends with its closing
+    /// At this offset of the device an open gate stands, and after it no group that ends with its closing
     /// gate inside the slot and holds exactly its count of entries, at least one.
     NotSpool { at: u64 },
     /// A call of the disk failed.

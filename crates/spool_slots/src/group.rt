@@ -50,7 +50,10 @@ pub(crate) fn head_at<D: Disk>(
     ensures told { D.tells → IsUntouched (D.moment disk.old) (D.moment disk.new) }
     ensures window { OnOk result (D.tells → IsWindow at window.new (D.moment disk.new).reads) }
     ensures inside { IfOk result (λ found. IfSome found (λ head. (0 < head.count) × (gate + group_head + head.size < size))) }
-    ensures found { IfOk result (λ found. D.tells → MatchOption found (BeginsNoGroup (part (at + gate) (size - gate) (D.moment disk.old).reads)) (HasHead (part (at + gate) (size - gate) (D.moment disk.old).reads))) }
+    ensures found { IfOk result
+        (λ found. D.tells
+        → MatchOption found (BeginsNoGroup (part (at + gate) (size - gate) (D.moment disk.old).reads))
+        (HasHead (part (at + gate) (size - gate) (D.moment disk.old).reads))) }
 {
     if size <= GROUP_HEAD as u64 || gate >= size - GROUP_HEAD as u64 {
         return Ok(None);

@@ -27,14 +27,3 @@ pub use mark::Mark;
 pub use part::Part;
 pub use slot::Slot;
 pub use window::Window;
-
-#[cfg(test)]
-mod call_tests;
-#[cfg(test)]
-mod counting_disk;
-#[cfg(test)]
-mod read_tests;
-#[cfg(test)]
-mod test_slots;
-#[cfg(test)]
-mod tests;

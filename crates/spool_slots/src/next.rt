@@ -50,7 +50,8 @@ pub(crate) fn group_at<D: Disk>(
     ensures window { OnOk result (D.tells → IsWindow at window.new (D.moment disk.new).reads) }
     ensures inside { IfOk result (λ head. (0 < head.count) × (mark.at + group_head + head.size < size)) }
     ensures broken { IfErr result (λ fault. D.tells → IsPartFault (at + size) (D.moment disk.old).reads fault) }
-    ensures group { (segment : Segment) → D.tells → HoldsSegment at size segment (D.moment disk.old).reads → All IsGroup segment.groups → IsMark segment mark → mark.rest ≡ 0 → mark.number < segment.first + length (entries_of segment) → FindsGroup segment mark result }
+    ensures group { (segment : Segment) → D.tells → HoldsSegment at size segment (D.moment disk.old).reads → All IsGroup segment.groups
+        → IsMark segment mark → mark.rest ≡ 0 → mark.number < segment.first + length (entries_of segment) → FindsGroup segment mark result }
 {
     match head_at(window, disk, at, size, mark.at)? {
         Some(head) => Ok(head),
@@ -75,7 +76,8 @@ fn enter<D: Disk>(
     ensures window { OnOk result (D.tells → IsWindow at window.new (D.moment disk.new).reads) }
     ensures some { IfOk result (λ entered. (0 < entered.rest) × (entered.number ≡ mark.number)) }
     ensures broken { IfErr result (λ fault. D.tells → IsPartFault (at + size) (D.moment disk.old).reads fault) }
-    ensures entered { (segment : Segment) → D.tells → HoldsSegment at size segment (D.moment disk.old).reads → All IsGroup segment.groups → IsMark segment mark → mark.number < segment.first + length (entries_of segment) → IsEntered segment mark result }
+    ensures entered { (segment : Segment) → D.tells → HoldsSegment at size segment (D.moment disk.old).reads → All IsGroup segment.groups
+        → IsMark segment mark → mark.number < segment.first + length (entries_of segment) → IsEntered segment mark result }
 {
     if mark.rest != 0 {
         return Ok(mark);
@@ -139,7 +141,8 @@ pub(crate) fn next_entry<D: Disk>(
     ensures number { IfOk result (λ next. next.1.number ≡ mark.number + 1) }
     ensures limits { IfOk result (λ next. IsEntry next.0) }
     ensures broken { IfErr result (λ fault. D.tells → IsPartFault (at + size) (D.moment disk.old).reads fault) }
-    ensures next { (segment : Segment) → D.tells → HoldsSegment at size segment (D.moment disk.old).reads → All IsGroup segment.groups → IsMark segment mark → mark.number < segment.first + length (entries_of segment) → IsNextOf segment mark result }
+    ensures next { (segment : Segment) → D.tells → HoldsSegment at size segment (D.moment disk.old).reads → All IsGroup segment.groups
+        → IsMark segment mark → mark.number < segment.first + length (entries_of segment) → IsNextOf segment mark result }
 {
     let entered = enter(window, disk, at, size, mark)?;
     let Took { entry, used } = read_from(window, disk, alloc, at, size, entered.at)?;

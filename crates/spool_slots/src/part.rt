@@ -68,7 +68,8 @@ impl Slot {
         // NotSpool comes only where a group or an entry should begin and none does, with that place.
         ensures broken { IfErr result (λ fault. D.tells → IsPartFault (self.now.at + (self.now.gate + 1)) (D.moment disk.old).reads fault) }
         // Of a segment that the slot knows it gives these entries, and never says NotSpool.
-        ensures part { (segment : Segment) → D.tells → Knows self.now segment (D.moment disk.old).reads → IsMark segment mark → IsPartOf segment mark most result }
+        ensures part { (segment : Segment) → D.tells → Knows self.now segment (D.moment disk.old).reads → IsMark segment mark
+            → IsPartOf segment mark most result }
     {
         let left = (self.first + self.count).saturating_sub(mark.number);
         let wanted = u64::from(most).min(left);

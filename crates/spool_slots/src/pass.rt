@@ -35,7 +35,8 @@ fn pass_entry<D: Disk>(
     ensures window { OnOk result (D.tells → IsWindow at window.new (D.moment disk.new).reads) }
     ensures number { IfOk result (λ passed. passed.number ≡ mark.number + 1) }
     ensures broken { IfErr result (λ fault. D.tells → IsPartFault (at + size) (D.moment disk.old).reads fault) }
-    ensures passed { (segment : Segment) → D.tells → HoldsSegment at size segment (D.moment disk.old).reads → All IsGroup segment.groups → IsInGroup segment mark → IsPassed segment result }
+    ensures passed { (segment : Segment) → D.tells → HoldsSegment at size segment (D.moment disk.old).reads → All IsGroup segment.groups
+        → IsInGroup segment mark → IsPassed segment result }
 {
     match length_at(window, disk, at, size, mark.at, size)? {
         Some(length) => Ok(Mark {
@@ -68,7 +69,8 @@ fn pass_some<D: Disk>(
     ensures window { OnOk result (D.tells → IsWindow at window.new (D.moment disk.new).reads) }
     ensures number { IfOk result (λ passed. (mark.number < passed.number) × (passed.number ≤ number)) }
     ensures broken { IfErr result (λ fault. D.tells → IsPartFault (at + size) (D.moment disk.old).reads fault) }
-    ensures passed { (segment : Segment) → D.tells → HoldsSegment at size segment (D.moment disk.old).reads → All IsGroup segment.groups → IsMark segment mark → number ≤ segment.first + length (entries_of segment) → IsPassed segment result }
+    ensures passed { (segment : Segment) → D.tells → HoldsSegment at size segment (D.moment disk.old).reads → All IsGroup segment.groups
+        → IsMark segment mark → number ≤ segment.first + length (entries_of segment) → IsPassed segment result }
 {
     if mark.rest != 0 {
         return pass_entry(window, disk, at, size, mark);

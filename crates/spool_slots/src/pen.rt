@@ -38,9 +38,13 @@ impl Pen {
         ensures calls { Calls (IsErr result) (D.moment disk.old) (D.moment disk.new) }
         ensures goes_on { self.old.at ≤ self.new.at }
         ensures took { IfOk result (λ n. (0 < n) × (n ≤ length text.now) × (self.new.at + self.new.filled ≡ self.old.at + self.old.filled + n)) }
-        ensures written { IfOk result (λ n. (start : ℕ) (base done : List ℕ) → D.tells → HasWritten start base done self.old.at self.old.filled buffer.old (D.moment disk.old).reads
+        ensures written { IfOk result
+            (λ n. (start : ℕ) (base done : List ℕ) → D.tells
+            → HasWritten start base done self.old.at self.old.filled buffer.old (D.moment disk.old).reads
             → HasWritten start base (done ++ take n text.now) self.new.at self.new.filled buffer.new (D.moment disk.new).reads) }
-        ensures any_moment { D.tells → LeavesOnly (ComesFrom (D.moment disk.old) (SameBut self.old.at (self.old.filled + length text.now))) (D.moment disk.old) (D.moment disk.new) }
+        ensures any_moment { D.tells
+            → LeavesOnly (ComesFrom (D.moment disk.old) (SameBut self.old.at (self.old.filled + length text.now)))
+            (D.moment disk.old) (D.moment disk.new) }
     {
         let n = text.len().min(PIECE - self.filled);
         overwrite(buffer, self.filled, &text[..n]);
@@ -67,9 +71,12 @@ impl Pen {
         ensures calls { Calls (IsErr result) (D.moment disk.old) (D.moment disk.new) }
         ensures took { OnOk result (self.new.at + self.new.filled ≡ self.old.at + self.old.filled + length text.now) }
         ensures goes_on { self.old.at ≤ self.new.at }
-        ensures written { OnOk result ((start : ℕ) (base done : List ℕ) → D.tells → HasWritten start base done self.old.at self.old.filled buffer.old (D.moment disk.old).reads
+        ensures written { OnOk result ((start : ℕ) (base done : List ℕ) → D.tells
+            → HasWritten start base done self.old.at self.old.filled buffer.old (D.moment disk.old).reads
             → HasWritten start base (done ++ text.now) self.new.at self.new.filled buffer.new (D.moment disk.new).reads) }
-        ensures any_moment { D.tells → LeavesOnly (ComesFrom (D.moment disk.old) (SameBut self.old.at (self.old.filled + length text.now))) (D.moment disk.old) (D.moment disk.new) }
+        ensures any_moment { D.tells
+            → LeavesOnly (ComesFrom (D.moment disk.old) (SameBut self.old.at (self.old.filled + length text.now)))
+            (D.moment disk.old) (D.moment disk.new) }
     {
         let mut rest = text;
         while !rest.is_empty() {
@@ -86,7 +93,8 @@ impl Pen {
         requires room { self.at + self.filled ≤ (D.moment disk.old).size }
 
         ensures calls { Calls (IsErr result) (D.moment disk.old) (D.moment disk.new) }
-        ensures written { OnOk result ((start : ℕ) (base done : List ℕ) → D.tells → HasWritten start base done self.at self.filled buffer.now (D.moment disk.old).reads
+        ensures written { OnOk result ((start : ℕ) (base done : List ℕ) → D.tells
+            → HasWritten start base done self.at self.filled buffer.now (D.moment disk.old).reads
             → (D.moment disk.new).reads ≡ put start done base) }
         ensures any_moment { D.tells → LeavesOnly (ComesFrom (D.moment disk.old) (SameBut self.at self.filled)) (D.moment disk.old) (D.moment disk.new) }
     {

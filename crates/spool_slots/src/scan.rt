@@ -28,7 +28,10 @@ fn read_head<D: Disk>(disk: &mut D, at: u64) -> Result<Option<SlotHead>, DiskFau
 
     ensures calls { Calls (IsErr result) (D.moment disk.old) (D.moment disk.new) }
     ensures told { D.tells → IsUntouched (D.moment disk.old) (D.moment disk.new) }
-    ensures found { IfOk result (λ found. D.tells → MatchOption found (slice_index (D.moment disk.old).reads at ≢ 1) (λ head. part at slot_head (D.moment disk.old).reads ≡ head_text head.ordinal head.first)) }
+    ensures found { IfOk result
+        (λ found. D.tells
+        → MatchOption found (slice_index (D.moment disk.old).reads at ≢ 1)
+        (λ head. part at slot_head (D.moment disk.old).reads ≡ head_text head.ordinal head.first)) }
 {
     let mut head = [0; SLOT_HEAD];
     disk.read_at(at, &mut head)?;
@@ -64,11 +67,13 @@ impl Slot {
 
         ensures slot { IfOk result (λ found. IfSome found (λ slot. (slot.at ≡ at) × (slot.size ≡ size))) }
         // Nothing comes exactly where the slot's gate isn't open.
-        ensures found { IfOk result (λ found. D.tells → MatchOption found (slice_index (D.moment disk.old).reads at ≢ 1) (λ slot. KnowsSome slot (D.moment disk.old).reads)) }
+        ensures found { IfOk result
+            (λ found. D.tells → MatchOption found (slice_index (D.moment disk.old).reads at ≢ 1) (λ slot. KnowsSome slot (D.moment disk.old).reads)) }
         // NotSpool comes only where the slot breaks the rule of its groups, with the place.
         ensures broken { IfErr result (λ fault. D.tells → IsScanFault at size (D.moment disk.old).reads fault) }
         // Of a slot that holds a segment it knows that one, and never says NotSpool.
-        ensures known { (segment : Segment) → D.tells → HoldsSegment at size segment (D.moment disk.old).reads → All IsGroup segment.groups → segment.ordinal < 2 ^ 64 → segment.first < 2 ^ 64
+        ensures known { (segment : Segment) → D.tells → HoldsSegment at size segment (D.moment disk.old).reads → All IsGroup segment.groups
+            → segment.ordinal < 2 ^ 64 → segment.first < 2 ^ 64
             → IsScanOf segment (D.moment disk.old).reads result }
     {
         let Some(head) = read_head(disk, at)? else {

@@ -65,7 +65,9 @@ impl Slot {
         ensures durable { OnOk result (D.tells → IsSettled (D.moment disk.new)) }
         ensures closed { IfOk result (λ slot. D.tells → (c : List ℕ) → (D.moment disk.new).image c → slice_index c (slot.at + slot.gate) ≢ 1) }
         ensures known { IfOk result (λ slot. D.tells → Knows slot (empty_segment ordinal first) (D.moment disk.new).reads) }
-        ensures any_moment { D.tells → LeavesOnly (ComesFrom (D.moment disk.old) (IsClosedOrHolds at size (empty_segment ordinal first))) (D.moment disk.old) (D.moment disk.new) }
+        ensures any_moment { D.tells
+            → LeavesOnly (ComesFrom (D.moment disk.old) (IsClosedOrHolds at size (empty_segment ordinal first)))
+            (D.moment disk.old) (D.moment disk.new) }
     {
         write_behind(disk, at, &head(ordinal, first))?;
         Ok(Slot {

@@ -1,11 +1,36 @@
-//! Tests of `spool_log`: against a model of its slots, and of what it gives back, compared whole.
-//! They stand in a crate of their own, since the gate proves a crate with tests twice, with and
-//! without them.
+//! Tests of the spool's crates: `disk_cell`'s register, `spool_slots`' groups, `spool_log` and `desk_access`. Of
+//! `spool_log` they are scripts of calls with what each answers and what then stands on the device, and a
+//! model of the slots. They stand in a crate of their own, since the gate proves a crate with tests twice,
+//! with and without them; and in one, since each crate of tests costs the gate as much as some ten functions.
 #![tactic(auto)]
 
 #[cfg(test)]
-mod contents;
+mod calls;
+#[cfg(test)]
+mod desk;
+#[cfg(test)]
+mod devices;
 #[cfg(test)]
 mod free_slot;
 #[cfg(test)]
+mod groups;
+#[cfg(test)]
+mod known;
+#[cfg(test)]
 mod made;
+#[cfg(test)]
+mod many;
+#[cfg(test)]
+mod openings;
+#[cfg(test)]
+mod play;
+#[cfg(test)]
+mod script;
+#[cfg(test)]
+mod slots;
+#[cfg(test)]
+mod stops;
+#[cfg(test)]
+mod tests;
+#[cfg(test)]
+mod words;

@@ -17,7 +17,7 @@ pub(crate) struct Kind {
     pub first_byte: u8,
 }
 
-pub(crate) const RELP: Kind = Kind {
+const RELP: Kind = Kind {
     conn: 4_294_967_296,
     index: 0,
     unit: 2,
@@ -25,7 +25,7 @@ pub(crate) const RELP: Kind = Kind {
     first_byte: 97,
 };
 
-pub(crate) const JSON: Kind = Kind {
+const JSON: Kind = Kind {
     conn: 4_294_967_297,
     index: 7,
     unit: 3,
@@ -33,7 +33,7 @@ pub(crate) const JSON: Kind = Kind {
     first_byte: 48,
 };
 
-pub(crate) const HEC: Kind = Kind {
+const HEC: Kind = Kind {
     conn: 18_446_744_073_709_551_615,
     index: 4_294_967_299,
     unit: 4_294_967_296,
@@ -41,7 +41,7 @@ pub(crate) const HEC: Kind = Kind {
     first_byte: 0,
 };
 
-pub(crate) const RAW: Kind = Kind {
+const RAW: Kind = Kind {
     conn: 1,
     index: 2,
     unit: 9_223_372_036_854_775_808,
@@ -83,4 +83,46 @@ pub(crate) fn entry_of(alloc: Global, kind: Kind, len: usize) -> Result<Entry, F
             text,
         },
     })
+}
+
+/// The kind that a script names so.
+pub(crate) fn kind_of(name: &str) -> Result<Kind, Fail> {
+    if name == "relp" {
+        Ok(RELP)
+    } else if name == "json" {
+        Ok(JSON)
+    } else if name == "hec" {
+        Ok(HEC)
+    } else if name == "raw" {
+        Ok(RAW)
+    } else {
+        Err("no such kind".into())
+    }
+}
+
+// Whether the entry is the one of this kind with a text of that length, in all that it has.
+fn is_of(alloc: Global, entry: &Entry, kind: Kind) -> Result<bool, Fail> {
+    let want = entry_of(alloc, kind, entry.event.text.bytes().len())?;
+    let same = (entry.conn, entry.index, entry.unit) == (want.conn, want.index, want.unit);
+    Ok(
+        same && entry.event.origin == want.event.origin
+            && entry.event.text.bytes() == want.event.text.bytes(),
+    )
+}
+
+/// The name of the entry's kind, or `another` where it is none of these.
+pub(crate) fn name_of(alloc: Global, entry: &Entry) -> Result<&'static str, Fail> {
+    if is_of(alloc, entry, RELP)? {
+        return Ok("relp");
+    }
+    if is_of(alloc, entry, JSON)? {
+        return Ok("json");
+    }
+    if is_of(alloc, entry, HEC)? {
+        return Ok("hec");
+    }
+    if is_of(alloc, entry, RAW)? {
+        return Ok("raw");
+    }
+    Ok("another")
 }

@@ -43,11 +43,11 @@ module _ (s : SpoolState) (place : ℕ) (head : Head) (next : IsNext s place hea
     begin_moments =
         weaker _ (λ c. StandsFor s c ⊎ StandsFor (begun s place) c) m new run_settled (λ c h. let at = step c h in beginning_stands s place m.reads c stands next.closed at.outside next.some at.inside)
 
-    -- where nothing was done behind them
+    -- where nothing was done after them
     pub begin_alone : (group : List Entry) → LeavesOnly (StandsForOne s (begin_stages s place group)) m new
     begin_alone group = weaker _ (StandsForOne s (begin_stages s place group)) m new begin_moments (λ c h. elim h [ inl here ↦ inl here | inr there ↦ inr (inl there) ])
 
-    -- where the group was added behind them
+    -- where the group was added after them
     pub begin_then : (group : List Entry) (last : Moment) → LeavesOnly (StandsForOne (begun s place) (added (begun s place) group ∷ [])) new last → LeavesOnly (StandsForOne s (begin_stages s place group)) m last
     begin_then group last later = both _ _ (StandsForOne s (begin_stages s place group)) m new last begin_moments later (λ c h. elim h [ inl here ↦ inl here | inr there ↦ inr (inl there) ]) (λ c h. inr h)
 

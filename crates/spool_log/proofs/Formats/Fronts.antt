@@ -1,4 +1,4 @@
--- Writes behind the first bytes of a device.
+-- Writes after the first bytes of a device.
 use Rattle.std.proofs.Common.{◌≡◌, ◌≢◌, inl, inr, ℕ, ◌+◌, ◌<◌, ◌≤◌, List, [], ◌∷◌, ◌++◌, length, get_or, refl, sym, ◌∙◌, ap, arith}
 use Rattle.std.specs.Int.{to_be_bytes}
 use mir.Syntax.{w32, w64}
@@ -25,7 +25,7 @@ keeps_then n a b c p q = record { len = q.len ∙ p.len; front = λ i lt. q.fron
 pub keeps_less : (n k : ℕ) (a b : List ℕ) → k ≤ n → KeepsFront n a b → KeepsFront k a b
 keeps_less n k a b le p = record { len = p.len; front = λ i lt. p.front i (omega arith) }
 
--- a change behind them
+-- a change after them
 pub keeps_change : (n at m : ℕ) (a b : List ℕ) → n ≤ at → SameBut at m a b → KeepsFront n a b
 keeps_change n at m a b le same = record { len = same.len; front = λ i lt. same.below i (omega arith) }
 
@@ -46,7 +46,7 @@ come_start m lawful = started (P m) m lawful (λ c i. (c, i, keeps_refl 8 c))
 pub come_more : (m mid new : Moment) (at n : ℕ) → 8 ≤ at → LeavesOnly (P m) m mid → IsTorn at n mid new → LeavesOnly (P m) m new
 come_more m mid new at n le run write = torn_more (P m) m mid new at n run write (λ d c from same. (from.0, from.1, keeps_then 8 from.0 d c from.2 (keeps_change 8 at n d c le same)))
 
--- other writes behind some
+-- other writes after some
 pub come_then : (m mid new : Moment) → LeavesOnly (P m) m mid → LeavesOnly (P mid) mid new → LeavesOnly (P m) m new
 come_then m mid new first second = both (P m) (P mid) (P m) m mid new first second (λ c p. p) (λ c from.
     let before = first.now from.0 from.1 in (before.0, before.1, keeps_then 8 before.0 from.0 c before.2 from.2))
@@ -77,7 +77,7 @@ front_written slots size b numbers cell head room numbers_is cell_is head_is ln 
       slot = part_put 12288 18 head three (omega arith) (sym lh) ∙ head_is;
     }
 
--- and the other slots closed behind them
+-- and the other slots closed after them
 pub front_kept : (slots size : ℕ) (a b : List ℕ) → 16384 ≤ length a → 4096 ≤ size → KeepsFront (slot_at size 1) a b → slot_at size 1 ≤ length a → IsFront slots size a → IsFront slots size b
 front_kept slots size a b room large keeps fits front = record {
   numbers = kept_part (slot_at size 1) 8 12 a b keeps (omega arith) fits ∙ front.numbers;

@@ -18,7 +18,7 @@ same_or_not (x ∷ xs) (y ∷ ys) = elim (cases_eq x y) [
   | inr off ↦ inr (λ is. off (cc is))
 ]
 
--- bytes that begin with the magic, and are as others behind it
+-- bytes that begin with the magic, and are as others after it
 with_name : (old c : List ℕ) → 8 ≤ length old → SameBut 0 8 old c → part 0 8 c ≡ magic → c ≡ put 0 magic old
 with_name old c room same name =
     let long : length (put 0 magic old) ≡ length old = length-put 0 magic old (omega arith) in

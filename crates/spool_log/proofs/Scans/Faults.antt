@@ -15,7 +15,7 @@ pub if_err : {T E : Type 0} (r : Result T E) (P : E → Type 0) (e : E) → IsEr
 if_err (Ok v) P e is h = tt
 if_err (Err x) P e is h = subst P (sym is) h
 
--- a slot that breaks the rule of its groups behind others that don't
+-- a slot that breaks the rule of its groups after others that don't
 pub slots_fault : (slots size place : ℕ) (items : List Slot) (c : List ℕ) (fault : ScanFault) → place < slots → KnowsOpened place size items c → IsScanFault (slot_at size place) size c fault → IsSlotsFault slots size c (of_scan fault)
 slots_fault slots size place items c (Scan.NotSpool at) lt known breaks = first_breaks size place items c known slots at lt breaks
 slots_fault slots size place items c Scan.DiskFault lt known breaks = tt

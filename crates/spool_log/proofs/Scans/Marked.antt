@@ -17,7 +17,7 @@ among_none (slot ∷ slots) = (tt, among_none slots)
 pub marked_none : (older : List OpenSlot) (active : OpenSlot) → IsMarked older active None
 marked_none older active = record { older_marked = among_none older; active_marked = tt; upto = tt }
 
--- where a group comes behind
+-- where a group comes after it
 pub marked_group : (older : List OpenSlot) (active : OpenSlot) (group : List Entry) (bookmark : Option Bookmark) → IsMarked older active bookmark → IsMarked older (slot_with active group) bookmark
 marked_group older active group None h = record { older_marked = h.older_marked; active_marked = tt; upto = tt }
 marked_group older active group (Some bookmark) h = record {

@@ -41,7 +41,7 @@ all_inserted P xs k y all =
       All-head P y (drop k xs) split.1,
     )
 
--- ---- one slot more, behind those with at most its ordinal
+-- ---- one slot more, after those with at most its ordinal
 
 module _ (size : ℕ) (new : OpenSlot) (slot : Slot) (knows : KnowsSlot size new slot) where
   abbrev upto : Slot → Bool

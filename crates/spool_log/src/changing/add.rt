@@ -60,8 +60,10 @@ impl Memory {
         ensures numbered { OnOk result (end_of self.new ≡ end_of self.old + length entries.now) }
         ensures err { OnErr result (self.new ≡ self.old) }
         ensures durable { OnOk result (D.tells → IsSettled (D.moment disk.new)) }
-        ensures stored { OnOk result ((s : SpoolState) → D.tells → IsStored s self.old (D.moment disk.old).reads → IsStored (added s entries.now) self.new (D.moment disk.new).reads) }
-        ensures any_moment { (s : SpoolState) → D.tells → IsStored s self.old (D.moment disk.old).reads → LeavesOnly (StandsForOne s (added s entries.now ∷ [])) (D.moment disk.old) (D.moment disk.new) }
+        ensures stored { OnOk result ((s : SpoolState) → D.tells → IsStored s self.old (D.moment disk.old).reads
+            → IsStored (added s entries.now) self.new (D.moment disk.new).reads) }
+        ensures any_moment { (s : SpoolState) → D.tells → IsStored s self.old (D.moment disk.old).reads
+            → LeavesOnly (StandsForOne s (added s entries.now ∷ [])) (D.moment disk.old) (D.moment disk.new) }
     {
         match self.active.append_entries(disk, entries, buffer) {
             Ok(()) => Ok(()),
@@ -96,8 +98,10 @@ impl Memory {
         ensures numbered { OnOk result (end_of self.new ≡ end_of self.old + length entries.now) }
         ensures err { OnErr result (self.new ≡ self.old) }
         ensures durable { OnOk result (D.tells → IsSettled (D.moment disk.new)) }
-        ensures stored { OnOk result ((s : SpoolState) → D.tells → IsStored s self.old (D.moment disk.old).reads → IsStored (added (begun s place) entries.now) self.new (D.moment disk.new).reads) }
-        ensures any_moment { (s : SpoolState) → D.tells → IsStored s self.old (D.moment disk.old).reads → LeavesOnly (StandsForOne s (begin_stages s place entries.now)) (D.moment disk.old) (D.moment disk.new) }
+        ensures stored { OnOk result ((s : SpoolState) → D.tells → IsStored s self.old (D.moment disk.old).reads
+            → IsStored (added (begun s place) entries.now) self.new (D.moment disk.new).reads) }
+        ensures any_moment { (s : SpoolState) → D.tells → IsStored s self.old (D.moment disk.old).reads
+            → LeavesOnly (StandsForOne s (begin_stages s place entries.now)) (D.moment disk.old) (D.moment disk.new) }
     {
         let head = self.next_at(12_288 + u64::from(place) * self.size);
         let slot = begin_with(disk, head, entries, buffer)?;
@@ -131,8 +135,10 @@ impl Memory {
         ensures numbered { OnOk result (end_of self.new ≡ end_of self.old + length entries.now) }
         ensures err { OnErr result (self.new ≡ self.old) }
         ensures durable { OnOk result (D.tells → IsSettled (D.moment disk.new)) }
-        ensures stored { OnOk result ((s : SpoolState) → D.tells → IsStored s self.old (D.moment disk.old).reads → IsStored (last_of s (replace_stages s s.older entries.now)) self.new (D.moment disk.new).reads) }
-        ensures any_moment { (s : SpoolState) → D.tells → IsStored s self.old (D.moment disk.old).reads → LeavesOnly (StandsForOne s (replace_stages s s.older entries.now)) (D.moment disk.old) (D.moment disk.new) }
+        ensures stored { OnOk result ((s : SpoolState) → D.tells → IsStored s self.old (D.moment disk.old).reads
+            → IsStored (last_of s (replace_stages s s.older entries.now)) self.new (D.moment disk.new).reads) }
+        ensures any_moment { (s : SpoolState) → D.tells → IsStored s self.old (D.moment disk.old).reads
+            → LeavesOnly (StandsForOne s (replace_stages s s.older entries.now)) (D.moment disk.old) (D.moment disk.new) }
     {
         let first = self.older[0];
         first.shut(disk)?;
@@ -185,8 +191,10 @@ impl Memory {
         ensures numbered { OnOk result (end_of self.new ≡ end_of self.old + length entries.now) }
         ensures err { OnErr result (self.new ≡ self.old) }
         ensures durable { OnOk result (D.tells → IsSettled (D.moment disk.new)) }
-        ensures stored { OnOk result ((s : SpoolState) → D.tells → IsStored s self.old (D.moment disk.old).reads → IsStored (last_of s (stages_at target s entries.now)) self.new (D.moment disk.new).reads) }
-        ensures any_moment { (s : SpoolState) → D.tells → IsStored s self.old (D.moment disk.old).reads → LeavesOnly (StandsForOne s (stages_at target s entries.now)) (D.moment disk.old) (D.moment disk.new) }
+        ensures stored { OnOk result ((s : SpoolState) → D.tells → IsStored s self.old (D.moment disk.old).reads
+            → IsStored (last_of s (stages_at target s entries.now)) self.new (D.moment disk.new).reads) }
+        ensures any_moment { (s : SpoolState) → D.tells → IsStored s self.old (D.moment disk.old).reads
+            → LeavesOnly (StandsForOne s (stages_at target s entries.now)) (D.moment disk.old) (D.moment disk.new) }
     {
         match target {
             Target::Active => self.append(disk, entries, buffer),

@@ -50,9 +50,12 @@ pub(crate) fn begin_with<D: Disk>(
     ensures durable { OnOk result (D.tells → IsSettled (D.moment disk.new)) }
     ensures outside { OnOk result (D.tells → SameBut head.at head.size (D.moment disk.old).reads (D.moment disk.new).reads) }
 
-    ensures stands { IfOk result (λ slot. (s : SpoolState) (place : ℕ) → D.tells → StandsFor s (D.moment disk.old).reads → IsNext s place head → end s + length entries.now ≤ most_number
+    ensures stands { IfOk result
+        (λ slot. (s : SpoolState) (place : ℕ) → D.tells → StandsFor s (D.moment disk.old).reads → IsNext s place head
+        → end s + length entries.now ≤ most_number
         → StandsFor (added (begun s place) entries.now) (D.moment disk.new).reads × KnowsSlot s.size (added (begun s place) entries.now).active slot) }
-    ensures any_moment { (s : SpoolState) (place : ℕ) → D.tells → StandsFor s (D.moment disk.old).reads → IsNext s place head → end s + length entries.now ≤ most_number
+    ensures any_moment { (s : SpoolState) (place : ℕ) → D.tells → StandsFor s (D.moment disk.old).reads → IsNext s place head
+        → end s + length entries.now ≤ most_number
         → LeavesOnly (StandsForOne s (begin_stages s place entries.now)) (D.moment disk.old) (D.moment disk.new) }
 {
     let mut slot = Slot::begin(disk, head.at, head.size, head.ordinal, head.first)?;

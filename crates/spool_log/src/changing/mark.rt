@@ -58,8 +58,11 @@ impl<D: Disk> Spool<D> {
         ensures answered { IfErr result IsAnswered }
         ensures worn { IfErr result (WornBy self.new.memory) }
         ensures calls { Calls (IsErrOf result ConfirmFault.DiskFault) (D.moment self.old.disk) (D.moment self.new.disk) }
-        ensures marked { (s : SpoolState) (more : List TheStretch) → D.tells → IsIn s [] (view self.old.memory self.old.doubt (D.moment self.old.disk)) → All (EndsBy (end s)) more → self.old.numbers ≡ marked (numbers_of self.old.memory) more
-            → MarksTo s more result (view self.old.memory self.old.doubt (D.moment self.old.disk)) (view self.new.memory self.new.doubt (D.moment self.new.disk)) }
+        ensures marked { (s : SpoolState) (more : List TheStretch) → D.tells
+            → IsIn s [] (view self.old.memory self.old.doubt (D.moment self.old.disk)) → All (EndsBy (end s)) more
+            → self.old.numbers ≡ marked (numbers_of self.old.memory) more
+            → MarksTo s more result (view self.old.memory self.old.doubt (D.moment self.old.disk))
+            (view self.new.memory self.new.doubt (D.moment self.new.disk)) }
     {
         let run = self.run();
         self.doubt = true;
@@ -95,7 +98,8 @@ impl<D: Disk> Spool<D> {
         ensures worn { IfErr result (WornBy self.new.memory) }
         ensures calls { Calls (IsErrOf result ConfirmFault.DiskFault) (D.moment self.old.disk) (D.moment self.new.disk) }
         ensures marked { (s : SpoolState) (doubt : List SpoolState) → D.tells → IsIn s doubt (view self.old.memory self.old.doubt (D.moment self.old.disk))
-            → MarksFrom s doubt known.now result (view self.old.memory self.old.doubt (D.moment self.old.disk)) (view self.new.memory self.new.doubt (D.moment self.new.disk)) }
+            → MarksFrom s doubt known.now result (view self.old.memory self.old.doubt (D.moment self.old.disk))
+            (view self.new.memory self.new.doubt (D.moment self.new.disk)) }
     {
         self.mend()?;
         // Mending doesn't lower the end. With a known number above the end a device would be no spool.
@@ -117,7 +121,8 @@ impl<D: Disk> Spool<D> {
         ensures worn { IfErr result (WornBy self.new.memory) }
         ensures calls { Calls (IsErrOf result ConfirmFault.DiskFault) (D.moment self.old.disk) (D.moment self.new.disk) }
         ensures confirmed { (s : SpoolState) (doubt : List SpoolState) → D.tells → IsIn s doubt (view self.old.memory self.old.doubt (D.moment self.old.disk))
-            → MarksFrom s doubt (all_below upto) result (view self.old.memory self.old.doubt (D.moment self.old.disk)) (view self.new.memory self.new.doubt (D.moment self.new.disk)) }
+            → MarksFrom s doubt (all_below upto) result (view self.old.memory self.old.doubt (D.moment self.old.disk))
+            (view self.new.memory self.new.doubt (D.moment self.new.disk)) }
     {
         self.mark(&[Stretch { from: 0, to: upto }])
     }

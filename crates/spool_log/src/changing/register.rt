@@ -39,7 +39,8 @@ impl Memory {
         ensures unchanged { self.old.register.ordinal ≡ most_number → disk.new ≡ disk.old }
         ensures err { OnErr result (self.new ≡ self.old) }
         ensures durable { OnOk result (D.tells → IsSettled (D.moment disk.new)) }
-        ensures stored { OnOk result ((s : SpoolState) → D.tells → IsStored s self.old (D.moment disk.old).reads → IsStored (registered s run numbers.now.cursor numbers.now.stretches) self.new (D.moment disk.new).reads) }
+        ensures stored { OnOk result ((s : SpoolState) → D.tells → IsStored s self.old (D.moment disk.old).reads
+            → IsStored (registered s run numbers.now.cursor numbers.now.stretches) self.new (D.moment disk.new).reads) }
         ensures any_moment { (s : SpoolState) → D.tells → IsStored s self.old (D.moment disk.old).reads
             → LeavesOnly (StandsForOne s (registered s run numbers.now.cursor numbers.now.stretches ∷ [])) (D.moment disk.old) (D.moment disk.new) }
     {

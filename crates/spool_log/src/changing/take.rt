@@ -1,5 +1,6 @@
 //! Entries taken.
-ghost use Rattle.std.specs.Prelude.{◌≡◌, ◌≢◌, ℕ, ◌+◌, ◌-◌, ◌^◌, ◌<◌, ◌≤◌, List, [], length, All, false, true, Ok, IfOk, OnOk, IfErr, OnErr, IsErrOf, MatchResult, IsErr};
+ghost use Rattle.std.specs.Prelude.{◌≡◌, ◌≢◌, ℕ, ◌+◌, ◌-◌, ◌^◌, ◌<◌, ◌≤◌, List, [], length, All, false, true, Ok, IfOk, OnOk, IfErr};
+ghost use Rattle.std.specs.Prelude.{OnErr, IsErrOf, MatchResult, IsErr};
 ghost use Rattle.event_form.specs.Entry.{IsEntry};
 ghost use Rattle.spool_state.specs.Segment.{need_of};
 ghost use Rattle.spool_state.specs.Layout.{most_number};
@@ -30,9 +31,12 @@ impl Memory {
 
         ensures refusal { IfErr result IsRefusal }
         ensures refused { IfErr result (RefusedBy self.now entries.now) }
-        ensures fits { MatchResult result (λ target. (need_of entries.now ≤ most_of self.now) × (end_of self.now + length entries.now ≤ most_number) × Suits self.now (need_of entries.now) target) (λ _. ℕ) }
+        ensures fits { MatchResult result
+            (λ target. (need_of entries.now ≤ most_of self.now) × (end_of self.now + length entries.now ≤ most_number)
+            × Suits self.now (need_of entries.now) target) (λ _. ℕ) }
         ensures answers { (s : SpoolState) → Knows s self.now → IsSound s
-            → MatchResult result (λ target. Fits s entries.now × (group_stages s entries.now ≡ stages_at target s entries.now) × IsFreeIn target s) (λ fault. Takes s entries.now (Err fault)) }
+            → MatchResult result (λ target. Fits s entries.now × (group_stages s entries.now ≡ stages_at target s entries.now) × IsFreeIn target s)
+            (λ fault. Takes s entries.now (Err fault)) }
     {
         let need = group_need(entries);
         let most = self.size - 18;
@@ -72,8 +76,10 @@ impl<D: Disk> Spool<D> {
 
         ensures calls { Calls (IsErr result) (D.moment self.old.disk) (D.moment self.new.disk) }
         ensures numbered { OnOk result (end_of self.new.memory ≡ end_of self.old.memory + length entries.now) }
-        ensures changes { (s : SpoolState) → D.tells → IsIn s [] (view self.old.memory self.old.doubt (D.moment self.old.disk)) → AllFollow s (stages_at target s entries.now) → 0 < length (stages_at target s entries.now)
-            → Changes s (stages_at target s entries.now) result (view self.old.memory self.old.doubt (D.moment self.old.disk)) (view self.new.memory self.new.doubt (D.moment self.new.disk)) }
+        ensures changes { (s : SpoolState) → D.tells → IsIn s [] (view self.old.memory self.old.doubt (D.moment self.old.disk))
+            → AllFollow s (stages_at target s entries.now) → 0 < length (stages_at target s entries.now)
+            → Changes s (stages_at target s entries.now) result (view self.old.memory self.old.doubt (D.moment self.old.disk))
+            (view self.new.memory self.new.doubt (D.moment self.new.disk)) }
     {
         self.doubt = true;
         self.memory
@@ -94,7 +100,9 @@ impl<D: Disk> Spool<D> {
         ensures numbers { IfOk result (λ receipt. (receipt.count ≡ length entries.now) × (receipt.first + receipt.count ≡ end_of self.new.memory)) }
         ensures calls { Calls (IsErrOf result TakeFault.DiskFault) (D.moment self.old.disk) (D.moment self.new.disk) }
         ensures taken { (s : SpoolState) → D.tells → IsIn s [] (view self.old.memory self.old.doubt (D.moment self.old.disk))
-            → Takes s entries.now result × StoresTo s entries.now result (view self.old.memory self.old.doubt (D.moment self.old.disk)) (view self.new.memory self.new.doubt (D.moment self.new.disk)) }
+            → Takes s entries.now result
+            × StoresTo s entries.now result (view self.old.memory self.old.doubt (D.moment self.old.disk))
+            (view self.new.memory self.new.doubt (D.moment self.new.disk)) }
     {
         let target = self.memory.place_for(entries)?;
         let first = self.end();
@@ -129,8 +137,10 @@ impl<D: Disk> Spool<D> {
         ensures calls { Calls (IsErrOf result TakeFault.DiskFault) (D.moment self.old.disk) (D.moment self.new.disk) }
 
         ensures nothing { length entries.now ≡ 0 → (self.new ≡ self.old) × TakesNothing self.old.memory result }
-        ensures taken { (s : SpoolState) (doubt : List SpoolState) → D.tells → 0 < length entries.now → IsIn s doubt (view self.old.memory self.old.doubt (D.moment self.old.disk))
-            → TakesFrom s doubt entries.now result (view self.old.memory self.old.doubt (D.moment self.old.disk)) (view self.new.memory self.new.doubt (D.moment self.new.disk)) }
+        ensures taken { (s : SpoolState) (doubt : List SpoolState) → D.tells → 0 < length entries.now
+            → IsIn s doubt (view self.old.memory self.old.doubt (D.moment self.old.disk))
+            → TakesFrom s doubt entries.now result (view self.old.memory self.old.doubt (D.moment self.old.disk))
+            (view self.new.memory self.new.doubt (D.moment self.new.disk)) }
     {
         if entries.is_empty() {
             return Ok(Receipt {

@@ -20,7 +20,8 @@ impl<D: Disk> Spool<D> {
         ensures idle { self.old.doubt ≡ false → self.new ≡ self.old }
         ensures calls { Calls (IsErrOf result PendFault.DiskFault) (D.moment self.old.disk) (D.moment self.new.disk) }
         ensures mended { (s : SpoolState) (doubt : List SpoolState) → D.tells → IsIn s doubt (view self.old.memory self.old.doubt (D.moment self.old.disk))
-            → Mends s doubt result (view self.old.memory self.old.doubt (D.moment self.old.disk)) (view self.new.memory self.new.doubt (D.moment self.new.disk)) }
+            → Mends s doubt result (view self.old.memory self.old.doubt (D.moment self.old.disk))
+            (view self.new.memory self.new.doubt (D.moment self.new.disk)) }
     {
         if !self.doubt {
             return Ok(());

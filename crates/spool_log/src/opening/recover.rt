@@ -50,10 +50,12 @@ impl Memory {
         ensures calls { Calls (IsErrOf result RecoverFault.DiskFault) (D.moment disk.old) (D.moment disk.new) }
         ensures same_device { (self.new.size ≡ self.old.size) × (self.new.slots ≡ self.old.slots) }
         ensures durable { OnOk result (D.tells → IsSettled (D.moment disk.new)) }
-        ensures stored { OnOk result ((s : SpoolState) → D.tells → IsStored s self.old (D.moment disk.old).reads → CanOpen Opening.Raise s × IsStored (opened Opening.Raise s) self.new (D.moment disk.new).reads) }
+        ensures stored { OnOk result ((s : SpoolState) → D.tells → IsStored s self.old (D.moment disk.old).reads
+            → CanOpen Opening.Raise s × IsStored (opened Opening.Raise s) self.new (D.moment disk.new).reads) }
         ensures refused { IfErr result (λ fault. (s : SpoolState) → D.tells → IsStored s self.old (D.moment disk.old).reads → Refuses Opening.Raise s fault) }
         ensures unchanged { IfErr result (λ fault. (fault ≡ RecoverFault.DiskFault) ⊎ (disk.new ≡ disk.old)) }
-        ensures any_moment { (s : SpoolState) → D.tells → IsStored s self.old (D.moment disk.old).reads → LeavesOnly (StandsForOne s (raise_stages Opening.Raise s)) (D.moment disk.old) (D.moment disk.new) }
+        ensures any_moment { (s : SpoolState) → D.tells → IsStored s self.old (D.moment disk.old).reads
+            → LeavesOnly (StandsForOne s (raise_stages Opening.Raise s)) (D.moment disk.old) (D.moment disk.new) }
     {
         let content = self.register.value();
         if content.run == LAST_RUN {
@@ -77,10 +79,15 @@ fn open<D: Disk>(
     ensures calls { Calls (IsErrOf result RecoverFault.DiskFault) (D.moment disk.old) (D.moment disk.new) }
     ensures long { IfOk result (λ memory. (D.moment disk.new).size ≡ slot_at memory.size memory.slots) }
     ensures durable { OnOk result (D.tells → IsSettled (D.moment disk.new)) }
-    ensures found { IfOk result (λ memory. D.tells → (s : SpoolState) × StandsFor s (D.moment disk.old).reads × CanOpen opening s × IsStored (opened opening s) memory (D.moment disk.new).reads) }
+    ensures found { IfOk result
+        (λ memory. D.tells
+        → (s : SpoolState) × StandsFor s (D.moment disk.old).reads × CanOpen opening s
+        × IsStored (opened opening s) memory (D.moment disk.new).reads) }
     ensures refused { IfErr result (λ fault. (s : SpoolState) → D.tells → StandsFor s (D.moment disk.old).reads → Refuses opening s fault) }
     ensures broken { IfErr result (λ fault. D.tells → IsRefusedAs opening (D.moment disk.old).reads fault) }
-    ensures any_moment { D.tells → MatchResult result (λ _. LeavesOnly (IsOpening opening (D.moment disk.old)) (D.moment disk.old) (D.moment disk.new)) (λ fault. LeavesOnly (IsRefusing opening fault (D.moment disk.old)) (D.moment disk.old) (D.moment disk.new)) }
+    ensures any_moment { D.tells
+        → MatchResult result (λ _. LeavesOnly (IsOpening opening (D.moment disk.old)) (D.moment disk.old) (D.moment disk.new))
+        (λ fault. LeavesOnly (IsRefusing opening fault (D.moment disk.old)) (D.moment disk.old) (D.moment disk.new)) }
 {
     disk.sync()?;
     let mut memory = read_device(alloc, disk, window)?;
@@ -112,13 +119,17 @@ impl<D: Disk> Spool<D> {
     /// run is to be raised and the register was written 2^63 times. `DiskFault` comes only where a call of the
     /// disk failed.
     pub fn recover(alloc: Global, mut disk: D, opening: Opening) -> Result<Spool<D>, Refusal<D>>
-        ensures calls { MatchResult result (λ spool. Calls ⊥ (D.moment disk) (D.moment spool.disk)) (λ refusal. Calls (refusal.fault ≡ RecoverFault.DiskFault) (D.moment disk) (D.moment refusal.disk)) }
+        ensures calls { MatchResult result (λ spool. Calls ⊥ (D.moment disk) (D.moment spool.disk))
+            (λ refusal. Calls (refusal.fault ≡ RecoverFault.DiskFault) (D.moment disk) (D.moment refusal.disk)) }
         ensures sure { IfOk result (λ spool. spool.doubt ≡ false) }
 
-        ensures opened { IfOk result (λ spool. D.tells → (s : SpoolState) × Opens opening s (D.moment disk).reads (view spool.memory spool.doubt (D.moment spool.disk))) }
+        ensures opened { IfOk result
+            (λ spool. D.tells → (s : SpoolState) × Opens opening s (D.moment disk).reads (view spool.memory spool.doubt (D.moment spool.disk))) }
         ensures refused { IfErr result (λ refusal. (s : SpoolState) → D.tells → StandsFor s (D.moment disk).reads → Refuses opening s refusal.fault) }
         ensures broken { IfErr result (λ refusal. D.tells → IsRefusedAs opening (D.moment disk).reads refusal.fault) }
-        ensures any_moment { D.tells → MatchResult result (λ spool. LeavesOnly (IsOpening opening (D.moment disk)) (D.moment disk) (D.moment spool.disk)) (λ refusal. LeavesOnly (IsRefusing opening refusal.fault (D.moment disk)) (D.moment disk) (D.moment refusal.disk)) }
+        ensures any_moment { D.tells
+            → MatchResult result (λ spool. LeavesOnly (IsOpening opening (D.moment disk)) (D.moment disk) (D.moment spool.disk))
+            (λ refusal. LeavesOnly (IsRefusing opening refusal.fault (D.moment disk)) (D.moment disk) (D.moment refusal.disk)) }
     {
         let Ok(
             Reserve {

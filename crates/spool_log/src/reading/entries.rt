@@ -32,7 +32,8 @@ fn give_one(
     given: &mut Vec<Numbered>,
 ) -> Result<(), AllocError>
     ensures few { OnOk result (length given.new.items ≤ length given.old.items + 1) }
-    ensures numbered { (from : ℕ) → from ≤ number → IsEntry entry → AreNumbered from number given.old.items → OnOk result (AreNumbered from (number + 1) given.new.items) }
+    ensures numbered { (from : ℕ) → from ≤ number → IsEntry entry → AreNumbered from number given.old.items
+        → OnOk result (AreNumbered from (number + 1) given.new.items) }
     ensures given { OnOk result (given_entries given.new.items ≡ given_entries given.old.items ++ unknown numbers.now (numbered number (entry ∷ []))) }
 {
     if numbers.contains(number) {
@@ -54,7 +55,8 @@ fn give_unknown(
     requires ends { first + length entries.items ≤ most_number }
 
     ensures few { OnOk result (length given.new.items ≤ length given.old.items + length entries.items) }
-    ensures numbered { (from : ℕ) → from ≤ first → All IsEntry entries.items → AreNumbered from first given.old.items → OnOk result (AreNumbered from (first + length entries.items) given.new.items) }
+    ensures numbered { (from : ℕ) → from ≤ first → All IsEntry entries.items → AreNumbered from first given.old.items
+        → OnOk result (AreNumbered from (first + length entries.items) given.new.items) }
     ensures given { OnOk result (given_entries given.new.items ≡ given_entries given.old.items ++ unknown numbers.now (numbered first entries.items)) }
 {
     let mut number = first;
@@ -91,7 +93,10 @@ fn read_slot<D: Disk>(
     ensures few { OnOk result (length given.new.items ≤ most) }
     ensures numbered { OnOk result (AreNumbered from (slot.now.first + slot.now.count) given.new.items) }
     ensures read { (segment : Segment) → D.tells → Slots.Knows slot.now segment (D.moment disk.old).reads → IsMark segment start
-        → MatchResult result (λ mark. IsMark segment mark × (given_entries given.new.items ≡ given_entries given.old.items ++ take (most - length given.old.items) (wanted_from numbers.now from (numbered segment.first (entries_of segment))))) IsNotBroken }
+        → MatchResult result
+        (λ mark. IsMark segment mark
+        × (given_entries given.new.items ≡ given_entries given.old.items ++ take (most - length given.old.items)
+        (wanted_from numbers.now from (numbered segment.first (entries_of segment))))) IsNotBroken }
 {
     let end = slot.first + slot.count;
     let mut mark = start;
@@ -164,7 +169,9 @@ impl Memory {
         ensures told { D.tells → IsUntouched (D.moment disk.old) (D.moment disk.new) }
         ensures few { IfOk result (λ read. length read.0.items ≤ most) }
         ensures numbered { IfOk result (λ read. AreNumbered from (end_of self.now) read.0.items) }
-        ensures read { (s : SpoolState) → D.tells → IsStored s self.now (D.moment disk.old).reads → MatchResult result (λ read. (given_entries read.0.items ≡ take most (left_from s from)) × IsMarked s.older s.active read.1) IsNotBroken }
+        ensures read { (s : SpoolState) → D.tells → IsStored s self.now (D.moment disk.old).reads
+            → MatchResult result
+            (λ read. (given_entries read.0.items ≡ take most (left_from s from)) × IsMarked s.older s.active read.1) IsNotBroken }
     {
         let mut given = Vec::new(alloc);
         let mut bookmark = self.bookmark;

@@ -13,7 +13,7 @@ use crate::PendFault;
 use edge_disk::Disk;
 use foundation::u64_at;
 
-/// The offset at which the first slot begins, behind the header and the two cells.
+/// The offset at which the first slot begins, after the header and the two cells.
 pub(crate) const FIRST_SLOT: u64 = 12_288;
 
 /// What the header tells.

@@ -85,7 +85,8 @@ pub(crate) fn fault_place(opened: &[Slot], content: &Content, cell: u64) -> Opti
     ensures sound { IsNone result → All HasSoundNumbers opened.now }
     ensures go_on { IsNone result → (last : Slot) (older : List Slot) → opened.now ≡ older ++ last ∷ [] → GoOn older last.first }
     ensures known { IsNone result → IsSound (numbers_in content.now) }
-    ensures upto { IsNone result → (last : Slot) (older : List Slot) → opened.now ≡ older ++ last ∷ [] → (content.now.cursor ≤ last.first + last.count) × EndBy (last.first + last.count) content.now.known.items }
+    ensures upto { IsNone result → (last : Slot) (older : List Slot) → opened.now ≡ older ++ last ∷ []
+        → (content.now.cursor ≤ last.first + last.count) × EndBy (last.first + last.count) content.now.known.items }
 {
     if opened.is_empty() {
         return Some(FIRST_SLOT);

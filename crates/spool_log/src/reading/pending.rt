@@ -23,7 +23,8 @@ impl<D: Disk> Spool<D> {
         ensures few { IfOk result (λ given. length given.items ≤ most) }
         ensures numbered { IfOk result (λ given. AreNumbered from (end_of self.new.memory) given.items) }
         ensures pends { (s : SpoolState) (doubt : List SpoolState) → D.tells → IsIn s doubt (view self.old.memory self.old.doubt (D.moment self.old.disk))
-            → PendsFrom s doubt from most result (view self.old.memory self.old.doubt (D.moment self.old.disk)) (view self.new.memory self.new.doubt (D.moment self.new.disk)) }
+            → PendsFrom s doubt from most result (view self.old.memory self.old.doubt (D.moment self.old.disk))
+            (view self.new.memory self.new.doubt (D.moment self.new.disk)) }
     {
         self.mend()?;
         let memory = &self.memory;

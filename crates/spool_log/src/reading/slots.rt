@@ -13,7 +13,7 @@ use edge_disk::Disk;
 use spool_slots::{Slot, Window};
 use std::alloc::{AllocError, Global};
 
-// Puts the slot behind those with at most its ordinal.
+// Puts the slot after those with at most its ordinal.
 fn keep(opened: &mut Vec<Slot>, slot: Slot) -> Result<(), AllocError>
     ensures kept { OnOk result (opened.new.items ≡ insert opened.old.items (prefix_len (λ other. nat_le other.ordinal slot.ordinal) opened.old.items) slot) }
     ensures capacity { vec_capacity opened.old ≤ vec_capacity opened.new }
@@ -43,8 +43,12 @@ fn read_one<D: Disk>(
 
     ensures capacity { vec_capacity opened.old ≤ vec_capacity opened.new }
     ensures placed { OnOk result ((slots : ℕ) → place < slots → All (IsPlaced slots size) opened.old.items → All (IsPlaced slots size) opened.new.items) }
-    ensures known { OnOk result (D.tells → KnowsOpened place size opened.old.items (D.moment disk.old).reads → KnowsOpened (place + 1) size opened.new.items (D.moment disk.old).reads) }
-    ensures broken { IfErr result (λ fault. (slots : ℕ) → D.tells → place < slots → KnowsOpened place size opened.old.items (D.moment disk.old).reads → IsSlotsFault slots size (D.moment disk.old).reads fault) }
+    ensures known { OnOk result
+        (D.tells → KnowsOpened place size opened.old.items (D.moment disk.old).reads
+        → KnowsOpened (place + 1) size opened.new.items (D.moment disk.old).reads) }
+    ensures broken { IfErr result
+        (λ fault. (slots : ℕ) → D.tells → place < slots → KnowsOpened place size opened.old.items (D.moment disk.old).reads
+        → IsSlotsFault slots size (D.moment disk.old).reads fault) }
 {
     let at = FIRST_SLOT + u64::from(place) * size;
     let Some(slot) = Slot::scan(disk, window, at, size)? else {

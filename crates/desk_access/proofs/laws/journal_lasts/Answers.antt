@@ -1,6 +1,5 @@
 use Rattle.desk_access.proofs.Steps.{goes_later, all_later}
 use Rattle.desk_access.proofs.Lasting.{goes_kept, goes_grows}
-use Rattle.desk_access.proofs.Leading.{went_on}
 use Rattle.desk_access.proofs.laws.journal_lasts.Goals as goal
 
 pub returns : goal.returns

@@ -7,7 +7,7 @@ pub returns-then-bytes-span-eq123 : goal.returns-then-bytes-span-eq123
 returns-then-bytes-span-eq123 c =
     let s = c.in-Ok.span in
     let b = c.args.bytes.now in
-    let r = c.behind_space in
+    let r = c.after_space in
     let f = (c.in-Ok.ensures.ok s).0 refl in (
       λ t. object_text b s r.result f c.if-bytes-span-eq123.true r.ensures.spaces (eqb-true r.result (length b) t),
       λ t. eq-eqb r.result (length b) (object_end b s r.result f t r.ensures.spaces r.ensures.stops),

@@ -18,7 +18,7 @@ returns-in-Some c =
     let l = c.loop-i in
     let v = l.invariant in
     let b = c.args.bytes.now in
-    let w = c.behind_space-start in
+    let w = c.after_space-start in
     let f = first_bad b c.args.at w.result l.i c.in-Some.end (state_of l.reading) l.end w.ensures.spaces v.order c.loop-i-test.true v.runs c.in-Bad.ensures.turn v.found c.in-Some.is in
     let e = exact b c.args.at (Ok (record { start = w.result; end = c.in-Some.end })) in
     record { ok = λ x. e (Ok x) f; within = first_within b c.args.at (record { start = w.result; end = c.in-Some.end }) f; cut = e (Err Cut) f; not_json = λ p. e (Err (NotJson p)) f; too_deep = λ p. e (Err (TooDeep p)) f }
@@ -28,7 +28,7 @@ returns-in-None c =
     let l = c.loop-i in
     let v = l.invariant in
     let b = c.args.bytes.now in
-    let w = c.behind_space-start in
+    let w = c.after_space-start in
     let s = state_of l.reading in
     let found : Found b w.result l.i None = subst (Found b w.result l.i) c.in-None.is v.found in
     let p : IsFaultPlace b c.args.at l.i c.fault_place.result = fault_found b c.args.at w.result l.i c.fault_place.result s w.ensures.spaces v.order (omega (arith, c.loop-i-test.true)) v.runs c.fault_place.ensures.tail c.fault_place.ensures.other in
@@ -41,7 +41,7 @@ returns-in-Deep c =
     let l = c.loop-i in
     let v = l.invariant in
     let b = c.args.bytes.now in
-    let w = c.behind_space-start in
+    let w = c.after_space-start in
     let f = deep_here b c.args.at w.result l.i (state_of l.reading) w.ensures.spaces w.ensures.stops v.order c.loop-i-test.true v.runs c.in-Deep.ensures.turn in
     let e = exact b c.args.at (Err (TooDeep l.i)) in
     record { ok = λ x. e (Ok x) f; within = tt; cut = e (Err Cut) f; not_json = λ p. e (Err (NotJson p)) f; too_deep = λ p. e (Err (TooDeep p)) f }
@@ -51,7 +51,7 @@ returns-in-Some-end c =
     let l = c.loop-i in
     let v = l.invariant in
     let b = c.args.bytes.now in
-    let w = c.behind_space-start in
+    let w = c.after_space-start in
     let f = first_end b c.args.at w.result l.i c.in-Some-end.end l.end w.ensures.spaces (omega (arith, c.loop-i-test.false)) v.found c.in-Some-end.is in
     let e = exact b c.args.at (Ok (record { start = w.result; end = c.in-Some-end.end })) in
     record { ok = λ x. e (Ok x) f; within = first_within b c.args.at (record { start = w.result; end = c.in-Some-end.end }) f; cut = e (Err Cut) f; not_json = λ p. e (Err (NotJson p)) f; too_deep = λ p. e (Err (TooDeep p)) f }
@@ -61,7 +61,7 @@ returns-in-None-end c =
     let l = c.loop-i in
     let v = l.invariant in
     let b = c.args.bytes.now in
-    let w = c.behind_space-start in
+    let w = c.after_space-start in
     let q : l.i ≡ length b = omega (arith, c.loop-i-test.false, v.bound) in
     let f = cut_here b c.args.at w.result l.i (state_of l.reading) w.ensures.spaces w.ensures.stops q v.runs (subst (Found b w.result l.i) c.in-None-end.is v.found) in
     let e = exact b c.args.at (Err Cut) in
@@ -72,7 +72,7 @@ loop-i-preserved c =
     let l = c.loop-i in
     let v = l.invariant in
     let b = c.args.bytes.now in
-    let w = c.behind_space-start in
+    let w = c.after_space-start in
     let n = c.in-Go.next in
     let r = runs_more b w.result l.i (state_of l.reading) (state_of n) v.order c.loop-i-test.true v.runs c.in-Go.ensures.turn in
     record {
@@ -88,11 +88,11 @@ pub loop-i-preserved-then-stays : goal.loop-i-preserved-then-stays
 loop-i-preserved-then-stays c =
     let l = c.loop-i in
     let b = c.args.bytes.now in
-    let p = c.behind_plain-i.ensures in
-    let n : l.i + (c.behind_plain-i.result - l.i) ≡ c.behind_plain-i.result = omega (arith, p.order) in
-    let plain : ArePlain b l.i (l.i + (c.behind_plain-i.result - l.i)) = λ k from to. elim (cases_eq l.i k) [
+    let p = c.after_plain-i.ensures in
+    let n : l.i + (c.after_plain-i.result - l.i) ≡ c.after_plain-i.result = omega (arith, p.order) in
+    let plain : ArePlain b l.i (l.i + (c.after_plain-i.result - l.i)) = λ k from to. elim (cases_eq l.i k) [
       | inl here ↦ subst (λ j. is_plain (get_or b j 0) ≡ true) here (c.stays.ensures.plain c.if-stays.true)
       | inr other ↦ p.plain k (omega (arith, from, other)) (omega (arith, to, n))
     ] in
-    subst (λ m. Scan b c.behind_space-start.result m l.reading l.end) n
-    (scan_stays b c.behind_space-start.result l.i l.reading l.end (c.behind_plain-i.result - l.i) (omega (arith, n, p.bound)) plain c.behind_space-start.ensures.stops (c.stays.ensures.step c.if-stays.true) (c.stays.ensures.inside c.if-stays.true) l.invariant)
+    subst (λ m. Scan b c.after_space-start.result m l.reading l.end) n
+    (scan_stays b c.after_space-start.result l.i l.reading l.end (c.after_plain-i.result - l.i) (omega (arith, n, p.bound)) plain c.after_space-start.ensures.stops (c.stays.ensures.step c.if-stays.true) (c.stays.ensures.inside c.if-stays.true) l.invariant)

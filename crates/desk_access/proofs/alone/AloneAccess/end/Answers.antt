@@ -1,4 +1,4 @@
-use Rattle.std.proofs.Common.{[], refl, arith}
+use Rattle.std.proofs.Common.{[], arith}
 use Rattle.spool_log.specs.State.{view}
 use Rattle.desk_access.specs.Alone.{alone_at}
 use Rattle.desk_access.proofs.Leading.{end_is}

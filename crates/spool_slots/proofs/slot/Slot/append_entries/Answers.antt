@@ -5,7 +5,7 @@ use Rattle.spool_state.specs.Segment.{IsGroup, entries_of, group_text, need_of}
 use Rattle.spool_state.proofs.Once.{count_below}
 use Rattle.spool_state.proofs.Texts.{length-group_text, length-need, length-segment_text-with_group, entries_of-with_group}
 use Rattle.edge_disk.proofs.GateSteps.{piece_written, gate_opened}
-use Rattle.spool_slots.proofs.Steps.{append_run, append_holds, closed_behind, body_from}
+use Rattle.spool_slots.proofs.Steps.{append_run, append_holds, closed_after, body_from}
 use Rattle.spool_slots.proofs.slot.Slot.append_entries.Goals as goal
 
 pub invariant_of-self : goal.invariant_of-self
@@ -71,13 +71,13 @@ returns-clause-known g c = λ segment tells known.
       count = omega (arith, knows.count, ap length (entries_of-with_group segment entries), length-append (entries_of segment) entries);
     }
 
-pub returns-clause-closed_behind : goal.returns-clause-closed_behind
-returns-clause-closed_behind g c = λ tells b image.
+pub returns-clause-closed_after : goal.returns-clause-closed_after
+returns-clause-closed_after g c = λ tells b image.
     let lawful = g.met.D.Disk.lawful c.args.disk.now tells in
     let slot = c.args.self.now in
     let entries = c.args.entries.now in
     let long = length-need entries in
-    closed_behind (slot.at + slot.gate) _ (group_text entries) (g.D.Disk.moment c.args.disk.now).reads _ _ b
+    closed_after (slot.at + slot.gate) _ (group_text entries) (g.D.Disk.moment c.args.disk.now).reads _ _ b
     (omega (arith, c.requires.place, lawful.reads_size, c.if-need-room.false, c.room-room.ensures, c.group_need-need.ensures, length-group_text entries, slot.inside))
     ((c.sync.ensures.told tells).same ∙ c.in_ok-write_group.ensures.written tells) (c.in_ok-open_gate.ensures.written tells) ((c.in_ok-open_gate.ensures.durable tells).only b image)
     (omega (arith, c.group_need-need.ensures, length-group_text entries))

@@ -1,0 +1,12 @@
+use Rattle.std.proofs.Common.{◌-◌, ◌≤◌, length}
+use Rattle.json_span.specs.Plain.{ArePlain}
+use Rattle.json_span.proofs.characters.after_plain.Given as goal
+
+abbrev pub invariant-loop-end : goal.invariant-loop-end
+invariant-loop-end l = (l.fn.at ≤ l.end) × (l.end ≤ length l.bytes) × ArePlain l.bytes l.fn.at l.end
+
+abbrev pub decreases-loop-end : goal.decreases-loop-end
+decreases-loop-end l = length l.bytes - l.end
+
+abbrev pub invariant-loop-i : goal.invariant-loop-i
+invariant-loop-i l = ArePlain l.bytes l.fn.at l.i

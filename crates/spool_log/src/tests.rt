@@ -1,6 +1,0 @@
-mod calls;
-mod devices;
-mod marks;
-mod opening;
-mod spool;
-mod stops;
