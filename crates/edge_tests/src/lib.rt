@@ -1,6 +1,21 @@
-//! Tests of `edge_io`. They stand in a crate of their own, since the gate proves a crate with tests
-//! twice, with and without them.
+//! Tests of the lowest crates: `foundation`'s bytes, `known_numbers`, the streams and nets of `edge_io`, the
+//! sockets of `edge_net` and the disks of `edge_disk`. They stand in a crate of their own, since the gate
+//! proves a crate with tests twice, with and without them.
 #![tactic(auto)]
 
 #[cfg(test)]
+mod bytes;
+#[cfg(test)]
+mod disks;
+#[cfg(test)]
+mod files;
+#[cfg(test)]
+mod marks;
+#[cfg(test)]
+mod nets;
+#[cfg(test)]
+mod sockets;
+#[cfg(test)]
 mod streams;
+#[cfg(test)]
+mod tests;

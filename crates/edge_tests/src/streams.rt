@@ -4,91 +4,44 @@ use edge_io::{
     Both, FileIo, Link, MemLink, MemSink, MemSource, Object, ReadFault, Sink, Source, Stopped,
     WriteFault, write_whole,
 };
+use std::alloc::Global;
 use std::collections::VecDeque;
 use std::io::{self, ErrorKind, Read, Write};
 use std::test::Fail;
 
-// What reads into a buffer of four bytes give, or `None` at a fault.
-type Answers<'a> = [Option<&'a str>; 6];
+// Sources of the text `hello, world` that give so many bytes at a time, the calls of them that fail, and what
+// reads into a buffer of four bytes give, each after a bar: bytes, or `fault`.
+const READS: [(usize, &[u64], &str); 5] = [
+    (9, &[], "hell|o, w|orld|||"),
+    (3, &[], "hel|lo,| wo|rld||"),
+    (9, &[0, 2], "fault|hell|fault|o, w|orld|"),
+    (9, &[3, 4], "hell|o, w|orld|fault|fault|"),
+    (1, &[1, 1, 99], "h|fault|e|l|l|o"),
+];
 
-#[test]
-fn reads_in_steps_and_to_the_end(rt: HostRuntime) -> Result<(), Fail> {
-    let rows: [(usize, &[u64], Answers<'_>); 5] = [
-        (
-            9,
-            &[],
-            [
-                Some("hell"),
-                Some("o, w"),
-                Some("orld"),
-                Some(""),
-                Some(""),
-                Some(""),
-            ],
-        ),
-        (
-            3,
-            &[],
-            [
-                Some("hel"),
-                Some("lo,"),
-                Some(" wo"),
-                Some("rld"),
-                Some(""),
-                Some(""),
-            ],
-        ),
-        (
-            9,
-            &[0, 2],
-            [
-                None,
-                Some("hell"),
-                None,
-                Some("o, w"),
-                Some("orld"),
-                Some(""),
-            ],
-        ),
-        (
-            9,
-            &[3, 4],
-            [
-                Some("hell"),
-                Some("o, w"),
-                Some("orld"),
-                None,
-                None,
-                Some(""),
-            ],
-        ),
-        (
-            1,
-            &[1, 1, 99],
-            [Some("h"), None, Some("e"), Some("l"), Some("l"), Some("o")],
-        ),
-    ];
-    for (step, failing, wants) in rows {
-        assert!(rt; step > 0);
-        let bytes = b"hello, world".to_vec(rt.alloc())?;
-        let mut source = MemSource::of(bytes, step, failing.to_vec(rt.alloc())?);
-        for (call, want) in wants.into_iter().enumerate() {
+pub(crate) fn reads_in_steps_and_to_the_end(alloc: Global) -> Result<bool, Fail> {
+    for (step, failing, wants) in READS {
+        if step == 0 {
+            return Ok(false);
+        }
+        let bytes = b"hello, world".to_vec(alloc)?;
+        let mut source = MemSource::of(bytes, step, failing.to_vec(alloc)?);
+        for want in wants.split('|') {
             let mut buf = [0u8; 4];
-            let got = source.read(&mut buf).ok();
-            let got = got.map(|n| &buf[..n]);
-            assert_eq!(rt;
-                got,
-                want.map(|text| text.as_bytes()),
-                "call {call} in steps of {step}"
-            );
+            let is_right = match source.read(&mut buf) {
+                Ok(n) => want.as_bytes() == &buf[..n],
+                Err(ReadFault) => want == "fault",
+            };
+            if !is_right {
+                return Ok(false);
+            }
         }
     }
-    Ok(())
+    Ok(true)
 }
 
-#[test]
-fn writes_but_those_that_fail(rt: HostRuntime) -> Result<(), Fail> {
-    let mut sink = MemSink::of(rt.alloc(), [1, 4].to_vec(rt.alloc())?);
+pub(crate) fn writes_but_those_that_fail(alloc: Global) -> Result<bool, Fail> {
+    let mut sink = MemSink::of(alloc, [1, 4].to_vec(alloc)?);
     let rows = [
         ("ab", Ok(2), "ab"),
         ("cd", Err(WriteFault), "ab"),
@@ -98,11 +51,17 @@ fn writes_but_those_that_fail(rt: HostRuntime) -> Result<(), Fail> {
         ("h", Ok(1), "abefgh"),
     ];
     for (piece, want, taken) in rows {
-        assert_eq!(rt; sink.write(piece.as_bytes()), want, "{piece}");
-        assert_eq!(rt; sink.taken(), taken.as_bytes(), "after {piece}");
+        if sink.write(piece.as_bytes()) != want {
+            return Ok(false);
+        }
+        if sink.taken() != taken.as_bytes() {
+            return Ok(false);
+        }
     }
-    assert_eq!(rt; sink.starved(), 0);
-    Ok(())
+    if sink.starved() != 0 {
+        return Ok(false);
+    }
+    Ok(true)
 }
 
 // A sink that takes at most three bytes of a piece, and so many pieces.
@@ -143,8 +102,7 @@ impl Sink for Trickle {
     }
 }
 
-#[test]
-fn a_piece_is_written_whole_or_its_start_is(rt: HostRuntime) -> Result<(), Fail> {
+pub(crate) fn a_piece_is_written_whole_or_its_start_is(alloc: Global) -> Result<bool, Fail> {
     let rows = [
         (9, "0123456789", Ok(()), "0123456789"),
         (2, "0123456789", Err(Stopped { sent: 6 }), "012345"),
@@ -153,22 +111,18 @@ fn a_piece_is_written_whole_or_its_start_is(rt: HostRuntime) -> Result<(), Fail>
     ];
     for (pieces, piece, want, taken) in rows {
         let mut sink = Trickle {
-            bytes: Vec::new(rt.alloc()),
+            bytes: Vec::new(alloc),
             pieces,
             faults: 0,
         };
-        assert_eq!(rt;
-            write_whole(&mut sink, piece.as_bytes()),
-            want,
-            "{piece} in {pieces}"
-        );
-        assert_eq!(rt;
-            sink.bytes.as_slice(),
-            taken.as_bytes(),
-            "{piece} in {pieces}"
-        );
+        if write_whole(&mut sink, piece.as_bytes()) != want {
+            return Ok(false);
+        }
+        if sink.bytes.as_slice() != taken.as_bytes() {
+            return Ok(false);
+        }
     }
-    Ok(())
+    Ok(true)
 }
 
 // Writes what one read gives.
@@ -180,26 +134,29 @@ fn echo<L: Link>(link: &mut L) -> bool {
     }
 }
 
-#[test]
-fn links_read_and_write(rt: HostRuntime) -> Result<(), Fail> {
-    let mut source = MemSource::of(
-        b"over and out".to_vec(rt.alloc())?,
-        5,
-        [1].to_vec(rt.alloc())?,
-    );
-    let mut sink = MemSink::of(rt.alloc(), Vec::new(rt.alloc()));
+pub(crate) fn links_read_and_write(alloc: Global) -> Result<bool, Fail> {
+    let mut source = MemSource::of(b"over and out".to_vec(alloc)?, 5, [1].to_vec(alloc)?);
+    let mut sink = MemSink::of(alloc, Vec::new(alloc));
     let mut both = Both {
         source: &mut source,
         sink: &mut sink,
     };
     let answers = [echo(&mut both), echo(&mut both), echo(&mut both)];
-    assert_eq!(rt; answers, [true, false, true]);
-    assert_eq!(rt; sink.taken(), "over and o".as_bytes());
+    if answers != [true, false, true] {
+        return Ok(false);
+    }
+    if sink.taken() != "over and o".as_bytes() {
+        return Ok(false);
+    }
     let mut link = MemLink::of(source, sink);
-    assert!(rt; echo(&mut link));
+    if !echo(&mut link) {
+        return Ok(false);
+    }
     let mut buf = [0u8; 8];
-    assert_eq!(rt; link.read(&mut buf), Ok(0));
-    Ok(())
+    if link.read(&mut buf) != Ok(0) {
+        return Ok(false);
+    }
+    Ok(true)
 }
 
 // What of a device fails.
@@ -241,14 +198,19 @@ impl Write for Device {
     }
 }
 
-#[test]
-fn files_pass_bytes_and_tell_errors(rt: HostRuntime) -> Result<(), Fail> {
-    let mut file = FileIo::of(VecDeque::<u8>::new(rt.alloc()));
+pub(crate) fn files_pass_bytes_and_tell_errors(alloc: Global) -> Result<bool, Fail> {
+    let mut file = FileIo::of(VecDeque::<u8>::new(alloc));
     let mut buf = [0u8; 8];
-    assert_eq!(rt; write_whole(&mut file, b"to and fro"), Ok(()));
+    if write_whole(&mut file, b"to and fro") != Ok(()) {
+        return Ok(false);
+    }
     for want in ["to and f", "ro", ""] {
-        assert_eq!(rt; file.read(&mut buf), Ok(want.len()));
-        assert!(rt; buf.starts_with(want.as_bytes()), "{want}");
+        if file.read(&mut buf) != Ok(want.len()) {
+            return Ok(false);
+        }
+        if !buf.starts_with(want.as_bytes()) {
+            return Ok(false);
+        }
     }
     let rows = [
         (Part::Read, Err(ReadFault), Ok(2)),
@@ -258,8 +220,12 @@ fn files_pass_bytes_and_tell_errors(rt: HostRuntime) -> Result<(), Fail> {
     ];
     for (part, reads, writes) in rows {
         let mut file = FileIo::of(Device(part));
-        assert_eq!(rt; file.read(&mut buf), reads, "{part:?}");
-        assert_eq!(rt; file.write(b"hi"), writes, "{part:?}");
+        if file.read(&mut buf) != reads {
+            return Ok(false);
+        }
+        if file.write(b"hi") != writes {
+            return Ok(false);
+        }
     }
-    Ok(())
+    Ok(true)
 }
