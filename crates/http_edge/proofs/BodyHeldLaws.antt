@@ -1,8 +1,8 @@
--- What a window holds once a piece is read behind a head.
-use Rattle.std.proofs.Common.{◌≡◌, ◌≢◌, ℕ, ◌+◌, ◌-◌, ◌<◌, ◌≤◌, ◌^◌, List, [], ◌∷◌, ◌++◌, length, take, drop, refl, sym, ap, ◌∙◌, subst, arith, length-append, length-drop, length-take-le, append_assoc, append-nil, take-append-drop}
+-- What a window holds once a piece is read after a head.
+use Rattle.std.proofs.Common.{◌≡◌, ℕ, ◌+◌, ◌-◌, ◌≤◌, ◌^◌, List, [], ◌∷◌, ◌++◌, length, take, drop, refl, sym, ap, ◌∙◌, subst, arith, length-append, length-drop, length-take-le, append_assoc, append-nil, take-append-drop}
 use Rattle.std.specs.Prelude.{Option, Some, None, IsSome, Result, Ok, Err, slice_range}
 use Rattle.std.specs.Vec.{vec_capacity}
-use Rattle.std.proofs.lemmas.List.{take-append-le, take_all, take_at}
+use Rattle.std.proofs.lemmas.List.{take-append-le, take_all}
 use Rattle.event_form.specs.declared.feed_fault.FeedFault.{FeedFault}
 use Rattle.event_form.specs.declared.feed_fault.FeedFault.TheVariants.{Fault}
 use Rattle.http_edge.specs.declared.fault.HttpFault.{HttpFault}
@@ -29,13 +29,12 @@ use Rattle.http_edge.specs.Reading.{Reading}
 use Rattle.http_edge.specs.Scanning.{IsBegun, Scans, cleared, place_of}
 use Rattle.http_edge.specs.Steps.{Fits}
 use Rattle.http_edge.specs.Waits.{AreHeads, IsHead, bodies_of, heads_of, items_in, with_body}
-use Rattle.http_edge.specs.Window.{Window}
-use Rattle.http_edge.proofs.BehindLaws.{bad_feeds, feeds_behind, gathered, open_feeds, some_head}
+use Rattle.http_edge.proofs.AfterLaws.{bad_feeds, feeds_after, gathered, open_feeds, some_head}
 use Rattle.http_edge.proofs.HeldLaws.{Ready, feeds_window, first_after, first_more, grown, scan_broken, scan_none, scan_short, settled_fills, waiting_long}
 use Rattle.http_edge.proofs.OpeningLaws.{open_nil}
 use Rattle.http_edge.proofs.ScanLaws.{are_append, bodies_append, heads_append, items_append}
 
--- what a gathering comes to, behind the body that is held
+-- what a gathering comes to, after the body that is held
 pub gathered_held : (h : Held) (all new : List ℕ) (g : Gathered) (e : Ending) → (x : Gathers h.stage (length h.bytes.items - h.whole) all h.bytes.items new g) → g.end ≡ e → GathersTo h.stage (length (drop h.whole h.bytes.items)) all x.got g.used e
 gathered_held h all new g e x is = gathered h.stage (length h.bytes.items - h.whole) (drop h.whole h.bytes.items) all x.got g.used g.end e (sym (length-drop h.whole h.bytes.items)) is x.gathers
 
@@ -130,7 +129,7 @@ pub whole_feed : (h mid new : Held) (all piece bytes got body : List ℕ) (g : G
 whole_feed h mid new all piece bytes got body g head n queue heads l r f clean begun all_is x is s n_is bytes_are space queue_is heads_is from_is beside_is room place st told =
     let p : Parked = record { head = head; size = h.size; body = n } in
     let base = h.at + (h.read + g.used) in
-    let behind = drop g.used all in
+    let after = drop g.used all in
     let y = gathered_held h all bytes g Whole x is in
     let first_got = x.got in
     let few = x.few in
@@ -140,7 +139,7 @@ whole_feed h mid new all piece bytes got body g head n queue heads l r f clean b
     let d = length-drop h.whole h.bytes.items in
     let bl : length bytes ≡ length h.bytes.items + length first_got = ap length x.added ∙ length-append h.bytes.items first_got in
     let ml : length mid.bytes.items ≡ length bytes + (length got + length body) = (let a = ap length bytes_are in let b = length-append bytes (got ++ body) in let c = length-append got body in omega (arith, a, b, c)) in
-    let al : length behind ≡ length all - g.used = length-drop g.used all in
+    let al : length after ≡ length all - g.used = length-drop g.used all in
     let q : bodies_of mid.queue.items ≡ bodies_of h.queue.items + (n + 0) + bodies_of queue = (let a : bodies_of mid.queue.items ≡ bodies_of (h.queue.items ++ Request p ∷ []) + bodies_of queue = ap bodies_of queue_is ∙ bodies_append (h.queue.items ++ Request p ∷ []) queue in let b : bodies_of (h.queue.items ++ Request p ∷ []) ≡ bodies_of h.queue.items + (n + 0) = bodies_append h.queue.items (Request p ∷ []) in omega (arith, a, b)) in
     let k : heads_of mid.queue.items ≡ heads_of h.queue.items + (h.size + 0) + heads_of queue = (let a : heads_of mid.queue.items ≡ heads_of (h.queue.items ++ Request p ∷ []) + heads_of queue = ap heads_of queue_is ∙ heads_append (h.queue.items ++ Request p ∷ []) queue in let b : heads_of (h.queue.items ++ Request p ∷ []) ≡ heads_of h.queue.items + (h.size + 0) = heads_append h.queue.items (Request p ∷ []) in omega (arith, a, b)) in
     let bodies = f.bodies in
@@ -154,7 +153,7 @@ whole_feed h mid new all piece bytes got body g head n queue heads l r f clean b
     let is_head : IsHead head h.size = subst (λ (b : Option Head). IsBegun b h.size) begun f.begun_is in
     let parked : h.beside ≤ first_head (h.queue.items ++ Request p ∷ []) l.size = first_parked h.queue.items p h.beside l.size f.first in
     let same : beside_after mid.queue.items mid.beside l.size ≡ h.beside = (λ j. beside_after (queue_is j) (beside_is j) l.size) ∙ beside_same h.queue.items queue (Request p) h.beside l.size in
-    let ready : Ready mid base behind l = record {
+    let ready : Ready mid base after l = record {
       space = space;
       body = omega (arith, ml, body_is);
       bodies = omega (arith, from_is, q, bodies, n_is, got_is, body_is, ml, bl, o, i);
@@ -164,11 +163,11 @@ whole_feed h mid new all piece bytes got body g head n queue heads l r f clean b
       first = (let z : h.beside ≤ first_head ((h.queue.items ++ Request p ∷ []) ++ queue) l.size = first_more (h.queue.items ++ Request p ∷ []) queue h.beside l.size l.size parked (λ e. absurd (never_empty h.queue.items (Request p) e)) in let v : first_head mid.queue.items l.size ≡ first_head ((h.queue.items ++ Request p ∷ []) ++ queue) l.size = ap (λ (u : List Waiting). first_head u l.size) queue_is in first_after mid.queue.items mid.beside l.size (omega (arith, z, v, beside_is)));
       bound = omega (arith, heads_is, ml, bl, from_is, room, part, all_whole, rest, same, few, inside, al, o, i);
       fits = subst (Fits l.stage) (sym body_is) s.scans.fits;
-      short = scan_short behind got body queue heads l s;
+      short = scan_short after got body queue heads l s;
       rest = omega (arith, rest);
       room = omega (arith, place, rest, al, inside);
-      none = scan_none behind got body queue heads l s;
-      broken = scan_broken behind got body queue heads l s;
+      none = scan_none after got body queue heads l s;
+      broken = scan_broken after got body queue heads l s;
     } in
     let bd = drop h.whole h.bytes.items in
     let w = slice_range h.bytes.items h.from h.whole in
@@ -188,17 +187,17 @@ whole_feed h mid new all piece bytes got body g head n queue heads l r f clean b
     ∙ ap (λ (v : List HttpItem). v ++ items_in queue got) (items_append h.queue.items (Request p ∷ []) w front (omega (arith, bodies, wl)) ∙ ap (λ (v : List ℕ). items_in h.queue.items w ++ item.Request (with_body head v) ∷ []) one)
     ) in
     let old = reading_of h in
-    let now : Reading = record { waiting = (old.waiting ++ item.Request (with_body head (old.body ++ first_got)) ∷ []) ++ items_in queue got; at = base + l.from; begun = l.begun; stage = l.stage; body = body; read = l.read; unread = drop (length behind - l.rest) behind; fault = moved base l.fault } in
+    let now : Reading = record { waiting = (old.waiting ++ item.Request (with_body head (old.body ++ first_got)) ∷ []) ++ items_in queue got; at = base + l.from; begun = l.begun; stage = l.stage; body = body; read = l.read; unread = drop (length after - l.rest) after; fault = moved base l.fault } in
     let is_now : reading_of new ≡ now = λ j. record { waiting = waiting j; at = st.at_is j; begun = st.begun_is j; stage = st.stage_is j; body = g2.1 j; read = st.read_is j; unread = st.unread_is j; fault = st.fault_is j } in
-    let fed = feeds_behind old all head first_got g.used base (items_in queue got) l.from l.begun l.stage body l.read (drop (length behind - l.rest) behind) l.fault clean begun y refl s.scans piece all_is in
+    let fed = feeds_after old all head first_got g.used base (items_in queue got) l.from l.begun l.stage body l.read (drop (length after - l.rest) after) l.fault clean begun y refl s.scans piece all_is in
     let done : reading.Feeds old piece (answer (moved base l.fault)) (reading_of new) = subst (reading.Feeds old piece (answer (moved base l.fault))) (sym is_now) fed in
     record {
-      fills = settled_fills mid new base behind l st ready;
+      fills = settled_fills mid new base after l st ready;
       feeds = subst (λ (v : Result (Unit {0}) (FeedFault HttpFault)). FeedsTo (window_of h) piece v (window_of new)) (sym told) (feeds_window (window_of h) (window_of new) piece (moved base l.fault) done);
       room = (
           let a = st.at_is in
           let b = st.read_is in
-          let c : length new.unread.items ≡ l.rest = (let z = ap length st.unread_is in let v = length-drop (length behind - l.rest) behind in let u = ready.rest in omega (arith, z, v, u)) in
+          let c : length new.unread.items ≡ l.rest = (let z = ap length st.unread_is in let v = length-drop (length after - l.rest) after in let u = ready.rest in omega (arith, z, v, u)) in
           let e : length all ≡ length h.unread.items + length piece = ap length all_is ∙ length-append h.unread.items piece in
           omega (arith, a, b, c, e, rest, al, inside)
           );

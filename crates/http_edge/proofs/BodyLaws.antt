@@ -12,13 +12,13 @@ pub line_long : (n held : ℕ) (line more u : List ℕ) → IsLine n line → u 
 line_long n held line more u is split long size body front e (s, fits, (chunks, are)) =
     subst (λ (z : BodySize). IsTooLong z (front ++ u)) (sym s) (body, front, line, more, n, (refl, fits, (chunks, are)), is, ap (λ (v : List ℕ). front ++ v) split, omega (arith, e, long))
 
--- a chunk behind chunks
+-- a chunk after chunks
 are_more : (chunks : List (List ℕ)) (body text d chunk : List ℕ) → AreChunks chunks body text → IsChunk d chunk → AreChunks (chunks ++ d ∷ []) (body ++ d) (text ++ chunk)
 are_more [] body text d chunk (b, t) is = (chunk, [], [], is, ap (λ (v : List ℕ). v ++ d) b ∙ sym (append-nil d), ap (λ (v : List ℕ). v ++ chunk) t ∙ sym (append-nil chunk), (refl, refl))
 are_more (c ∷ cs) body text d chunk (x, rb, rt, one, b, t, are) is =
     (x, rb ++ d, rt ++ chunk, one, ap (λ (v : List ℕ). v ++ d) b ∙ append_assoc c rb d, ap (λ (v : List ℕ). v ++ chunk) t ∙ append_assoc x rt chunk, are_more cs rb rt d chunk are is)
 
--- CR LF behind a chunk's data
+-- CR LF after a chunk's data
 pub end_line : (held : ℕ) (x : List ℕ) → x ≡ crlf_bytes → Passes End held Line x
 end_line held x is size body front e (s, fits, i) =
     let none : length i.data_so_far + 0 ≡ length i.data_so_far = omega arith in

@@ -1,4 +1,4 @@
--- What a window says of chunk lines and trailers behind it.
+-- What a window says of chunk lines and trailers after it.
 use Rattle.std.proofs.Common.{◌≡◌, ◌≢◌, ℕ, ◌+◌, ◌<◌, ◌≤◌, true, false, List, [], ◌∷◌, ◌++◌, length, take, drop, refl, sym, ap, ◌∙◌, arith, inl, inr, length-append, length-take, append_assoc, append-nil, take-append-drop}
 use Rattle.std.specs.Prelude.{min}
 use Rattle.std.specs.List.{flat_map}

@@ -1,26 +1,22 @@
 -- What a window holds once a piece is read of a cut head.
 use Rattle.std.proofs.Common.{◌≡◌, ℕ, ◌+◌, ◌-◌, ◌<◌, ◌≤◌, ◌^◌, false, List, [], ◌∷◌, ◌++◌, length, take, drop, refl, sym, ap, ◌∙◌, subst, arith, inl, length-append, length-drop, append_assoc, append-nil, take-append-drop}
-use Rattle.std.specs.Prelude.{Option, Some, None, Result, Ok, Err}
+use Rattle.std.specs.Prelude.{Some, None, Result, Ok}
 use Rattle.std.specs.Vec.{vec_capacity}
 use Rattle.event_form.specs.declared.feed_fault.FeedFault.{FeedFault}
 use Rattle.http_edge.specs.declared.fault.HttpFault.{HttpFault}
 use Rattle.http_edge.specs.declared.fault.HttpWhy.{HttpWhy}
-use Rattle.http_edge.specs.declared.head.Head.{Head}
 use Rattle.http_edge.specs.declared.held.Held.{Held}
-use Rattle.http_edge.specs.declared.next.Next.TheVariants.{Bad}
 use Rattle.http_edge.specs.declared.part.HeadPart.{HeadPart}
 use Rattle.http_edge.specs.declared.stage.Stage.{Stage}
-use Rattle.http_edge.specs.declared.waiting.Waiting.{Waiting}
-use Rattle.http_edge.specs.Filling.{FeedsTo, FeedsWith, Fills, FillsWith, Settles, reading_with, window_with}
+use Rattle.http_edge.specs.Filling.{FeedsTo, FeedsWith, Fills, Settles, reading_with, window_with}
 use Rattle.http_edge.specs.Heads.{IsOpenHead}
 use Rattle.http_edge.specs.HttpStream.{IsFault}
 use Rattle.http_edge.specs.Keeping.{answer, moved}
 use Rattle.http_edge.specs.Parts.{IsPart}
 use Rattle.http_edge.specs.Reading as reading
 use Rattle.http_edge.specs.Reading.{Reading}
-use Rattle.http_edge.specs.Scanning.{IsLeft, Scans, ScansTo, cleared}
+use Rattle.http_edge.specs.Scanning.{Scans, ScansTo, cleared}
 use Rattle.http_edge.specs.Steps.{Fits}
-use Rattle.http_edge.specs.Window.{Window}
 use Rattle.http_edge.proofs.FaultLaws.{fault_more}
 use Rattle.http_edge.proofs.FeedLaws.{feeds_begin}
 use Rattle.http_edge.proofs.HeldLaws.{requests_feed, requests_ready}

@@ -30,7 +30,7 @@ window_more m rest piece = go (nat_le (length rest) m) refl
         ([], take-append-le m rest piece (omega (arith, l)) ∙ sym (append-nil (take m rest)))
 
 -- what holds of a window whatever follows it, holds so of a later one
-never_more : (P : List ℕ → Type 0) (m : ℕ) (rest piece : List ℕ) → ((more : List ℕ) → P (take m rest ++ more)) → (more : List ℕ) → P (take m (rest ++ piece) ++ more)
+pub never_more : (P : List ℕ → Type 0) (m : ℕ) (rest piece : List ℕ) → ((more : List ℕ) → P (take m rest ++ more)) → (more : List ℕ) → P (take m (rest ++ piece) ++ more)
 never_more P m rest piece never more =
     let w = window_more m rest piece in
     subst P (sym (ap (λ (v : List ℕ). v ++ more) w.1 ∙ append_assoc (take m rest) w.0 more)) (never (w.0 ++ more))

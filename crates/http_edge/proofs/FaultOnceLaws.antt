@@ -84,7 +84,7 @@ bad_once text place other a b =
     let q = same_stage a.stage b.stage a.body b.body a.front b.front a.unread b.unread a.reaches (breaks_stays a.stage a.unread a.breaks) b.reaches (breaks_stays b.stage b.unread b.breaks) (sym a.text_is ∙ b.text_is) in
     a.place_is ∙ ap length q.1 ∙ sym b.place_is
 
-long_no_bad : (text : List ℕ) (place : ℕ) → IsTooLong Chunked text → IsBadChunk text place → ⊥
+pub long_no_bad : (text : List ℕ) (place : ℕ) → IsTooLong Chunked text → IsBadChunk text place → ⊥
 long_no_bad text place (body, front, line, more, n, r, is, e, long) b = long_stays b.stage body b.body front b.front line more b.unread n r is long b.reaches (breaks_stays b.stage b.unread b.breaks) (sym e ∙ b.text_is)
 
 pub long_no_open : (size : BodySize) (text : List ℕ) → IsTooLong size text → IsOpenBody size text → ⊥
@@ -206,9 +206,9 @@ rest_is fed items m rest a = sym (drop-append_seam a.front rest) ∙ (λ i. drop
 
 pub one_fault : OneFault
 one_fault fed items others m n place other_place why other a b =
-    let q = one_split fed a.before b.before m n a.rest b.rest a.requests b.requests (fault_no_request a.rest why a.behind a.told a.fault) (fault_no_request b.rest other b.behind b.told b.fault) in
-    let f : IsFault a.rest other b.behind b.told = subst (λ (v : List ℕ). IsFault v other b.behind b.told) (sym q.2) b.fault in
-    let r = parted_alike a.rest why other a.behind b.behind a.told b.told (parted a.rest why a.behind a.told a.fault) (parted a.rest other b.behind b.told f) in (
+    let q = one_split fed a.before b.before m n a.rest b.rest a.requests b.requests (fault_no_request a.rest why a.offset a.told a.fault) (fault_no_request b.rest other b.offset b.told b.fault) in
+    let f : IsFault a.rest other b.offset b.told = subst (λ (v : List ℕ). IsFault v other b.offset b.told) (sym q.2) b.fault in
+    let r = parted_alike a.rest why other a.offset b.offset a.told b.told (parted a.rest why a.offset a.told a.fault) (parted a.rest other b.offset b.told f) in (
       a.items_are ∙ (λ i. q.0 i ++ r.0 i) ∙ sym b.items_are,
       q.1,
       a.place_is ∙ (λ i. q.1 i + r.1 i) ∙ sym b.place_is,
@@ -233,9 +233,9 @@ fault_or_open rest why place told others (inr (h, text, begins, a)) (inr (k, las
 
 pub fault_or_stream : FaultOrStream
 fault_or_stream fed items others m n place why rest a b =
-    let q = one_split fed a.before b.before m n a.rest rest a.requests b.requests (fault_no_request a.rest why a.behind a.told a.fault) (open_no_request rest b.told b.going) in
-    let f : IsFault rest why a.behind a.told = subst (λ (v : List ℕ). IsFault v why a.behind a.told) q.2 a.fault in
-    let r = fault_or_open rest why a.behind a.told b.told (parted rest why a.behind a.told f) b.going in
+    let q = one_split fed a.before b.before m n a.rest rest a.requests b.requests (fault_no_request a.rest why a.offset a.told a.fault) (open_no_request rest b.told b.going) in
+    let f : IsFault rest why a.offset a.told = subst (λ (v : List ℕ). IsFault v why a.offset a.told) q.2 a.fault in
+    let r = fault_or_open rest why a.offset a.told b.told (parted rest why a.offset a.told f) b.going in
     let at = a.place_is in
     let zero = r.3 in
     let same = q.1 in
@@ -244,9 +244,9 @@ fault_or_stream fed items others m n place why rest a b =
 pub both_readings : BothReadings
 both_readings fed items m rest a (ends, never) =
     let o : IsOpenHead (take 16384 rest) = record { none = now HasNoHead (take 16384 rest) never; going = inr ends } in (
-      record { before = items; told = []; rest = rest; behind = 0; requests = a; items_are = sym (append-nil items); place_is = omega arith; fault = (never, refl, refl) },
+      record { before = items; told = []; rest = rest; offset = 0; requests = a; items_are = sym (append-nil items); place_is = omega arith; fault = (never, refl, refl) },
       λ short.
           let w : take 16384 rest ≡ rest = take_all 16384 rest (omega (arith, short)) in
           record { before = items; told = []; requests = a; items_are = sym (append-nil items); going = inl (short, subst IsOpenHead w o, refl) },
-      λ long. record { before = items; told = []; rest = rest; behind = 0; requests = a; items_are = sym (append-nil items); place_is = omega arith; fault = inl (long, o, refl, refl) },
+      λ long. record { before = items; told = []; rest = rest; offset = 0; requests = a; items_are = sym (append-nil items); place_is = omega arith; fault = inl (long, o, refl, refl) },
     )

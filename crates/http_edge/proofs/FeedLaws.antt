@@ -1,9 +1,8 @@
 -- What a reader has read after a piece.
 use Rattle.std.proofs.Common.{◌≡◌, ℕ, ◌+◌, List, [], ◌++◌, length, drop, refl, sym, ap, ◌∙◌, subst, arith, inl, inr, append_assoc, append-nil}
-use Rattle.std.specs.Prelude.{Option, Some, None, Result, Err}
+use Rattle.std.specs.Prelude.{Option, Some, None, Err}
 use Rattle.httparse.specs.Grammar.{RequestHead}
 use Rattle.httparse.proofs.GrammarLemmas.{request_unique}
-use Rattle.event_form.specs.declared.feed_fault.FeedFault.{FeedFault}
 use Rattle.event_form.specs.declared.feed_fault.FeedFault.TheVariants.{Fault}
 use Rattle.http_edge.specs.declared.fault.HttpFault.{HttpFault}
 use Rattle.http_edge.specs.declared.head.Head.{Head}
@@ -31,7 +30,7 @@ told_head rest told h text (inr (k, other, b, o, e)) begins = e ∙ ap told_of (
 pub reads_none : (fed : List ℕ) (items : List HttpItem) (r : Reading) → r.fault ≡ None → ReadsTo fed items r r.fault → (rest : List ℕ) × IsStream fed items r.at rest × Holds r.begun r.stage r.body r.read r.unread rest
 reads_none fed items r e x = subst (ReadsTo fed items r) e x
 
--- a piece behind whole requests
+-- a piece after whole requests
 pub requests_more_text : (fed piece rest : List ℕ) (items : List HttpItem) (at : ℕ) → AreRequests fed items at rest → AreRequests (fed ++ piece) items at (rest ++ piece)
 requests_more_text fed piece rest items at s = record {
   requests = s.requests;
@@ -53,17 +52,17 @@ feeds_faulty old piece e q = (
           before = f.before;
           told = f.told;
           rest = f.rest ++ piece;
-          behind = f.behind;
+          offset = f.offset;
           requests = requests_more_text fed piece f.rest f.before old.at f.requests;
           items_are = f.items_are;
           place_is = f.place_is;
-          fault = fault_more f.rest piece e.why f.behind f.told f.fault;
+          fault = fault_more f.rest piece e.why f.offset f.told f.fault;
         },
         k.1,
       ),
 )
 
--- the items of requests behind requests
+-- the items of requests after requests
 pub items_then : (taken waiting more first before told : List HttpItem) → taken ++ waiting ≡ first → more ≡ before ++ told → taken ++ (waiting ++ more) ≡ (first ++ before) ++ told
 items_then taken waiting more first before told e f = sym (append_assoc taken waiting more) ∙ (λ i. e i ++ f i) ∙ sym (append_assoc first before told)
 
@@ -103,7 +102,7 @@ feeds_begin old all items from begun stage body read unread fault e b s piece f 
               before = x.1 ++ s.before;
               told = s.told;
               rest = drop from all;
-              behind = l.0;
+              offset = l.0;
               requests = requests_then fed piece x.0 x.1 s.before old.at from (drop from all) x.2 (subst (λ (v : List ℕ). AreRequests v s.before from (drop from all)) x.4 s.requests);
               items_are = items_then taken old.waiting items x.1 s.before s.told x.3 s.items_are;
               place_is = omega (arith, place);

@@ -1,4 +1,4 @@
--- How a piece is read behind a body, turn by turn.
+-- How a piece is read after a body, turn by turn.
 use Rattle.std.proofs.Common.{refl, ◌≡◌, ℕ, ◌+◌, ◌-◌, ◌≤◌, List, [], ◌++◌, length, take, drop, sym, ap, ◌∙◌, subst, arith, length-append, length-drop, length-take-le, append_assoc, append-nil, take-append-drop}
 use Rattle.std.proofs.lemmas.List.{take_all}
 use Rattle.std.proofs.Math.Seq.{take-add}
@@ -15,7 +15,7 @@ use Rattle.http_edge.specs.Steps.{Fits}
 use Rattle.http_edge.specs.Turns.{Turns}
 use Rattle.http_edge.specs.Gathering.{Brings, GathersTo}
 
--- what a turn tells of the window behind a place
+-- what a turn tells of the window after a place
 pub turns_at : (now : Stage) (held n : ℕ) (got : List ℕ) (piece : List ℕ) (from : ℕ) (s t : Turn) → n ≡ length got → s ≡ t → Turns now (held + n) (take (length piece - from) (drop from piece)) s → Turns now (held + length got) (drop from piece) t
 turns_at now held n got piece from s t e f x =
     let k = length-drop from piece in

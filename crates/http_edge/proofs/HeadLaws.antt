@@ -130,7 +130,7 @@ long_judged f fs last f_is (suc r) l b t m e token is k ih = go (ih r (l + 1) (o
     go (inl (o, (gs, end, more, all, q, few))) = inl (subst (λ (s : Lines). is_over s ≡ false) (sym k) o, (f ∷ gs, end, more, All-cons IsField f gs f_is all, ap (λ (z : List ℕ). z ++ more) is ∙ append_assoc (print_field f) m more ∙ ap (λ (z : List ℕ). print_field f ++ z) q ∙ sym (append_assoc (print_field f) (flat_map print_field gs) (print_end end)), omega (arith, few)))
     go (inr (o, (gs, c, v, all, q, first, many))) = inr (subst (λ (s : Lines). is_over s ≡ true) (sym k) o, (f ∷ gs, c, v, All-cons IsField f gs f_is all, is ∙ ap (λ (z : List ℕ). print_field f ++ z) q ∙ sym (append_assoc (print_field f) (flat_map print_field gs) (c ∷ v)), first, omega (arith, many)))
 
--- bytes that begin a section, behind so many lines
+-- bytes that begin a section, after so many lines
 pub section_judged : (fs : List Field) (last : LineEnd) (r l : ℕ) (t more : List ℕ) → r + l ≡ 65 → All IsField fs → t ++ more ≡ print_section fs last → more ≢ [] → Judged r (count_lines (at_line l) t) t
 section_judged fs last r l [] more e all q n = inl (over_no (at_line l) (omega (arith, e)) (λ i. absurd (false≢true i)), ([], lf, 10 ∷ [], All-nil IsField, refl, omega arith))
 section_judged [] crlf r l (c ∷ []) more e all q n = let i : c ≡ 13 = cc in rw i (inl (over_no (record { started = true; ended = l; last = Return }) (omega (arith, e)) (λ i. absurd (false≢true i)), ([], crlf, 10 ∷ [], All-nil IsField, refl, omega arith)))
@@ -210,12 +210,12 @@ head_judged b none (inl (more, h, (x, is))) = choose (split_at (start_text h [])
     some : more ≢ []
     some i = none h [] (x, sym (append-nil b) ∙ ap (λ (v : List ℕ). b ++ v) (sym i) ∙ is)
 
-    behind : (m : List ℕ) → b ≡ start_text h m → Judged 64 (count_lines (at_line 1) m) m → HeadJudged b
-    behind m y (inl (o, room)) = inl (subst (λ (s : Lines). is_over s ≡ false) (sym (ap (count_lines at_start) y ∙ count_start_text h x m)) o, inl (subst BeginsAHead (sym y) (room_begins h x m room)))
-    behind m y (inr (o, full)) = inr (subst (λ (s : Lines). is_over s ≡ true) (sym (ap (count_lines at_start) y ∙ count_start_text h x m)) o, subst NeverHasHead (sym y) (full_never h x m full))
+    after : (m : List ℕ) → b ≡ start_text h m → Judged 64 (count_lines (at_line 1) m) m → HeadJudged b
+    after m y (inl (o, room)) = inl (subst (λ (s : Lines). is_over s ≡ false) (sym (ap (count_lines at_start) y ∙ count_start_text h x m)) o, inl (subst BeginsAHead (sym y) (room_begins h x m room)))
+    after m y (inr (o, full)) = inr (subst (λ (s : Lines). is_over s ≡ true) (sym (ap (count_lines at_start) y ∙ count_start_text h x m)) o, subst NeverHasHead (sym y) (full_never h x m full))
 
     choose : ((m : List ℕ) × (b ≡ start_text h [] ++ m) × (print_section h.fields h.last ≡ m ++ more)) ⊎ ((m : List ℕ) × (start_text h [] ≡ b ++ m) × (more ≡ m ++ print_section h.fields h.last)) → HeadJudged b
-    choose (inl (m, y, z)) = behind m (y ∙ start_append h [] m) (section_judged h.fields h.last 64 1 m more refl x.fields (sym z) some)
+    choose (inl (m, y, z)) = after m (y ∙ start_append h [] m) (section_judged h.fields h.last 64 1 m more refl x.fields (sym z) some)
     choose (inr (m, y, z)) =
         let k : count_lines at_start (b ++ m) ≡ at_line 1 = ap (count_lines at_start) (sym y) ∙ count_start_text h x [] in
         let g : (count_lines at_start b).ended ≤ (count_lines (count_lines at_start b) m).ended = lines_grow (count_lines at_start b) m in

@@ -1,16 +1,15 @@
 -- What a window holds once a piece is read.
-use Rattle.std.proofs.Common.{◌≡◌, ◌≢◌, ℕ, ◌+◌, ◌-◌, ◌<◌, ◌≤◌, ◌^◌, List, [], ◌∷◌, ◌++◌, length, take, drop, refl, sym, ap, ◌∙◌, subst, arith, length-append, length-drop, length-take-le, append_assoc, append-nil, take-append-drop}
-use Rattle.std.specs.Prelude.{Option, Some, None, Result, Ok, Err, slice_range}
+use Rattle.std.proofs.Common.{◌≡◌, ℕ, ◌+◌, ◌-◌, ◌<◌, ◌≤◌, ◌^◌, List, [], ◌∷◌, ◌++◌, length, take, drop, refl, sym, ap, ◌∙◌, subst, arith, length-append, length-drop, length-take-le, append_assoc, take-append-drop}
+use Rattle.std.specs.Prelude.{Option, Some, None, Result, Err, slice_range}
 use Rattle.std.specs.Vec.{vec_capacity}
 use Rattle.std.proofs.lemmas.List.{drop-take, drop-append-le, drop_at, take_at}
 use Rattle.event_form.specs.declared.feed_fault.FeedFault.{FeedFault}
-use Rattle.event_form.specs.declared.feed_fault.FeedFault.TheVariants.{Fault, NoMemory}
+use Rattle.event_form.specs.declared.feed_fault.FeedFault.TheVariants.{NoMemory}
 use Rattle.http_edge.specs.declared.fault.HttpFault.{HttpFault}
 use Rattle.http_edge.specs.declared.head.Head.{Head}
 use Rattle.http_edge.specs.declared.held.Held.{Held}
 use Rattle.http_edge.specs.declared.left.Left.{Left}
 use Rattle.http_edge.specs.declared.part.HeadPart.{HeadPart}
-use Rattle.http_edge.specs.declared.request.HttpItem.{HttpItem}
 use Rattle.http_edge.specs.declared.stage.Stage.{Stage}
 use Rattle.http_edge.specs.declared.waiting.Waiting.{Waiting}
 use Rattle.http_edge.specs.declared.waiting.Waiting.TheVariants.{Continue, Request}
@@ -20,7 +19,7 @@ use Rattle.http_edge.specs.Heads.{IsOpenHead}
 use Rattle.http_edge.specs.Parts.{IsPart}
 use Rattle.http_edge.specs.Reading as reading
 use Rattle.http_edge.specs.Reading.{Reading}
-use Rattle.http_edge.specs.Scanning.{IsBegun, Leaves, Scans, ScansTo, StandsWithin}
+use Rattle.http_edge.specs.Scanning.{IsBegun, Leaves, Scans, StandsWithin}
 use Rattle.http_edge.specs.Steps.{Fits}
 use Rattle.http_edge.specs.Waits.{AreHeads, bodies_of, heads_of, items_in}
 use Rattle.http_edge.specs.Window.{Window}
@@ -135,7 +134,7 @@ settled_fills mid new base more l s x =
       broken = subst (λ (v : List ℕ). IsHeldOf new.fault new.read v) (sym s.unread_is) (subst (λ (n : ℕ). IsHeldOf new.fault n (drop (length more - l.rest) more)) (sym s.read_is) (subst (λ (g : Option HttpFault). IsHeldOf g l.read (drop (length more - l.rest) more)) (sym s.fault_is) (held_moved l.fault base l.read (drop (length more - l.rest) more) x.broken)));
     }
 
--- behind a scan
+-- after a scan
 pub scan_broken : (b got body : List ℕ) (queue : List Waiting) (heads : ℕ) (l : Left) → Scans b got body queue heads l → IsHeldOf l.fault l.read (drop (length b - l.rest) b)
 scan_broken b got body queue heads l s = go l.fault s.scans.leaves
   where

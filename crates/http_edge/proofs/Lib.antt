@@ -10,7 +10,7 @@ pub mod NextLaws
 pub mod StreamLaws
 pub mod FaultLaws
 pub mod FeedLaws
-pub mod BehindLaws
+pub mod AfterLaws
 pub mod OnceLaws
 pub mod ReadingLaws
 pub mod StageLaws

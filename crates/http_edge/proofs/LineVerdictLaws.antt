@@ -97,15 +97,15 @@ verdict_chunk s = go (split_run is_ascii_hexdigit s)
         same : (more : List ℕ) → (h : Begins HexDigits (s ++ more)) → length h.0 ≡ length w
         same more h = ap length (run_unique is_ascii_hexdigit h.0 w h.1 (r ++ more) h.2.0.0 all h.2.0.2 (Stops-append is_ascii_hexdigit r more stops) (sym h.2.0.1 ∙ front-append s w r more is)).0
 
-        behind : HexDigits w s r → Verdict (Then (Run is_ows) Extension) (Completes (Then (Run is_ows) Extension)) r → Verdict Chunk (Completes Chunk) s
-        behind digits (inl (t, z, x)) = inl ((w, t), z, (r, digits, x))
-        behind digits (inr (inl (none, x))) = inr (inl (Refutes_next (Then (Run is_ows) Extension) HexDigits_deterministic {a = w} digits none, Completes_next HexDigits_deterministic {a = w} digits x))
-        behind digits (inr (inr never)) = inr (inr (Refutes_next (Then (Run is_ows) Extension) HexDigits_deterministic {a = w} digits never))
+        after : HexDigits w s r → Verdict (Then (Run is_ows) Extension) (Completes (Then (Run is_ows) Extension)) r → Verdict Chunk (Completes Chunk) s
+        after digits (inl (t, z, x)) = inl ((w, t), z, (r, digits, x))
+        after digits (inr (inl (none, x))) = inr (inl (Refutes_next (Then (Run is_ows) Extension) HexDigits_deterministic {a = w} digits none, Completes_next HexDigits_deterministic {a = w} digits x))
+        after digits (inr (inr never)) = inr (inr (Refutes_next (Then (Run is_ows) Extension) HexDigits_deterministic {a = w} digits never))
 
         choose : (0 < length w) ⊎ (length w ≤ 0) → (16 < length w) ⊎ (length w ≤ 16) → Verdict Chunk (Completes Chunk) s
         choose (inr none) f = never_digits (Never_intro (λ more h. let n = same more h in let k = h.2.1 in omega (arith, n, k, none)))
         choose (inl some) (inl many) = never_digits (Never_intro (λ more h. let n = same more h in let k = h.2.2 in omega (arith, n, k, many)))
-        choose (inl some) (inr few) = behind ((all, is, stops), some, few) (verdict_pad r)
+        choose (inl some) (inr few) = after ((all, is, stops), some, few) (verdict_pad r)
 
     go : Split is_ascii_hexdigit s → Verdict Chunk (Completes Chunk) s
     go (w, r, all, is, inl e) = cut (all_of is_ascii_hexdigit s w r all is e) (cases_lt 16 (length s))

@@ -1,4 +1,4 @@
--- What a head and what is gathered behind it come to.
+-- What a head and what is gathered after it come to.
 use Rattle.std.proofs.Common.{append-nil, false, ◌≡◌, ℕ, ◌+◌, ◌-◌, ◌<◌, ◌≤◌, List, [], ◌∷◌, ◌++◌, length, take, drop, refl, sym, ap, ◌∙◌, subst, arith, inr, length-drop, length-take-le, take-append-drop}
 use Rattle.std.specs.Prelude.{Some}
 use Rattle.std.proofs.lemmas.List.{drop-drop, take_all}
@@ -6,7 +6,6 @@ use Rattle.std.proofs.Math.Seq.{take-add, take-append_seam}
 use Rattle.httparse.specs.Grammar.{RequestHead, print_request}
 use Rattle.http_edge.specs.declared.fault.HttpWhy.{HttpWhy}
 use Rattle.http_edge.specs.declared.fault.HttpWhy.TheVariants.{BadHead, BadLength, TooLong, BadChunk}
-use Rattle.http_edge.specs.declared.gather.Ending.{Ending}
 use Rattle.http_edge.specs.declared.gather.Ending.TheVariants as ending
 use Rattle.http_edge.specs.declared.gather.Gathered.{Gathered}
 use Rattle.http_edge.specs.declared.head.Head.{Head}
@@ -40,11 +39,11 @@ is_request b h head text x z body begins e is f = record {
 pub told_first : (h : RequestHead) (head : Head) (body : List ℕ) (told : List HttpItem) → head ≡ head_of h → told ≡ told_of h → items_of (with_body head body) ≡ told ++ Request (with_body head body) ∷ []
 told_first h head body told e f = ap (λ (v : List HttpItem). v ++ Request (with_body head body) ∷ []) (ap (λ (k : Head). items_if (asks k.minor k.fields)) e ∙ sym f)
 
--- what is behind a head that has come to an open body
+-- what is after a head that has come to an open body
 pub is_open : (b : List ℕ) (h : RequestHead) (front unread body : List ℕ) (stage : Stage) (told : List HttpItem) → BeginsWith b h (front ++ unread) → Reaches (size_of h) stage body front → Awaits stage unread → told ≡ told_of h → IsOpen b told
 is_open b h front unread body stage told begins r w e = inr (h, front ++ unread, begins, record { stage = stage; body = body; front = front; unread = unread; reaches = r; awaits = w; text_is = refl }, e)
 
--- how far behind a head its window goes
+-- how far after a head its window goes
 opening_rest : (b : List ℕ) (o : Opening) (used : ℕ) → o.len ≤ length b → drop used (drop o.len b) ≡ drop (o.len + used) b
 opening_rest b o used inside = drop-drop used o.len b
 
@@ -115,26 +114,26 @@ next_bad b o data_read used BadChunk i (few, is) =
 is_head : (b : List ℕ) (o : Opening) → IsOpening b o → IsHead o.head o.len
 is_head b o i = (i.head, i.head_is, i.len_is, (let n = i.begins.short in let m = i.len_is in omega (arith, n, m)))
 
--- what is behind a head, where the body's bytes are appended
-pub into_whole : (b old new behind : List ℕ) (o : Opening) (g : Gathered) (body : ℕ) → IsOpening b o → behind ≡ drop o.len b → (x : Gathers o.stage 0 behind old new g) → g.end ≡ ending.Whole → body ≡ length x.got → NextsInto b old new (next.Whole (record { head = o.head; size = o.len; body = body }) o.asks (o.len + g.used))
-into_whole b old new behind o g body i e x w n =
-    let y : GathersTo o.stage 0 (drop o.len b) x.got g.used ending.Whole = subst (λ (v : List ℕ). GathersTo o.stage 0 v x.got g.used ending.Whole) e (subst (GathersTo o.stage 0 behind x.got g.used) w x.gathers) in
+-- what is after a head, where the body's bytes are appended
+pub into_whole : (b old new after : List ℕ) (o : Opening) (g : Gathered) (body : ℕ) → IsOpening b o → after ≡ drop o.len b → (x : Gathers o.stage 0 after old new g) → g.end ≡ ending.Whole → body ≡ length x.got → NextsInto b old new (next.Whole (record { head = o.head; size = o.len; body = body }) o.asks (o.len + g.used))
+into_whole b old new after o g body i e x w n =
+    let y : GathersTo o.stage 0 (drop o.len b) x.got g.used ending.Whole = subst (λ (v : List ℕ). GathersTo o.stage 0 v x.got g.used ending.Whole) e (subst (GathersTo o.stage 0 after x.got g.used) w x.gathers) in
     let z = next_whole b o x.got g.used i y (with_body o.head x.got) refl in
     let few = x.few in
     let inside = z.2 in
     record { got = x.got; added = x.added; few = omega (arith, few, inside); nexts = (z.0, z.1, z.2, z.3, is_head b o i, n, omega (arith, few)) }
 
-pub into_part : (b old new behind : List ℕ) (o : Opening) (g : Gathered) (body : ℕ) (stage : Stage) → IsOpening b o → behind ≡ drop o.len b → (x : Gathers o.stage 0 behind old new g) → g.end ≡ ending.Open stage → body ≡ length x.got → NextsInto b old new (next.Part (record { head = o.head; size = o.len; asks = o.asks; body = body; stage = stage; used = o.len + g.used }))
-into_part b old new behind o g body stage i e x w n =
-    let y : GathersTo o.stage 0 (drop o.len b) x.got g.used (ending.Open stage) = subst (λ (v : List ℕ). GathersTo o.stage 0 v x.got g.used (ending.Open stage)) e (subst (GathersTo o.stage 0 behind x.got g.used) w x.gathers) in
+pub into_part : (b old new after : List ℕ) (o : Opening) (g : Gathered) (body : ℕ) (stage : Stage) → IsOpening b o → after ≡ drop o.len b → (x : Gathers o.stage 0 after old new g) → g.end ≡ ending.Open stage → body ≡ length x.got → NextsInto b old new (next.Part (record { head = o.head; size = o.len; asks = o.asks; body = body; stage = stage; used = o.len + g.used }))
+into_part b old new after o g body stage i e x w n =
+    let y : GathersTo o.stage 0 (drop o.len b) x.got g.used (ending.Open stage) = subst (λ (v : List ℕ). GathersTo o.stage 0 v x.got g.used (ending.Open stage)) e (subst (GathersTo o.stage 0 after x.got g.used) w x.gathers) in
     let z = next_part b o x.got g.used stage i y in
     let few = x.few in
     let inside = z.1 in
     record { got = x.got; added = x.added; few = omega (arith, few, inside); nexts = (z.0, z.1, is_head b o i, n, omega (arith, few)) }
 
-pub into_bad : (b old new behind : List ℕ) (o : Opening) (g : Gathered) (why : HttpWhy) (at : ℕ) → IsOpening b o → behind ≡ drop o.len b → (x : Gathers o.stage 0 behind old new g) → g.end ≡ ending.Bad why → at ≡ place_of why (o.len + g.used) → NextsInto b old new (next.Bad why o.asks at)
-into_bad b old new behind o g why at i e x w p =
-    let y : GathersTo o.stage 0 (drop o.len b) x.got g.used (ending.Bad why) = subst (λ (v : List ℕ). GathersTo o.stage 0 v x.got g.used (ending.Bad why)) e (subst (GathersTo o.stage 0 behind x.got g.used) w x.gathers) in
+pub into_bad : (b old new after : List ℕ) (o : Opening) (g : Gathered) (why : HttpWhy) (at : ℕ) → IsOpening b o → after ≡ drop o.len b → (x : Gathers o.stage 0 after old new g) → g.end ≡ ending.Bad why → at ≡ place_of why (o.len + g.used) → NextsInto b old new (next.Bad why o.asks at)
+into_bad b old new after o g why at i e x w p =
+    let y : GathersTo o.stage 0 (drop o.len b) x.got g.used (ending.Bad why) = subst (λ (v : List ℕ). GathersTo o.stage 0 v x.got g.used (ending.Bad why)) e (subst (GathersTo o.stage 0 after x.got g.used) w x.gathers) in
     let z = next_bad b o x.got g.used why i y in
     let few = x.few in
     let used = used_inside o.stage (drop o.len b) x.got why g.used y in

@@ -5,7 +5,7 @@ use Rattle.std.specs.List.{flat_map}
 use Rattle.std.proofs.lemmas.List.{flat_map_more, drop-drop, drop_at, take_all, take_at}
 use Rattle.std.proofs.lemmas.List.Elements.{All-cons, All-nil, All-push}
 use Rattle.std.proofs.Math.Seq.{take-add}
-use Rattle.httparse.specs.Grammar.{is_token_byte, is_uri_byte, is_value_byte, AllPass, IsToken, LineEnd, crlf, lf, print_end, print_blank, print_version, Field, print_field, IsField, print_section, RequestHead, IsRequestHead}
+use Rattle.httparse.specs.Grammar.{is_token_byte, is_uri_byte, is_value_byte, IsToken, LineEnd, crlf, lf, print_end, print_blank, print_version, Field, print_field, IsField, print_section, RequestHead, IsRequestHead}
 use Rattle.httparse.proofs.GrammarLemmas.{request_unique, print_request-append, ReadsRequest-append}
 use Rattle.httparse.proofs.OpenLemmas.{some_target}
 use Rattle.http_edge.specs.declared.lines.Lines.{Lines}
@@ -15,7 +15,7 @@ use Rattle.http_edge.specs.declared.part.LinePart.{LinePart}
 use Rattle.http_edge.specs.declared.part.LinePart.TheVariants as line
 use Rattle.http_edge.specs.Heads.{HoldsHead, HasNoHead, IsOpenHead}
 use Rattle.http_edge.specs.LineCount.{count_lines, at_start, at_line}
-use Rattle.http_edge.specs.Parts.{IsOpenField, IsLinePart, IsPart, IsVersion, after_start}
+use Rattle.http_edge.specs.Parts.{IsLinePart, IsPart, IsVersion, after_start}
 use Rattle.http_edge.proofs.HeadLaws.{start_append, count_blank, count_method, count_target, count_start_text}
 use Rattle.http_edge.proofs.LineLaws.{lines_grow, in_line}
 

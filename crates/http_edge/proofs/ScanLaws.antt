@@ -1,26 +1,22 @@
 -- How whole requests are read one after another, and their bodies appended.
-use Rattle.std.proofs.Common.{◌≡◌, ℕ, ◌+◌, ◌-◌, ◌<◌, ◌≤◌, Bool, true, false, List, [], ◌∷◌, ◌++◌, length, take, drop, refl, sym, ap, ◌∙◌, subst, arith, length-append, length-drop, length-take-le, append_assoc, append-nil}
+use Rattle.std.proofs.Common.{◌≡◌, ℕ, ◌+◌, ◌-◌, ◌≤◌, Bool, true, false, List, [], ◌∷◌, ◌++◌, length, take, drop, refl, sym, ap, ◌∙◌, subst, arith, length-append, length-drop, append_assoc, append-nil}
 use Rattle.std.proofs.lemmas.List.{drop-append-le, take-append-le}
-use Rattle.std.specs.Prelude.{Option, Some, None}
-use Rattle.std.proofs.lemmas.List.{drop-drop, take_all, take_at, drop_at}
+use Rattle.std.specs.Prelude.{Some, None, insert}
+use Rattle.std.proofs.lemmas.List.{take_all, take_at, drop_at}
 use Rattle.http_edge.specs.declared.fault.HttpWhy.{HttpWhy}
-use Rattle.http_edge.specs.declared.head.Head.{Head}
-use Rattle.http_edge.specs.declared.left.Left.{Left}
 use Rattle.http_edge.specs.declared.next.Next.{Next}
 use Rattle.http_edge.specs.declared.next.Next.TheVariants.{Whole, Part, Open, Bad}
 use Rattle.http_edge.specs.declared.next.Unfinished.{Unfinished}
 use Rattle.http_edge.specs.declared.request.HttpItem.{HttpItem}
 use Rattle.http_edge.specs.declared.request.HttpItem.TheVariants as item
-use Rattle.http_edge.specs.declared.scan.Scanned.{Scanned}
-use Rattle.http_edge.specs.declared.stage.Stage.{Stage}
 use Rattle.http_edge.specs.declared.stage.Stage.TheVariants.{Plain}
 use Rattle.http_edge.specs.declared.waiting.Parked.{Parked}
 use Rattle.http_edge.specs.declared.waiting.Waiting.{Waiting}
 use Rattle.http_edge.specs.declared.waiting.Waiting.TheVariants.{Continue, Request}
 use Rattle.http_edge.specs.HttpStream.{AreRequests, items_if}
-use Rattle.http_edge.specs.Waits.{AreHeads, IsHead, told_if, items_in, bodies_of, heads_of, with_body}
-use Rattle.http_edge.specs.Scanning.{NextsInto, IsLeft, ScansTo, Scans, ScansInto, cleared}
-use Rattle.http_edge.proofs.StreamLaws.{requests_more, scans_left, scans_bad, left_open, left_moved, requests_inside, no_requests}
+use Rattle.http_edge.specs.Waits.{AreHeads, told_if, items_in, bodies_of, heads_of, with_body}
+use Rattle.http_edge.specs.Scanning.{NextsInto, IsLeft, Scans, cleared}
+use Rattle.http_edge.proofs.StreamLaws.{requests_more, scans_left, scans_bad, left_open, left_moved, no_requests}
 
 -- two lists of items, and the bodies of both
 pub items_append : (q r : List Waiting) (a b : List ℕ) → bodies_of q ≡ length a → items_in (q ++ r) (a ++ b) ≡ items_in q a ++ items_in r b
@@ -206,3 +202,19 @@ scan_bad b old items more queue now heads from at why asks a n e =
 -- the bytes without those of a body at fault
 pub cut_back : (old items more kept got : List ℕ) (n : ℕ) → more ≡ items ++ got → n ≡ length items → kept ≡ take n more → kept ≡ items
 cut_back old items more kept got n e l k = k ∙ ap (take n) e ∙ take_at items got n (sym l)
+
+-- a queue with those that waited before, those of some requests, and those given of the next one
+pub told_after : (before now queue after : List Waiting) (asks : Bool) → now ≡ before ++ queue → after ≡ now ++ told_if asks → after ≡ before ++ (queue ++ told_if asks)
+told_after before now queue after asks e f = f ∙ ap (λ (v : List Waiting). v ++ told_if asks) e ∙ append_assoc before queue (told_if asks)
+
+-- the same, and then a request
+pub parked_after : (before now queue told after : List Waiting) (asks : Bool) (p : Parked) → now ≡ before ++ queue → told ≡ now ++ told_if asks → after ≡ told ++ Request p ∷ [] → after ≡ before ++ ((queue ++ told_if asks) ++ Request p ∷ [])
+parked_after before now queue told after asks p e f g = g ∙ ap (λ (v : List Waiting). v ++ Request p ∷ []) (told_after before now queue told asks e f) ∙ append_assoc before (queue ++ told_if asks) (Request p ∷ [])
+
+-- an item put between two lists
+pub insert_between : (q r : List Waiting) (w : Waiting) (n : ℕ) → n ≡ length q → insert (q ++ r) n w ≡ (q ++ w ∷ []) ++ r
+insert_between q r w n e = (λ i. take_at q r n (sym e) i ++ w ∷ drop_at q r n (sym e) i) ∙ sym (append_assoc q (w ∷ []) r)
+
+-- the items that waited before
+pub queue_back : (before now kept more : List Waiting) (n : ℕ) → now ≡ before ++ more → n ≡ length before → kept ≡ take n now → kept ≡ before
+queue_back before now kept more n e l k = k ∙ ap (take n) e ∙ take_at before more n (sym l)

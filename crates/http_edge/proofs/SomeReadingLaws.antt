@@ -31,8 +31,8 @@ request_is rest text front h body b is = record { head = h; text = front; begins
 opens : (fed rest : List ℕ) (items told : List HttpItem) (at : ℕ) → AreRequests fed items at rest → IsOpen rest told → HasReading fed
 opens fed rest items told at a o = inl (items ++ told, at, rest, record { before = items; told = told; requests = a; items_are = refl; going = o })
 
-fails : (fed rest : List ℕ) (items told : List HttpItem) (at behind : ℕ) (why : HttpWhy) → AreRequests fed items at rest → IsFault rest why behind told → HasReading fed
-fails fed rest items told at behind why a f = inr (items ++ told, at, at + behind, why, record { before = items; told = told; rest = rest; behind = behind; requests = a; items_are = refl; place_is = refl; fault = f })
+fails : (fed rest : List ℕ) (items told : List HttpItem) (at offset : ℕ) (why : HttpWhy) → AreRequests fed items at rest → IsFault rest why offset told → HasReading fed
+fails fed rest items told at offset why a f = inr (items ++ told, at, at + offset, why, record { before = items; told = told; rest = rest; offset = offset; requests = a; items_are = refl; place_is = refl; fault = f })
 
 -- requests, and fewer than n bytes after them
 reading_on : (n : ℕ) (fed rest : List ℕ) (items : List HttpItem) (at : ℕ) → length rest < n → AreRequests fed items at rest → HasReading fed

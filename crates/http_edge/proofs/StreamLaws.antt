@@ -2,7 +2,7 @@
 use Rattle.std.proofs.Common.{◌≡◌, ℕ, ◌+◌, ◌-◌, ◌<◌, ◌≤◌, Bool, List, [], ◌∷◌, ◌++◌, length, take, drop, refl, sym, ap, ◌∙◌, subst, arith, inl, length-append, length-drop, length-take-le, append_assoc, append-nil, take-append-drop}
 use Rattle.std.specs.Prelude.{Option, Some, None}
 use Rattle.std.specs.List.{flat_map}
-use Rattle.std.proofs.lemmas.List.{drop-drop, take_all}
+use Rattle.std.proofs.lemmas.List.{drop-drop}
 use Rattle.stream_grammar.specs.Framing.{AreSpelled}
 use Rattle.http_edge.specs.declared.fault.HttpWhy.{HttpWhy}
 use Rattle.http_edge.specs.declared.head.Head.{Head}
@@ -14,7 +14,6 @@ use Rattle.http_edge.specs.declared.stage.Stage.TheVariants.{Plain}
 use Rattle.http_edge.specs.Heads.{IsOpenHead}
 use Rattle.http_edge.specs.HttpStream.{IsRequest, items_if, items_of, IsFault, AreRequests}
 use Rattle.http_edge.specs.Scanning.{IsLeft, ScansTo}
-use Rattle.http_edge.specs.Steps.{Fits}
 
 pub spelled_append : (rs ss : List HttpRequest) (a b : List ℕ) → AreSpelled IsRequest rs a → AreSpelled IsRequest ss b → AreSpelled IsRequest (rs ++ ss) (a ++ b)
 spelled_append [] ss a b x y = subst (AreSpelled IsRequest ss) (ap (λ (v : List ℕ). v ++ b) (sym x)) y
@@ -27,7 +26,7 @@ items_append (r ∷ rs) ss = ap (λ (v : List HttpItem). items_of r ++ v) (items
 pub no_requests : (b : List ℕ) → AreRequests b [] 0 b
 no_requests b = record { requests = []; front = []; spelled = refl; whole = refl; at_is = refl; items_are = refl }
 
--- requests, and behind them, a piece further on, more requests
+-- requests, and after them, a piece further on, more requests
 pub requests_then : (fed piece rest : List ℕ) (before more : List HttpItem) (at from : ℕ) (last : List ℕ) → AreRequests fed before at rest → AreRequests (rest ++ piece) more from last → AreRequests (fed ++ piece) (before ++ more) (at + from) last
 requests_then fed piece rest before more at from last s f = record {
   requests = s.requests ++ f.requests;
@@ -67,7 +66,7 @@ left_open rest body e short head = record {
   short = short;
 }
 
--- what a scan brought, by what stood behind the last whole request
+-- what a scan brought, by what stood after the last whole request
 pub scans_left : (b : List ℕ) (before told items : List HttpItem) (from : ℕ) (begun : Option Head) (stage : Stage) (body : List ℕ) (read : ℕ) (unread : List ℕ) → AreRequests b before from (drop from b) → items ≡ before ++ told → read ≤ length (drop from b) → unread ≡ drop (from + read) b → IsLeft (drop from b) told begun stage body read (drop (from + read) b) → ScansTo b items from begun stage body read unread None
 scans_left b before told items from begun stage body read unread s e few u l =
     let inside = requests_inside b before from (drop from b) s in

@@ -116,7 +116,7 @@ some_end crlf = omega arith
 some_end lf = omega arith
 
 -- bytes of fewer than n
-verdict_blank : (n : ℕ) (s : List ℕ) → length s < n → Verdict Blank (Completes BlankLines) s
+pub verdict_blank : (n : ℕ) (s : List ℕ) → length s < n → Verdict Blank (Completes BlankLines) s
 verdict_blank zero s few = absurd (omega (arith, few))
 verdict_blank (suc n) [] few = inr (inl (Blank_open [] 0 (omega arith), record { more = []; tree = []; reads = λ rest. refl }))
 verdict_blank (suc n) (c ∷ s) few = go (λ t less. verdict_blank n t less) (verdict_newline (c ∷ s)) (is_newline c) refl
@@ -145,7 +145,7 @@ verdict_blank (suc n) (c ∷ s) few = go (λ t less. verdict_blank n t less) (ve
     go ih (inr (inl (none, x))) true f = inr (inl (Blank_newline (c ∷ s) 0 (omega arith) f none, BlankLines_after [] refl x))
     go ih (inr (inr never)) true f = inr (inr (Blank_newline (c ∷ s) 0 (omega arith) f never))
 
-verdict_version : (s : List ℕ) → Verdict Version (Completes Version) s
+pub verdict_version : (s : List ℕ) → Verdict Version (Completes Version) s
 verdict_version s = go (verdict_bytes (codes "HTTP/1.") s)
   where
     digit : (minor c : ℕ) (t more r : List ℕ) → s ≡ codes "HTTP/1." ++ c ∷ t → s ++ more ≡ print_version minor ++ r → c ≡ 48 + minor
@@ -211,7 +211,7 @@ verdict_start s = go (verdict_blank (length s + 1) s (omega arith))
 
 -- ---- the field lines
 
-verdict_text : (s : List ℕ) → Verdict Text (Completes Text) s
+pub verdict_text : (s : List ℕ) → Verdict Text (Completes Text) s
 verdict_text s = go (split_run is_value_byte s)
   where
     go : Split is_value_byte s → Verdict Text (Completes Text) s
@@ -288,15 +288,15 @@ verdict_section (suc n) s few = go (λ t less. verdict_section n t less) (verdic
         lines : All IsField (f ∷ []) × (s ≡ flat_map print_field (f ∷ []) ++ t)
         lines = (All-cons IsField f [] x.0 (All-nil IsField), x.1 ∙ ap (λ (v : List ℕ). v ++ t) (sym (append-nil (print_field f))))
 
-        behind : (more : List ℕ) → Begins Section (s ++ more) → Begins Section (t ++ more)
-        behind more h = let q = Section_skip (f ∷ []) h.0.0 h.0.1 (s ++ more) (t ++ more) h.1 (FieldLines-append (f ∷ []) s t more lines) h.2 in ((q.0, h.0.1), h.1, q.2)
+        after : (more : List ℕ) → Begins Section (s ++ more) → Begins Section (t ++ more)
+        after more h = let q = Section_skip (f ∷ []) h.0.0 h.0.1 (s ++ more) (t ++ more) h.1 (FieldLines-append (f ∷ []) s t more lines) h.2 in ((q.0, h.0.1), h.1, q.2)
 
         next : Verdict Section (Completes Section) t → Verdict Section (Completes Section) s
         next (inl ((gs, e), r, y)) =
             let flat : (a b c d : List ℕ) → a ++ ((b ++ c) ++ d) ≡ ((a ++ b) ++ c) ++ d = λ a b c d. simp append_assoc in
             inl ((f ∷ gs, e), r, (All-cons IsField f gs x.0 y.0, x.1 ∙ ap (λ (v : List ℕ). print_field f ++ v) y.1 ∙ flat (print_field f) (flat_map print_field gs) (print_end e) r))
-        next (inr (inl (none, y))) = inr (inl (Refutes_by behind none, Section_after_lines (f ∷ []) lines y))
-        next (inr (inr never)) = inr (inr (Refutes_by behind never))
+        next (inr (inl (none, y))) = inr (inl (Refutes_by after none, Section_after_lines (f ∷ []) lines y))
+        next (inr (inr never)) = inr (inr (Refutes_by after never))
 
 -- ---- the whole head
 

@@ -1,5 +1,5 @@
 -- What contracts see of a window after a piece.
-use Rattle.std.proofs.Common.{◌≡◌, ℕ, ◌+◌, ◌-◌, ◌≤◌, ◌<◌, List, [], length, take, min, refl, sym, ap, ◌∙◌, subst, arith, length-take-le}
+use Rattle.std.proofs.Common.{◌≡◌, ℕ, ◌+◌, ◌-◌, ◌≤◌, List, length, take, min, ap, ◌∙◌, subst, arith, length-take-le}
 use Rattle.std.specs.Prelude.{None, Result, Ok, Err, IsErrAnd}
 use Rattle.event_form.specs.declared.feed_fault.FeedFault.{FeedFault}
 use Rattle.event_form.specs.declared.feed_fault.FeedFault.TheVariants.{Fault, NoMemory}

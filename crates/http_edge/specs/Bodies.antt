@@ -3,6 +3,7 @@ use Rattle.std.specs.Prelude.{◌≡◌, ◌≢◌, ℕ, ◌+◌, ◌<◌, ◌�
 use Rattle.httparse.specs.Grammar.{HasNoChunkLine, NeverHasChunkLine, MayBecomeChunkLine}
 use Rattle.http_edge.specs.declared.stage.Stage.{Stage}
 use Rattle.http_edge.specs.declared.stage.Stage.TheVariants.{Plain, Line, Data, End, Trailer}
+use Rattle.http_edge.specs.declared.limits.TheConstants.{MOST_BODY, MOST_HEAD, MOST_LINE}
 use Rattle.http_edge.specs.Lengths.{BodySize, Sized, Chunked, BadSize}
 use Rattle.http_edge.specs.Chunks.{IsLine, AreChunks, HoldsTrailer, HasNoTrailer, NeverHasTrailer, MayBecomeTrailer}
 
@@ -31,15 +32,15 @@ pub record IsPastChunks (body text : List ℕ) : Type 0 where
 -- the text of a body that is framed so brings it to a stage, and is so far this body
 abbrev pub Reaches : BodySize → Stage → List ℕ → List ℕ → Type 0
 -- so many of its bytes are due
-Reaches size (Plain left) body text = (size ≡ Sized (length body + left)) × (length body + left ≤ 1048576) × (text ≡ body)
+Reaches size (Plain left) body text = (size ≡ Sized (length body + left)) × (length body + left ≤ MOST_BODY) × (text ≡ body)
 -- a chunk line is due
-Reaches size Line body text = (size ≡ Chunked) × (length body ≤ 1048576) × ((chunks : List (List ℕ)) × AreChunks chunks body text)
+Reaches size Line body text = (size ≡ Chunked) × (length body ≤ MOST_BODY) × ((chunks : List (List ℕ)) × AreChunks chunks body text)
 -- so many of a chunk's data are due
-Reaches size (Data left) body text = (size ≡ Chunked) × (length body + left ≤ 1048576) × IsInChunk left body text
--- CR LF behind a chunk's data is due
-Reaches size End body text = (size ≡ Chunked) × (length body ≤ 1048576) × IsInChunk 0 body text
+Reaches size (Data left) body text = (size ≡ Chunked) × (length body + left ≤ MOST_BODY) × IsInChunk left body text
+-- CR LF after a chunk's data is due
+Reaches size End body text = (size ≡ Chunked) × (length body ≤ MOST_BODY) × IsInChunk 0 body text
 -- the trailer is due
-Reaches size Trailer body text = (size ≡ Chunked) × (length body ≤ 1048576) × IsPastChunks body text
+Reaches size Trailer body text = (size ≡ Chunked) × (length body ≤ MOST_BODY) × IsPastChunks body text
 
 -- the chunks, the last one's line, and a trailer of at most 16,384 bytes
 pub record IsChunkedBody (body text : List ℕ) : Type 0 where
@@ -47,22 +48,22 @@ pub record IsChunkedBody (body text : List ℕ) : Type 0 where
   pub trailer : List ℕ
   pub reaches : Reaches Chunked Trailer body front
   pub holds : HoldsTrailer trailer []
-  pub short : length trailer ≤ 16384
+  pub short : length trailer ≤ MOST_HEAD
   pub text_is : text ≡ front ++ trailer
 
 -- the text of a whole body, of at most 1,048,576 bytes
 abbrev pub IsBody : BodySize → List ℕ → List ℕ → Type 0
-IsBody (Sized n) body text = (text ≡ body) × (length body ≡ n) × (n ≤ 1048576)
+IsBody (Sized n) body text = (text ≡ body) × (length body ≡ n) × (n ≤ MOST_BODY)
 IsBody Chunked body text = IsChunkedBody body text
 IsBody BadSize body text = ⊥
 
 -- the bytes are a front, and no more, of what is due at a stage
 abbrev pub Awaits : Stage → List ℕ → Type 0
 Awaits (Plain left) u = (0 < left) × (u ≡ [])
-Awaits Line u = (length u < 1024) × HasNoChunkLine u × MayBecomeChunkLine u
+Awaits Line u = (length u < MOST_LINE) × HasNoChunkLine u × MayBecomeChunkLine u
 Awaits (Data left) u = (0 < left) × (u ≡ [])
 Awaits End u = (u ≡ []) ⊎ (u ≡ 13 ∷ [])
-Awaits Trailer u = (length u < 16384) × HasNoTrailer u × MayBecomeTrailer u
+Awaits Trailer u = (length u < MOST_HEAD) × HasNoTrailer u × MayBecomeTrailer u
 
 -- the text is no whole body, and may become one
 pub record IsOpenBody (size : BodySize) (text : List ℕ) : Type 0 where
@@ -76,10 +77,10 @@ pub record IsOpenBody (size : BodySize) (text : List ℕ) : Type 0 where
 
 -- a length above 1,048,576, or a whole chunk line that raises the sum of the sizes above it
 abbrev pub IsTooLong : BodySize → List ℕ → Type 0
-IsTooLong (Sized n) text = 1048576 < n
+IsTooLong (Sized n) text = MOST_BODY < n
 IsTooLong Chunked text =
     (body : List ℕ) × (front : List ℕ) × (line : List ℕ) × (more : List ℕ) × (n : ℕ)
-    × Reaches Chunked Line body front × IsLine n line × (text ≡ front ++ (line ++ more)) × (1048576 < length body + n)
+    × Reaches Chunked Line body front × IsLine n line × (text ≡ front ++ (line ++ more)) × (MOST_BODY < length body + n)
 IsTooLong BadSize text = ⊥
 
 -- the bytes are neither CR LF and more, nor a front of CR LF
@@ -90,10 +91,10 @@ IsNoEnd u = ((c : ℕ) × (v : List ℕ) × (u ≡ c ∷ v) × (c ≢ 13)) ⊎ (
 -- within 16,384 bytes
 abbrev pub Breaks : Stage → List ℕ → Type 0
 Breaks (Plain left) u = ⊥
-Breaks Line u = NeverHasChunkLine (take 1024 u) ⊎ ((1024 ≤ length u) × HasNoChunkLine (take 1024 u))
+Breaks Line u = NeverHasChunkLine (take MOST_LINE u) ⊎ ((MOST_LINE ≤ length u) × HasNoChunkLine (take MOST_LINE u))
 Breaks (Data left) u = ⊥
 Breaks End u = IsNoEnd u
-Breaks Trailer u = NeverHasTrailer (take 16384 u) ⊎ ((16384 ≤ length u) × HasNoTrailer (take 16384 u))
+Breaks Trailer u = NeverHasTrailer (take MOST_HEAD u) ⊎ ((MOST_HEAD ≤ length u) × HasNoTrailer (take MOST_HEAD u))
 
 -- a chunked text breaks a rule at a place
 pub record IsBadChunk (text : List ℕ) (place : ℕ) : Type 0 where

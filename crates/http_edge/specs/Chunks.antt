@@ -1,14 +1,15 @@
--- Chunks, and the trailer behind them (RFC 9112, section 7.1).
+-- Chunks, and the trailer after them (RFC 9112, section 7.1).
 use Rattle.std.specs.Prelude.{◌≡◌, ℕ, ◌<◌, ◌≤◌, List, [], ◌∷◌, ◌++◌, length}
 use Rattle.httparse.specs.Ascii.{crlf_bytes}
 use Rattle.httparse.specs.Grammar.{LineEnd, Field, ReadsSection, ChunkLine, IsChunkLine, print_chunk_line, chunk_size}
+use Rattle.http_edge.specs.declared.limits.TheConstants.{MOST_FIELDS, MOST_LINE}
 
 -- a chunk line of at most 1,024 bytes, which writes this size
 pub record IsLine (size : ℕ) (text : List ℕ) : Type 0 where
   pub line : ChunkLine
   pub is : IsChunkLine line
   pub text_is : text ≡ print_chunk_line line
-  pub short : length text ≤ 1024
+  pub short : length text ≤ MOST_LINE
   pub size_is : size ≡ chunk_size line
 
 -- a chunk of these data, of which there are some: its line, the data, and CR LF
@@ -30,7 +31,7 @@ pub record HoldsTrailer (t rest : List ℕ) : Type 0 where
   pub fields : List Field
   pub last : LineEnd
   pub reads : ReadsSection t fields last rest
-  pub few : length fields ≤ 64
+  pub few : length fields ≤ MOST_FIELDS
 
 -- no trailer is at the front
 abbrev pub HasNoTrailer : List ℕ → Type 0
@@ -40,6 +41,6 @@ HasNoTrailer t = (rest : List ℕ) → HoldsTrailer t rest → ⊥
 abbrev pub NeverHasTrailer : List ℕ → Type 0
 NeverHasTrailer t = (more : List ℕ) → HasNoTrailer (t ++ more)
 
--- some bytes behind these make them a trailer
+-- some bytes after these make them a trailer
 abbrev pub MayBecomeTrailer : List ℕ → Type 0
 MayBecomeTrailer t = (more : List ℕ) × HoldsTrailer (t ++ more) []

@@ -8,6 +8,7 @@ use Rattle.http_edge.specs.declared.held.Held.{Held}
 use Rattle.http_edge.specs.declared.left.Left.{Left}
 use Rattle.http_edge.specs.declared.waiting.Waiting.{Waiting}
 use Rattle.http_edge.specs.declared.waiting.Waiting.TheVariants.{Continue, Request}
+use Rattle.http_edge.specs.declared.limits.TheConstants.{MOST_HEAD, ROOM}
 use Rattle.http_edge.specs.Keeping.{moved}
 use Rattle.http_edge.specs.Parts.{IsPart}
 use Rattle.http_edge.specs.Reading.{Reading, ReadsOn}
@@ -51,10 +52,10 @@ IsHeldOf None read unread = Unit {0}
 IsHeldOf (Some e) read unread = (read ≡ 0) × (unread ≡ [])
 
 -- The parts fit each other and the limits, where these bytes aren't read. The bodies of the requests that wait
--- stand between two places, and behind them that of the unfinished request.
+-- stand between two places, and after them that of the unfinished request.
 pub record FillsWith (h : Held) (unread : List ℕ) : Type 0 where
-  pub space : 1064960 ≤ vec_capacity h.bytes
-  pub unread_space : 16384 ≤ vec_capacity h.unread
+  pub space : ROOM ≤ vec_capacity h.bytes
+  pub unread_space : MOST_HEAD ≤ vec_capacity h.unread
   pub order : h.from ≤ h.whole
   pub inside : h.whole ≤ length h.bytes.items
   pub bodies : h.from + bodies_of h.queue.items ≡ h.whole
@@ -63,9 +64,9 @@ pub record FillsWith (h : Held) (unread : List ℕ) : Type 0 where
   pub begun_is : IsBegun h.begun h.size
   pub first : h.beside ≤ first_head h.queue.items h.size
   pub alone : h.queue.items ≡ [] → h.beside ≡ h.size
-  pub bound : h.heads + h.size + (length h.bytes.items - h.from) + length unread ≤ 1064960 + h.beside
+  pub bound : h.heads + h.size + (length h.bytes.items - h.from) + length unread ≤ ROOM + h.beside
   pub fits : Fits h.stage (length h.bytes.items - h.whole)
-  pub short : length unread < 16384
+  pub short : length unread < MOST_HEAD
   pub room : h.at + h.read + length unread ≤ 2 ^ 40
   pub head : h.begun ≡ None → IsPart h.part unread
   pub none : h.begun ≡ None → (h.whole ≡ length h.bytes.items) × (h.read ≡ 0)
@@ -79,7 +80,7 @@ pub record IsPacked (old new : Held) : Type 0 where
   pub bytes_are : new.bytes.items ≡ drop old.from old.bytes.items
   pub same : new ≡ record old { bytes = new.bytes; from = 0; whole = old.whole - old.from }
 
--- what is left behind requests has been taken over
+-- what is left after requests has been taken over
 pub record Settles (old : Held) (base : ℕ) (more : List ℕ) (l : Left) (new : Held) : Type 0 where
   pub queue_is : new.queue.items ≡ old.queue.items
   pub heads_are : new.heads ≡ old.heads
@@ -94,7 +95,7 @@ pub record Settles (old : Held) (base : ℕ) (more : List ℕ) (l : Left) (new :
   pub stage_is : new.stage ≡ l.stage
   pub read_is : new.read ≡ l.read
   pub unread_is : new.unread.items ≡ drop (length more - l.rest) more
-  pub space : 16384 ≤ vec_capacity new.unread
+  pub space : MOST_HEAD ≤ vec_capacity new.unread
   pub head : new.begun ≡ None → IsPart new.part new.unread.items
   pub fault_is : new.fault ≡ moved base l.fault
 

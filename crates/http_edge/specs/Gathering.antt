@@ -1,10 +1,11 @@
--- What has been read of a piece behind a body.
+-- What has been read of a piece after a body.
 use Rattle.std.specs.Prelude.{◌≡◌, ℕ, ◌+◌, ◌≤◌, ◌<◌, List, ◌++◌, length, take, drop}
 use Rattle.http_edge.specs.declared.fault.HttpWhy.TheVariants.{BadHead, BadLength, TooLong, BadChunk}
 use Rattle.http_edge.specs.declared.gather.Ending.{Ending}
 use Rattle.http_edge.specs.declared.gather.Ending.TheVariants.{Whole, Open, Bad}
 use Rattle.http_edge.specs.declared.gather.Gathered.{Gathered}
 use Rattle.http_edge.specs.declared.stage.Stage.{Stage}
+use Rattle.http_edge.specs.declared.limits.TheConstants.{MOST_HEAD}
 use Rattle.http_edge.specs.Lengths.{BodySize, Chunked}
 use Rattle.http_edge.specs.Bodies.{Reaches, IsBody, IsTooLong, IsBadChunk, Awaits}
 use Rattle.http_edge.specs.Steps.{Fits}
@@ -24,7 +25,7 @@ abbrev pub GathersTo : Stage → ℕ → List ℕ → List ℕ → ℕ → Endin
 GathersTo stage held piece data_read used Whole =
     (used ≤ length piece) × Wherever stage held (λ size body front. IsBody size (body ++ data_read) (front ++ take used piece))
 GathersTo stage held piece data_read used (Open now) =
-    Brings stage held piece now data_read used × Awaits now (drop used piece) × (length (drop used piece) < 16384)
+    Brings stage held piece now data_read used × Awaits now (drop used piece) × (length (drop used piece) < MOST_HEAD)
 GathersTo stage held piece data_read used (Bad BadHead) = ⊥
 GathersTo stage held piece data_read used (Bad BadLength) = ⊥
 GathersTo stage held piece data_read used (Bad TooLong) =

@@ -3,11 +3,12 @@ use Rattle.std.specs.Prelude.{◌≤◌, ◌⊎◌, ℕ, List, [], ◌++◌, len
 use Rattle.httparse.specs.Grammar.{RequestHead, ReadsRequest, EndsInTarget}
 use Rattle.httparse.specs.Spans.{name_and_value}
 use Rattle.http_edge.specs.declared.field.Field.{Field}
+use Rattle.http_edge.specs.declared.limits.TheConstants.{MOST_FIELDS}
 
 -- b is such a head, and then rest
 pub record HoldsHead (b : List ℕ) (h : RequestHead) (rest : List ℕ) : Type 0 where
   pub reads : ReadsRequest b h rest
-  pub few : length h.fields ≤ 64
+  pub few : length h.fields ≤ MOST_FIELDS
 
 -- no such head is at the front
 abbrev pub HasNoHead : List ℕ → Type 0
@@ -17,7 +18,7 @@ HasNoHead b = (h : RequestHead) (rest : List ℕ) → HoldsHead b h rest → ⊥
 abbrev pub NeverHasHead : List ℕ → Type 0
 NeverHasHead b = (more : List ℕ) → HasNoHead (b ++ more)
 
--- some bytes behind these make them such a head
+-- some bytes after these make them such a head
 pub record BeginsAHead (b : List ℕ) : Type 0 where
   pub more : List ℕ
   pub head : RequestHead

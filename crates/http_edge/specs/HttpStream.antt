@@ -8,6 +8,7 @@ use Rattle.http_edge.specs.declared.request.HttpItem.{HttpItem}
 use Rattle.http_edge.specs.declared.request.HttpItem.TheVariants.{Continue, Request}
 use Rattle.http_edge.specs.declared.fault.HttpWhy.{HttpWhy}
 use Rattle.http_edge.specs.declared.fault.HttpWhy.TheVariants.{BadHead, BadLength, TooLong, BadChunk}
+use Rattle.http_edge.specs.declared.limits.TheConstants.{MOST_HEAD}
 use Rattle.http_edge.specs.Heads.{HoldsHead, NeverHasHead, IsOpenHead, head_fields}
 use Rattle.http_edge.specs.Lengths.{BadSize, Chunked, size_of, asks}
 use Rattle.http_edge.specs.Bodies.{IsBody, IsOpenBody, IsTooLong, IsBadChunk}
@@ -19,7 +20,7 @@ request_of h body = record { method = h.method; target = h.target; minor = h.min
 -- b is a head that ends in its first 16,384 bytes, and text
 pub record BeginsWith (b : List ℕ) (h : RequestHead) (text : List ℕ) : Type 0 where
   pub holds : HoldsHead b h text
-  pub short : length (print_request h) ≤ 16384
+  pub short : length (print_request h) ≤ MOST_HEAD
 
 -- the bytes of a request: its head and its body's text
 pub record IsRequest (r : HttpRequest) (x : List ℕ) : Type 0 where
@@ -43,16 +44,16 @@ items_of r = items_if (asks r.minor r.fields) ++ Request r ∷ []
 -- the bytes are of an unfinished request, or none, and these items are told of it
 abbrev pub IsOpen : List ℕ → List HttpItem → Type 0
 IsOpen rest items =
-    ((length rest < 16384) × IsOpenHead rest × (items ≡ []))
+    ((length rest < MOST_HEAD) × IsOpenHead rest × (items ≡ []))
     ⊎ ((h : RequestHead) × (text : List ℕ) × BeginsWith rest h text × IsOpenBody (size_of h) text × (items ≡ told_of h))
 
--- what is at fault, how far behind the request's first byte, and the items told of it before
+-- what is at fault, how far after the request's first byte, and the items told of it before
 abbrev pub IsFault : List ℕ → HttpWhy → ℕ → List HttpItem → Type 0
-IsFault rest BadHead place items = NeverHasHead (take 16384 rest) × (place ≡ 0) × (items ≡ [])
+IsFault rest BadHead place items = NeverHasHead (take MOST_HEAD rest) × (place ≡ 0) × (items ≡ [])
 IsFault rest BadLength place items =
     (h : RequestHead) × (text : List ℕ) × BeginsWith rest h text × (size_of h ≡ BadSize) × (place ≡ 0) × (items ≡ [])
 IsFault rest TooLong place items =
-    ((16384 ≤ length rest) × IsOpenHead (take 16384 rest) × (place ≡ 0) × (items ≡ []))
+    ((MOST_HEAD ≤ length rest) × IsOpenHead (take MOST_HEAD rest) × (place ≡ 0) × (items ≡ []))
     ⊎ ((h : RequestHead) × (text : List ℕ) × BeginsWith rest h text × IsTooLong (size_of h) text × (place ≡ 0) × (items ≡ told_of h))
 IsFault rest BadChunk place items =
     (h : RequestHead) × (text : List ℕ) × (at : ℕ) × BeginsWith rest h text × (size_of h ≡ Chunked) × IsBadChunk text at
@@ -80,8 +81,8 @@ pub record IsFaulty (b : List ℕ) (items : List HttpItem) (at place : ℕ) (why
   pub before : List HttpItem
   pub told : List HttpItem
   pub rest : List ℕ
-  pub behind : ℕ
+  pub offset : ℕ
   pub requests : AreRequests b before at rest
   pub items_are : items ≡ before ++ told
-  pub place_is : place ≡ at + behind
-  pub fault : IsFault rest why behind told
+  pub place_is : place ≡ at + offset
+  pub fault : IsFault rest why offset told

@@ -7,6 +7,7 @@ use Rattle.http_edge.specs.declared.fault.HttpWhy.{HttpWhy}
 use Rattle.http_edge.specs.declared.fault.HttpWhy.TheVariants.{BadHead, TooLong}
 use Rattle.http_edge.specs.declared.request.HttpItem.{HttpItem}
 use Rattle.http_edge.specs.declared.request.HttpRequest.{HttpRequest}
+use Rattle.http_edge.specs.declared.limits.TheConstants.{MOST_HEAD}
 use Rattle.http_edge.specs.Heads.{NeverHasHead}
 use Rattle.http_edge.specs.Lengths.{BodySize, Sized, Chunked, BadSize}
 use Rattle.http_edge.specs.Bodies.{IsBody, IsOpenBody, IsTooLong, IsBadChunk}
@@ -34,7 +35,7 @@ AreBothReasons why other = ((why ≡ BadHead) × (other ≡ TooLong)) ⊎ ((why 
 abbrev pub OneFault : Type 0
 OneFault =
     (fed : List ℕ) (items others : List HttpItem) (m n place other_place : ℕ) (why other : HttpWhy) → IsFaulty fed items m place why → IsFaulty fed others n other_place other
-    → (items ≡ others) × (m ≡ n) × (place ≡ other_place) × ((why ≡ other) ⊎ (AreBothReasons why other × IsLeftOpen (take 16384 (drop m fed))))
+    → (items ≡ others) × (m ≡ n) × (place ≡ other_place) × ((why ≡ other) ⊎ (AreBothReasons why other × IsLeftOpen (take MOST_HEAD (drop m fed))))
 
 -- Bytes with a fault have no reading without one, but where the unfinished request's bytes are left open.
 -- There the fault is that no head can come, at the request's first byte, and the items are the same.
@@ -47,8 +48,8 @@ FaultOrStream =
 -- an unfinished request; or with 16,384 bytes, a head that is too long.
 abbrev pub BothReadings : Type 0
 BothReadings =
-    (fed : List ℕ) (items : List HttpItem) (m : ℕ) (rest : List ℕ) → AreRequests fed items m rest → IsLeftOpen (take 16384 rest)
-    → IsFaulty fed items m m BadHead × (length rest < 16384 → IsStream fed items m rest) × (16384 ≤ length rest → IsFaulty fed items m m TooLong)
+    (fed : List ℕ) (items : List HttpItem) (m : ℕ) (rest : List ℕ) → AreRequests fed items m rest → IsLeftOpen (take MOST_HEAD rest)
+    → IsFaulty fed items m m BadHead × (length rest < MOST_HEAD → IsStream fed items m rest) × (MOST_HEAD ≤ length rest → IsFaulty fed items m m TooLong)
 
 -- whole requests, and an unfinished one or none, or one at fault
 abbrev pub HasReading : List ℕ → Type 0

@@ -6,6 +6,7 @@ use Rattle.std.specs.Str.{str_eq_ignore_ascii_case}
 use Rattle.std.specs.Str.Parse.{digits_value}
 use Rattle.httparse.specs.Grammar.{RequestHead}
 use Rattle.http_edge.specs.declared.field.Field.{Field}
+use Rattle.http_edge.specs.declared.limits.TheConstants.{MOST_BODY}
 use Rattle.http_edge.specs.Fields.{values_of, field_value}
 use Rattle.http_edge.specs.Heads.{head_fields}
 
@@ -37,7 +38,7 @@ size_of h = body_size h.minor (head_fields h)
 
 -- the body is of more than 0 bytes, and may come
 abbrev pub has_body : BodySize → Bool
-has_body (Sized n) = nat_lt 0 n && nat_le n 1048576
+has_body (Sized n) = nat_lt 0 n && nat_le n MOST_BODY
 has_body Chunked = true
 has_body BadSize = false
 

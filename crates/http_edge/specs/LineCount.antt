@@ -3,6 +3,7 @@ use Rattle.std.specs.Prelude.{ℕ, ◌+◌, Bool, true, false, ◌&&◌, ◌||�
 use Rattle.http_edge.specs.declared.lines.Lines.{Lines}
 use Rattle.http_edge.specs.declared.lines.LastLine.{LastLine}
 use Rattle.http_edge.specs.declared.lines.LastLine.TheVariants.{Empty, Return, Text}
+use Rattle.http_edge.specs.declared.limits.TheConstants.{MOST_FIELDS}
 
 abbrev pub is_empty : LastLine → Bool
 is_empty Empty = true
@@ -14,7 +15,7 @@ is_text Empty = false
 is_text Return = false
 is_text Text = true
 
--- the line that hasn't ended, behind another byte of it
+-- the line that hasn't ended, after another byte of it
 abbrev pub last_after : LastLine → ℕ → LastLine
 last_after last c = if is_empty last && c == 13 then Return else Text
 
@@ -31,10 +32,10 @@ count_lines s (c ∷ b) = count_lines (count_byte s c) b
 abbrev pub at_start : Lines
 at_start = record { started = false; ended = 0; last = Empty }
 
--- behind so many lines
+-- after so many lines
 abbrev pub at_line : ℕ → Lines
 at_line n = record { started = true; ended = n; last = Empty }
 
 -- a start line and 64 field lines have ended, and a further one has begun
 abbrev pub is_over : Lines → Bool
-is_over s = nat_lt 65 s.ended || (nat_lt 64 s.ended && is_text s.last)
+is_over s = nat_lt (MOST_FIELDS + 1) s.ended || (nat_lt MOST_FIELDS s.ended && is_text s.last)

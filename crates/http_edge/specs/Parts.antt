@@ -7,6 +7,7 @@ use Rattle.http_edge.specs.declared.part.HeadPart.{HeadPart}
 use Rattle.http_edge.specs.declared.part.HeadPart.TheVariants.{Blank, Return, Method, Target, Fields, Other}
 use Rattle.http_edge.specs.declared.part.LinePart.{LinePart}
 use Rattle.http_edge.specs.declared.part.LinePart.TheVariants as line
+use Rattle.http_edge.specs.declared.limits.TheConstants.{MOST_FIELDS}
 use Rattle.http_edge.specs.Heads.{IsOpenHead}
 
 -- a name, a colon, and a value or the beginning of one
@@ -17,9 +18,9 @@ IsOpenField t = (name : List ℕ) × (raw : List ℕ) × IsToken name × AllPass
 abbrev pub IsLinePart : LinePart → ℕ → List ℕ → Type 0
 IsLinePart line.Begin n t = t ≡ []
 IsLinePart line.Return n t = t ≡ carriage_return ∷ []
-IsLinePart line.Name n t = (n < 64) × IsToken t
-IsLinePart line.Value n t = (n < 64) × IsOpenField t
-IsLinePart line.End n t = (n < 64) × ((u : List ℕ) × IsOpenField u × (t ≡ u ++ carriage_return ∷ []))
+IsLinePart line.Name n t = (n < MOST_FIELDS) × IsToken t
+IsLinePart line.Value n t = (n < MOST_FIELDS) × IsOpenField t
+IsLinePart line.End n t = (n < MOST_FIELDS) × ((u : List ℕ) × IsOpenField u × (t ≡ u ++ carriage_return ∷ []))
 
 -- the version and the end of a start line
 abbrev pub IsVersion : List ℕ → Type 0
@@ -38,6 +39,6 @@ IsPart (Target from) b =
     (ends : List LineEnd) × (method : List ℕ) × (target : List ℕ) × IsToken method × AllPass is_uri_byte target
     × (b ≡ (print_blank ends ++ method) ++ space ∷ target) × (from ≡ length (print_blank ends ++ method) + 1)
 IsPart (Fields count part) b =
-    (h : RequestHead) × (fields : List Field) × (t : List ℕ) × IsRequestHead h × All IsField fields × (length fields ≡ count) × (count ≤ 64)
+    (h : RequestHead) × (fields : List Field) × (t : List ℕ) × IsRequestHead h × All IsField fields × (length fields ≡ count) × (count ≤ MOST_FIELDS)
     × IsLinePart part count t × (b ≡ after_start h (flat_map print_field fields ++ t))
 IsPart Other b = IsOpenHead b

@@ -8,6 +8,7 @@ use Rattle.http_edge.specs.declared.fault.HttpFault.{HttpFault}
 use Rattle.http_edge.specs.declared.head.Head.{Head}
 use Rattle.http_edge.specs.declared.stage.Stage.{Stage}
 use Rattle.http_edge.specs.declared.stage.Stage.TheVariants.{Plain}
+use Rattle.http_edge.specs.declared.limits.TheConstants.{MOST_HEAD}
 use Rattle.http_edge.specs.Heads.{IsOpenHead, head_fields}
 use Rattle.http_edge.specs.Lengths.{size_of}
 use Rattle.http_edge.specs.Bodies.{Reaches, Awaits}
@@ -44,7 +45,7 @@ head_of h = record { method = h.method; target = h.target; minor = h.minor; fiel
 
 -- what is held is what the bytes of the unfinished request come to
 abbrev pub Holds : Option Head → Stage → List ℕ → ℕ → List ℕ → List ℕ → Type 0
-Holds None stage body read unread rest = (rest ≡ unread) × (read ≡ 0) × (body ≡ []) × (length rest < 16384) × IsOpenHead rest
+Holds None stage body read unread rest = (rest ≡ unread) × (read ≡ 0) × (body ≡ []) × (length rest < MOST_HEAD) × IsOpenHead rest
 Holds (Some head) stage body read unread rest =
     (h : RequestHead) × (front : List ℕ) × BeginsWith rest h (front ++ unread) × (head ≡ head_of h)
     × Reaches (size_of h) stage body front × Awaits stage unread × (read ≡ length (print_request h) + length front)
@@ -58,7 +59,7 @@ ReadsTo fed items r (Some e) = IsFaulty fed items r.at e.at e.why × (come r ≡
 abbrev pub Reads : List ℕ → List HttpItem → Reading → Type 0
 Reads fed taken r = ReadsTo fed (taken ++ r.waiting) r r.fault
 
--- whatever was read before, that and the piece behind it are read now
+-- whatever was read before, that and the piece after it are read now
 abbrev pub ReadsOn : Reading → List ℕ → Reading → Type 0
 ReadsOn old piece new = (fed : List ℕ) (taken : List HttpItem) → Reads fed taken old → Reads (fed ++ piece) taken new
 

@@ -23,7 +23,7 @@ reason_of s =
     else if s == 500 then codes "Internal Server Error"
     else codes "Service Unavailable"
 
--- the field of a reply behind which the connection ends
+-- the field of a reply after which the connection ends
 abbrev pub connection : Bool → List ℕ
 connection closing = if closing then codes "Connection: close" ++ crlf else []
 

@@ -13,13 +13,14 @@ use Rattle.http_edge.specs.declared.scan.Scanned.{Scanned}
 use Rattle.http_edge.specs.declared.waiting.Waiting.{Waiting}
 use Rattle.http_edge.specs.declared.stage.Stage.{Stage}
 use Rattle.http_edge.specs.declared.stage.Stage.TheVariants.{Plain}
+use Rattle.http_edge.specs.declared.limits.TheConstants.{MOST_HEAD}
 use Rattle.http_edge.specs.Heads.{IsOpenHead}
 use Rattle.http_edge.specs.HttpStream.{IsRequest, items_if, items_of, IsOpen, IsFault, AreRequests}
 use Rattle.http_edge.specs.Reading.{Holds}
 use Rattle.http_edge.specs.Waits.{AreHeads, IsHead, bodies_of, heads_of, items_in, with_body}
 use Rattle.http_edge.specs.Steps.{Fits}
 
--- how far behind a request's first byte a fault of its body stands, which was found at a place
+-- how far after a request's first byte a fault of its body lies that was found at this place
 abbrev pub place_of : HttpWhy → ℕ → ℕ
 place_of BadHead at = 0
 place_of BadLength at = 0
@@ -31,7 +32,7 @@ pub record IsLeft (rest : List ℕ) (told : List HttpItem) (begun : Option Head)
   pub going : IsOpen rest told
   pub holds : Holds begun stage body read unread rest
   pub fits : Fits stage (length body)
-  pub short : length unread < 16384
+  pub short : length unread < MOST_HEAD
 
 -- What stands at the front of bytes, of whose body these are the bytes.
 abbrev pub Nexts : List ℕ → List ℕ → Next → Type 0
@@ -42,7 +43,7 @@ Nexts b got (Whole p asks used) =
 Nexts b got (Part p) =
     IsLeft b (items_if p.asks) (Some p.head) p.stage got p.used (drop p.used b) × (p.used ≤ length b)
     × IsHead p.head p.size × (p.body ≡ length got) × (p.size + length got ≤ p.used)
-Nexts b got Open = (length b < 16384) × IsOpenHead b × (got ≡ [])
+Nexts b got Open = (length b < MOST_HEAD) × IsOpenHead b × (got ≡ [])
 Nexts b got (Bad why asks at) = IsFault b why at (items_if asks) × (at ≤ length b)
 
 -- the same, where they are appended
@@ -56,10 +57,10 @@ pub record NextsInto (b old new : List ℕ) (n : Next) : Type 0 where
 abbrev pub cleared : ℕ → HttpFault → Left
 cleared from fault = record { from = from; begun = None; size = 0; stage = Plain 0; body = 0; read = 0; rest = 0; fault = Some fault }
 
--- what is behind the last whole request: an unfinished one, or one at fault
+-- what is after the last whole request: an unfinished one, or one at fault
 abbrev pub Leaves : Option HttpFault → ℕ → List ℕ → List HttpItem → Option Head → Stage → List ℕ → ℕ → List ℕ → Type 0
 Leaves None from rest told begun stage body read unread = IsLeft rest told begun stage body read unread
-Leaves (Some e) from rest told begun stage body read unread = (behind : ℕ) × IsFault rest e.why behind told × (e.at ≡ from + behind) × (read ≡ 0) × (unread ≡ [])
+Leaves (Some e) from rest told begun stage body read unread = (offset : ℕ) × IsFault rest e.why offset told × (e.at ≡ from + offset) × (read ≡ 0) × (unread ≡ [])
 
 -- places of faults are within so many bytes
 abbrev pub StandsWithin : Option HttpFault → ℕ → Type 0
@@ -73,7 +74,7 @@ pub record ScansTo (b : List ℕ) (items : List HttpItem) (from : ℕ) (begun : 
   pub requests : AreRequests b before from (drop from b)
   pub items_are : items ≡ before ++ told
   pub fits : Fits stage (length body)
-  pub short : length unread < 16384
+  pub short : length unread < MOST_HEAD
   pub room : from + read + length unread ≤ length b
   pub place : StandsWithin fault (length b)
   pub leaves : Leaves fault from (drop from b) told begun stage body read unread
@@ -95,9 +96,11 @@ pub record Scans (b got body : List ℕ) (queue : List Waiting) (heads : ℕ) (l
   pub part : l.size + length body ≤ l.read
   pub rest : l.from + l.read + l.rest ≤ length b
 
--- the same, where they are appended
-pub record ScansInto (b old new : List ℕ) (s : Scanned) : Type 0 where
+-- the same, where the items and the bytes are appended
+pub record ScansInto (b : List ℕ) (before after : List Waiting) (old new : List ℕ) (s : Scanned) : Type 0 where
+  pub queue : List Waiting
   pub got : List ℕ
   pub body : List ℕ
+  pub queued : after ≡ before ++ queue
   pub added : new ≡ old ++ (got ++ body)
-  pub scans : Scans b got body s.queue.items s.heads s.left
+  pub scans : Scans b got body queue s.heads s.left

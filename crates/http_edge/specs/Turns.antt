@@ -1,4 +1,4 @@
--- What the steps of a reader tell of the bytes of a body.
+-- What the steps of a window say of the bytes of a body.
 use Rattle.std.specs.Prelude.{◌≡◌, ℕ, ◌+◌, ◌≤◌, ◌<◌, List, [], ◌++◌, length, take}
 use Rattle.http_edge.specs.declared.chunk.LineTurn.{LineTurn}
 use Rattle.http_edge.specs.declared.chunk.LineTurn.TheVariants as line
@@ -9,6 +9,7 @@ use Rattle.http_edge.specs.declared.stage.Stage.{Stage}
 use Rattle.http_edge.specs.declared.stage.Stage.TheVariants.{Line, Trailer}
 use Rattle.http_edge.specs.declared.step.Turn.{Turn}
 use Rattle.http_edge.specs.declared.step.Turn.TheVariants.{Took, Past, Done, Open, Bad}
+use Rattle.http_edge.specs.declared.limits.TheConstants.{MOST_HEAD}
 use Rattle.http_edge.specs.Lengths.{BodySize}
 use Rattle.http_edge.specs.Chunks.{IsLine, HoldsTrailer, HasNoTrailer, NeverHasTrailer, MayBecomeTrailer}
 use Rattle.http_edge.specs.Bodies.{Reaches, IsBody, IsTooLong, Awaits, Breaks}
@@ -27,7 +28,7 @@ JudgesTrailerFront t trailer.Open = HasNoTrailer t × MayBecomeTrailer t
 JudgesTrailerFront t trailer.Bad = NeverHasTrailer t
 
 abbrev pub JudgesTrailer : List ℕ → TrailerTurn → Type 0
-JudgesTrailer u (trailer.Whole used) = HoldsTrailer (take used u) [] × (used ≤ length u) × (used ≤ 16384)
+JudgesTrailer u (trailer.Whole used) = HoldsTrailer (take used u) [] × (used ≤ length u) × (used ≤ MOST_HEAD)
 JudgesTrailer u trailer.Open = Awaits Trailer u
 JudgesTrailer u trailer.Bad = Breaks Trailer u
 
@@ -48,12 +49,12 @@ Finishes stage held x = (size : BodySize) (body front : List ℕ) → length bod
 abbrev pub Exceeds : Stage → ℕ → List ℕ → Type 0
 Exceeds stage held u = (size : BodySize) (body front : List ℕ) → length body ≡ held → Reaches size stage body front → IsTooLong size (front ++ u)
 
--- what the bytes behind a body of so many bytes do at a stage
+-- what the bytes after a body of so many bytes do at a stage
 abbrev pub Turns : Stage → ℕ → List ℕ → Turn → Type 0
 Turns stage held u (Took next n) = (0 < n) × (n ≤ length u) × Fits next (held + n) × Takes stage held next (take n u)
 Turns stage held u (Past next n) = (0 < n) × (n ≤ length u) × Fits next held × Passes stage held next (take n u)
 Turns stage held u (Done n) = (n ≤ length u) × Finishes stage held (take n u)
-Turns stage held u Open = Awaits stage u × (length u < 16384)
+Turns stage held u Open = Awaits stage u × (length u < MOST_HEAD)
 Turns stage held u (Bad BadHead) = ⊥
 Turns stage held u (Bad BadLength) = ⊥
 Turns stage held u (Bad TooLong) = Exceeds stage held u

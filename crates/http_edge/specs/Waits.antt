@@ -7,6 +7,7 @@ use Rattle.http_edge.specs.declared.request.HttpItem.TheVariants as item
 use Rattle.http_edge.specs.declared.request.HttpRequest.{HttpRequest}
 use Rattle.http_edge.specs.declared.waiting.Waiting.{Waiting}
 use Rattle.http_edge.specs.declared.waiting.Waiting.TheVariants.{Continue, Request}
+use Rattle.http_edge.specs.declared.limits.TheConstants.{MOST_HEAD}
 use Rattle.http_edge.specs.Reading.{head_of}
 
 -- the request of a head and a body
@@ -15,7 +16,7 @@ with_body head body = record { method = head.method; target = head.target; minor
 
 -- a head of so many bytes, of which there are at most 16,384, has these parts
 abbrev pub IsHead : Head → ℕ → Type 0
-IsHead head size = (h : RequestHead) × (head ≡ head_of h) × (size ≡ length (print_request h)) × (size ≤ 16384)
+IsHead head size = (h : RequestHead) × (head ≡ head_of h) × (size ≡ length (print_request h)) × (size ≤ MOST_HEAD)
 
 -- the item Continue, where it is told
 abbrev pub told_if : Bool → List Waiting

@@ -7,6 +7,7 @@ use Rattle.http_edge.specs.declared.head.Head.{Head}
 use Rattle.http_edge.specs.declared.request.HttpItem.{HttpItem}
 use Rattle.http_edge.specs.declared.request.HttpItem.TheVariants.{Continue, Request}
 use Rattle.http_edge.specs.declared.request.HttpRequest.{HttpRequest}
+use Rattle.http_edge.specs.declared.limits.TheConstants.{ROOM}
 use Rattle.http_edge.specs.Reading as reading
 use Rattle.http_edge.specs.Reading.{Reading, unfed}
 use Rattle.http_edge.specs.Waits.{IsHead}
@@ -35,7 +36,7 @@ held_of w = w.heads - w.beside + (bodies w.reading.waiting + length w.reading.bo
 
 -- how much of a piece it takes
 abbrev pub taken_of : Window → List ℕ → ℕ
-taken_of w piece = min (length piece) (1064960 - held_of w)
+taken_of w piece = min (length piece) (ROOM - held_of w)
 
 -- the bytes taken so far are the items that were given, those that wait, and what is held or a fault
 abbrev pub Reads : List ℕ → List HttpItem → Window → Type 0

@@ -3,13 +3,10 @@ ghost use Rattle.std.specs.Prelude.{◌≡◌, ◌≤◌, length};
 ghost use Rattle.http_edge.specs.Turns.{JudgesLine, JudgesTrailer, JudgesTrailerFront};
 
 use crate::copy::front;
-use crate::head::{MOST_FIELDS, MOST_HEAD};
+use crate::limits::{MOST_FIELDS, MOST_HEAD, MOST_LINE};
 use crate::lines::{AT_FIELDS, too_many_lines};
 use httparse::spans::{EMPTY_HEADER_SPAN, parse_headers};
 use httparse::{Status, parse_chunk_size};
-
-/// How many bytes a chunk line may have.
-const MOST_LINE: usize = 1_024;
 
 /// What bytes are where a chunk line is due.
 #[derive(Clone, Copy)]
@@ -50,10 +47,10 @@ pub enum TrailerTurn {
     Bad,
 }
 
-// What at most 16,384 bytes are where a trailer is due. A parser of fields tells of a field too many only
+// What at most 16,384 bytes are where a trailer is due. A parser of fields reports a field too many only
 // once its line is whole; where it wants more bytes, the lines are counted here.
 fn read_front(buf: &[u8]) -> TrailerTurn
-    requires { length buf.now ≤ 16384 }
+    requires { length buf.now ≤ MOST_HEAD }
     ensures { JudgesTrailerFront buf.now result }
 {
     let mut spans = [EMPTY_HEADER_SPAN; MOST_FIELDS];

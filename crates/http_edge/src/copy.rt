@@ -1,5 +1,5 @@
 //! Parts of what was fed, as bytes of their own.
-ghost use Rattle.std.specs.Prelude.{◌≡◌, ◌≤◌, ◌++◌, All, IfOk, length, map, take};
+ghost use Rattle.std.specs.Prelude.{◌≡◌, ◌≤◌, ◌++◌, All, IfOk, OnOk, length, map, take};
 ghost use Rattle.std.specs.Prelude.{◌+◌};
 ghost use Rattle.std.specs.Vec.{vec_len, vec_capacity};
 ghost use Rattle.httparse.specs.Spans.{IsHeaderWithin, IsWithin, header_bytes, span_bytes};
@@ -29,13 +29,13 @@ pub fn append(bytes: &mut Vec<u8>, piece: &[u8])
     };
 }
 
-/// The bytes of two lists, joined.
-pub fn joined(alloc: Global, front: &[u8], back: &[u8]) -> Result<Vec<u8>, AllocError>
-    ensures { IfOk result (λ all. all.items ≡ front.now ++ back.now) }
+/// Makes the bytes those of two lists, joined.
+pub fn join(all: &mut Vec<u8>, front: &[u8], back: &[u8]) -> Result<(), AllocError>
+    ensures { OnOk result (all.new.items ≡ front.now ++ back.now) }
 {
-    let mut all = Vec::from_slice(alloc, front)?;
-    all.extend_from_slice(back)?;
-    Ok(all)
+    all.clear();
+    all.extend_from_slice(front)?;
+    all.extend_from_slice(back)
 }
 
 /// The bytes that the span covers.
@@ -57,7 +57,7 @@ pub fn copy_fields(
     requires within { All (IsHeaderWithin (length buf.now)) (take count spans.now) }
     ensures { IfOk result (λ fields. fields ≡ map field_of (map (header_bytes buf.now) (take count spans.now))) }
 {
-    let mut fields = Vec::new(alloc);
+    let mut fields = Vec::with_capacity(alloc, count)?;
     for i in 0..count {
         let span = spans[i];
         let name = copy(alloc, span.name, buf)?;

@@ -6,7 +6,7 @@ ghost use Rattle.http_edge.specs.Parts.{IsPart};
 
 use crate::copy::{append, front};
 use crate::fault::HttpWhy;
-use crate::head::MOST_HEAD;
+use crate::limits::MOST_HEAD;
 use crate::look::{Look, look_at};
 use crate::part::{HeadPart, Ran, part_of, run};
 use std::alloc::{AllocError, Global};
@@ -24,13 +24,13 @@ pub enum Cut {
 // Adds the bytes up to one that a parser is to judge, or as many as a head may have.
 fn add_run(unread: &mut Vec<u8>, part: HeadPart, rest: &[u8]) -> Ran
     requires part { IsPart part unread.old.items }
-    requires short { vec_len unread.old < 16384 }
-    requires room { 16384 ≤ vec_capacity unread.old }
+    requires short { vec_len unread.old < MOST_HEAD }
+    requires room { MOST_HEAD ≤ vec_capacity unread.old }
     ensures inside { result.used ≤ length rest.now }
     ensures items { unread.new.items ≡ unread.old.items ++ take result.used rest.now }
     ensures part { IsPart result.part unread.new.items }
-    ensures short { vec_len unread.new ≤ 16384 }
-    ensures room { 16384 ≤ vec_capacity unread.new }
+    ensures short { vec_len unread.new ≤ MOST_HEAD }
+    ensures room { MOST_HEAD ≤ vec_capacity unread.new }
 {
     let due = front(rest, MOST_HEAD - unread.len());
     let ran = run(part, unread.len(), due);
@@ -47,11 +47,11 @@ fn read_on(
     piece: &[u8],
 ) -> Result<Cut, AllocError>
     requires part { IsPart part unread.old.items }
-    requires short { vec_len unread.old < 16384 }
-    requires room { 16384 ≤ vec_capacity unread.old }
+    requires short { vec_len unread.old < MOST_HEAD }
+    requires room { MOST_HEAD ≤ vec_capacity unread.old }
     ensures goes_on { IfOk result (GoesOn unread.old.items piece.now unread.new.items) }
     ensures added { (n : ℕ) × (unread.new.items ≡ unread.old.items ++ take n piece.now) }
-    ensures room { 16384 ≤ vec_capacity unread.new }
+    ensures room { MOST_HEAD ≤ vec_capacity unread.new }
 {
     let mut now = part;
     let mut from = 0;
@@ -81,7 +81,7 @@ fn read_on(
 }
 
 /// Adds bytes of a piece to those of a head that has begun, up to the head's end, the piece's end or a
-/// fault. A byte is looked at once, but for those at which a parser is asked: the few behind a target,
+/// fault. A byte is looked at once, but for those at which a parser is asked: the few after a target,
 /// and the one that ends the head. Where no memory was found, nothing is added.
 pub fn read_cut(
     alloc: Global,
@@ -90,11 +90,11 @@ pub fn read_cut(
     piece: &[u8],
 ) -> Result<Cut, AllocError>
     requires part { IsPart part unread.old.items }
-    requires short { vec_len unread.old < 16384 }
-    requires room { 16384 ≤ vec_capacity unread.old }
+    requires short { vec_len unread.old < MOST_HEAD }
+    requires room { MOST_HEAD ≤ vec_capacity unread.old }
     ensures goes_on { IfOk result (GoesOn unread.old.items piece.now unread.new.items) }
     ensures kept { OnErr result (unread.new.items ≡ unread.old.items) }
-    ensures room { 16384 ≤ vec_capacity unread.new }
+    ensures room { MOST_HEAD ≤ vec_capacity unread.new }
 {
     let before = unread.len();
     match read_on(alloc, unread, part, piece) {

@@ -10,14 +10,14 @@ pub enum HttpWhy {
     BadLength,
     /// The first 16,384 bytes begin a head and hold none, or the body is longer than 1,048,576 bytes.
     TooLong,
-    /// What should be a chunk line isn't one within 1,024 bytes, no CR LF stands behind a chunk's data, or
+    /// What should be a chunk line isn't one within 1,024 bytes, no CR LF stands after a chunk's data, or
     /// what should be the trailer isn't a list of at most 64 fields within 16,384 bytes (RFC 9112, section
     /// 7.1).
     BadChunk,
 }
 
 /// A fault: its offset in the stream, counted from 0, and which rule is broken. The offset is that of the
-/// request's first byte; of a bad chunk it is that of the chunk line's first byte, of the byte behind the
+/// request's first byte; of a bad chunk it is that of the chunk line's first byte, of the byte after the
 /// chunk's data, or of the trailer's first byte.
 #[derive(Clone, Copy, PartialEq, Eq, Debug)]
 pub struct HttpFault {

@@ -27,7 +27,7 @@ pub struct Gathered {
     pub end: Ending,
 }
 
-/// Reads a piece behind a body of so many bytes so far that has come to this stage: to the end of the
+/// Reads a piece after a body of so many bytes so far that has come to this stage: to the end of the
 /// request or of the piece, or to the first fault. The body's bytes are appended. It takes no memory.
 pub fn gather(bytes: &mut Vec<u8>, stage: Stage, held: usize, piece: &[u8]) -> Gathered
     requires fits { Fits stage held }

@@ -1,5 +1,6 @@
 //! A head that is whole, or not yet.
 ghost use Rattle.std.specs.Prelude.{◌≡◌, ◌≤◌, List, ℕ, length};
+ghost use Rattle.http_edge.specs.declared.limits.TheConstants.{MOST_FIELDS, MOST_HEAD};
 ghost use Rattle.http_edge.specs.LineCount.{at_start};
 ghost use Rattle.http_edge.specs.Steps.{JudgesHead};
 
@@ -9,12 +10,6 @@ use crate::request::HttpRequest;
 use event_form::Blob;
 use httparse::Status;
 use httparse::spans::{HeaderSpan, RequestSpans, parse_request};
-
-/// How many fields a head or a trailer may have.
-pub const MOST_FIELDS: usize = 64;
-
-/// How many bytes a head or a trailer may have.
-pub const MOST_HEAD: usize = 16_384;
 
 /// A request but for its body.
 #[derive(Drop, Debug)]
@@ -51,11 +46,11 @@ pub enum HeadTurn {
     Bad,
 }
 
-/// What the first bytes of a request are. A parser of heads tells of a field too many only once its line
+/// What the first bytes of a request are. A parser of heads reports a field too many only once its line
 /// is whole; where it wants more bytes, the lines are counted here.
 pub fn read_head(buf: &[u8], spans: &mut [HeaderSpan]) -> HeadTurn
-    requires room { length spans.old ≡ 64 }
-    requires small { length buf.now ≤ 16384 }
+    requires room { length spans.old ≡ MOST_FIELDS }
+    requires small { length buf.now ≤ MOST_HEAD }
     ensures { JudgesHead buf.now spans.new result }
 {
     match parse_request(buf, spans) {

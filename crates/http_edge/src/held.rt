@@ -1,6 +1,7 @@
 //! What a window holds.
 ghost use Rattle.std.specs.Prelude.{◌≡◌, ◌+◌, ◌-◌, ◌≤◌, ◌<◌, ◌^◌, [], ◌++◌, drop, length, slice_range, None, IsNone};
 ghost use Rattle.std.specs.Vec.{vec_len, vec_capacity};
+ghost use Rattle.http_edge.specs.declared.limits.TheConstants.{MOST_HEAD, ROOM};
 ghost use Rattle.http_edge.specs.Filling.{Fills, IsPacked, Settles, beside_after, counted, window_of};
 ghost use Rattle.http_edge.specs.Giving.{GivesNext};
 ghost use Rattle.http_edge.specs.Heads.{IsOpenHead};
@@ -50,6 +51,9 @@ pub struct Held {
     pub fault: Option<HttpFault>,
     /// The head of the request that was given last.
     pub lent: Head,
+    /// Memory for bytes that weren't read and a piece after them, while they are read. It is kept, since a large
+    /// block that comes and goes makes all small ones slow.
+    pub joined: Vec<u8>,
 }
 
 /// What is given: a request's body stands between these places.
@@ -61,7 +65,7 @@ pub enum Given {
 
 // How far the bytes bring a head, where none is whole.
 fn part_unless(begun: &Option<Head>, unread: &[u8]) -> HeadPart
-    requires small { length unread.now ≤ 16384 }
+    requires small { length unread.now ≤ MOST_HEAD }
     requires head { begun.now ≡ None → IsOpenHead unread.now }
     ensures { begun.now ≡ None → IsPart result unread.now }
 {
@@ -106,7 +110,7 @@ impl Held {
     pub fn count(&self) -> usize
         requires { Fills self.now }
         ensures count { result ≡ counted self.now }
-        ensures bound { result ≤ 1064960 }
+        ensures bound { result ≤ ROOM }
     {
         self.heads + self.size - self.beside + (self.bytes.len() - self.from) + self.unread.len()
     }
@@ -126,13 +130,13 @@ impl Held {
         }
     }
 
-    /// Takes over what is left behind requests that begin at an offset. Its bytes that aren't read are the
+    /// Takes over what is left after requests that begin at an offset. Its bytes that aren't read are the
     /// last of these, and its body is the last of the bytes.
     pub fn settle(&mut self, base: u64, more: &[u8], left: Left) -> Result<(), FeedFault<HttpFault>>
         requires body { left.body ≤ length self.old.bytes.items }
         requires rest { left.rest ≤ length more.now }
-        requires short { left.rest < 16384 }
-        requires space { 16384 ≤ vec_capacity self.old.unread }
+        requires short { left.rest < MOST_HEAD }
+        requires space { MOST_HEAD ≤ vec_capacity self.old.unread }
         requires head { left.begun ≡ None → IsOpenHead (drop (length more.now - left.rest) more.now) }
         requires room { base + left.from ≤ 2 ^ 40 }
         requires place { StandsWithin left.fault (2 ^ 40) }

@@ -6,7 +6,7 @@ use crate::fault::HttpFault;
 use crate::head::Head;
 use crate::stage::Stage;
 
-/// What is held of the request behind some whole ones, or the fault that it has.
+/// What is held of the request after some whole ones, or the fault that it has.
 #[derive(Drop)]
 pub struct Left {
     /// Where the request begins.

@@ -8,10 +8,8 @@ ghost use Rattle.http_edge.specs.Lengths.{BodySize, asks, body_size, has_body, i
 ghost use Rattle.http_edge.specs.Steps.{IsSize};
 
 use crate::field::{Field, first_value};
+use crate::limits::MOST_BODY;
 use crate::text::is_word;
-
-/// How many bytes a body may have.
-pub const MOST_BODY: usize = 1_048_576;
 
 /// How a body is framed.
 #[derive(Clone, Copy)]
@@ -128,7 +126,7 @@ fn expects_continue(fields: &[Field]) -> bool
     }
 }
 
-/// Whether the item Continue is told of a head of these fields, whose body is framed so.
+/// Whether the item Continue is given of a head of these fields, whose body is framed so.
 pub fn asks(minor: u8, fields: &[Field], size: Size) -> bool
     requires { IsSize size (body_size minor fields.now) }
     ensures { result ≡ asks minor fields.now }

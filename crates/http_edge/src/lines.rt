@@ -1,6 +1,9 @@
 //! The field lines of a head or a trailer that isn't whole, counted.
 ghost use Rattle.std.specs.Prelude.{◌≡◌, ◌+◌, ◌≤◌, length};
+ghost use Rattle.http_edge.specs.declared.limits.TheConstants.{MOST_HEAD};
 ghost use Rattle.http_edge.specs.LineCount.{count_byte, count_lines, is_over, last_after};
+
+use crate::limits::MOST_FIELDS;
 
 /// The line that hasn't ended.
 #[derive(Clone, Copy, PartialEq, Eq, Debug)]
@@ -29,7 +32,7 @@ pub const AT_START: Lines = Lines {
     last: LastLine::Empty,
 };
 
-/// Before a trailer: as behind a start line.
+/// Before a trailer: as after a start line.
 pub const AT_FIELDS: Lines = Lines {
     started: true,
     ended: 1,
@@ -69,15 +72,15 @@ fn after_byte(now: Lines, byte: u8) -> Lines
     }
 }
 
-/// Whether the bytes behind these lines hold 64 field lines and the beginning of a further one.
+/// Whether the bytes after these lines hold 64 field lines and the beginning of a further one.
 pub fn too_many_lines(from: Lines, buf: &[u8]) -> bool
     requires few { from.ended ≤ 1 }
-    requires small { length buf.now ≤ 16384 }
+    requires small { length buf.now ≤ MOST_HEAD }
     ensures { result ≡ is_over (count_lines from buf.now) }
 {
     let mut now = from;
     for i in 0..buf.len() {
         now = after_byte(now, buf[i]);
     }
-    now.ended > 65 || (now.ended > 64 && matches!(now.last, LastLine::Text))
+    now.ended > MOST_FIELDS + 1 || (now.ended > MOST_FIELDS && matches!(now.last, LastLine::Text))
 }

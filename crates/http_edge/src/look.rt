@@ -5,8 +5,9 @@ ghost use Rattle.http_edge.specs.Steps.{IsSize, JudgesHead, Looks, MakesHead, St
 
 use crate::copy::{copy, copy_fields, front};
 use crate::fault::HttpWhy;
-use crate::head::{Head, HeadTurn, MOST_FIELDS, MOST_HEAD, read_head};
+use crate::head::{Head, HeadTurn, read_head};
 use crate::length::{Size, asks, body_size};
+use crate::limits::{MOST_FIELDS, MOST_HEAD};
 use crate::stage::Stage;
 use httparse::spans::{EMPTY_HEADER_SPAN, HeaderSpan, RequestSpans};
 use std::alloc::{AllocError, Global};
@@ -19,7 +20,7 @@ pub struct Opening {
     pub len: usize,
     /// What is due first of the body.
     pub stage: Stage,
-    /// Whether the item Continue is told.
+    /// Whether the item Continue is given.
     pub asks: bool,
 }
 
@@ -53,8 +54,8 @@ fn make_head(
     })
 }
 
-// What is due first of a body that is framed so.
-fn first_stage(size: Size) -> Result<Stage, HttpWhy>
+/// What is due first of a body that is framed so, or the rule that it breaks.
+pub fn first_stage(size: Size) -> Result<Stage, HttpWhy>
     ensures { (z : BodySize) → IsSize size z → StartsAt z result }
 {
     match size {
@@ -73,7 +74,7 @@ fn whole_head(
     spans: &[HeaderSpan],
 ) -> Result<Look, AllocError>
     requires { JudgesHead window.now spans.now (HeadTurn.Whole found) }
-    ensures { (b : List ℕ) → window.now ≡ take 16384 b → IfOk result (Looks b) }
+    ensures { (b : List ℕ) → window.now ≡ take MOST_HEAD b → IfOk result (Looks b) }
 {
     let head = make_head(alloc, window, found, spans)?;
     let size = body_size(head.minor, head.fields.as_slice());

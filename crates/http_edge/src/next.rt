@@ -1,6 +1,7 @@
 //! The next request of some bytes.
 ghost use Rattle.std.specs.Prelude.{◌≡◌, ◌+◌, ◌≤◌, ℕ, List, IfOk, OnErr, drop, length};
 ghost use Rattle.std.specs.Vec.{vec_len, vec_capacity};
+ghost use Rattle.http_edge.specs.declared.limits.TheConstants.{MOST_HEAD};
 ghost use Rattle.http_edge.specs.Scanning.{NextsInto, place_of};
 ghost use Rattle.http_edge.specs.Steps.{Fits, IsOpening};
 
@@ -18,7 +19,7 @@ pub struct Unfinished {
     pub head: Head,
     /// How many bytes the head has.
     pub size: usize,
-    /// Whether the item Continue is told.
+    /// Whether the item Continue is given.
     pub asks: bool,
     /// How many bytes the body has so far.
     pub body: usize,
@@ -30,7 +31,7 @@ pub struct Unfinished {
 /// What stands at the front of bytes.
 #[derive(Drop)]
 pub enum Next {
-    /// A request of so many bytes, and whether the item Continue is told before it.
+    /// A request of so many bytes, and whether the item Continue is given before it.
     Whole {
         parked: Parked,
         asks: bool,
@@ -39,7 +40,7 @@ pub enum Next {
     Part(Unfinished),
     /// A head that isn't whole.
     Open,
-    /// A fault at this place, and whether the item Continue is told before it.
+    /// A fault at this place, and whether the item Continue is given before it.
     Bad {
         why: HttpWhy,
         asks: bool,
@@ -47,7 +48,7 @@ pub enum Next {
     },
 }
 
-/// How far behind a request's first byte a fault of its body stands, which was found at a place.
+/// How far after a request's first byte a fault of its body lies that was found at this place.
 pub fn place(why: HttpWhy, at: usize) -> usize
     ensures { result ≡ place_of why at }
 {
@@ -59,11 +60,11 @@ pub fn place(why: HttpWhy, at: usize) -> usize
 
 /// What stands at the front of bytes that begin with a head and go on so. The body's bytes are appended.
 /// It takes no memory.
-pub fn next_body(bytes: &mut Vec<u8>, behind: &[u8], opening: Opening) -> Next
+pub fn next_body(bytes: &mut Vec<u8>, after: &[u8], opening: Opening) -> Next
     requires fits { Fits opening.stage 0 }
-    requires short { opening.len ≤ 16384 }
-    requires room { vec_len bytes.old + length behind.now ≤ vec_capacity bytes.old }
-    ensures next { (b : List ℕ) → IsOpening b opening → behind.now ≡ drop opening.len b → NextsInto b bytes.old.items bytes.new.items result }
+    requires short { opening.len ≤ MOST_HEAD }
+    requires room { vec_len bytes.old + length after.now ≤ vec_capacity bytes.old }
+    ensures next { (b : List ℕ) → IsOpening b opening → after.now ≡ drop opening.len b → NextsInto b bytes.old.items bytes.new.items result }
     ensures capacity { vec_capacity bytes.old ≤ vec_capacity bytes.new }
 {
     let before = bytes.len();
@@ -73,7 +74,7 @@ pub fn next_body(bytes: &mut Vec<u8>, behind: &[u8], opening: Opening) -> Next
         stage,
         asks,
     } = opening;
-    let Gathered { used, end } = gather(bytes, stage, 0, behind);
+    let Gathered { used, end } = gather(bytes, stage, 0, after);
     let body = bytes.len() - before;
     let used = len + used;
     match end {

@@ -2,10 +2,11 @@
 ghost use Rattle.std.specs.Prelude.{◌≡◌, ◌+◌, ◌<◌, ◌≤◌, List, ℕ, [], ◌∷◌, ◌++◌, IfSome, length, take};
 ghost use Rattle.std.specs.Bool.{OnTrue};
 ghost use Rattle.http_edge.specs.declared.part.HeadPart.TheVariants.{Fields, Target};
+ghost use Rattle.http_edge.specs.declared.limits.TheConstants.{MOST_HEAD};
 ghost use Rattle.http_edge.specs.Heads.{IsOpenHead};
 ghost use Rattle.http_edge.specs.Parts.{IsPart, IsVersion};
 
-use crate::head::MOST_FIELDS;
+use crate::limits::MOST_FIELDS;
 use httparse::{is_header_name_token, is_header_value_token, is_method_token, is_uri_token};
 use std::str::from_utf8;
 
@@ -42,7 +43,7 @@ pub enum HeadPart {
 
 // After another byte of a line after so many field lines; `None` where a parser is to judge it.
 fn after_line(count: usize, line: LinePart, byte: u8) -> Option<HeadPart>
-    requires { count ≤ 64 }
+    requires { count ≤ MOST_FIELDS }
     ensures { IfSome result (λ next. (b : List ℕ) → IsPart (Fields count line) b → IsPart next (b ++ byte ∷ [])) }
 {
     match line {
@@ -101,9 +102,10 @@ fn after_line(count: usize, line: LinePart, byte: u8) -> Option<HeadPart>
     None
 }
 
-// After another byte behind so many bytes of a head; `None` where a parser is to judge it.
+// How far a head has been read after one more byte, which stands at this place of it; `None` where a
+// parser is to judge it.
 fn after(part: HeadPart, at: usize, byte: u8) -> Option<HeadPart>
-    requires { at ≤ 16384 }
+    requires { at ≤ MOST_HEAD }
     ensures { IfSome result (λ next. (b : List ℕ) → length b ≡ at → IsPart part b → IsPart next (b ++ byte ∷ [])) }
 {
     match part {
@@ -154,9 +156,10 @@ pub struct Ran {
     pub part: HeadPart,
 }
 
-/// Reads bytes behind so many of a head that has been read so far, up to one that a parser is to judge.
+/// Reads further bytes of a head, of which so many have been read to this part, up to one that a parser is
+/// to judge.
 pub fn run(part: HeadPart, at: usize, bytes: &[u8]) -> Ran
-    requires { at + length bytes.now ≤ 16384 }
+    requires { at + length bytes.now ≤ MOST_HEAD }
     ensures inside { result.used ≤ length bytes.now }
     ensures part { (b : List ℕ) → length b ≡ at → IsPart part b → IsPart result.part (b ++ take result.used bytes.now) }
 {
@@ -184,7 +187,7 @@ fn is_version(tail: &[u8]) -> bool
 
 // How far a head has been read of which so many bytes end in a target, or may.
 fn after_target(buf: &[u8], from: usize, to: usize) -> HeadPart
-    requires small { length buf.now ≤ 16384 }
+    requires small { length buf.now ≤ MOST_HEAD }
     requires inside { to < length buf.now }
     requires target { IsPart (Target from) (take to buf.now) }
     requires begins { IsOpenHead buf.now }
@@ -217,7 +220,7 @@ fn after_target(buf: &[u8], from: usize, to: usize) -> HeadPart
 
 /// How far bytes have been read that begin a head.
 pub fn part_of(buf: &[u8]) -> HeadPart
-    requires small { length buf.now ≤ 16384 }
+    requires small { length buf.now ≤ MOST_HEAD }
     requires begins { IsOpenHead buf.now }
     ensures { IsPart result buf.now }
 {

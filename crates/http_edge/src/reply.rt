@@ -31,7 +31,7 @@ fn connection(closing: bool) -> &'static [u8]
     }
 }
 
-// The status line, the fields, and the empty line behind them.
+// The status line, the fields, and the empty line after them.
 fn reply_head(alloc: Global, status: u16, closing: bool, size: usize) -> Result<Vec<u8>, AllocError>
     ensures { IfOk result (λ head. head.items ≡ reply_head status closing size) }
 {

@@ -18,7 +18,7 @@ pub struct HttpRequest {
     pub body: Blob,
 }
 
-/// What a reader tells.
+/// An item of a stream of requests.
 #[derive(Drop, Debug)]
 pub enum HttpItem {
     /// The head of a request was read that waits for leave to send its body (RFC 9110, section 10.1.1).

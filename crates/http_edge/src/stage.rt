@@ -9,7 +9,7 @@ pub enum Stage {
     Line,
     /// So many bytes of a chunk's data.
     Data { left: usize },
-    /// CR LF behind a chunk's data.
+    /// CR LF after a chunk's data.
     End,
     /// The trailer.
     Trailer,

@@ -6,7 +6,7 @@ ghost use Rattle.http_edge.specs.Turns.{Turns};
 
 use crate::chunk::{LineTurn, TrailerTurn, read_line, read_trailer};
 use crate::fault::HttpWhy;
-use crate::length::MOST_BODY;
+use crate::limits::MOST_BODY;
 use crate::stage::Stage;
 
 /// What the next bytes of a body do.
@@ -90,7 +90,7 @@ fn after_data(left: usize, held: usize, unread: &[u8]) -> Turn
     }
 }
 
-// Where CR LF behind a chunk's data is due.
+// Where CR LF after a chunk's data is due.
 fn after_end(held: usize, unread: &[u8]) -> Turn
     requires { Fits End held }
     ensures { Turns End held unread.now result }
@@ -117,7 +117,7 @@ fn after_trailer(held: usize, unread: &[u8]) -> Turn
     }
 }
 
-/// What the bytes behind a body of so many bytes so far do at a stage.
+/// What the bytes after a body of so many bytes so far do at a stage.
 pub fn step(stage: Stage, held: usize, unread: &[u8]) -> Turn
     requires { Fits stage held }
     ensures { Turns stage held unread.now result }

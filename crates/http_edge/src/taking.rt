@@ -1,10 +1,11 @@
 //! How a window takes a piece.
-ghost use Rattle.std.specs.Prelude.{◌≡◌, ◌+◌, ◌-◌, ◌≤◌, ◌<◌, ◌^◌, ℕ, List, [], ◌++◌, drop, take, length, None, IsSome};
+ghost use Rattle.std.specs.Prelude.{◌≡◌, ◌+◌, ◌-◌, ◌≤◌, ◌<◌, ◌^◌, ℕ, List, [], ◌++◌, drop, take, length, insert, None, IsSome};
 ghost use Rattle.std.specs.Vec.{vec_len, vec_capacity};
 ghost use Rattle.std.specs.VecDeque.{deque_capacity, deque_len};
+ghost use Rattle.http_edge.specs.declared.limits.TheConstants.{ROOM};
 ghost use Rattle.http_edge.specs.Filling.{Fills, FillsWith, FeedsAfter, FeedsHeld, counted};
 
-use crate::copy::{append, joined};
+use crate::copy::{append, join};
 use crate::cut::{Cut, read_cut};
 use crate::fault::{HttpFault, HttpWhy};
 use crate::gather::{Ending, Gathered, gather};
@@ -16,13 +17,15 @@ use crate::waiting::{Parked, Waiting};
 use event_form::FeedFault;
 use std::alloc::Global;
 use std::collections::VecDeque;
+use std::mem;
 
-// Moves the items to the back, where there is room for them.
-fn append_reserved(queue: &mut VecDeque<Waiting>, mut items: VecDeque<Waiting>)
-    requires { deque_len queue.old + deque_len items ≤ deque_capacity queue.old }
-    ensures { queue.new.items ≡ queue.old.items ++ items.items }
+// Puts an item at a place of the queue, where there is room for it.
+fn insert_reserved(queue: &mut VecDeque<Waiting>, index: usize, item: Waiting)
+    requires inside { index ≤ deque_len queue.old }
+    requires room { deque_len queue.old < deque_capacity queue.old }
+    ensures { queue.new.items ≡ insert queue.old.items index item }
 {
-    if queue.append(&mut items).is_err() {
+    if queue.insert(index, item).is_err() {
         unreachable!();
     }
 }
@@ -39,35 +42,25 @@ impl Held {
         requires fills { FillsWith self.old (take had self.old.unread.items) }
         requires open { (self.old.fault ≡ None) × (self.old.begun ≡ None) }
         requires longer { length (take had self.old.unread.items) ≤ length all.now }
-        requires room { self.old.heads + self.old.size + (length self.old.bytes.items - self.old.from) + length all.now ≤ 1064960 + self.old.beside }
+        requires room { self.old.heads + self.old.size + (length self.old.bytes.items - self.old.from) + length all.now ≤ ROOM + self.old.beside }
         requires place { self.old.at + self.old.read + length all.now ≤ 2 ^ 40 }
         requires packed { self.old.from ≡ 0 }
         ensures { FeedsAfter self.old (take had self.old.unread.items) all.now result self.new }
     {
-        let before = self.bytes.len();
-        let Ok(scanned) = scan(alloc, &mut self.bytes, all) else {
+        let Ok(scanned) = scan(alloc, &mut self.queue, &mut self.bytes, all) else {
             self.unread.truncate(had);
             return Err(FeedFault::NoMemory);
         };
-        let Scanned {
-            mut queue,
-            heads,
-            left,
-        } = scanned;
-        let Ok(()) = self.queue.append(&mut queue) else {
-            self.bytes.truncate(before);
-            self.unread.truncate(had);
-            return Err(FeedFault::NoMemory);
-        };
+        let Scanned { heads, left } = scanned;
         self.heads += heads;
         self.settle(self.at, all, left)
     }
 
-    // Reads a piece behind bytes that begin a head.
+    // Reads a piece after bytes that begin a head.
     fn read_head(&mut self, alloc: Global, more: &[u8]) -> Result<(), FeedFault<HttpFault>>
         requires fills { Fills self.old }
         requires open { (self.old.fault ≡ None) × (self.old.begun ≡ None) }
-        requires room { self.old.heads + self.old.size + (length self.old.bytes.items - self.old.from) + length self.old.unread.items + length more.now ≤ 1064960 + self.old.beside }
+        requires room { self.old.heads + self.old.size + (length self.old.bytes.items - self.old.from) + length self.old.unread.items + length more.now ≤ ROOM + self.old.beside }
         requires place { self.old.at + self.old.read + length self.old.unread.items + length more.now ≤ 2 ^ 40 }
         requires packed { self.old.from ≡ 0 }
         ensures { FeedsHeld self.old more.now result self.new }
@@ -86,21 +79,24 @@ impl Held {
                 self.settle(self.at, &[], Left::cleared(0, fault))
             }
             Cut::Whole { used } => {
-                let Ok(all) = joined(alloc, &self.unread, &more[used..]) else {
+                let mut all = mem::replace(&mut self.joined, Vec::new(alloc));
+                let Ok(()) = join(&mut all, &self.unread, &more[used..]) else {
                     self.unread.truncate(had);
                     return Err(FeedFault::NoMemory);
                 };
-                self.read_requests(alloc, had, &all)
+                let told = self.read_requests(alloc, had, &all);
+                self.joined = all;
+                told
             }
         }
     }
 
-    // Reads all bytes that weren't read, and a piece behind them, where a head is whole.
+    // Reads all bytes that weren't read, and a piece after them, where a head is whole.
     fn read_all(&mut self, alloc: Global, all: &[u8]) -> Result<(), FeedFault<HttpFault>>
         requires fills { Fills self.old }
         requires begun { (self.old.fault ≡ None) × IsSome self.old.begun }
         requires longer { length self.old.unread.items ≤ length all.now }
-        requires room { self.old.heads + self.old.size + (length self.old.bytes.items - self.old.from) + length all.now ≤ 1064960 + self.old.beside }
+        requires room { self.old.heads + self.old.size + (length self.old.bytes.items - self.old.from) + length all.now ≤ ROOM + self.old.beside }
         requires place { self.old.at + self.old.read + length all.now ≤ 2 ^ 40 }
         requires packed { self.old.from ≡ 0 }
         ensures { FeedsAfter self.old self.old.unread.items all.now result self.new }
@@ -110,13 +106,15 @@ impl Held {
         match end {
             Ending::Whole => {
                 let body = self.bytes.len() - self.whole;
-                let behind = &all[used..];
-                let Ok(scanned) = scan(alloc, &mut self.bytes, behind) else {
+                let after = &all[used..];
+                let count = self.queue.len();
+                let Ok(scanned) = scan(alloc, &mut self.queue, &mut self.bytes, after) else {
                     self.bytes.truncate(before);
                     return Err(FeedFault::NoMemory);
                 };
-                let Scanned { queue, heads, left } = scanned;
-                let Ok(()) = self.queue.reserve(queue.len() + 1) else {
+                let Scanned { heads, left } = scanned;
+                let Ok(()) = self.queue.reserve(1) else {
+                    self.queue.truncate(count);
                     self.bytes.truncate(before);
                     return Err(FeedFault::NoMemory);
                 };
@@ -125,11 +123,10 @@ impl Held {
                 };
                 let size = self.size;
                 let parked = Parked { head, size, body };
-                self.queue.push_back_reserved(Waiting::Request(parked));
-                append_reserved(&mut self.queue, queue);
+                insert_reserved(&mut self.queue, count, Waiting::Request(parked));
                 self.heads += size + heads;
                 let base = self.at + (self.read + used) as u64;
-                self.settle(base, behind, left)
+                self.settle(base, after, left)
             }
             Ending::Open(stage) => {
                 self.stage = stage;
@@ -150,7 +147,7 @@ impl Held {
     fn read_body(&mut self, alloc: Global, more: &[u8]) -> Result<(), FeedFault<HttpFault>>
         requires fills { Fills self.old }
         requires begun { (self.old.fault ≡ None) × IsSome self.old.begun }
-        requires room { self.old.heads + self.old.size + (length self.old.bytes.items - self.old.from) + length self.old.unread.items + length more.now ≤ 1064960 + self.old.beside }
+        requires room { self.old.heads + self.old.size + (length self.old.bytes.items - self.old.from) + length self.old.unread.items + length more.now ≤ ROOM + self.old.beside }
         requires place { self.old.at + self.old.read + length self.old.unread.items + length more.now ≤ 2 ^ 40 }
         requires packed { self.old.from ≡ 0 }
         ensures { FeedsHeld self.old more.now result self.new }
@@ -158,17 +155,20 @@ impl Held {
         if self.unread.is_empty() {
             return self.read_all(alloc, more);
         }
-        let Ok(all) = joined(alloc, &self.unread, more) else {
+        let mut all = mem::replace(&mut self.joined, Vec::new(alloc));
+        let Ok(()) = join(&mut all, &self.unread, more) else {
             return Err(FeedFault::NoMemory);
         };
-        self.read_all(alloc, &all)
+        let told = self.read_all(alloc, &all);
+        self.joined = all;
+        told
     }
 
     /// Reads a piece for which there is room.
     pub fn read(&mut self, alloc: Global, more: &[u8]) -> Result<(), FeedFault<HttpFault>>
         requires fills { Fills self.old }
         requires fault { self.old.fault ≡ None }
-        requires room { self.old.heads + self.old.size + (length self.old.bytes.items - self.old.from) + length self.old.unread.items + length more.now ≤ 1064960 + self.old.beside }
+        requires room { self.old.heads + self.old.size + (length self.old.bytes.items - self.old.from) + length self.old.unread.items + length more.now ≤ ROOM + self.old.beside }
         requires place { self.old.at + self.old.read + length self.old.unread.items + length more.now ≤ 2 ^ 40 }
         requires packed { self.old.from ≡ 0 }
         ensures { FeedsHeld self.old more.now result self.new }
@@ -186,7 +186,7 @@ impl Held {
     pub fn take(&mut self, alloc: Global, more: &[u8]) -> Result<(), FeedFault<HttpFault>>
         requires fills { Fills self.old }
         requires fault { self.old.fault ≡ None }
-        requires room { counted self.old + length more.now ≤ 1064960 }
+        requires room { counted self.old + length more.now ≤ ROOM }
         requires place { self.old.at + self.old.read + length self.old.unread.items + length more.now ≤ 2 ^ 40 }
         ensures { FeedsHeld self.old more.now result self.new }
     {

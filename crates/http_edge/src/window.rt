@@ -7,19 +7,16 @@ ghost use Rattle.http_edge.specs.Reading.{come};
 
 use crate::fault::HttpFault;
 use crate::field::Fields;
-use crate::head::{Head, MOST_HEAD};
+use crate::head::Head;
 use crate::held::{Given, Held};
 use crate::item::ItemRef;
-use crate::length::MOST_BODY;
+use crate::limits::{MOST_HEAD, ROOM};
 use crate::part::HeadPart;
 use crate::stage::Stage;
 use event_form::{Blob, FeedFault};
 use std::alloc::{AllocError, Global};
 use std::collections::VecDeque;
 use std::marker::Model;
-
-/// How many bytes a window holds.
-const ROOM: usize = MOST_HEAD + MOST_BODY;
 
 /// A window over a stream of requests that comes in pieces, cut anywhere. It holds at most 1,064,960 bytes:
 /// those of whole requests that wait, and of an unfinished one; the first request's parsed head of at most
@@ -87,6 +84,7 @@ impl HttpWindow {
             part: HeadPart::Blank,
             fault: None,
             lent,
+            joined: Vec::new(alloc),
         };
         Ok(HttpWindow { alloc, held })
     }
@@ -94,14 +92,14 @@ impl HttpWindow {
     /// Adds as much of the piece as there is room for, and says how much.
     ///
     /// `Fault` comes exactly where the bytes so far have a fault, with its offset and rule; where they end
-    /// inside a request's target, a target that is no text may be told only at its end. The items before a
+    /// inside a request's target, a target that is no text may be reported only at its end. The items before a
     /// fault still wait; later calls answer the same and take nothing. After `NoMemory` the window is as
     /// before, and nothing was taken.
     pub fn feed(&mut self, piece: &[u8]) -> Result<usize, FeedFault<HttpFault>>
         requires { self.old.reading.at + come self.old.reading + length piece.now ≤ 2 ^ 40 }
         ensures feeds { Feeds self.old piece.now result self.new }
         ensures stays { (e : HttpFault) → self.old.reading.fault ≡ Some e → (result ≡ Err (Fault e)) × (self.new ≡ self.old) }
-        ensures bound { held_of self.new ≤ 1064960 }
+        ensures bound { held_of self.new ≤ ROOM }
         ensures room { self.new.reading.at + come self.new.reading ≤ self.old.reading.at + come self.old.reading + taken_of self.old piece.now }
     {
         if let Some(fault) = self.held.fault {
@@ -132,7 +130,7 @@ impl HttpWindow {
     /// no memory.
     pub fn held(&self) -> usize
         ensures count { result ≡ held_of self.now }
-        ensures bound { result ≤ 1064960 }
+        ensures bound { result ≤ ROOM }
         ensures heads { CountsHeads self.now }
     {
         self.held.count()

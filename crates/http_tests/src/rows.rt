@@ -12,7 +12,7 @@ pub struct Row {
 /// How many bytes the pieces have in which they are fed.
 pub const SIZES: [usize; 7] = [1, 2, 3, 7, 64, 150, 1000];
 
-const STREAMS: [Row; 36] = [
+const STREAMS: [Row; 19] = [
     // Lengths.
     Row {
         text: b"",
@@ -55,10 +55,6 @@ const STREAMS: [Row; 36] = [
         text: b"POST /a HTTP/1.0\r\nExpect: 100-continue\r\nContent-Length: 1\r\n\r\nx",
         tells: b"|/a|x",
     },
-    Row {
-        text: b"POST /a HTTP/1.1\r\nExpect: 100-continue\r\nContent-Length: 1048577\r\n\r\n",
-        tells: b"#0!0 long",
-    },
     // Chunks.
     Row {
         text: b"POST /c HTTP/1.1\r\nTransfer-Encoding: Chunked\r\nExpect: 100-continue\r\n\r\n5\r\n{\"eve\r\n8\r\nnt\":\"a\"}\r\n0\r\n\r\n",
@@ -72,6 +68,40 @@ const STREAMS: [Row; 36] = [
         text: b"POST /c HTTP/1.1\r\nTransfer-Encoding: chunked\r\n\r\n2\r\nab\r",
         tells: b"#0",
     },
+    // What real clients wrote.
+    // curl 7.88, two events.
+    Row {
+        text: b"POST /services/collector/event HTTP/1.1\r\nHost: 127.0.0.1:25841\r\nUser-Agent: curl/7.88.1\r\nAccept: */*\r\nAuthorization: Splunk 11111111-2222-3333-4444-555555555555\r\nContent-Length: 33\r\nContent-Type: application/x-www-form-urlencoded\r\n\r\n{\"event\":\"a\"}{\"event\":{\"b\":1.50}}",
+        tells: b"|/services/collector/event|{\"event\":\"a\"}{\"event\":{\"b\":1.50}}",
+    },
+    // curl 7.88, HEAD.
+    Row {
+        text: b"HEAD /services/collector/health HTTP/1.1\r\nHost: 127.0.0.1:25862\r\nUser-Agent: curl/7.88.1\r\nAccept: */*\r\nAuthorization: Splunk 11111111-2222-3333-4444-555555555555\r\n\r\n",
+        tells: b"|/services/collector/health|",
+    },
+    // curl 7.88, GET.
+    Row {
+        text: b"GET /services/collector/health HTTP/1.1\r\nHost: 127.0.0.1:25843\r\nUser-Agent: curl/7.88.1\r\nAccept: */*\r\n\r\n",
+        tells: b"|/services/collector/health|",
+    },
+    // curl 7.88, raw lines.
+    Row {
+        text: b"POST /services/collector/raw?channel=cccccccc-2222-3333-4444-555555555555&sourcetype=x HTTP/1.1\r\nHost: 127.0.0.1:25842\r\nUser-Agent: curl/7.88.1\r\nAccept: */*\r\nAuthorization: Splunk 11111111-2222-3333-4444-555555555555\r\nContent-Length: 5\r\nContent-Type: application/x-www-form-urlencoded\r\n\r\np\r\n\nq",
+        tells: b"|/services/collector/raw?channel=cccccccc-2222-3333-4444-555555555555&sourcetype=x|p\r\n\nq",
+    },
+    // curl 7.88, two requests on one connection.
+    Row {
+        text: b"POST /services/collector/event HTTP/1.1\r\nHost: 127.0.0.1:25852\r\nUser-Agent: curl/7.88.1\r\nAccept: */*\r\nAuthorization: Splunk aaaaaaaa-2222-3333-4444-555555555555\r\nX-Splunk-Request-Channel: cccccccc-2222-3333-4444-555555555555\r\nContent-Length: 13\r\nContent-Type: application/x-www-form-urlencoded\r\n\r\n{\"event\":\"a\"}POST /services/collector/ack HTTP/1.1\r\nHost: 127.0.0.1:25852\r\nUser-Agent: curl/7.88.1\r\nAccept: */*\r\nAuthorization: Splunk aaaaaaaa-2222-3333-4444-555555555555\r\nX-Splunk-Request-Channel: cccccccc-2222-3333-4444-555555555555\r\nContent-Length: 21\r\nContent-Type: application/x-www-form-urlencoded\r\n\r\n{\"acks\":[4294967296]}",
+        tells: b"|/services/collector/event|{\"event\":\"a\"}|/services/collector/ack|{\"acks\":[4294967296]}",
+    },
+    // The log driver of Docker 20.10, before its first request.
+    Row {
+        text: b"OPTIONS /services/collector/event/1.0 HTTP/1.1\r\nHost: 127.0.0.1:25221\r\nUser-Agent: Go-http-client/1.1\r\nAccept-Encoding: gzip\r\n\r\n",
+        tells: b"|/services/collector/event/1.0|",
+    },
+];
+
+const FAULTS: [Row; 17] = [
     // Faults of heads.
     Row {
         text: b"GET\r\n",
@@ -115,6 +145,10 @@ const STREAMS: [Row; 36] = [
         tells: b"#0!0 long",
     },
     Row {
+        text: b"POST /a HTTP/1.1\r\nExpect: 100-continue\r\nContent-Length: 1048577\r\n\r\n",
+        tells: b"#0!0 long",
+    },
+    Row {
         text: b"POST / HTTP/1.1\r\nContent-Length: 99999999999999999999\r\n\r\n",
         tells: b"#0!0 long",
     },
@@ -139,42 +173,16 @@ const STREAMS: [Row; 36] = [
         text: b"POST / HTTP/1.1\r\nTransfer-Encoding: chunked\r\n\r\n1\r\na\r\n100000\r\n",
         tells: b"#0!0 long",
     },
-    // What real clients wrote.
-    // curl 7.88, two events.
-    Row {
-        text: b"POST /services/collector/event HTTP/1.1\r\nHost: 127.0.0.1:25841\r\nUser-Agent: curl/7.88.1\r\nAccept: */*\r\nAuthorization: Splunk 11111111-2222-3333-4444-555555555555\r\nContent-Length: 33\r\nContent-Type: application/x-www-form-urlencoded\r\n\r\n{\"event\":\"a\"}{\"event\":{\"b\":1.50}}",
-        tells: b"|/services/collector/event|{\"event\":\"a\"}{\"event\":{\"b\":1.50}}",
-    },
-    // curl 7.88, HEAD.
-    Row {
-        text: b"HEAD /services/collector/health HTTP/1.1\r\nHost: 127.0.0.1:25862\r\nUser-Agent: curl/7.88.1\r\nAccept: */*\r\nAuthorization: Splunk 11111111-2222-3333-4444-555555555555\r\n\r\n",
-        tells: b"|/services/collector/health|",
-    },
-    // curl 7.88, GET.
-    Row {
-        text: b"GET /services/collector/health HTTP/1.1\r\nHost: 127.0.0.1:25843\r\nUser-Agent: curl/7.88.1\r\nAccept: */*\r\n\r\n",
-        tells: b"|/services/collector/health|",
-    },
-    // curl 7.88, raw lines.
-    Row {
-        text: b"POST /services/collector/raw?channel=cccccccc-2222-3333-4444-555555555555&sourcetype=x HTTP/1.1\r\nHost: 127.0.0.1:25842\r\nUser-Agent: curl/7.88.1\r\nAccept: */*\r\nAuthorization: Splunk 11111111-2222-3333-4444-555555555555\r\nContent-Length: 5\r\nContent-Type: application/x-www-form-urlencoded\r\n\r\np\r\n\nq",
-        tells: b"|/services/collector/raw?channel=cccccccc-2222-3333-4444-555555555555&sourcetype=x|p\r\n\nq",
-    },
-    // curl 7.88, two requests on one connection.
-    Row {
-        text: b"POST /services/collector/event HTTP/1.1\r\nHost: 127.0.0.1:25852\r\nUser-Agent: curl/7.88.1\r\nAccept: */*\r\nAuthorization: Splunk aaaaaaaa-2222-3333-4444-555555555555\r\nX-Splunk-Request-Channel: cccccccc-2222-3333-4444-555555555555\r\nContent-Length: 13\r\nContent-Type: application/x-www-form-urlencoded\r\n\r\n{\"event\":\"a\"}POST /services/collector/ack HTTP/1.1\r\nHost: 127.0.0.1:25852\r\nUser-Agent: curl/7.88.1\r\nAccept: */*\r\nAuthorization: Splunk aaaaaaaa-2222-3333-4444-555555555555\r\nX-Splunk-Request-Channel: cccccccc-2222-3333-4444-555555555555\r\nContent-Length: 21\r\nContent-Type: application/x-www-form-urlencoded\r\n\r\n{\"acks\":[4294967296]}",
-        tells: b"|/services/collector/event|{\"event\":\"a\"}|/services/collector/ack|{\"acks\":[4294967296]}",
-    },
-    // The log driver of Docker 20.10, before its first request.
-    Row {
-        text: b"OPTIONS /services/collector/event/1.0 HTTP/1.1\r\nHost: 127.0.0.1:25221\r\nUser-Agent: Go-http-client/1.1\r\nAccept-Encoding: gzip\r\n\r\n",
-        tells: b"|/services/collector/event/1.0|",
-    },
 ];
 
-/// The streams. A test's proof sees no row this way, so that it stays short.
+/// The streams without a fault. A test's proof sees no row this way, so that it stays short.
 pub fn streams() -> &'static [Row] {
     &STREAMS
+}
+
+/// Those with a fault.
+pub fn faults() -> &'static [Row] {
+    &FAULTS
 }
 
 /// What stands after a head's 64 fields, and what that tells.
@@ -213,4 +221,40 @@ pub const COUNTS: [(&[u8], usize, usize); 7] = [
         16,
         0,
     ),
+];
+
+/// A text that repeats, how many bytes of that a window doesn't take, and how many of these it takes once an
+/// item is given.
+#[derive(Clone, Copy)]
+pub struct Full {
+    pub text: &'static [u8],
+    pub times: usize,
+    pub rest: usize,
+    pub more: usize,
+}
+
+/// A window holds 1,064,960 bytes.
+pub const FULL: [Full; 3] = [
+    // 18 bytes a request.
+    Full {
+        text: b"GET / HTTP/1.1\r\n\r\n",
+        times: 60_000,
+        rest: 60_000 * 18 - 1_064_960,
+        more: 18,
+    },
+    // 39 bytes a request.
+    Full {
+        text: b"POST /a HTTP/1.1\nContent-Length: 3\n\nabc",
+        times: 30_000,
+        rest: 30_000 * 39 - 1_064_960,
+        more: 39,
+    },
+    // Of 57 bytes a request 47 are held, those of its head and its chunk's data: 22,658 requests, and the
+    // first 34 bytes of another head.
+    Full {
+        text: b"POST / HTTP/1.1\nTransfer-Encoding: chunked\n\n3\r\nabc\r\n0\r\n\r\n",
+        times: 30_000,
+        rest: 30_000 * 57 - 22_658 * 57 - 34,
+        more: 47,
+    },
 ];

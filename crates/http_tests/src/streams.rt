@@ -20,8 +20,8 @@ fn tell_item(item: &HttpItem, out: &mut Vec<u8>) -> Result<(), AllocError> {
     }
 }
 
-// A mark, a place and a word.
-fn tell_place(
+/// A mark, a place and a word.
+pub fn tell_place(
     alloc: Global,
     mark: u8,
     at: u64,
@@ -33,7 +33,8 @@ fn tell_place(
     out.extend_from_slice(word)
 }
 
-fn word(why: HttpWhy) -> &'static [u8] {
+/// The word for a rule.
+pub fn word(why: HttpWhy) -> &'static [u8] {
     match why {
         HttpWhy::BadHead => b" head",
         HttpWhy::BadLength => b" length",
@@ -42,8 +43,8 @@ fn word(why: HttpWhy) -> &'static [u8] {
     }
 }
 
-// What was read: the items, the rest after `#`, and the fault after `!`.
-fn tell(alloc: Global, talk: &Talk) -> Result<Vec<u8>, AllocError> {
+/// What was read: the items, the rest after `#`, and the fault after `!`.
+pub fn tell(alloc: Global, talk: &Talk) -> Result<Vec<u8>, AllocError> {
     let mut out = Vec::new(alloc);
     for item in &talk.items {
         tell_item(item, &mut out)?;
@@ -79,6 +80,15 @@ fn misread(alloc: Global, text: &[u8], tells: &[u8]) -> Result<Option<usize>, Al
 #[test]
 fn streams(rt: HostRuntime) -> Result<(), AllocError> {
     for row in rows::streams() {
+        assert_eq!(&rt; misread(rt.alloc(), row.text, row.tells)?, None);
+    }
+    Ok(())
+}
+
+/// The same of streams with a fault.
+#[test]
+fn faults(rt: HostRuntime) -> Result<(), AllocError> {
+    for row in rows::faults() {
         assert_eq!(&rt; misread(rt.alloc(), row.text, row.tells)?, None);
     }
     Ok(())

@@ -1,5 +1,5 @@
 -- What has been read of a cut head.
-use Rattle.std.proofs.Common.{◌≡◌, ℕ, ◌+◌, ◌-◌, ◌<◌, ◌≤◌, ◌∙◌, List, ◌++◌, length, take, drop, ap, sym, subst, arith}
+use Rattle.std.proofs.Common.{◌≡◌, ℕ, ◌+◌, ◌∙◌, List, length, sym, subst, arith}
 use Rattle.http_edge.specs.declared.look.Look.{Look}
 use Rattle.http_edge.specs.declared.look.Look.TheVariants.{Open, Bad}
 use Rattle.http_edge.specs.Parts.{IsPart}

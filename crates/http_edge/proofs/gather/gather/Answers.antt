@@ -1,5 +1,5 @@
 -- What has been read of a piece, turn by turn.
-use Rattle.std.proofs.Common.{◌≡◌, ◌-◌, ◌∙◌, length, arith}
+use Rattle.std.proofs.Common.{◌-◌, ◌∙◌, arith}
 use Rattle.http_edge.specs.declared.step.Turn.TheVariants.{Took, Past, Done, Bad}
 use Rattle.http_edge.proofs.GatherLaws.{at_past, at_took, count_got, gathers_bad, gathers_whole, turns_at}
 use Rattle.http_edge.proofs.gather.gather.Goals as goal

@@ -1,6 +1,6 @@
 -- Each byte brings the head on.
-use Rattle.std.proofs.Common.{◌++◌, ◌∷◌, [], ◌∙◌, ◌+◌, sym, subst}
-use Rattle.http_edge.specs.declared.part.HeadPart.TheVariants.{Blank, Return, Target}
+use Rattle.std.proofs.Common.{◌++◌, ◌∷◌, [], ◌∙◌, sym, subst}
+use Rattle.http_edge.specs.declared.part.HeadPart.TheVariants.{Blank}
 use Rattle.http_edge.specs.Parts.{IsPart}
 use Rattle.http_edge.proofs.PartLaws.{blank_more, return_blank, method_more, target_more}
 use Rattle.http_edge.proofs.part.after.Goals as goal

@@ -1,5 +1,5 @@
 -- After a start line, the fields are read from their first byte on.
-use Rattle.std.proofs.Common.{◌≡◌, ℕ, ◌∙◌, ◌+◌, ◌-◌, ◌≤◌, ◌<◌, ◌++◌, Bool, true, false, List, ap, sym, subst, arith, get_or, take, drop, length, length-drop, length-take-le}
+use Rattle.std.proofs.Common.{◌≡◌, ℕ, ◌+◌, ◌-◌, ◌<◌, ◌++◌, Bool, true, false, ap, subst, arith, get_or, take, drop, length, length-drop, length-take-le}
 use Rattle.std.specs.Prelude.{IsUtf8}
 use Rattle.std.specs.Bool.{OnTrue}
 use Rattle.std.proofs.lemmas.List.{take_all}

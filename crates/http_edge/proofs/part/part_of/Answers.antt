@@ -1,5 +1,5 @@
 -- From a head's first byte on.
-use Rattle.std.proofs.Common.{◌∙◌, ◌++◌, [], sym, subst, take, take_all, refl, ap, arith}
+use Rattle.std.proofs.Common.{◌∙◌, [], subst, take, take_all, refl, ap, arith}
 use Rattle.http_edge.specs.Parts.{IsPart}
 use Rattle.http_edge.proofs.part.part_of.Goals as goal
 

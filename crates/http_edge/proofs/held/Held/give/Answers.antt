@@ -1,5 +1,5 @@
 -- The first request is given.
-use Rattle.std.proofs.Common.{◌≡◌, ◌∙◌, ◌++◌, ◌∷◌, List, Some, refl, ap}
+use Rattle.std.proofs.Common.{◌≡◌, ◌∙◌, ◌++◌, ◌∷◌, Some, refl, ap}
 use Rattle.std.specs.Prelude.{option_to_list}
 use Rattle.http_edge.specs.declared.waiting.Waiting.{Waiting}
 use Rattle.http_edge.specs.declared.waiting.Waiting.TheVariants.{Request}

@@ -1,6 +1,6 @@
--- What a window holds of a body, and behind it.
+-- What a window holds of a body, and after it.
 use Rattle.std.proofs.Common.{◌≡◌, ◌∙◌, ◌+◌, ◌-◌, ◌++◌, ◌∷◌, ℕ, List, [], length, drop, take, refl, sym, ap, subst, arith, append_assoc, length-append, length-drop}
-use Rattle.std.specs.Prelude.{Some}
+use Rattle.std.specs.Prelude.{Some, insert}
 use Rattle.http_edge.specs.declared.gather.Ending.TheVariants.{Whole}
 use Rattle.http_edge.specs.declared.held.Held.{Held}
 use Rattle.http_edge.specs.declared.left.Left.{Left}
@@ -16,6 +16,7 @@ use Rattle.http_edge.proofs.BodyHeldLaws.{bad_feed, cleared_head, gathered_held,
 use Rattle.http_edge.proofs.GiveLaws.{beside_short}
 use Rattle.http_edge.proofs.HeldLaws.{cut_off, kept_feed, scan_head}
 use Rattle.http_edge.proofs.NextLaws.{window}
+use Rattle.http_edge.proofs.ScanLaws.{insert_between, queue_back}
 use Rattle.http_edge.proofs.held.Held.read_all.Goals as goal
 
 pub gather-used-requires-clause-room : goal.gather-used-requires-clause-room
@@ -67,7 +68,7 @@ settle-requires-clause-head c =
     let all = c.args.all.now in
     let x = c.in-Ok.scanned in
     let s = c.in-Ok.ensures.scans in
-    scan_head (take (length all - c.gather-used.result.used) (drop c.gather-used.result.used all)) s.got s.body x.queue.items x.heads x.left s.scans
+    scan_head (take (length all - c.gather-used.result.used) (drop c.gather-used.result.used all)) s.got s.body s.queue x.heads x.left s.scans
 
 pub settle-requires-in-Bad-clause-head : goal.settle-requires-in-Bad-clause-head
 settle-requires-in-Bad-clause-head c = λ e. subst (λ (l : Left). IsOpenHead (drop (length c.args.all.now - l.rest) c.args.all.now)) (sym c.cleared.ensures) (cleared_head c.args.all.now)
@@ -80,11 +81,12 @@ returns-in_default-reserve c = λ piece e.
     let s = c.in-Ok.ensures.scans in
     let more = c.scan.new.bytes.items in
     let added : more ≡ h.bytes.items ++ (x.got ++ (s.got ++ s.body)) = s.added ∙ ap (λ (v : List ℕ). v ++ (s.got ++ s.body)) x.added ∙ append_assoc h.bytes.items x.got (s.got ++ s.body) in
-    let kept = cut_off h.bytes.items more c.truncate-in_default-reserve.new.self.items (x.got ++ (s.got ++ s.body)) c.len-before.result added (c.len-before.ensures ∙ h.bytes.ok.0) c.truncate-in_default-reserve.ensures.items in
+    let kept = cut_off h.bytes.items more c.truncate-in_default-reserve-2.new.self.items (x.got ++ (s.got ++ s.body)) c.len-before.result added (c.len-before.ensures ∙ h.bytes.ok.0) c.truncate-in_default-reserve-2.ensures.items in
     let a = c.gather-used.ensures.capacity in
     let b = c.scan.ensures.capacity in
-    let d = c.truncate-in_default-reserve.ensures.capacity in
-    kept_feed h _ h.unread.items piece f (record { queue_is = c.reserve.ensures.items; heads_is = refl; beside_is = refl; bytes_are = kept; space = omega (arith, a, b, d); from_is = refl; whole_is = refl; at_is = refl; begun_is = refl; size_is = refl; stage_is = refl; read_is = refl; unread_is = refl; unread_space = f.unread_space; part_is = refl; fault_is = refl })
+    let d = c.truncate-in_default-reserve-2.ensures.capacity in
+    let queue = queue_back h.queue.items c.scan.new.queue.items c.truncate-in_default-reserve.new.self.items s.queue c.len-count.result s.queued (c.len-count.ensures ∙ h.queue.ok.0) (c.truncate-in_default-reserve.ensures.items ∙ ap (take c.len-count.result) c.reserve.ensures.items) in
+    kept_feed h _ h.unread.items piece f (record { queue_is = queue; heads_is = refl; beside_is = refl; bytes_are = kept; space = omega (arith, a, b, d); from_is = refl; whole_is = refl; at_is = refl; begun_is = refl; size_is = refl; stage_is = refl; read_is = refl; unread_is = refl; unread_space = f.unread_space; part_is = refl; fault_is = refl })
 
 pub returns-in-Some : goal.returns-in-Some
 returns-in-Some c = λ piece e.
@@ -96,19 +98,19 @@ returns-in-Some c = λ piece e.
     let s = c.in-Ok.ensures.scans in
     let tail = window all g.result.used in
     let gathers = subst (λ (n : ℕ). Gathers h.stage (n - h.whole) all h.bytes.items g.new.bytes.items g.result) (c.len-before.ensures ∙ h.bytes.ok.0) g.ensures.gathers in
-    let mid : Held = record h { queue = c.append_reserved.new.queue; heads = h.heads + (h.size + x.heads); bytes = c.scan.new.bytes; begun = c.take.new.self } in
+    let mid : Held = record h { queue = c.insert_reserved.new.queue; heads = h.heads + (h.size + x.heads); bytes = c.scan.new.bytes; begun = c.take.new.self } in
     let head = c.in-Some.head in
     let body = c.len.result - h.whole in
     let parked : Parked = record { head = head; size = h.size; body = body } in
-    let queue : mid.queue.items ≡ (h.queue.items ++ Request parked ∷ []) ++ x.queue.items = c.append_reserved.ensures ∙ ap (λ (v : List Waiting). v ++ x.queue.items) (c.push_back_reserved.ensures.items ∙ ap (λ (v : List Waiting). v ++ Request parked ∷ []) c.in-Ok-reserve.ensures.items) in
+    let queue : mid.queue.items ≡ (h.queue.items ++ Request parked ∷ []) ++ s.queue = c.insert_reserved.ensures ∙ ap (λ (v : List Waiting). insert v c.len-count.result (Request parked)) (c.in-Ok-reserve.ensures.items ∙ s.queued) ∙ insert_between h.queue.items s.queue (Request parked) c.len-count.result (c.len-count.ensures ∙ h.queue.ok.0) in
     let begun : h.begun ≡ Some head = sym c.take.ensures.value ∙ c.in-Some.is in
-    let scans = subst (λ (v : List ℕ). Scans v s.got s.body x.queue.items x.heads x.left) tail s.scans in
+    let scans = subst (λ (v : List ℕ). Scans v s.got s.body s.queue x.heads x.left) tail s.scans in
     let settles = subst (λ (v : List ℕ). Settles mid (h.at + (h.read + g.result.used)) v x.left c.settle.new.self) tail c.settle.ensures.settles in
     let a = f.space in
     let b = g.ensures.capacity in
     let d = c.scan.ensures.capacity in
     let n : body ≡ length g.new.bytes.items - h.whole = ap (λ (v : ℕ). v - h.whole) (c.len.ensures ∙ g.new.bytes.ok.0) in
-    whole_feed h mid c.settle.new.self all piece g.new.bytes.items s.got s.body g.result head body x.queue.items x.heads x.left c.settle.result f c.requires.begun.0 begun e gathers c.in-Whole.is scans n s.added (omega (arith, a, b, d)) queue refl refl refl c.requires.room c.requires.place settles c.settle.ensures.told
+    whole_feed h mid c.settle.new.self all piece g.new.bytes.items s.got s.body g.result head body s.queue x.heads x.left c.settle.result f c.requires.begun.0 begun e gathers c.in-Whole.is scans n s.added (omega (arith, a, b, d)) queue refl refl refl c.requires.room c.requires.place settles c.settle.ensures.told
 
 pub returns-in-Open : goal.returns-in-Open
 returns-in-Open c = λ piece e.

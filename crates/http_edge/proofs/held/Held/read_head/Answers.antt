@@ -1,18 +1,13 @@
 -- What a window holds of a cut head.
-use Rattle.std.proofs.Common.{◌≡◌, ◌∙◌, ◌+◌, ◌-◌, ◌++◌, ◌≤◌, ℕ, List, [], length, take, drop, refl, sym, ap, subst, arith, append-nil, append_assoc, take-append-drop, length-append}
-use Rattle.std.specs.Prelude.{None}
-use Rattle.std.proofs.lemmas.List.{take_at}
-use Rattle.http_edge.specs.declared.cut.Cut.{Cut}
-use Rattle.http_edge.specs.declared.cut.Cut.TheVariants.{Open, Bad, Whole}
+use Rattle.std.proofs.Common.{◌≡◌, ◌∙◌, ◌+◌, ◌-◌, [], length, drop, refl, sym, ap, subst, arith, length-append}
 use Rattle.http_edge.specs.declared.fault.HttpFault.{HttpFault}
 use Rattle.http_edge.specs.declared.held.Held.{Held}
 use Rattle.http_edge.specs.declared.left.Left.{Left}
 use Rattle.http_edge.specs.Cutting.{GoesOn}
-use Rattle.http_edge.specs.Filling.{FeedsWith, IsHeldOf, Settles}
+use Rattle.http_edge.specs.Filling.{IsHeldOf, Settles}
 use Rattle.http_edge.specs.Heads.{IsOpenHead}
 use Rattle.http_edge.specs.Keeping.{answer, moved}
 use Rattle.http_edge.proofs.CutHeldLaws.{bad_head_feed, open_head_feeds}
-use Rattle.http_edge.proofs.NextLaws.{window}
 use Rattle.http_edge.proofs.OpeningLaws.{open_nil}
 use Rattle.http_edge.proofs.held.Held.read_head.Goals as goal
 

@@ -1,5 +1,5 @@
--- What a window holds behind requests.
-use Rattle.std.proofs.Common.{◌≡◌, ◌∙◌, ◌+◌, ◌++◌, length, take, refl, arith}
+-- What a window holds after requests.
+use Rattle.std.proofs.Common.{◌+◌, take, refl, arith}
 use Rattle.http_edge.specs.declared.held.Held.{Held}
 use Rattle.http_edge.proofs.GiveLaws.{beside_short}
 use Rattle.http_edge.proofs.HeldLaws.{requests_feed, requests_ready, scan_head}
@@ -31,7 +31,7 @@ pub settle-requires-clause-head : goal.settle-requires-clause-head
 settle-requires-clause-head c =
     let x = c.in-Ok.scanned in
     let s = c.in-Ok.ensures.scans in
-    scan_head c.args.all.now s.got s.body x.queue.items x.heads x.left s.scans
+    scan_head c.args.all.now s.got s.body s.queue x.heads x.left s.scans
 
 pub returns : goal.returns
 returns c = λ piece e.
@@ -40,9 +40,8 @@ returns c = λ piece e.
     let f = c.requires.fills in
     let x = c.in-Ok.scanned in
     let s = c.in-Ok.ensures.scans in
-    let mid : Held = record h { queue = c.append.new.self; heads = h.heads + x.heads; bytes = c.scan.new.bytes } in
-    let queue : mid.queue.items ≡ h.queue.items ++ x.queue.items = c.in-Ok-append.ensures.items in
+    let mid : Held = record h { queue = c.scan.new.queue; heads = h.heads + x.heads; bytes = c.scan.new.bytes } in
     let space = f.space in
     let grows = c.scan.ensures.capacity in
-    let ready = requests_ready h mid u c.args.all.now s.got s.body x.queue.items x.heads x.left f c.requires.open.1 s.scans s.added (omega (arith, space, grows)) queue refl refl refl c.requires.room c.requires.place in
-    requests_feed h mid c.settle.new.self u c.args.all.now piece s.got s.body x.queue.items x.heads x.left c.settle.result f c.requires.open.0 c.requires.open.1 e s.scans s.added queue refl ready c.settle.ensures.settles c.settle.ensures.told
+    let ready = requests_ready h mid u c.args.all.now s.got s.body s.queue x.heads x.left f c.requires.open.1 s.scans s.added (omega (arith, space, grows)) s.queued refl refl refl c.requires.room c.requires.place in
+    requests_feed h mid c.settle.new.self u c.args.all.now piece s.got s.body s.queue x.heads x.left c.settle.result f c.requires.open.0 c.requires.open.1 e s.scans s.added s.queued refl ready c.settle.ensures.settles c.settle.ensures.told

@@ -1,5 +1,5 @@
 -- What was given is gone, and contracts see the same.
-use Rattle.std.proofs.Common.{◌≡◌, ◌+◌, ◌≤◌, ℕ, length, sym, ap, subst, arith}
+use Rattle.std.proofs.Common.{◌≡◌, length, ap, subst, arith}
 use Rattle.http_edge.specs.declared.held.Held.{Held}
 use Rattle.http_edge.specs.Filling.{FeedsTo, window_of}
 use Rattle.http_edge.specs.Window.{Window}

@@ -1,9 +1,9 @@
 -- What a window holds after a piece.
-use Rattle.std.proofs.Common.{◌≡◌, ◌+◌, ◌≤◌, ◌∙◌, ℕ, take, length, ap, sym, subst, arith}
-use Rattle.std.specs.Prelude.{Ok, Err, None, Result}
+use Rattle.std.proofs.Common.{◌+◌, ◌≤◌, ℕ, sym, subst}
+use Rattle.std.specs.Prelude.{Ok, Err, Result}
 use Rattle.event_form.specs.declared.feed_fault.FeedFault.{FeedFault}
 use Rattle.http_edge.specs.declared.fault.HttpFault.{HttpFault}
-use Rattle.http_edge.specs.Filling.{FeedsTo, FeedsWith, window_of}
+use Rattle.http_edge.specs.Filling.{window_of}
 use Rattle.http_edge.specs.Reading.{come}
 use Rattle.http_edge.specs.Window.{Window, Feeds, held_of, taken_of}
 use Rattle.http_edge.proofs.WindowLaws.{err_is, feeds_err, feeds_ok, held_bound, room_after, takes}

@@ -1,6 +1,6 @@
 -- What is held is what contracts see.
-use Rattle.std.proofs.Common.{◌≡◌, ◌∙◌, ap, subst}
-use Rattle.http_edge.specs.Window.{Window, CountsHeads, held_of}
+use Rattle.std.proofs.Common.{◌∙◌, ap, subst}
+use Rattle.http_edge.specs.Window.{CountsHeads, held_of}
 use Rattle.http_edge.proofs.GiveLaws.{counted_is, counts}
 use Rattle.http_edge.proofs.window.HttpWindow.held.Goals as goal
 

@@ -1,6 +1,5 @@
 -- A window that was fed nothing has read nothing.
-use Rattle.std.proofs.Common.{[], List, refl, sym, subst, ap, arith, inl}
-use Rattle.http_edge.specs.declared.request.HttpItem.{HttpItem}
+use Rattle.std.proofs.Common.{[], List, refl, sym, subst, arith, inl}
 use Rattle.http_edge.specs.declared.waiting.Waiting.{Waiting}
 use Rattle.http_edge.specs.HttpStream.{IsStream}
 use Rattle.http_edge.specs.Waits.{items_in}

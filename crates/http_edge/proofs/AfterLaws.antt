@@ -1,8 +1,7 @@
--- What a reader has read after a piece behind a head.
+-- What a reader has read after a piece after a head.
 use Rattle.std.proofs.Common.{◌≡◌, ℕ, ◌+◌, List, [], ◌∷◌, ◌++◌, length, take, drop, refl, sym, ap, ◌∙◌, subst, arith, inr, length-append, length-take-le, append_assoc, append-nil, take-append-drop}
-use Rattle.std.specs.Prelude.{Option, Some, None, IsSome, Result, Ok, Err}
+use Rattle.std.specs.Prelude.{Option, Some, None, IsSome, Ok, Err}
 use Rattle.httparse.specs.Grammar.{RequestHead, print_request}
-use Rattle.event_form.specs.declared.feed_fault.FeedFault.{FeedFault}
 use Rattle.event_form.specs.declared.feed_fault.FeedFault.TheVariants.{Fault}
 use Rattle.http_edge.specs.declared.fault.HttpFault.{HttpFault}
 use Rattle.http_edge.specs.declared.fault.HttpWhy.{HttpWhy}
@@ -16,7 +15,7 @@ use Rattle.http_edge.specs.declared.request.HttpRequest.{HttpRequest}
 use Rattle.http_edge.specs.declared.stage.Stage.{Stage}
 use Rattle.http_edge.specs.Lengths.{size_of}
 use Rattle.http_edge.specs.Bodies.{Reaches}
-use Rattle.http_edge.specs.HttpStream.{BeginsWith, IsRequest, IsFault, IsFaulty, AreRequests, items_of, told_of}
+use Rattle.http_edge.specs.HttpStream.{BeginsWith, IsRequest, IsFault, AreRequests, items_of, told_of}
 use Rattle.http_edge.specs.Reading.{Reading, ReadsTo, Reads, Holds, Feeds}
 use Rattle.http_edge.specs.Keeping.{FeedsAll, answer, moved}
 use Rattle.http_edge.specs.Gathering.{GathersTo}
@@ -27,7 +26,7 @@ use Rattle.http_edge.proofs.NextLaws.{is_request, told_first, is_open}
 use Rattle.http_edge.proofs.StreamLaws.{requests_then}
 use Rattle.http_edge.proofs.FeedLaws.{told_head, reads_none, requests_more_text}
 
--- the body's text and the bytes behind it
+-- the body's text and the bytes after it
 text_more : (front unread piece all : List ℕ) (used : ℕ) → all ≡ unread ++ piece → (front ++ unread) ++ piece ≡ (front ++ take used all) ++ drop used all
 text_more front unread piece all used e = append_assoc front unread piece ∙ ap (λ (v : List ℕ). front ++ v) (sym e ∙ sym (take-append-drop used all)) ∙ sym (append_assoc front (take used all) (drop used all))
 
@@ -70,7 +69,7 @@ bad_feeds old all head got used why place begun stage body read unread e b g p n
           before = x.1.before;
           told = x.1.told;
           rest = x.0 ++ piece;
-          behind = place;
+          offset = place;
           requests = requests_more_text fed piece x.0 x.1.before old.at x.1.requests;
           items_are = x.1.items_are;
           place_is = refl;
@@ -86,9 +85,9 @@ bad_feeds old all head got used why place begun stage body read unread e b g p n
     faulty TooLong (few, is) tree front begins r read told = inr (tree, front ++ all, begins, is (size_of tree) old.body front refl r, refl, told)
     faulty BadChunk (few, is) tree front begins r read told = let bad = is (size_of tree) old.body front refl r in (tree, front ++ all, length front + used, begins, bad.0, bad.1, omega (arith, read), told)
 
--- the items of one request more, and of those behind it
-items_behind : (taken waiting told one more before later first : List HttpItem) → taken ++ waiting ≡ first ++ told → more ≡ before ++ later → taken ++ ((waiting ++ one) ++ more) ≡ (first ++ ((told ++ one) ++ before)) ++ later
-items_behind taken waiting told one more before later first e f = left taken waiting one more ∙ (λ i. (e i ++ one) ++ f i) ∙ right first told one before later
+-- the items of one request more, and of those after it
+items_after : (taken waiting told one more before later first : List HttpItem) → taken ++ waiting ≡ first ++ told → more ≡ before ++ later → taken ++ ((waiting ++ one) ++ more) ≡ (first ++ ((told ++ one) ++ before)) ++ later
+items_after taken waiting told one more before later first e f = left taken waiting one more ∙ (λ i. (e i ++ one) ++ f i) ∙ right first told one before later
   where
     left : (a b c d : List HttpItem) → a ++ ((b ++ c) ++ d) ≡ ((a ++ b) ++ c) ++ d
     left a b c d = simp append_assoc
@@ -96,11 +95,11 @@ items_behind taken waiting told one more before later first e f = left taken wai
     right : (a b c d e : List HttpItem) → ((a ++ b) ++ c) ++ (d ++ e) ≡ (a ++ ((b ++ c) ++ d)) ++ e
     right a b c d e = simp append_assoc
 
--- the bytes of one request, and those behind it
-bytes_behind : (print front unread piece all : List ℕ) (used : ℕ) → all ≡ unread ++ piece → (print ++ (front ++ unread)) ++ piece ≡ (print ++ (front ++ take used all)) ++ drop used all
-bytes_behind print front unread piece all used e = append_assoc print (front ++ unread) piece ∙ ap (λ (v : List ℕ). print ++ v) (text_more front unread piece all used e) ∙ sym (append_assoc print (front ++ take used all) (drop used all))
+-- the bytes of one request, and those after it
+bytes_after : (print front unread piece all : List ℕ) (used : ℕ) → all ≡ unread ++ piece → (print ++ (front ++ unread)) ++ piece ≡ (print ++ (front ++ take used all)) ++ drop used all
+bytes_after print front unread piece all used e = append_assoc print (front ++ unread) piece ∙ ap (λ (v : List ℕ). print ++ v) (text_more front unread piece all used e) ∙ sym (append_assoc print (front ++ take used all) (drop used all))
 
--- what is behind one request
+-- what is after one request
 one_then : (r : HttpRequest) (x y : List ℕ) (more : List HttpItem) (from : ℕ) (last : List ℕ) → IsRequest r x → AreRequests y more from last → AreRequests (x ++ y) (items_of r ++ more) (length x + from) last
 one_then r x y more from last is s = requests_then x y [] (items_of r) more (length x) from last (record { requests = r ∷ []; front = x; spelled = (x, [], is, sym (append-nil x), refl); whole = sym (append-nil x); at_is = refl; items_are = sym (append-nil (items_of r)) }) s
 
@@ -111,8 +110,8 @@ some_head (Some head) s = (head, refl)
 pub gathered : (stage : Stage) (n : ℕ) (body all got : List ℕ) (used : ℕ) (e f : Ending) → n ≡ length body → e ≡ f → GathersTo stage n all got used e → GathersTo stage (length body) all got used f
 gathered stage n body all got used e f k i g = subst (GathersTo stage (length body) all got used) i (subst (λ (m : ℕ). GathersTo stage m all got used e) k g)
 
-pub feeds_behind : (old : Reading) (all : List ℕ) (head : Head) (got : List ℕ) (used base : ℕ) (items : List HttpItem) (from : ℕ) (begun : Option Head) (stage : Stage) (body : List ℕ) (read : ℕ) (unread : List ℕ) (fault : Option HttpFault) → old.fault ≡ None → old.begun ≡ Some head → GathersTo old.stage (length old.body) all got used Whole → base ≡ old.at + (old.read + used) → ScansTo (drop used all) items from begun stage body read unread fault → FeedsAll old all (answer (moved base fault)) (record { waiting = (old.waiting ++ Request (with_body head (old.body ++ got)) ∷ []) ++ items; at = base + from; begun = begun; stage = stage; body = body; read = read; unread = unread; fault = moved base fault })
-feeds_behind old all head got used base items from begun stage body read unread fault e b (few, is) place s piece f = go fault s
+pub feeds_after : (old : Reading) (all : List ℕ) (head : Head) (got : List ℕ) (used base : ℕ) (items : List HttpItem) (from : ℕ) (begun : Option Head) (stage : Stage) (body : List ℕ) (read : ℕ) (unread : List ℕ) (fault : Option HttpFault) → old.fault ≡ None → old.begun ≡ Some head → GathersTo old.stage (length old.body) all got used Whole → base ≡ old.at + (old.read + used) → ScansTo (drop used all) items from begun stage body read unread fault → FeedsAll old all (answer (moved base fault)) (record { waiting = (old.waiting ++ Request (with_body head (old.body ++ got)) ∷ []) ++ items; at = base + from; begun = begun; stage = stage; body = body; read = read; unread = unread; fault = moved base fault })
+feeds_after old all head got used base items from begun stage body read unread fault e b (few, is) place s piece f = go fault s
   where
     known : (fed : List ℕ) (taken : List HttpItem) → Reads fed taken old → (before told : List HttpItem) → AreRequests (drop used all) before from (drop from (drop used all)) → items ≡ before ++ told → (first : List HttpItem) × AreRequests (fed ++ piece) (first ++ before) (base + from) (drop from (drop used all)) × (taken ++ ((old.waiting ++ Request (with_body head (old.body ++ got)) ∷ []) ++ items) ≡ (first ++ before) ++ told)
     known fed taken reads before told more m =
@@ -124,12 +123,12 @@ feeds_behind old all head got used base items from begun stage body read unread 
         let body_is = is (size_of tree) old.body front refl h.4 in
         let z = print_request tree ++ (front ++ take used all) in
         let one = is_request x.0 tree head (front ++ old.unread) (front ++ take used all) z (old.body ++ got) h.2 h.3 body_is refl in
-        let bytes : x.0 ++ piece ≡ z ++ drop used all = ap (λ (v : List ℕ). v ++ piece) h.2.holds.reads.1 ∙ bytes_behind (print_request tree) front old.unread piece all used f in
+        let bytes : x.0 ++ piece ≡ z ++ drop used all = ap (λ (v : List ℕ). v ++ piece) h.2.holds.reads.1 ∙ bytes_after (print_request tree) front old.unread piece all used f in
         let both = requests_then fed piece x.0 x.1.before (items_of (with_body head (old.body ++ got)) ++ before) old.at (length z + from) (drop from (drop used all)) x.1.requests (subst (λ (v : List ℕ). AreRequests v (items_of (with_body head (old.body ++ got)) ++ before) (length z + from) (drop from (drop used all))) (sym bytes) (one_then (with_body head (old.body ++ got)) z (drop used all) before from (drop from (drop used all)) one more)) in
         let long : length z ≡ old.read + used = (let k = length-append (print_request tree) (front ++ take used all) in let l = length-append front (take used all) in let t = length-take-le used all few in let read = h.6 in omega (arith, k, l, t, read)) in
         let at_is : old.at + (length z + from) ≡ base + from = omega (arith, long, place) in
         let first_is : items_of (with_body head (old.body ++ got)) ≡ x.1.told ++ Request (with_body head (old.body ++ got)) ∷ [] = told_first tree head (old.body ++ got) x.1.told h.3 told_is in
-        let items_is = items_behind taken old.waiting x.1.told (Request (with_body head (old.body ++ got)) ∷ []) items before told x.1.before x.1.items_are m in (
+        let items_is = items_after taken old.waiting x.1.told (Request (with_body head (old.body ++ got)) ∷ []) items before told x.1.before x.1.items_are m in (
           x.1.before ++ items_of (with_body head (old.body ++ got)),
           subst (λ (n : ℕ). AreRequests (fed ++ piece) ((x.1.before ++ items_of (with_body head (old.body ++ got))) ++ before) n (drop from (drop used all))) at_is (subst (λ (v : List HttpItem). AreRequests (fed ++ piece) v (old.at + (length z + from)) (drop from (drop used all))) (sym (append_assoc x.1.before (items_of (with_body head (old.body ++ got))) before)) both),
           items_is ∙ ap (λ (v : List HttpItem). v ++ told) (ap (λ (v : List HttpItem). x.1.before ++ (v ++ before)) (sym first_is) ∙ sym (append_assoc x.1.before (items_of (with_body head (old.body ++ got))) before)),
@@ -147,15 +146,15 @@ feeds_behind old all head got used base items from begun stage body read unread 
       λ fed taken reads.
           let k = known fed taken reads s.before s.told s.requests s.items_are in
           let l = s.leaves in
-          let behind = l.2 in (
+          let after = l.2 in (
             record {
               before = k.0 ++ s.before;
               told = s.told;
               rest = drop from (drop used all);
-              behind = l.0;
+              offset = l.0;
               requests = k.1;
               items_are = k.2;
-              place_is = omega (arith, behind);
+              place_is = omega (arith, after);
               fault = l.1;
             },
             (let n : length unread ≡ 0 = ap length l.4 in let m = l.3 in omega (arith, n, m)),

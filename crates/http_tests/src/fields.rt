@@ -1,6 +1,6 @@
 //! What a request's fields say, and replies.
-use crate::{Field, Fields, HttpRequest, write_reply};
 use event_form::Blob;
+use http_edge::{Field, Fields, HttpRequest, write_reply};
 use std::alloc::{AllocError, Global};
 use std::test::*;
 
@@ -26,9 +26,8 @@ fn request(
     })
 }
 
-/// Rows of a minor version, a method, two fields, and whether the request closes its connection.
-#[test]
-fn closing(rt: HostRuntime) -> Result<(), AllocError> {
+// Rows of a minor version, a method, two fields, and whether the request closes its connection.
+fn closing(alloc: Global) -> Result<bool, AllocError> {
     let rows: [(u8, &[u8], [(&[u8], &[u8]); 2], bool); 8] = [
         (1, b"POST", [(b"Host", b"close"), (b"X", b"y")], false),
         (0, b"POST", [(b"Host", b"h"), (b"X", b"y")], true),
@@ -60,36 +59,51 @@ fn closing(rt: HostRuntime) -> Result<(), AllocError> {
         ),
     ];
     for (minor, method, lines, closes) in rows {
-        assert_eq!(&rt; request(rt.alloc(), minor, method, lines)?.closes(), closes);
+        if request(alloc, minor, method, lines)?.closes() != closes {
+            return Ok(false);
+        }
     }
-    Ok(())
+    Ok(true)
 }
 
-#[test]
-fn the_first_field_of_a_name(rt: HostRuntime) -> Result<(), AllocError> {
+fn the_first_field_of_a_name(alloc: Global) -> Result<bool, AllocError> {
     let lines: [(&[u8], &[u8]); 2] = [(b"Host", b"a"), (b"HOST", b"b")];
-    let request = request(rt.alloc(), 1, b"GET", lines)?;
-    assert_eq!(&rt; request.field(b"hOST"), Some(b"a".as_slice()));
-    assert_eq!(&rt; request.field(b"Hos"), None);
-    assert_eq!(&rt; request.fields.as_slice().len(), 2);
-    Ok(())
+    let request = request(alloc, 1, b"GET", lines)?;
+    if request.field(b"hOST") != Some(b"a".as_slice()) {
+        return Ok(false);
+    }
+    if request.field(b"Hos") != None {
+        return Ok(false);
+    }
+    if request.fields.as_slice().len() != 2 {
+        return Ok(false);
+    }
+    Ok(true)
 }
 
-#[test]
-fn replies(rt: HostRuntime) -> Result<(), AllocError> {
-    let alloc = rt.alloc();
+fn replies(alloc: Global) -> Result<bool, AllocError> {
     let mut out = Vec::new(alloc);
     write_reply(200, false, b"{\"text\":\"Success\",\"code\":0}", &mut out)?;
-    assert_eq!(&rt;
-        out.as_slice(),
-        b"HTTP/1.1 200 OK\r\nContent-Type: application/json\r\nContent-Length: 27\r\n\r\n{\"text\":\"Success\",\"code\":0}".as_slice()
-    );
+    if out.as_slice()
+        != b"HTTP/1.1 200 OK\r\nContent-Type: application/json\r\nContent-Length: 27\r\n\r\n{\"text\":\"Success\",\"code\":0}".as_slice()
+    {
+        return Ok(false);
+    }
     out.clear();
     write_reply(400, true, b"", &mut out)?;
     write_reply(503, false, b"{}", &mut out)?;
-    assert_eq!(&rt;
-        out.as_slice(),
-        b"HTTP/1.1 400 Bad Request\r\nContent-Type: application/json\r\nContent-Length: 0\r\nConnection: close\r\n\r\nHTTP/1.1 503 Service Unavailable\r\nContent-Type: application/json\r\nContent-Length: 2\r\n\r\n{}".as_slice()
-    );
+    if out.as_slice()
+        != b"HTTP/1.1 400 Bad Request\r\nContent-Type: application/json\r\nContent-Length: 0\r\nConnection: close\r\n\r\nHTTP/1.1 503 Service Unavailable\r\nContent-Type: application/json\r\nContent-Length: 2\r\n\r\n{}".as_slice()
+    {
+        return Ok(false);
+    }
+    Ok(true)
+}
+
+#[test]
+fn fields_and_replies(rt: HostRuntime) -> Result<(), AllocError> {
+    assert!(rt; closing(rt.alloc())?);
+    assert!(rt; the_first_field_of_a_name(rt.alloc())?);
+    assert!(rt; replies(rt.alloc())?);
     Ok(())
 }

@@ -1,0 +1,9 @@
+pub mod HeadLaws
+pub mod OpeningLaws
+pub mod FaultLaws
+pub mod NextLaws
+pub mod StreamLaws
+pub mod FeedLaws
+pub mod OnceLaws
+pub mod VerdictLaws
+pub mod SomeReadingLaws

@@ -1,0 +1,8 @@
+pub mod Sizes
+pub mod Heads
+pub mod ReplyStream
+pub mod Reading
+pub mod Steps
+pub mod Scanning
+pub mod Keeping
+pub mod Laws
