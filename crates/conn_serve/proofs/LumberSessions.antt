@@ -26,6 +26,7 @@ use Rattle.conn_serve.specs.Handled.{Served, Closing, ReadBy}
 use Rattle.conn_serve.specs.Done.{Done, Leads, SoFar, Anyway}
 use Rattle.conn_serve.specs.LumberServing.{Handles, HaltsAtFrame}
 use Rattle.conn_serve.proofs.Handling.{handled_none, carried_starved, carried_at, carried_over, carried_instead}
+use Rattle.conn_serve.proofs.Leading.{done_start}
 use Rattle.conn_serve.proofs.Windowed.{Laws, Framed, Kind, read_next}
 use Rattle.conn_serve.proofs.Windowed as windowed
 use Rattle.conn_serve.proofs.Batching.{entries_count}
@@ -207,3 +208,22 @@ so_far_handles conn w core entries last fault n more k same s = record {
   short = s.short;
   served = (s.served.frames, subst (λ (c : ℕ). Handles c core entries last s.served.frames s.calls s.text) (sym same) s.served.handled);
 }
+
+-- the same of the number that a connection still has
+module _ (ran : List Call → Type 0) (written written' : Option (List ℕ)) (n n' k conn : ℕ) (same : k ≡ conn) (w : Window LumberFault) (core : Core) (entries : List Entry) (last : ℕ) (fault : Option LumberFault) where
+  pub served_by : (w' : Window LumberFault) (core' : Core) (entries' : List Entry) (last' : ℕ)
+      → Done ran written written' n n' (Leads n (Served (Handles k core entries last) (ReadBy receiver (Spells Receiver) w fault)) (Served (Handles k core' entries' last') (ReadBy receiver (Spells Receiver) w' fault)))
+      → Done ran written written' n n' (Leads n (Served (Handles conn core entries last) (ReadBy receiver (Spells Receiver) w fault)) (Served (Handles conn core' entries' last') (ReadBy receiver (Spells Receiver) w' fault)))
+  served_by w' core' entries' last' d =
+      subst (λ (c : ℕ). Done ran written written' n n' (Leads n (Served (Handles c core entries last) (ReadBy receiver (Spells Receiver) w fault)) (Served (Handles c core' entries' last') (ReadBy receiver (Spells Receiver) w' fault)))) same d
+
+  pub halted_by : (talk : Talk) → Done ran written written' n n' (Leads n (Served (Handles k core entries last) (ReadBy receiver (Spells Receiver) w fault)) (Anyway (Carried (lumberjack k)) talk))
+      → Done ran written written' n n' (Leads n (Served (Handles conn core entries last) (ReadBy receiver (Spells Receiver) w fault)) (Anyway (Carried (lumberjack conn)) talk))
+  halted_by talk d = subst (λ (c : ℕ). Done ran written written' n n' (Leads n (Served (Handles c core entries last) (ReadBy receiver (Spells Receiver) w fault)) (Anyway (Carried (lumberjack c)) talk))) same d
+
+-- no frame was served
+pub served_still : (ran : List Call → Type 0) (written : Option (List ℕ)) (n conn : ℕ) (w w' : Window LumberFault) (core : Core) (entries : List Entry) (last : ℕ) (fault : Option LumberFault) → w' ≡ w → ran []
+    → Done ran written written n n (Leads n (Served (Handles conn core entries last) (ReadBy receiver (Spells Receiver) w fault)) (Served (Handles conn core entries last) (ReadBy receiver (Spells Receiver) w' fault)))
+served_still ran written n conn w w' core entries last fault same none =
+    subst (λ (v : Window LumberFault). Done ran written written n n (Leads n (Served (Handles conn core entries last) (ReadBy receiver (Spells Receiver) w fault)) (Served (Handles conn core entries last) (ReadBy receiver (Spells Receiver) v fault)))) (sym same)
+    (done_start ran written n (Served (Handles conn core entries last) (ReadBy receiver (Spells Receiver) w fault)) none)

@@ -25,6 +25,7 @@ use Rattle.conn_serve.specs.Handled.{Served, Closing, ReadBy}
 use Rattle.conn_serve.specs.Done.{Done, Leads, SoFar, Anyway}
 use Rattle.conn_serve.specs.RelpServing.{Handles, HaltsAtFrame}
 use Rattle.conn_serve.proofs.Handling.{handled_none, handled_push, carried_starved, carried_at, carried_over}
+use Rattle.conn_serve.proofs.Leading.{done_start}
 use Rattle.conn_serve.proofs.Windowed.{Laws, Framed, Kind, read_next}
 use Rattle.conn_serve.proofs.Windowed as windowed
 
@@ -156,3 +157,17 @@ module _ (ran : List Call → Type 0) (written written' : Option (List ℕ)) (n 
 -- nothing is left to be done where the input is over
 pub finished : (conn : ℕ) (state : State) (left : Option (List ℕ)) (over : Talk) (fed : List ℕ) (called : List Call) (said : List ℕ) → Closing (relp conn) (Handles conn state) left over fed called said → Carried (relp conn) left fed (called ++ []) (said ++ []) over
 finished conn state left over fed called said c = carried_over (relp conn) left fed c.frames c.at called said c.handled.handled c.front over [] [] c.is_over (refl, refl)
+
+-- the same of the number that a connection still has
+module _ (ran : List Call → Type 0) (written written' : Option (List ℕ)) (n n' k conn : ℕ) (same : k ≡ conn) (w : Window RelpFault) (state : State) (fault : Option RelpFault) where
+  pub served_by : (w' : Window RelpFault) (state' : State) → Done ran written written' n n' (Leads n (Served (Handles k state) (ReadBy stream.relp IsSpelling w fault)) (Served (Handles k state') (ReadBy stream.relp IsSpelling w' fault)))
+      → Done ran written written' n n' (Leads n (Served (Handles conn state) (ReadBy stream.relp IsSpelling w fault)) (Served (Handles conn state') (ReadBy stream.relp IsSpelling w' fault)))
+  served_by w' state' d = subst (λ (c : ℕ). Done ran written written' n n' (Leads n (Served (Handles c state) (ReadBy stream.relp IsSpelling w fault)) (Served (Handles c state') (ReadBy stream.relp IsSpelling w' fault)))) same d
+
+  pub halted_by : (talk : Talk) → Done ran written written' n n' (Leads n (Served (Handles k state) (ReadBy stream.relp IsSpelling w fault)) (Anyway (Carried (relp k)) talk))
+      → Done ran written written' n n' (Leads n (Served (Handles conn state) (ReadBy stream.relp IsSpelling w fault)) (Anyway (Carried (relp conn)) talk))
+  halted_by talk d = subst (λ (c : ℕ). Done ran written written' n n' (Leads n (Served (Handles c state) (ReadBy stream.relp IsSpelling w fault)) (Anyway (Carried (relp c)) talk))) same d
+
+-- no frame was served
+pub served_still : (ran : List Call → Type 0) (written : Option (List ℕ)) (n conn : ℕ) (w w' : Window RelpFault) (state : State) (fault : Option RelpFault) → w' ≡ w → ran [] → Done ran written written n n (Leads n (Served (Handles conn state) (ReadBy stream.relp IsSpelling w fault)) (Served (Handles conn state) (ReadBy stream.relp IsSpelling w' fault)))
+served_still ran written n conn w w' state fault same none = subst (λ (v : Window RelpFault). Done ran written written n n (Leads n (Served (Handles conn state) (ReadBy stream.relp IsSpelling w fault)) (Served (Handles conn state) (ReadBy stream.relp IsSpelling v fault)))) (sym same) (done_start ran written n (Served (Handles conn state) (ReadBy stream.relp IsSpelling w fault)) none)

@@ -3,7 +3,7 @@ ghost use Rattle.std.specs.Prelude.{◌≡◌, ◌+◌, ◌<◌, ◌^◌, [], �
 ghost use Rattle.event_form.specs.Event.{IsEvent};
 ghost use Rattle.desk_access.specs.Batch.{AreNext};
 ghost use Rattle.desk_access.specs.Call.{takes};
-ghost use Rattle.conn_serve.specs.Relp.{one_take};
+ghost use Rattle.conn_serve.specs.Relp.{entry_of};
 ghost use Rattle.conn_serve.specs.Groups.{IsFrameEntry};
 
 use desk_access::Access;
@@ -19,32 +19,20 @@ pub struct Connection {
     pub taken: u64,
 }
 
-/// Takes one event into the spool, as the connection's next entry. The unit is the number of its frame, in
-/// which its sender counts. The answers are those of the desk's `take`.
-pub fn take_event<A: Access>(
-    access: &mut A,
-    connection: &mut Connection,
-    unit: u64,
-    event: Event,
-) -> Result<Receipt, TakeFault>
+/// The entry of an event of the connection of that number, which has so many entries before it. The unit
+/// is the number of the event's frame, in which its sender counts.
+pub fn entry_of(conn: u64, index: u64, unit: u64, event: Event) -> Entry
     requires event { IsEvent event }
     requires plain { unit < 2 ^ 32 }
-    requires early { connection.old.taken < 2 ^ 63 }
-    requires may { A.may_take access.old connection.old.number connection.old.taken }
-
-    ensures ran { A.ran access.old (one_take connection.old.number connection.old.taken unit event result) access.new }
-    ensures next { OnOk result (connection.new ≡ record connection.old { taken = connection.old.taken + 1 }) }
-    ensures stays { OnErr result (connection.new ≡ connection.old) }
+    ensures entry { result ≡ entry_of conn index unit event }
+    ensures limits { IsFrameEntry result }
 {
-    let entry = Entry {
-        conn: connection.number,
-        index: connection.taken,
+    Entry {
+        conn,
+        index,
         unit,
         event,
-    };
-    let receipt = access.take(&[entry])?;
-    connection.taken += 1;
-    Ok(receipt)
+    }
 }
 
 /// Takes entries into the spool as one group: they are the connection's next ones. The answers are those

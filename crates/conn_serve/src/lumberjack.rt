@@ -1,3 +1,4 @@
 //! Lumberjack as a connection serves it.
 mod act;
 pub(crate) mod session;
+mod staged;

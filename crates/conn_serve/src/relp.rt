@@ -1,3 +1,4 @@
 //! RELP as a connection serves it.
 mod act;
 pub(crate) mod session;
+mod texts;

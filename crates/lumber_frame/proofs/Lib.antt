@@ -1,5 +1,6 @@
 pub mod TextLaws
 pub mod JoinedLaws
+pub mod JsonLaws
 pub mod TurnLaws
 pub mod BackLaws
 pub mod FrameLaws

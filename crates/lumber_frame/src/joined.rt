@@ -16,7 +16,7 @@ pub fn byte_at(front: &[u8], back: &[u8], at: usize) -> u8
 }
 
 /// The number of four bytes from a place on, in network order.
-fn number(bytes: &[u8], at: usize) -> u32
+pub fn number(bytes: &[u8], at: usize) -> u32
     requires { at + 4 ≤ length bytes.now }
     ensures { result ≡ from_be_bytes w32 (slice_range bytes.now at (at + 4)) }
 {

@@ -14,6 +14,7 @@ mod fault;
 mod field;
 mod frame;
 mod joined;
+mod json;
 mod laws;
 mod lent;
 mod limits;
@@ -23,6 +24,7 @@ mod scan;
 mod side;
 mod steps;
 mod turn;
+mod why;
 mod window;
 mod write;
 

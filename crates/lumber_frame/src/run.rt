@@ -8,6 +8,7 @@ ghost use Rattle.stream_grammar.specs.Framing.{AreSpelled};
 
 use crate::fault::LumberWhy;
 use crate::field::{Phase, START, Turn, Whole, field_size};
+use crate::json::json_at;
 use crate::side::Side;
 use crate::turn::after_field;
 
@@ -23,12 +24,16 @@ pub enum Ran {
 }
 
 /// Runs over the frame that begins at a place of the bytes held and the piece, joined, and is read up to
-/// the phase: to the frame's end, the piece's end or a fault.
+/// the phase: to the frame's end, the piece's end or a fault. A JSON frame that lies whole in the piece is
+/// read at once.
 pub fn run_on(side: Side, held: &[u8], piece: &[u8], begin: usize, phase: Phase) -> Ran
     requires begins { begin ≤ length held.now + length piece.now }
     requires reaches { Reaches side (drop begin (held.now ++ piece.now)) phase }
     ensures { Runs side (drop begin (held.now ++ piece.now)) result }
 {
+    if let Some((seq, n)) = json_at(side, held, piece, begin) {
+        return Ran::Ends(Whole::Json { seq }, n);
+    }
     let rest = held.len() + piece.len() - begin;
     let mut now = phase;
     loop {

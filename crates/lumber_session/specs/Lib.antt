@@ -3,3 +3,4 @@ pub mod Windows
 pub mod Batches
 pub mod Counting
 pub mod Acts
+pub mod Lent

@@ -1,5 +1,5 @@
 //! What a frame asks for.
-use event_form::Event;
+use event_form::{Event, Origin};
 
 /// What a frame asks for.
 #[derive(Drop, Debug)]
@@ -16,5 +16,22 @@ pub enum LumberAct {
     },
     /// All that is staged is stored as one batch and acknowledged with the last number kept. The
     /// core counts for the new window already.
+    CommitFirst,
+}
+
+/// What a frame that a window lends asks for: a [`LumberAct`] whose event has its text in the window. It
+/// owns no memory.
+#[derive(Clone, Copy, Debug)]
+pub enum LumberActRef<'a> {
+    /// Nothing.
+    Nothing,
+    /// The event of this origin and text is staged, as [`LumberAct::Stage`] says it.
+    Stage {
+        origin: Origin,
+        text: &'a [u8],
+        seq: u32,
+        commit: bool,
+    },
+    /// All that is staged is stored, as [`LumberAct::CommitFirst`] says it.
     CommitFirst,
 }

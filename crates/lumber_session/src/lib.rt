@@ -13,11 +13,9 @@ mod act;
 mod laws;
 mod limits;
 mod lumber_core;
-#[cfg(test)]
-mod tests;
 
 pub use ack::ack_for;
-pub use act::LumberAct;
+pub use act::{LumberAct, LumberActRef};
 pub use laws::{acts_make_batches, batch_sizes, one_act, one_cut, some_cut};
 pub use limits::{BATCH_BYTES, BATCH_FRAMES};
 pub use lumber_core::LumberCore;

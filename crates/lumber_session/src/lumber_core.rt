@@ -6,12 +6,14 @@ ghost use Rattle.lumber_frame.specs.declared.side.Side.TheVariants.{Receiver};
 ghost use Rattle.lumber_frame.specs.Spelling.{IsFrameFor};
 ghost use Rattle.lumber_session.specs.Acts.{StagesEvent, Tells, commits};
 ghost use Rattle.lumber_session.specs.Counting.{Counted, IsBehind, Opened, emptied, unused};
+ghost use Rattle.lumber_frame.specs.Lent.{frame_lent};
+ghost use Rattle.lumber_session.specs.Lent.{act_lent};
 ghost use Rattle.lumber_session.specs.declared.act.LumberAct.TheVariants.{Stage};
 
-use crate::act::LumberAct;
+use crate::act::{LumberAct, LumberActRef};
 use crate::limits::{BATCH_BYTES, BATCH_FRAMES};
 use event_form::{Event, Origin};
-use lumber_frame::LumberFrame;
+use lumber_frame::{LumberFrame, LumberRef};
 use std::marker::Model;
 
 /// The receiver's side of a Lumberjack connection: it says of each frame what it asks for.
@@ -81,6 +83,29 @@ impl LumberCore {
         }
     }
 
+    /// What the next frame asks for, which a window lends: the same as `step` says, under the same
+    /// conditions, with its text left where it is. It takes no memory.
+    pub fn step_lent<'a>(&mut self, lent: LumberRef<'a>) -> LumberActRef<'a>
+        requires frame { IsFrameFor Receiver (frame_lent lent) }
+        requires ready { self.old.due ≡ false }
+        ensures act { (frames : List LumberFrame) → IsBehind frames self.old → Tells frames (frame_lent lent.entry) (act_lent result) }
+        ensures behind { (frames : List LumberFrame) → IsBehind frames self.old → IsBehind (frames ++ frame_lent lent.entry ∷ []) self.new }
+        ensures due { self.new.due ≡ commits (act_lent result) }
+        ensures event { StagesEvent (act_lent result) }
+    {
+        match lent {
+            LumberRef::Window { size } => {
+                if self.begin_window(size) {
+                    LumberActRef::CommitFirst
+                } else {
+                    LumberActRef::Nothing
+                }
+            }
+            LumberRef::Pairs { seq, text } => self.stage_lent(Origin::LumberData, text, seq),
+            LumberRef::Json { seq, text } => self.stage_lent(Origin::LumberJson, text, seq),
+        }
+    }
+
     /// The batch that was due is stored: nothing is staged. It takes no memory.
     pub fn committed(&mut self)
         ensures emptied { self.new ≡ emptied self.old }
@@ -113,6 +138,22 @@ impl LumberCore {
     {
         let commit = self.count(event.text.bytes().len());
         LumberAct::Stage { event, seq, commit }
+    }
+
+    /// Stages the event of a data frame that is lent.
+    fn stage_lent<'a>(&mut self, origin: Origin, text: &'a [u8], seq: u32) -> LumberActRef<'a>
+        requires short { length text.now ≤ MOST_TEXT }
+        requires ready { self.old.due ≡ false }
+        ensures stage { act_lent result ≡ Stage (record { origin = origin; text = text.now }) seq self.new.due }
+        ensures counted { Counted (length text.now) self.old self.new.due self.new }
+    {
+        let commit = self.count(text.len());
+        LumberActRef::Stage {
+            origin,
+            text,
+            seq,
+            commit,
+        }
     }
 
     /// Counts a data frame with a text of this length, and says whether a batch ends with it.

@@ -1,4 +1,5 @@
 pub mod Request
 pub mod State
 pub mod Answer
+pub mod Row
 pub mod Session

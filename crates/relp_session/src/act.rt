@@ -15,3 +15,18 @@ pub enum RelpAct {
     /// written.
     End(Blob),
 }
+
+/// What is done for a frame that a window lends: a [`RelpAct`] whose event has its text in the
+/// window, and whose answer isn't spelled yet. It owns no memory. `write_answer` spells the answer.
+#[derive(Clone, Copy, Debug)]
+pub enum RelpActRef<'a> {
+    /// The event with this text is to be stored. The answer is for when it is durable.
+    Store { text: &'a [u8], txnr: u32 },
+    /// The answer has this text as its data.
+    Say { text: &'static [u8], txnr: u32 },
+    /// The session is over, and the connection ends. The answer is that to the `close`, and the hint
+    /// `serverclose`.
+    Close { txnr: u32 },
+    /// The frame comes after the `close`: the connection ends, and nothing is written.
+    Nothing,
+}

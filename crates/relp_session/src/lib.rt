@@ -13,13 +13,12 @@ mod laws;
 mod receiver;
 mod reply;
 mod request;
+mod rows;
 mod state;
-#[cfg(test)]
-mod tests;
 
-pub use act::RelpAct;
+pub use act::{RelpAct, RelpActRef};
 pub use laws::{
     acts_by_frames, ends_at_close, ends_when_closed, one_answer, opened_by_one, state_on,
 };
 pub use receiver::RelpCore;
-pub use reply::{closing_hint, stored_reply};
+pub use reply::{closing_hint, stored_reply, write_answer, write_hint};

@@ -1,23 +1,24 @@
 //! The receiver's side of a session.
 ghost use Rattle.std.specs.Prelude.{◌≡◌, ◌≢◌, ◌↔◌, List, [], ◌∷◌, ◌++◌, Ok, OnOk, OnErr, IfOk};
 ghost use Rattle.relp_frame.specs.declared.frame.Frame.{Frame};
+ghost use Rattle.relp_frame.specs.Machine.{frame};
 ghost use Rattle.relp_frame.specs.Spelling.{IsFrame};
-ghost use Rattle.relp_session.specs.declared.act.RelpAct.TheVariants.{Say, End};
-ghost use Rattle.relp_session.specs.declared.state.State.TheVariants.{Unopened, Opened, Closed};
+ghost use Rattle.relp_session.specs.declared.act.RelpAct.TheVariants.{End};
+ghost use Rattle.relp_session.specs.declared.state.State.TheVariants.{Unopened, Closed};
 ghost use Rattle.relp_session.specs.State.{IsNext};
-ghost use Rattle.relp_session.specs.Answer.{HasText, IsAnswer, IsEnd, IsSound, act_of, reply};
+ghost use Rattle.relp_session.specs.Answer.{HasText, IsAnswer, IsEnd, IsSound, act_of};
+ghost use Rattle.relp_session.specs.Row.{act_lent};
 ghost use Rattle.relp_session.specs.Session.{state_after};
 
-use crate::act::RelpAct;
+use crate::act::{RelpAct, RelpActRef};
 use crate::reply::{closing_reply, reply};
-use crate::request::{Request, request_of};
+use crate::request::{Request, request_in, request_of};
+use crate::rows::{Row, row_of};
 use crate::state::{State, next_state};
 use event_form::{Blob, Event, Origin};
-use relp_frame::Frame;
+use relp_frame::{Frame, FrameRef};
 use std::alloc::{AllocError, Global};
 use std::marker::Model;
-
-const OFFERS: &[u8] = b"200 OK\nrelp_version=0\nrelp_software=bridge,1,local\ncommands=syslog";
 
 /// The receiver's side of one session (rsyslog's RELP specification, COMMAND SEMANTICS). Contracts
 /// see how far the session is.
@@ -34,45 +35,6 @@ impl Model for RelpCore {
     ghost view = { λ core. core.state };
 }
 
-// The text is the answer.
-fn say(alloc: Global, txnr: u32, text: &[u8]) -> Result<RelpAct, AllocError>
-    ensures { IfOk result (λ act. act ≡ Say (reply txnr text.now)) }
-{
-    Ok(RelpAct::Say(reply(alloc, txnr, text)?))
-}
-
-// What is done for a frame while the session isn't open.
-fn act_unopened(alloc: Global, request: Request, frame: &Frame) -> Result<RelpAct, AllocError>
-    ensures { IfOk result (λ act. act ≡ act_of Unopened request frame.now) }
-{
-    let txnr = frame.txnr;
-    match request {
-        Request::Open => say(alloc, txnr, OFFERS),
-        Request::OpenOther => say(alloc, txnr, b"500 unsupported relp_version"),
-        Request::Close => Ok(RelpAct::End(closing_reply(alloc, txnr)?)),
-        Request::Syslog | Request::Other => say(alloc, txnr, b"500 not open"),
-    }
-}
-
-// What is done for a frame while the session is open.
-fn act_opened(alloc: Global, request: Request, frame: Frame) -> Result<RelpAct, AllocError>
-    ensures { IfOk result (λ act. act ≡ act_of Opened request frame) }
-{
-    let txnr = frame.txnr;
-    match request {
-        Request::Open | Request::OpenOther => say(alloc, txnr, b"500 already open"),
-        Request::Syslog => Ok(RelpAct::Store {
-            event: Event {
-                origin: Origin::Relp,
-                text: frame.body,
-            },
-            txnr,
-        }),
-        Request::Close => Ok(RelpAct::End(closing_reply(alloc, txnr)?)),
-        Request::Other => say(alloc, txnr, b"500 unknown command"),
-    }
-}
-
 // What is done for a frame in this state.
 fn act_for(
     alloc: Global,
@@ -83,10 +45,34 @@ fn act_for(
     ensures value { IfOk result (λ act. act ≡ act_of state request frame) }
     ensures closed { state ≡ Closed → result ≡ Ok (End []) }
 {
-    match state {
-        State::Unopened => act_unopened(alloc, request, &frame),
-        State::Opened => act_opened(alloc, request, frame),
-        State::Closed => Ok(RelpAct::End(Blob::of(Vec::new(alloc)))),
+    let txnr = frame.txnr;
+    match row_of(state, request) {
+        Row::Store => Ok(RelpAct::Store {
+            event: Event {
+                origin: Origin::Relp,
+                text: frame.body,
+            },
+            txnr,
+        }),
+        Row::Say(text) => Ok(RelpAct::Say(reply(alloc, txnr, text)?)),
+        Row::Close => Ok(RelpAct::End(closing_reply(alloc, txnr)?)),
+        Row::Nothing => Ok(RelpAct::End(Blob::of(Vec::new(alloc)))),
+    }
+}
+
+// What is done for a frame that is lent.
+fn act_for_lent(state: State, request: Request, lent: FrameRef<'_>) -> RelpActRef<'_>
+    ensures { act_lent result ≡ act_of state request (frame lent.entry.txnr lent.entry.command.now lent.entry.body.now) }
+{
+    let txnr = lent.txnr;
+    match row_of(state, request) {
+        Row::Store => RelpActRef::Store {
+            text: lent.body,
+            txnr,
+        },
+        Row::Say(text) => RelpActRef::Say { text, txnr },
+        Row::Close => RelpActRef::Close { txnr },
+        Row::Nothing => RelpActRef::Nothing,
     }
 }
 
@@ -121,5 +107,22 @@ impl RelpCore {
         let act = act_for(alloc, self.state, request, frame)?;
         self.state = next_state(self.state, request);
         Ok(act)
+    }
+
+    /// What is done for the next frame, which a window lends: the same as `step` does, with the
+    /// texts left where they are. It takes no memory.
+    pub fn step_lent<'a>(&mut self, lent: FrameRef<'a>) -> RelpActRef<'a>
+        requires { IsFrame (frame lent.txnr lent.command.now lent.body.now) }
+        ensures answer { IsAnswer self.old (frame lent.entry.txnr lent.entry.command.now lent.entry.body.now) (act_lent result) }
+        ensures sound { IsSound (act_lent result) }
+        ensures next { IsNext self.old (frame lent.entry.txnr lent.entry.command.now lent.entry.body.now) self.new }
+        ensures after { (before : List Frame) → self.old ≡ state_after before
+            → self.new ≡ state_after (before ++ frame lent.entry.txnr lent.entry.command.now lent.entry.body.now ∷ []) }
+        ensures ends { IsEnd (act_lent result) ↔ (self.new ≡ Closed) }
+    {
+        let request = request_in(lent.command, lent.body);
+        let act = act_for_lent(self.state, request, lent);
+        self.state = next_state(self.state, request);
+        act
     }
 }

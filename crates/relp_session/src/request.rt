@@ -1,6 +1,7 @@
 //! What a frame asks for.
-ghost use Rattle.std.specs.Prelude.{◌≡◌, find, codes};
+ghost use Rattle.std.specs.Prelude.{◌≡◌, ℕ, find, codes};
 ghost use Rattle.std.specs.Option.{option_map};
+ghost use Rattle.relp_frame.specs.Machine.{frame};
 ghost use Rattle.relp_session.specs.Request.{Asks, lines, speaks, states_version};
 
 use relp_frame::Frame;
@@ -39,14 +40,29 @@ fn speaks(offer: &[u8]) -> bool
     }
 }
 
-fn opening(frame: &Frame) -> Request
-    requires { frame.now.command ≡ codes "open" }
-    ensures { Asks frame.now result }
+// What an `open` with this offer asks for.
+fn opening(offer: &[u8]) -> Request
+    ensures { (txnr : ℕ) → Asks (frame txnr (codes "open") offer.now) result }
 {
-    if speaks(frame.body.bytes()) {
+    if speaks(offer) {
         Request::Open
     } else {
         Request::OpenOther
+    }
+}
+
+/// What a frame of this command and this body asks for, judged where they lie.
+pub fn request_in(command: &[u8], body: &[u8]) -> Request
+    ensures { (txnr : ℕ) → Asks (frame txnr command.now body.now) result }
+{
+    if command == b"syslog".as_slice() {
+        Request::Syslog
+    } else if command == b"open".as_slice() {
+        opening(body)
+    } else if command == b"close".as_slice() {
+        Request::Close
+    } else {
+        Request::Other
     }
 }
 
@@ -54,14 +70,5 @@ fn opening(frame: &Frame) -> Request
 pub fn request_of(frame: &Frame) -> Request
     ensures { Asks frame.now result }
 {
-    let command = frame.command.bytes();
-    if command == b"open".as_slice() {
-        opening(frame)
-    } else if command == b"syslog".as_slice() {
-        Request::Syslog
-    } else if command == b"close".as_slice() {
-        Request::Close
-    } else {
-        Request::Other
-    }
+    request_in(frame.command.bytes(), frame.body.bytes())
 }

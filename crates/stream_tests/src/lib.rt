@@ -1,5 +1,5 @@
-//! Tests of the crates that cut streams into frames: streams of the formats' tables and recorded
-//! ones, in pieces of each size. They stand in a crate of their own, since the gate proves a crate
+//! Tests of the crates that cut streams into frames, `relp_frame` and `lumber_frame`: streams of the formats' tables
+//! and recorded ones, in pieces of each size; and of `relp_session` and `lumber_session` above them. They stand in a crate of their own, since the gate proves a crate
 //! with tests twice, with and without them.
 #![tactic(auto)]
 
@@ -15,3 +15,7 @@ mod relp;
 mod relp_read;
 #[cfg(test)]
 mod relp_rows;
+#[cfg(test)]
+mod sessions;
+#[cfg(test)]
+mod tests;

@@ -3,7 +3,9 @@ ghost use Rattle.std.specs.Prelude.{◌≡◌, ◌+◌, ◌<◌, ◌≤◌, ◌^
 ghost use Rattle.lumber_frame.specs.declared.frame.LumberFrame.{LumberFrame};
 ghost use Rattle.lumber_frame.specs.declared.side.Side.TheVariants.{Receiver};
 ghost use Rattle.lumber_frame.specs.Spelling.{IsFrameFor};
+ghost use Rattle.lumber_frame.specs.Lent.{frame_lent};
 ghost use Rattle.lumber_session.specs.Acts.{StagesEvent, commits};
+ghost use Rattle.lumber_session.specs.Lent.{act_lent};
 ghost use Rattle.lumber_session.specs.Counting.{IsBehind};
 ghost use Rattle.desk_access.specs.Batch.{AreNext};
 ghost use Rattle.desk_access.specs.Call.{Call};
@@ -14,44 +16,44 @@ ghost use Rattle.conn_serve.specs.Endings.{CountsFaults};
 ghost use Rattle.desk_access.specs.Endings.{IsAtMove};
 ghost use Rattle.conn_serve.specs.LumberServing.{Handles, HaltsAtFrame, stages, last_behind};
 
+use super::staged::Staged;
 use crate::connection::{Connection, take_group};
 use crate::talk::{say, talk_of};
 use desk_access::Access;
 use edge_io::Link;
-use event_form::{Entry, Talk};
-use lumber_frame::LumberFrame;
-use lumber_session::{LumberAct, LumberCore, ack_for};
-
-/// What is staged.
-#[derive(Drop)]
-pub struct Staged {
-    /// The connection's next entries.
-    pub entries: Vec<Entry>,
-    /// The sequence number of the last one's frame, where there is one.
-    pub last: u32,
-}
+use event_form::{Entry, Event, Talk};
+use lumber_frame::LumberRef;
+use lumber_session::{LumberActRef, LumberCore, ack_for};
 
 // Stages the event that the act has, if it has one, and says whether what is staged is to be stored now.
 // The error is want of memory.
-fn stage(staged: &mut Staged, connection: &Connection, act: LumberAct) -> Result<bool, Talk>
-    requires event { StagesEvent act }
+fn stage(staged: &mut Staged, connection: &Connection, act: LumberActRef<'_>) -> Result<bool, Talk>
+    requires event { StagesEvent (act_lent act) }
     requires early { connection.now.taken + length staged.old.entries.items < 2 ^ 62 }
 
     ensures entries { OnOk result (staged.new.entries.items ≡ staged.old.entries.items
-        ++ entries_of connection.now.number (connection.now.taken + length staged.old.entries.items) (stages act)) }
-    ensures last { OnOk result (staged.new.last ≡ last_behind staged.old.last (stages act)) }
+        ++ entries_of connection.now.number (connection.now.taken + length staged.old.entries.items) (stages (act_lent act.entry))) }
+    ensures last { OnOk result (staged.new.last ≡ last_behind staged.old.last (stages (act_lent act.entry))) }
     ensures limits { OnOk result (All IsFrameEntry staged.old.entries.items → All IsFrameEntry staged.new.entries.items) }
-    ensures commits { IfOk result (λ commit. commit ≡ commits act) }
+    ensures commits { IfOk result (λ commit. commit ≡ commits (act_lent act.entry)) }
     ensures err { IfErr result (λ talk. talk ≡ Talk.NoMemory) }
 {
     match act {
-        LumberAct::Nothing => Ok(false),
-        LumberAct::Stage { event, seq, commit } => {
+        LumberActRef::Nothing => Ok(false),
+        LumberActRef::Stage {
+            origin,
+            text,
+            seq,
+            commit,
+        } => {
+            let Ok(text) = staged.copy(text) else {
+                return Err(Talk::NoMemory);
+            };
             let entry = Entry {
                 conn: connection.number,
                 index: connection.taken + staged.entries.len() as u64,
                 unit: u64::from(seq),
-                event,
+                event: Event { origin, text },
             };
             if staged.entries.push(entry).is_err() {
                 return Err(Talk::NoMemory);
@@ -59,7 +61,7 @@ fn stage(staged: &mut Staged, connection: &Connection, act: LumberAct) -> Result
             staged.last = seq;
             Ok(commit)
         }
-        LumberAct::CommitFirst => Ok(true),
+        LumberActRef::CommitFirst => Ok(true),
     }
 }
 
@@ -97,7 +99,7 @@ pub fn commit<L: Link, A: Access>(
         return Err(talk_of(fault));
     }
     core.committed();
-    staged.entries.clear();
+    staged.stored();
     say(link, &ack_for(staged.last))
 }
 
@@ -109,9 +111,9 @@ pub fn serve_frame<L: Link, A: Access>(
     connection: &mut Connection,
     core: &mut LumberCore,
     staged: &mut Staged,
-    frame: LumberFrame,
+    lent: LumberRef<'_>,
 ) -> Result<(), Talk>
-    requires frame { IsFrameFor Receiver frame }
+    requires frame { IsFrameFor Receiver (frame_lent lent) }
     requires so_far { SoFar (λ fed called said. (frames : List LumberFrame) × Handles connection.old.number core.old staged.old.entries.items staged.old.last frames called said) connection.old.taken 0 }
     requires early { connection.old.taken + length staged.old.entries.items < 2 ^ 62 }
     requires may { A.may_take access.old connection.old.number connection.old.taken }
@@ -119,9 +121,9 @@ pub fn serve_frame<L: Link, A: Access>(
     ensures goes { OnOk result (Done (λ calls. A.ran access.old calls access.new) (L.taken link.old) (L.taken link.new)
         connection.old.taken connection.new.taken (λ calls text. (frames : List LumberFrame) → Leads connection.old.taken
         (λ fed called said. Handles connection.old.number core.old staged.old.entries.items staged.old.last frames called said)
-        (λ fed called said. Handles connection.old.number core.new staged.new.entries.items staged.new.last (frames ++ frame ∷ []) called said) calls text)) }
+        (λ fed called said. Handles connection.old.number core.new staged.new.entries.items staged.new.last (frames ++ frame_lent lent.entry ∷ []) called said) calls text)) }
     ensures halts { IfErr result (λ talk. Done (λ calls. A.ran access.old calls access.new) (L.taken link.old) (L.taken link.new)
-        connection.old.taken connection.new.taken (HaltsAtFrame connection.old.number core.old staged.old.entries.items staged.old.last connection.old.taken frame talk)) }
+        connection.old.taken connection.new.taken (HaltsAtFrame connection.old.number core.old staged.old.entries.items staged.old.last connection.old.taken (frame_lent lent.entry) talk)) }
     ensures only { IfErr result IsAtMove }
     ensures number { connection.new.number ≡ connection.old.number }
     ensures may { OnOk result (A.may_take access.new connection.old.number connection.new.taken) }
@@ -129,7 +131,7 @@ pub fn serve_frame<L: Link, A: Access>(
     ensures same { L.same link.old link.new }
     ensures apart { L.write_apart link.old link.new }
 {
-    let act = core.step(frame);
+    let act = core.step_lent(lent);
     if stage(staged, connection, act)? {
         commit(link, access, connection, core, staged)
     } else {

@@ -1,23 +1,29 @@
 //! A session of Lumberjack.
-ghost use Rattle.std.specs.Prelude.{◌≡◌, ◌+◌, [], length, None, IfOk, IfErr, IfSome};
+ghost use Rattle.std.specs.Prelude.{◌≡◌, ◌+◌, ◌<◌, ◌^◌, List, [], length, Option, None, IfOk, IfErr, OnOk, IsErrOf, false, true};
+ghost use Rattle.lumber_frame.specs.declared.fault.LumberFault.{LumberFault as TheFault};
+ghost use Rattle.lumber_frame.specs.declared.frame.LumberFrame.{LumberFrame};
 ghost use Rattle.lumber_frame.specs.declared.limits.TheConstants.{ROOM};
 ghost use Rattle.lumber_frame.specs.declared.side.Side.TheVariants.{Receiver};
 ghost use Rattle.lumber_frame.specs.Reading.{receiver};
-ghost use Rattle.lumber_frame.specs.Spelling.{IsFrameFor, Spells};
+ghost use Rattle.lumber_frame.specs.Spelling.{Spells};
 ghost use Rattle.lumber_session.specs.Counting.{IsBehind, unused};
 ghost use Rattle.stream_grammar.specs.Reading.{clear, Reads};
 ghost use Rattle.desk_access.specs.Carried.{Carried};
+ghost use Rattle.desk_access.specs.Endings.{IsAtMove};
 ghost use Rattle.conn_serve.specs.Lumber.{lumberjack, why_of};
-ghost use Rattle.conn_serve.specs.Handled.{Served, Closing, ReadBy, IsIdle, GivesNext};
+ghost use Rattle.conn_serve.specs.Done.{Anyway, Done, Leads, SoFar};
+ghost use Rattle.conn_serve.specs.Endings.{CountsFaults};
+ghost use Rattle.conn_serve.specs.Handled.{Served, Closing, ReadBy, IsIdle};
 ghost use Rattle.conn_serve.specs.LumberServing.{Handles};
 
-use super::act::{Staged, commit, serve_frame};
+use super::act::{commit, serve_frame};
+use super::staged::Staged;
 use crate::connection::Connection;
 use crate::session::Session;
 use desk_access::Access;
 use edge_io::Link;
 use event_form::{Talk, Why};
-use lumber_frame::{LumberFault, LumberFrame, LumberWhy, LumberWindow};
+use lumber_frame::{LumberFault, LumberWhy, LumberWindow};
 use lumber_session::LumberCore;
 use std::alloc::{AllocError, Global};
 
@@ -44,19 +50,43 @@ fn why_of(why: LumberWhy) -> Why
     }
 }
 
-// The next whole frame, if one waits. The error is want of memory.
-fn next_frame(window: &mut LumberWindow, alloc: Global) -> Result<Option<LumberFrame>, Talk>
-    ensures gives { IfOk result (λ frame. GivesNext receiver (Spells Receiver) ROOM window.old frame window.new) }
-    ensures limits { IfOk result (λ frame. IfSome frame (IsFrameFor Receiver)) }
-    ensures starved { IfErr result (λ talk. talk ≡ Talk.NoMemory) }
+// Serves the next whole frame, and says whether one waited. The error is the ending of the connection at
+// this frame.
+fn serve_next<L: Link, A: Access>(
+    link: &mut L,
+    access: &mut A,
+    connection: &mut Connection,
+    window: &mut LumberWindow,
+    core: &mut LumberCore,
+    staged: &mut Staged,
+) -> Result<bool, Talk>
+    requires so_far { SoFar (λ fed called said. (frames : List LumberFrame) × Handles connection.old.number core.old staged.old.entries.items staged.old.last frames called said) connection.old.taken 0 }
+    requires early { connection.old.taken + length staged.old.entries.items < 2 ^ 62 }
+    requires may { A.may_take access.old connection.old.number connection.old.taken }
+
+    ensures goes { (fault : Option TheFault) → OnOk result (Done (λ calls. A.ran access.old calls access.new) (L.taken link.old) (L.taken link.new)
+        connection.old.taken connection.new.taken (Leads connection.old.taken
+        (Served (Handles connection.old.number core.old staged.old.entries.items staged.old.last) (ReadBy receiver (Spells Receiver) window.old fault))
+        (Served (Handles connection.old.number core.new staged.new.entries.items staged.new.last) (ReadBy receiver (Spells Receiver) window.new fault)))) }
+    ensures halts { (fault : Option TheFault) → IfErr result (λ talk. Done (λ calls. A.ran access.old calls access.new) (L.taken link.old) (L.taken link.new)
+        connection.old.taken connection.new.taken (Leads connection.old.taken
+        (Served (Handles connection.old.number core.old staged.old.entries.items staged.old.last) (ReadBy receiver (Spells Receiver) window.old fault))
+        (Anyway (Carried (lumberjack connection.old.number)) talk))) }
+    ensures only { IfErr result IsAtMove }
+    ensures idle { IfOk result (λ served. served ≡ false → IsIdle ROOM window.new) }
+    ensures fewer { IfOk result (λ served. served ≡ true → length window.new.whole < length window.old.whole) }
+    ensures extent { OnOk result (window.new.at + length window.new.rest ≡ window.old.at + length window.old.rest) }
+    ensures number { connection.new.number ≡ connection.old.number }
+    ensures may { OnOk result (A.may_take access.new connection.old.number connection.new.taken) }
+    ensures writes { CountsFaults (IsErrOf result Talk.WriteFault) (L.write_faults link.old) (L.write_faults link.new) }
+    ensures same { L.same link.old link.new }
+    ensures apart { L.write_apart link.old link.new }
 {
     let Some(lent) = window.next() else {
-        return Ok(None);
+        return Ok(false);
     };
-    match lent.to_frame(alloc) {
-        Ok(frame) => Ok(Some(frame)),
-        Err(_) => Err(Talk::NoMemory),
-    }
+    serve_frame(link, access, connection, core, staged, lent)?;
+    Ok(true)
 }
 
 impl LumberSession {
@@ -72,10 +102,7 @@ impl LumberSession {
         Ok(LumberSession {
             window: LumberWindow::new(alloc)?,
             core: LumberCore::new(),
-            staged: Staged {
-                entries: Vec::new(alloc),
-                last: 0,
-            },
+            staged: Staged::new(alloc),
             fault: None,
         })
     }
@@ -111,16 +138,14 @@ impl Session for LumberSession {
         access: &mut A,
         connection: &mut Connection,
     ) -> Result<(), Talk> {
-        while let Some(frame) = next_frame(&mut self.window, alloc)? {
-            serve_frame(
-                link,
-                access,
-                connection,
-                &mut self.core,
-                &mut self.staged,
-                frame,
-            )?;
-        }
+        'frames: while serve_next(
+            link,
+            access,
+            connection,
+            &mut self.window,
+            &mut self.core,
+            &mut self.staged,
+        )? {}
         Ok(())
     }
 

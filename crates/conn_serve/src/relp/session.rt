@@ -1,30 +1,37 @@
 //! A session of RELP.
-ghost use Rattle.std.specs.Prelude.{◌≡◌, ◌+◌, [], length, None, IfOk, IfErr, IfSome};
+ghost use Rattle.std.specs.Prelude.{◌≡◌, ◌+◌, ◌<◌, ◌^◌, [], length, Option, None, IfOk, IfErr, OnOk, IsErrOf, false, true};
 ghost use Rattle.relp_frame.specs.Reading as stream;
-ghost use Rattle.relp_frame.specs.Spelling.{IsFrame, IsSpelling};
+ghost use Rattle.relp_frame.specs.Spelling.{IsSpelling};
+ghost use Rattle.relp_frame.specs.declared.fault.RelpFault.{RelpFault as TheFault};
 ghost use Rattle.relp_frame.specs.declared.limits.TheConstants.{ROOM};
 ghost use Rattle.relp_session.specs.declared.state.State.TheVariants.{Unopened};
 ghost use Rattle.stream_grammar.specs.Reading.{clear, Reads};
 ghost use Rattle.desk_access.specs.Carried.{Carried};
+ghost use Rattle.desk_access.specs.Endings.{IsAtMove};
 ghost use Rattle.conn_serve.specs.Relp.{relp, why_of};
-ghost use Rattle.conn_serve.specs.Handled.{Served, Closing, ReadBy, IsIdle, GivesNext};
+ghost use Rattle.conn_serve.specs.Done.{Anyway, Done, Leads};
+ghost use Rattle.conn_serve.specs.Endings.{CountsFaults};
+ghost use Rattle.conn_serve.specs.Handled.{Served, Closing, ReadBy, IsIdle};
 ghost use Rattle.conn_serve.specs.RelpServing.{Handles};
 
 use super::act::serve_frame;
+use super::texts::Texts;
 use crate::connection::Connection;
 use crate::session::Session;
 use desk_access::Access;
 use edge_io::Link;
 use event_form::{Talk, Why};
-use relp_frame::{Frame, RelpFault, RelpWhy, RelpWindow};
+use relp_frame::{RelpFault, RelpWhy, RelpWindow};
 use relp_session::RelpCore;
 use std::alloc::{AllocError, Global};
 
-/// The window over the bytes, how far the session is, and the fault that the window has met.
+/// The window over the bytes, how far the session is, the memory for its texts, and the fault that the
+/// window has met.
 #[derive(Drop)]
 pub struct RelpSession {
     window: RelpWindow,
     core: RelpCore,
+    texts: Texts,
     fault: Option<RelpFault>,
 }
 
@@ -41,19 +48,42 @@ fn why_of(why: RelpWhy) -> Why
     }
 }
 
-// The next whole frame, if one waits. The error is want of memory.
-fn next_frame(window: &mut RelpWindow, alloc: Global) -> Result<Option<Frame>, Talk>
-    ensures gives { IfOk result (λ frame. GivesNext stream.relp IsSpelling ROOM window.old frame window.new) }
-    ensures limits { IfOk result (λ frame. IfSome frame IsFrame) }
-    ensures starved { IfErr result (λ talk. talk ≡ Talk.NoMemory) }
+// Serves the next whole frame, and says whether one waited. The error is the ending of the connection at
+// this frame.
+fn serve_next<L: Link, A: Access>(
+    link: &mut L,
+    access: &mut A,
+    connection: &mut Connection,
+    window: &mut RelpWindow,
+    core: &mut RelpCore,
+    texts: &mut Texts,
+) -> Result<bool, Talk>
+    requires early { connection.old.taken < 2 ^ 62 }
+    requires may { A.may_take access.old connection.old.number connection.old.taken }
+
+    ensures goes { (fault : Option TheFault) → OnOk result (Done (λ calls. A.ran access.old calls access.new) (L.taken link.old) (L.taken link.new)
+        connection.old.taken connection.new.taken (Leads connection.old.taken
+        (Served (Handles connection.old.number core.old) (ReadBy stream.relp IsSpelling window.old fault))
+        (Served (Handles connection.old.number core.new) (ReadBy stream.relp IsSpelling window.new fault)))) }
+    ensures halts { (fault : Option TheFault) → IfErr result (λ talk. Done (λ calls. A.ran access.old calls access.new) (L.taken link.old) (L.taken link.new)
+        connection.old.taken connection.new.taken (Leads connection.old.taken
+        (Served (Handles connection.old.number core.old) (ReadBy stream.relp IsSpelling window.old fault))
+        (Anyway (Carried (relp connection.old.number)) talk))) }
+    ensures only { IfErr result IsAtMove }
+    ensures idle { IfOk result (λ served. served ≡ false → IsIdle ROOM window.new) }
+    ensures fewer { IfOk result (λ served. served ≡ true → length window.new.whole < length window.old.whole) }
+    ensures extent { OnOk result (window.new.at + length window.new.rest ≡ window.old.at + length window.old.rest) }
+    ensures number { connection.new.number ≡ connection.old.number }
+    ensures may { OnOk result (A.may_take access.new connection.old.number connection.new.taken) }
+    ensures writes { CountsFaults (IsErrOf result Talk.WriteFault) (L.write_faults link.old) (L.write_faults link.new) }
+    ensures same { L.same link.old link.new }
+    ensures apart { L.write_apart link.old link.new }
 {
     let Some(lent) = window.next() else {
-        return Ok(None);
+        return Ok(false);
     };
-    match lent.to_frame(alloc) {
-        Ok(frame) => Ok(Some(frame)),
-        Err(_) => Err(Talk::NoMemory),
-    }
+    serve_frame(link, access, connection, core, texts, lent)?;
+    Ok(true)
 }
 
 impl RelpSession {
@@ -67,6 +97,7 @@ impl RelpSession {
         Ok(RelpSession {
             window: RelpWindow::new(alloc)?,
             core: RelpCore::new(),
+            texts: Texts::new(alloc),
             fault: None,
         })
     }
@@ -102,9 +133,14 @@ impl Session for RelpSession {
         access: &mut A,
         connection: &mut Connection,
     ) -> Result<(), Talk> {
-        while let Some(frame) = next_frame(&mut self.window, alloc)? {
-            serve_frame(alloc, link, access, connection, &mut self.core, frame)?;
-        }
+        'frames: while serve_next(
+            link,
+            access,
+            connection,
+            &mut self.window,
+            &mut self.core,
+            &mut self.texts,
+        )? {}
         Ok(())
     }
 

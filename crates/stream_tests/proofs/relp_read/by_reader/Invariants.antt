@@ -1,4 +1,5 @@
 use Rattle.std.proofs.Common.{length, ◌+◌, ◌-◌, ◌≤◌}
+use Rattle.relp_frame.specs.Placing.{frames_of}
 use Rattle.stream_tests.proofs.relp_read.by_reader.Given as goal
 
 abbrev pub decreases-loop-fed : goal.decreases-loop-fed
@@ -8,7 +9,7 @@ abbrev pub invariant-loop-fed : goal.invariant-loop-fed
 invariant-loop-fed l = l.reader.at + length l.reader.rest ≤ l.fed
 
 abbrev pub decreases-loop-frame : goal.decreases-loop-frame
-decreases-loop-frame l = length l.reader.waiting
+decreases-loop-frame l = length (frames_of l.reader.waiting)
 
 abbrev pub invariant-loop-frame : goal.invariant-loop-frame
 invariant-loop-frame l = l.reader.at + length l.reader.rest ≤ l.next

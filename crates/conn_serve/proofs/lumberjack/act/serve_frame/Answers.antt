@@ -1,4 +1,6 @@
 use Rattle.std.proofs.Common.{◌∙◌, inl, refl, sym, arith}
+use Rattle.lumber_frame.specs.Lent.{frame_lent}
+use Rattle.lumber_session.specs.Lent.{act_lent}
 use Rattle.conn_serve.proofs.Acting.{done_nothing, err_is, err_then}
 use Rattle.conn_serve.proofs.LumberActing.{staged_few, staged_next, frame_on, frame_batch, frame_halt, batch_then}
 use Rattle.conn_serve.proofs.lumberjack.act.serve_frame.Goals as goal
@@ -11,35 +13,35 @@ commit-requires-clause-few g c =
     let staged = c.in_ok-stage.ensures in
     omega (
       arith,
-      staged_few c.args.connection.now.taken c.args.connection.now.number c.args.core.now c.step-act.new.self c.args.staged.now.entries.items c.stage.new.staged.entries.items c.args.staged.now.last c.stage.new.staged.last c.args.frame
-          c.step-act.result c.step-act.ensures.act staged.entries staged.last c.requires.so_far,
+      staged_few c.args.connection.now.taken c.args.connection.now.number c.args.core.now c.step_lent-act.new.self c.args.staged.now.entries.items c.stage.new.staged.entries.items c.args.staged.now.last c.stage.new.staged.last (frame_lent c.args.lent)
+          (act_lent c.step_lent-act.result) c.step_lent-act.ensures.act staged.entries staged.last c.requires.so_far,
     )
 
 pub commit-requires-clause-next : goal.commit-requires-clause-next
 commit-requires-clause-next g c =
     let staged = c.in_ok-stage.ensures in
-    staged_next c.args.connection.now.taken c.args.connection.now.number c.args.core.now c.step-act.new.self c.args.staged.now.entries.items c.stage.new.staged.entries.items c.args.staged.now.last c.stage.new.staged.last c.args.frame
-    c.step-act.result c.step-act.ensures.act staged.entries staged.last c.requires.so_far
+    staged_next c.args.connection.now.taken c.args.connection.now.number c.args.core.now c.step_lent-act.new.self c.args.staged.now.entries.items c.stage.new.staged.entries.items c.args.staged.now.last c.stage.new.staged.last (frame_lent c.args.lent)
+    (act_lent c.step_lent-act.result) c.step_lent-act.ensures.act staged.entries staged.last c.requires.so_far
 
 pub returns-then-branch-clause-goes : goal.returns-then-branch-clause-goes
 returns-then-branch-clause-goes g c =
     let staged = c.in_ok-stage.ensures in
     let due = sym staged.commits ∙ c.if-branch.true in
     batch_then c.commit.result _ _ _ _ _ c.commit.ensures.goes c.commit.ensures.empty c.commit.ensures.ready c.commit.ensures.behind (λ d empty ready behind.
-    frame_batch c.args.connection.now.taken c.args.connection.now.number c.args.core.now c.step-act.new.self c.args.staged.now.entries.items c.stage.new.staged.entries.items c.args.staged.now.last c.stage.new.staged.last c.args.frame
-    c.step-act.result c.step-act.ensures.act staged.entries staged.last
-    due _ _ _ _ c.commit.new.core c.commit.new.staged.entries.items c.commit.new.staged.last (λ frames is. behind _ (c.step-act.ensures.due ∙ due) (c.step-act.ensures.behind frames is)) ready empty d)
+    frame_batch c.args.connection.now.taken c.args.connection.now.number c.args.core.now c.step_lent-act.new.self c.args.staged.now.entries.items c.stage.new.staged.entries.items c.args.staged.now.last c.stage.new.staged.last (frame_lent c.args.lent)
+    (act_lent c.step_lent-act.result) c.step_lent-act.ensures.act staged.entries staged.last
+    due _ _ _ _ c.commit.new.core c.commit.new.staged.entries.items c.commit.new.staged.last (λ frames is. behind _ (c.step_lent-act.ensures.due ∙ due) (c.step_lent-act.ensures.behind frames is)) ready empty d)
 
 pub returns-then-branch-clause-halts : goal.returns-then-branch-clause-halts
 returns-then-branch-clause-halts g c =
     let staged = c.in_ok-stage.ensures in
     err_then c.commit.result _ _ c.commit.ensures.halts (λ talk d.
-    frame_halt c.args.connection.now.taken c.args.connection.now.number c.args.core.now c.step-act.new.self c.args.staged.now.entries.items c.stage.new.staged.entries.items c.args.staged.now.last c.stage.new.staged.last c.args.frame
-    c.step-act.result c.step-act.ensures.act staged.entries staged.last
+    frame_halt c.args.connection.now.taken c.args.connection.now.number c.args.core.now c.step_lent-act.new.self c.args.staged.now.entries.items c.stage.new.staged.entries.items c.args.staged.now.last c.stage.new.staged.last (frame_lent c.args.lent)
+    (act_lent c.step_lent-act.result) c.step_lent-act.ensures.act staged.entries staged.last
     (sym staged.commits ∙ c.if-branch.true) _ _ _ _ talk d)
 
 pub returns-else-branch-clause-goes : goal.returns-else-branch-clause-goes
 returns-else-branch-clause-goes g c =
     let staged = c.in_ok-stage.ensures in
-    frame_on c.args.connection.now.taken c.args.connection.now.number c.args.core.now c.step-act.new.self c.args.staged.now.entries.items c.stage.new.staged.entries.items c.args.staged.now.last c.stage.new.staged.last c.args.frame c.step-act.result c.step-act.ensures.act staged.entries staged.last
-    _ _ (g.met.A.Access.ran_none _) c.step-act.ensures.behind c.step-act.ensures.due (sym staged.commits ∙ c.if-branch.false) staged.limits
+    frame_on c.args.connection.now.taken c.args.connection.now.number c.args.core.now c.step_lent-act.new.self c.args.staged.now.entries.items c.stage.new.staged.entries.items c.args.staged.now.last c.stage.new.staged.last (frame_lent c.args.lent) (act_lent c.step_lent-act.result) c.step_lent-act.ensures.act staged.entries staged.last
+    _ _ (g.met.A.Access.ran_none _) c.step_lent-act.ensures.behind c.step_lent-act.ensures.due (sym staged.commits ∙ c.if-branch.false) staged.limits

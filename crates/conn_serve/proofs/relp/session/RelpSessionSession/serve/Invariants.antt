@@ -6,8 +6,8 @@ use Rattle.conn_serve.specs.Handled.{Served, ReadBy}
 use Rattle.conn_serve.specs.RelpServing.{Handles}
 use Rattle.conn_serve.proofs.relp.session.RelpSessionSession.serve.Given as goal
 
-abbrev pub invariant-loop-frame : goal.invariant-loop-frame
-invariant-loop-frame g l =
+abbrev pub invariant-frames : goal.invariant-frames
+invariant-frames g l =
     let was = l.fn.self in
     let now = l.self in
     let number = l.fn.connection.number in
@@ -23,5 +23,5 @@ invariant-loop-frame g l =
       apart : g.L.Sink.write_apart l.fn.link l.link;
     }
 
-abbrev pub decreases-loop-frame : goal.decreases-loop-frame
-decreases-loop-frame g l = length l.self.window.whole
+abbrev pub decreases-frames : goal.decreases-frames
+decreases-frames g l = length l.self.window.whole

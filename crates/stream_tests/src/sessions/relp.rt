@@ -1,12 +1,10 @@
 //! The table of states row by row, and whole sessions.
 ghost use Rattle.std.specs.Prelude.{◌≤◌, ◌^◌, length};
 
-mod rows;
-
-use crate::{RelpAct, RelpCore, closing_hint, stored_reply};
+use crate::sessions::relp_rows::ROWS;
 use event_form::{FeedFault, Origin};
 use relp_frame::RelpReader;
-use rows::ROWS;
+use relp_session::{RelpAct, RelpCore, closing_hint, stored_reply};
 use std::alloc::{AllocError, Global};
 
 const OFFERED: &[u8] =
@@ -55,33 +53,47 @@ fn answers(alloc: Global, core: &mut RelpCore, text: &[u8]) -> Result<Vec<u8>, A
     Ok(out)
 }
 
-#[test]
-fn sessions(rt: HostRuntime) -> Result<(), AllocError> {
+pub(crate) fn sessions(alloc: Global) -> Result<bool, AllocError> {
     for row in ROWS {
-        assert!(rt; row.frames.len() <= 8);
+        if row.frames.len() > 8 {
+            return Ok(false);
+        }
         for frames in row.frames {
             let mut core = RelpCore::new();
             if row.opened {
-                let got = answers(rt.alloc(), &mut core, b"1 open 0\n")?;
-                assert_eq!(rt; got.as_slice(), OFFERED);
+                let got = answers(alloc, &mut core, b"1 open 0\n")?;
+                if got.as_slice() != OFFERED {
+                    return Ok(false);
+                }
             }
-            assert!(rt; frames.len() <= 300);
-            let got = answers(rt.alloc(), &mut core, frames)?;
-            assert_eq!(rt; got.as_slice(), row.done, "{frames:?}");
-            let got = answers(rt.alloc(), &mut core, b"9 noop 0\n")?;
-            assert_eq!(rt; got.as_slice(), row.then, "after {frames:?}");
+            if frames.len() > 300 {
+                return Ok(false);
+            }
+            let got = answers(alloc, &mut core, frames)?;
+            if got.as_slice() != row.done {
+                return Ok(false);
+            }
+            let got = answers(alloc, &mut core, b"9 noop 0\n")?;
+            if got.as_slice() != row.then {
+                return Ok(false);
+            }
         }
     }
-    Ok(())
+    Ok(true)
 }
 
-#[test]
-fn the_texts_of_the_receiver(rt: HostRuntime) -> Result<(), AllocError> {
-    let reply = stored_reply(rt.alloc(), 2)?;
-    assert_eq!(rt; reply.bytes(), b"2 rsp 6 200 OK\n".as_slice());
-    let reply = stored_reply(rt.alloc(), 999_999_999)?;
-    assert_eq!(rt; reply.bytes(), b"999999999 rsp 6 200 OK\n".as_slice());
-    let hint = closing_hint(rt.alloc())?;
-    assert_eq!(rt; hint.bytes(), b"0 serverclose 0\n".as_slice());
-    Ok(())
+pub(crate) fn the_texts_of_the_receiver(alloc: Global) -> Result<bool, AllocError> {
+    let reply = stored_reply(alloc, 2)?;
+    if reply.bytes() != b"2 rsp 6 200 OK\n".as_slice() {
+        return Ok(false);
+    }
+    let reply = stored_reply(alloc, 999_999_999)?;
+    if reply.bytes() != b"999999999 rsp 6 200 OK\n".as_slice() {
+        return Ok(false);
+    }
+    let hint = closing_hint(alloc)?;
+    if hint.bytes() != b"0 serverclose 0\n".as_slice() {
+        return Ok(false);
+    }
+    Ok(true)
 }

@@ -1,6 +1,6 @@
 use Rattle.std.proofs.Common.{◌≡◌, false, length}
 use Rattle.lumber_frame.specs.declared.side.Side.TheVariants.{Receiver}
-use Rattle.lumber_session.proofs.tests.listen.Given as goal
+use Rattle.stream_tests.proofs.sessions.lumber.listen.Given as goal
 
 abbrev pub decreases-loop-frame : goal.decreases-loop-frame
 decreases-loop-frame l = length l.reader.waiting

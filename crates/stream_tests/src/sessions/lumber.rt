@@ -1,9 +1,9 @@
 //! What some connections store and acknowledge.
 ghost use Rattle.std.specs.Prelude.{◌≤◌, ◌+◌, ◌*◌, ◌^◌, length};
 
-use crate::{LumberAct, LumberCore, ack_for};
 use event_form::{FeedFault, Origin};
 use lumber_frame::{LumberReader, Side, window_frame, write_json};
+use lumber_session::{LumberAct, LumberCore, ack_for};
 use std::alloc::{AllocError, Global};
 
 /// What the frames of a connection asked for: a letter for each (`n` nothing, `d` and `j` an event
@@ -65,8 +65,7 @@ fn listen(alloc: Global, stream: &[u8]) -> Result<Heard, AllocError>
 }
 
 /// Rows of a stream, the acts for its frames, the texts of its events, and the acknowledgments.
-#[test]
-fn connections(rt: HostRuntime) -> Result<(), AllocError> {
+pub(crate) fn connections(alloc: Global) -> Result<bool, AllocError> {
     let rows: [(&[u8], &str, &[u8], &[u8]); 15] = [
         (b"", "", b"", b""),
         // A window of two frames is one batch.
@@ -150,13 +149,21 @@ fn connections(rt: HostRuntime) -> Result<(), AllocError> {
         (b"2W\0\0\0\x022J\0\0\0\x01\0\0\0\0\x32J\0", "nj", b"[]", b""),
     ];
     for (stream, acts, texts, acks) in rows {
-        assert!(rt; stream.len() <= 100);
-        let got = listen(rt.alloc(), stream)?;
-        assert_eq!(rt; got.acts.as_slice(), acts.as_bytes(), "{stream:?}");
-        assert_eq!(rt; got.texts.as_slice(), texts, "{stream:?}");
-        assert_eq!(rt; got.acks.as_slice(), acks, "{stream:?}");
+        if stream.len() > 100 {
+            return Ok(false);
+        }
+        let got = listen(alloc, stream)?;
+        if got.acts.as_slice() != acts.as_bytes() {
+            return Ok(false);
+        }
+        if got.texts.as_slice() != texts {
+            return Ok(false);
+        }
+        if got.acks.as_slice() != acks {
+            return Ok(false);
+        }
     }
-    Ok(())
+    Ok(true)
 }
 
 /// A window and its frames, numbered from 1, each with a payload of that length.
@@ -173,8 +180,7 @@ fn window(alloc: Global, frames: u32, len: usize) -> Result<Vec<u8>, AllocError>
 }
 
 /// Windows that are more than one batch, by their frames and by their bytes.
-#[test]
-fn large_windows(rt: HostRuntime) -> Result<(), AllocError> {
+pub(crate) fn large_windows(alloc: Global) -> Result<bool, AllocError> {
     let rows: [(u32, usize, &[u32]); 8] = [
         (2048, 100, &[256, 512, 768, 1024, 1280, 1536, 1792, 2048]),
         (256, 0, &[256]),
@@ -186,14 +192,18 @@ fn large_windows(rt: HostRuntime) -> Result<(), AllocError> {
         (5, 131_071, &[3, 5]),
     ];
     for (frames, len, want) in rows {
-        let stream = window(rt.alloc(), frames, len)?;
-        assert!(rt; stream.len() <= 1_000_000);
-        let got = listen(rt.alloc(), &stream)?;
-        let mut acks = Vec::new(rt.alloc());
+        let stream = window(alloc, frames, len)?;
+        if stream.len() > 1_000_000 {
+            return Ok(false);
+        }
+        let got = listen(alloc, &stream)?;
+        let mut acks = Vec::new(alloc);
         for seq in want {
             acks.extend_from_slice(&ack_for(*seq))?;
         }
-        assert_eq!(rt; got.acks, acks, "{frames} frames of {len} bytes");
+        if got.acks != acks {
+            return Ok(false);
+        }
     }
-    Ok(())
+    Ok(true)
 }
