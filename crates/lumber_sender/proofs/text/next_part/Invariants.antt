@@ -1,0 +1,14 @@
+use Rattle.std.proofs.Common.{◌≡◌, ◌++◌, length, ◌-◌, ◌<◌, ◌≤◌}
+use Rattle.lumber_sender.specs.Windows.{part_text}
+use Rattle.lumber_sender.proofs.text.next_part.Given as goal
+
+abbrev pub invariant-loop-upto : goal.invariant-loop-upto
+invariant-loop-upto l = record {
+  some : l.from < l.upto;
+  within : l.upto ≤ length l.batch;
+  bytes : 0 < length l.out.items;
+  part : part_text l.batch l.upto ≡ part_text l.batch l.from ++ l.out.items;
+}
+
+abbrev pub decreases-loop-upto : goal.decreases-loop-upto
+decreases-loop-upto l = length l.batch - l.upto

@@ -1,0 +1,4 @@
+//! Sessions of the sender of RELP.
+mod driver;
+mod rows;
+mod sessions;
