@@ -11,7 +11,8 @@ use Rattle.desk_access.specs.Call.{Call, takes}
 use Rattle.desk_access.specs.History.{AllKept}
 use Rattle.conn_serve.specs.Groups.{Group, groups_of}
 use Rattle.conn_serve.specs.Acked.{Acknowledges, AreOfFirst}
-use Rattle.conn_serve.specs.Serves.{CarriedBy}
+use Rattle.conn_serve.specs.Serves.{CarriedAs}
+use Rattle.conn_serve.specs.Tokens.{no_tokens}
 use Rattle.conn_serve.proofs.Acknowledged.{acked_is_taken}
 use Rattle.bridge_core.specs.Acknowledged.{IsGroupKept, AreDurable, AckedIsDurable}
 use Rattle.bridge_core.specs.Replayed.{IsStored}
@@ -27,9 +28,9 @@ first_kept : (s : SpoolState) (groups more : List Group) → All (IsGroupKept s)
 first_kept s [] more k = All-nil (IsGroupKept s)
 first_kept s (g ∷ groups) more k = All-cons (IsGroupKept s) g groups (All-head (IsGroupKept s) g (groups ++ more) k) (first_kept s groups more (All-tail (IsGroupKept s) g (groups ++ more) k))
 
-pub acked_is_durable : (proto : Proto) (conn : ℕ) (left : Option (List ℕ)) (b : List ℕ) (calls : List Call) (text : List ℕ) (talk : Talk) (old new : Moment) (numbers : List ℕ) → CarriedBy proto conn left b calls text talk → IsStored old new conn calls → Acknowledges proto text numbers → AckedIsDurable calls new numbers
+pub acked_is_durable : (proto : Proto) (conn : ℕ) (left : Option (List ℕ)) (b : List ℕ) (calls : List Call) (text : List ℕ) (talk : Talk) (old new : Moment) (numbers : List ℕ) → CarriedAs proto no_tokens conn left b calls text talk → IsStored old new conn calls → Acknowledges proto text numbers → AckedIsDurable calls new numbers
 acked_is_durable proto conn left b calls text talk old new numbers carried stored says =
-    let taken : AreOfFirst calls numbers = acked_is_taken proto conn left b calls text talk carried numbers says in record {
+    let taken : AreOfFirst calls numbers = acked_is_taken proto no_tokens conn left b calls text talk carried numbers says in record {
       taken = taken;
       durable = λ c image.
           let kept = stored.reached.each c image in

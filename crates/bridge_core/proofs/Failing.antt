@@ -25,7 +25,8 @@ use Rattle.desk_access.specs.Carried.{Carried, Ending, EndsAtMove}
 use Rattle.desk_access.proofs.Moves.{ending_cases}
 use Rattle.conn_serve.specs.Relp.{relp, entry_of, one_take, talk_of, Carries, IsDue, IsRefused, IsStarved, EndsAtAct}
 use Rattle.conn_serve.specs.Lumber.{lumberjack, EndsAtGroup, StoresLast}
-use Rattle.conn_serve.specs.Serves.{CarriedBy}
+use Rattle.conn_serve.specs.Serves.{CarriedAs}
+use Rattle.conn_serve.specs.Tokens.{no_tokens}
 use Rattle.bridge_words.specs.declared.note.Note.{Note}
 use Rattle.bridge_words.specs.Notes.{note_of_talk}
 
@@ -147,29 +148,37 @@ steps_quiet p quiet before (s ∷ steps) are = omega (arith, failures_then s.cal
 some_failed : {F : Type 0} (p : Protocol F) (left : Option (List ℕ)) (b : List ℕ) (calls : List Call) (text : List ℕ) (talk : Talk) (carried : Carried p left b calls text talk) → failures_of carried.late ≡ 1 → 1 ≤ failures_of calls
 some_failed p left b calls text talk carried one = omega (arith, failures_in_all p left b calls text talk carried, one)
 
+-- the protocols by which an input is replayed
+abbrev IsReplayable : Proto → Type 0
+IsReplayable proto = (proto ≡ Relp) ⊎ (proto ≡ Lumberjack)
+
+no_collector : IsReplayable Hec → ⊥
+no_collector (inl is) = cc
+no_collector (inr is) = cc
+
 -- a connection that ended by a fault of the disk made a call that was answered so
-disk_failed : (proto : Proto) (conn : ℕ) (left : Option (List ℕ)) (b : List ℕ) (calls : List Call) (text : List ℕ) → CarriedBy proto conn left b calls text Talk.DiskFault → 1 ≤ failures_of calls
-disk_failed Relp conn left b calls text c = some_failed (relp conn) left b calls text Talk.DiskFault c (relp_by_disk conn left b c.steps c.held c.at c.late c.part c.ending)
-disk_failed Lumberjack conn left b calls text c = some_failed (lumberjack conn) left b calls text Talk.DiskFault c (lumber_by_disk conn left b c.steps c.held c.at c.late c.part c.ending)
-disk_failed Hec conn left b calls text c = absurd c
+disk_failed : (proto : Proto) → IsReplayable proto → (conn : ℕ) (left : Option (List ℕ)) (b : List ℕ) (calls : List Call) (text : List ℕ) → CarriedAs proto no_tokens conn left b calls text Talk.DiskFault → 1 ≤ failures_of calls
+disk_failed Relp can conn left b calls text c = some_failed (relp conn) left b calls text Talk.DiskFault c (relp_by_disk conn left b c.steps c.held c.at c.late c.part c.ending)
+disk_failed Lumberjack can conn left b calls text c = some_failed (lumberjack conn) left b calls text Talk.DiskFault c (lumber_by_disk conn left b c.steps c.held c.at c.late c.part c.ending)
+disk_failed Hec can conn left b calls text c = absurd (no_collector can)
 
 -- one that ended otherwise made none
-none_failed : (proto : Proto) (conn : ℕ) (left : Option (List ℕ)) (b : List ℕ) (calls : List Call) (text : List ℕ) (talk : Talk) → CarriedBy proto conn left b calls text talk → IsOther talk → failures_of calls ≡ 0
-none_failed Relp conn left b calls text talk c other =
+none_failed : (proto : Proto) → IsReplayable proto → (conn : ℕ) (left : Option (List ℕ)) (b : List ℕ) (calls : List Call) (text : List ℕ) (talk : Talk) → CarriedAs proto no_tokens conn left b calls text talk → IsOther talk → failures_of calls ≡ 0
+none_failed Relp can conn left b calls text talk c other =
     omega (
       arith,
       failures_in_all (relp conn) left b calls text talk c,
       steps_quiet (relp conn) (λ before s move. carries_quiet conn _ move.2.0 s.calls s.text move.2.2) [] c.steps c.each,
       relp_quiet conn left b c.steps c.held c.at c.late c.part talk c.ending other,
     )
-none_failed Lumberjack conn left b calls text talk c other =
+none_failed Lumberjack can conn left b calls text talk c other =
     omega (
       arith,
       failures_in_all (lumberjack conn) left b calls text talk c,
       steps_quiet (lumberjack conn) (λ before s move. ap failures_of move.1.1) [] c.steps c.each,
       lumber_quiet conn left b c.steps c.held c.at c.late c.part talk c.ending other,
     )
-none_failed Hec conn left b calls text talk c other = absurd c
+none_failed Hec can conn left b calls text talk c other = absurd (no_collector can)
 
 -- ---- as the note says
 
@@ -189,14 +198,14 @@ rose_once : (n before now : ℕ) → 1 ≤ n → Rose n before now → Rose 1 be
 rose_once n before now some rose = omega arith
 
 -- The note says whether a call of the disk failed.
-pub disk_calls : (proto : Proto) (conn : ℕ) (left : Option (List ℕ)) (b : List ℕ) (calls : List Call) (text : List ℕ) (talk : Talk) (note : Note) (tells : Type 0) (old new : AloneView) → note ≡ note_of_talk talk
-    → CarriedBy proto conn left b calls text talk → Ran tells old calls new → Calls (note ≡ Note.DiskFault) old.spool.moment new.spool.moment
-disk_calls proto conn left b calls text talk note tells old new is carried ran =
+pub disk_calls : (proto : Proto) → IsReplayable proto → (conn : ℕ) (left : Option (List ℕ)) (b : List ℕ) (calls : List Call) (text : List ℕ) (talk : Talk) (note : Note) (tells : Type 0) (old new : AloneView) → note ≡ note_of_talk talk
+    → CarriedAs proto no_tokens conn left b calls text talk → Ran tells old calls new → Calls (note ≡ Note.DiskFault) old.spool.moment new.spool.moment
+disk_calls proto can conn left b calls text talk note tells old new is carried ran =
     let own = ap failures_of (calls_by 0 calls ran.records ran.by) in record {
       size = ran.runs.size;
       later = ran.runs.later;
       cause = λ by_disk.
-          let some = disk_failed proto conn left b calls text (subst (CarriedBy proto conn left b calls text) (talk_by_disk talk (sym is ∙ by_disk)) carried) in
+          let some = disk_failed proto can conn left b calls text (subst (CarriedAs proto no_tokens conn left b calls text) (talk_by_disk talk (sym is ∙ by_disk)) carried) in
           rose_once (failures_of calls) old.spool.moment.faults new.spool.moment.faults some (subst (λ (n : ℕ). Rose n old.spool.moment.faults new.spool.moment.faults) own ran.runs.cause);
-      quiet = λ other. ran.runs.quiet (own ∙ none_failed proto conn left b calls text talk carried (λ by_disk. other (is ∙ ap note_of_talk by_disk)));
+      quiet = λ other. ran.runs.quiet (own ∙ none_failed proto can conn left b calls text talk carried (λ by_disk. other (is ∙ ap note_of_talk by_disk)));
     }

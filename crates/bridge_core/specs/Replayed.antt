@@ -14,7 +14,8 @@ use Rattle.desk_access.specs.Call.{Call, Record, AreBy}
 use Rattle.desk_access.specs.Desk.{DeskState, desk_of, Goes, Stood}
 use Rattle.desk_access.specs.History.{IsLater, Grows, AllKept}
 use Rattle.conn_serve.specs.Acked.{Acknowledges}
-use Rattle.conn_serve.specs.Serves.{CarriedBy, Serves}
+use Rattle.conn_serve.specs.Serves.{CarriedAs, Serves}
+use Rattle.conn_serve.specs.Tokens.{no_tokens}
 use Rattle.bridge_words.specs.declared.note.Note.{Note}
 use Rattle.bridge_words.specs.Notes.{note_of_talk}
 use Rattle.bridge_core.specs.Refused.{note_of_recover}
@@ -79,7 +80,7 @@ pub record IsUnopened (tells : Type 0) (old new : Moment) (note : Note) : Type 0
 pub record IsServed (proto : Proto) (conn : ℕ) (given given' left left' taken taken' : Option (List ℕ)) (Made : List Call → Type 0) (note : Note) : Type 0 where
   pub attended : Attended
   pub note_is : note ≡ note_of_talk attended.talk
-  pub serves : Serves (CarriedBy proto conn) given given' left left' taken taken' Made attended
+  pub serves : Serves (CarriedAs proto no_tokens conn) given given' left left' taken taken' Made attended
 
 -- And that was done over the spool that the device stood for. Whatever the text that was written acknowledges is durable.
 pub record IsReplayed (proto : Proto) (tells : Type 0) (old new : Moment) (given given' left left' taken taken' : Option (List ℕ)) (note : Note) : Type 0 where

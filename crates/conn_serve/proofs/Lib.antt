@@ -14,3 +14,7 @@ mod Grouping
 mod Acks
 mod LumberAcks
 pub mod Acknowledged
+mod HecEntries
+mod HecActing
+mod HecFronts
+mod HecSessions

@@ -1,17 +1,13 @@
 //! The rows of each protocol, and a failing disk.
-ghost use Rattle.std.specs.Prelude.{◌≡◌, ◌⊎◌};
-
 use crate::harness::{Failing, NONE, Part, Row, device, joined, serve};
-use crate::{lumberjack_rows, relp_rows};
+use crate::{hec_rows, lumberjack_rows, relp_rows};
 use edge_io::Proto;
 use event_form::{Attended, Talk};
 use std::process::Abort;
 use std::test::Fail;
 
 // Serves each row's input in each of its steps.
-fn check(rt: &(impl Abort + AllocGlobal), proto: Proto, rows: &[Row]) -> Result<(), Fail>
-    requires { (proto ≡ Proto.Relp) ⊎ (proto ≡ Proto.Lumberjack) }
-{
+fn check(rt: &(impl Abort + AllocGlobal), proto: Proto, rows: &[Row]) -> Result<(), Fail> {
     let alloc = rt.alloc();
     for (number, row) in rows.iter().enumerate() {
         for step in row.steps {
@@ -46,7 +42,7 @@ struct Faulty {
     written: [(u64, &'static [u8]); 3],
 }
 
-const FAULTY: [Faulty; 2] = [
+const FAULTY: [Faulty; 3] = [
     Faulty {
         proto: Proto::Relp,
         input: b"1 open 0\n2 syslog 5 first\n3 syslog 6 second\n",
@@ -80,6 +76,11 @@ const FAULTY: [Faulty; 2] = [
             (2, b"2A\0\0\0\x02"),
             (3, b"2A\0\0\0\x022A\0\0\0\x01"),
         ],
+    },
+    Faulty {
+        proto: Proto::Hec,
+        input: hec_rows::TWO_TAKES,
+        written: hec_rows::AT_EACH,
     },
 ];
 
@@ -140,4 +141,42 @@ fn relp_is_served(rt: HostRuntime) -> Result<(), Fail> {
 #[test]
 fn lumberjack_is_served(rt: HostRuntime) -> Result<(), Fail> {
     check(&rt, Proto::Lumberjack, &lumberjack_rows::ROWS)
+}
+
+#[test]
+fn the_collector_is_served(rt: HostRuntime) -> Result<(), Fail> {
+    check(&rt, Proto::Hec, &hec_rows::ROWS)?;
+    check(&rt, Proto::Hec, &hec_rows::REFUSED)?;
+    check(&rt, Proto::Hec, &hec_rows::ENDINGS)
+}
+
+// A connection that isn't closed goes on, whatever number of requests came.
+#[test]
+fn a_thousand_requests_are_answered(rt: HostRuntime) -> Result<(), Fail> {
+    let alloc = rt.alloc();
+    let mut input = Vec::new(alloc);
+    let mut expected = Vec::new(alloc);
+    for _ in 0..1000 {
+        input.extend_from_slice(hec_rows::ONE)?;
+        expected.extend_from_slice(hec_rows::OK)?;
+    }
+    let served = serve(
+        alloc,
+        Proto::Hec,
+        device(alloc, 1_000_000)?,
+        input,
+        1000,
+        NONE,
+    )?;
+    let left = served.ok_or("not opened")?;
+    assert_eq!(rt;
+        left.attended,
+        Attended {
+            talk: Talk::Ended,
+            taken: 1000
+        }
+    );
+    assert_eq!(rt; left.written, expected);
+    assert_eq!(rt; left.count, 1000);
+    Ok(())
 }

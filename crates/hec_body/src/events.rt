@@ -1,5 +1,5 @@
 //! Event bodies.
-ghost use Rattle.std.specs.Prelude.{◌≡◌, ℕ, ◌<◌, ◌^◌, OnOk, IfOk, IfErr};
+ghost use Rattle.std.specs.Prelude.{◌≡◌, ℕ, ◌<◌, ◌≤◌, ◌^◌, length, OnOk, IfOk, IfErr};
 ghost use Rattle.json_span.specs.Json.{JsonObject};
 ghost use Rattle.hec_body.specs.Limits.{AreWithinLimits};
 ghost use Rattle.hec_body.specs.Events.{IsEventObject, AreEvents, IsRefused, IsFirstFault};
@@ -45,6 +45,7 @@ fn judge(alloc: Global, text: &[u8], event: u32) -> Result<(), BodyFault>
 pub fn event_pieces(alloc: Global, body: &[u8]) -> Result<Vec<Blob>, BodyFault>
     ensures events { IfOk result (λ pieces. AreEvents body.now pieces.items) }
     ensures limits { IfOk result (λ pieces. AreWithinLimits pieces.items) }
+    ensures bounded { IfOk result (λ pieces. length pieces.items ≤ length body.now) }
     ensures fault { IfErr result (λ fault. IsFirstFault body.now fault) }
 {
     let mut pieces = Vec::new(alloc);

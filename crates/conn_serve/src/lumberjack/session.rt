@@ -8,6 +8,7 @@ ghost use Rattle.lumber_session.specs.Counting.{IsBehind, unused};
 ghost use Rattle.stream_grammar.specs.Reading.{clear, Reads};
 ghost use Rattle.desk_access.specs.Carried.{Carried};
 ghost use Rattle.conn_serve.specs.Lumber.{lumberjack, why_of};
+ghost use Rattle.conn_serve.specs.Tokens.{no_tokens};
 ghost use Rattle.conn_serve.specs.Handled.{Served, Closing, ReadBy, IsIdle, GivesNext};
 ghost use Rattle.conn_serve.specs.LumberServing.{Handles};
 
@@ -82,9 +83,11 @@ impl LumberSession {
 }
 
 impl Session for LumberSession {
+    ghost tokens = { λ _. no_tokens };
+
     ghost served = { λ number s. Served (Handles number s.core s.staged.entries.items s.staged.last) (ReadBy receiver (Spells Receiver) s.window s.fault) };
 
-    ghost carried = { λ number. Carried (lumberjack number) };
+    ghost carried = { λ tokens number. Carried (lumberjack number) };
 
     ghost closing = { λ number s. Closing (lumberjack number) (Handles number s.core s.staged.entries.items s.staged.last) };
 

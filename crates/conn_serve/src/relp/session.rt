@@ -7,6 +7,7 @@ ghost use Rattle.relp_session.specs.declared.state.State.TheVariants.{Unopened};
 ghost use Rattle.stream_grammar.specs.Reading.{clear, Reads};
 ghost use Rattle.desk_access.specs.Carried.{Carried};
 ghost use Rattle.conn_serve.specs.Relp.{relp, why_of};
+ghost use Rattle.conn_serve.specs.Tokens.{no_tokens};
 ghost use Rattle.conn_serve.specs.Handled.{Served, Closing, ReadBy, IsIdle, GivesNext};
 ghost use Rattle.conn_serve.specs.RelpServing.{Handles};
 
@@ -73,9 +74,11 @@ impl RelpSession {
 }
 
 impl Session for RelpSession {
+    ghost tokens = { λ _. no_tokens };
+
     ghost served = { λ number s. Served (Handles number s.core) (ReadBy stream.relp IsSpelling s.window s.fault) };
 
-    ghost carried = { λ number. Carried (relp number) };
+    ghost carried = { λ tokens number. Carried (relp number) };
 
     ghost closing = { λ number s. Closing (relp number) (Handles number s.core) };
 

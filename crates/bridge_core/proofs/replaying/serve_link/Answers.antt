@@ -3,7 +3,8 @@ use Rattle.edge_disk.specs.Calls.{Calls}
 use Rattle.hec_ids.specs.Rows.{opened}
 use Rattle.bridge_words.specs.Notes.{note_of_talk}
 use Rattle.bridge_words.specs.declared.note.Note.{Note}
-use Rattle.conn_serve.specs.Serves.{CarriedBy}
+use Rattle.conn_serve.specs.Serves.{CarriedAs}
+use Rattle.conn_serve.specs.Tokens.{no_tokens}
 use Rattle.conn_serve.proofs.Faults.{counts_as}
 use Rattle.bridge_core.specs.Replayed.{Keeps}
 use Rattle.bridge_core.proofs.Failing.{disk_calls, talk_by_read, talk_by_write}
@@ -23,7 +24,7 @@ returns-clause-calls g c =
     let after : c.of.result.disk ≡ c.attend-attended.new.access.desk.spool.disk = c.of.ensures.disk ∙ c.into_disk.ensures ∙ ap (λ d. d.spool.disk) c.into_desk-desk.ensures in
     subst (λ (d : _). Calls (c.of.result.note ≡ Note.DiskFault) (g.D.Disk.moment d) (g.D.Disk.moment c.of.result.disk)) before
     (subst (λ (d : _). Calls (c.of.result.note ≡ Note.DiskFault) (g.D.Disk.moment c.new-access.result.desk.spool.disk) (g.D.Disk.moment d)) (sym after)
-    (disk_calls c.args.proto _ _ run.bytes run.calls run.text c.attend-attended.result.talk c.of.result.note g.D.Disk.tells _ _ (c.of.ensures.note ∙ c.of_talk.ensures) run.carried run.made))
+    (disk_calls c.args.proto c.requires.proto _ _ run.bytes run.calls run.text c.attend-attended.result.talk c.of.result.note g.D.Disk.tells _ _ (c.of.ensures.note ∙ c.of_talk.ensures) run.carried run.made))
 
 pub returns-clause-reads : goal.returns-clause-reads
 returns-clause-reads g c =
@@ -57,6 +58,6 @@ returns-clause-served g c =
             (subst (λ (d : _). Keeps s (g.D.Disk.moment c.new-access.result.desk.spool.disk) (g.D.Disk.moment d) run.calls) (sym after)
             (ran_keeps s _ _ _ run.calls tells at run.made));
         counted = run.counted;
-        carried = subst (λ (n : ℕ). CarriedBy c.args.proto n (g.L.Source.left c.attend-attended.new.link) run.bytes run.calls run.text c.attend-attended.result.talk) (number ∙ ap (λ (n : ℕ). n * 2 ^ 32) c.run-run.ensures) run.carried;
+        carried = subst (λ (n : ℕ). CarriedAs c.args.proto no_tokens n (g.L.Source.left c.attend-attended.new.link) run.bytes run.calls run.text c.attend-attended.result.talk) (number ∙ ap (λ (n : ℕ). n * 2 ^ 32) c.run-run.ensures) run.carried;
       };
     }
