@@ -1,2 +1,5 @@
 pub mod Known
 mod Place
+mod Places
+mod Telling
+mod Unused

@@ -1,6 +1,13 @@
 pub mod Counts
+pub mod Door
 pub mod FileIo
+pub mod MemDoor
 pub mod MemLink
+pub mod MemNet
+pub mod MemPlace
+pub mod MemScript
 pub mod MemSink
 pub mod MemSource
+pub mod Net
 pub mod Script
+pub mod Told

@@ -1,5 +1,5 @@
 //! A link of two halves.
-ghost use Rattle.std.specs.Prelude.{◌≡◌};
+ghost use Rattle.std.specs.Prelude.{◌≡◌, None};
 
 use crate::{Link, Object, ReadFault, Sink, Source, WriteFault};
 
@@ -57,7 +57,9 @@ impl<S: Source, K: Sink> Sink for Both<S, K> {
 }
 
 impl<S: Source, K: Sink> Link for Both<S, K> {
-    ghost reads_keep = { λ x y same. (Prim.cc, Prim.cc) };
+    ghost dialed = { λ _. None };
 
-    ghost writes_keep = { λ x y same. (Prim.cc, Prim.cc, Prim.cc) };
+    ghost reads_keep = { λ x y same. (Prim.cc, Prim.cc, Prim.cc) };
+
+    ghost writes_keep = { λ x y same. (Prim.cc, Prim.cc, Prim.cc, Prim.cc) };
 }

@@ -30,6 +30,20 @@ impl<T: Drop> FileIo<T> {
             write_errors: 0,
         }
     }
+
+    /// How many reads were errors.
+    pub fn read_errors(&self) -> u64
+        ensures { result ≡ read_errors_of self.now }
+    {
+        self.read_errors
+    }
+
+    /// How many writes were errors.
+    pub fn write_errors(&self) -> u64
+        ensures { result ≡ write_errors_of self.now }
+    {
+        self.write_errors
+    }
 }
 
 impl<T: Drop> Object for FileIo<T> {
@@ -131,7 +145,11 @@ impl<T: Write + Drop> Sink for FileIo<T> {
 }
 
 impl<T: Read + Write + Drop> Link for FileIo<T> {
-    ghost reads_keep = { λ x y same. (Prim.cc, same) };
+    ghost use Rattle.std.specs.Prelude.{None};
 
-    ghost writes_keep = { λ x y same. (Prim.cc, Prim.cc, same) };
+    ghost dialed = { λ _. None };
+
+    ghost reads_keep = { λ x y same. (Prim.cc, same, Prim.cc) };
+
+    ghost writes_keep = { λ x y same. (Prim.cc, Prim.cc, same, Prim.cc) };
 }

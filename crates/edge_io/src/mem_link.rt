@@ -3,22 +3,83 @@ ghost use Rattle.std.specs.Prelude.{◌≡◌};
 
 use crate::{Link, MemSink, MemSource, Object, ReadFault, Sink, Source, WriteFault};
 
-/// A link that reads from a source in memory and writes to a sink in memory.
+/// A link that reads from a source in memory and writes to a sink in memory. It tells all, and the place at
+/// which it was dialed if a [`crate::MemNet`] made it.
 #[derive(Drop)]
 pub struct MemLink {
+    place: Option<String>,
     source: MemSource,
     sink: MemSink,
 }
 
-impl MemLink {
-    ghost use Rattle.edge_io.specs.MemLink.{source_of, sink_of};
+/// What became of a link that was let go.
+#[derive(Drop)]
+pub(crate) struct Used {
+    /// The place at which it was dialed, if it was.
+    pub place: Option<String>,
+    /// The bytes read from it.
+    pub read: Vec<u8>,
+    /// The bytes written to it.
+    pub written: Vec<u8>,
+    /// How many bytes were left unread.
+    pub left: u64,
+    /// How many reads have failed.
+    pub read_faults: u64,
+    /// How many writes have failed.
+    pub write_faults: u64,
+}
 
-    /// A link of the two.
+impl MemLink {
+    ghost use Rattle.std.specs.Prelude.{Some, None};
+    ghost use Rattle.std.specs.String.{string_bytes};
+    ghost use Rattle.edge_io.specs.MemLink.{place_of, source_of, sink_of, IsUsed};
+
+    /// A link of the two, which was not dialed.
     pub fn of(source: MemSource, sink: MemSink) -> MemLink
+        ensures place { place_of result ≡ None }
         ensures source { source_of result ≡ source }
         ensures sink { sink_of result ≡ sink }
     {
-        MemLink { source, sink }
+        MemLink {
+            place: None,
+            source,
+            sink,
+        }
+    }
+
+    /// A link of the two that was dialed at that place.
+    pub(crate) fn dialed(place: String, source: MemSource, sink: MemSink) -> MemLink
+        ensures place { place_of result ≡ Some (string_bytes place) }
+        ensures source { source_of result ≡ source }
+        ensures sink { sink_of result ≡ sink }
+    {
+        MemLink {
+            place: Some(place),
+            source,
+            sink,
+        }
+    }
+
+    /// Lets the link go, and says what became of it.
+    pub(crate) fn used(self) -> Used
+        ensures { IsUsed self result }
+    {
+        let MemLink {
+            place,
+            source,
+            sink,
+        } = self;
+        let left = source.left();
+        let read_faults = source.faults();
+        let write_faults = sink.faults();
+        Used {
+            place,
+            read: source.into_given(),
+            written: sink.into_taken(),
+            left,
+            read_faults,
+            write_faults,
+        }
     }
 }
 
@@ -34,7 +95,7 @@ impl Source for MemLink {
     ghost use Rattle.std.specs.Prelude.{◌<◌, ◌≤◌, Some, IfOk, length};
     ghost use Rattle.std.specs.Io.KnownBytes.{ReadConsumes, WriteAppends};
     ghost use Rattle.foundation.specs.Faults.{HasCause};
-    ghost use Rattle.edge_io.specs.MemLink.{source_of, sink_of};
+    ghost use Rattle.edge_io.specs.MemLink.{place_of, source_of, sink_of};
     ghost use Rattle.edge_io.specs.MemSource.{given_of, left_of, faults_of, ReadsExactly};
 
     ghost given = { λ link. Some (given_of (source_of link)) };
@@ -43,11 +104,11 @@ impl Source for MemLink {
 
     ghost read_faults = { λ link. faults_of (source_of link) };
 
-    ghost read_apart = { λ x y. sink_of y ≡ sink_of x };
+    ghost read_apart = { λ x y. (sink_of y ≡ sink_of x) × (place_of y ≡ place_of x) };
 
-    ghost read_apart_refl = { λ _. Prim.cc };
+    ghost read_apart_refl = { λ _. (Prim.cc, Prim.cc) };
 
-    ghost read_apart_trans = { λ x y z p q. Prim.cc };
+    ghost read_apart_trans = { λ x y z p q. (Prim.cc, Prim.cc) };
 
     /// A read of the source.
     fn read(&mut self, buf: &mut [u8]) -> Result<usize, ReadFault>
@@ -58,7 +119,7 @@ impl Source for MemLink {
         ensures left { ReadConsumes (Some (left_of (source_of self.old)))
             (Some (left_of (source_of self.new))) result buf.new }
         ensures cause { HasCause (faults_of (source_of self.old)) (faults_of (source_of self.new)) result }
-        ensures apart { sink_of self.new ≡ sink_of self.old }
+        ensures apart { (sink_of self.new ≡ sink_of self.old) × (place_of self.new ≡ place_of self.old) }
         ensures exact { ReadsExactly (source_of self.old) (source_of self.new) buf.old buf.new result }
     {
         self.source.read(buf)
@@ -69,18 +130,18 @@ impl Sink for MemLink {
     ghost use Rattle.std.specs.Prelude.{◌<◌, ◌≤◌, Some, IfOk, length};
     ghost use Rattle.std.specs.Io.KnownBytes.{WriteAppends};
     ghost use Rattle.foundation.specs.Faults.{HasCause};
-    ghost use Rattle.edge_io.specs.MemLink.{source_of, sink_of};
+    ghost use Rattle.edge_io.specs.MemLink.{place_of, source_of, sink_of};
     ghost use Rattle.edge_io.specs.MemSink.{taken_of, faults_of, WritesExactly};
 
     ghost taken = { λ link. Some (taken_of (sink_of link)) };
 
     ghost write_faults = { λ link. faults_of (sink_of link) };
 
-    ghost write_apart = { λ x y. source_of y ≡ source_of x };
+    ghost write_apart = { λ x y. (source_of y ≡ source_of x) × (place_of y ≡ place_of x) };
 
-    ghost apart_refl = { λ _. Prim.cc };
+    ghost apart_refl = { λ _. (Prim.cc, Prim.cc) };
 
-    ghost apart_trans = { λ x y z p q. Prim.cc };
+    ghost apart_trans = { λ x y z p q. (Prim.cc, Prim.cc) };
 
     /// A write to the sink.
     fn write(&mut self, piece: &[u8]) -> Result<usize, WriteFault>
@@ -89,7 +150,7 @@ impl Sink for MemLink {
         ensures taken { WriteAppends (Some (taken_of (sink_of self.old)))
             (Some (taken_of (sink_of self.new))) result piece.now }
         ensures cause { HasCause (faults_of (sink_of self.old)) (faults_of (sink_of self.new)) result }
-        ensures apart { source_of self.new ≡ source_of self.old }
+        ensures apart { (source_of self.new ≡ source_of self.old) × (place_of self.new ≡ place_of self.old) }
         ensures exact { WritesExactly (sink_of self.old) (sink_of self.new) piece.now result }
     {
         self.sink.write(piece)
@@ -97,7 +158,11 @@ impl Sink for MemLink {
 }
 
 impl Link for MemLink {
-    ghost reads_keep = { λ x y same. (Prim.cc, Prim.cc) };
+    ghost use Rattle.edge_io.specs.MemLink.{place_of};
 
-    ghost writes_keep = { λ x y same. (Prim.cc, Prim.cc, Prim.cc) };
+    ghost dialed = { λ link. place_of link };
+
+    ghost reads_keep = { λ x y same. (Prim.cc, Prim.cc, Prim.cc) };
+
+    ghost writes_keep = { λ x y same. (Prim.cc, Prim.cc, Prim.cc, Prim.cc) };
 }

@@ -18,7 +18,7 @@ pub struct MemSink {
 impl MemSink {
     ghost use Rattle.std.specs.Prelude.{Some, []};
     ghost use Rattle.edge_io.specs.Script.{call_number, failing_numbers};
-    ghost use Rattle.edge_io.specs.MemSink.{script_of, starved_of};
+    ghost use Rattle.edge_io.specs.MemSink.{taken_of, faults_of, script_of, starved_of};
 
     /// A sink that takes each piece whole. `failing` lists the numbers, from 0, of the writes that fail,
     /// in any order. Such a write counts a fault and changes nothing else. A write that was to pass and
@@ -44,6 +44,20 @@ impl MemSink {
         ensures { ⟦<MemSink as Sink>⟧.taken self.now ≡ Some result.now }
     {
         &self.bytes
+    }
+
+    /// How many writes have failed.
+    pub(crate) fn faults(&self) -> u64
+        ensures { result ≡ faults_of self.now }
+    {
+        self.faults
+    }
+
+    /// The bytes taken.
+    pub(crate) fn into_taken(self) -> Vec<u8>
+        ensures { result.items ≡ taken_of self }
+    {
+        self.bytes
     }
 
     /// How many writes were to pass and found no memory.

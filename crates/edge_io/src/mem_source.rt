@@ -32,7 +32,7 @@ fn give(bytes: &[u8], at: usize, step: usize, buf: &mut [u8]) -> usize
 impl MemSource {
     ghost use Rattle.std.specs.Prelude.{Some, []};
     ghost use Rattle.edge_io.specs.Script.{call_number, failing_numbers};
-    ghost use Rattle.edge_io.specs.MemSource.{script_of, step_of};
+    ghost use Rattle.edge_io.specs.MemSource.{given_of, left_of, faults_of, script_of, step_of};
 
     /// A source that gives these bytes, at most `step` in a read; `step` is above 0. `failing` lists the
     /// numbers, from 0, of the reads that fail, in any order. Such a read counts a fault and changes
@@ -53,6 +53,29 @@ impl MemSource {
             script: Script::of(failing),
             faults: 0,
         }
+    }
+
+    /// How many bytes are left.
+    pub(crate) fn left(&self) -> u64
+        ensures { result ≡ length (left_of self.now) }
+    {
+        (self.bytes.len() - self.at) as u64
+    }
+
+    /// How many reads have failed.
+    pub(crate) fn faults(&self) -> u64
+        ensures { result ≡ faults_of self.now }
+    {
+        self.faults
+    }
+
+    /// The bytes given.
+    pub(crate) fn into_given(self) -> Vec<u8>
+        ensures { result.items ≡ given_of self }
+    {
+        let mut bytes = self.bytes;
+        bytes.truncate(self.at);
+        bytes
     }
 }
 

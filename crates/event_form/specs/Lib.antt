@@ -3,3 +3,4 @@ pub mod Entry
 pub mod Reading
 pub mod Head
 pub mod Pairs
+pub mod Turn

@@ -12,6 +12,7 @@ mod pairs;
 mod peek;
 mod reading;
 mod talk;
+mod turn;
 mod writing;
 
 pub use blob::Blob;
@@ -23,4 +24,5 @@ pub use pairs::first_pair;
 pub use peek::{entry_length, peek_entry};
 pub use reading::{EntryFault, Took, read_entry};
 pub use talk::{Attended, Talk, Why};
+pub use turn::Turn;
 pub use writing::{entry_head, entry_size, write_entry};

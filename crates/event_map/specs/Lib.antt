@@ -1,3 +1,4 @@
 pub mod Strings
 pub mod Objects
 pub mod Maps
+pub mod Laws

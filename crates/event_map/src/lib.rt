@@ -7,9 +7,11 @@
 //! each call gives exactly those bytes, or finds no memory.
 #![tactic(auto)]
 
+mod laws;
 mod maps;
 mod objects;
 mod pairs;
 mod strings;
 
+pub use laws::{some_hec, some_json, some_text};
 pub use maps::{as_hec_object, as_json_object, as_text};

@@ -1,5 +1,5 @@
 //! The three maps, by the origin of the event.
-ghost use Rattle.std.specs.Prelude.{IfOk};
+ghost use Rattle.std.specs.Prelude.{◌<◌, ◌^◌, length, IfOk};
 ghost use Rattle.event_form.specs.Event.{IsEvent};
 ghost use Rattle.event_map.specs.Maps.{IsText, IsJsonObject, IsHecObject};
 
@@ -27,11 +27,8 @@ pub fn as_text(alloc: Global, event: &Event) -> Result<Blob, AllocError>
     }
 }
 
-/// The event as a JSON object (RFC 8259, section 4), as the payload of a Lumberjack `J` frame: the text of a
-/// `HecEvent`, and that of a `LumberJson` event if it is one object, as they stand; pairs as `as_text` has
-/// them; each other text as the string in `{"message":"text"}`. The event keeps its limits. The error says
-/// that no memory was found.
-pub fn as_json_object(alloc: Global, event: &Event) -> Result<Blob, AllocError>
+// The event as a JSON object, by its origin.
+fn json_object(alloc: Global, event: &Event) -> Result<Blob, AllocError>
     requires { IsEvent event.now }
     ensures { IfOk result (λ bytes. IsJsonObject event.now bytes) }
 {
@@ -43,6 +40,18 @@ pub fn as_json_object(alloc: Global, event: &Event) -> Result<Blob, AllocError>
         Origin::LumberData => object_of_pairs(alloc, text),
         Origin::HecEvent => unchanged(alloc, text),
     }
+}
+
+/// The event as a JSON object (RFC 8259, section 4), as the payload of a Lumberjack `J` frame: the text of a
+/// `HecEvent`, and that of a `LumberJson` event if it is one object, as they stand; pairs as `as_text` has
+/// them; each other text as the string in `{"message":"text"}`. The event keeps its limits. The error says
+/// that no memory was found.
+pub fn as_json_object(alloc: Global, event: &Event) -> Result<Blob, AllocError>
+    requires { IsEvent event.now }
+    ensures is { IfOk result (λ bytes. IsJsonObject event.now bytes) }
+    ensures short { IfOk result (λ bytes. length bytes < 2 ^ 32) }
+{
+    json_object(alloc, event)
 }
 
 /// The event as an event object of Splunk's HTTP Event Collector ("Format events for HTTP Event Collector"):

@@ -7,3 +7,4 @@ pub mod Scanning
 pub mod Reading
 pub mod Lent
 pub mod Window
+pub mod Why

@@ -23,6 +23,7 @@ mod scan;
 mod side;
 mod steps;
 mod turn;
+mod why;
 mod window;
 mod write;
 

@@ -126,9 +126,11 @@ impl Sink for Waiting<'_> {
 }
 
 impl Link for Waiting<'_> {
-    ghost reads_keep = { λ x y same. (Prim.cc, same) };
+    ghost dialed = { λ _. None };
 
-    ghost writes_keep = { λ x y same. (Prim.cc, Prim.cc, same) };
+    ghost reads_keep = { λ x y same. (Prim.cc, same, Prim.cc) };
+
+    ghost writes_keep = { λ x y same. (Prim.cc, Prim.cc, same, Prim.cc) };
 }
 
 // The protocol, of the two that are served.

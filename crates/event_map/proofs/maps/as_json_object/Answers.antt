@@ -1,11 +1,10 @@
-use Rattle.std.proofs.Common.{ℕ, List, IfOk, subst, sym}
-use Rattle.event_form.specs.declared.event.Origin.{Origin}
-use Rattle.event_map.specs.Objects.{pairs_object}
-use Rattle.event_map.specs.Maps.{JsonBy, OfPairs}
+use Rattle.std.proofs.Common.{ℕ, ◌<◌, ◌^◌, List, length, arith}
+use Rattle.std.proofs.lemmas.Result.{IfOk-weaker}
+use Rattle.event_map.specs.Maps.{IsJsonObject}
+use Rattle.event_map.proofs.Sizes.{json_object_size}
 use Rattle.event_map.proofs.maps.as_json_object.Goals as goal
 
-pub returns-in-LumberData : goal.returns-in-LumberData
-returns-in-LumberData c =
-    let text = c.args.event.now.text in
-    let done = c.object_of_pairs.result in
-    subst (λ (o : Origin). IfOk done (JsonBy o text)) (sym c.in-LumberData.is) (subst (λ (t : List ℕ). IfOk done (OfPairs pairs_object t)) c.bytes-text.ensures c.object_of_pairs.ensures)
+pub returns-clause-short : goal.returns-clause-short
+returns-clause-short c =
+    let e = c.args.event.now in
+    IfOk-weaker c.json_object.result (IsJsonObject e) (λ (bytes : List ℕ). length bytes < 2 ^ 32) (λ bytes is. omega (arith, json_object_size e bytes c.requires is)) c.json_object.ensures

@@ -1,0 +1,46 @@
+-- What a net tells, and what its calls do to that.
+use Rattle.std.specs.Prelude.{◌≡◌, ◌⊎◌, ◌≤◌, ℕ, List, Option, Some, Result, Ok, Err, length}
+use Rattle.foundation.specs.Faults.{Rose}
+use Rattle.edge_io.specs.Told.{IsToldAs, Adds}
+use Rattle.edge_io.specs.declared.net_fault.NetFault.{NetFault}
+use Rattle.edge_io.specs.declared.net_fault.NetFault.TheVariants.{Fault, NoMemory}
+
+-- A link that was hung up: the place at which it was dialed, the bytes read from it and written to it, and how many
+-- bytes were left unread.
+pub record HungUp : Type 0 where
+  pub place : List ℕ
+  pub read : List ℕ
+  pub written : List ℕ
+  pub left : ℕ
+
+-- What a net tells: the links that were hung up. Its counts of faults are of its binds and dials, and of the reads and the
+-- writes of the links hung up.
+pub record NetState : Type 0 where
+  pub hung : Option (List HungUp)
+  pub net_faults : ℕ
+  pub read_faults : ℕ
+  pub write_faults : ℕ
+
+-- what a bind or a dial leaves
+pub record SameHung (old new : NetState) : Type 0 where
+  pub hung : new.hung ≡ old.hung
+  pub read_faults : new.read_faults ≡ old.read_faults
+  pub write_faults : new.write_faults ≡ old.write_faults
+
+-- A bind or a dial answers a fault only where the count of faults rose in this call. Want of memory is no fault, and a call
+-- that answers none failed at nothing.
+abbrev pub HasNetCause : {T : Type 0} → ℕ → ℕ → Result T NetFault → Type 0
+HasNetCause before now (Ok made) = now ≡ before
+HasNetCause before now (Err Fault) = (before ≤ now) × Rose 1 before now
+HasNetCause before now (Err NoMemory) = now ≡ before
+
+-- what is told of a link that is hung up, by its place and the bytes that it gave, took and has left, where it tells them
+pub record IsHungUp (dialed given taken left : Option (List ℕ)) (one : HungUp) : Type 0 where
+  pub place : IsToldAs dialed one.place
+  pub read : IsToldAs given one.read
+  pub written : IsToldAs taken one.written
+  pub left_is : (rest : List ℕ) → left ≡ Some rest → one.left ≡ length rest
+
+-- the link that is hung up is added, or there was no room for it, and the list is as before
+abbrev pub AddsHung : Type 0 → Option (List HungUp) → Option (List HungUp) → (HungUp → Type 0) → Type 0
+AddsHung HasRoom old new Is = Adds old new Is ⊎ ((¬ HasRoom) × (new ≡ old))

@@ -1,0 +1,3 @@
+pub mod TcpDoor
+pub mod TcpLink
+pub mod TcpNet

@@ -1,0 +1,10 @@
+use Rattle.std.proofs.Common.{◌≡◌, ◌+◌, ◌-◌, ◌<◌, ◌≤◌, drop}
+use Rattle.std.specs.Prelude.{slice_index}
+use Rattle.forward_core.specs.Course.{SameReading, HasFront, front_of, TellsFirst}
+use Rattle.forward_core.proofs.course.Course.tell_first.Given as goal
+
+abbrev pub invariant-loop-self : goal.invariant-loop-self
+invariant-loop-self l = (l.self.told ≤ l.told) × TellsFirst l.self.told l.fn.self l.self
+
+abbrev pub decreases-loop-self : goal.decreases-loop-self
+decreases-loop-self l = l.told - l.self.told

@@ -1,0 +1,7 @@
+pub mod Calls
+pub mod Course
+pub mod Forwarded
+pub mod Marking
+pub mod Reading
+pub mod Session
+pub mod Turning

@@ -1,0 +1,169 @@
+-- Marks, and the places that have none.
+use Rattle.std.proofs.Common.{◌≡◌, ◌≢◌, inl, inr, ℕ, zero, suc, ◌+◌, ◌-◌, ◌<◌, ◌≤◌, ◌∙◌, Bool, true, false, List, [], ◌∷◌, ◌++◌, length, take, drop, get_or, refl, sym, ap, subst, arith, append_assoc}
+use Rattle.std.specs.Prelude.{◌⊎◌, All, replicate, slice_index, min}
+use Rattle.std.specs.List.{remove}
+use Rattle.std.proofs.lemmas.Bool.{false≢true}
+use Rattle.std.proofs.lemmas.Grind.{common_steps, replicate_next}
+use Rattle.std.proofs.lemmas.List.Elements.{All-nil, All-cons, All-head, All-tail, All-append}
+use Rattle.std.proofs.lemmas.List.{length-replicate}
+use Rattle.std.proofs.Math.ListN.{length-append}
+use Rattle.relp_sender.specs.Texts.{txnr_of}
+use Rattle.relp_sender.specs.Marks.{count_known, known_front, open_from, NoneAwaits, grown, Acknowledges, allowed}
+use Rattle.relp_sender.specs.Window.{IsFirstOf, first_open}
+
+pub count_open : (m : List Bool) (i : ℕ) → count_known m + length (open_from i m) ≡ length m
+count_open [] i = refl
+count_open (true ∷ m) i = omega (arith, count_open m (i + 1))
+count_open (false ∷ m) i = omega (arith, count_open m (i + 1))
+
+pub front_open : (m : List Bool) (i : ℕ) → first_open (open_from i m) (i + length m) ≡ i + known_front m
+front_open [] i = refl
+front_open (true ∷ m) i =
+    let e : i + length (true ∷ m) ≡ i + 1 + length m = omega arith in
+    ap (λ (n : ℕ). first_open (open_from (i + 1) m) n) e ∙ front_open m (i + 1) ∙ omega arith
+front_open (false ∷ m) i = omega arith
+
+pub none_awaits : (m : List Bool) (i txnr : ℕ) → All (λ (p : ℕ). txnr_of p ≢ txnr) (open_from i m) → NoneAwaits i m txnr
+none_awaits [] i txnr all = tt
+none_awaits (true ∷ m) i txnr all = none_awaits m (i + 1) txnr all
+none_awaits (false ∷ m) i txnr all =
+    (All-head (λ (p : ℕ). txnr_of p ≢ txnr) i (open_from (i + 1) m) all, none_awaits m (i + 1) txnr (All-tail (λ (p : ℕ). txnr_of p ≢ txnr) i (open_from (i + 1) m) all))
+
+-- the marks with one more, at the first place that awaits that number
+pub record Marked (i : ℕ) (m : List Bool) (txnr : ℕ) (left : List ℕ) (place : ℕ) : Type 0 where
+  pub before : List Bool
+  pub after : List Bool
+  pub was : m ≡ before ++ false ∷ after
+  pub left_is : open_from i (before ++ true ∷ after) ≡ left
+  pub number : txnr_of (i + length before) ≡ txnr
+  pub earliest : NoneAwaits i before txnr
+  pub place_is : place ≡ i + length before
+
+pub mark_first : (m : List Bool) (i txnr index : ℕ) → IsFirstOf (open_from i m) txnr index → Marked i m txnr (remove (open_from i m) index) (slice_index (open_from i m) index)
+mark_first [] i txnr index h = absurd (omega (arith, h.inside))
+mark_first (true ∷ m) i txnr index h =
+    let r = mark_first m (i + 1) txnr index h in record {
+      before = true ∷ r.before;
+      after = r.after;
+      was = ap (λ (l : List Bool). true ∷ l) r.was;
+      left_is = r.left_is;
+      number = let e : i + length (true ∷ r.before) ≡ i + 1 + length r.before = omega arith in ap txnr_of e ∙ r.number;
+      earliest = r.earliest;
+      place_is = r.place_is ∙ omega arith;
+    }
+mark_first (false ∷ m) i txnr zero h = record { before = []; after = m; was = refl; left_is = refl; number = let e : i + 0 ≡ i = omega arith in ap txnr_of e ∙ h.has; earliest = tt; place_is = omega arith }
+mark_first (false ∷ m) i txnr (suc k) h =
+    let P : ℕ → Type 0 = λ (p : ℕ). txnr_of p ≢ txnr in
+    let rest = open_from (i + 1) m in
+    let r = mark_first m (i + 1) txnr k (record { inside = omega (arith, h.inside); has = h.has; none = All-tail P i (take k rest) h.none }) in record {
+      before = false ∷ r.before;
+      after = r.after;
+      was = ap (λ (l : List Bool). false ∷ l) r.was;
+      left_is = ap (λ (l : List ℕ). i ∷ l) r.left_is;
+      number = let e : i + length (false ∷ r.before) ≡ i + 1 + length r.before = omega arith in ap txnr_of e ∙ r.number;
+      earliest = (All-head P i (take k rest) h.none, r.earliest);
+      place_is = r.place_is ∙ omega arith;
+    }
+
+count_append : (a b : List Bool) → count_known (a ++ b) ≡ count_known a + count_known b
+count_append [] b = omega arith
+count_append (true ∷ a) b = omega (arith, count_append a b)
+count_append (false ∷ a) b = count_append a b
+
+count_none : (n : ℕ) → count_known (replicate n false) ≡ 0
+count_none zero = refl
+count_none (suc n) = count_none n
+
+front_none : (n : ℕ) → known_front (replicate n false) ≡ 0
+front_none zero = refl
+front_none (suc n) = refl
+
+front_append : (m : List Bool) (n : ℕ) → known_front (m ++ replicate n false) ≡ known_front m
+front_append [] n = front_none n
+front_append (true ∷ m) n = ap (λ (k : ℕ). k + 1) (front_append m n)
+front_append (false ∷ m) n = refl
+
+pub count_grown : (w : ℕ) (m : List Bool) → count_known (grown w m) ≡ count_known m
+count_grown w m = omega (arith, count_append m (replicate (w - length m) false), count_none (w - length m))
+
+pub front_grown : (w : ℕ) (m : List Bool) → known_front (grown w m) ≡ known_front m
+front_grown w m = front_append m (w - length m)
+
+append_none : {A : Type 0} (xs : List A) → xs ++ [] ≡ xs
+append_none {A = A} [] = refl
+append_none {A = A} (x ∷ xs) = ap (λ (l : List A). x ∷ l) (append_none xs)
+
+-- marks that are as many have none to be added
+pub grown_whole : (w : ℕ) (m : List Bool) → length m ≡ w → grown w m ≡ m
+grown_whole w m is = let e : w - length m ≡ 0 = omega (arith, is) in ap (λ (k : ℕ). m ++ replicate k false) e ∙ append_none m
+
+pub grown_short : (w : ℕ) (m : List Bool) → length (grown w m) ≡ w → length m ≤ w
+grown_short w m is = omega (arith, is, length-append m (replicate (w - length m) false))
+
+pub grown_one : (w : ℕ) (m : List Bool) → length (grown w m) ≡ w → grown (w + 1) m ≡ grown w m ++ false ∷ []
+grown_one w m is =
+    let le = grown_short w m is in
+    let e : w + 1 - length m ≡ w - length m + 1 = omega (arith, le) in
+    ap (λ (k : ℕ). m ++ replicate k false) e ∙ ap (λ (l : List Bool). m ++ l) (replicate_next (w - length m) false) ∙ sym (append_assoc m (replicate (w - length m) false) (false ∷ []))
+
+pub open_append : (a b : List Bool) (i : ℕ) → open_from i (a ++ b) ≡ open_from i a ++ open_from (i + length a) b
+open_append [] b i = let e : i ≡ i + 0 = omega arith in ap (λ (k : ℕ). open_from k b) e
+open_append (true ∷ a) b i = let e : i + 1 + length a ≡ i + length (true ∷ a) = omega arith in open_append a b (i + 1) ∙ ap (λ (k : ℕ). open_from (i + 1) a ++ open_from k b) e
+open_append (false ∷ a) b i = let e : i + 1 + length a ≡ i + length (false ∷ a) = omega arith in ap (λ (l : List ℕ). i ∷ l) (open_append a b (i + 1) ∙ ap (λ (k : ℕ). open_from (i + 1) a ++ open_from k b) e)
+
+pub marked_length : (before after : List Bool) → length (before ++ true ∷ after) ≡ length (before ++ false ∷ after)
+marked_length [] after = refl
+marked_length (b ∷ before) after = ap suc (marked_length before after)
+
+-- as many may be written as were, where the window is full, or all that there are were written
+pub allowed_full : (n w : ℕ) (m : List Bool) → length (grown w m) ≡ w → length (open_from 0 (grown w m)) ≡ 1024 → w ≤ n → allowed n m ≡ w
+allowed_full n w m is full le = grind (arith, common_steps, is, full, le, count_open (grown w m) 0, count_grown w m)
+
+pub allowed_all : (n w : ℕ) (m : List Bool) → length (grown w m) ≡ w → length (open_from 0 (grown w m)) ≤ 1024 → w ≡ n → allowed n m ≡ w
+allowed_all n w m is few e = grind (arith, common_steps, is, few, e, count_open (grown w m) 0, count_grown w m)
+
+-- as many as were written may be written
+pub allowed_least : (n w : ℕ) (m : List Bool) → w ≤ n → w ≤ 1024 + count_known m → w ≤ allowed n m
+allowed_least n w m a b = omega (arith, a, b)
+
+-- ---- which entries are acknowledged
+
+-- with one mark more, those before and that one are
+pub known_now : (before after : List Bool) (q : ℕ) → get_or (before ++ true ∷ after) q false ≡ true → (get_or (before ++ false ∷ after) q false ≡ true) ⊎ (q ≡ length before)
+known_now [] after zero h = inr refl
+known_now [] after (suc q) h = inl h
+known_now (b ∷ before) after zero h = inl h
+known_now (b ∷ before) after (suc q) h = elim (known_now before after q h) [ inl k ↦ inl k | inr e ↦ inr (ap suc e) ]
+
+pub known_still : (before after : List Bool) (q : ℕ) → get_or (before ++ false ∷ after) q false ≡ true → get_or (before ++ true ∷ after) q false ≡ true
+known_still [] after zero h = refl
+known_still [] after (suc q) h = h
+known_still (b ∷ before) after zero h = h
+known_still (b ∷ before) after (suc q) h = known_still before after q h
+
+pub known_here : (before after : List Bool) → get_or (before ++ true ∷ after) (length before) false ≡ true
+known_here [] after = refl
+known_here (b ∷ before) after = known_here before after
+
+pub not_known : (before after : List Bool) → get_or (before ++ false ∷ after) (length before) false ≡ true → ⊥
+not_known [] after h = false≢true h
+not_known (b ∷ before) after h = not_known before after h
+
+none_known : (n q : ℕ) → get_or (replicate n false) q false ≡ false
+none_known zero q = refl
+none_known (suc n) zero = refl
+none_known (suc n) (suc q) = none_known n q
+
+known_append : (m : List Bool) (n q : ℕ) → get_or (m ++ replicate n false) q false ≡ get_or m q false
+known_append [] n q = none_known n q
+known_append (b ∷ m) n zero = refl
+known_append (b ∷ m) n (suc q) = known_append m n q
+
+pub known_grown : (w : ℕ) (m : List Bool) (q : ℕ) → get_or (grown w m) q false ≡ get_or m q false
+known_grown w m q = known_append m (w - length m) q
+
+pub front_known : (m : List Bool) (q : ℕ) → q < known_front m → get_or m q false ≡ true
+front_known [] q lt = absurd (omega (arith, lt))
+front_known (true ∷ m) zero lt = refl
+front_known (true ∷ m) (suc q) lt = front_known m q (omega (arith, lt))
+front_known (false ∷ m) q lt = absurd (omega (arith, lt))

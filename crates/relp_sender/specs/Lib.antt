@@ -1,0 +1,11 @@
+pub mod Texts
+pub mod Reply
+pub mod Marks
+pub mod Window
+pub mod Hearing
+pub mod Progress
+pub mod Text
+pub mod Sender
+pub mod Due
+pub mod Sends
+pub mod Turns
