@@ -1,0 +1,156 @@
+-- A journal that goes on by a call of one caller.
+use Rattle.std.proofs.Common.{◌≡◌, inl, inr, ℕ, ◌+◌, ◌≤◌, List, [], ◌∷◌, ◌++◌, refl, sym, ◌∙◌, ap, subst, arith}
+use Rattle.std.specs.Prelude.{Option}
+use Rattle.std.proofs.lemmas.Grind.{common_steps}
+use Rattle.foundation.specs.Faults.{Rose}
+use Rattle.spool_state.specs.SpoolState.{end}
+use Rattle.edge_disk.specs.Disk.{Moment, IsLawful, LeavesOnly}
+use Rattle.edge_disk.proofs.Moments.{started, both}
+use Rattle.spool_log.specs.State.{View, IsIn}
+use Rattle.hec_ids.specs.Table.{Table}
+use Rattle.desk_access.specs.declared.standing.Standing.{Standing}
+use Rattle.desk_access.specs.Call.{Record, calls_of, failures_of}
+use Rattle.desk_access.specs.Desk.{DeskState, Goes, StandsWithin, Stood}
+use Rattle.desk_access.specs.Alone.{AloneView, alone_view, IsAt, LeadsFrom, RunsTo, HasSeen}
+use Rattle.desk_access.specs.Journal.{goes_then, calls_then, failures_then, rose_then, stood_first, stood_later, stood_here}
+use Rattle.spool_turns.specs.Rules.{made_by}
+use Rattle.spool_turns.specs.Replays.{BeganAt, Begins, LeadsBy, Replays, IsExact}
+
+-- ---- the same calls, by another caller
+
+abbrev renumbered : ℕ → List Record → List Record
+renumbered n [] = []
+renumbered n (one ∷ records) = made_by n one ∷ renumbered n records
+
+renumbered_then : (n : ℕ) (xs ys : List Record) → renumbered n (xs ++ ys) ≡ renumbered n xs ++ renumbered n ys
+renumbered_then n [] ys = refl
+renumbered_then n (x ∷ xs) ys = ap (λ (l : List Record). made_by n x ∷ l) (renumbered_then n xs ys)
+
+goes_renumbered : (n : ℕ) (x y : DeskState) (log : List Record) → Goes x log y → Goes x (renumbered n log) y
+goes_renumbered n x y [] p = p
+goes_renumbered n x y (one ∷ records) p = (p.0, record { answers = p.1.answers; after = p.1.after }, goes_renumbered n p.0 y records p.2)
+
+within_renumbered : (n : ℕ) (x : DeskState) (log : List Record) (c : List ℕ) → StandsWithin x log c → StandsWithin x (renumbered n log) c
+within_renumbered n x [] c h = absurd h
+within_renumbered n x (one ∷ records) c h = h
+
+stood_renumbered : (n : ℕ) (x : DeskState) (log : List Record) (c : List ℕ) → Stood x log c → Stood x (renumbered n log) c
+stood_renumbered n x log c h = record {
+  first = renumbered n h.first;
+  rest = renumbered n h.rest;
+  parts = ap (renumbered n) h.parts ∙ renumbered_then n h.first h.rest;
+  found = h.found;
+  goes = goes_renumbered n x h.found h.first h.goes;
+  stands = elim h.stands [ inl here ↦ inl here | inr within ↦ inr (within_renumbered n h.found h.rest c within) ];
+}
+
+-- ---- the journal of all callers
+
+-- what was left since the same moment
+from_then : (P : List ℕ → Type 0) (began m new : Moment) → BeganAt began m → LeavesOnly P m new → LeavesOnly P began new
+from_then P began m new is l = record {
+  later = omega (arith, is.clock, l.later);
+  each = λ c since. l.each c (subst (λ (t : ℕ). new.image_since t c) is.clock since);
+  now = l.now;
+  before = λ t c le since. elim (l.before t c (omega (arith, is.clock, le)) since) [ inl old ↦ inl (is.since t c old) | inr h ↦ inr h ];
+}
+
+failures_both : (first more : List Record) → failures_of (calls_of (first ++ more)) ≡ failures_of (calls_of first) + failures_of (calls_of more)
+failures_both first more = ap failures_of (calls_then first more) ∙ failures_then (calls_of first) (calls_of more)
+
+rose_zero : (a b : ℕ) → a ≤ b → Rose 0 a b
+rose_zero a b le = grind (arith, common_steps)
+
+-- no call yet
+pub replays_none : (tells : Type 0) (start : DeskState → Type 0) (run : ℕ) (began : Moment) (v : AloneView) → (tells → IsLawful v.spool.moment) → BeganAt began v.spool.moment → ((x : DeskState) → start x → Begins tells run x) → ((x : DeskState) → start x → IsAt x v)
+    → Replays tells start run began [] v
+replays_none tells start run began v lawful is begins at = record {
+  begins = begins;
+  leads = λ x s. record {
+    after = x;
+    goes = refl;
+    reached = at x s;
+    any_moment = from_then (Stood x []) began v.spool.moment v.spool.moment is (started (Stood x []) v.spool.moment (lawful (begins x s).told) (λ c image. stood_here x [] c ((at x s).spool.each c image)));
+  };
+  later = omega (arith, is.faults);
+  cause = rose_zero began.faults v.spool.moment.faults (omega (arith, is.faults));
+  quiet = λ none. sym is.faults;
+  size = sym is.size;
+}
+
+-- no call leads from the one moment to the other
+pub stays : (tells : Type 0) (a b : AloneView) → RunsTo tells a [] b → (x : DeskState) → tells → IsAt x a → IsAt x b
+stays tells a b r x told at = let p = r.leads x told at in subst (λ (y : DeskState). IsAt y b) p.goes p.reached
+
+module _ (tells : Type 0) (start : DeskState → Type 0) (run : ℕ) (began : Moment) (n : ℕ) (b c : AloneView) (log : List Record) (one : Record) where
+  led : (x : DeskState) (p : LeadsBy x began log b) → LeadsFrom p.after b (one ∷ []) c → LeadsBy x began (log ++ made_by n one ∷ []) c
+  led x p q = record {
+    after = q.after;
+    goes = goes_then x p.after q.after log (made_by n one ∷ []) p.goes (goes_renumbered n p.after q.after (one ∷ []) q.goes);
+    reached = q.reached;
+    any_moment = both (Stood x log) (Stood p.after (one ∷ [])) (Stood x (log ++ made_by n one ∷ [])) began b.spool.moment c.spool.moment p.any_moment q.any_moment
+        (λ image h. stood_first x log (made_by n one ∷ []) image h)
+        (λ image h. stood_later x p.after log (made_by n one ∷ []) image p.goes (stood_renumbered n p.after (one ∷ []) image h));
+  }
+
+  -- a call of one caller after a journal
+  pub replays_more : Replays tells start run began log b → RunsTo tells b (one ∷ []) c → Replays tells start run began (log ++ made_by n one ∷ []) c
+  replays_more h r = record {
+    begins = h.begins;
+    leads = λ x s. let p = h.leads x s in led x p (r.leads p.after (h.begins x s).told p.reached);
+    later = omega (arith, h.later, r.later);
+    cause = subst (λ (k : ℕ). Rose k began.faults c.spool.moment.faults) (sym (failures_both log (made_by n one ∷ [])))
+        (rose_then (failures_of (calls_of log)) (failures_of (one.call ∷ [])) began.faults b.spool.moment.faults c.spool.moment.faults h.cause r.cause h.later r.later);
+    quiet = λ none. r.quiet (omega (arith, none, failures_both log (made_by n one ∷ []))) ∙ h.quiet (omega (arith, none, failures_both log (made_by n one ∷ [])));
+    size = r.size ∙ h.size;
+  }
+
+-- ---- the words of the end and the cursor
+
+-- what the desk answered is that of each state that it may be in
+pub exact_end : (tells : Type 0) (v : AloneView) (n : ℕ) → ((x : DeskState) (journal : List Record) → HasSeen tells x journal v → (y : DeskState) × Goes x journal y × (end y.spool ≤ n)) → (x : DeskState) → tells → IsAt x v → end x.spool ≤ n
+exact_end tells v n seen x told at =
+    let h = seen x [] (record { told = told; rules = at.rules; found = x; goes = refl; here = at }) in
+    subst (λ (y : DeskState). end y.spool ≤ n) h.1 h.2
+
+pub exact_cursor : (tells : Type 0) (v : AloneView) (n : ℕ) → ((x : DeskState) (journal : List Record) → HasSeen tells x journal v → (y : DeskState) × Goes x journal y × (y.spool.cursor ≤ n)) → (x : DeskState) → tells → IsAt x v → x.spool.cursor ≤ n
+exact_cursor tells v n seen x told at =
+    let h = seen x [] (record { told = told; rules = at.rules; found = x; goes = refl; here = at }) in
+    subst (λ (y : DeskState). y.spool.cursor ≤ n) h.1 h.2
+
+-- a state that the desk is in, seen by one who was told less
+at_less : (x : DeskState) (spool : View) (ids : Table) (met : Option Standing) (e e' k k' : ℕ) → e ≤ e' → k ≤ k' → IsAt x (alone_view spool ids met e' k') → IsAt x (alone_view spool ids met e k)
+at_less x spool ids met e e' k k' less less' at = record {
+  rules = at.rules;
+  spool = at.spool;
+  ids = at.ids;
+  end_known = omega (arith, at.end_known, less);
+  cursor_known = omega (arith, at.cursor_known, less');
+}
+
+-- The desk a was asked for its end, and then, as b, for its cursor; c is the desk after both.
+pub exact_both : (tells : Type 0) (spool : View) (ids : Table) (met : Option Standing) (e e' k k' : ℕ) (b c : AloneView) → b ≡ alone_view spool ids met e' k → c ≡ alone_view spool ids met e' k' → e ≤ e' → k ≤ k'
+    → ((x : DeskState) → tells → IsAt x (alone_view spool ids met e k) → end x.spool ≤ e') → ((x : DeskState) → tells → IsAt x b → x.spool.cursor ≤ k') → IsExact tells c
+exact_both tells spool ids met e e' k k' b c is_b is_c less less' first second = subst (IsExact tells) (sym is_c) whole
+  where
+    whole : IsExact tells (alone_view spool ids met e' k')
+    whole x told at = (
+      first x told (at_less x spool ids met e e' k k' less less' at),
+      second x told (subst (IsAt x) (sym is_b) (at_less x spool ids met e' e' k k' (omega arith) less' at)),
+    )
+
+-- what is known of the desk when its words are given up
+pub replays_less : (tells : Type 0) (start : DeskState → Type 0) (run : ℕ) (began : Moment) (log : List Record) (v w : AloneView) → w.spool ≡ v.spool → w.ids ≡ v.ids → w.end_known ≡ 0 → w.cursor_known ≡ 0 → Replays tells start run began log v → Replays tells start run began log w
+replays_less tells start run began log v w spool ids no_end no_cursor h = record {
+  begins = h.begins;
+  leads = λ x s. let p = h.leads x s in record {
+    after = p.after;
+    goes = p.goes;
+    reached = record { rules = p.reached.rules; spool = subst (IsIn p.after.spool p.after.doubt) (sym spool) p.reached.spool; ids = p.reached.ids ∙ sym ids; end_known = omega (arith, no_end); cursor_known = omega (arith, no_cursor) };
+    any_moment = subst (λ (s : View). LeavesOnly (Stood x log) began s.moment) (sym spool) p.any_moment;
+  };
+  later = subst (λ (s : View). began.faults ≤ s.moment.faults) (sym spool) h.later;
+  cause = subst (λ (s : View). Rose (failures_of (calls_of log)) began.faults s.moment.faults) (sym spool) h.cause;
+  quiet = subst (λ (s : View). failures_of (calls_of log) ≡ 0 → s.moment.faults ≡ began.faults) (sym spool) h.quiet;
+  size = subst (λ (s : View). s.moment.size ≡ began.size) (sym spool) h.size;
+}

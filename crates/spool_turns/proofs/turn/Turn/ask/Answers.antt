@@ -1,0 +1,33 @@
+use Rattle.std.proofs.Common.{◌∙◌}
+use Rattle.spool_turns.proofs.Called.{turn_after, pass_after, calls_after}
+use Rattle.spool_turns.proofs.Closing.{told_stored}
+use Rattle.spool_turns.proofs.turn.Turn.ask.Goals as goal
+
+pub invariant_of-self : goal.invariant_of-self
+invariant_of-self g c =
+    let i = c.self.invariant in
+    let h = c.admit.ensures in
+    let p = c.publish.ensures in
+    let e = c.add_record.ensures in
+    let after = turn_after _ _ _ _ _ _ _ _ _ _ _ _ _ i.1 i.2 i.3 tt h.locked h.knew c.ask.ensures.makes p.run (p.kept _) p.exact p.locked _ e.locked in
+    (e.tables.0 ∙ p.table ∙ h.tables.0 ∙ i.0, after.0, after.1, after.2)
+
+pub invariant_of-pass : goal.invariant_of-pass
+invariant_of-pass g c =
+    let i = c.self.invariant in
+    let h = c.admit.ensures in
+    let p = c.publish.ensures in
+    let e = c.add_record.ensures in
+    let after = pass_after _ _ _ _ _ _ _ _ _ _ _ _ _ i.1 i.2 i.3 tt h.locked h.knew c.ask.ensures.makes p.run (p.kept _) p.exact p.locked _ e.pass in
+    (e.tables.1 ∙ p.table ∙ h.tables.0 ∙ i.0, after.0, after.1)
+
+pub returns-clause-call : goal.returns-clause-call
+returns-clause-call g c =
+    let i = c.self.invariant in
+    let h = c.admit.ensures in
+    let p = c.publish.ensures in
+    let e = c.add_record.ensures in
+    calls_after _ _ _ _ _ _ _ _ _ _ _ _ _ i.1 i.2 i.3 tt h.locked h.knew c.ask.ensures.makes p.run (p.kept _) p.exact p.locked _ _ c.pass.view_is e.pass
+
+pub returns-clause-stored : goal.returns-clause-stored
+returns-clause-stored g c = λ x s. told_stored g.D.Disk.tells g.J.Naming.start g.J.Naming.run g.J.Naming.seats _ _ _ _ _ (returns-clause-call g c) x s (c.self.invariant.2.begins x s)

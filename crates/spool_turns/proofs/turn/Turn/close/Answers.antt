@@ -1,0 +1,54 @@
+use Rattle.std.proofs.Common.{rules, ◌≡◌, List, ◌++◌, ◌∷◌, [], All, refl, sym, ap, ◌∙◌, subst, append_assoc, arith}
+use Rattle.std.proofs.lemmas.List.{nil_from_length, append-nil}
+use Rattle.std.proofs.lemmas.List.Elements.{All-cons}
+use Rattle.std.specs.Prelude.{option_to_list, MatchOption, vec_len, ◌+◌, ◌-◌, ◌≤◌}
+use Rattle.spool_log.specs.State.{view}
+use Rattle.desk_access.specs.Call.{Record, own_of}
+use Rattle.desk_access.specs.Alone.{alone_at}
+use Rattle.desk_access.specs.Legal.{Met}
+use Rattle.spool_turns.specs.Passes.{Known, Stands, locked_of, facts_in}
+use Rattle.spool_turns.specs.Replays.{Replays, desk_at}
+use Rattle.spool_turns.proofs.Led.{replays_less}
+use Rattle.spool_turns.proofs.Closing.{adds_legal, each_may}
+use Rattle.spool_turns.proofs.turn.Turn.close.Goals as goal
+
+pub loop-pass-preserved : goal.loop-pass-preserved
+loop-pass-preserved g c =
+    let i = c.loop-pass.invariant in
+    let h = c.check_pass.ensures in
+    let pass = c.in-Some.pass in
+    let is : (facts_in c.loop-pass.locked.me.0).log ≡ c.args.self = i.1.1 in
+    let stands : Stands c.args.self pass = subst (λ (x : List Record × Known). Stands x.0 x.1) (λ k. (is k, c.pass.view_is k)) (h.knew.seen, h.knew.own) in
+    let items = i.2.1 ∙ ap (λ l. l ++ i.2.0) (c.pop.ensures.items ∙ ap (λ o. c.pop.new.self.items ++ option_to_list o) c.in-Some.is) ∙ append_assoc c.pop.new.self.items (pass ∷ []) i.2.0 in
+    (h.same.0 ∙ i.0, (h.same.1 ∙ i.1.0 ∙ sym (ap (λ m. locked_of (facts_in m.0)) h.same.1), ap (λ m. (facts_in m.0).log) h.same.1 ∙ is), (pass ∷ i.2.0, items, All-cons (Stands c.args.self) pass i.2.0 stands i.2.2))
+
+pub returns : goal.returns
+returns g c =
+    let i = c.loop-pass.invariant in
+    let v = c.self.invariant in
+    let is = c.self.view_is in
+    let none = subst (λ o. MatchOption o ((vec_len c.loop-pass.passes ≡ 0) × (vec_len c.pop.new.self ≡ 0)) (λ _. vec_len c.pop.new.self + 1 ≡ vec_len c.loop-pass.passes)) c.in_default.is c.pop.ensures.cases in
+    let empty : c.loop-pass.passes.items ≡ [] = nil_from_length c.loop-pass.passes.items (search (rules, none.0, c.loop-pass.passes.ok.0)) in
+    let all : i.2.0 ≡ c.args.passes.items = sym (i.2.1 ∙ ap (λ l. l ++ i.2.0) empty) in
+    let d = c.into_desk.ensures in
+    let replays = replays_less g.D.Disk.tells g.J.Naming.start g.J.Naming.run g.J.Naming.began c.args.self (alone_at c.self.inside.alone) (desk_at c.into_desk.result)
+    (λ k. view (d k).spool.memory (d k).spool.doubt (g.D.Disk.moment (d k).spool.disk)) (ap (λ x. x.ids) d) refl refl
+    (subst (λ (l : List Record). Replays g.D.Disk.tells g.J.Naming.start g.J.Naming.run g.J.Naming.began l (alone_at c.self.inside.alone)) is v.2) in
+    let met = subst (Met g.J.Naming.run (g.J.Naming.seats - 1) []) is v.3 in
+    record {
+      replays = replays;
+      met = met;
+      legal = adds_legal _ _ _ _ _ _ _ replays met;
+      each = λ n. each_may _ _ n c.args.self met;
+      pass = subst (All (Stands c.args.self)) all i.2.2;
+      no_others = λ n le. ap (own_of n) (sym is) ∙ c.check_numbers.ensures.none n (subst (λ k. k ≤ n) (sym v.1.made) le);
+    }
+
+pub loop-pass-init : goal.loop-pass-init
+loop-pass-init g c =
+    let v = c.self.invariant in
+    let l = c.check_numbers.ensures.same in (
+      l.0 ∙ v.0,
+      (l.1 ∙ v.1.locked ∙ sym (ap (λ m. locked_of (facts_in m.0)) l.1), ap (λ m. (facts_in m.0).log) l.1 ∙ c.self.view_is),
+      ([], sym (append-nil c.args.passes.items), (λ k d lt. absurd (omega arith))),
+    )

@@ -1,0 +1,121 @@
+-- What a caller of the shared desk knows.
+use Rattle.std.specs.Prelude.{◌≡◌, ℕ, zero, suc, ◌-◌, ◌≤◌, List, [], ◌∷◌, ◌++◌, Option, None, Some}
+use mathlib.Core.List.{IsPrefix}
+use Rattle.atomic_table.specs.Table.{Me}
+use Rattle.atomic_table.specs.Seated.{TableId}
+use Rattle.edge_disk.specs.Disk.{Moment}
+use Rattle.spool_state.specs.SpoolState.{end}
+use Rattle.desk_access.specs.Call.{Call, Record, own_of}
+use Rattle.desk_access.specs.Desk.{DeskState, Goes}
+use Rattle.desk_access.specs.Legal.{Met}
+use Rattle.desk_access.specs.Alone.{AloneView}
+use Rattle.spool_turns.specs.Rules.{View, Locked, Pass, Facts, facts, PassView, pass_view}
+
+-- the name of no table, and a moment of no disk
+abbrev pub no_table : TableId
+no_table = record { words = 0; slots = 0; views_name = 0; atom = 0; block = 0; offset = 0; slot_names = [] }
+
+abbrev pub no_moment : Moment
+no_moment = record { size = 0; reads = []; image = λ c. ⊥; clock = 0; image_since = λ t c. ⊥; faults = 0 }
+
+-- what a view holds
+abbrev pub no_pass : PassView
+no_pass = pass_view 0 [] [] [] 0 0
+
+abbrev pub pass_in : View → PassView
+pass_in (Pass m) = m
+pass_in _ = no_pass
+
+abbrev pub facts_in : View → Facts
+facts_in (Locked f caller) = f
+facts_in _ = facts 0 [] 0 0
+
+abbrev pub pass_or : Option PassView → PassView
+pass_or None = no_pass
+pass_or (Some m) = m
+
+abbrev pub caller_in : View → PassView
+caller_in (Locked f caller) = pass_or caller
+caller_in _ = no_pass
+
+-- the seat under the lock between calls and during one, and the seat of a pass
+abbrev pub locked_of : Facts → Me ℕ View
+locked_of f = (Locked f None, [])
+
+abbrev pub calling_of : Facts → PassView → Me ℕ View
+calling_of f m = (Locked f (Some m), [])
+
+abbrev pub pass_of : PassView → Me ℕ View
+pass_of m = (Pass m, [])
+
+abbrev pub IsPass : Me ℕ View → Type 0
+IsPass me = me ≡ pass_of (pass_in me.0)
+
+abbrev pub IsLocked : Me ℕ View → Type 0
+IsLocked me = me ≡ locked_of (facts_in me.0)
+
+abbrev pub IsCalling : Me ℕ View → Type 0
+IsCalling me = me ≡ calling_of (facts_in me.0) (caller_in me.0)
+
+-- A pass as its caller sees it: its number, the journal that it has seen, its own calls, and the greatest end and cursor
+-- that it loaded.
+pub record Known : Type 0 where
+  pub number : ℕ
+  pub seen : List Record
+  pub own : List Call
+  pub end_known : ℕ
+  pub cursor_known : ℕ
+
+abbrev pub known : ℕ → List Record → List Call → ℕ → ℕ → Known
+known number seen own end_known cursor_known = record { number = number; seen = seen; own = own; end_known = end_known; cursor_known = cursor_known }
+
+abbrev pub known_of : PassView → Known
+known_of m = known m.number m.seen m.own m.end_known m.cursor_known
+
+-- the journal leads from that state to one whose end and cursor are at most these
+abbrev pub LeadsBelow : DeskState → List Record → ℕ → ℕ → Type 0
+LeadsBelow x log most_end most_cursor = (y : DeskState) × Goes x log y × (end y.spool ≤ most_end) × (y.spool.cursor ≤ most_cursor)
+
+-- the journal leads from that state to one whose end and cursor are at least these
+abbrev pub LeadsAbove : DeskState → List Record → ℕ → ℕ → Type 0
+LeadsAbove x log least_end least_cursor = (y : DeskState) × Goes x log y × (least_end ≤ end y.spool) × (least_cursor ≤ y.spool.cursor)
+
+-- what is true of each pass of a desk that was given in such a state
+pub record Sound (start : DeskState → Type 0) (m : PassView) : Type 0 where
+  pub also : m.also ≡ []
+  pub own : own_of m.number m.seen ≡ m.own
+  pub lawful : (x : DeskState) → start x → LeadsBelow x m.seen m.end_known m.cursor_known
+
+-- The journal after a call begins with all that the caller had seen, and its last record is the call's own. It is lawful,
+-- each of its calls is one that its caller might make, the caller's own calls are all that it has of its number, and the end and
+-- the cursor after it are no less than what the caller had loaded.
+pub record Calls (start : DeskState → Type 0) (run seats : ℕ) (v : Known) (call : Call) (w : Known) : Type 0 where
+  pub between : List Record
+  pub others : own_of v.number between ≡ []
+  pub one : Record
+  pub by : one.by ≡ v.number
+  pub of_call : one.call ≡ call
+  pub seen : w.seen ≡ (v.seen ++ between) ++ one ∷ []
+  pub own : w.own ≡ v.own ++ call ∷ []
+  pub number : w.number ≡ v.number
+  pub all : own_of w.number w.seen ≡ w.own
+  pub met : Met run (seats - 1) [] w.seen
+  pub end_known : v.end_known ≤ w.end_known
+  pub cursor_known : v.cursor_known ≤ w.cursor_known
+  pub lawful : (x : DeskState) → start x → LeadsAbove x w.seen v.end_known v.cursor_known
+
+-- what the type of the locked value keeps of its seat: all passes were made, and the words are those that the desk answered
+pub record IsTurn (seats : ℕ) (me : Me ℕ View) (v : AloneView) : Type 0 where
+  pub locked : IsLocked me
+  pub made : (facts_in me.0).made ≡ seats
+  pub end : (facts_in me.0).end ≡ v.end_known
+  pub cursor : (facts_in me.0).cursor ≡ v.cursor_known
+
+-- so many passes that have seen nothing, from a number on
+abbrev pub fresh : ℕ → ℕ → ℕ → ℕ → List Known
+fresh number zero end_known cursor_known = []
+fresh number (suc count) end_known cursor_known = known number [] [] end_known cursor_known ∷ fresh (suc number) count end_known cursor_known
+
+-- the journal begins with what the pass has seen, and the pass's own calls are all that it has of its number
+abbrev pub Stands : List Record → Known → Type 0
+Stands log m = IsPrefix m.seen log × (own_of m.number log ≡ m.own)

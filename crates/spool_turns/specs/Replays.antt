@@ -1,0 +1,71 @@
+-- What the calls of a journal did to a desk that many callers share.
+use Rattle.std.specs.Prelude.{◌≡◌, ℕ, ◌+◌, ◌-◌, ◌≤◌, List, [], ◌∷◌, ◌++◌, All, None}
+use Rattle.event_form.specs.declared.event.Entry.{Entry}
+use Rattle.foundation.specs.Faults.{Rose}
+use Rattle.spool_state.specs.SpoolState.{end}
+use Rattle.edge_disk.specs.declared.disk.Disk.{Ghosts}
+use Rattle.edge_disk.specs.Disk.{Moment, LeavesOnly}
+use Rattle.spool_log.specs.State.{view}
+use Rattle.desk_access.specs.declared.desk.Desk.{Desk}
+use Rattle.desk_access.specs.Call.{Call, Record, own_of, calls_of, failures_of}
+use Rattle.desk_access.specs.Desk.{DeskState, Goes, Stood}
+use Rattle.desk_access.specs.History.{IsDesk}
+use Rattle.desk_access.specs.Alone.{AloneView, alone_view, IsAt}
+use Rattle.desk_access.specs.Legal.{May, Met, AddsGroups, IsLegal}
+use Rattle.spool_turns.specs.Passes.{Known, Stands}
+
+-- the disk was at this moment when the desk was given
+pub record BeganAt (began m : Moment) : Type 0 where
+  pub size : began.size ≡ m.size
+  pub clock : began.clock ≡ m.clock
+  pub since : (t : ℕ) (c : List ℕ) → m.image_since t c → began.image_since t c
+  pub faults : began.faults ≡ m.faults
+
+-- what is true of each state in which the desk may have been given
+pub record Begins (tells : Type 0) (run : ℕ) (x : DeskState) : Type 0 where
+  pub told : tells
+  pub rules : IsDesk x
+  pub of_run : x.spool.run ≡ run
+  pub none_held : x.ids.held ≡ []
+
+-- From this state the calls of the journal lead to one in which the desk is then, and whenever a crash came meanwhile,
+-- what it left stands for a state on the way.
+pub record LeadsBy (x : DeskState) (began : Moment) (log : List Record) (new : AloneView) : Type 0 where
+  pub after : DeskState
+  pub goes : Goes x log after
+  pub reached : IsAt after new
+  pub any_moment : LeavesOnly (Stood x log) began new.spool.moment
+
+-- From each state in which the desk may have been given, this journal leads to where it is. As often as a call of it was
+-- answered that the disk failed, it did; where none was, no call of the disk failed.
+pub record Replays (tells : Type 0) (start : DeskState → Type 0) (run : ℕ) (began : Moment) (log : List Record) (new : AloneView) : Type 0 where
+  pub begins : (x : DeskState) → start x → Begins tells run x
+  pub leads : (x : DeskState) → start x → LeadsBy x began log new
+  pub later : began.faults ≤ new.spool.moment.faults
+  pub cause : Rose (failures_of (calls_of log)) began.faults new.spool.moment.faults
+  pub quiet : failures_of (calls_of log) ≡ 0 → new.spool.moment.faults ≡ began.faults
+  pub size : new.spool.moment.size ≡ began.size
+
+-- each of these calls is one that the caller of that number may make after its earlier ones
+abbrev pub MayMake : ℕ → ℕ → ℕ → List Call → List Call → Type 0
+MayMake run confirming number own [] = Unit {0}
+MayMake run confirming number own (call ∷ calls) = May run confirming number own call × MayMake run confirming number (own ++ call ∷ []) calls
+
+-- a desk that nobody has asked for its end and cursor
+abbrev pub desk_at : {D : Type 0} {disks : Ghosts D} → Desk D disks → AloneView
+desk_at {disks = disks} d = alone_view (view d.spool.memory d.spool.doubt (disks.moment d.spool.disk)) d.ids None 0 0
+
+-- The desk that these passes leave, by the one journal of all their calls. The caller with the greatest number confirms.
+-- What a journal adds is legal: each connection has the indexes 0, 1, 2 and so on, and the entries of an id are one group.
+-- What each pass has seen is a beginning of the journal, and its own calls are all that the journal has of its number.
+pub record Closes (tells : Type 0) (start : DeskState → Type 0) (run seats : ℕ) (began : Moment) (log : List Record) (passes : List Known) (new : AloneView) : Type 0 where
+  pub replays : Replays tells start run began log new
+  pub met : Met run (seats - 1) [] log
+  pub legal : (x : DeskState) → start x → (groups : List (List Entry)) → AddsGroups (calls_of log) groups → IsLegal run groups
+  pub each : (number : ℕ) → MayMake run (seats - 1) number [] (own_of number log)
+  pub pass : All (Stands log) passes
+  pub no_others : (number : ℕ) → seats ≤ number → own_of number log ≡ []
+
+-- the words of the end and the cursor are those of each state that the desk may be in
+abbrev pub IsExact : Type 0 → AloneView → Type 0
+IsExact tells v = (x : DeskState) → tells → IsAt x v → (end x.spool ≤ v.end_known) × (x.spool.cursor ≤ v.cursor_known)

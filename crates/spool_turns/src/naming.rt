@@ -1,0 +1,36 @@
+//! The name of a shared desk.
+use std::marker::Brand;
+
+/// Which desk is meant: its table of seats, how many passes it has, the run of its spool, the states in which it may
+/// have been given, and the moment of its disk then. Nothing of it stands in memory. A program picks it where it passes
+/// [`std::marker::Brand`] to a function that is generic in it and makes the desk.
+pub trait Naming {
+    ghost use Rattle.std.specs.Prelude.{ℕ};
+    ghost use Rattle.atomic_table.specs.Seated.{TableId};
+    ghost use Rattle.edge_disk.specs.Disk.{Moment};
+    ghost use Rattle.desk_access.specs.Desk.{DeskState};
+
+    ghost table: { TableId };
+
+    ghost seats: { ℕ };
+
+    ghost run: { ℕ };
+
+    ghost start: { DeskState → Type 0 };
+
+    ghost began: { Moment };
+}
+
+impl Naming for Brand {
+    ghost use Rattle.spool_turns.specs.Passes.{no_table, no_moment};
+
+    ghost table = { no_table };
+
+    ghost seats = { 0 };
+
+    ghost run = { 0 };
+
+    ghost start = { λ _. ⊥ };
+
+    ghost began = { no_moment };
+}

@@ -1,0 +1,115 @@
+//! A pass at the desk that threads share, as a caller of the desk.
+use crate::naming::Naming;
+use crate::pass::Pass;
+use crate::shared::Shared;
+use desk_access::Access;
+use edge_disk::Disk;
+use event_form::Entry;
+use hec_ids::IssueFault;
+use known_numbers::Stretch;
+use spool_log::{ConfirmFault, Numbered, PendFault, Receipt, TakeFault};
+use std::sync::Wait;
+
+/// A pass at its desk. What it does may wait for the lock, but for `run`, `end` and `cursor`.
+#[derive(Drop)]
+pub struct Seated<'a, D: Disk, J: Naming, R: Wait> {
+    pub shared: &'a Shared<D, J>,
+    pub pass: Pass<J>,
+    pub rt: &'a R,
+}
+
+impl<'a, D: Disk, J: Naming, R: Wait> Access for Seated<'a, D, J, R> {
+    ghost use Rattle.std.specs.Prelude.{◌≡◌, ◌+◌};
+    ghost use Rattle.desk_access.specs.History.{IsDesk};
+    ghost use Rattle.desk_access.specs.Legal.{IsNext, IsUnused, IsStored};
+    ghost use Rattle.spool_turns.specs.Ran.{Ran, ran_none, ran_more, ran_seen, ran_lawful, ran_next, ran_issued, ran_unused, ran_stored, ran_still_stored, ran_confirms};
+
+    ghost number = { λ a. a.pass.number };
+
+    ghost seen = { λ a x journal. J.start x × IsDesk x × (journal ≡ a.pass.seen) };
+
+    ghost ran = { λ a calls b. Ran J.start a.pass calls b.pass };
+
+    ghost may_take = { λ a conn index. IsNext J.run a.pass.number a.pass.own conn index };
+
+    ghost may_use = { λ a id. IsUnused a.pass.own id };
+
+    ghost may_settle = { λ a id. IsStored a.pass.own id };
+
+    ghost may_confirm = { λ a. a.pass.number + 1 ≡ J.seats };
+
+    ghost end_known = { λ a. a.pass.end_known };
+
+    ghost cursor_known = { λ a. a.pass.cursor_known };
+
+    fn run(&mut self) -> u32 {
+        self.shared.run()
+    }
+
+    fn end(&mut self) -> u64 {
+        self.shared.front(&mut self.pass)
+    }
+
+    fn cursor(&mut self) -> u64 {
+        self.shared.cursor(&mut self.pass)
+    }
+
+    fn take(&mut self, entries: &[Entry]) -> Result<Receipt, TakeFault> {
+        self.shared.take(self.rt, &mut self.pass, entries)
+    }
+
+    fn pending(&mut self, from: u64, most: u32) -> Result<Vec<Numbered>, PendFault> {
+        self.shared.pending(self.rt, &mut self.pass, from, most)
+    }
+
+    fn confirm(&mut self, upto: u64) -> Result<(), ConfirmFault> {
+        self.shared.confirm(self.rt, &mut self.pass, upto)
+    }
+
+    fn mark(&mut self, known: &[Stretch]) -> Result<(), ConfirmFault> {
+        self.shared.mark(self.rt, &mut self.pass, known)
+    }
+
+    fn known_count(&mut self) -> u64 {
+        self.shared.known_count(self.rt, &mut self.pass)
+    }
+
+    fn issue(&mut self, channel: u128) -> Result<u64, IssueFault> {
+        self.shared.issue(self.rt, &mut self.pass, channel)
+    }
+
+    fn settle(&mut self, channel: u128, id: u64) -> bool {
+        self.shared.settle(self.rt, &mut self.pass, channel, id)
+    }
+
+    fn forget(&mut self, channel: u128, id: u64) -> bool {
+        self.shared.forget(self.rt, &mut self.pass, channel, id)
+    }
+
+    fn ask(&mut self, channel: u128, ids: &[u64], known: &mut [bool]) {
+        self.shared
+            .ask(self.rt, &mut self.pass, channel, ids, known);
+    }
+
+    ghost ran_none = { λ a. ran_none J.start a.pass };
+
+    ghost ran_more = { λ a b c calls more p q. ran_more J.start a.pass b.pass c.pass calls more p q };
+
+    ghost seen_more = { λ a b calls x journal ran seen. ran_seen J.start a.pass b.pass calls x journal ran seen };
+
+    ghost seen_lawful = { λ a b calls x journal ran some seen. ran_lawful J.start a.pass b.pass calls x journal ran some seen };
+
+    ghost known_rises = { λ a b calls ran. (ran.end_known, ran.cursor_known) };
+
+    ghost may_take_more = { λ a b calls conn index ran sure all may. ran_next J.start J.run a.pass b.pass calls conn index ran sure all may };
+
+    ghost may_use_issued = { λ a b channel id ran. ran_issued J.start a.pass b.pass channel id ran };
+
+    ghost may_use_more = { λ a b calls id ran unused may. ran_unused J.start a.pass b.pass calls id ran unused may };
+
+    ghost may_settle_taken = { λ a b group receipt id ran some units. ran_stored J.start a.pass b.pass group receipt id ran some units };
+
+    ghost may_settle_more = { λ a b calls id ran may. ran_still_stored J.start a.pass b.pass calls id ran may };
+
+    ghost may_confirm_more = { λ a b calls ran may. ran_confirms J.start J.seats a.pass b.pass calls ran may };
+}

@@ -1,0 +1,226 @@
+//! The desk that threads share.
+ghost use Rattle.std.specs.Prelude.{◌≡◌, ◌+◌, ◌^◌, ◌<◌, ◌≤◌, nat_eq, ℕ, List, true, false, length, get_or, max, All, IfOk};
+ghost use Rattle.std.specs.List.{IsDistinct};
+ghost use mathlib.Core.List.{IsPrefix};
+ghost use Rattle.event_form.specs.Entry.{IsEntry};
+ghost use Rattle.spool_log.specs.Changing.Mark.{EndsBy};
+ghost use Rattle.spool_log.specs.Outcome.{AreNumbered};
+ghost use Rattle.desk_access.specs.Call.{Record, takes, pends, confirms, marks, counts, issues, settles, forgets, asks, listed, own_of};
+ghost use Rattle.desk_access.specs.Batch.{MayTake, MayUse};
+ghost use Rattle.desk_access.specs.Desk.{DeskState};
+ghost use Rattle.desk_access.specs.Legal.{IsNext, IsUnused, IsStored};
+ghost use Rattle.spool_turns.specs.Passes.{Calls, LeadsBelow};
+ghost use Rattle.spool_turns.specs.Replays.{Closes, desk_at};
+
+use crate::naming::Naming;
+use crate::pass::Pass;
+use crate::rule::SeatTable;
+use crate::turn::Turn;
+use desk_access::Desk;
+use edge_disk::Disk;
+use event_form::Entry;
+use hec_ids::IssueFault;
+use known_numbers::Stretch;
+use spool_log::{ConfirmFault, Numbered, PendFault, Receipt, TakeFault};
+use std::sync::{Mutex, Wait};
+
+/// A desk of many callers, each of which has a pass. Its calls answer as those of [`spool_log::Spool`] and
+/// [`hec_ids::Ids`] do.
+///
+/// The calls of all passes have one order, their journal. One lock is round the desk, and beside it lies the table of
+/// seats, by which a pass loads the end and the cursor without waiting. The journal takes no memory.
+#[derive(Drop)]
+pub struct Shared<D: Disk, J: Naming> {
+    pub(crate) table: SeatTable,
+    pub(crate) turn: Mutex<Turn<D, J>>,
+    pub(crate) run: u32,
+    ghost run_is: { run ≡ J.run },
+    ghost run_of_start: { (x : DeskState) → J.start x → run ≡ x.spool.run },
+    ghost table_is: { table.shared.table_id ≡ J.table },
+    ghost words: { table.shared.table_id.words ≡ 4 },
+}
+
+impl<D: Disk, J: Naming> Shared<D, J> {
+    /// Takes the entries as one group. They are of one connection of this pass, of which they are the next ones. Either no
+    /// entry's unit is an id, or all have one id as their unit, which this pass issued and which no other take used.
+    pub fn take<R: Wait>(
+        &self,
+        rt: &R,
+        pass: &mut Pass<J>,
+        entries: &[Entry],
+    ) -> Result<Receipt, TakeFault>
+        requires few { length entries.now < 2 ^ 32 }
+        requires limits { All IsEntry entries.now }
+        requires next { MayTake (IsNext J.run pass.old.number pass.old.own) entries.now }
+        requires units { MayUse (IsUnused pass.old.own) entries.now }
+
+        ensures call { Calls J.start J.run J.seats pass.old (takes entries.now result) pass.new }
+        ensures receipt { IfOk result (λ receipt. (receipt.count ≡ length entries.now) × (receipt.first + receipt.count ≤ 2 ^ 63)) }
+    {
+        self.turn.lock(rt).take(&self.table.shared, pass, entries)
+    }
+
+    /// The first `most` of the entries with numbers from `from` that aren't known as confirmed, each with its number.
+    pub fn pending<R: Wait>(
+        &self,
+        rt: &R,
+        pass: &mut Pass<J>,
+        from: u64,
+        most: u32,
+    ) -> Result<Vec<Numbered>, PendFault>
+        requires number { from ≤ pass.old.end_known }
+
+        ensures call { Calls J.start J.run J.seats pass.old (pends from most (listed result)) pass.new }
+        ensures few { IfOk result (λ given. length given.items ≤ most) }
+        ensures numbered { IfOk result (λ given. AreNumbered 0 (2 ^ 63) given.items) }
+    {
+        self.turn
+            .lock(rt)
+            .pending(&self.table.shared, pass, from, most)
+    }
+
+    /// Makes all numbers below `upto` known as confirmed.
+    pub fn confirm<R: Wait>(
+        &self,
+        rt: &R,
+        pass: &mut Pass<J>,
+        upto: u64,
+    ) -> Result<(), ConfirmFault>
+        requires caller { pass.old.number + 1 ≡ J.seats }
+        requires number { upto ≤ pass.old.end_known }
+
+        ensures { Calls J.start J.run J.seats pass.old (confirms upto result) pass.new }
+    {
+        self.turn.lock(rt).confirm(&self.table.shared, pass, upto)
+    }
+
+    /// Makes the numbers of these stretches known as confirmed, one stretch after another.
+    pub fn mark<R: Wait>(
+        &self,
+        rt: &R,
+        pass: &mut Pass<J>,
+        known: &[Stretch],
+    ) -> Result<(), ConfirmFault>
+        requires caller { pass.old.number + 1 ≡ J.seats }
+        requires numbers { All (EndsBy pass.old.end_known) known.now }
+
+        ensures { Calls J.start J.run J.seats pass.old (marks known.now result) pass.new }
+    {
+        self.turn.lock(rt).mark(&self.table.shared, pass, known)
+    }
+
+    /// How many numbers above the cursor are known as confirmed.
+    pub fn known_count<R: Wait>(&self, rt: &R, pass: &mut Pass<J>) -> u64
+        ensures { Calls J.start J.run J.seats pass.old (counts result) pass.new }
+    {
+        self.turn.lock(rt).known_count(&self.table.shared, pass)
+    }
+
+    /// Issues the next id of the run to the channel, which then holds it unsettled.
+    pub fn issue<R: Wait>(
+        &self,
+        rt: &R,
+        pass: &mut Pass<J>,
+        channel: u128,
+    ) -> Result<u64, IssueFault>
+        ensures { Calls J.start J.run J.seats pass.old (issues channel result) pass.new }
+    {
+        self.turn.lock(rt).issue(&self.table.shared, pass, channel)
+    }
+
+    /// Settles an id of which this pass took the entries, and says whether the channel held it unsettled.
+    pub fn settle<R: Wait>(&self, rt: &R, pass: &mut Pass<J>, channel: u128, id: u64) -> bool
+        requires taken { IsStored pass.old.own id }
+
+        ensures { Calls J.start J.run J.seats pass.old (settles channel id result) pass.new }
+    {
+        self.turn
+            .lock(rt)
+            .settle(&self.table.shared, pass, channel, id)
+    }
+
+    /// Forgets an id, settled or not, and says whether the channel held it.
+    pub fn forget<R: Wait>(&self, rt: &R, pass: &mut Pass<J>, channel: u128, id: u64) -> bool
+        ensures { Calls J.start J.run J.seats pass.old (forgets channel id result) pass.new }
+    {
+        self.turn
+            .lock(rt)
+            .forget(&self.table.shared, pass, channel, id)
+    }
+
+    /// Writes of each id into `known`, at its place, whether the channel holds it settled. Those that it does are
+    /// forgotten. The ids are distinct. The group of an id that is told true stands in the journal that the pass has seen.
+    pub fn ask<R: Wait>(
+        &self,
+        rt: &R,
+        pass: &mut Pass<J>,
+        channel: u128,
+        ids: &[u64],
+        known: &mut [bool],
+    )
+        requires equal { length ids.now ≡ length known.old }
+        requires distinct { IsDistinct nat_eq ids.now }
+
+        ensures call { Calls J.start J.run J.seats pass.old (asks channel ids.now known.new) pass.new }
+        ensures stored { (x : DeskState) → J.start x → (k : ℕ) → k < length ids.now → get_or known.new k false ≡ true
+            → (caller : ℕ) × IsStored (own_of caller pass.new.seen) (get_or ids.now k 0) }
+    {
+        self.turn
+            .lock(rt)
+            .ask(&self.table.shared, pass, channel, ids, known);
+    }
+
+    /// The end at this step, at most 2^63. It isn't less than the end after the journal that the pass has seen, nor more
+    /// than the end after a later call of this pass. It doesn't wait.
+    pub fn front(&self, pass: &mut Pass<J>) -> u64
+        ensures loaded { (pass.old.end_known ≤ result) × (pass.new.end_known ≡ result) }
+        ensures limit { result ≤ 2 ^ 63 }
+        ensures same { (pass.new.number ≡ pass.old.number) × (pass.new.seen ≡ pass.old.seen) × (pass.new.own ≡ pass.old.own)
+            × (pass.new.cursor_known ≡ pass.old.cursor_known) }
+        ensures seen { (x : DeskState) → J.start x → LeadsBelow x pass.old.seen result pass.old.cursor_known }
+    {
+        pass.end(&self.table.shared)
+    }
+
+    /// The cursor at this step, of which the same is true. It doesn't wait.
+    pub fn cursor(&self, pass: &mut Pass<J>) -> u64
+        ensures loaded { (pass.old.cursor_known ≤ result) × (pass.new.cursor_known ≡ result) }
+        ensures same { (pass.new.number ≡ pass.old.number) × (pass.new.seen ≡ pass.old.seen) × (pass.new.own ≡ pass.old.own)
+            × (pass.new.end_known ≡ pass.old.end_known) }
+        ensures seen { (x : DeskState) → J.start x → LeadsBelow x pass.old.seen pass.old.end_known result }
+    {
+        pass.cursor(&self.table.shared)
+    }
+
+    /// How often the spool was opened for storing.
+    pub fn run(&self) -> u32
+        ensures is { result ≡ J.run }
+        ensures seen { (x : DeskState) → J.start x → result ≡ x.spool.run }
+    {
+        self.run
+    }
+
+    /// The pass has then seen all that the other has seen. Their own calls stay. It doesn't wait.
+    pub fn meet(&self, pass: &mut Pass<J>, other: &mut Pass<J>)
+        ensures first { IsPrefix pass.old.seen pass.new.seen }
+        ensures second { IsPrefix other.old.seen pass.new.seen }
+        ensures own { (pass.new.number ≡ pass.old.number) × (pass.new.own ≡ pass.old.own) }
+        ensures loaded { (pass.new.end_known ≡ max pass.old.end_known other.old.end_known)
+            × (pass.new.cursor_known ≡ max pass.old.cursor_known other.old.cursor_known) }
+        ensures other { other.new ≡ other.old }
+    {
+        pass.meet(&self.table.shared, other);
+    }
+
+    /// The desk again, as one lawful journal of all calls left it.
+    pub fn close(self, passes: Vec<Pass<J>>) -> Desk<D>
+        ensures { (log : List Record) × Closes D.tells J.start J.run J.seats J.began log passes.items (desk_at result) }
+    {
+        let Shared {
+            table,
+            turn,
+            run: _,
+        } = self;
+        turn.into_inner().close(&table.shared, passes)
+    }
+}

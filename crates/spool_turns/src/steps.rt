@@ -1,0 +1,146 @@
+//! What a call does to the seat under the lock and to the caller's.
+ghost use Rattle.std.specs.Prelude.{◌≡◌, ◌+◌, ◌^◌, ◌<◌, ◌≤◌, []};
+ghost use mathlib.Core.List.{IsPrefix};
+ghost use Rattle.desk_access.specs.Call.{Call, own_of};
+ghost use Rattle.desk_access.specs.Alone.{alone_at, record_of, RunsTo};
+ghost use Rattle.spool_turns.specs.Rules.{Knows, Fresh, made_by, after_call, with_record, one_pass_more, new_pass, end_at, cursor_at, merged, compared_pass, knowing_end, knowing_cursor};
+ghost use Rattle.spool_turns.specs.Passes.{IsLocked, IsCalling, IsPass, locked_of, calling_of, pass_of, facts_in, caller_in, pass_in};
+ghost use Rattle.spool_turns.specs.Replays.{IsExact};
+
+use crate::rule::{
+    Admits, Compares, HandsOver, Learns, LoadsCursor, LoadsEnd, MakesPass, Merges, PassSeat,
+    Recorded, Records, Steps, WritesCursor, WritesEnd,
+};
+use desk_access::{Access, Alone};
+use edge_disk::Disk;
+
+/// Makes a new pass, with this number.
+pub(crate) fn make_pass(steps: &Steps, locked: &mut PassSeat, number: u64) -> PassSeat
+    requires tables { (locked.old.table_id ≡ steps.now.table_id) × (steps.now.table_id.words ≡ 4) }
+    requires view { IsLocked locked.old.me }
+    requires number { (number ≡ (facts_in locked.old.me.0).made) × (number + 1 < 2 ^ 64) }
+
+    ensures tables { (locked.new.table_id ≡ locked.old.table_id) × (result.table_id ≡ locked.old.table_id) }
+    ensures locked { locked.new.me ≡ locked_of (one_pass_more (facts_in locked.old.me.0)) }
+    ensures pass { result.me ≡ pass_of (new_pass (facts_in locked.old.me.0)) }
+{
+    steps.store::<MakesPass>(locked, 3, number + 1);
+    steps.split_seat::<Admits>(locked)
+}
+
+/// The pass comes under the lock, and what it knows is right.
+pub(crate) fn admit(steps: &Steps, locked: &mut PassSeat, seat: &mut PassSeat)
+    requires tables { (locked.old.table_id ≡ steps.now.table_id) × (seat.old.table_id ≡ steps.now.table_id) × (steps.now.table_id.words ≡ 4) }
+    requires views { IsLocked locked.old.me × IsPass seat.old.me }
+
+    ensures tables { (locked.new.table_id ≡ locked.old.table_id) × (seat.new.table_id ≡ seat.old.table_id) }
+    ensures locked { locked.new.me ≡ calling_of (facts_in locked.old.me.0) (pass_in seat.old.me.0) }
+    ensures knew { Knows (facts_in locked.old.me.0) (pass_in seat.old.me.0) }
+{
+    let whole = steps.split_seat::<HandsOver>(seat);
+    steps.join_seat::<Admits>(locked, whole);
+    steps.load::<Learns>(locked, 0);
+}
+
+/// Writes the words of the end and the cursor, as the desk answers them.
+pub(crate) fn publish<D: Disk>(steps: &Steps, locked: &mut PassSeat, alone: &mut Alone<D>)
+    requires tables { (locked.old.table_id ≡ steps.now.table_id) × (steps.now.table_id.words ≡ 4) }
+    requires view { IsCalling locked.old.me }
+    requires words { ((facts_in locked.old.me.0).end ≤ alone.old.end_told) × ((facts_in locked.old.me.0).cursor ≤ alone.old.cursor_told) }
+
+    ensures run { RunsTo D.tells (alone_at alone.old) [] (alone_at alone.new) }
+    ensures kept { (call : Call) → record_of call (alone_at alone.new) ≡ record_of call (alone_at alone.old) }
+    ensures exact { IsExact D.tells (alone_at alone.new) }
+    ensures table { locked.new.table_id ≡ locked.old.table_id }
+    ensures locked { locked.new.me
+        ≡ calling_of (cursor_at alone.new.cursor_told (end_at alone.new.end_told (facts_in locked.old.me.0))) (caller_in locked.old.me.0) }
+{
+    let end = alone.end();
+    let cursor = alone.cursor();
+    steps.store::<WritesEnd>(locked, 1, end);
+    steps.store::<WritesCursor>(locked, 2, cursor);
+}
+
+/// Adds a record of the call to the journal and to what the caller knows, and lets the caller go. What is passed
+/// beside the seat is for the proof alone.
+pub(crate) fn add_record<C: Recorded, D: Disk, X, Y>(
+    steps: &Steps,
+    locked: &mut PassSeat,
+    _alone: &Alone<D>,
+    _call: &X,
+    _answer: &Y,
+) -> PassSeat
+    requires tables { (locked.old.table_id ≡ steps.now.table_id) × (steps.now.table_id.words ≡ 4) }
+    requires view { IsCalling locked.old.me }
+
+    ensures tables { (locked.new.table_id ≡ locked.old.table_id) × (result.table_id ≡ locked.old.table_id) }
+    ensures locked { locked.new.me ≡ locked_of (with_record (facts_in locked.old.me.0) (made_by (caller_in locked.old.me.0).number C.one)) }
+    ensures pass { result.me ≡ pass_of (after_call (facts_in locked.old.me.0) (caller_in locked.old.me.0) C.one) }
+{
+    steps.load::<Records<C>>(locked, 0);
+    steps.split_seat::<Admits>(locked)
+}
+
+/// The journal has no record of a number that no pass has.
+pub(crate) fn check_numbers(steps: &Steps, locked: &mut PassSeat)
+    requires tables { (locked.old.table_id ≡ steps.now.table_id) × (steps.now.table_id.words ≡ 4) }
+    requires view { IsLocked locked.old.me }
+
+    ensures same { (locked.new.table_id ≡ locked.old.table_id) × (locked.new.me ≡ locked.old.me) }
+    ensures none { Fresh (facts_in locked.old.me.0) }
+{
+    steps.load::<Learns>(locked, 0);
+}
+
+/// What a pass knows is right. The pass is used up.
+pub(crate) fn check_pass(steps: &Steps, locked: &mut PassSeat, seat: PassSeat)
+    requires tables { (locked.old.table_id ≡ steps.now.table_id) × (seat.table_id ≡ steps.now.table_id) × (steps.now.table_id.words ≡ 4) }
+    requires views { IsLocked locked.old.me × IsPass seat.me }
+
+    ensures same { (locked.new.table_id ≡ locked.old.table_id) × (locked.new.me ≡ locked.old.me) }
+    ensures knew { Knows (facts_in locked.old.me.0) (pass_in seat.me.0) }
+{
+    steps.join_seat::<Admits>(locked, seat);
+    steps.load::<Learns>(locked, 0);
+    let _seat = steps.split_seat::<Admits>(locked);
+}
+
+/// Lets one pass know what another has seen.
+pub(crate) fn merge(steps: &Steps, seat: &mut PassSeat, other: &mut PassSeat)
+    requires tables { (seat.old.table_id ≡ steps.now.table_id) × (other.old.table_id ≡ steps.now.table_id) × (steps.now.table_id.words ≡ 4) }
+    requires views { IsPass seat.old.me × IsPass other.old.me }
+
+    ensures same { (other.new.table_id ≡ other.old.table_id) × (other.new.me ≡ other.old.me) × (seat.new.table_id ≡ seat.old.table_id) }
+    ensures merged { seat.new.me ≡ pass_of (compared_pass (merged (pass_in seat.old.me.0) (pass_in other.old.me.0))) }
+    ensures first { IsPrefix (pass_in seat.old.me.0).seen (pass_in seat.new.me.0).seen }
+    ensures second { IsPrefix (pass_in other.old.me.0).seen (pass_in seat.new.me.0).seen }
+    ensures own { own_of (pass_in seat.old.me.0).number (pass_in seat.new.me.0).seen ≡ (pass_in seat.old.me.0).own }
+{
+    let copy = steps.split_seat::<Merges>(other);
+    steps.join_seat::<Merges>(seat, copy);
+    steps.load::<Compares>(seat, 0);
+}
+
+/// Loads the word of the end.
+pub(crate) fn load_end(steps: &Steps, seat: &mut PassSeat) -> u64
+    requires tables { (seat.old.table_id ≡ steps.now.table_id) × (steps.now.table_id.words ≡ 4) }
+    requires view { IsPass seat.old.me }
+
+    ensures same { seat.new.table_id ≡ seat.old.table_id }
+    ensures end { seat.new.me ≡ pass_of (knowing_end result (pass_in seat.old.me.0)) }
+    ensures grown { ((pass_in seat.old.me.0).end_known ≤ result) × (result ≤ 2 ^ 63) }
+{
+    steps.load::<LoadsEnd>(seat, 1)
+}
+
+/// Loads the word of the cursor.
+pub(crate) fn load_cursor(steps: &Steps, seat: &mut PassSeat) -> u64
+    requires tables { (seat.old.table_id ≡ steps.now.table_id) × (steps.now.table_id.words ≡ 4) }
+    requires view { IsPass seat.old.me }
+
+    ensures same { seat.new.table_id ≡ seat.old.table_id }
+    ensures cursor { seat.new.me ≡ pass_of (knowing_cursor result (pass_in seat.old.me.0)) }
+    ensures grown { (pass_in seat.old.me.0).cursor_known ≤ result }
+{
+    steps.load::<LoadsCursor>(seat, 2)
+}

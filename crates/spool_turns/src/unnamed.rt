@@ -1,0 +1,129 @@
+//! A desk that is to be shared.
+ghost use Rattle.std.specs.Prelude.{◌≡◌, [], false, IfOk, IfErr};
+ghost use Rattle.spool_log.specs.Memory.{run_of};
+ghost use Rattle.desk_access.specs.Alone.{alone_at};
+ghost use Rattle.spool_turns.specs.Rules.{first_view};
+ghost use Rattle.spool_turns.specs.Replays.{IsExact};
+
+use crate::naming::Naming;
+use crate::pass::Pass;
+use crate::rule::{PassSeat, SeatTable};
+use crate::shared::Shared;
+use crate::steps::make_pass;
+use crate::turn::Turn;
+use desk_access::{Access, Alone, Desk};
+use edge_disk::Disk;
+use std::alloc::Global;
+use std::marker::PhantomData;
+use std::sync::Mutex;
+
+/// There was no memory. The desk is given back.
+#[derive(Drop)]
+pub struct NoShare<D: Disk> {
+    pub desk: Desk<D>,
+}
+
+/// A shared desk and its passes, in the order of their numbers.
+#[derive(Drop)]
+pub struct Opened<D: Disk, J: Naming> {
+    pub shared: Shared<D, J>,
+    pub passes: Vec<Pass<J>>,
+}
+
+/// A desk with a table of seats, which has no name yet.
+///
+/// The type of what lies under the lock has the desk's name, and a name can't stand in the types of the call that picks
+/// it. So a desk is shared in two steps: [`Unnamed::new`], and [`Unnamed::named`] in a function that is generic in the
+/// name.
+#[derive(Drop)]
+pub struct Unnamed<D: Disk> {
+    pub alone: Alone<D>,
+    pub(crate) table: SeatTable,
+    pub(crate) locked: PassSeat,
+    /// How often the spool was opened for storing.
+    pub run: u32,
+    pub ghost run_is: { run ≡ run_of alone.desk.spool.memory },
+    pub ghost none_held: { alone.desk.ids.held ≡ [] },
+    pub ghost words: { table.shared.table_id.words ≡ 4 },
+    pub ghost seated: { locked.table_id ≡ table.shared.table_id },
+    pub ghost first: { locked.me ≡ (first_view (alone.end_told, alone.cursor_told), []) },
+    pub ghost exact: { IsExact D.tells (alone_at alone) },
+}
+
+impl<D: Disk> Unnamed<D> {
+    ghost use Rattle.spool_state.specs.SpoolState.{SpoolState};
+    ghost use Rattle.spool_log.specs.State.{view, IsIn};
+    ghost use Rattle.desk_access.specs.Desk.{desk_of};
+    ghost use Rattle.desk_access.specs.Alone.{HoldsNone, IsAt};
+    ghost use Rattle.spool_turns.specs.Passes.{fresh};
+    ghost use Rattle.spool_turns.specs.Named.{IsName};
+
+    /// A table of seats beside the desk. Its spool isn't in doubt, and its ids are of the spool's run and hold none. A
+    /// state that the spool is in is the desk's. The error comes only for want of memory.
+    pub fn new(alloc: Global, desk: Desk<D>) -> Result<Unnamed<D>, NoShare<D>>
+        requires sure { desk.spool.doubt ≡ false }
+        requires ids { HoldsNone (run_of desk.spool.memory) desk.ids }
+
+        ensures desk { IfOk result (λ unnamed. unnamed.alone.desk ≡ desk) }
+        ensures at { IfOk result (λ unnamed. (s : SpoolState) → D.tells → IsIn s [] (view desk.spool.memory desk.spool.doubt (D.moment desk.spool.disk))
+            → IsAt (desk_of s [] desk.ids) (alone_at unnamed.alone)) }
+        ensures err { IfErr result (λ refused. refused.desk ≡ desk) }
+    {
+        let mut alone = Alone::new(desk);
+        let end = alone.end();
+        let cursor = alone.cursor();
+        let Ok((table, locked)) = SeatTable::of_words(alloc, &[0, end, cursor, 0], &(end, cursor))
+        else {
+            return Err(NoShare {
+                desk: alone.into_desk(),
+            });
+        };
+        let run = alone.desk.spool.run();
+        Ok(Unnamed {
+            alone,
+            table,
+            locked,
+            run,
+        })
+    }
+
+    /// The shared desk under a name that is its own, and so many passes, which have seen nothing and have the numbers
+    /// from 0 on. The one with the greatest number may confirm. The error comes only for want of memory.
+    pub fn named<J: Naming>(self, alloc: Global, seats: u32) -> Result<Opened<D, J>, NoShare<D>>
+        requires seats { seats ≡ J.seats }
+        requires name { IsName J.table J.run J.start J.began self }
+
+        ensures passes { IfOk result (λ opened. opened.passes.items ≡ fresh 0 seats self.alone.end_told self.alone.cursor_told) }
+        ensures err { IfErr result (λ refused. refused.desk ≡ self.alone.desk) }
+    {
+        let Unnamed {
+            alone,
+            table,
+            mut locked,
+            run,
+        } = self;
+        let Ok(mut passes) = Vec::with_capacity(alloc, seats as usize) else {
+            return Err(NoShare {
+                desk: alone.into_desk(),
+            });
+        };
+        for i in 0..seats {
+            let seat = make_pass(&table.shared, &mut locked, u64::from(i));
+            passes.push_reserved(Pass {
+                seat,
+                of: PhantomData,
+            });
+        }
+        let turn = Turn {
+            alone,
+            locked,
+            of: PhantomData,
+        };
+        let shared = Shared {
+            table,
+            turn: Mutex::new(turn),
+            run,
+        };
+        Ok(Opened { shared, passes })
+    }
+}
