@@ -307,10 +307,10 @@ kept_window h new u k = λ i. record {
   beside = k.beside_is i;
 }
 
-pub kept_feed : (h new : Held) (u piece : List ℕ) → FillsWith h u → Kept h new u → FeedsWith h u piece (Err NoMemory) new
-kept_feed h new u piece f k = record {
+pub kept_feed : (h new : Held) (u piece : List ℕ) → FillsWith h u → h.fault ≡ None → Kept h new u → FeedsWith h u piece (Err NoMemory) new
+kept_feed h new u piece f sound k = record {
   fills = kept_fills h new u f k;
-  feeds = kept_window h new u k;
+  feeds = (kept_window h new u k, sound);
   room = (let a = k.at_is in let b = k.read_is in let v : length new.unread.items ≡ length u = ap length k.unread_is in omega (arith, a, b, v));
 }
 

@@ -20,6 +20,7 @@ pub mod LineVerdictLaws
 pub mod BodyVerdictLaws
 pub mod SomeReadingLaws
 pub mod OpenBodyLaws
+pub mod LinePartLaws
 pub mod PartLaws
 pub mod ScanLaws
 pub mod CutLaws

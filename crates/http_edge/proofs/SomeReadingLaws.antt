@@ -1,9 +1,12 @@
 -- All bytes are whole requests, and an unfinished one or none, or one at fault.
 use Rattle.std.proofs.Common.{◌≡◌, ℕ, zero, suc, ◌+◌, ◌<◌, ◌≤◌, List, [], ◌++◌, length, refl, sym, ap, ◌∙◌, subst, arith, inl, inr, length-append, append_assoc, append-nil}
-use Rattle.std.specs.Prelude.{◌⊎◌}
+use Rattle.std.specs.Prelude.{◌⊎◌, Option, Some, None}
 use Rattle.std.proofs.lemmas.Bool.{cases_lt}
 use Rattle.std.proofs.lemmas.List.{take_all}
 use Rattle.httparse.specs.Grammar.{RequestHead, print_request}
+use Rattle.stream_grammar.specs.Laws.{SomeReading}
+use Rattle.stream_grammar.specs.Reading.{Drops, ReadsTo}
+use Rattle.http_edge.specs.declared.fault.HttpFault.{HttpFault}
 use Rattle.http_edge.specs.declared.fault.HttpWhy.{HttpWhy}
 use Rattle.http_edge.specs.declared.fault.HttpWhy.TheVariants.{BadHead, BadLength, TooLong, BadChunk}
 use Rattle.http_edge.specs.declared.request.HttpItem.{HttpItem}
@@ -12,7 +15,7 @@ use Rattle.http_edge.specs.Heads.{IsOpenHead}
 use Rattle.http_edge.specs.Lengths.{size_of}
 use Rattle.http_edge.specs.Bodies.{IsBody}
 use Rattle.http_edge.specs.HttpStream.{BeginsWith, IsRequest, IsOpen, IsFault, AreRequests, request_of, items_of, told_of}
-use Rattle.http_edge.specs.Laws.{HasReading, SomeReading}
+use Rattle.http_edge.specs.Reading.{http}
 use Rattle.http_edge.proofs.BuildLaws.{some_head}
 use Rattle.http_edge.proofs.StreamLaws.{no_requests, requests_then, one_request}
 use Rattle.http_edge.proofs.LineVerdictLaws.{HeadTurn, head_turn}
@@ -28,11 +31,16 @@ requests_push fed x more items at r a is =
 request_is : (rest text front : List ℕ) (h : RequestHead) (body : List ℕ) → BeginsWith rest h text → IsBody (size_of h) body front → IsRequest (request_of h body) (print_request h ++ front)
 request_is rest text front h body b is = record { head = h; text = front; begins = record { holds = record { reads = (b.holds.reads.0, refl); few = b.holds.few }; short = b.short }; request_is = refl; body = is }
 
+abbrev HasReading : List ℕ → Type 0
+HasReading fed = (items : List HttpItem) × (at : ℕ) × (held : List ℕ) × (fault : Option HttpFault) × ReadsTo http Drops fed items at held fault
+
 opens : (fed rest : List ℕ) (items told : List HttpItem) (at : ℕ) → AreRequests fed items at rest → IsOpen rest told → HasReading fed
-opens fed rest items told at a o = inl (items ++ told, at, rest, record { before = items; told = told; requests = a; items_are = refl; going = o })
+opens fed rest items told at a o = (items ++ told, at, rest, None, record { before = items; told = told; requests = a; items_are = refl; going = o })
 
 fails : (fed rest : List ℕ) (items told : List HttpItem) (at offset : ℕ) (why : HttpWhy) → AreRequests fed items at rest → IsFault rest why offset told → HasReading fed
-fails fed rest items told at offset why a f = inr (items ++ told, at, at + offset, why, record { before = items; told = told; rest = rest; offset = offset; requests = a; items_are = refl; place_is = refl; fault = f })
+fails fed rest items told at offset why a f =
+    let e : HttpFault = record { at = at + offset; why = why } in
+    (items ++ told, at, [], Some e, ([], record { before = items; told = told; rest = rest; offset = offset; requests = a; items_are = refl; place_is = refl; fault = f }, refl))
 
 -- requests, and fewer than n bytes after them
 reading_on : (n : ℕ) (fed rest : List ℕ) (items : List HttpItem) (at : ℕ) → length rest < n → AreRequests fed items at rest → HasReading fed
@@ -59,5 +67,5 @@ reading_on (suc n) fed rest items at short a = go (λ more now place less reques
             let j = some_head h in
             ih more (items ++ items_of r) (at + length x) (omega (arith, m, k, j, short)) (requests_push fed x more items at r (subst (AreRequests fed items at) whole a) (request_is rest text front h body b is))
 
-pub some_reading : SomeReading
+pub some_reading : SomeReading http Drops
 some_reading fed = reading_on (length fed + 1) fed fed [] 0 (omega arith) (no_requests fed)

@@ -27,7 +27,7 @@ feeds_ok old new piece n e x = (e, x.0, x.1)
 
 pub feeds_err : (old new : Window) (piece : List ℕ) (n : ℕ) (r : FeedFault HttpFault) → n ≡ taken_of old piece → old.reading.fault ≡ None → FeedsTo old (take n piece) (Err r) new → Feeds old piece (Err r) new
 feeds_err old new piece n (Fault f) e clean x = (x.0, λ _. subst (λ (k : ℕ). ReadsOn old (take k piece) new) e x.1)
-feeds_err old new piece n NoMemory e clean x = (x, clean)
+feeds_err old new piece n NoMemory e clean x = x
 
 -- how far the stream has come
 pub room_after : (h new : Held) (piece : List ℕ) (n count : ℕ) (r : Result (Unit {0}) (FeedFault HttpFault)) → Fills h → count ≡ counted h → n ≡ min (length piece) (1064960 - count) → FeedsHeld h (take n piece) r new → new.at + come (window_of new).reading ≤ h.at + come (window_of h).reading + taken_of (window_of h) piece

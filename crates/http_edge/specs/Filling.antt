@@ -1,8 +1,8 @@
 -- What a window's parts keep to, and how they are changed.
-use Rattle.std.specs.Prelude.{◌≡◌, ℕ, ◌+◌, ◌-◌, ◌≤◌, ◌<◌, ◌^◌, List, [], ◌∷◌, ◌++◌, length, drop, slice_range, Option, Some, None, Result, Ok, Err}
+use Rattle.std.specs.Prelude.{◌≡◌, ℕ, ◌+◌, ◌-◌, ◌≤◌, ◌<◌, ◌^◌, List, [], ◌∷◌, ◌++◌, length, drop, slice_range, Option, Some, None, Result}
 use Rattle.std.specs.Vec.{vec_capacity}
 use Rattle.event_form.specs.declared.feed_fault.FeedFault.{FeedFault}
-use Rattle.event_form.specs.declared.feed_fault.FeedFault.TheVariants.{Fault, NoMemory}
+use Rattle.stream_grammar.specs.Feeding as feeding
 use Rattle.http_edge.specs.declared.fault.HttpFault.{HttpFault}
 use Rattle.http_edge.specs.declared.held.Held.{Held}
 use Rattle.http_edge.specs.declared.left.Left.{Left}
@@ -11,15 +11,24 @@ use Rattle.http_edge.specs.declared.waiting.Waiting.TheVariants.{Continue, Reque
 use Rattle.http_edge.specs.declared.limits.TheConstants.{MOST_HEAD, ROOM}
 use Rattle.http_edge.specs.Keeping.{moved}
 use Rattle.http_edge.specs.Parts.{IsPart}
-use Rattle.http_edge.specs.Reading.{Reading, ReadsOn}
+use Rattle.http_edge.specs.Reading.{Reading}
 use Rattle.http_edge.specs.Scanning.{IsBegun}
 use Rattle.http_edge.specs.Steps.{Fits}
 use Rattle.http_edge.specs.Waits.{AreHeads, bodies_of, heads_of, items_in}
-use Rattle.http_edge.specs.Window.{Window}
+use Rattle.http_edge.specs.Window.{Window, Reads, fault_of}
 
 -- what has been read of the stream
 abbrev pub reading_of : Held → Reading
-reading_of h = record { waiting = items_in h.queue.items (slice_range h.bytes.items h.from h.whole); at = h.at; begun = h.begun; stage = h.stage; body = drop h.whole h.bytes.items; read = h.read; unread = h.unread.items; fault = h.fault }
+reading_of h = record {
+  waiting = items_in h.queue.items (slice_range h.bytes.items h.from h.whole);
+  at = h.at;
+  begun = h.begun;
+  stage = h.stage;
+  body = drop h.whole h.bytes.items;
+  read = h.read;
+  unread = h.unread.items;
+  fault = h.fault;
+}
 
 -- the same, where these bytes aren't read
 abbrev pub reading_with : Held → List ℕ → Reading
@@ -101,9 +110,7 @@ pub record Settles (old : Held) (base : ℕ) (more : List ℕ) (l : Left) (new :
 
 -- what a window has read after a piece
 abbrev pub FeedsTo : Window → List ℕ → Result (Unit {0}) (FeedFault HttpFault) → Window → Type 0
-FeedsTo old piece (Ok u) new = (new.reading.fault ≡ None) × ReadsOn old.reading piece new.reading
-FeedsTo old piece (Err (Fault e)) new = (new.reading.fault ≡ Some e) × ReadsOn old.reading piece new.reading
-FeedsTo old piece (Err NoMemory) new = new ≡ old
+FeedsTo = feeding.Feeds Reads fault_of
 
 -- what is held after a piece, where these bytes weren't read
 pub record FeedsWith (old : Held) (unread piece : List ℕ) (r : Result (Unit {0}) (FeedFault HttpFault)) (new : Held) : Type 0 where

@@ -19,7 +19,9 @@ RequestsOnce = (r s : HttpRequest) (x y a b : List ℕ) → IsRequest r x → Is
 
 -- Where bytes are read without a fault, they alone decide the items, the offset and the rest.
 abbrev pub OneReading : Type 0
-OneReading = (fed : List ℕ) (items others : List HttpItem) (m n : ℕ) (rest last : List ℕ) → IsStream fed items m rest → IsStream fed others n last → (items ≡ others) × (m ≡ n) × (rest ≡ last)
+OneReading =
+    (fed : List ℕ) (items others : List HttpItem) (m n : ℕ) (rest last : List ℕ)
+    → IsStream fed items m rest → IsStream fed others n last → (items ≡ others) × (m ≡ n) × (rest ≡ last)
 
 -- The bytes end inside a request's target, and no head can come of them: the target is no text, and no bytes
 -- that follow make it one. The definitions leave open whether that is a fault before the target's end.
@@ -34,7 +36,8 @@ AreBothReasons why other = ((why ≡ BadHead) × (other ≡ TooLong)) ⊎ ((why 
 -- a request's first 16,384 bytes are left open.
 abbrev pub OneFault : Type 0
 OneFault =
-    (fed : List ℕ) (items others : List HttpItem) (m n place other_place : ℕ) (why other : HttpWhy) → IsFaulty fed items m place why → IsFaulty fed others n other_place other
+    (fed : List ℕ) (items others : List HttpItem) (m n place other_place : ℕ) (why other : HttpWhy)
+    → IsFaulty fed items m place why → IsFaulty fed others n other_place other
     → (items ≡ others) × (m ≡ n) × (place ≡ other_place) × ((why ≡ other) ⊎ (AreBothReasons why other × IsLeftOpen (take MOST_HEAD (drop m fed))))
 
 -- Bytes with a fault have no reading without one, but where the unfinished request's bytes are left open.
@@ -50,16 +53,6 @@ abbrev pub BothReadings : Type 0
 BothReadings =
     (fed : List ℕ) (items : List HttpItem) (m : ℕ) (rest : List ℕ) → AreRequests fed items m rest → IsLeftOpen (take MOST_HEAD rest)
     → IsFaulty fed items m m BadHead × (length rest < MOST_HEAD → IsStream fed items m rest) × (MOST_HEAD ≤ length rest → IsFaulty fed items m m TooLong)
-
--- whole requests, and an unfinished one or none, or one at fault
-abbrev pub HasReading : List ℕ → Type 0
-HasReading fed =
-    ((items : List HttpItem) × (at : ℕ) × (rest : List ℕ) × IsStream fed items at rest)
-    ⊎ ((items : List HttpItem) × (at : ℕ) × (place : ℕ) × (why : HttpWhy) × IsFaulty fed items at place why)
-
--- All bytes have a reading.
-abbrev pub SomeReading : Type 0
-SomeReading = (fed : List ℕ) → HasReading fed
 
 -- the text is a whole body and what follows it
 abbrev pub BeginsWithBody : BodySize → List ℕ → Type 0
@@ -108,7 +101,9 @@ WholeBodies = (size : BodySize) (body text : List ℕ) → IsBody size body text
 -- A text is open exactly where bytes can follow that make it a body by the standard, and it neither begins
 -- with a whole body nor is at fault.
 abbrev pub OpenBodies : Type 0
-OpenBodies = (size : BodySize) (text : List ℕ) → IsOpenBody size text ↔ (((more : List ℕ) × IsAnyBody size (text ++ more)) × (BeginsWithBody size text → ⊥) × (IsBodyFault size text → ⊥))
+OpenBodies =
+    (size : BodySize) (text : List ℕ)
+    → IsOpenBody size text ↔ (((more : List ℕ) × IsAnyBody size (text ++ more)) × (BeginsWithBody size text → ⊥) × (IsBodyFault size text → ⊥))
 
 -- What a whole body begins with is open, until the body is whole.
 abbrev pub FrontsAreOpen : Type 0

@@ -1,5 +1,6 @@
 -- What a window is once the item that it lent is given back.
-use Rattle.std.specs.Prelude.{◌≡◌, ℕ, ◌++◌, ◌≤◌, List, [], ◌∷◌}
+use Rattle.std.specs.Prelude.{◌≡◌, ◌≤◌, [], ◌∷◌}
+use Rattle.stream_grammar.specs.Feeding.{GivesOn}
 use Rattle.http_edge.specs.declared.request.HttpItem.{HttpItem}
 use Rattle.http_edge.specs.declared.item.ItemRef.{ItemRef}
 use Rattle.http_edge.specs.declared.item.ItemRef.TheVariants as lent
@@ -20,4 +21,4 @@ pub record GivesItem (old : Window) (i : HttpItem) (new : Window) : Type 0 where
   pub at_is : new.reading.at ≡ old.reading.at
   pub come_is : come new.reading ≡ come old.reading
   pub less : held_of new ≤ held_of old
-  pub reads : (fed : List ℕ) (given : List HttpItem) → Reads fed given old → Reads fed (given ++ i ∷ []) new
+  pub reads : GivesOn Reads old (i ∷ []) new

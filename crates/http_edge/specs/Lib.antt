@@ -13,6 +13,7 @@ pub mod Gathering
 pub mod Scanning
 pub mod Keeping
 pub mod Laws
+pub mod LineParts
 pub mod Parts
 pub mod Waits
 pub mod Cutting

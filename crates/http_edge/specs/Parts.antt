@@ -1,26 +1,11 @@
 -- How far a head has been read that isn't whole (RFC 9112, sections 2, 3 and 5).
-use Rattle.std.specs.Prelude.{◌≡◌, ℕ, ◌+◌, ◌<◌, ◌≤◌, All, List, [], ◌∷◌, ◌++◌, length}
-use Rattle.std.specs.List.{flat_map}
-use Rattle.httparse.specs.Ascii.{carriage_return, colon, space}
-use Rattle.httparse.specs.Grammar.{is_uri_byte, is_value_byte, AllPass, IsToken, LineEnd, print_end, print_blank, print_version, Field, IsField, print_field, RequestHead, IsRequestHead}
+use Rattle.std.specs.Prelude.{◌≡◌, ℕ, ◌+◌, ◌≤◌, List, [], ◌∷◌, ◌++◌, length}
+use Rattle.httparse.specs.Ascii.{carriage_return, space}
+use Rattle.httparse.specs.Grammar.{is_uri_byte, AllPass, IsToken, LineEnd, print_end, print_blank, print_version, RequestHead, IsRequestHead}
 use Rattle.http_edge.specs.declared.part.HeadPart.{HeadPart}
 use Rattle.http_edge.specs.declared.part.HeadPart.TheVariants.{Blank, Return, Method, Target, Fields, Other}
-use Rattle.http_edge.specs.declared.part.LinePart.{LinePart}
-use Rattle.http_edge.specs.declared.part.LinePart.TheVariants as line
-use Rattle.http_edge.specs.declared.limits.TheConstants.{MOST_FIELDS}
 use Rattle.http_edge.specs.Heads.{IsOpenHead}
-
--- a name, a colon, and a value or the beginning of one
-abbrev pub IsOpenField : List ℕ → Type 0
-IsOpenField t = (name : List ℕ) × (raw : List ℕ) × IsToken name × AllPass is_value_byte raw × (t ≡ name ++ colon ∷ raw)
-
--- what has been read of the line after so many field lines
-abbrev pub IsLinePart : LinePart → ℕ → List ℕ → Type 0
-IsLinePart line.Begin n t = t ≡ []
-IsLinePart line.Return n t = t ≡ carriage_return ∷ []
-IsLinePart line.Name n t = (n < MOST_FIELDS) × IsToken t
-IsLinePart line.Value n t = (n < MOST_FIELDS) × IsOpenField t
-IsLinePart line.End n t = (n < MOST_FIELDS) × ((u : List ℕ) × IsOpenField u × (t ≡ u ++ carriage_return ∷ []))
+use Rattle.http_edge.specs.LineParts.{AreLines}
 
 -- the version and the end of a start line
 abbrev pub IsVersion : List ℕ → Type 0
@@ -38,7 +23,5 @@ IsPart Method b = (ends : List LineEnd) × (method : List ℕ) × IsToken method
 IsPart (Target from) b =
     (ends : List LineEnd) × (method : List ℕ) × (target : List ℕ) × IsToken method × AllPass is_uri_byte target
     × (b ≡ (print_blank ends ++ method) ++ space ∷ target) × (from ≡ length (print_blank ends ++ method) + 1)
-IsPart (Fields count part) b =
-    (h : RequestHead) × (fields : List Field) × (t : List ℕ) × IsRequestHead h × All IsField fields × (length fields ≡ count) × (count ≤ MOST_FIELDS)
-    × IsLinePart part count t × (b ≡ after_start h (flat_map print_field fields ++ t))
+IsPart (Fields lines) b = (h : RequestHead) × (s : List ℕ) × IsRequestHead h × AreLines lines s × (b ≡ after_start h s)
 IsPart Other b = IsOpenHead b

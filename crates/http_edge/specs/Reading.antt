@@ -1,8 +1,10 @@
 -- What has been read of a stream, and what is held of it.
-use Rattle.std.specs.Prelude.{◌≡◌, ℕ, ◌+◌, ◌++◌, List, [], length, Option, Some, None, Result, Ok, Err, ◌<◌}
+use Rattle.std.specs.Prelude.{◌≡◌, ℕ, ◌+◌, ◌++◌, List, [], length, Option, Some, None, Result, ◌<◌}
 use Rattle.httparse.specs.Grammar.{RequestHead, print_request}
 use Rattle.event_form.specs.declared.feed_fault.FeedFault.{FeedFault}
-use Rattle.event_form.specs.declared.feed_fault.FeedFault.TheVariants.{Fault, NoMemory}
+use Rattle.stream_grammar.specs.Feeding as feeding
+use Rattle.stream_grammar.specs.Reading as stream
+use Rattle.stream_grammar.specs.Reading.{Format, Holding, in_parts}
 use Rattle.http_edge.specs.declared.request.HttpItem.{HttpItem}
 use Rattle.http_edge.specs.declared.fault.HttpFault.{HttpFault}
 use Rattle.http_edge.specs.declared.head.Head.{Head}
@@ -50,10 +52,18 @@ Holds (Some head) stage body read unread rest =
     (h : RequestHead) × (front : List ℕ) × BeginsWith rest h (front ++ unread) × (head ≡ head_of h)
     × Reaches (size_of h) stage body front × Awaits stage unread × (read ≡ length (print_request h) + length front)
 
+-- A stream is items and an unfinished request, or items and a request at fault. What of that one stands before the
+-- fault is held by nobody, and isn't said.
+abbrev pub http : Format HttpItem HttpFault
+http = record { IsWhole = IsStream; IsFaulty = λ b items at rest e. IsFaulty b items at e.at e.why }
+
+-- an unfinished request is held in its parts, and of one at fault nothing is
+abbrev pub parts : Holding Reading
+parts = in_parts (λ rest (r : Reading). Holds r.begun r.stage r.body r.read r.unread rest) (λ (r : Reading). come r ≡ 0)
+
 -- the bytes are these items, and an unfinished request that is held, or a fault
 abbrev pub ReadsTo : List ℕ → List HttpItem → Reading → Option HttpFault → Type 0
-ReadsTo fed items r None = (rest : List ℕ) × IsStream fed items r.at rest × Holds r.begun r.stage r.body r.read r.unread rest
-ReadsTo fed items r (Some e) = IsFaulty fed items r.at e.at e.why × (come r ≡ 0)
+ReadsTo fed items r = stream.ReadsTo http parts fed items r.at r
 
 -- the bytes fed so far are the items that were taken, those that wait, and what is held or a fault
 abbrev pub Reads : List ℕ → List HttpItem → Reading → Type 0
@@ -61,10 +71,8 @@ Reads fed taken r = ReadsTo fed (taken ++ r.waiting) r r.fault
 
 -- whatever was read before, that and the piece after it are read now
 abbrev pub ReadsOn : Reading → List ℕ → Reading → Type 0
-ReadsOn old piece new = (fed : List ℕ) (taken : List HttpItem) → Reads fed taken old → Reads (fed ++ piece) taken new
+ReadsOn = feeding.ReadsOn Reads
 
 -- what a call that feeds a piece leaves
 abbrev pub Feeds : Reading → List ℕ → Result (Unit {0}) (FeedFault HttpFault) → Reading → Type 0
-Feeds old piece (Ok u) new = (new.fault ≡ None) × ReadsOn old piece new
-Feeds old piece (Err (Fault e)) new = (new.fault ≡ Some e) × ReadsOn old piece new
-Feeds old piece (Err NoMemory) new = new ≡ old
+Feeds = feeding.Feeds Reads (λ (r : Reading). r.fault)

@@ -60,7 +60,8 @@ cleared from fault = record { from = from; begun = None; size = 0; stage = Plain
 -- what is after the last whole request: an unfinished one, or one at fault
 abbrev pub Leaves : Option HttpFault → ℕ → List ℕ → List HttpItem → Option Head → Stage → List ℕ → ℕ → List ℕ → Type 0
 Leaves None from rest told begun stage body read unread = IsLeft rest told begun stage body read unread
-Leaves (Some e) from rest told begun stage body read unread = (offset : ℕ) × IsFault rest e.why offset told × (e.at ≡ from + offset) × (read ≡ 0) × (unread ≡ [])
+Leaves (Some e) from rest told begun stage body read unread =
+    (offset : ℕ) × IsFault rest e.why offset told × (e.at ≡ from + offset) × (read ≡ 0) × (unread ≡ [])
 
 -- places of faults are within so many bytes
 abbrev pub StandsWithin : Option HttpFault → ℕ → Type 0
@@ -68,7 +69,8 @@ StandsWithin None n = Unit {0}
 StandsWithin (Some e) n = e.at ≤ n
 
 -- what some bytes brought
-pub record ScansTo (b : List ℕ) (items : List HttpItem) (from : ℕ) (begun : Option Head) (stage : Stage) (body : List ℕ) (read : ℕ) (unread : List ℕ) (fault : Option HttpFault) : Type 0 where
+pub record ScansTo (b : List ℕ) (items : List HttpItem) (from : ℕ) (begun : Option Head) (stage : Stage) (body : List ℕ) (read : ℕ) (unread : List ℕ)
+    (fault : Option HttpFault) : Type 0 where
   pub before : List HttpItem
   pub told : List HttpItem
   pub requests : AreRequests b before from (drop from b)

@@ -35,7 +35,8 @@ JudgesTrailer u trailer.Bad = Breaks Trailer u
 -- wherever a body of so many bytes is at the stage, these bytes are its next ones, and bring it to the
 -- other stage
 abbrev pub Takes : Stage → ℕ → Stage → List ℕ → Type 0
-Takes stage held next d = (size : BodySize) (body front : List ℕ) → length body ≡ held → Reaches size stage body front → Reaches size next (body ++ d) (front ++ d)
+Takes stage held next d =
+    (size : BodySize) (body front : List ℕ) → length body ≡ held → Reaches size stage body front → Reaches size next (body ++ d) (front ++ d)
 
 -- the same, where they aren't the body's
 abbrev pub Passes : Stage → ℕ → Stage → List ℕ → Type 0

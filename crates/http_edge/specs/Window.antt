@@ -1,7 +1,8 @@
 -- What a window has read and holds.
-use Rattle.std.specs.Prelude.{◌≡◌, ℕ, ◌+◌, ◌-◌, ◌≤◌, ◌++◌, List, [], ◌∷◌, length, take, min, Option, Some, None, Result, Ok, Err}
+use Rattle.std.specs.Prelude.{◌≡◌, ℕ, ◌+◌, ◌-◌, ◌≤◌, List, [], ◌∷◌, length, min, Option, Some, None, Result}
 use Rattle.event_form.specs.declared.feed_fault.FeedFault.{FeedFault}
-use Rattle.event_form.specs.declared.feed_fault.FeedFault.TheVariants.{Fault, NoMemory}
+use Rattle.stream_grammar.specs.Feeding as feeding
+use Rattle.stream_grammar.specs.Feeding.{FeedsPart}
 use Rattle.http_edge.specs.declared.fault.HttpFault.{HttpFault}
 use Rattle.http_edge.specs.declared.head.Head.{Head}
 use Rattle.http_edge.specs.declared.request.HttpItem.{HttpItem}
@@ -44,13 +45,15 @@ Reads fed given w = reading.Reads fed given w.reading
 
 -- whatever was read before, that and the bytes after it are read now
 abbrev pub ReadsOn : Window → List ℕ → Window → Type 0
-ReadsOn old piece new = (fed : List ℕ) (given : List HttpItem) → Reads fed given old → Reads (fed ++ piece) given new
+ReadsOn = feeding.ReadsOn Reads
+
+-- the fault that was met
+abbrev pub fault_of : Window → Option HttpFault
+fault_of w = w.reading.fault
 
 -- what a call that feeds a piece leaves
 abbrev pub Feeds : Window → List ℕ → Result ℕ (FeedFault HttpFault) → Window → Type 0
-Feeds old piece (Ok n) new = (n ≡ taken_of old piece) × (new.reading.fault ≡ None) × ReadsOn old (take n piece) new
-Feeds old piece (Err (Fault e)) new = (new.reading.fault ≡ Some e) × (old.reading.fault ≡ None → ReadsOn old (take (taken_of old piece) piece) new)
-Feeds old piece (Err NoMemory) new = (new ≡ old) × (old.reading.fault ≡ None)
+Feeds old piece = FeedsPart Reads fault_of (taken_of old piece) old piece
 
 -- the head of a request
 abbrev pub head_part : HttpRequest → Head

@@ -43,6 +43,14 @@ impl Fields {
     {
         self.lines.as_slice()
     }
+
+    /// The value of the first field of this name, ASCII case aside; `None` exactly where no field has the
+    /// name. It takes no memory.
+    pub fn value(&self, name: &[u8]) -> Option<&[u8]>
+        ensures { MatchOption result (field_value name.now self.now ≡ None) (λ value. field_value name.now self.now ≡ Some value.now) }
+    {
+        first_value(self.as_slice(), name)
+    }
 }
 
 /// The value of the first field of a name, ASCII case aside.

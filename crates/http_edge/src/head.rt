@@ -1,12 +1,14 @@
 //! A head that is whole, or not yet.
 ghost use Rattle.std.specs.Prelude.{◌≡◌, ◌≤◌, List, ℕ, length};
+ghost use Rattle.http_edge.specs.Fields.{closes};
 ghost use Rattle.http_edge.specs.declared.limits.TheConstants.{MOST_FIELDS, MOST_HEAD};
 ghost use Rattle.http_edge.specs.LineCount.{at_start};
 ghost use Rattle.http_edge.specs.Steps.{JudgesHead};
+ghost use Rattle.http_edge.specs.Waits.{with_body};
 
 use crate::field::Fields;
 use crate::lines::{AT_START, too_many_lines};
-use crate::request::HttpRequest;
+use crate::request::{HttpRequest, is_last};
 use event_form::Blob;
 use httparse::Status;
 use httparse::spans::{HeaderSpan, RequestSpans, parse_request};
@@ -32,6 +34,14 @@ impl Head {
             fields: self.fields,
             body: Blob::of(body),
         }
+    }
+
+    /// Whether the connection ends with the answer to the request, as [`HttpRequest::closes`] has it. It
+    /// takes no memory.
+    pub fn closes(&self) -> bool
+        ensures { (body : List ℕ) → result ≡ closes (with_body self.now body) }
+    {
+        is_last(self.minor, self.method.bytes(), self.fields.as_slice())
     }
 }
 

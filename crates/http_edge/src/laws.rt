@@ -1,5 +1,9 @@
 //! What holds of the definitions alone. These functions do nothing: each has a law as its contract.
-ghost use Rattle.http_edge.specs.Laws.{BothReadings, FaultOrStream, FaultsStay, FrontsAreOpen, OneFault, OneReading, OpenBodies, PlacesAreOpen, RequestsOnce, SomeBody, SomeReading, WholeBodies};
+ghost use Rattle.stream_grammar.specs.Laws.{SomeReading};
+ghost use Rattle.stream_grammar.specs.Reading.{Drops};
+ghost use Rattle.http_edge.specs.Laws.{BothReadings, FaultOrStream, OneFault, OneReading, RequestsOnce};
+ghost use Rattle.http_edge.specs.Laws.{FaultsStay, FrontsAreOpen, OpenBodies, PlacesAreOpen, SomeBody, WholeBodies};
+ghost use Rattle.http_edge.specs.Reading.{http};
 
 /// No request's bytes are a proper front of another one's, whatever follows.
 pub fn requests_once()
@@ -32,7 +36,7 @@ pub fn both_readings()
 
 /// All bytes have a reading: they are whole requests, and then an unfinished one or none, or one at fault.
 pub fn some_reading()
-    ensures { SomeReading }
+    ensures { SomeReading http Drops }
 {}
 
 /// Every text after a head begins with a whole body, is open, or is at fault.

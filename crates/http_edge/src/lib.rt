@@ -25,6 +25,7 @@ mod laws;
 mod left;
 mod length;
 mod limits;
+mod line_part;
 mod lines;
 mod look;
 mod next;
@@ -50,6 +51,7 @@ pub use laws::{
 };
 pub use length::{Size, body_size};
 pub use limits::{MOST_BODY, MOST_FIELDS, MOST_HEAD, MOST_LINE, ROOM};
+pub use line_part::{LinePart, LinesPart, NO_LINES, after_line};
 pub use lines::{AT_START, LastLine, Lines, too_many_lines};
 pub use look::first_stage;
 pub use next::place;

@@ -1,28 +1,15 @@
 //! How far a head has been read that isn't whole.
 ghost use Rattle.std.specs.Prelude.{◌≡◌, ◌+◌, ◌<◌, ◌≤◌, List, ℕ, [], ◌∷◌, ◌++◌, IfSome, length, take};
 ghost use Rattle.std.specs.Bool.{OnTrue};
-ghost use Rattle.http_edge.specs.declared.part.HeadPart.TheVariants.{Fields, Target};
+ghost use Rattle.http_edge.specs.declared.part.HeadPart.TheVariants.{Target};
 ghost use Rattle.http_edge.specs.declared.limits.TheConstants.{MOST_HEAD};
 ghost use Rattle.http_edge.specs.Heads.{IsOpenHead};
 ghost use Rattle.http_edge.specs.Parts.{IsPart, IsVersion};
 
 use crate::limits::MOST_FIELDS;
-use httparse::{is_header_name_token, is_header_value_token, is_method_token, is_uri_token};
+use crate::line_part::{LinesPart, NO_LINES, after_line};
+use httparse::{is_method_token, is_uri_token};
 use std::str::from_utf8;
-
-/// How far a field line, or the empty line after the fields, has been read.
-#[derive(Clone, Copy, PartialEq, Eq, Debug)]
-pub enum LinePart {
-    Begin,
-    /// CR alone.
-    Return,
-    /// The beginning of a name.
-    Name,
-    /// A name, a colon, and the beginning of a value.
-    Value,
-    /// A name, a colon, a value, and CR.
-    End,
-}
 
 /// How far a head has been read that isn't whole.
 #[derive(Clone, Copy, PartialEq, Eq, Debug)]
@@ -35,71 +22,10 @@ pub enum HeadPart {
     Method,
     /// The same, a space, and the beginning of a target, which stands at this place.
     Target { from: usize },
-    /// The start line, so many field lines, and this of a further line.
-    Fields { count: usize, line: LinePart },
+    /// The start line, and this of the field lines.
+    Fields(LinesPart),
     /// The beginning of a head.
     Other,
-}
-
-// After another byte of a line after so many field lines; `None` where a parser is to judge it.
-fn after_line(count: usize, line: LinePart, byte: u8) -> Option<HeadPart>
-    requires { count ≤ MOST_FIELDS }
-    ensures { IfSome result (λ next. (b : List ℕ) → IsPart (Fields count line) b → IsPart next (b ++ byte ∷ [])) }
-{
-    match line {
-        LinePart::Begin => {
-            if byte == b'\r' {
-                return Some(HeadPart::Fields {
-                    count,
-                    line: LinePart::Return,
-                });
-            }
-            if count < MOST_FIELDS && is_header_name_token(byte) {
-                return Some(HeadPart::Fields {
-                    count,
-                    line: LinePart::Name,
-                });
-            }
-        }
-        LinePart::Return => {}
-        LinePart::Name => {
-            if is_header_name_token(byte) {
-                return Some(HeadPart::Fields { count, line });
-            }
-            if byte == b':' {
-                return Some(HeadPart::Fields {
-                    count,
-                    line: LinePart::Value,
-                });
-            }
-        }
-        LinePart::Value => {
-            if is_header_value_token(byte) {
-                return Some(HeadPart::Fields { count, line });
-            }
-            if byte == b'\r' {
-                return Some(HeadPart::Fields {
-                    count,
-                    line: LinePart::End,
-                });
-            }
-            if byte == b'\n' && count < MOST_FIELDS {
-                return Some(HeadPart::Fields {
-                    count: count + 1,
-                    line: LinePart::Begin,
-                });
-            }
-        }
-        LinePart::End => {
-            if byte == b'\n' && count < MOST_FIELDS {
-                return Some(HeadPart::Fields {
-                    count: count + 1,
-                    line: LinePart::Begin,
-                });
-            }
-        }
-    }
-    None
 }
 
 // How far a head has been read after one more byte, which stands at this place of it; `None` where a
@@ -138,9 +64,10 @@ fn after(part: HeadPart, at: usize, byte: u8) -> Option<HeadPart>
                 return Some(HeadPart::Target { from });
             }
         }
-        HeadPart::Fields { count, line } => {
+        HeadPart::Fields(LinesPart { count, line }) => {
             if count <= MOST_FIELDS {
-                return after_line(count, line, byte);
+                let lines = after_line(count, line, byte)?;
+                return Some(HeadPart::Fields(lines));
             }
         }
         HeadPart::Other => {}
@@ -207,11 +134,7 @@ fn after_target(buf: &[u8], from: usize, to: usize) -> HeadPart
         return HeadPart::Other;
     }
     let fields = &line[end + 1..];
-    let begin = HeadPart::Fields {
-        count: 0,
-        line: LinePart::Begin,
-    };
-    let ran = run(begin, to + end + 1, fields);
+    let ran = run(HeadPart::Fields(NO_LINES), to + end + 1, fields);
     if ran.used < fields.len() {
         return HeadPart::Other;
     }

@@ -1,6 +1,7 @@
 //! A request, and what its fields say.
-ghost use Rattle.std.specs.Prelude.{◌≡◌, MatchOption, Some, None};
+ghost use Rattle.std.specs.Prelude.{◌≡◌, ◌||◌, ◌==◌, codes, MatchOption, Some, None};
 ghost use Rattle.std.specs.List.{list_any};
+ghost use Rattle.std.specs.Str.{bytes_eq};
 ghost use Rattle.http_edge.specs.Fields.{closes, field_value, is_close};
 
 use crate::field::{Field, Fields, first_value};
@@ -41,6 +42,13 @@ fn lists_close(fields: &[Field]) -> bool
     fields.iter().any(|field| is_close(field))
 }
 
+// Whether the connection ends with the answer to a request of this version and method with these fields.
+pub(crate) fn is_last(minor: u8, method: &[u8], fields: &[Field]) -> bool
+    ensures { result ≡ (minor == 0 || bytes_eq method.now (codes "HEAD") || list_any is_close fields.now) }
+{
+    minor == 0 || method == b"HEAD".as_slice() || lists_close(fields)
+}
+
 impl HttpRequest {
     /// The value of the first field of this name, ASCII case aside; `None` exactly where no field has the
     /// name. It takes no memory.
@@ -56,8 +64,6 @@ impl HttpRequest {
     pub fn closes(&self) -> bool
         ensures { result ≡ closes self.now }
     {
-        self.minor == 0
-            || self.method.bytes() == b"HEAD".as_slice()
-            || lists_close(self.fields.as_slice())
+        is_last(self.minor, self.method.bytes(), self.fields.as_slice())
     }
 }

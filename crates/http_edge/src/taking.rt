@@ -60,7 +60,8 @@ impl Held {
     fn read_head(&mut self, alloc: Global, more: &[u8]) -> Result<(), FeedFault<HttpFault>>
         requires fills { Fills self.old }
         requires open { (self.old.fault ≡ None) × (self.old.begun ≡ None) }
-        requires room { self.old.heads + self.old.size + (length self.old.bytes.items - self.old.from) + length self.old.unread.items + length more.now ≤ ROOM + self.old.beside }
+        requires room { self.old.heads + self.old.size + (length self.old.bytes.items - self.old.from) + length self.old.unread.items
+            + length more.now ≤ ROOM + self.old.beside }
         requires place { self.old.at + self.old.read + length self.old.unread.items + length more.now ≤ 2 ^ 40 }
         requires packed { self.old.from ≡ 0 }
         ensures { FeedsHeld self.old more.now result self.new }
@@ -147,7 +148,8 @@ impl Held {
     fn read_body(&mut self, alloc: Global, more: &[u8]) -> Result<(), FeedFault<HttpFault>>
         requires fills { Fills self.old }
         requires begun { (self.old.fault ≡ None) × IsSome self.old.begun }
-        requires room { self.old.heads + self.old.size + (length self.old.bytes.items - self.old.from) + length self.old.unread.items + length more.now ≤ ROOM + self.old.beside }
+        requires room { self.old.heads + self.old.size + (length self.old.bytes.items - self.old.from) + length self.old.unread.items
+            + length more.now ≤ ROOM + self.old.beside }
         requires place { self.old.at + self.old.read + length self.old.unread.items + length more.now ≤ 2 ^ 40 }
         requires packed { self.old.from ≡ 0 }
         ensures { FeedsHeld self.old more.now result self.new }
@@ -168,7 +170,8 @@ impl Held {
     pub fn read(&mut self, alloc: Global, more: &[u8]) -> Result<(), FeedFault<HttpFault>>
         requires fills { Fills self.old }
         requires fault { self.old.fault ≡ None }
-        requires room { self.old.heads + self.old.size + (length self.old.bytes.items - self.old.from) + length self.old.unread.items + length more.now ≤ ROOM + self.old.beside }
+        requires room { self.old.heads + self.old.size + (length self.old.bytes.items - self.old.from) + length self.old.unread.items
+            + length more.now ≤ ROOM + self.old.beside }
         requires place { self.old.at + self.old.read + length self.old.unread.items + length more.now ≤ 2 ^ 40 }
         requires packed { self.old.from ≡ 0 }
         ensures { FeedsHeld self.old more.now result self.new }

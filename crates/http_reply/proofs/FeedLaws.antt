@@ -1,5 +1,5 @@
 -- What a reader has read after a piece.
-use Rattle.std.proofs.Common.{◌≡◌, ℕ, ◌+◌, List, [], ◌++◌, length, take, drop, refl, sym, ap, ◌∙◌, subst, arith, inr, length-append, length-take-le, append_assoc, append-nil, take-append-drop, zero-add}
+use Rattle.std.proofs.Common.{◌≡◌, ℕ, ◌+◌, List, [], ◌++◌, length, take, drop, refl, sym, ap, ◌∙◌, subst, arith, inl, inr, ◌<◌, length-append, length-take-le, append_assoc, append-nil, take-append-drop, zero-add}
 use Rattle.std.specs.Prelude.{Option, Some, None, IsSome, Result, Ok, Err}
 use Rattle.httparse.specs.Grammar.{ResponseHead, print_response}
 use Rattle.event_form.specs.declared.feed_fault.FeedFault.{FeedFault}
@@ -16,13 +16,14 @@ use Rattle.http_edge.specs.Scanning.{place_of}
 use Rattle.http_reply.specs.declared.left.Left.{Left}
 use Rattle.http_reply.specs.declared.reply.HttpReply.{HttpReply}
 use Rattle.http_reply.specs.declared.scan.Scanned.{Scanned}
-use Rattle.http_reply.specs.Heads.{BeginsWith}
+use Rattle.http_reply.specs.Heads.{BeginsWith, IsOpenHead}
 use Rattle.http_reply.specs.Sizes.{size_of}
 use Rattle.http_reply.specs.ReplyStream.{AreReplies, IsStream, IsFaulty, IsFault, IsReply, given_of}
 use Rattle.http_reply.specs.Reading.{Reading, ReadsTo, Reads, Holds, Feeds}
 use Rattle.http_reply.specs.Keeping.{FeedsAll, answer, settled}
-use Rattle.http_reply.specs.Scanning.{IsCleared, Scans, ScansTo}
+use Rattle.http_reply.specs.Scanning.{IsCleared, Leaves, Scans, ScansTo}
 use Rattle.http_reply.proofs.FaultLaws.{begins_more, fault_more}
+use Rattle.http_reply.proofs.OpeningLaws.{open_nil}
 use Rattle.http_reply.proofs.NextLaws.{is_reply, is_open}
 use Rattle.http_reply.proofs.StreamLaws.{replies_then, replies_more_text, one_reply}
 
@@ -179,3 +180,29 @@ after_feeds old all status got used base s waiting new result e b (few, is) plac
 pub reads_waiting : (fed : List ℕ) (given more : List HttpReply) (r : Reading) (waiting : List HttpReply) (fault : Option HttpFault) → given ≡ more → ReadsTo fed given r fault → ReadsTo fed more (record r { waiting = waiting }) fault
 reads_waiting fed given more r waiting None e x = (x.0, subst (λ (v : List HttpReply). IsStream fed v r.at x.0) e x.1, x.2)
 reads_waiting fed given more r waiting (Some f) e x = (subst (λ (v : List HttpReply). IsFaulty fed v r.at f.at f.why) e x.0, x.1)
+
+-- what isn't read of a head is the beginning of one
+pub scan_head : (base : ℕ) (b : List ℕ) (s : Scanned) → Scans base b s → s.left.begun ≡ None → IsOpenHead s.left.unread.items
+scan_head base b s x e = go s.left.fault x.leaves
+  where
+    go : (f : Option HttpFault) → Leaves f (base + s.left.from) (drop s.left.from b) s.left.begun s.left.stage s.left.body.items s.left.read s.left.unread.items → IsOpenHead s.left.unread.items
+    go None y = let h = subst (λ (g : Option ℕ). Holds g s.left.stage s.left.body.items s.left.read s.left.unread.items (drop s.left.from b)) e y.holds in subst IsOpenHead h.0 h.4
+    go (Some f) y = subst IsOpenHead (sym y.4) open_nil
+
+-- a head that goes on
+pub head_feeds : (old : Reading) (piece all : List ℕ) → old.fault ≡ None → old.begun ≡ None → all ≡ old.unread ++ piece → length all < 16384 → IsOpenHead all → Feeds old piece (Ok tt) (record old { unread = all })
+head_feeds old piece all e b f short open_is = (
+  e,
+  λ fed taken r.
+      let x = reads_none fed (taken ++ old.waiting) old e r in
+      let h = subst (λ (g : Option ℕ). Holds g old.stage old.body old.read old.unread x.0) b x.2 in
+      let more = replies_more_text 0 fed piece x.0 (taken ++ old.waiting) old.at x.1.replies in
+      subst (ReadsTo (fed ++ piece) (taken ++ old.waiting) (record old { unread = all })) (sym e) (
+        all,
+        record {
+          replies = subst (λ (v : List ℕ). AreReplies 0 (fed ++ piece) (taken ++ old.waiting) old.at v) (ap (λ (v : List ℕ). v ++ piece) h.0 ∙ sym f) more;
+          going = inl (short, open_is);
+        },
+        subst (λ (g : Option ℕ). Holds g old.stage old.body old.read all all) (sym b) (refl, h.1, h.2, short, open_is),
+      ),
+)

@@ -7,3 +7,4 @@ pub mod FeedLaws
 pub mod OnceLaws
 pub mod VerdictLaws
 pub mod SomeReadingLaws
+pub mod PartLaws

@@ -17,7 +17,9 @@ use Rattle.http_reply.specs.declared.reply.HttpReply.{HttpReply}
 use Rattle.http_reply.specs.Heads.{BeginsWith, HasNoHead, NeverHasHead, IsOpenHead}
 use Rattle.http_reply.specs.Sizes.{size_of}
 use Rattle.http_reply.specs.ReplyStream.{IsReply, AreSpelledFrom, AreReplies, IsOpen, IsFault, given_of}
-use Rattle.http_reply.specs.Laws.{OneReading}
+use Rattle.stream_grammar.specs.Laws.{OneReading}
+use Rattle.stream_grammar.specs.Reading.{Drops}
+use Rattle.http_reply.specs.Reading.{replies}
 
 -- two heads at one front
 pub head_once : (rest : List ℕ) (h k : ResponseHead) (text other : List ℕ) → BeginsWith rest h text → BeginsWith rest k other → (h ≡ k) × (text ≡ other)
@@ -163,20 +165,20 @@ fault_no_open rest why place (inr (h, text, begins, a)) (inr (k, last, also, o))
     go TooLong (long, p) = long_no_open (size_of k) last long o
     go BadChunk (z, (at, bad, p)) = bad_no_open last at bad (subst (λ (v : BodySize). IsOpenBody v last) z o)
 
-pub one_reading : OneReading
-one_reading fed rs ss m n None None (rest, a) (last, b) =
+pub one_reading : OneReading replies Drops
+one_reading fed rs ss m n rest last None None a b =
     let q = one_split fed rs ss m n rest last a.replies b.replies (open_no_reply rest a.going) (open_no_reply last b.going) in
-    (q.0, q.1, refl)
-one_reading fed rs ss m n None (Some e) (rest, a) b =
+    (q.0, q.1, q.2, refl)
+one_reading fed rs ss m n rest last None (Some e) a (none, b, dropped) =
     let q = one_split fed rs ss m n rest b.rest a.replies b.replies (open_no_reply rest a.going) (fault_no_reply b.rest e.why b.offset b.fault) in
     absurd (fault_no_open b.rest e.why b.offset (parted b.rest e.why b.offset b.fault) (subst IsOpen q.2 a.going))
-one_reading fed rs ss m n (Some d) None a (last, b) =
+one_reading fed rs ss m n rest last (Some d) None (none, a, dropped) b =
     let q = one_split fed rs ss m n a.rest last a.replies b.replies (fault_no_reply a.rest d.why a.offset a.fault) (open_no_reply last b.going) in
     absurd (fault_no_open a.rest d.why a.offset (parted a.rest d.why a.offset a.fault) (subst IsOpen (sym q.2) b.going))
-one_reading fed rs ss m n (Some d) (Some e) a b =
+one_reading fed rs ss m n rest last (Some d) (Some e) (none, a, dropped) (other, b, lost) =
     let q = one_split fed rs ss m n a.rest b.rest a.replies b.replies (fault_no_reply a.rest d.why a.offset a.fault) (fault_no_reply b.rest e.why b.offset b.fault) in
     let f : IsFault a.rest e.why b.offset = subst (λ (v : List ℕ). IsFault v e.why b.offset) (sym q.2) b.fault in
     let r = parted_alike a.rest d.why e.why a.offset b.offset (parted a.rest d.why a.offset a.fault) (parted a.rest e.why b.offset f) in
     let place = a.place_is ∙ (λ i. q.1 i + r.0 i) ∙ sym b.place_is in
     let same : ◌≡◌ {A = HttpFault} d e = λ i. record { at = place i; why = r.1 i } in
-    (q.0, q.1, ap (λ (v : HttpFault). Some v) same)
+    (q.0, q.1, dropped ∙ sym lost, ap (λ (v : HttpFault). Some v) same)

@@ -13,7 +13,9 @@ use Rattle.http_reply.specs.declared.reply.HttpReply.{HttpReply}
 use Rattle.http_reply.specs.Heads.{BeginsWith, IsOpenHead}
 use Rattle.http_reply.specs.Sizes.{size_of}
 use Rattle.http_reply.specs.ReplyStream.{IsReply, IsOpen, IsFault, AreReplies, reply_of, given_of}
-use Rattle.http_reply.specs.Laws.{SomeReading, IsRead}
+use Rattle.http_reply.specs.Reading.{replies}
+use Rattle.stream_grammar.specs.Laws.{SomeReading}
+use Rattle.stream_grammar.specs.Reading.{Drops, ReadsTo}
 use Rattle.http_reply.proofs.OpeningLaws.{some_head}
 use Rattle.http_reply.proofs.StreamLaws.{no_replies, replies_then, one_reply}
 use Rattle.http_reply.proofs.VerdictLaws.{HeadTurn, head_turn}
@@ -29,14 +31,14 @@ replies_push fed x more given at r a is e =
 reply_is : (rest text front : List ℕ) (h : ResponseHead) (body : List ℕ) (at : ℕ) → BeginsWith rest h text → IsBody (size_of h) body front → IsReply (reply_of at h body) (print_response h ++ front)
 reply_is rest text front h body at b is = record { head = h; text = front; begins = record { holds = record { reads = (b.holds.reads.0, refl); few = b.holds.few }; short = b.short }; reply_is = refl; body = is }
 
-abbrev pub HasReading : List ℕ → Type 0
-HasReading fed = (given : List HttpReply) × (at : ℕ) × (fault : Option HttpFault) × IsRead fed given at fault
+abbrev HasReading : List ℕ → Type 0
+HasReading fed = (given : List HttpReply) × (at : ℕ) × (held : List ℕ) × (fault : Option HttpFault) × ReadsTo replies Drops fed given at held fault
 
 opens : (fed rest : List ℕ) (given : List HttpReply) (at : ℕ) → AreReplies 0 fed given at rest → IsOpen rest → HasReading fed
-opens fed rest given at a o = (given, at, None, (rest, record { replies = a; going = o }))
+opens fed rest given at a o = (given, at, rest, None, record { replies = a; going = o })
 
 fails : (fed rest : List ℕ) (given : List HttpReply) (at offset : ℕ) (why : HttpWhy) → AreReplies 0 fed given at rest → IsFault rest why offset → HasReading fed
-fails fed rest given at offset why a f = (given, at, Some (record { at = at + offset; why = why }), record { rest = rest; offset = offset; replies = a; place_is = refl; fault = f })
+fails fed rest given at offset why a f = (given, at, [], Some (record { at = at + offset; why = why }), ([], record { rest = rest; offset = offset; replies = a; place_is = refl; fault = f }, refl))
 
 -- replies, and fewer than n bytes after them
 reading_on : (n : ℕ) (fed rest : List ℕ) (given : List HttpReply) (at : ℕ) → length rest < n → AreReplies 0 fed given at rest → HasReading fed
@@ -63,5 +65,5 @@ reading_on (suc n) fed rest given at short a = go (λ more now place less replie
             let j = some_head h in
             ih more (given ++ given_of r) (at + length x) (omega (arith, m, k, j, short)) (replies_push fed x more given at r (subst (AreReplies 0 fed given at) whole a) (reply_is rest text front h body at b is) refl)
 
-pub some_reading : SomeReading
+pub some_reading : SomeReading replies Drops
 some_reading fed = reading_on (length fed + 1) fed fed [] 0 (omega arith) (no_replies 0 fed)

@@ -7,6 +7,8 @@ use Rattle.http_edge.specs.declared.limits.TheConstants.{MOST_HEAD}
 use Rattle.http_edge.specs.declared.stage.Stage.{Stage}
 use Rattle.http_edge.specs.Steps.{Fits}
 use Rattle.http_reply.specs.declared.left.Left.{Left}
+use Rattle.http_reply.specs.declared.part.HeadPart.{HeadPart}
+use Rattle.http_reply.specs.Parts.{IsPart}
 use Rattle.http_reply.specs.Reading.{Reading, Feeds}
 
 -- The body so far and what is due of it keep the limits; fewer than 16,384 bytes aren't read yet; and
@@ -16,6 +18,10 @@ pub record Keeps (at : ℕ) (stage : Stage) (body : List ℕ) (read : ℕ) (unre
   pub fits : Fits stage (length body)
   pub short : length unread < MOST_HEAD
 
+-- where no head is whole, the bytes that aren't read are so far read of one
+abbrev pub HoldsPart : Option ℕ → HeadPart → List ℕ → Type 0
+HoldsPart begun part unread = begun ≡ None → IsPart part unread
+
 -- the same of what is left after replies from an offset on
 pub record KeepsLeft (base : ℕ) (l : Left) : Type 0 where
   pub keeps : Keeps (base + l.from) l.stage l.body.items l.read l.unread.items
@@ -23,7 +29,16 @@ pub record KeepsLeft (base : ℕ) (l : Left) : Type 0 where
 
 -- the reader that has taken over what is left
 abbrev pub settled : Reading → ℕ → Left → Reading
-settled r base l = record { waiting = r.waiting; at = base + l.from; begun = l.begun; stage = l.stage; body = l.body.items; read = l.read; unread = l.unread.items; fault = l.fault }
+settled r base l = record {
+  waiting = r.waiting;
+  at = base + l.from;
+  begun = l.begun;
+  stage = l.stage;
+  body = l.body.items;
+  read = l.read;
+  unread = l.unread.items;
+  fault = l.fault;
+}
 
 -- what is answered of a fault
 abbrev pub answer : Option HttpFault → Result (Unit {0}) (FeedFault HttpFault)

@@ -4,5 +4,5 @@ pub mod ReplyStream
 pub mod Reading
 pub mod Steps
 pub mod Scanning
+pub mod Parts
 pub mod Keeping
-pub mod Laws

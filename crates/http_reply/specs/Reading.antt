@@ -1,8 +1,10 @@
 -- What has been read of a stream, and what is held of it.
-use Rattle.std.specs.Prelude.{◌≡◌, ℕ, ◌+◌, ◌++◌, List, [], length, Option, Some, None, Result, Ok, Err, ◌<◌}
+use Rattle.std.specs.Prelude.{◌≡◌, ℕ, ◌+◌, ◌++◌, List, [], length, Option, Some, None, Result, ◌<◌}
 use Rattle.httparse.specs.Grammar.{ResponseHead, print_response, status_code}
 use Rattle.event_form.specs.declared.feed_fault.FeedFault.{FeedFault}
-use Rattle.event_form.specs.declared.feed_fault.FeedFault.TheVariants.{Fault, NoMemory}
+use Rattle.stream_grammar.specs.Feeding as feeding
+use Rattle.stream_grammar.specs.Reading as stream
+use Rattle.stream_grammar.specs.Reading.{Format, Holding, in_parts}
 use Rattle.http_edge.specs.declared.fault.HttpFault.{HttpFault}
 use Rattle.http_edge.specs.declared.limits.TheConstants.{MOST_HEAD}
 use Rattle.http_edge.specs.declared.stage.Stage.{Stage}
@@ -45,21 +47,23 @@ Holds (Some status) stage body read unread rest =
     (h : ResponseHead) × (front : List ℕ) × BeginsWith rest h (front ++ unread) × (status ≡ status_code h)
     × Reaches (size_of h) stage body front × Awaits stage unread × (read ≡ length (print_response h) + length front)
 
+-- A stream is the replies that are given and an unfinished one, or those and a reply at fault. What of that one stands
+-- before the fault is held by nobody, and isn't said.
+abbrev pub replies : Format HttpReply HttpFault
+replies = record { IsWhole = IsStream; IsFaulty = λ b given at rest e. IsFaulty b given at e.at e.why }
+
+-- an unfinished reply is held in its parts, and of one at fault nothing is
+abbrev pub parts : Holding Reading
+parts = in_parts (λ rest (r : Reading). Holds r.begun r.stage r.body r.read r.unread rest) (λ (r : Reading). come r ≡ 0)
+
 -- the bytes are these replies, and an unfinished one that is held, or a fault
 abbrev pub ReadsTo : List ℕ → List HttpReply → Reading → Option HttpFault → Type 0
-ReadsTo fed given r None = (rest : List ℕ) × IsStream fed given r.at rest × Holds r.begun r.stage r.body r.read r.unread rest
-ReadsTo fed given r (Some e) = IsFaulty fed given r.at e.at e.why × (come r ≡ 0)
+ReadsTo fed given r = stream.ReadsTo replies parts fed given r.at r
 
 -- the bytes fed so far are the replies that were taken, those that wait, and what is held or a fault
 abbrev pub Reads : List ℕ → List HttpReply → Reading → Type 0
 Reads fed taken r = ReadsTo fed (taken ++ r.waiting) r r.fault
 
--- whatever was read before, that and the piece after it are read now
-abbrev pub ReadsOn : Reading → List ℕ → Reading → Type 0
-ReadsOn old piece new = (fed : List ℕ) (taken : List HttpReply) → Reads fed taken old → Reads (fed ++ piece) taken new
-
 -- what a call that feeds a piece leaves
 abbrev pub Feeds : Reading → List ℕ → Result (Unit {0}) (FeedFault HttpFault) → Reading → Type 0
-Feeds old piece (Ok u) new = (new.fault ≡ None) × ReadsOn old piece new
-Feeds old piece (Err (Fault e)) new = (new.fault ≡ Some e) × ReadsOn old piece new
-Feeds old piece (Err NoMemory) new = (new ≡ old) × (old.fault ≡ None)
+Feeds = feeding.Feeds Reads (λ (r : Reading). r.fault)

@@ -53,7 +53,8 @@ IsFault rest TooLong place =
     ((MOST_HEAD ≤ length rest) × IsOpenHead (take MOST_HEAD rest) × (place ≡ 0))
     ⊎ ((h : ResponseHead) × (text : List ℕ) × BeginsWith rest h text × IsTooLong (size_of h) text × (place ≡ 0))
 IsFault rest BadChunk place =
-    (h : ResponseHead) × (text : List ℕ) × (at : ℕ) × BeginsWith rest h text × (size_of h ≡ Chunked) × IsBadChunk text at × (place ≡ length (print_response h) + at)
+    (h : ResponseHead) × (text : List ℕ) × (at : ℕ) × BeginsWith rest h text × (size_of h ≡ Chunked) × IsBadChunk text at
+    × (place ≡ length (print_response h) + at)
 
 -- the bytes are whole replies, and then an unfinished one, or none
 pub record IsStream (b : List ℕ) (given : List HttpReply) (at : ℕ) (rest : List ℕ) : Type 0 where

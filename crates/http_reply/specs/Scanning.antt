@@ -44,7 +44,8 @@ Leaves None at rest begun stage body read unread = IsLeft rest begun stage body 
 Leaves (Some e) at rest begun stage body read unread = (offset : ℕ) × IsFault rest e.why offset × (e.at ≡ at + offset) × (read ≡ 0) × (unread ≡ [])
 
 -- what some bytes from an offset on brought
-pub record ScansTo (base : ℕ) (b : List ℕ) (given : List HttpReply) (from : ℕ) (begun : Option ℕ) (stage : Stage) (body : List ℕ) (read : ℕ) (unread : List ℕ) (fault : Option HttpFault) : Type 0 where
+pub record ScansTo (base : ℕ) (b : List ℕ) (given : List HttpReply) (from : ℕ) (begun : Option ℕ) (stage : Stage) (body : List ℕ) (read : ℕ)
+    (unread : List ℕ) (fault : Option HttpFault) : Type 0 where
   pub replies : AreReplies base b given from (drop from b)
   pub fits : Fits stage (length body)
   pub short : length unread < MOST_HEAD

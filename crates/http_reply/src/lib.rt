@@ -12,6 +12,7 @@ mod laws;
 mod left;
 mod look;
 mod next;
+mod part;
 mod reader;
 mod reply;
 mod scan;

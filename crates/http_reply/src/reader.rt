@@ -1,23 +1,27 @@
 //! The reader of a stream that comes in pieces.
-ghost use Rattle.std.specs.Prelude.{◌≡◌, ℕ, ◌+◌, ◌≤◌, ◌<◌, ◌^◌, List, [], ◌++◌, length, ◌↔◌, IsNone, IsSome, IfSome, IfNone, Some, None, Err, option_to_list};
+ghost use Rattle.std.specs.Prelude.{◌≡◌, ℕ, ◌+◌, ◌≤◌, ◌<◌, ◌^◌, List, [], ◌∷◌, ◌++◌, length, ◌↔◌, IsNone, IsSome, IfSome, IfNone, Some, None, Err, option_to_list};
 ghost use Rattle.std.specs.VecDeque.{deque_capacity, deque_len};
 ghost use Rattle.event_form.specs.declared.feed_fault.FeedFault.TheVariants.{Fault};
+ghost use Rattle.stream_grammar.specs.Feeding.{GivesOn};
 ghost use Rattle.http_edge.specs.declared.fault.HttpFault.{HttpFault};
 ghost use Rattle.http_edge.specs.declared.gather.Ending.TheVariants.{Whole};
-ghost use Rattle.http_edge.specs.declared.limits.TheConstants.{ROOM};
+ghost use Rattle.http_edge.specs.declared.limits.TheConstants.{MOST_HEAD, ROOM};
 ghost use Rattle.http_edge.specs.Gathering.{GathersTo};
 ghost use Rattle.http_reply.specs.declared.reply.HttpReply.{HttpReply};
 ghost use Rattle.http_reply.specs.Keeping.{FeedsAll, KeepsLeft, answer, settled};
+ghost use Rattle.http_reply.specs.Heads.{IsOpenHead};
+ghost use Rattle.http_reply.specs.Parts.{IsPart};
 ghost use Rattle.http_reply.specs.ReplyStream.{given_of};
 ghost use Rattle.http_reply.specs.Reading.{Feeds, Reads, come, held, unfed};
 
 use crate::body::{Brought, bring};
 use crate::left::Left;
+use crate::part::{HeadPart, part_of, run};
 use crate::reply::{HttpReply, is_interim};
 use crate::scan::{Scanned, scan};
 use event_form::{Blob, FeedFault};
 use http_edge::gather::Ending;
-use http_edge::{HttpFault, Stage, join, place};
+use http_edge::{HttpFault, MOST_HEAD, Stage, join, place};
 use std::alloc::Global;
 use std::collections::VecDeque;
 use std::marker::Model;
@@ -38,6 +42,8 @@ pub struct ReplyReader {
     body: Vec<u8>,
     read: usize,
     unread: Vec<u8>,
+    // How far they bring a head, where none is whole.
+    part: HeadPart,
     fault: Option<HttpFault>,
 }
 
@@ -46,11 +52,20 @@ impl Model for ReplyReader {
 
     ghost Value = { Reading };
 
-    ghost use Rattle.http_reply.specs.Keeping.{Keeps};
+    ghost use Rattle.http_reply.specs.Keeping.{HoldsPart, Keeps};
 
-    ghost view = { λ r. record { waiting = r.waiting.items; at = r.at; begun = r.begun; stage = r.stage; body = r.body.items; read = r.read; unread = r.unread.items; fault = r.fault } };
+    ghost view = { λ r. record {
+      waiting = r.waiting.items;
+      at = r.at;
+      begun = r.begun;
+      stage = r.stage;
+      body = r.body.items;
+      read = r.read;
+      unread = r.unread.items;
+      fault = r.fault;
+    } };
 
-    ghost invariant = { λ r. Keeps r.at r.stage r.body.items r.read r.unread.items };
+    ghost invariant = { λ r. Keeps r.at r.stage r.body.items r.read r.unread.items × HoldsPart r.begun r.part r.unread.items };
 }
 
 // Adds a reply that isn't an interim one, where there is room for it.
@@ -72,6 +87,17 @@ fn append_reserved(waiting: &mut VecDeque<HttpReply>, mut replies: VecDeque<Http
 {
     if waiting.append(&mut replies).is_err() {
         unreachable!();
+    }
+}
+
+// How far the bytes bring a head, where none is whole.
+fn part_unless(begun: Option<u16>, unread: &[u8]) -> HeadPart
+    requires { begun ≡ None → IsOpenHead unread.now }
+    ensures { begun ≡ None → IsPart result unread.now }
+{
+    match begun {
+        None => part_of(unread),
+        Some(_) => HeadPart::Other,
     }
 }
 
@@ -100,17 +126,20 @@ impl ReplyReader {
             body: Vec::new(alloc),
             read: 0,
             unread: Vec::new(alloc),
+            part: HeadPart::Blank,
             fault: None,
         }
     }
 
     // Takes over what is left after the replies of some bytes that begin at an offset, and reports a fault.
     fn settle(&mut self, base: u64, left: Left) -> Result<(), FeedFault<HttpFault>>
-        requires { KeepsLeft base left }
+        requires keeps { KeepsLeft base left }
+        requires head { left.begun ≡ None → IsOpenHead left.unread.items }
         ensures state { self.new ≡ settled self.old base left }
         ensures told { result ≡ answer left.fault }
         ensures bound { held self.new ≤ ROOM }
     {
+        self.part = part_unless(left.begun, &left.unread);
         self.at = base + left.from as u64;
         self.begun = left.begun;
         self.stage = left.stage;
@@ -119,6 +148,21 @@ impl ReplyReader {
         self.unread = left.unread;
         self.fault = left.fault;
         answer(self.fault)
+    }
+
+    // Keeps a piece with the bytes of a head that isn't whole. No parser has to judge it.
+    fn keep(&mut self, piece: &[u8], part: HeadPart) -> Result<(), FeedFault<HttpFault>>
+        requires open { (self.old.fault ≡ None) × (self.old.begun ≡ None) }
+        requires part { IsPart part (self.old.unread ++ piece.now) }
+        requires short { length self.old.unread + length piece.now < MOST_HEAD }
+        requires room { self.old.at + come self.old + length piece.now ≤ 2 ^ 40 }
+        ensures feeds { Feeds self.old piece.now result self.new }
+        ensures room { self.new.at + come self.new ≤ self.old.at + come self.old + length piece.now }
+        ensures bound { held self.new ≤ ROOM }
+    {
+        self.unread.extend_from_slice(piece)?;
+        self.part = part;
+        Ok(())
     }
 
     // Reads bytes, those not read before first, where no head is whole.
@@ -160,6 +204,8 @@ impl ReplyReader {
         let Some(status) = self.begun.take() else {
             unreachable!();
         };
+        self.unread.clear();
+        self.part = HeadPart::Blank;
         let body = mem::replace(&mut self.body, Vec::new(self.alloc));
         let reply = HttpReply {
             status,
@@ -216,13 +262,26 @@ impl ReplyReader {
         if let Some(fault) = self.fault {
             return Err(FeedFault::Fault(fault));
         }
+        if self.begun.is_some() {
+            let mut all = Vec::new(self.alloc);
+            join(&mut all, &self.unread, piece)?;
+            return self.read_body(&all);
+        }
+        let ran = run(self.part, piece);
+        if ran.used == piece.len() && self.unread.len() + piece.len() < MOST_HEAD {
+            return self.keep(piece, ran.part);
+        }
         let mut all = Vec::new(self.alloc);
         join(&mut all, &self.unread, piece)?;
-        if self.begun.is_some() {
-            self.read_body(&all)
-        } else {
-            self.read_replies(&all)
-        }
+        self.read_replies(&all)
+    }
+
+    /// The next reply, which stays; `None` exactly where none waits. It takes no memory.
+    pub fn front(&self) -> Option<&HttpReply>
+        ensures none { IfNone result (self.now.waiting ≡ []) }
+        ensures some { IfSome result (λ reply. (more : List HttpReply) × (self.now.waiting ≡ reply.now ∷ more)) }
+    {
+        self.waiting.front()
     }
 
     /// The next reply; `None` exactly where none waits. It takes no memory.
@@ -230,7 +289,7 @@ impl ReplyReader {
         ensures gives { self.old.waiting ≡ option_to_list result ++ self.new.waiting }
         ensures none { IfNone result (self.old.waiting ≡ []) }
         ensures same { self.new ≡ record self.old { waiting = self.new.waiting } }
-        ensures reads { (fed : List ℕ) (taken : List HttpReply) → Reads fed taken self.old → Reads fed (taken ++ option_to_list result) self.new }
+        ensures reads { GivesOn Reads self.old (option_to_list result) self.new }
     {
         self.waiting.pop_front()
     }

@@ -93,7 +93,9 @@ fn replies(alloc: Global) -> Result<bool, AllocError> {
     write_reply(400, true, b"", &mut out)?;
     write_reply(503, false, b"{}", &mut out)?;
     if out.as_slice()
-        != b"HTTP/1.1 400 Bad Request\r\nContent-Type: application/json\r\nContent-Length: 0\r\nConnection: close\r\n\r\nHTTP/1.1 503 Service Unavailable\r\nContent-Type: application/json\r\nContent-Length: 2\r\n\r\n{}".as_slice()
+        != b"HTTP/1.1 400 Bad Request\r\nContent-Type: application/json\r\nContent-Length: 0\r\nConnection: close\r\n\
+            \r\nHTTP/1.1 503 Service Unavailable\r\nContent-Type: application/json\r\nContent-Length: 2\r\n\r\n{}"
+            .as_slice()
     {
         return Ok(false);
     }

@@ -14,6 +14,8 @@ mod read;
 #[cfg(test)]
 mod replies;
 #[cfg(test)]
+mod reply_limits;
+#[cfg(test)]
 mod rows;
 #[cfg(test)]
 mod streams;

@@ -12,14 +12,16 @@ use std::test::*;
 
 /// A stream, and what it tells: the replies' statuses, offsets and bodies, each after a mark, then the offset of the
 /// rest after `#`, and the fault's place and rule after `!`.
-const REPLIES: [Row; 20] = [
+const REPLIES: [Row; 24] = [
     Row {
         text: b"",
         tells: b"",
     },
     // Replies of the collector, one after another.
     Row {
-        text: b"HTTP/1.1 200 OK\r\nContent-Type: application/json\r\nContent-Length: 27\r\n\r\n{\"text\":\"Success\",\"code\":0}HTTP/1.1 400 Bad Request\r\nContent-Type: application/json\r\nContent-Length: 2\r\n\r\n{}",
+        text: b"HTTP/1.1 200 OK\r\nContent-Type: application/json\r\nContent-Length: 27\r\n\r\n\
+            {\"text\":\"Success\",\"code\":0}HTTP/1.1 400 Bad Request\r\nContent-Type: application/json\r\n\
+            Content-Length: 2\r\n\r\n{}",
         tells: b"@0 200|{\"text\":\"Success\",\"code\":0}@98 400|{}",
     },
     Row {
@@ -46,7 +48,8 @@ const REPLIES: [Row; 20] = [
     },
     // Chunks.
     Row {
-        text: b"HTTP/1.1 503 Service Unavailable\r\nTransfer-Encoding: chunked\r\n\r\n2;a=b\r\n{\"\r\n3\r\na\":\r\n0\r\nT: v\r\n\r\nHTTP/1.1 200 OK\r\nContent-Length: 0\r\n\r\n",
+        text: b"HTTP/1.1 503 Service Unavailable\r\nTransfer-Encoding: chunked\r\n\r\n2;a=b\r\n{\"\r\n3\r\na\":\r\n0\r\n\
+            T: v\r\n\r\nHTTP/1.1 200 OK\r\nContent-Length: 0\r\n\r\n",
         tells: b"@0 503|{\"a\":@94 200|",
     },
     // Faults of heads.
@@ -65,6 +68,23 @@ const REPLIES: [Row; 20] = [
     Row {
         text: b"HTTP/1.1 100 Continue\r\n\r\nHTTP/1.1 200 OK\r\na b: c\r\n",
         tells: b"#25!25 head",
+    },
+    // A byte that may stand in no reason, none in a value and none in a name, and a line that is no field.
+    Row {
+        text: b"HTTP/1.1 200 O\x00K",
+        tells: b"#0!0 head",
+    },
+    Row {
+        text: b"HTTP/1.1 200 OK\r\na: b\r\nc: d\x01e",
+        tells: b"#0!0 head",
+    },
+    Row {
+        text: b"HTTP/1.1 200 OK\na: b\nc(",
+        tells: b"#0!0 head",
+    },
+    Row {
+        text: b"\nHTTP/1.0 200\r\na: b\r\ncd\r\n",
+        tells: b"#0!0 head",
     },
     // A reply that doesn't say its length, and others against the rules.
     Row {
@@ -162,8 +182,8 @@ fn tell_reply(alloc: Global, reply: &HttpReply, out: &mut Vec<u8>) -> Result<(),
     out.extend_from_slice(reply.body.bytes())
 }
 
-// What a text tells that is fed in pieces of a size.
-fn told(alloc: Global, text: &[u8], size: usize) -> Result<Vec<u8>, AllocError> {
+/// What a text tells that is fed in pieces of a size.
+pub fn told(alloc: Global, text: &[u8], size: usize) -> Result<Vec<u8>, AllocError> {
     if size == 0 {
         return Err(AllocError);
     }

@@ -71,12 +71,15 @@ const STREAMS: [Row; 19] = [
     // What real clients wrote.
     // curl 7.88, two events.
     Row {
-        text: b"POST /services/collector/event HTTP/1.1\r\nHost: 127.0.0.1:25841\r\nUser-Agent: curl/7.88.1\r\nAccept: */*\r\nAuthorization: Splunk 11111111-2222-3333-4444-555555555555\r\nContent-Length: 33\r\nContent-Type: application/x-www-form-urlencoded\r\n\r\n{\"event\":\"a\"}{\"event\":{\"b\":1.50}}",
+        text: b"POST /services/collector/event HTTP/1.1\r\nHost: 127.0.0.1:25841\r\nUser-Agent: curl/7.88.1\r\n\
+            Accept: */*\r\nAuthorization: Splunk 11111111-2222-3333-4444-555555555555\r\nContent-Length: 33\r\n\
+            Content-Type: application/x-www-form-urlencoded\r\n\r\n{\"event\":\"a\"}{\"event\":{\"b\":1.50}}",
         tells: b"|/services/collector/event|{\"event\":\"a\"}{\"event\":{\"b\":1.50}}",
     },
     // curl 7.88, HEAD.
     Row {
-        text: b"HEAD /services/collector/health HTTP/1.1\r\nHost: 127.0.0.1:25862\r\nUser-Agent: curl/7.88.1\r\nAccept: */*\r\nAuthorization: Splunk 11111111-2222-3333-4444-555555555555\r\n\r\n",
+        text: b"HEAD /services/collector/health HTTP/1.1\r\nHost: 127.0.0.1:25862\r\nUser-Agent: curl/7.88.1\r\n\
+            Accept: */*\r\nAuthorization: Splunk 11111111-2222-3333-4444-555555555555\r\n\r\n",
         tells: b"|/services/collector/health|",
     },
     // curl 7.88, GET.
@@ -86,12 +89,22 @@ const STREAMS: [Row; 19] = [
     },
     // curl 7.88, raw lines.
     Row {
-        text: b"POST /services/collector/raw?channel=cccccccc-2222-3333-4444-555555555555&sourcetype=x HTTP/1.1\r\nHost: 127.0.0.1:25842\r\nUser-Agent: curl/7.88.1\r\nAccept: */*\r\nAuthorization: Splunk 11111111-2222-3333-4444-555555555555\r\nContent-Length: 5\r\nContent-Type: application/x-www-form-urlencoded\r\n\r\np\r\n\nq",
+        text: b"POST /services/collector/raw?channel=cccccccc-2222-3333-4444-555555555555&sourcetype=x HTTP/1.1\r\n\
+            Host: 127.0.0.1:25842\r\nUser-Agent: curl/7.88.1\r\nAccept: */*\r\n\
+            Authorization: Splunk 11111111-2222-3333-4444-555555555555\r\nContent-Length: 5\r\n\
+            Content-Type: application/x-www-form-urlencoded\r\n\r\np\r\n\nq",
         tells: b"|/services/collector/raw?channel=cccccccc-2222-3333-4444-555555555555&sourcetype=x|p\r\n\nq",
     },
     // curl 7.88, two requests on one connection.
     Row {
-        text: b"POST /services/collector/event HTTP/1.1\r\nHost: 127.0.0.1:25852\r\nUser-Agent: curl/7.88.1\r\nAccept: */*\r\nAuthorization: Splunk aaaaaaaa-2222-3333-4444-555555555555\r\nX-Splunk-Request-Channel: cccccccc-2222-3333-4444-555555555555\r\nContent-Length: 13\r\nContent-Type: application/x-www-form-urlencoded\r\n\r\n{\"event\":\"a\"}POST /services/collector/ack HTTP/1.1\r\nHost: 127.0.0.1:25852\r\nUser-Agent: curl/7.88.1\r\nAccept: */*\r\nAuthorization: Splunk aaaaaaaa-2222-3333-4444-555555555555\r\nX-Splunk-Request-Channel: cccccccc-2222-3333-4444-555555555555\r\nContent-Length: 21\r\nContent-Type: application/x-www-form-urlencoded\r\n\r\n{\"acks\":[4294967296]}",
+        text: b"POST /services/collector/event HTTP/1.1\r\nHost: 127.0.0.1:25852\r\nUser-Agent: curl/7.88.1\r\n\
+            Accept: */*\r\nAuthorization: Splunk aaaaaaaa-2222-3333-4444-555555555555\r\n\
+            X-Splunk-Request-Channel: cccccccc-2222-3333-4444-555555555555\r\nContent-Length: 13\r\n\
+            Content-Type: application/x-www-form-urlencoded\r\n\r\n\
+            {\"event\":\"a\"}POST /services/collector/ack HTTP/1.1\r\nHost: 127.0.0.1:25852\r\n\
+            User-Agent: curl/7.88.1\r\nAccept: */*\r\nAuthorization: Splunk aaaaaaaa-2222-3333-4444-555555555555\r\n\
+            X-Splunk-Request-Channel: cccccccc-2222-3333-4444-555555555555\r\nContent-Length: 21\r\n\
+            Content-Type: application/x-www-form-urlencoded\r\n\r\n{\"acks\":[4294967296]}",
         tells: b"|/services/collector/event|{\"event\":\"a\"}|/services/collector/ack|{\"acks\":[4294967296]}",
     },
     // The log driver of Docker 20.10, before its first request.

@@ -12,6 +12,7 @@ use Rattle.lumber_frame.specs.declared.frame.LumberFrame.TheVariants.{Window, Pa
 use Rattle.lumber_frame.specs.declared.side.Side.{Side}
 use Rattle.lumber_frame.specs.declared.side.Side.TheVariants.{Receiver, Sender}
 use Rattle.stream_grammar.specs.Automaton.{Done, run}
+use Rattle.stream_grammar.specs.Reading.{as_bytes}
 use Rattle.stream_grammar.proofs.Streams.{spelled_run, spelled_one}
 use Rattle.stream_grammar.proofs.FieldReadings.{field_stream_behind, field_fault_behind}
 use Rattle.lumber_frame.specs.Machine.{step, start}
@@ -107,6 +108,6 @@ written_spells (Json seq text) b i w = (
 )
 written_spells (Ack seq) b i w = (to_be_bytes w32 seq, w, number_written seq i)
 
-pub written_is_read : (Held : List ℕ → List ℕ → Type 0) → WrittenIsRead Held
+pub written_is_read : (Held : List ℕ → List ℕ → Type 0) → WrittenIsRead (as_bytes Held)
 written_is_read Held side f text more frames at held None i w r = field_stream_behind (lumber side) (f ∷ []) frames text more held at (spelled_one (lumber side) f text (i.0, written_spells f text i.1 w)) r
 written_is_read Held side f text more frames at held (Some e) i w r = (r.0, field_fault_behind (lumber side) (f ∷ []) frames text more r.0 at e.at e.why (spelled_one (lumber side) f text (i.0, written_spells f text i.1 w)) r.1, r.2)

@@ -7,7 +7,8 @@ use Rattle.lumber_frame.specs.declared.limits.TheConstants.{MOST_FRAMES}
 use Rattle.lumber_frame.specs.declared.fault.LumberWhy.{LumberWhy}
 use Rattle.lumber_frame.specs.declared.fault.LumberWhy.TheVariants.{Version, Kind, Compressed, AckFromWriter, TooLong, TooMany}
 use Rattle.lumber_frame.specs.declared.field.Field.{Field}
-use Rattle.lumber_frame.specs.declared.field.Field.TheVariants.{VersionByte, TypeByte, WindowSize, AckSequence, PairsSequence, JsonSequence, PairCount, PayloadLength, Payload, KeyLength, Key, ValueLength, Value}
+use Rattle.lumber_frame.specs.declared.field.Field.TheVariants.{VersionByte, TypeByte, WindowSize, AckSequence, PairsSequence, JsonSequence, PairCount}
+use Rattle.lumber_frame.specs.declared.field.Field.TheVariants.{PayloadLength, Payload, KeyLength, Key, ValueLength, Value}
 use Rattle.lumber_frame.specs.declared.frame.LumberFrame.{LumberFrame}
 use Rattle.lumber_frame.specs.declared.frame.LumberFrame.TheVariants.{Window, Pairs, Json, Ack}
 use Rattle.lumber_frame.specs.declared.side.Side.{Side}
@@ -146,7 +147,9 @@ AfterAck number f b = (b ≡ []) × (f ≡ Ack (from_be_bytes w32 number))
 
 -- after a type byte
 abbrev pub AfterType : Side → List ℕ → ℕ → LumberFrame → List ℕ → Type 0
-AfterType Receiver text c f b = ((c ≡ 87) × Four (λ n rest. AfterSize n f rest) b) ⊎ (((c ≡ 68) × Four (λ n rest. AfterPairsSequence text n f rest) b) ⊎ ((c ≡ 74) × Four (λ n rest. AfterJsonSequence n f rest) b))
+AfterType Receiver text c f b =
+    ((c ≡ 87) × Four (λ n rest. AfterSize n f rest) b)
+    ⊎ (((c ≡ 68) × Four (λ n rest. AfterPairsSequence text n f rest) b) ⊎ ((c ≡ 74) × Four (λ n rest. AfterJsonSequence n f rest) b))
 AfterType Sender text c f b = (c ≡ 65) × Four (λ n rest. AfterAck n f rest) b
 
 -- what stands after a whole field
@@ -160,11 +163,17 @@ Behind side JsonSequence text b f y = AfterJsonSequence b f y
 Behind side (PairCount seq) text b f y = AfterCount seq text b f y
 Behind side (PayloadLength seq) text b f y = AfterLength seq b f y
 Behind side (Payload seq len) text b f y = (y ≡ []) × (f ≡ Json seq b)
-Behind side (KeyLength seq left) text b f y = (key : List ℕ) × (value : List ℕ) × (more : List ℕ) × (length key ≡ from_be_bytes w32 b) × IsString value × (y ≡ key ++ (value ++ more)) × PairsEnd seq left (text ++ (b ++ (key ++ value))) f more
-Behind side (Key seq left len) text b f y = (value : List ℕ) × (more : List ℕ) × IsString value × (y ≡ value ++ more) × PairsEnd seq left (text ++ (b ++ value)) f more
-Behind side (ValueLength seq left) text b f y = (value : List ℕ) × (more : List ℕ) × (length value ≡ from_be_bytes w32 b) × (y ≡ value ++ more) × PairsEnd seq left (text ++ (b ++ value)) f more
+Behind side (KeyLength seq left) text b f y =
+    (key : List ℕ) × (value : List ℕ) × (more : List ℕ) × (length key ≡ from_be_bytes w32 b) × IsString value
+    × (y ≡ key ++ (value ++ more)) × PairsEnd seq left (text ++ (b ++ (key ++ value))) f more
+Behind side (Key seq left len) text b f y =
+    (value : List ℕ) × (more : List ℕ) × IsString value × (y ≡ value ++ more) × PairsEnd seq left (text ++ (b ++ value)) f more
+Behind side (ValueLength seq left) text b f y =
+    (value : List ℕ) × (more : List ℕ) × (length value ≡ from_be_bytes w32 b) × (y ≡ value ++ more) × PairsEnd seq left (text ++ (b ++ value)) f more
 Behind side (Value seq left len) text b f y = PairsEnd seq left (text ++ b) f y
 
 -- the rest of the field, and what stands after it
 abbrev pub Completes : Side → State → LumberFrame → List ℕ → Type 0
-Completes side (At field text g) f b = (more : List ℕ) × (rest : List ℕ) × (0 < length more) × (length g + length more ≡ size_of field) × (b ≡ more ++ rest) × Behind side field text (g ++ more) f rest
+Completes side (At field text g) f b =
+    (more : List ℕ) × (rest : List ℕ) × (0 < length more) × (length g + length more ≡ size_of field)
+    × (b ≡ more ++ rest) × Behind side field text (g ++ more) f rest

@@ -2,7 +2,8 @@
 use Rattle.std.specs.Prelude.{◌≡◌, ℕ, ◌+◌, ◌<◌, ◌≤◌, List, [], ◌++◌, drop, length, take}
 use Rattle.event_form.specs.declared.limits.TheConstants.{MOST_TEXT}
 use Rattle.lumber_frame.specs.declared.field.Field.{Field}
-use Rattle.lumber_frame.specs.declared.field.Field.TheVariants.{VersionByte, TypeByte, WindowSize, AckSequence, PairsSequence, JsonSequence, PairCount, PayloadLength, Payload, KeyLength, Key, ValueLength, Value}
+use Rattle.lumber_frame.specs.declared.field.Field.TheVariants.{VersionByte, TypeByte, WindowSize, AckSequence, PairsSequence, JsonSequence, PairCount}
+use Rattle.lumber_frame.specs.declared.field.Field.TheVariants.{PayloadLength, Payload, KeyLength, Key, ValueLength, Value}
 use Rattle.lumber_frame.specs.declared.field.Phase.{Phase}
 use Rattle.lumber_frame.specs.declared.field.Whole.{Whole}
 use Rattle.lumber_frame.specs.declared.field.Whole.TheVariants as whole

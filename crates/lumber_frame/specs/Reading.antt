@@ -1,15 +1,15 @@
 -- Lumberjack as a format, one for each side, and what a reader has read and holds.
-use Rattle.std.specs.Prelude.{◌≡◌, ℕ, ◌+◌, ◌++◌, List, [], ◌∷◌, length, Option, Some, None, Result, Ok, Err}
+use Rattle.std.specs.Prelude.{ℕ, ◌+◌, ◌++◌, List, [], ◌∷◌, length, Option, Some, None, Result}
 use Rattle.lumber_frame.specs.declared.fault.LumberFault.{LumberFault}
 use Rattle.lumber_frame.specs.declared.fault.LumberWhy.{LumberWhy}
 use Rattle.lumber_frame.specs.declared.frame.LumberFrame.{LumberFrame}
 use Rattle.lumber_frame.specs.declared.side.Side.{Side}
 use Rattle.lumber_frame.specs.declared.side.Side.TheVariants.{Receiver}
 use Rattle.event_form.specs.declared.feed_fault.FeedFault.{FeedFault}
-use Rattle.event_form.specs.declared.feed_fault.FeedFault.TheVariants.{Fault, NoMemory}
+use Rattle.stream_grammar.specs.Feeding as feeding
 use Rattle.stream_grammar.specs.FieldFaults.{IsFieldStream, IsFieldFault}
 use Rattle.stream_grammar.specs.Reading as stream
-use Rattle.stream_grammar.specs.Reading.{Format}
+use Rattle.stream_grammar.specs.Reading.{Format, Holding}
 use Rattle.lumber_frame.specs.Broken.{Broken}
 use Rattle.lumber_frame.specs.Spelling.{IsFrameFor, IsWritten, Spells}
 
@@ -51,13 +51,11 @@ Reads fed taken r = ReadsTo r.side fed (taken ++ r.waiting) r.at r.rest r.fault
 
 -- whatever was read before, that and the piece after it are read now
 abbrev pub ReadsOn : Reader → List ℕ → Reader → Type 0
-ReadsOn old piece new = (fed : List ℕ) (taken : List LumberFrame) → Reads fed taken old → Reads (fed ++ piece) taken new
+ReadsOn = feeding.ReadsOn Reads
 
 -- what a call that feeds a piece leaves
 abbrev pub Feeds : Reader → List ℕ → Result (Unit {0}) (FeedFault LumberFault) → Reader → Type 0
-Feeds old piece (Ok u) new = (new.fault ≡ None) × ReadsOn old piece new
-Feeds old piece (Err (Fault e)) new = (new.fault ≡ Some e) × ReadsOn old piece new
-Feeds old piece (Err NoMemory) new = new ≡ old
+Feeds = feeding.Feeds Reads (λ (r : Reader). r.fault)
 
 -- a fault so many bytes further on
 abbrev pub moved : ℕ → Option LumberFault → Option LumberFault
@@ -66,5 +64,8 @@ moved n (Some e) = Some (fault_of (n + e.at) e.why)
 
 -- What is written for a frame that may come is read first, whatever follows, and what follows is read
 -- after it.
-abbrev pub WrittenIsRead : (List ℕ → List ℕ → Type 0) → Type 0
-WrittenIsRead Held = (side : Side) (f : LumberFrame) (text more : List ℕ) (frames : List LumberFrame) (at : ℕ) (held : List ℕ) (fault : Option LumberFault) → IsFrameFor side f → IsWritten f text → stream.ReadsTo (format side) Held more frames at held fault → stream.ReadsTo (format side) Held (text ++ more) (f ∷ frames) (length text + at) held (moved (length text) fault)
+abbrev pub WrittenIsRead : Holding (List ℕ) → Type 0
+WrittenIsRead h =
+    (side : Side) (f : LumberFrame) (text more : List ℕ) (frames : List LumberFrame) (at : ℕ) (held : List ℕ) (fault : Option LumberFault)
+    → IsFrameFor side f → IsWritten f text → stream.ReadsTo (format side) h more frames at held fault
+    → stream.ReadsTo (format side) h (text ++ more) (f ∷ frames) (length text + at) held (moved (length text) fault)

@@ -46,7 +46,8 @@ pub record Spans (side : Side) (b : List ℕ) (frames : List LumberFrame) (end :
 -- what follows the frames: a rest that is all, or one after which a field breaks a rule
 abbrev pub Stops : Side → List ℕ → List ℕ → Phase → Option LumberWhy → Type 0
 Stops side tail rest now None = tail ≡ rest
-Stops side tail rest now (Some why) = (field : List ℕ) × (more : List ℕ) × (length rest ≡ now.at) × (tail ≡ rest ++ (field ++ more)) × Broken side rest field why
+Stops side tail rest now (Some why) =
+    (field : List ℕ) × (more : List ℕ) × (length rest ≡ now.at) × (tail ≡ rest ++ (field ++ more)) × Broken side rest field why
 
 -- the layout of what a side reads
 abbrev pub layout : Side → Layout LumberFrame Phase LumberWhy

@@ -5,6 +5,7 @@ ghost use Rattle.lumber_frame.specs.declared.fault.LumberFault.{LumberFault};
 ghost use Rattle.lumber_frame.specs.declared.frame.LumberFrame.{LumberFrame};
 ghost use Rattle.lumber_frame.specs.Reading.{Feeds, Reads, unfed};
 ghost use Rattle.lumber_frame.specs.Spelling.{IsFrame, MayCome};
+ghost use Rattle.stream_grammar.specs.Feeding.{GivesOn};
 
 use crate::fault::LumberFault;
 use crate::field::{Phase, START};
@@ -123,7 +124,7 @@ impl LumberReader {
         ensures side { IfSome result (MayCome self.old.side) }
         ensures limits { IfSome result IsFrame }
         ensures same { self.new ≡ record self.old { waiting = self.new.waiting } }
-        ensures reads { (fed : List ℕ) (taken : List LumberFrame) → Reads fed taken self.old → Reads fed (taken ++ option_to_list result) self.new }
+        ensures reads { GivesOn Reads self.old (option_to_list result) self.new }
     {
         self.waiting.pop_front()
     }

@@ -1,17 +1,15 @@
 -- Where frames stand in their stream, as pieces come.
-use Rattle.std.proofs.Common.{◌≡◌, ℕ, ◌+◌, ◌∙◌, List, [], ◌∷◌, ◌++◌, Option, Some, None, length, take, drop, refl, sym, ap, subst, arith, append_assoc, length-append}
+use Rattle.std.proofs.Common.{◌≡◌, ℕ, ◌+◌, ◌∙◌, List, [], ◌∷◌, ◌++◌, Option, None, take, drop, refl, sym, ap, subst, arith, append_assoc, length-append}
 use Rattle.std.proofs.lemmas.List.{append-nil, take-append-drop}
 use Rattle.relp_frame.specs.declared.frame.Frame.{Frame}
 use Rattle.relp_frame.specs.declared.frame.Placed.{Placed}
 use Rattle.relp_frame.specs.declared.fault.RelpFault.{RelpFault}
 use Rattle.relp_frame.specs.declared.phase.Phase.{Phase}
-use Rattle.stream_grammar.specs.Framing.{AreSpelled}
 use Rattle.stream_grammar.specs.Reading.{ReadsTo, Drops}
 use Rattle.stream_grammar.proofs.Streams.{spelled_append}
 use Rattle.relp_frame.specs.Placing.{frames_of, BeginsAt, ArePlaced, ArePlacedAfter}
-use Rattle.relp_frame.specs.Reading.{Reader, Reads, relp}
+use Rattle.relp_frame.specs.Reading.{relp}
 use Rattle.relp_frame.specs.Scanning.{Scan}
-use Rattle.relp_frame.specs.Spelling.{IsSpelling}
 use Rattle.relp_frame.proofs.FrameLaws.{relp_machine}
 
 pub frames_of-append : (ps qs : List Placed) → frames_of (ps ++ qs) ≡ frames_of ps ++ frames_of qs

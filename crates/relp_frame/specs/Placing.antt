@@ -25,4 +25,6 @@ ArePlaced bytes before (p ∷ ps) = BeginsAt bytes before p.at × ArePlaced byte
 
 -- the same of frames that a piece completes, whatever frames end at the offset from which bytes are held
 abbrev pub ArePlacedAfter : ℕ → List ℕ → List ℕ → List Placed → Type 0
-ArePlacedAfter at held piece ps = (fed : List ℕ) (before : List Frame) (front : List ℕ) → AreSpelled IsSpelling before front → fed ≡ front ++ held → length front ≡ at → ArePlaced (fed ++ piece) before ps
+ArePlacedAfter at held piece ps =
+    (fed : List ℕ) (before : List Frame) (front : List ℕ) → AreSpelled IsSpelling before front
+    → fed ≡ front ++ held → length front ≡ at → ArePlaced (fed ++ piece) before ps

@@ -86,7 +86,7 @@ returns-in_default-reserve c = λ piece e.
     let b = c.scan.ensures.capacity in
     let d = c.truncate-in_default-reserve-2.ensures.capacity in
     let queue = queue_back h.queue.items c.scan.new.queue.items c.truncate-in_default-reserve.new.self.items s.queue c.len-count.result s.queued (c.len-count.ensures ∙ h.queue.ok.0) (c.truncate-in_default-reserve.ensures.items ∙ ap (take c.len-count.result) c.reserve.ensures.items) in
-    kept_feed h _ h.unread.items piece f (record { queue_is = queue; heads_is = refl; beside_is = refl; bytes_are = kept; space = omega (arith, a, b, d); from_is = refl; whole_is = refl; at_is = refl; begun_is = refl; size_is = refl; stage_is = refl; read_is = refl; unread_is = refl; unread_space = f.unread_space; part_is = refl; fault_is = refl })
+    kept_feed h _ h.unread.items piece f c.requires.begun.0 (record { queue_is = queue; heads_is = refl; beside_is = refl; bytes_are = kept; space = omega (arith, a, b, d); from_is = refl; whole_is = refl; at_is = refl; begun_is = refl; size_is = refl; stage_is = refl; read_is = refl; unread_is = refl; unread_space = f.unread_space; part_is = refl; fault_is = refl })
 
 pub returns-in-Some : goal.returns-in-Some
 returns-in-Some c = λ piece e.

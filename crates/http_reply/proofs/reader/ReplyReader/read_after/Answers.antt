@@ -7,7 +7,7 @@ use Rattle.http_reply.specs.Reading.{Reading}
 use Rattle.http_reply.specs.Keeping.{FeedsAll}
 use Rattle.http_reply.specs.Scanning.{Scans}
 use Rattle.http_edge.proofs.NextLaws.{window}
-use Rattle.http_reply.proofs.FeedLaws.{after_feeds}
+use Rattle.http_reply.proofs.FeedLaws.{after_feeds, scan_head}
 use Rattle.http_reply.proofs.reader.ReplyReader.read_after.Goals as goal
 
 pub returns-clause-feeds : goal.returns-clause-feeds
@@ -28,3 +28,6 @@ returns-clause-feeds c =
     let waiting = c.append_reserved.ensures ∙ ap (λ (v : List HttpReply). v ++ x.replies.items) (c.give_reserved.ensures.items ∙ (λ j. c.in_ok-reserve.ensures.items j ++ given_of (reply ((c.of.ensures ∙ body) j)))) in
     subst (λ (r : Reading). FeedsAll r all c.settle.result c.settle.new.self) c.self.view_is
     (after_feeds old all status c.args.last.now used base x c.append_reserved.new.waiting.items c.settle.new.self c.settle.result q.0 begun g refl s waiting c.settle.ensures.state c.settle.ensures.told)
+
+pub settle-requires-clause-head : goal.settle-requires-clause-head
+settle-requires-clause-head c = scan_head _ _ c.in_ok-replies.field-0 c.in_ok-replies.ensures

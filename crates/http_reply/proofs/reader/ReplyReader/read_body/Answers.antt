@@ -5,6 +5,8 @@ use Rattle.http_edge.specs.declared.gather.Ending.TheVariants.{Open, Bad}
 use Rattle.http_reply.specs.Reading.{Reading}
 use Rattle.http_reply.specs.Keeping.{FeedsAll, settled}
 use Rattle.http_edge.proofs.NextLaws.{window}
+use Rattle.http_reply.specs.Heads.{IsOpenHead}
+use Rattle.http_reply.proofs.OpeningLaws.{open_nil}
 use Rattle.http_reply.proofs.FeedLaws.{open_feeds, bad_feeds, some_status, gathered}
 use Rattle.http_reply.proofs.reader.ReplyReader.read_body.Goals as goal
 
@@ -34,3 +36,6 @@ returns-clause-feeds c =
     let g = gathered i.stage c.len.result i.body.items all x.bytes.items x.used x.end (Bad c.in-Bad.why) (c.len.ensures ∙ i.body.ok.0) c.in-Bad.is c.in_ok-bytes.ensures in
     subst (λ (r : Reading). FeedsAll r all c.settle-in-Bad.result c.settle-in-Bad.new.self) c.self.view_is
     (bad_feeds old all h.0 x.bytes.items x.used c.in-Bad.why (i.at + c.place.result) c.cleared.result c.settle-in-Bad.new.self c.settle-in-Bad.result q.0 h.1 g (ap (λ (n : ℕ). i.at + n) c.place.ensures) c.cleared.ensures (c.settle-in-Bad.ensures.state ∙ ap (λ (r : Reading). settled r i.at c.cleared.result) (sym c.self.view_is)) c.settle-in-Bad.ensures.told)
+
+pub settle-requires-clause-head : goal.settle-requires-clause-head
+settle-requires-clause-head c = λ _. subst IsOpenHead (sym c.cleared.ensures.unread_is) open_nil

@@ -1,5 +1,5 @@
 -- What waits in front is taken.
-use Rattle.std.proofs.Common.{◌≡◌, List, [], ◌∷◌, ◌++◌, ◌∙◌, Option, Some, None, ap, sym, subst, append_assoc}
+use Rattle.std.proofs.Common.{◌≡◌, List, [], ◌∷◌, ◌++◌, Option, Some, None, sym, subst, append_assoc}
 use Rattle.std.specs.Prelude.{option_to_list, All}
 use Rattle.std.proofs.lemmas.List.Elements.{All-tail}
 use Rattle.relp_frame.specs.Spelling.{IsFrame}
