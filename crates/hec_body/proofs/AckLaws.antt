@@ -1,7 +1,7 @@
 -- Arrays of numbers, and the first places of numbers.
-use Rattle.std.proofs.Common.{◌≡◌, ◌≢◌, ℕ, zero, suc, ◌+◌, ◌<◌, ◌⊎◌, inl, inr, Bool, true, false, cond, not, ◌||◌, Option, Some, None, List, [], ◌∷◌, ◌++◌, length, get_or, take, refl, sym, ◌∙◌, ap, subst, arith}
-use Rattle.std.specs.Prelude.{◌==◌, filter, option_and_then}
-use Rattle.std.specs.List.{list_any}
+use Rattle.std.proofs.Common.{◌≡◌, ◌≢◌, ℕ, zero, suc, ◌+◌, ◌<◌, ◌≤◌, ◌⊎◌, inl, inr, Bool, true, false, cond, not, ◌||◌, Option, Some, None, List, [], ◌∷◌, ◌++◌, length, get_or, take, refl, sym, ◌∙◌, ap, subst, arith}
+use Rattle.std.specs.Prelude.{◌==◌, filter, nat_eq, option_and_then}
+use Rattle.std.specs.List.{AllByRecursion, IsDistinct, list_any}
 use Rattle.std.specs.Ordering.{nat_cmp, is_eq}
 use Rattle.std.specs.Cmp.{Equal-is}
 use Rattle.std.specs.BTreeSet.{BTreeSet, contains, Updates}
@@ -132,3 +132,47 @@ seen_more old new xs i n within updates seen =
 pub not_is_true : (b : Bool) → not b ≡ true → b ≡ false
 not_is_true true e = sym e
 not_is_true false e = refl
+
+-- ---- they are distinct, and no more than the numbers
+
+filter_within : (P : ℕ → Type 0) (t : ℕ → Bool) (xs : List ℕ) → AllByRecursion P xs → AllByRecursion P (filter t xs)
+filter_within P t [] h = tt
+filter_within P t (x ∷ xs) h = by (t x) (filter_within P t xs h.1) where
+  by : (b : Bool) → AllByRecursion P (filter t xs) → AllByRecursion P (cond b (x ∷ filter t xs) (filter t xs))
+  by true rest = (h.0, rest)
+  by false rest = rest
+
+filter_distinct : (t : ℕ → Bool) (xs : List ℕ) → IsDistinct nat_eq xs → IsDistinct nat_eq (filter t xs)
+unfolding IsDistinct
+filter_distinct t [] h = tt
+filter_distinct t (x ∷ xs) h = by (t x) (filter_distinct t xs h.1) where
+  by : (b : Bool) → IsDistinct nat_eq (filter t xs) → IsDistinct nat_eq (cond b (x ∷ filter t xs) (filter t xs))
+  by true rest = (filter_within (λ y. nat_eq x y ≡ false) t xs h.0, rest)
+  by false rest = rest
+
+other_number : (n m : ℕ) (b : Bool) → (m == n) ≡ b → not b ≡ true → nat_eq n m ≡ false
+other_number n m true e isnt = absurd cc
+other_number n m false e isnt = ne_eqb n m (λ same. eqb-false m n e (sym same))
+
+others_only : (n : ℕ) (xs : List ℕ) → AllByRecursion (λ y. nat_eq n y ≡ false) (filter (λ m. not (m == n)) xs)
+others_only n [] = tt
+others_only n (x ∷ xs) = by (x == n) refl (others_only n xs) where
+  by : (b : Bool) → (x == n) ≡ b → AllByRecursion (λ y. nat_eq n y ≡ false) (filter (λ m. not (m == n)) xs) → AllByRecursion (λ y. nat_eq n y ≡ false) (cond (not b) (x ∷ filter (λ m. not (m == n)) xs) (filter (λ m. not (m == n)) xs))
+  by true e rest = rest
+  by false e rest = (other_number n x false e refl, rest)
+
+pub distinct_is : (ns : List ℕ) → IsDistinct nat_eq (distinct ns)
+unfolding IsDistinct
+distinct_is [] = tt
+distinct_is (n ∷ ns) = (others_only n (distinct ns), filter_distinct (λ m. not (m == n)) (distinct ns) (distinct_is ns))
+
+length-filtered : (t : ℕ → Bool) (xs : List ℕ) → length (filter t xs) ≤ length xs
+length-filtered t [] = omega arith
+length-filtered t (x ∷ xs) = by (t x) (length-filtered t xs) where
+  by : (b : Bool) → length (filter t xs) ≤ length xs → length (cond b (x ∷ filter t xs) (filter t xs)) ≤ length (x ∷ xs)
+  by true rest = omega (arith, rest)
+  by false rest = omega (arith, rest)
+
+pub length-distinct : (ns : List ℕ) → length (distinct ns) ≤ length ns
+length-distinct [] = omega arith
+length-distinct (n ∷ ns) = omega (arith, length-distinct ns, length-filtered (λ m. not (m == n)) (distinct ns))

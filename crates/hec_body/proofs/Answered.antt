@@ -1,10 +1,12 @@
 -- The members of an answer, one after another.
-use Rattle.std.proofs.Common.{◌≡◌, ℕ, ◌+◌, ◌<◌, ◌≤◌, Bool, List, [], ◌∷◌, ◌++◌, length, get_or, map, take, refl, sym, ◌∙◌, ap, arith, append_assoc}
+use Rattle.std.proofs.Common.{◌≡◌, ℕ, suc, ◌+◌, ◌*◌, ◌^◌, ◌<◌, ◌≤◌, Bool, true, false, codes, lit<, List, [], ◌∷◌, ◌++◌, length, get_or, map, take, refl, sym, ◌∙◌, ap, arith, append_assoc, length-append}
 use Rattle.std.specs.List.{join_with_byte, zip}
 use Rattle.std.proofs.Math.Seq.{take-length}
 use Rattle.std.proofs.lemmas.List.{map_more, length-map, length-take-le}
 use Rattle.std.proofs.lemmas.Slice.Zip.{get_or-zip, length-zip}
-use Rattle.hec_body.specs.Acks.{ack_member}
+use Rattle.std.specs.Fmt.{decimal}
+use Rattle.std.proofs.lemmas.Fmt.{length-decimal-le}
+use Rattle.hec_body.specs.Acks.{ack_member, answer_of}
 
 three : (y j x : List ℕ) → y ++ 44 ∷ ((j ++ 44 ∷ []) ++ x) ≡ ((y ++ 44 ∷ j) ++ 44 ∷ []) ++ x
 three y j x = simp append_assoc
@@ -58,7 +60,46 @@ first_one head old new i ids known d within same none o n =
     ∙ ap (λ (z : List ℕ). head ++ z) (sym (ap (join_with_byte 44) (texts_more i ids known d within same) ∙ join_first (texts_to i ids known) (member_at i ids known d) (omega (arith, length-texts_to i ids known within same))))
 
 -- all of them
-pub all_members : (i : ℕ) (ids : List ℕ) (known : List Bool) → length ids ≤ i → i ≤ length ids → length ids ≡ length known → members_to i ids known ≡ join_with_byte 44 (map ack_member (zip ids known))
+all_members : (i : ℕ) (ids : List ℕ) (known : List Bool) → length ids ≤ i → i ≤ length ids → length ids ≡ length known → members_to i ids known ≡ join_with_byte 44 (map ack_member (zip ids known))
 all_members i ids known past within same =
     let all : i ≡ length (zip ids known) = omega (arith, length-zip ids known) in
     ap (λ (n : ℕ). join_with_byte 44 (map ack_member (take n (zip ids known)))) all ∙ ap (λ (z : List (ℕ × Bool)). join_with_byte 44 (map ack_member z)) (take-length (zip ids known))
+
+-- the whole answer
+pub answer_built : (text result : List ℕ) (i : ℕ) (ids : List ℕ) (known : List Bool) → text ≡ codes "{\"acks\":{" ++ members_to i ids known → length ids ≤ i → i ≤ length ids → length ids ≡ length known → result ≡ text ++ codes "}}" → result ≡ answer_of ids known
+answer_built text result i ids known t past within same r =
+    let head = codes "{\"acks\":{" in
+    r ∙ ap (λ (z : List ℕ). z ++ codes "}}") (t ∙ ap (λ (z : List ℕ). head ++ z) (all_members i ids known past within same)) ∙ append_assoc head (join_with_byte 44 (map ack_member (zip ids known))) (codes "}}")
+
+-- ---- an answer is short
+
+member_short : (n : ℕ) (b : Bool) → n < 2 ^ 64 → length (ack_member (n, b)) ≤ 28
+member_short n b fits = by b where
+  digits : length (decimal n) ≤ 20
+  digits = length-decimal-le 20 n (lit< tt) (omega (arith, fits)) fits
+
+  by : (b : Bool) → length (ack_member (n, b)) ≤ 28
+  by true = omega (arith, digits, length-append (decimal n) (codes "\":" ++ codes "true"), length-append (codes "\"") (decimal n ++ (codes "\":" ++ codes "true")))
+  by false = omega (arith, digits, length-append (decimal n) (codes "\":" ++ codes "false"), length-append (codes "\"") (decimal n ++ (codes "\":" ++ codes "false")))
+
+-- each number of a list is one of 64 bits
+abbrev pub Fit : List ℕ → Type 0
+Fit [] = Unit {0}
+Fit (n ∷ ns) = (n < 2 ^ 64) × Fit ns
+
+pub fit_each : (ns : List ℕ) → ((k : ℕ) → k < length ns → get_or ns k 0 < 2 ^ 64) → Fit ns
+fit_each [] h = tt
+fit_each (n ∷ ns) h = (h 0 (omega arith), fit_each ns (λ k within. h (suc k) (omega arith)))
+
+joined_short : (ids : List ℕ) (known : List Bool) → Fit ids → length (join_with_byte 44 (map ack_member (zip ids known))) ≤ 29 * length ids
+joined_short [] known fit = omega arith
+joined_short (n ∷ ids) [] fit = omega arith
+joined_short (n ∷ []) (b ∷ known) fit = omega (arith, member_short n b fit.0)
+joined_short (n ∷ m ∷ ids) (b ∷ []) fit = omega (arith, member_short n b fit.0)
+joined_short (n ∷ m ∷ ids) (b ∷ c ∷ known) fit =
+    omega (arith, member_short n b fit.0, joined_short (m ∷ ids) (c ∷ known) fit.1, length-append (ack_member (n, b)) (44 ∷ join_with_byte 44 (map ack_member (zip (m ∷ ids) (c ∷ known)))))
+
+pub answer_short : (ids : List ℕ) (known : List Bool) → Fit ids → length (answer_of ids known) ≤ 29 * length ids + 11
+answer_short ids known fit =
+    let inner = join_with_byte 44 (map ack_member (zip ids known)) in
+    omega (arith, joined_short ids known fit, length-append inner (codes "}}"), length-append (codes "{\"acks\":{") (inner ++ codes "}}"))

@@ -1,5 +1,4 @@
 pub mod Front
-pub mod Members
 pub mod LineLaws
 pub mod EventLaws
 pub mod AckLaws

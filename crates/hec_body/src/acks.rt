@@ -1,5 +1,6 @@
 //! Ack queries.
-ghost use Rattle.std.specs.Prelude.{◌≡◌, ◌≢◌, ℕ, List, codes, option_map, option_and_then, IfOk};
+ghost use Rattle.std.specs.Prelude.{◌≡◌, ◌≢◌, ◌≤◌, ℕ, List, codes, length, nat_eq, option_map, option_and_then, IfOk};
+ghost use Rattle.std.specs.List.{IsDistinct};
 ghost use Rattle.serde_json.specs.Find.{get, as_array};
 ghost use Rattle.serde_json.specs.View.{view, items_view};
 ghost use Rattle.hec_body.specs.declared.fault.AckFault.TheVariants.{Format};
@@ -58,6 +59,8 @@ fn acks_of(query: &Value) -> Option<&Vec<Value>>
 /// `NoMemory`: no memory was found; it can come in place of any answer.
 pub fn ack_ids(alloc: Global, body: &[u8]) -> Result<Vec<u64>, AckFault>
     ensures ids { IfOk result (λ ids. AsksFor body.now ids.items) }
+    ensures distinct { IfOk result (λ ids. IsDistinct nat_eq ids.items) }
+    ensures few { IfOk result (λ ids. length ids.items ≤ 10000) }
     ensures format { result ≡ Err Format → (ids : List ℕ) → ¬ AsksFor body.now ids }
 {
     let query = Value::from_slice(alloc, body)?;

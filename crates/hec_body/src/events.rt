@@ -1,19 +1,19 @@
 //! Event bodies.
-ghost use Rattle.std.specs.Prelude.{◌≡◌, ℕ, ◌<◌, ◌^◌, OnOk, IfOk, IfErr};
+ghost use Rattle.std.specs.Prelude.{◌≡◌, ℕ, ◌<◌, ◌≤◌, ◌^◌, length, OnOk, IfOk, IfErr};
 ghost use Rattle.json_span.specs.Json.{JsonObject};
 ghost use Rattle.hec_body.specs.Limits.{AreWithinLimits};
 ghost use Rattle.hec_body.specs.Events.{IsEventObject, AreEvents, IsRefused, IsFirstFault};
 
 use crate::fault::BodyFault;
 use crate::limits::{MOST_EVENTS, MOST_TEXT};
-use crate::objects::{event_value, first_object, is_blank, is_white_space};
+use crate::objects::{first_object, is_blank_at, is_white_space};
 use event_form::Blob;
-use json_span::{Span, members};
+use json_span::{Span, first_named};
 use std::alloc::Global;
 
 /// Judges an object by itself, as the event of that number: how long it is, whether it has an event, and
 /// whether that is blank.
-fn judge(alloc: Global, text: &[u8], event: u32) -> Result<(), BodyFault>
+fn judge(text: &[u8], event: u32) -> Result<(), BodyFault>
     requires { JsonObject 127 text.now }
     ensures event { OnOk result (IsEventObject text.now) }
     ensures fault { IfErr result (λ fault. IsRefused text.now event fault) }
@@ -25,12 +25,13 @@ fn judge(alloc: Global, text: &[u8], event: u32) -> Result<(), BodyFault>
         start: 0,
         end: text.len(),
     };
-    let members = members(alloc, text, whole)?;
-    match event_value(text, &members) {
-        None => Err(BodyFault::NoEvent { event }),
-        Some(value) if is_blank(value) => Err(BodyFault::Blank { event }),
-        Some(_) => Ok(()),
+    let Some(at) = first_named(text, whole, b"\"event\"") else {
+        return Err(BodyFault::NoEvent { event });
+    };
+    if is_blank_at(text, at) {
+        return Err(BodyFault::Blank { event });
     }
+    Ok(())
 }
 
 /// The event objects of an event body ("Format events for HTTP Event Collector"), as they are spelt, in
@@ -45,6 +46,7 @@ fn judge(alloc: Global, text: &[u8], event: u32) -> Result<(), BodyFault>
 pub fn event_pieces(alloc: Global, body: &[u8]) -> Result<Vec<Blob>, BodyFault>
     ensures events { IfOk result (λ pieces. AreEvents body.now pieces.items) }
     ensures limits { IfOk result (λ pieces. AreWithinLimits pieces.items) }
+    ensures bounded { IfOk result (λ pieces. length pieces.items ≤ length body.now) }
     ensures fault { IfErr result (λ fault. IsFirstFault body.now fault) }
 {
     let mut pieces = Vec::new(alloc);
@@ -53,7 +55,7 @@ pub fn event_pieces(alloc: Global, body: &[u8]) -> Result<Vec<Blob>, BodyFault>
         if pieces.len() == MOST_EVENTS {
             return Err(BodyFault::TooMany);
         }
-        judge(alloc, text, pieces.len() as u32)?;
+        judge(text, pieces.len() as u32)?;
         pieces.push(Blob::of(Vec::from_slice(alloc, text)?))?;
         rest = behind;
     }

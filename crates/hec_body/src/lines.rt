@@ -1,5 +1,5 @@
 //! Raw bodies.
-ghost use Rattle.std.specs.Prelude.{◌≡◌, ◌<◌, ◌==◌, ◌∷◌, length, position, IfOk, IfErr};
+ghost use Rattle.std.specs.Prelude.{◌≡◌, ◌<◌, ◌≤◌, ◌==◌, ◌∷◌, length, position, IfOk, IfErr};
 ghost use Rattle.std.specs.Str.Lines.{lines};
 ghost use Rattle.hec_body.specs.Limits.{AreWithinLimits};
 ghost use Rattle.hec_body.specs.Lines.{filled_lines, IsLineFault};
@@ -39,6 +39,7 @@ fn first_line(bytes: &[u8]) -> (&[u8], &[u8])
 pub fn raw_lines(alloc: Global, body: &[u8]) -> Result<Vec<Blob>, BodyFault>
     ensures lines { IfOk result (λ texts. texts.items ≡ filled_lines body.now) }
     ensures limits { IfOk result (λ texts. AreWithinLimits texts.items) }
+    ensures bounded { IfOk result (λ texts. length texts.items ≤ length body.now) }
     ensures fault { IfErr result (λ fault. IsLineFault (filled_lines body.now) fault) }
 {
     let mut texts = Vec::new(alloc);

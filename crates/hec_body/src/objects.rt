@@ -1,12 +1,12 @@
 //! The object that some bytes begin with, and its event.
-ghost use Rattle.std.specs.Prelude.{◌≡◌, ℕ, ◌↔◌, List, IsTrue, IfSome, IfNone, All};
+ghost use Rattle.std.specs.Prelude.{◌≡◌, ℕ, ◌↔◌, List, ◌++◌, IsTrue, IfSome, IfNone, slice_range};
 ghost use Rattle.std.specs.List.{list_all};
 ghost use Rattle.json_span.specs.Json.{is_space};
-ghost use Rattle.json_span.specs.Members.{IsMemberAt};
-ghost use Rattle.json_span.specs.declared.object.Member.{Member};
-ghost use Rattle.hec_body.specs.Events.{BeginsObject, IsNamedEvent, FirstEventIs, IsBlank};
+ghost use Rattle.json_span.specs.Spans.{IsFirst};
+ghost use Rattle.json_span.specs.declared.span.Span.{Span};
+ghost use Rattle.hec_body.specs.Events.{BeginsObject, IsBlank};
 
-use json_span::{Member, first_value};
+use json_span::first_value;
 
 /// Whether the bytes are white space alone (RFC 8259, section 2), or none at all.
 pub(crate) fn is_white_space(bytes: &[u8]) -> bool
@@ -28,23 +28,32 @@ pub(crate) fn first_object(bytes: &[u8]) -> Option<(&[u8], &[u8])>
     }
 }
 
-/// The value of the first of the members that is spelt `"event"`.
-pub(crate) fn event_value<'a>(text: &'a [u8], members: &[Member]) -> Option<&'a [u8]>
-    requires { All (IsMemberAt text.now) members.now }
-    ensures some { IfSome result (λ value. FirstEventIs text.now members.now value.now) }
-    ensures none { IfNone result (All (λ m. ¬ IsNamedEvent text.now m) members.now) }
-{
-    for member in members {
-        if &text[member.name.start..member.name.end] == b"\"event\"".as_slice() {
-            return Some(&text[member.value.start..member.value.end]);
-        }
-    }
-    None
-}
-
 /// Whether an event's value is `""` or `null`.
-pub(crate) fn is_blank(value: &[u8]) -> bool
+fn is_blank(value: &[u8]) -> bool
     ensures { IsTrue result ↔ IsBlank value.now }
 {
     value == b"\"\"".as_slice() || value == b"null".as_slice()
+}
+
+/// Whether the bytes begin as a blank value does.
+fn begins_blank(bytes: &[u8]) -> bool
+    ensures { (value more : List ℕ) → IsBlank value → bytes.now ≡ value ++ more → IsTrue result }
+{
+    let empty = bytes.starts_with(b"\"\"");
+    let null = bytes.starts_with(b"null");
+    empty || null
+}
+
+/// Whether the value that begins at a place is blank. Of another value no more than its first bytes are looked at.
+pub(crate) fn is_blank_at(text: &[u8], at: usize) -> bool
+    requires { (value : Span) × (value.start ≡ at) × IsFirst text.now at value }
+    ensures { (value : Span) → IsFirst text.now at value → IsTrue result ↔ IsBlank (slice_range text.now value.start value.end) }
+{
+    if !begins_blank(&text[at..]) {
+        return false;
+    }
+    match first_value(text, at) {
+        Ok(span) => is_blank(&text[span.start..span.end]),
+        Err(_) => false,
+    }
 }

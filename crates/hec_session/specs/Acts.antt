@@ -1,7 +1,7 @@
 -- What a receiver does for a request: the answer of the first check that doesn't pass, or else what its body
 -- asks for.
-use Rattle.std.specs.Prelude.{◌≡◌, ℕ, ◌<◌, ◌≤◌, ⊤, List, length, map, Some, None, Result, Ok, Err}
-use Rattle.std.specs.List.{All}
+use Rattle.std.specs.Prelude.{◌≡◌, ℕ, ◌<◌, ◌≤◌, ⊤, List, length, map, nat_eq, Some, None, Result, Ok, Err}
+use Rattle.std.specs.List.{All, IsDistinct}
 use Rattle.event_form.specs.declared.event.Event.{Event}
 use Rattle.event_form.specs.declared.event.Origin.{Origin}
 use Rattle.event_form.specs.declared.event.Origin.TheVariants.{HecEvent, HecRaw}
@@ -95,12 +95,24 @@ pub record AreWithinLimits (events : List Event) : Type 0 where
   pub few : length events ≤ 10000
   pub each : All IsEvent events
 
--- events that are stored keep their limits, and a reply can be written
+-- the ids of a query: each stands there once, and there are at most 10,000
+pub record AreAsked (ids : List ℕ) : Type 0 where
+  pub distinct : IsDistinct nat_eq ids
+  pub few : length ids ≤ 10000
+
+-- events that are stored and ids that are asked for keep their limits, and a reply can be written
 abbrev pub IsSound : HecAct → Type 0
 IsSound (StoreThenSay events) = AreWithinLimits events.items
 IsSound (SayThenStore channel events) = AreWithinLimits events.items
-IsSound (Ask channel ids) = ⊤
+IsSound (Ask channel ids) = AreAsked ids.items
 IsSound (Say say) = IsReply say
+
+-- how many events an act stores
+abbrev pub count_of : HecAct → ℕ
+count_of (StoreThenSay events) = length events.items
+count_of (SayThenStore channel events) = length events.items
+count_of (Ask channel ids) = 0
+count_of (Say say) = 0
 
 -- ---- steps on the way
 

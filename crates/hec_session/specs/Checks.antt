@@ -17,7 +17,12 @@ use Rattle.hec_session.specs.declared.tokens.Grant.TheVariants.{WithAcks, Withou
 use Rattle.hec_session.specs.declared.tokens.Tokens.{Tokens}
 use Rattle.hec_session.specs.declared.task.Task.{Task}
 use Rattle.hec_session.specs.declared.task.Task.TheVariants.{Store, StoreOn, AskOn}
+use Rattle.hec_session.specs.declared.request.RequestRef.{RequestRef}
 use Rattle.hec_session.specs.Target.{path_of, parameter}
+
+-- a request that is lent, as one of its own; no check looks at the version
+abbrev pub request_of : RequestRef → HttpRequest
+request_of r = record { method = r.method.now; target = r.target.now; minor = 1; fields = r.fields.now; body = r.body.now }
 
 -- what a check leaves to the next one
 abbrev pub and_then : {A B : Type 0} → Result A HecCode → (A → Result B HecCode) → Result B HecCode

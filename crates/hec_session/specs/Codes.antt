@@ -1,91 +1,48 @@
 -- The codes of replies ("Troubleshoot HTTP Event Collector", possible error codes), and their bodies.
-use Rattle.std.specs.Prelude.{◌≡◌, ℕ, ◌==◌, IsTrue, List, [], ◌++◌, Option, Some, None, codes, if◌then◌else◌}
+use Rattle.std.specs.Prelude.{◌≡◌, ℕ, IsTrue, List, [], ◌++◌, Option, Some, None, codes}
 use Rattle.std.specs.Fmt.{decimal}
 use Rattle.http_edge.specs.Reply.{is_status}
 use Rattle.hec_session.specs.declared.code.HecCode.{HecCode}
 use Rattle.hec_session.specs.declared.code.HecCode.TheVariants.{Success, TokenRequired, InvalidAuthorization, InvalidToken, EmptyBody, InvalidFormat, ServerError, ServerBusy, ChannelMissing, InvalidChannel, EventRequired, EventBlank, AckDisabled, QueryAuthorization, Healthy, NotFound, MethodNotAllowed}
 use Rattle.hec_session.specs.declared.say.HecSay.{HecSay}
 
--- the numbers; 404 and 405 are this project's own
+-- a code's number, the status of its replies, and its text
+pub record Row : Type 0 where
+  pub number : ℕ
+  pub status : ℕ
+  pub text : List ℕ
+
+abbrev pub row : ℕ → ℕ → List ℕ → Row
+row number status text = record { number = number; status = status; text = text }
+
+-- the table of codes; 404 and 405 are this project's own
+abbrev pub row_of : HecCode → Row
+row_of Success = row 0 200 (codes "Success")
+row_of TokenRequired = row 2 401 (codes "Token is required")
+row_of InvalidAuthorization = row 3 401 (codes "Invalid authorization")
+row_of InvalidToken = row 4 403 (codes "Invalid token")
+row_of EmptyBody = row 5 400 (codes "No data")
+row_of InvalidFormat = row 6 400 (codes "Invalid data format")
+row_of ServerError = row 8 500 (codes "Internal server error")
+row_of ServerBusy = row 9 503 (codes "Server is busy")
+row_of ChannelMissing = row 10 400 (codes "Data channel is missing")
+row_of InvalidChannel = row 11 400 (codes "Invalid data channel")
+row_of EventRequired = row 12 400 (codes "Event field is required")
+row_of EventBlank = row 13 400 (codes "Event field cannot be blank")
+row_of AckDisabled = row 14 400 (codes "ACK is disabled")
+row_of QueryAuthorization = row 16 400 (codes "Query string authorization is not enabled")
+row_of Healthy = row 17 200 (codes "HEC is healthy")
+row_of NotFound = row 404 404 (codes "Not found")
+row_of MethodNotAllowed = row 405 405 (codes "Method not allowed")
+
 abbrev pub number_of : HecCode → ℕ
-number_of Success = 0
-number_of TokenRequired = 2
-number_of InvalidAuthorization = 3
-number_of InvalidToken = 4
-number_of EmptyBody = 5
-number_of InvalidFormat = 6
-number_of ServerError = 8
-number_of ServerBusy = 9
-number_of ChannelMissing = 10
-number_of InvalidChannel = 11
-number_of EventRequired = 12
-number_of EventBlank = 13
-number_of AckDisabled = 14
-number_of QueryAuthorization = 16
-number_of Healthy = 17
-number_of NotFound = 404
-number_of MethodNotAllowed = 405
+number_of code = (row_of code).number
 
--- the code with a number
-abbrev pub code_with : ℕ → HecCode
-code_with number =
-    if number == 0 then Success
-    else if number == 2 then TokenRequired
-    else if number == 3 then InvalidAuthorization
-    else if number == 4 then InvalidToken
-    else if number == 5 then EmptyBody
-    else if number == 6 then InvalidFormat
-    else if number == 8 then ServerError
-    else if number == 9 then ServerBusy
-    else if number == 10 then ChannelMissing
-    else if number == 11 then InvalidChannel
-    else if number == 12 then EventRequired
-    else if number == 13 then EventBlank
-    else if number == 14 then AckDisabled
-    else if number == 16 then QueryAuthorization
-    else if number == 17 then Healthy
-    else if number == 404 then NotFound
-    else MethodNotAllowed
-
--- their statuses
 abbrev pub status_of : HecCode → ℕ
-status_of Success = 200
-status_of TokenRequired = 401
-status_of InvalidAuthorization = 401
-status_of InvalidToken = 403
-status_of EmptyBody = 400
-status_of InvalidFormat = 400
-status_of ServerError = 500
-status_of ServerBusy = 503
-status_of ChannelMissing = 400
-status_of InvalidChannel = 400
-status_of EventRequired = 400
-status_of EventBlank = 400
-status_of AckDisabled = 400
-status_of QueryAuthorization = 400
-status_of Healthy = 200
-status_of NotFound = 404
-status_of MethodNotAllowed = 405
+status_of code = (row_of code).status
 
--- their texts
 abbrev pub text_of : HecCode → List ℕ
-text_of Success = codes "Success"
-text_of TokenRequired = codes "Token is required"
-text_of InvalidAuthorization = codes "Invalid authorization"
-text_of InvalidToken = codes "Invalid token"
-text_of EmptyBody = codes "No data"
-text_of InvalidFormat = codes "Invalid data format"
-text_of ServerError = codes "Internal server error"
-text_of ServerBusy = codes "Server is busy"
-text_of ChannelMissing = codes "Data channel is missing"
-text_of InvalidChannel = codes "Invalid data channel"
-text_of EventRequired = codes "Event field is required"
-text_of EventBlank = codes "Event field cannot be blank"
-text_of AckDisabled = codes "ACK is disabled"
-text_of QueryAuthorization = codes "Query string authorization is not enabled"
-text_of Healthy = codes "HEC is healthy"
-text_of NotFound = codes "Not found"
-text_of MethodNotAllowed = codes "Method not allowed"
+text_of code = (row_of code).text
 
 -- a reply with this code, and with the number of an event at fault
 abbrev pub say_of : HecCode → Option ℕ → HecSay

@@ -1,9 +1,9 @@
 //! What is done for a request's body.
-ghost use Rattle.std.specs.Prelude.{◌≡◌, map, IfOk, IfErr, MatchResult};
+ghost use Rattle.std.specs.Prelude.{◌≡◌, ◌≤◌, length, map, IfOk, IfErr, MatchResult};
 ghost use Rattle.hec_body.specs.Limits as limits;
 ghost use Rattle.hec_body.specs.declared.fault.BodyFault.TheVariants.{NoMemory};
 ghost use Rattle.hec_session.specs.Codes.{IsReply};
-ghost use Rattle.hec_session.specs.Acts.{AreEventsOf, AreWithinLimits, AsksOn, IsCutBy, IsSound, Stores, StoresOn, Tells, event_of, origin_of};
+ghost use Rattle.hec_session.specs.Acts.{AreEventsOf, AreWithinLimits, AsksOn, IsCutBy, IsSound, Stores, StoresOn, Tells, count_of, event_of, origin_of};
 
 use crate::act::HecAct;
 use crate::code::HecCode;
@@ -20,6 +20,7 @@ const MOST_EVENTS: u32 = 10_000;
 fn texts_of(alloc: Global, form: Form, body: &[u8]) -> Result<Vec<Blob>, BodyFault>
     ensures texts { IfOk result (λ texts. IsCutBy form body.now (Ok texts.items)) }
     ensures limits { IfOk result (λ texts. limits.AreWithinLimits texts.items) }
+    ensures bounded { IfOk result (λ texts. length texts.items ≤ length body.now) }
     ensures fault { IfErr result (λ fault. IsCutBy form body.now (Err fault)) }
 {
     match form {
@@ -52,6 +53,7 @@ fn with_origin(alloc: Global, form: Form, texts: Vec<Blob>) -> Result<Vec<Event>
 fn events_of(alloc: Global, form: Form, body: &[u8]) -> Result<Vec<Event>, BodyFault>
     ensures events { IfOk result (λ events. AreEventsOf form body.now events.items) }
     ensures limits { IfOk result (λ events. AreWithinLimits events.items) }
+    ensures bounded { IfOk result (λ events. length events.items ≤ length body.now) }
     ensures fault { IfErr result (λ fault. IsCutBy form body.now (Err fault)) }
 {
     let texts = texts_of(alloc, form, body)?;
@@ -77,6 +79,7 @@ fn told(fault: BodyFault) -> Result<HecSay, AllocError>
 pub fn store(alloc: Global, form: Form, body: &[u8]) -> Result<HecAct, AllocError>
     ensures act { IfOk result (Stores form body.now) }
     ensures sound { IfOk result IsSound }
+    ensures bounded { IfOk result (λ act. count_of act ≤ length body.now) }
 {
     match events_of(alloc, form, body) {
         Ok(events) => Ok(HecAct::StoreThenSay { events }),
@@ -88,6 +91,7 @@ pub fn store(alloc: Global, form: Form, body: &[u8]) -> Result<HecAct, AllocErro
 pub fn store_on(alloc: Global, form: Form, channel: u128, body: &[u8]) -> Result<HecAct, AllocError>
     ensures act { IfOk result (StoresOn form channel body.now) }
     ensures sound { IfOk result IsSound }
+    ensures bounded { IfOk result (λ act. count_of act ≤ length body.now) }
 {
     match events_of(alloc, form, body) {
         Ok(events) => Ok(HecAct::SayThenStore { channel, events }),
@@ -99,6 +103,7 @@ pub fn store_on(alloc: Global, form: Form, channel: u128, body: &[u8]) -> Result
 pub fn ask(alloc: Global, channel: u128, body: &[u8]) -> Result<HecAct, AllocError>
     ensures act { IfOk result (AsksOn channel body.now) }
     ensures sound { IfOk result IsSound }
+    ensures none { IfOk result (λ act. count_of act ≡ 0) }
 {
     match ack_ids(alloc, body) {
         Ok(ids) => Ok(HecAct::Ask { channel, ids }),

@@ -1,6 +1,7 @@
 //! The codes of replies.
 ghost use Rattle.std.specs.Prelude.{◌≡◌};
-ghost use Rattle.hec_session.specs.Codes.{number_of, code_with, status_of, text_of};
+ghost use Rattle.hec_session.specs.declared.code.HecCode.{HecCode};
+ghost use Rattle.hec_session.specs.Codes.{number_of, status_of, text_of};
 
 /// Why a request is answered as it is: Splunk's possible error codes ("Troubleshoot HTTP Event Collector"),
 /// and two of this project's own, 404 and 405.
@@ -42,102 +43,110 @@ pub enum HecCode {
     MethodNotAllowed,
 }
 
+/// What the table has for a code.
+#[derive(Clone, Copy)]
+struct Row {
+    number: u16,
+    status: u16,
+    text: &'static [u8],
+}
+
+// A row of the table.
+fn made(number: u16, status: u16, text: &'static [u8]) -> Row
+    ensures number { result.number ≡ number }
+    ensures status { result.status ≡ status }
+    ensures text { result.text.now ≡ text.now }
+{
+    Row {
+        number,
+        status,
+        text,
+    }
+}
+
+/// All codes, in the order of their numbers.
+const CODES: [HecCode; 17] = [
+    HecCode::Success,
+    HecCode::TokenRequired,
+    HecCode::InvalidAuthorization,
+    HecCode::InvalidToken,
+    HecCode::EmptyBody,
+    HecCode::InvalidFormat,
+    HecCode::ServerError,
+    HecCode::ServerBusy,
+    HecCode::ChannelMissing,
+    HecCode::InvalidChannel,
+    HecCode::EventRequired,
+    HecCode::EventBlank,
+    HecCode::AckDisabled,
+    HecCode::QueryAuthorization,
+    HecCode::Healthy,
+    HecCode::NotFound,
+    HecCode::MethodNotAllowed,
+];
+
 impl HecCode {
-    /// The number in a reply's body.
-    pub fn number(self) -> u16
-        ensures { result ≡ number_of self }
+    // The table.
+    fn of_table(self) -> Row
+        ensures number { result.number ≡ number_of self }
+        ensures status { result.status ≡ status_of self }
+        ensures text { result.text.now ≡ text_of self }
     {
         match self {
-            HecCode::Success => 0,
-            HecCode::TokenRequired => 2,
-            HecCode::InvalidAuthorization => 3,
-            HecCode::InvalidToken => 4,
-            HecCode::EmptyBody => 5,
-            HecCode::InvalidFormat => 6,
-            HecCode::ServerError => 8,
-            HecCode::ServerBusy => 9,
-            HecCode::ChannelMissing => 10,
-            HecCode::InvalidChannel => 11,
-            HecCode::EventRequired => 12,
-            HecCode::EventBlank => 13,
-            HecCode::AckDisabled => 14,
-            HecCode::QueryAuthorization => 16,
-            HecCode::Healthy => 17,
-            HecCode::NotFound => 404,
-            HecCode::MethodNotAllowed => 405,
+            HecCode::Success => made(0, 200, b"Success"),
+            HecCode::TokenRequired => made(2, 401, b"Token is required"),
+            HecCode::InvalidAuthorization => made(3, 401, b"Invalid authorization"),
+            HecCode::InvalidToken => made(4, 403, b"Invalid token"),
+            HecCode::EmptyBody => made(5, 400, b"No data"),
+            HecCode::InvalidFormat => made(6, 400, b"Invalid data format"),
+            HecCode::ServerError => made(8, 500, b"Internal server error"),
+            HecCode::ServerBusy => made(9, 503, b"Server is busy"),
+            HecCode::ChannelMissing => made(10, 400, b"Data channel is missing"),
+            HecCode::InvalidChannel => made(11, 400, b"Invalid data channel"),
+            HecCode::EventRequired => made(12, 400, b"Event field is required"),
+            HecCode::EventBlank => made(13, 400, b"Event field cannot be blank"),
+            HecCode::AckDisabled => made(14, 400, b"ACK is disabled"),
+            HecCode::QueryAuthorization => made(
+                16,
+                400,
+                b"Query string authorization is not enabled",
+            ),
+            HecCode::Healthy => made(17, 200, b"HEC is healthy"),
+            HecCode::NotFound => made(404, 404, b"Not found"),
+            HecCode::MethodNotAllowed => made(405, 405, b"Method not allowed"),
         }
     }
 
     /// The code with this number, of which there has to be one.
     pub(crate) fn with(number: u16) -> HecCode
-        ensures { result ≡ code_with number }
+        ensures { (code : HecCode) → number ≡ number_of code → result ≡ code }
     {
-        match number {
-            0 => HecCode::Success,
-            2 => HecCode::TokenRequired,
-            3 => HecCode::InvalidAuthorization,
-            4 => HecCode::InvalidToken,
-            5 => HecCode::EmptyBody,
-            6 => HecCode::InvalidFormat,
-            8 => HecCode::ServerError,
-            9 => HecCode::ServerBusy,
-            10 => HecCode::ChannelMissing,
-            11 => HecCode::InvalidChannel,
-            12 => HecCode::EventRequired,
-            13 => HecCode::EventBlank,
-            14 => HecCode::AckDisabled,
-            16 => HecCode::QueryAuthorization,
-            17 => HecCode::Healthy,
-            404 => HecCode::NotFound,
-            _ => HecCode::MethodNotAllowed,
+        for code in CODES {
+            if code.number() == number {
+                return code;
+            }
         }
+        HecCode::Success
+    }
+
+    /// The number in a reply's body.
+    pub fn number(self) -> u16
+        ensures { result ≡ number_of self }
+    {
+        self.of_table().number
     }
 
     /// The status of a reply (RFC 9110, section 15).
     pub fn status(self) -> u16
         ensures { result ≡ status_of self }
     {
-        match self {
-            HecCode::Success | HecCode::Healthy => 200,
-            HecCode::TokenRequired | HecCode::InvalidAuthorization => 401,
-            HecCode::InvalidToken => 403,
-            HecCode::ServerError => 500,
-            HecCode::ServerBusy => 503,
-            HecCode::NotFound => 404,
-            HecCode::MethodNotAllowed => 405,
-            HecCode::EmptyBody
-            | HecCode::InvalidFormat
-            | HecCode::ChannelMissing
-            | HecCode::InvalidChannel
-            | HecCode::EventRequired
-            | HecCode::EventBlank
-            | HecCode::AckDisabled
-            | HecCode::QueryAuthorization => 400,
-        }
+        self.of_table().status
     }
 
     /// The text in a reply's body.
     pub(crate) fn text(self) -> &'static [u8]
         ensures { result.now ≡ text_of self }
     {
-        match self {
-            HecCode::Success => b"Success",
-            HecCode::TokenRequired => b"Token is required",
-            HecCode::InvalidAuthorization => b"Invalid authorization",
-            HecCode::InvalidToken => b"Invalid token",
-            HecCode::EmptyBody => b"No data",
-            HecCode::InvalidFormat => b"Invalid data format",
-            HecCode::ServerError => b"Internal server error",
-            HecCode::ServerBusy => b"Server is busy",
-            HecCode::ChannelMissing => b"Data channel is missing",
-            HecCode::InvalidChannel => b"Invalid data channel",
-            HecCode::EventRequired => b"Event field is required",
-            HecCode::EventBlank => b"Event field cannot be blank",
-            HecCode::AckDisabled => b"ACK is disabled",
-            HecCode::QueryAuthorization => b"Query string authorization is not enabled",
-            HecCode::Healthy => b"HEC is healthy",
-            HecCode::NotFound => b"Not found",
-            HecCode::MethodNotAllowed => b"Method not allowed",
-        }
+        self.of_table().text
     }
 }

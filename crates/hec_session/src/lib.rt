@@ -13,6 +13,7 @@ mod endpoint;
 mod laws;
 mod receiver;
 mod reply;
+mod request;
 mod say;
 mod stop;
 mod target;

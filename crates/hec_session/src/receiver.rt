@@ -1,14 +1,17 @@
 //! The receiver.
-ghost use Rattle.std.specs.Prelude.{◌≡◌, IfOk};
-ghost use Rattle.hec_session.specs.Acts.{IsAct, IsSound};
+ghost use Rattle.std.specs.Prelude.{◌≡◌, ◌≤◌, length, IfOk};
+ghost use Rattle.http_edge.specs.Waits.{with_body};
+ghost use Rattle.hec_session.specs.Acts.{IsAct, IsSound, count_of};
+ghost use Rattle.hec_session.specs.Checks.{request_of};
 
 use crate::act::HecAct;
 use crate::body::{ask, store, store_on};
+use crate::request::RequestRef;
 use crate::say::HecSay;
 use crate::stop::Stop;
 use crate::task::{Task, task_of};
 use crate::tokens::Tokens;
-use http_edge::HttpRequest;
+use http_edge::{Head, HttpRequest};
 use std::alloc::{AllocError, Global};
 use std::marker::Model;
 
@@ -37,6 +40,22 @@ impl HecCore {
         }
     }
 
+    // What is done for a request, by its checks and its body.
+    fn judge(&self, alloc: Global, request: &RequestRef<'_>) -> Result<HecAct, AllocError>
+        ensures act { IfOk result (IsAct self.now (request_of request.now)) }
+        ensures sound { IfOk result IsSound }
+        ensures bounded { IfOk result (λ act. count_of act ≤ length request.now.body.now) }
+    {
+        let body = request.body;
+        match task_of(alloc, &self.tokens, request) {
+            Ok(Task::Store(form)) => store(alloc, form, body),
+            Ok(Task::StoreOn(form, channel)) => store_on(alloc, form, channel, body),
+            Ok(Task::AskOn(channel)) => ask(alloc, channel, body),
+            Err(Stop::Answer(code)) => Ok(HecAct::Say(HecSay::of(code, None))),
+            Err(Stop::OutOfMemory) => Err(AllocError),
+        }
+    }
+
     /// What is done for a request. The checks are made in this order, and the first that doesn't pass
     /// answers ("HTTP Event Collector REST API endpoints"; the order and the limits are this project's own):
     ///
@@ -51,14 +70,30 @@ impl HecCore {
     pub fn step(&self, alloc: Global, request: &HttpRequest) -> Result<HecAct, AllocError>
         ensures act { IfOk result (IsAct self.now request.now) }
         ensures sound { IfOk result IsSound }
+        ensures bounded { IfOk result (λ act. count_of act ≤ length request.now.body) }
     {
-        let body = request.body.bytes();
-        match task_of(alloc, &self.tokens, request) {
-            Ok(Task::Store(form)) => store(alloc, form, body),
-            Ok(Task::StoreOn(form, channel)) => store_on(alloc, form, channel, body),
-            Ok(Task::AskOn(channel)) => ask(alloc, channel, body),
-            Err(Stop::Answer(code)) => Ok(HecAct::Say(HecSay::of(code, None))),
-            Err(Stop::OutOfMemory) => Err(AllocError),
-        }
+        let request = RequestRef {
+            method: request.method.bytes(),
+            target: request.target.bytes(),
+            fields: &request.fields,
+            body: request.body.bytes(),
+        };
+        self.judge(alloc, &request)
+    }
+
+    /// What is done for a request with this head and body, as [`HecCore::step`] has it, where a window lends
+    /// them. The only error is want of memory.
+    pub fn act(&self, alloc: Global, head: &Head, body: &[u8]) -> Result<HecAct, AllocError>
+        ensures act { IfOk result (IsAct self.now (with_body head.now body.now)) }
+        ensures sound { IfOk result IsSound }
+        ensures bounded { IfOk result (λ act. count_of act ≤ length body.now) }
+    {
+        let request = RequestRef {
+            method: head.method.bytes(),
+            target: head.target.bytes(),
+            fields: &head.fields,
+            body,
+        };
+        self.judge(alloc, &request)
     }
 }

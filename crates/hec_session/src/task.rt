@@ -3,14 +3,14 @@ ghost use Rattle.std.specs.Prelude.{◌≡◌, codes};
 ghost use Rattle.http_edge.specs.Fields.{field_value};
 ghost use Rattle.hec_session.specs.Acts.{Finds};
 ghost use Rattle.hec_session.specs.Target.{parameter};
-ghost use Rattle.hec_session.specs.Checks.{channel_in, channel_of, endpoint_of, guid, is_plain, known_channel, task_for, task_of};
+ghost use Rattle.hec_session.specs.Checks.{channel_in, channel_of, endpoint_of, guid, is_plain, known_channel, request_of, task_for, task_of};
 
 use crate::code::HecCode;
 use crate::endpoint::{Endpoint, Form, endpoint_at};
+use crate::request::RequestRef;
 use crate::stop::Stop;
 use crate::target::{parameter, path_of};
 use crate::tokens::{Grant, Tokens, guid};
-use http_edge::HttpRequest;
 use std::alloc::Global;
 
 /// What is to be done with a request's body.
@@ -44,22 +44,22 @@ fn queried_channel(alloc: Global, target: &[u8]) -> Result<u128, Stop>
 }
 
 // The channel of the field, or else of the query.
-fn channel_of(alloc: Global, request: &HttpRequest) -> Result<u128, Stop>
-    ensures { Finds (channel_of request.now) result }
+fn channel_of(alloc: Global, request: &RequestRef<'_>) -> Result<u128, Stop>
+    ensures { Finds (channel_of (request_of request.now)) result }
 {
-    match request.field(b"x-splunk-request-channel") {
+    match request.fields.value(b"x-splunk-request-channel") {
         Some(text) => Ok(known_channel(text)?),
-        None => queried_channel(alloc, request.target.bytes()),
+        None => queried_channel(alloc, request.target),
     }
 }
 
 fn task_for(
     alloc: Global,
-    request: &HttpRequest,
+    request: &RequestRef<'_>,
     endpoint: Endpoint,
     grant: Grant,
 ) -> Result<Task, Stop>
-    ensures { Finds (task_for request.now endpoint grant) result }
+    ensures { Finds (task_for (request_of request.now) endpoint grant) result }
 {
     match (endpoint, grant) {
         (Endpoint::Events(form), Grant::WithoutAcks) => Ok(Task::Store(form)),
@@ -72,26 +72,26 @@ fn task_for(
 }
 
 // Whether the body is coded as it stands (RFC 9110, section 8.4).
-fn is_plain(request: &HttpRequest) -> bool
-    ensures { result ≡ is_plain (field_value (codes "content-encoding") request.now.fields) }
+fn is_plain(request: &RequestRef<'_>) -> bool
+    ensures { result ≡ is_plain (field_value (codes "content-encoding") request.now.fields.now) }
 {
-    match request.field(b"content-encoding") {
+    match request.fields.value(b"content-encoding") {
         Some(coding) => coding.eq_ignore_ascii_case(b"identity"),
         None => true,
     }
 }
 
 // The endpoint that the request is for.
-fn endpoint_of(request: &HttpRequest) -> Result<Endpoint, HecCode>
-    ensures { result ≡ endpoint_of request.now }
+fn endpoint_of(request: &RequestRef<'_>) -> Result<Endpoint, HecCode>
+    ensures { result ≡ endpoint_of (request_of request.now) }
 {
-    endpoint_at(request.method.bytes(), path_of(request.target.bytes()))
+    endpoint_at(request.method, path_of(request.target))
 }
 
 /// What is to be done with the request's body, or the answer of the first check that doesn't pass: of the
 /// path and the method, of the authorization, of the channel, and of the body's coding.
-pub fn task_of(alloc: Global, tokens: &Tokens, request: &HttpRequest) -> Result<Task, Stop>
-    ensures { Finds (task_of tokens.now request.now) result }
+pub fn task_of(alloc: Global, tokens: &Tokens, request: &RequestRef<'_>) -> Result<Task, Stop>
+    ensures { Finds (task_of tokens.now (request_of request.now)) result }
 {
     let endpoint = endpoint_of(request)?;
     let grant = tokens.grant(alloc, request)?;

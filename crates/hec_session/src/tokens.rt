@@ -1,13 +1,13 @@
 //! The tokens of a receiver, and what a request's token grants.
 ghost use Rattle.std.specs.Prelude.{◌≡◌, codes, IfOk, MatchOption};
 ghost use Rattle.hec_session.specs.Acts.{Finds};
-ghost use Rattle.hec_session.specs.Checks.{credentials, grant_of, granted, granted_by, guid, is_token, without_field};
+ghost use Rattle.hec_session.specs.Checks.{credentials, grant_of, granted, granted_by, guid, is_token, request_of, without_field};
 ghost use Rattle.hec_session.specs.Target.{parameter};
 
 use crate::code::HecCode;
+use crate::request::RequestRef;
 use crate::stop::Stop;
 use crate::target::parameter;
-use http_edge::HttpRequest;
 use std::alloc::{AllocError, Global};
 use uuid::Uuid;
 
@@ -96,12 +96,12 @@ impl Tokens {
     }
 
     /// What the request is granted by its Authorization (RFC 9110, section 11.6.2).
-    pub fn grant(&self, alloc: Global, request: &HttpRequest) -> Result<Grant, Stop>
-        ensures { Finds (grant_of self.now request.now) result }
+    pub fn grant(&self, alloc: Global, request: &RequestRef<'_>) -> Result<Grant, Stop>
+        ensures { Finds (grant_of self.now (request_of request.now)) result }
     {
-        match request.field(b"authorization") {
+        match request.fields.value(b"authorization") {
             Some(value) => Ok(self.granted_by(value)?),
-            None => Err(Stop::Answer(without_field(alloc, request.target.bytes())?)),
+            None => Err(Stop::Answer(without_field(alloc, request.target)?)),
         }
     }
 }

@@ -1,8 +1,15 @@
 //! Requests and what is done for them, and the bodies of replies.
 
+mod authorizations;
+mod channels;
+mod paths;
+
+use authorizations::AUTHORIZATIONS;
+use channels::{ALIKE, CHANNELS_AND_BODIES, NO_TOKENS};
 use event_form::{Blob, Event, Origin};
 use hec_session::{HecAct, HecCode, HecCore, HecSay, say_body, success_body};
 use http_edge::{Field, Fields, HttpRequest};
+use paths::EVENTS_AND_PATHS;
 use std::alloc::{AllocError, Global};
 
 const TOKEN: u128 = 0x1111_1111_2222_3333_4444_5555_5555_5555;
@@ -12,9 +19,9 @@ const ACK_TOKEN: u128 = 0xaaaa_aaaa_2222_3333_4444_5555_5555_5555;
 const CHANNEL: u128 = 0xcccc_cccc_2222_3333_4444_5555_5555_5555;
 
 /// The Authorization with each of the tokens.
-const T: &str = "Splunk 11111111-2222-3333-4444-555555555555";
+const PLAIN: &str = "Splunk 11111111-2222-3333-4444-555555555555";
 
-const A: &str = "Splunk aaaaaaaa-2222-3333-4444-555555555555";
+const ACKED: &str = "Splunk aaaaaaaa-2222-3333-4444-555555555555";
 
 fn blob(alloc: Global, text: &str) -> Result<Blob, AllocError> {
     Ok(Blob::of(Vec::from_slice(alloc, text.as_bytes())?))
@@ -37,35 +44,10 @@ fn lettered(alloc: Global, letter: u8) -> Result<Field, AllocError> {
             "cccccccc-2222-3333-4444-555555555555",
         ),
         b'Z' => field(alloc, "x-splunk-request-channel", "zz"),
-        b'T' => field(alloc, "authorization", T),
+        b'T' => field(alloc, "authorization", PLAIN),
         b'G' => field(alloc, "Content-Encoding", "gzip"),
         _ => field(alloc, "content-encoding", "Identity"),
     }
-}
-
-/// A request with an Authorization, unless that is empty, and with the fields of these letters.
-fn request(
-    alloc: Global,
-    method: &str,
-    target: &str,
-    authorization: &str,
-    letters: &str,
-    body: &str,
-) -> Result<HttpRequest, AllocError> {
-    let mut lines = Vec::new(alloc);
-    if !authorization.is_empty() {
-        lines.push(field(alloc, "Authorization", authorization)?)?;
-    }
-    for letter in letters.as_bytes() {
-        lines.push(lettered(alloc, *letter)?)?;
-    }
-    Ok(HttpRequest {
-        method: blob(alloc, method)?,
-        target: blob(alloc, target)?,
-        minor: 1,
-        fields: Fields::of(lines),
-        body: blob(alloc, body)?,
-    })
 }
 
 /// Shows events: their texts in brackets, `o` before an object and `r` before a line.
@@ -134,285 +116,50 @@ fn show(alloc: Global, act: HecAct) -> Result<Vec<u8>, AllocError> {
     Ok(text)
 }
 
-/// Method, target, Authorization, letters of further fields and body of a request, and what is
-/// done.
-type Row = (
-    &'static str,
-    &'static str,
-    &'static str,
-    &'static str,
-    &'static str,
-    &'static str,
-);
+/// A request, and what is done for it.
+#[derive(Clone, Copy)]
+struct Row {
+    name: &'static str,
+    method: &'static str,
+    target: &'static str,
+    authorization: &'static str,
+    /// The letters of further fields.
+    letters: &'static str,
+    body: &'static str,
+    done: &'static str,
+}
 
-/// Requests for events, and for other paths.
-const EVENTS_AND_PATHS: [Row; 16] = [
-    // Events, with a token without acks and with one that uses them.
-    (
-        "POST",
-        "/services/collector/event",
-        T,
-        "",
-        r#"{"event":"a"}{"event":{"b":1.50}}"#,
-        r#"store o[{"event":"a"}] o[{"event":{"b":1.50}}]"#,
-    ),
-    (
-        "POST",
-        "/services/collector",
-        T,
-        "",
-        r#"{"event":1}"#,
-        r#"store o[{"event":1}]"#,
-    ),
-    (
-        "POST",
-        "/services/collector/event/1.0?a=b",
-        T,
-        "",
-        r#"{"event":1}"#,
-        r#"store o[{"event":1}]"#,
-    ),
-    (
-        "POST",
-        "/services/collector/raw",
-        T,
-        "",
-        "p\r\n\nq",
-        "store r[p] r[q]",
-    ),
-    (
-        "POST",
-        "/services/collector/raw/1.0",
-        A,
-        "C",
-        "p\r\n\nq",
-        "say r[p] r[q]",
-    ),
-    (
-        "POST",
-        "/services/collector/event",
-        A,
-        "C",
-        r#"{"event":"a"}"#,
-        r#"say o[{"event":"a"}]"#,
-    ),
-    (
-        "POST",
-        "/services/collector/ack",
-        A,
-        "C",
-        r#"{"acks":[4294967296,1,4294967296]}"#,
-        "ask 4294967296 1",
-    ),
-    // Path and method.
-    ("POST", "/x", T, "", "", "404 404"),
-    ("POST", "/services/collector/", T, "", "", "404 404"),
-    (
-        "GET",
-        "http://h/services/collector/health",
-        "",
-        "",
-        "",
-        "404 404",
-    ),
-    ("GET", "/services/collector", T, "", "", "405 405"),
-    ("HEAD", "/services/collector/raw", T, "", "", "405 405"),
-    ("post", "/services/collector/ack", A, "C", "", "405 405"),
-    ("POST", "/services/collector/health", T, "", "", "405 405"),
-    ("GET", "/services/collector/health", "", "", "", "200 17"),
-    (
-        "GET",
-        "/services/collector/health/1.0?token=x",
-        "",
-        "G",
-        "",
-        "200 17",
-    ),
-];
-
-/// Requests with one Authorization or another.
-const AUTHORIZATIONS: [Row; 13] = [
-    // Authorization.
-    ("POST", "/services/collector", "", "", "", "401 2"),
-    ("POST", "/services/collector?Token=x", "", "C", "", "401 2"),
-    (
-        "POST",
-        "/services/collector?token=11111111-2222-3333-4444-555555555555",
-        "",
-        "",
-        "",
-        "400 16",
-    ),
-    (
-        "POST",
-        "/services/collector?a=1&to%6ben",
-        "",
-        "",
-        "",
-        "400 16",
-    ),
-    ("POST", "/services/collector?token=x", T, "", "", "400 5"),
-    ("POST", "/services/collector", "Basic x", "", "", "401 3"),
-    ("POST", "/services/collector", "Splunk", "T", "", "401 3"),
-    (
-        "POST",
-        "/services/collector",
-        "Splunk  11111111-2222-3333-4444-555555555555",
-        "",
-        "",
-        "403 4",
-    ),
-    ("POST", "/services/collector", "Splunk x", "", "", "403 4"),
-    (
-        "POST",
-        "/services/collector",
-        "Splunk cccccccc-2222-3333-4444-555555555555",
-        "",
-        "",
-        "403 4",
-    ),
-    (
-        "POST",
-        "/services/collector",
-        "SPLUNK 11111111222233334444555555555555",
-        "",
-        "",
-        "400 5",
-    ),
-    (
-        "POST",
-        "/services/collector",
-        "splunk URN:uuid:11111111-2222-3333-4444-555555555555",
-        "",
-        "",
-        "400 5",
-    ),
-    (
-        "POST",
-        "/services/collector",
-        "Splunk {AAAAAAAA-2222-3333-4444-555555555555}",
-        "C",
-        "",
-        "400 5",
-    ),
-];
-
-/// Requests that come to the later checks.
-const CHANNELS_AND_BODIES: [Row; 18] = [
-    // Acks and channel.
-    (
-        "POST",
-        "/services/collector/ack",
-        T,
-        "C",
-        r#"{"acks":[1]}"#,
-        "400 14",
-    ),
-    ("POST", "/services/collector/ack", T, "G", "", "400 14"),
-    ("POST", "/services/collector", A, "", "", "400 10"),
-    ("POST", "/services/collector/raw", A, "G", "p", "400 10"),
-    (
-        "POST",
-        "/services/collector/ack?channel=",
-        A,
-        "",
-        "",
-        "400 11",
-    ),
-    ("POST", "/services/collector", A, "Z", "", "400 11"),
-    (
-        "POST",
-        "/services/collector/raw?channel=cccccccc-2222-3333-4444-555555555555",
-        A,
-        "ZC",
-        "p",
-        "400 11",
-    ),
-    (
-        "POST",
-        "/services/collector/raw?channel=zz",
-        A,
-        "C",
-        "p",
-        "say r[p]",
-    ),
-    (
-        "POST",
-        "/services/collector/raw?a&channel=%63ccccccc222233334444555555555555&channel=zz",
-        A,
-        "",
-        "p",
-        "say r[p]",
-    ),
-    (
-        "POST",
-        "/services/collector/raw?channel=zz",
-        T,
-        "Z",
-        "p",
-        "store r[p]",
-    ),
-    // The coding.
-    ("POST", "/services/collector/raw", T, "G", "p", "400 6"),
-    (
-        "POST",
-        "/services/collector/raw",
-        T,
-        "IG",
-        "p",
-        "store r[p]",
-    ),
-    // The body.
-    ("POST", "/services/collector", T, "", " ", "400 5"),
-    (
-        "POST",
-        "/services/collector",
-        T,
-        "",
-        r#"[{"event":"a"}]"#,
-        "400 6 0",
-    ),
-    (
-        "POST",
-        "/services/collector",
-        T,
-        "",
-        r#"{"event":"a"} {"evnt":1}"#,
-        "400 12 1",
-    ),
-    (
-        "POST",
-        "/services/collector",
-        A,
-        "C",
-        r#"{"event":""}"#,
-        "400 13 0",
-    ),
-    ("POST", "/services/collector/raw", T, "", "\n", "400 5"),
-    (
-        "POST",
-        "/services/collector/ack",
-        A,
-        "C",
-        r#"{"acks":[-1]}"#,
-        "400 6",
-    ),
-];
+/// The request of a row: with its Authorization, unless that is empty, and with the fields of its letters.
+fn request(alloc: Global, row: Row) -> Result<HttpRequest, AllocError> {
+    let Row {
+        method,
+        target,
+        authorization,
+        letters,
+        body,
+        ..
+    } = row;
+    let mut lines = Vec::new(alloc);
+    if !authorization.is_empty() {
+        lines.push(field(alloc, "Authorization", authorization)?)?;
+    }
+    for letter in letters.as_bytes() {
+        lines.push(lettered(alloc, *letter)?)?;
+    }
+    Ok(HttpRequest {
+        method: blob(alloc, method)?,
+        target: blob(alloc, target)?,
+        minor: 1,
+        fields: Fields::of(lines),
+        body: blob(alloc, body)?,
+    })
+}
 
 /// What is done for the request of a row.
 fn done(alloc: Global, core: &HecCore, row: Row) -> Result<Vec<u8>, AllocError> {
-    let (method, target, authorization, letters, body, _) = row;
-    let request = request(alloc, method, target, authorization, letters, body)?;
+    let request = request(alloc, row)?;
     show(alloc, core.step(alloc, &request)?)
 }
-
-/// Requests to a receiver with one token for both, and to one with none.
-const ALIKE: [Row; 2] = [
-    ("POST", "/services/collector/raw", T, "C", "p", "say r[p]"),
-    ("POST", "/services/collector/raw", T, "", "p", "400 10"),
-];
-
-const NO_TOKENS: [Row; 1] = [("POST", "/services/collector/raw", T, "C", "p", "403 4")];
 
 /// Codes with a number or without one, and the body.
 const SAYS: [(HecCode, Option<u32>, &str); 9] = [
@@ -485,7 +232,8 @@ fn requests_and_replies(rt: HostRuntime) -> Result<(), AllocError> {
         let core = HecCore::new(token, ack_token);
         for row in rows {
             let text = done(alloc, &core, *row)?;
-            assert_eq!(rt; text.as_slice(), row.5.as_bytes(), "{row:?}");
+            let Row { name, done, .. } = *row;
+            assert_eq!(rt; text.as_slice(), done.as_bytes(), "{name}");
         }
     }
     for (code, event, want) in SAYS {

@@ -29,3 +29,4 @@ pub mod PlainLaws
 pub mod LaneLaws
 pub mod ListForms
 pub mod MembersExist
+pub mod NamedLaws

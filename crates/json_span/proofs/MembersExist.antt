@@ -33,7 +33,7 @@ member_over bytes a b s =
       is = record { name = n.1; colon = separator_back 58 bytes n.0 c.0 v.0 c.1 y.byte v.1; value = v.2 };
     }
 
-further_exist : (bytes : List ℕ) (n at end : ℕ) → Stretch (Further (IsMember V) 125 n) bytes at end → (ms : List Member) × AreFurther bytes at ms end
+pub further_exist : (bytes : List ℕ) (n at end : ℕ) → Stretch (Further (IsMember V) 125 n) bytes at end → (ms : List Member) × AreFurther bytes at ms end
 further_exist bytes zero at end s = ([], s)
 further_exist bytes (suc n) at end s =
     let c = then_at AreSpaces (Byte 44 (Spaced (Then (IsMember V) (Further (IsMember V) 125 n)))) bytes at end s in

@@ -1,8 +1,9 @@
 -- Where the members of an object stand: RFC 8259, section 4.
-use Rattle.std.specs.Prelude.{ℕ, List, [], ◌∷◌}
+use Rattle.std.specs.Prelude.{◌≡◌, ℕ, List, [], ◌∷◌, ◌++◌, slice_range}
+use Rattle.std.specs.List.{All}
 use Rattle.json_span.specs.Strings.{IsString}
 use Rattle.json_span.specs.Json.{AreSpaces, Spaced, Byte, Then, IsEmpty, Json, JsonObject}
-use Rattle.json_span.specs.Spans.{Stretch}
+use Rattle.json_span.specs.Spans.{Stretch, IsFirst}
 use Rattle.json_span.specs.declared.span.Span.{Span}
 use Rattle.json_span.specs.declared.object.Member.{Member}
 
@@ -33,3 +34,22 @@ AreFurther bytes at (m ∷ ms) end = Stretch (Separator 44) bytes at m.name.star
 abbrev pub HasMembers : List ℕ → Span → List Member → Type 0
 HasMembers bytes object [] = Stretch (Byte 123 (Spaced (Byte 125 IsEmpty))) bytes object.start object.end
 HasMembers bytes object (m ∷ ms) = Stretch (Byte 123 AreSpaces) bytes object.start m.name.start × IsMemberAt bytes m × AreFurther bytes m.value.end ms object.end
+
+-- the member's name is spelt so, its quotes too: no escape in it is read
+abbrev pub IsSpelt : List ℕ → List ℕ → Member → Type 0
+IsSpelt bytes name m = slice_range bytes m.name.start m.name.end ≡ name
+
+-- The value of the object's first member that is spelt so begins at this place, and is the longest one there.
+pub record HasFirstNamed (bytes : List ℕ) (object : Span) (name : List ℕ) (at : ℕ) : Type 0 where
+  pub before : List Member
+  pub member : Member
+  pub after : List Member
+  pub members : HasMembers bytes object (before ++ member ∷ after)
+  pub first : All (λ m. ¬ IsSpelt bytes name m) before
+  pub spelt : IsSpelt bytes name member
+  pub starts : member.value.start ≡ at
+  pub longest : IsFirst bytes at member.value
+
+-- none of the object's members is spelt so
+abbrev pub HasNoneNamed : List ℕ → Span → List ℕ → Type 0
+HasNoneNamed bytes object name = (members : List Member) × HasMembers bytes object members × All (λ m. ¬ IsSpelt bytes name m) members

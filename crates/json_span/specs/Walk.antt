@@ -4,6 +4,7 @@ use Rattle.json_span.specs.Json.{Byte, Then, IsEmpty, Items, IsMember, Json}
 use Rattle.json_span.specs.Machine.{Follows}
 use Rattle.json_span.specs.Spans.{Stretch}
 use Rattle.json_span.specs.Members.{IsMemberAt, AreFurther}
+use Rattle.json_span.specs.declared.span.Span.{Span}
 use Rattle.json_span.specs.declared.object.Member.{Member}
 
 -- the bytes end, or a byte that may stand after a value or a name does
@@ -22,3 +23,13 @@ IsLeft x = Byte 125 IsEmpty x ⊎ MembersLeft x
 abbrev pub AreAhead : List ℕ → ℕ → List Member → ℕ → Type 0
 AreAhead bytes at [] end = Stretch (Byte 125 IsEmpty) bytes at end
 AreAhead bytes at (m ∷ ms) end = (m.name.start ≡ at) × IsMemberAt bytes m × AreFurther bytes m.value.end ms end
+
+-- The member that begins at a place, of those up to the end: its name, and where its value begins.
+pub record IsHead (bytes : List ℕ) (at end : ℕ) (name : Span) (value : ℕ) : Type 0 where
+  pub member : Member
+  pub begins : member.name.start ≡ at
+  pub named : member.name ≡ name
+  pub starts : member.value.start ≡ value
+  pub is : IsMemberAt bytes member
+  pub followed : IsFollowed bytes member.value.end
+  pub rest : Stretch (Items (IsMember (Json 126)) 125) bytes member.value.end end

@@ -16,6 +16,6 @@ mod scan;
 mod span;
 mod token;
 
-pub use object::{Member, is_object, members};
+pub use object::{Member, first_named, is_object, members};
 pub use scan::first_value;
 pub use span::{JsonFault, Span};

@@ -1,10 +1,10 @@
-use Rattle.std.proofs.Common.{rules, ◌≡◌, ◌≤◌, Some, None, codes, length, ◌∙◌, arith}
+use Rattle.std.proofs.Common.{rules, ◌≡◌, ◌≤◌, Some, None, codes, length, ◌∙◌, ap, arith}
 use Rattle.std.specs.Prelude.{option_and_then}
 use Rattle.serde_json.specs.Data.{Items}
 use Rattle.serde_json.specs.Find.{get, as_array}
 use Rattle.serde_json.specs.View.{view, items_view}
 use Rattle.hec_body.specs.Acks.{numbers, distinct}
-use Rattle.hec_body.proofs.AckLaws.{length-items_view}
+use Rattle.hec_body.proofs.AckLaws.{length-items_view, distinct_is, length-distinct}
 use Rattle.hec_body.proofs.Queries.{is_query, query_acks}
 use Rattle.hec_body.proofs.acks.ack_ids.Goals as goal
 use Rattle.hec_body.proofs.acks.ack_ids.Goals.{in_default-via-in-Some+else-len-le-MOST_IDS, in_default-via-in_default}
@@ -35,3 +35,17 @@ returns-clause-format c = λ _ ids asks.
           absurd (omega (arith, length-items_view w.in-Some.values.now.items asks.0 found, long, asks.1.few, w.if-len-le-MOST_IDS.false))
       | in_default-via-in_default w ↦ no_items_found (numbers asks.0) (w.in_default.ensures ∙ acks)
     ]
+
+pub returns-in-Some-clause-distinct : goal.returns-in-Some-clause-distinct
+returns-in-Some-clause-distinct c =
+    let ids : c.in_ok-first_of_each-in-Some.field-0.items ≡ distinct c.in_ok-asked-in-Some.asked.items = search rules in
+    rw ids (distinct_is c.in_ok-asked-in-Some.asked.items)
+
+pub returns-in-Some-clause-few : goal.returns-in-Some-clause-few
+returns-in-Some-clause-few c =
+    let values = c.in-Some.values.now.items in
+    let asked = c.in_ok-asked-in-Some.asked.items in
+    let found : items_view values ≡ numbers asked = search rules in
+    let few : length values ≤ 10000 = search rules in
+    let ids : c.in_ok-first_of_each-in-Some.field-0.items ≡ distinct asked = search rules in
+    omega (arith, ap length ids, length-distinct asked, length-items_view values asked found, few)

@@ -1,7 +1,5 @@
-use Rattle.std.proofs.Common.{rules, Vec, Global, ◌≡◌, false, List, ℕ, ◌++◌, map, codes, ◌∙◌, ap, arith, append_assoc}
-use Rattle.std.specs.List.{join_with_byte, zip}
-use Rattle.hec_body.specs.Acks.{ack_member}
-use Rattle.hec_body.proofs.Answered.{member_at, one_more, first_one, all_members}
+use Rattle.std.proofs.Common.{rules, Vec, Global, ◌≡◌, false, ℕ, ◌++◌, codes, ◌∙◌, ap, arith}
+use Rattle.hec_body.proofs.Answered.{member_at, one_more, first_one, answer_built, answer_short, fit_each}
 use Rattle.hec_body.proofs.answers.ack_text.Goals as goal
 use Rattle.hec_body.proofs.answers.ack_text.Goals.{then-i-gt0+in_ok-push, else-i-gt0}
 
@@ -19,9 +17,13 @@ loop-i-preserved c =
           c.loop-i.invariant (written ∙ ap (λ (v : Vec ℕ Global). v.items ++ member_at c.loop-i.i ids known (0, false)) w.text-is)
     ]
 
-pub returns : goal.returns
-returns c =
-    let head = codes "{\"acks\":{" in
-    c.of.ensures ∙ c.in_ok-extend_from_slice-2.ensures.items
-    ∙ ap (λ (z : List ℕ). z ++ codes "}}") (c.loop-i.invariant ∙ ap (λ (z : List ℕ). head ++ z) (all_members c.loop-i.i c.args.ids.now c.args.known.now c.loop-i-test.false (omega (arith, c.loop-i.auto.i-end)) c.requires))
-    ∙ append_assoc head (join_with_byte 44 (map ack_member (zip c.args.ids.now c.args.known.now))) (codes "}}")
+pub returns-clause-text : goal.returns-clause-text
+returns-clause-text c =
+    answer_built c.loop-i.text.items c.of.result c.loop-i.i c.args.ids.now c.args.known.now c.loop-i.invariant c.loop-i-test.false (omega (arith, c.loop-i.auto.i-end)) c.requires (c.of.ensures ∙ c.in_ok-extend_from_slice-2.ensures.items)
+
+pub returns-clause-short : goal.returns-clause-short
+returns-clause-short c =
+    let ids = c.args.ids.now in
+    let known = c.args.known.now in
+    let text = answer_built c.loop-i.text.items c.of.result c.loop-i.i ids known c.loop-i.invariant c.loop-i-test.false (omega (arith, c.loop-i.auto.i-end)) c.requires (c.of.ensures ∙ c.in_ok-extend_from_slice-2.ensures.items) in
+    rw text (answer_short ids known (fit_each ids (λ k within. omega (arith, c.type_inv.ids k))))

@@ -4,7 +4,7 @@ use Rattle.std.proofs.lemmas.Bool.{eqb-true}
 use Rattle.std.proofs.lemmas.List.Elements.{All-push}
 use Rattle.hec_body.specs.Limits.{IsShort}
 use Rattle.hec_body.specs.Events.{BeginsObject, BeginsEvents}
-use Rattle.hec_body.proofs.EventLaws.{begins_more, white, white_passes}
+use Rattle.hec_body.proofs.EventLaws.{begins_more, behind_shorter, white, white_passes}
 use Rattle.hec_body.proofs.events.event_pieces.Goals as goal
 
 pub loop-text-preserved : goal.loop-text-preserved
@@ -18,6 +18,7 @@ loop-text-preserved c =
       begins = subst (λ (z : List (List ℕ)). BeginsEvents c.args.body.now z c.in-Some.behind.now) (sym items) (begins_more c.args.body.now c.loop-text.pieces.items c.loop-text.rest.now c.in-Some.text.now c.in-Some.behind.now c.loop-text.invariant.begins object event);
       few = omega (arith, ap length items, length-append c.loop-text.pieces.items (c.in-Some.text.now ∷ []), c.loop-text.invariant.few);
       short = subst (All IsShort) (sym items) (All-push IsShort c.loop-text.pieces.items c.in-Some.text.now c.loop-text.invariant.short event.0);
+      bounded = omega (arith, ap length items, length-append c.loop-text.pieces.items (c.in-Some.text.now ∷ []), c.loop-text.invariant.bounded, behind_shorter c.loop-text.rest.now c.in-Some.text.now c.in-Some.behind.now object);
     }
 
 pub returns-then-not-is_white_space-clause-fault : goal.returns-then-not-is_white_space-clause-fault

@@ -1,4 +1,4 @@
-use Rattle.std.proofs.Common.{◌≤◌, length}
+use Rattle.std.proofs.Common.{◌+◌, ◌≤◌, length}
 use Rattle.std.specs.List.{All}
 use Rattle.hec_body.specs.Limits.{IsShort}
 use Rattle.hec_body.specs.Events.{BeginsEvents}
@@ -9,6 +9,7 @@ invariant-loop-text l = record {
   begins : BeginsEvents l.body l.pieces.items l.rest;
   few : length l.pieces.items ≤ 10000;
   short : All IsShort l.pieces.items;
+  bounded : length l.pieces.items + length l.rest ≤ length l.body;
 }
 
 abbrev pub decreases-loop-text : goal.decreases-loop-text

@@ -1,9 +1,18 @@
-use Rattle.std.proofs.Common.{sym, subst}
-use Rattle.std.specs.List.{All}
-use Rattle.json_span.specs.Members.{IsMemberAt}
-use Rattle.json_span.proofs.MembersOnly.{members_all}
-use Rattle.hec_body.specs.Events.{whole_of}
+use Rattle.std.proofs.Common.{◌≡◌, ◌∷◌, ◌++◌, false, refl, arith}
+use Rattle.std.specs.Prelude.{IsTrue, slice_range}
+use Rattle.hec_body.specs.Events.{IsBlank}
 use Rattle.hec_body.proofs.events.judge.Goals as goal
 
-pub event_value-requires : goal.event_value-requires
-event_value-requires c = subst (All (IsMemberAt c.args.text.now)) (sym c.deref.ensures.value) (members_all c.args.text.now (whole_of c.args.text.now) c.in_ok-members.members.items c.in_ok-members.ensures)
+pub returns-clause-event : goal.returns-clause-event
+returns-clause-event c =
+    let text = c.args.text.now in
+    let h = c.in-Some.ensures.some in
+    let value = slice_range text h.member.value.start h.member.value.end in
+    let other : IsBlank value → ⊥ = λ blank. let is : IsTrue c.is_blank_at.result = (c.is_blank_at.ensures h.member.value h.longest).1 blank in absurd (cc) in (
+      omega arith,
+      (
+        value,
+        (h.before ++ h.member ∷ h.after, h.members, record { before = h.before; event = h.member; after = h.after; whole = refl; first = h.first; named = h.spelt; is = refl }),
+        other,
+      ),
+    )
