@@ -1,5 +1,5 @@
 -- Ids that were told true.
-use Rattle.std.proofs.Common.{◌≡◌, ◌⊎◌, inl, inr, ℕ, ◌==◌, Bool, true, false, cond, List, [], ◌∷◌, ◌++◌, get_or, map, Ok, Err, refl, sym, ◌∙◌, ap, subst, append_assoc}
+use Rattle.std.proofs.Common.{◌≡◌, ◌⊎◌, inl, inr, ℕ, ◌<◌, ◌==◌, Bool, true, false, cond, List, [], ◌∷◌, ◌++◌, length, get_or, map, Ok, Err, refl, sym, ◌∙◌, ap, subst, append_assoc}
 use Rattle.std.specs.Prelude.{◌&&◌, ◌||◌, not, filter, Result}
 use Rattle.std.specs.List.{list_any}
 use Rattle.std.proofs.lemmas.Bool.{eqb-true, and_parts, and_right, or_from, or_cases, or_left, or_right}
@@ -8,11 +8,12 @@ use Rattle.std.proofs.lemmas.List.Folds.{list_any-append}
 use Rattle.hec_ids.specs.declared.fault.IssueFault.{IssueFault}
 use Rattle.hec_ids.specs.Table.{Held, Table, is_of, holds_settled}
 use Rattle.hec_ids.specs.Rows.{unsettled, settled_at, is_told, Issues}
-use Rattle.desk_access.specs.Call.{Call, issues, settles, forgets, asks, Record, own_of}
+use Rattle.desk_access.specs.Call.{Call, issues, settles, forgets, asks, Record, AreBy, own_of}
 use Rattle.desk_access.specs.Desk.{DeskState, Goes}
-use Rattle.desk_access.specs.Legal.{Met, May, IsStored}
+use Rattle.desk_access.specs.Legal.{Met, May, IsStored, IsStoredBy}
 use Rattle.desk_access.specs.Laws.{ToldWasTaken}
-use Rattle.desk_access.specs.Journal.{goes_parts, own_then}
+use Rattle.desk_access.specs.Settled.{SettlesStored, AllSettleStored, EachSettlesStored}
+use Rattle.desk_access.specs.Journal.{goes_parts, own_by, own_then}
 use Rattle.desk_access.proofs.Tables.{TableAfter, table_after}
 use Rattle.desk_access.proofs.Nexts.{stored_more}
 
@@ -70,25 +71,88 @@ WasTaken id records = (caller : ℕ) × IsStored (own_of caller records) id
 taken_more : (id : ℕ) (records more : List Record) → WasTaken id records → WasTaken id (records ++ more)
 taken_more id records more was = (was.0, subst (λ (l : List Call). IsStored l id) (sym (own_then was.0 records more)) (stored_more (own_of was.0 records) (own_of was.0 more) id was.1))
 
-settler_took : (run confirming id number : ℕ) (before : List Record) (call : Call) → May run confirming number (own_of number before) call → SettlesIt id call → WasTaken id before
-settler_took run confirming id number before (settles channel i answer) may same = (number, subst (IsStored (own_of number before)) same may)
-settler_took run confirming id number before _ may never = absurd never
+settler_took : (id number : ℕ) (before : List Record) (call : Call) → SettlesStored (own_of number before) call → SettlesIt id call → WasTaken id before
+settler_took id number before (settles channel i answer) stored same = (number, subst (IsStored (own_of number before)) same stored)
+settler_took id number before _ stored never = absurd never
 
-taken_by_then : (run confirming channel id : ℕ) (x y : DeskState) (before log : List Record) → (holds_settled channel id x.ids.held ≡ true → WasTaken id before) → Goes x log y → Met run confirming before log → holds_settled channel id y.ids.held ≡ true → WasTaken id (before ++ log)
-taken_by_then run confirming channel id x y before [] was goes met is = subst (WasTaken id) (sym (append-nil before)) (was (sym (ap (λ (d : DeskState). holds_settled channel id d.ids.held) goes) ∙ is))
-taken_by_then run confirming channel id x y before (one ∷ log) was goes met is =
+taken_by_then : (channel id : ℕ) (x y : DeskState) (before log : List Record) → (holds_settled channel id x.ids.held ≡ true → WasTaken id before) → Goes x log y → EachSettlesStored before log → holds_settled channel id y.ids.held ≡ true → WasTaken id (before ++ log)
+taken_by_then channel id x y before [] was goes stored is = subst (WasTaken id) (sym (append-nil before)) (was (sym (ap (λ (d : DeskState). holds_settled channel id d.ids.held) goes) ∙ is))
+taken_by_then channel id x y before (one ∷ log) was goes stored is =
     subst (WasTaken id) (append_assoc before (one ∷ []) log) (
-    taken_by_then run confirming channel id goes.0 y (before ++ one ∷ []) log
+    taken_by_then channel id goes.0 y (before ++ one ∷ []) log
     (λ now. taken_more id before (one ∷ []) (elim (settled_after x.ids goes.0.ids one.call channel id (table_after x goes.0 one.call one.met goes.1.answers) now) [
       | inl earlier ↦ was earlier
-      | inr settles_it ↦ settler_took run confirming id one.by before one.call met.0 settles_it
+      | inr settles_it ↦ settler_took id one.by before one.call stored.0 settles_it
     ]))
-    goes.2 met.1 is)
+    goes.2 stored.1 is)
+
+-- An id that an answer tells true had its group taken before, where each settle stands after such a take.
+pub told_was_stored : (x z : DeskState) (journal : List Record) (one : Record) (more : List Record) (channel : ℕ) (ids : List ℕ) (known : List Bool) (k : ℕ) → x.ids.held ≡ [] → Goes x (journal ++ one ∷ more) z → one.call ≡ asks channel ids known → EachSettlesStored [] journal → k < length ids → get_or known k false ≡ true
+    → WasTaken (get_or ids k 0) journal
+told_was_stored x z journal one more channel ids known k none goes asked stored lt told =
+    let parts = goes_parts x z journal (one ∷ more) goes in
+    let y = parts.0 in
+    let found = parts.2.0 in
+    let row : TableAfter y.ids (asks channel ids known) found.ids = subst (λ (call : Call). TableAfter y.ids call found.ids) asked (table_after y found one.call one.met parts.2.1.answers) in
+    let settled : holds_settled channel (get_or ids k 0) y.ids.held ≡ true = sym (ap (λ (l : List Bool). get_or l k false) row.0 ∙ get_or-map (λ id. holds_settled channel id y.ids.held) ids k 0 false lt) ∙ told in
+    taken_by_then channel (get_or ids k 0) x y [] journal (λ is. let never : false ≡ true = sym (ap (λ (held : List Held). holds_settled channel (get_or ids k 0) held) none) ∙ is in absurd (cc)) parts.1 stored settled
+
+-- each caller settles what it may settle
+may_stored : (run confirming number : ℕ) (own : List Call) (call : Call) → May run confirming number own call → SettlesStored own call
+may_stored run confirming number own (settles channel id answer) may = may
+may_stored run confirming number own _ may = tt
+
+met_stored : (run confirming : ℕ) (before records : List Record) → Met run confirming before records → EachSettlesStored before records
+met_stored run confirming before [] met = tt
+met_stored run confirming before (one ∷ records) met = (may_stored run confirming one.by (own_of one.by before) one.call met.0, met_stored run confirming (before ++ one ∷ []) records met.1)
 
 pub told_was_taken : ToldWasTaken
 told_was_taken x y journal confirming number channel ids known found after k rules none goes met lt told =
-    let parts = goes_parts x y journal (record { by = number; call = asks channel ids known; met = found; after = after } ∷ []) goes in
-    let z = parts.0 in
-    let row = table_after z parts.2.0 (asks channel ids known) found parts.2.1.answers in
-    let settled : holds_settled channel (get_or ids k 0) z.ids.held ≡ true = sym (ap (λ (l : List Bool). get_or l k false) row.0 ∙ get_or-map (λ id. holds_settled channel id z.ids.held) ids k 0 false lt) ∙ told in
-    taken_by_then x.spool.run confirming channel (get_or ids k 0) x z [] journal (λ is. let never : false ≡ true = sym (ap (λ (held : List Held). holds_settled channel (get_or ids k 0) held) none) ∙ is in absurd (cc)) parts.1 met settled
+    told_was_stored x y journal (record { by = number; call = asks channel ids known; met = found; after = after }) [] channel ids known k none goes refl (met_stored x.spool.run confirming [] journal met) lt told
+
+-- ---- of one caller
+
+-- what the calls of one caller settle, its records settle
+by_stored : (number : ℕ) (own calls : List Call) (before records : List Record) → own_of number before ≡ own → AreBy number calls records → AllSettleStored own calls → EachSettlesStored before records
+by_stored number own [] before [] same by stored = tt
+by_stored number own [] before (one ∷ records) same by stored = absurd by
+by_stored number own (call ∷ calls) before [] same by stored = absurd by
+by_stored number own (call ∷ calls) before (one ∷ records) same by stored =
+    let own_now : own_of one.by before ≡ own = ap (λ (n : ℕ). own_of n before) by.0 ∙ same in
+    let here : SettlesStored (own_of one.by before) one.call = subst (λ (l : List Call). SettlesStored l one.call) (sym own_now) (subst (SettlesStored own) (sym by.1) stored.0) in
+    let next : own_of number (before ++ one ∷ []) ≡ own ++ call ∷ [] = own_then number before (one ∷ []) ∙ ap (λ (l : List Call). l ++ own_of number (one ∷ [])) same ∙ ap (λ (l : List Call). own ++ l) (own_by number (call ∷ []) (one ∷ []) (by.0, by.1, tt)) in
+    (here, by_stored number (own ++ call ∷ []) calls (before ++ one ∷ []) records next by.2 stored.1)
+
+-- the records of the first of some calls
+first_by : (number : ℕ) (calls more : List Call) (records : List Record) → AreBy number (calls ++ more) records → (first : List Record) × (rest : List Record) × (records ≡ first ++ rest) × AreBy number calls first × AreBy number more rest
+first_by number [] more records by = ([], records, refl, tt, by)
+first_by number (call ∷ calls) more [] by = absurd by
+first_by number (call ∷ calls) more (one ∷ records) by =
+    let rest = first_by number calls more records by.2 in
+    (one ∷ rest.0, rest.1, ap (λ (l : List Record). one ∷ l) rest.2, (by.0, by.1, rest.3), rest.4)
+
+-- what a caller took is among the calls of the only one
+stored_own : (number caller id : ℕ) (calls : List Call) (records : List Record) → AreBy number calls records → IsStored (own_of caller records) id → IsStored calls id
+stored_own number caller id [] [] by stored = stored
+stored_own number caller id [] (one ∷ records) by stored = absurd by
+stored_own number caller id (call ∷ calls) [] by stored = absurd by
+stored_own number caller id (call ∷ calls) (one ∷ records) by stored = cases (one.by == caller) (stored_own number caller id calls records by.2) stored where
+  cases : (b : Bool) → (IsStored (own_of caller records) id → IsStored calls id) → IsStored (cond b (one.call ∷ own_of caller records) (own_of caller records)) id → IsStored (call ∷ calls) id
+  cases true more (inl here) = inl (subst (IsStoredBy id) by.1 here)
+  cases true more (inr there) = inr (more there)
+  cases false more there = inr (more there)
+
+own_told : (x z : DeskState) (number : ℕ) (before after : List Call) (first rest : List Record) (channel : ℕ) (ids : List ℕ) (known : List Bool) (k : ℕ) → x.ids.held ≡ [] → Goes x (first ++ rest) z → AreBy number before first → AreBy number (asks channel ids known ∷ after) rest → AllSettleStored [] before → k < length ids → get_or known k false ≡ true
+    → IsStored before (get_or ids k 0)
+own_told x z number before after first [] channel ids known k none goes made asked stored lt told = absurd asked
+own_told x z number before after first (one ∷ rest) channel ids known k none goes made asked stored lt told =
+    let was = told_was_stored x z first one rest channel ids known k none goes asked.1 (by_stored number [] before [] first refl made stored) lt told in
+    stored_own number was.0 (get_or ids k 0) before first made was.1
+
+-- An id that the only caller of a desk was told true is one of which it took entries before, where each of its settles
+-- stands after such a take.
+pub told_was_own : (x z : DeskState) (number : ℕ) (before after : List Call) (records : List Record) (channel : ℕ) (ids : List ℕ) (known : List Bool) (k : ℕ) → x.ids.held ≡ [] → Goes x records z → AreBy number (before ++ asks channel ids known ∷ after) records → AllSettleStored [] before → k < length ids → get_or known k false ≡ true
+    → IsStored before (get_or ids k 0)
+told_was_own x z number before after records channel ids known k none goes by stored lt told =
+    let parts = first_by number before (asks channel ids known ∷ after) records by in
+    own_told x z number before after parts.0 parts.1 channel ids known k none (subst (λ (l : List Record). Goes x l z) parts.2 goes) parts.3 parts.4 stored lt told

@@ -6,6 +6,7 @@ pub mod History
 pub mod Alone
 pub mod Journal
 pub mod Legal
+pub mod Settled
 pub mod Laws
 pub mod Step
 pub mod Protocol
