@@ -5,6 +5,6 @@ use Rattle.conn_serve.proofs.Acks.{relp_acked}
 use Rattle.conn_serve.proofs.LumberAcks.{lumber_acked}
 
 pub acked_is_taken : AckedIsTaken
-acked_is_taken Relp conn left b calls text talk c numbers k = relp_acked conn left b calls text talk c numbers k
-acked_is_taken Lumberjack conn left b calls text talk c numbers k = lumber_acked conn left b calls text talk c numbers k
-acked_is_taken Hec conn left b calls text talk c numbers k = absurd c
+acked_is_taken Relp tokens conn left b calls text talk c numbers k = relp_acked conn left b calls text talk c numbers k
+acked_is_taken Lumberjack tokens conn left b calls text talk c numbers k = lumber_acked conn left b calls text talk c numbers k
+acked_is_taken Hec tokens conn left b calls text talk c numbers k = absurd k

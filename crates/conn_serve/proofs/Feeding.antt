@@ -49,3 +49,7 @@ on_is ran w w' n n' p q From To is d = subst (λ (l : List ℕ). Done ran w w' n
 -- said of the same number
 pub goes_as : (ran : List Call → Type 0) (w w' : Option (List ℕ)) (n n' k number : ℕ) (From To : ℕ → List ℕ → List Call → List ℕ → Type 0) → k ≡ number → Done ran w w' n n' (Leads n (From k) (To k)) → Done ran w w' n n' (Leads n (From number) (To number))
 goes_as ran w w' n n' k number From To same d = subst (λ (i : ℕ). Done ran w w' n n' (Leads n (From i) (To i))) same d
+
+-- and of the same tokens
+pub halts_as : {T : Type 0} (ran : List Call → Type 0) (w w' : Option (List ℕ)) (n n' : ℕ) (k t : T) (From : List ℕ → List Call → List ℕ → Type 0) (To : T → List ℕ → List Call → List ℕ → Type 0) → k ≡ t → Done ran w w' n n' (Leads n From (To k)) → Done ran w w' n n' (Leads n From (To t))
+halts_as {T} ran w w' n n' k t From To same d = subst (λ (i : T). Done ran w w' n n' (Leads n From (To i))) same d

@@ -57,7 +57,7 @@ module _ {F : Type 0} (Spells : F → List ℕ → Type 0) where
 
   -- there are no more frames than bytes
   module _ (some : (f : F) (x : List ℕ) → Spells f x → 0 < length x) where
-    spelled_few : (fs : List F) (b : List ℕ) → AreSpelled Spells fs b → length fs ≤ length b
+    pub spelled_few : (fs : List F) (b : List ℕ) → AreSpelled Spells fs b → length fs ≤ length b
     spelled_few [] b s = omega arith
     spelled_few (f ∷ fs) b s = omega (arith, spelled_few fs s.1 s.4, some f s.0 s.2, ap length s.3, length-append s.0 s.1)
 

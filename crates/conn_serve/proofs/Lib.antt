@@ -14,3 +14,9 @@ mod Grouping
 mod Acks
 mod LumberAcks
 pub mod Acknowledged
+mod HecEntries
+mod HecActing
+mod HecFronts
+mod HecSessions
+pub mod HecAcks
+pub mod Failing

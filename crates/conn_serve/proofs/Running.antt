@@ -3,6 +3,7 @@ use Rattle.std.proofs.Common.{◌≡◌, ℕ, ◌+◌, ◌≤◌, ◌^◌, List,
 use Rattle.std.proofs.lemmas.List.{append-nil}
 use Rattle.edge_io.proofs.Known.{appends_none, appends_then, appends_keeps, consumes_none, consumes_then, consumes_keeps}
 use Rattle.std.specs.Io.KnownBytes.{Appends, Consumes, Keeps}
+use Rattle.event_form.specs.declared.talk.Attended.{Attended}
 use Rattle.event_form.specs.declared.talk.Talk.{Talk}
 use Rattle.desk_access.specs.Call.{Call}
 use Rattle.desk_access.specs.Step.{count}
@@ -134,3 +135,8 @@ serves_close start given given' left left' written written' first second both ta
   carried = subst (λ (o : Option (List ℕ)). Carried number o p.bytes (p.calls ++ d.calls) (p.text ++ d.text) talk) (sym left_is)
       ((subst (λ (n : ℕ). Leads taken (Closing n left) (λ fed called said. Carried n left fed called said talk) d.calls d.text) same (d.is left)) p.bytes p.calls p.text p.counted (closes p.bytes p.calls p.text p.served));
 }
+
+-- said of the same tokens
+pub serves_as : {T : Type 0} (Carried : T → Option (List ℕ) → List ℕ → List Call → List ℕ → Talk → Type 0) (given given' left left' written written' : Option (List ℕ)) (ran : List Call → Type 0) (attended : Attended) (k t : T) → k ≡ t
+    → Serves (Carried k) given given' left left' written written' ran attended → Serves (Carried t) given given' left left' written written' ran attended
+serves_as {T} Carried given given' left left' written written' ran attended k t same s = subst (λ (i : T). Serves (Carried i) given given' left left' written written' ran attended) same s

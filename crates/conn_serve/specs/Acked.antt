@@ -11,10 +11,11 @@ use Rattle.lumber_frame.specs.declared.frame.LumberFrame.TheVariants.{Ack}
 use Rattle.lumber_frame.specs.declared.side.Side.TheVariants.{Sender}
 use Rattle.lumber_frame.specs.Spelling.{Spells, ack_text}
 use Rattle.stream_grammar.specs.Framing.{AreSpelled}
+use Rattle.hec_session.specs.declared.tokens.Tokens.{Tokens}
 use Rattle.desk_access.specs.Call.{Call}
 use Rattle.desk_access.specs.Carried.{Carried}
 use Rattle.conn_serve.specs.Lumber.{lumberjack}
-use Rattle.conn_serve.specs.Serves.{CarriedBy}
+use Rattle.conn_serve.specs.Serves.{CarriedAs}
 use Rattle.conn_serve.specs.Groups.{Group, HasEntries, groups_of, units}
 
 -- an answer of RELP that says that an event is durable: a `rsp` frame whose data is 200 OK
@@ -32,7 +33,7 @@ abbrev pub Acknowledges : Proto → List ℕ → List ℕ → Type 0
 Acknowledges Relp text numbers = (answers : List Frame) × (front : List ℕ) × (rest : List ℕ) × AreSpelled IsSpelling answers front × (text ≡ front ++ rest) × (numbers ≡ successes answers)
 -- the sequence numbers of A frames
 Acknowledges Lumberjack text numbers = (front : List ℕ) × (rest : List ℕ) × AreSpelled (Spells Sender) (map (λ seq. Ack seq) numbers) front × (text ≡ front ++ rest)
--- not served yet
+-- the collector's replies name no groups by a number of theirs
 Acknowledges Hec text numbers = ⊥
 
 -- The numbers are those of the first groups that these calls took, as many, in order.
@@ -45,7 +46,7 @@ pub record AreOfFirst (calls : List Call) (numbers : List ℕ) : Type 0 where
 
 -- Whatever numbers the text of a connection acknowledges, they are those of the first groups that were taken.
 abbrev pub AckedIsTaken : Type 0
-AckedIsTaken = (proto : Proto) (conn : ℕ) (left : Option (List ℕ)) (b : List ℕ) (calls : List Call) (text : List ℕ) (talk : Talk) → CarriedBy proto conn left b calls text talk
+AckedIsTaken = (proto : Proto) (tokens : Tokens) (conn : ℕ) (left : Option (List ℕ)) (b : List ℕ) (calls : List Call) (text : List ℕ) (talk : Talk) → CarriedAs proto tokens conn left b calls text talk
     → (numbers : List ℕ) → Acknowledges proto text numbers → AreOfFirst calls numbers
 
 -- acknowledgments of Lumberjack for these numbers, one after another

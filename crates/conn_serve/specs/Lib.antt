@@ -6,6 +6,11 @@ pub mod Done
 pub mod Endings
 pub mod RelpServing
 pub mod LumberServing
+pub mod Hec
+pub mod Tokens
+pub mod HecServing
 pub mod Serves
 pub mod Groups
 pub mod Acked
+pub mod HecAcked
+pub mod DiskFaults

@@ -1,14 +1,17 @@
 //! A connection's entries.
-ghost use Rattle.std.specs.Prelude.{◌≡◌, ◌+◌, ◌<◌, ◌^◌, [], ◌∷◌, length, All, OnOk, OnErr};
+ghost use Rattle.std.specs.Prelude.{◌≡◌, ◌+◌, ◌<◌, ◌^◌, [], ◌∷◌, length, All, IfOk, OnOk, OnErr};
 ghost use Rattle.event_form.specs.Event.{IsEvent};
-ghost use Rattle.desk_access.specs.Batch.{AreNext};
+ghost use Rattle.event_form.specs.Entry.{IsEntry};
+ghost use Rattle.desk_access.specs.Batch.{AreNext, AreOfUnit};
 ghost use Rattle.desk_access.specs.Call.{takes};
 ghost use Rattle.conn_serve.specs.Relp.{entry_of};
 ghost use Rattle.conn_serve.specs.Groups.{IsFrameEntry};
+ghost use Rattle.conn_serve.specs.Hec.{entries_of};
 
 use desk_access::Access;
 use event_form::{Entry, Event};
 use spool_log::{Receipt, TakeFault};
+use std::alloc::{AllocError, Global};
 
 /// A connection, as the entries of the spool know it.
 #[derive(Clone, Copy)]
@@ -55,5 +58,58 @@ pub fn take_group<A: Access>(
 {
     let receipt = access.take(entries)?;
     connection.taken += entries.len() as u64;
+    Ok(receipt)
+}
+
+/// The events as the connection's next entries, all with this unit. The error is want of memory.
+pub fn entries_of(
+    alloc: Global,
+    connection: &Connection,
+    unit: u64,
+    events: Vec<Event>,
+) -> Result<Vec<Entry>, AllocError>
+    requires early { connection.now.taken + length events.items < 2 ^ 63 }
+    requires each { All IsEvent events.items }
+    ensures entries { IfOk result (λ entries. entries.items ≡ entries_of connection.now.number connection.now.taken unit events.items) }
+    ensures limits { IfOk result (λ entries. All IsEntry entries.items) }
+{
+    let mut entries = Vec::with_capacity(alloc, events.len())?;
+    for event in events {
+        entries.push(Entry {
+            conn: connection.number,
+            index: connection.taken + entries.len() as u64,
+            unit,
+            event,
+        })?;
+    }
+    Ok(entries)
+}
+
+/// Takes entries into the spool as one group under an id that was issued: they are the connection's next ones, and
+/// the id is their unit. The answers are those of the desk's `take`. After `Ok` the id may be settled.
+pub fn take_under<A: Access>(
+    access: &mut A,
+    connection: &mut Connection,
+    id: u64,
+    entries: &[Entry],
+) -> Result<Receipt, TakeFault>
+    requires some { 0 < length entries.now }
+    requires few { length entries.now < 2 ^ 32 }
+    requires limits { All IsEntry entries.now }
+    requires next { AreNext connection.old.number connection.old.taken entries.now }
+    requires unit { AreOfUnit id entries.now }
+    requires early { connection.old.taken + length entries.now < 2 ^ 63 }
+    requires may { A.may_take access.old connection.old.number connection.old.taken }
+    requires issued { A.may_use access.old id }
+
+    ensures ran { A.ran access.old (takes entries.now result ∷ []) access.new }
+    ensures next { OnOk result (connection.new ≡ record connection.old { taken = connection.old.taken + length entries.now }) }
+    ensures stays { OnErr result (connection.new ≡ connection.old) }
+    ensures may { OnOk result (A.may_take access.new connection.old.number connection.new.taken) }
+    ensures stored { OnOk result (A.may_settle access.new id) }
+{
+    let count = entries.len() as u64;
+    let receipt = access.take(entries)?;
+    connection.taken += count;
     Ok(receipt)
 }

@@ -35,10 +35,11 @@ pub fn take_in<L: Link, A: Access, S: Session>(
         (S.served connection.old.number session.new))) }
     ensures halts { IfErr result (λ talk. Done (λ calls. A.ran access.old calls access.new) (L.taken link.old) (L.taken link.new)
         connection.old.taken connection.new.taken (LeadsOn connection.old.taken piece.now (S.served connection.old.number session.old)
-        (λ fed calls text. (left : Option (List ℕ)) → S.carried connection.old.number left fed calls text talk))) }
+        (λ fed calls text. (left : Option (List ℕ)) → S.carried (S.tokens session.old) connection.old.number left fed calls text talk))) }
     ensures only { IfErr result IsAtMove }
     ensures idle { OnOk result (S.idle session.new) }
     ensures extent { OnOk result (S.extent session.new ≤ S.extent session.old + length piece.now) }
+    ensures tokens { OnOk result (S.tokens session.new ≡ S.tokens session.old) }
     ensures number { connection.new.number ≡ connection.old.number }
     ensures may { OnOk result (A.may_take access.new connection.old.number connection.new.taken) }
     ensures writes { CountsFaults (IsErrOf result Talk.WriteFault) (L.write_faults link.old) (L.write_faults link.new) }
@@ -69,7 +70,7 @@ pub fn turn<L: Link, A: Access, S: Session>(
     requires fits { S.extent session.old + room ≤ 2 ^ 40 }
     requires so_far { SoFar (S.served connection.old.number session.old) connection.old.taken room }
     requires may { A.may_take access.old connection.old.number connection.old.taken }
-    requires may_end { MayEnd (S.served connection.old.number session.old) (S.carried connection.old.number) }
+    requires may_end { MayEnd (S.served connection.old.number session.old) (S.carried (S.tokens session.old) connection.old.number) }
 
     ensures room { IfOk result (λ len. len ≤ room) }
     ensures goes { IfOk result (λ len. Turn (λ calls. A.ran access.old calls access.new)
@@ -81,11 +82,12 @@ pub fn turn<L: Link, A: Access, S: Session>(
         (told (L.given link.old) (L.left link.old) (L.taken link.old))
         (told (L.given link.new) (L.left link.new) (L.taken link.new)) connection.old.taken connection.new.taken
         (λ piece calls text. LeadsOn connection.old.taken piece (S.served connection.old.number session.old)
-        (λ fed called said. S.carried connection.old.number (L.left link.new) fed called said talk) calls text)) }
+        (λ fed called said. S.carried (S.tokens session.old) connection.old.number (L.left link.new) fed called said talk) calls text)) }
     ensures end { IfOk result (λ len. len ≡ 0 → IsAtEnd (L.left link.new)) }
     ensures only { IfErr result (λ talk. (talk ≡ Talk.ReadFault) ⊎ IsAtMove talk) }
     ensures idle { OnOk result (S.idle session.new) }
     ensures extent { IfOk result (λ len. S.extent session.new ≤ S.extent session.old + len) }
+    ensures tokens { OnOk result (S.tokens session.new ≡ S.tokens session.old) }
     ensures number { connection.new.number ≡ connection.old.number }
     ensures may { OnOk result (A.may_take access.new connection.old.number connection.new.taken) }
     ensures reads { CountsFaults (IsErrOf result Talk.ReadFault) (L.read_faults link.old) (L.read_faults link.new) }

@@ -1,5 +1,7 @@
 //! What holds of the definitions alone. The functions do nothing: each has a law as its contract.
 ghost use Rattle.conn_serve.specs.Acked.{AckedIsTaken, AcksAreOfGroups};
+ghost use Rattle.conn_serve.specs.DiskFaults.{DiskFaultIsTold};
+ghost use Rattle.conn_serve.specs.HecAcked.{SaidLiesWhole, AcknowledgedIsTaken, SettledIsStored, ToldIsTaken};
 
 /// Whatever a sender finds acknowledged by whole frames at the front of the text of its connection was taken: the
 /// numbers are those of the first groups that were taken, one each, in order. By RELP a `rsp` frame that says `200 OK`
@@ -13,4 +15,21 @@ pub fn acked_is_taken()
 /// each, the last one perhaps in part or not at all.
 pub fn acks_are_of_groups()
     ensures { AcksAreOfGroups }
+{}
+
+/// What a collector's connection says for a request lies whole in its text. Where Success is said without an id, the
+/// group that it acknowledges is one that was taken; an id is settled only after its entries were taken; and an id that
+/// an answer tells true is that of a group that was taken, where no other caller has the desk and its table held no id.
+pub fn replies_acknowledge_what_was_taken()
+    ensures whole { SaidLiesWhole }
+    ensures groups { AcknowledgedIsTaken }
+    ensures settled { SettledIsStored }
+    ensures told { ToldIsTaken }
+{}
+
+/// A connection ends with `DiskFault` where one of its calls on the desk was answered so, and then it made one such
+/// call; and where it ends otherwise, none was. There is one exception: the collector says of such a call that it failed,
+/// and where that reply is cut short, the connection ends with `WriteFault`.
+pub fn disk_fault_is_told()
+    ensures { DiskFaultIsTold }
 {}

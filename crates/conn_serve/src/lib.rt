@@ -1,6 +1,6 @@
 //! Serves one connection of a sender, from its first byte to its ending: reads it, stores the events that
 //! its protocol brings, answers them once they are durable, and says how the connection ended. The
-//! protocols' frames are those of their standards; today RELP and Lumberjack are served.
+//! protocols' frames are those of their standards: RELP, Lumberjack and the HTTP Event Collector.
 //!
 //! The one contract is `Carried`: the bytes read are frames, none skipped, and a tail; the calls on the
 //! desk and the bytes written are those that the protocol's table gives for these frames, in order, and
@@ -9,6 +9,7 @@
 
 mod connection;
 mod feed;
+mod hec;
 mod laws;
 mod lumberjack;
 mod relp;
@@ -17,6 +18,8 @@ mod serve;
 mod session;
 mod talk;
 
-pub use laws::{acked_is_taken, acks_are_of_groups};
+pub use laws::{
+    acked_is_taken, acks_are_of_groups, disk_fault_is_told, replies_acknowledge_what_was_taken,
+};
 pub use rules::Rules;
 pub use serve::attend;

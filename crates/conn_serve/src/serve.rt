@@ -9,6 +9,7 @@ ghost use Rattle.conn_serve.specs.Serves.{CarriedBy, Serves};
 
 use crate::connection::Connection;
 use crate::feed::{PIECE, turn};
+use crate::hec::session::HecSession;
 use crate::lumberjack::session::LumberSession;
 use crate::relp::session::RelpSession;
 use crate::rules::Rules;
@@ -29,7 +30,7 @@ fn over<S: Session>(session: &S, len: usize) -> Option<Talk>
     ensures closing { IfSome result (λ talk. (number : ℕ) (left : Option (List ℕ)) (fed : List ℕ) (calls : List Call) (text : List ℕ) → (len ≡ 0 → IsAtEnd left)
         → S.served number session.now fed calls text → S.closing number session.now left talk fed calls text) }
     ensures only { IfSome result (λ talk. IsByFault talk ⊎ IsAtEndOfInput talk) }
-    ensures may_end { IfNone result ((number : ℕ) → MayEnd (S.served number session.now) (S.carried number)) }
+    ensures may_end { IfNone result ((number : ℕ) → MayEnd (S.served number session.now) (S.carried (S.tokens session.now) number)) }
     ensures more { IfNone result (0 < len) }
 {
     if let Some(talk) = session.fault() {
@@ -53,7 +54,7 @@ fn close<L: Link, A: Access, S: Session>(
 
     ensures closes { Done (λ calls. A.ran access.old calls access.new) (L.taken link.old) (L.taken link.new)
         connection.old.taken connection.new.taken (λ calls text. (left : Option (List ℕ)) → Leads connection.old.taken
-        (S.closing connection.old.number session.old left over) (λ fed called said. S.carried connection.old.number left fed called said result) calls text) }
+        (S.closing connection.old.number session.old left over) (λ fed called said. S.carried (S.tokens session.old) connection.old.number left fed called said result) calls text) }
     ensures unread { result ≢ Talk.ReadFault }
     ensures writes { CountsFaults (result ≡ Talk.WriteFault) (L.write_faults link.old) (L.write_faults link.new) }
     ensures same { L.same link.old link.new }
@@ -78,11 +79,11 @@ fn run<L: Link, A: Access, S: Session>(
     requires start { S.served connection.old.number session.old [] [] [] }
     requires idle { S.idle session.old }
     requires unfed { S.extent session.old ≡ 0 }
-    requires may_end { MayEnd (S.served connection.old.number session.old) (S.carried connection.old.number) }
+    requires may_end { MayEnd (S.served connection.old.number session.old) (S.carried (S.tokens session.old) connection.old.number) }
     requires first { connection.old.taken ≡ 0 }
     requires may { A.may_take access.old connection.old.number 0 }
 
-    ensures serves { Serves (S.carried connection.old.number) (L.given link.old) (L.given link.new) (L.left link.old) (L.left link.new)
+    ensures serves { Serves (S.carried (S.tokens session.old) connection.old.number) (L.given link.old) (L.given link.new) (L.left link.old) (L.left link.new)
         (L.taken link.old) (L.taken link.new) (λ calls. A.ran access.old calls access.new) (record { talk = result; taken = connection.new.taken }) }
     ensures reads { CountsFaults (result ≡ Talk.ReadFault) (L.read_faults link.old) (L.read_faults link.new) }
     ensures writes { CountsFaults (result ≡ Talk.WriteFault) (L.write_faults link.old) (L.write_faults link.new) }
@@ -103,9 +104,8 @@ fn run<L: Link, A: Access, S: Session>(
     Talk::TooMuch { at: LIMIT }
 }
 
-/// Serves one connection to its end, by the protocol of the rules, which is RELP or Lumberjack. It reads
-/// pieces of at most 8,192 bytes and does what the protocol's table says for each whole frame, one after
-/// another. `conn` is the connection's number in the spool; its entries are counted from 0. Each text is
+/// Serves one connection to its end, by the protocol of the rules. It reads pieces of at most 8,192 bytes
+/// and does what the protocol's table says for each whole frame, one after another. `conn` is the connection's number in the spool; its entries are counted from 0. Each text is
 /// written as one piece.
 ///
 /// - RELP, as rsyslog's RELP specification, version 0, has it: a `syslog` is taken into the spool as one
@@ -116,16 +116,20 @@ fn run<L: Link, A: Access, S: Session>(
 ///   unit of an entry is its frame's sequence number. Where the input is over, by its end or by a fault,
 ///   what is staged is one last batch. At `ReadFault`, `WriteFault`, `TooMuch` and `NoMemory` it is given
 ///   up.
+/// - HEC, as Splunk's HTTP Event Collector has it, by the tokens of the rules: a request's events are taken
+///   as one group and then answered Success; by the token with acks an id is issued and said with Success,
+///   the events are taken with it as their unit, and it is settled. At a fault of the bytes a reply says so.
 ///
 /// Endings, in the order in which they are judged: what a whole frame asks for that isn't carried whole
 /// (`WriteFault`; `Full`, `TooLarge` and `Spent`, with RELP's hint written and no answer; `DiskFault`,
-/// `NotSpool` and `NoMemory`, with nothing written; a `close` of RELP, which is answered, with the hint:
-/// `Closed`, and bytes after it are dropped); the fault of the bytes; the end of the input, `Ended` at a
-/// frame's end and else `Truncated`; a read that fails; and `TooMuch` once 2^40 bytes were read. Where the
-/// last batch isn't stored or acknowledged whole, that is the ending in place of the fault or the end.
+/// `NotSpool` and `NoMemory`, with nothing written; at these but `NoMemory`, and at `Busy` and `NoMore`,
+/// HEC writes a closing reply, unless Success was said with an id; `Closed`, where a `close` of RELP was
+/// answered, with the hint, or a request of HEC that closes, and bytes after it are dropped); the fault of
+/// the bytes; the end of the input, `Ended` at a frame's end and else `Truncated`; a read that fails; and
+/// `TooMuch` once 2^40 bytes were read. Where the last batch isn't stored or acknowledged whole, or the
+/// reply at a fault isn't said whole, that is the ending in place of the fault or the end.
 /// `Ended` and `Truncated` come only where the input was read to its end, `ReadFault` and `WriteFault` only
-/// where the link's count rose. `NoMemory` may come at the
-/// beginning, with nothing read, and at any frame.
+/// where the link's count rose. `NoMemory` may come at the beginning, with nothing read, and at any frame.
 pub fn attend<L: Link, A: Access>(
     alloc: Global,
     link: &mut L,
@@ -133,10 +137,9 @@ pub fn attend<L: Link, A: Access>(
     access: &mut A,
     conn: u64,
 ) -> Attended
-    requires proto { (rules.now.proto ≡ Proto.Relp) ⊎ (rules.now.proto ≡ Proto.Lumberjack) }
     requires may { A.may_take access.old conn 0 }
 
-    ensures carried { Serves (CarriedBy rules.now.proto conn) (L.given link.old) (L.given link.new) (L.left link.old) (L.left link.new)
+    ensures carried { Serves (CarriedBy rules.now conn) (L.given link.old) (L.given link.new) (L.left link.old) (L.left link.new)
         (L.taken link.old) (L.taken link.new) (λ calls. A.ran access.old calls access.new) result }
     ensures reads { CountsFaults (result.talk ≡ Talk.ReadFault) (L.read_faults link.old) (L.read_faults link.new) }
     ensures writes { CountsFaults (result.talk ≡ Talk.WriteFault) (L.write_faults link.old) (L.write_faults link.new) }
@@ -155,7 +158,10 @@ pub fn attend<L: Link, A: Access>(
             Ok(mut session) => run(alloc, link, access, &mut connection, &mut session),
             Err(_) => Talk::NoMemory,
         },
-        Proto::Hec => unreachable!(),
+        Proto::Hec => match HecSession::new(alloc, rules.token, rules.ack_token) {
+            Ok(mut session) => run(alloc, link, access, &mut connection, &mut session),
+            Err(_) => Talk::NoMemory,
+        },
     };
     Attended {
         talk,

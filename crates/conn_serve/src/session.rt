@@ -3,6 +3,7 @@ ghost use Rattle.std.specs.Prelude.{◌≡◌, ◌+◌, ◌<◌, ◌≤◌, ◌^
 ghost use Rattle.std.specs.Prelude.{OnOk, IfErr, IfSome, IfNone, IsErrOf};
 ghost use Rattle.std.specs.Io.KnownBytes.{IsAtEnd};
 ghost use Rattle.event_form.specs.declared.talk.Talk.{Talk};
+ghost use Rattle.hec_session.specs.declared.tokens.Tokens.{Tokens};
 ghost use Rattle.desk_access.specs.Call.{Call};
 ghost use Rattle.desk_access.specs.Endings.{IsAtMove, IsByFault, IsAtEndOfInput};
 ghost use Rattle.conn_serve.specs.Done.{Done, Leads, SoFar, Anyway};
@@ -17,12 +18,15 @@ use std::alloc::Global;
 /// What a protocol does with the bytes of its connection. The reading, the order in which endings are
 /// judged and the counting stand outside, once for all protocols.
 pub trait Session {
+    /// The tokens of the collector by which it judges requests. Other protocols have none.
+    ghost tokens: { Self → Tokens };
+
     /// On the connection of this number, of these bytes all whole frames but those that wait were
     /// served, by these calls and this text.
     ghost served: { ℕ → Self → List ℕ → List Call → List ℕ → Type 0 };
 
-    /// A connection of this number, of whose input that is left, and that ends so, has carried this.
-    ghost carried: { ℕ → Option (List ℕ) → List ℕ → List Call → List ℕ → Talk → Type 0 };
+    /// By these tokens a connection of this number, of whose input that is left, and that ends so, has carried this.
+    ghost carried: { Tokens → ℕ → Option (List ℕ) → List ℕ → List Call → List ℕ → Talk → Type 0 };
 
     /// These bytes were served so, the input is over, with that left of it, and would end the connection
     /// so: what is to be done for that is still to be done.
@@ -45,6 +49,7 @@ pub trait Session {
         ensures within { result ≤ length piece.now }
         ensures some { 0 < length piece.now → 0 < result }
         ensures extent { extent self.new ≤ extent self.old + result }
+        ensures tokens { tokens self.new ≡ tokens self.old }
         ensures fed { (number : ℕ) (fed : List ℕ) (calls : List Call) (text : List ℕ)
             → served number self.old fed calls text → served number self.new (fed ++ take result piece.now) calls text };
 
@@ -64,10 +69,11 @@ pub trait Session {
             (served connection.old.number self.new))) }
         ensures halts { IfErr result (λ talk. Done (λ calls. A.ran access.old calls access.new) (L.taken link.old) (L.taken link.new)
             connection.old.taken connection.new.taken (Leads connection.old.taken (served connection.old.number self.old)
-            (Anyway (carried connection.old.number) talk))) }
+            (Anyway (carried (tokens self.old) connection.old.number) talk))) }
         ensures only { IfErr result IsAtMove }
         ensures idle { OnOk result (idle self.new) }
         ensures extent { OnOk result (extent self.new ≤ extent self.old) }
+        ensures tokens { OnOk result (tokens self.new ≡ tokens self.old) }
         ensures number { connection.new.number ≡ connection.old.number }
         ensures may { OnOk result (A.may_take access.new connection.old.number connection.new.taken) }
         ensures writes { CountsFaults (IsErrOf result Talk.WriteFault) (L.write_faults link.old) (L.write_faults link.new) }
@@ -81,7 +87,7 @@ pub trait Session {
             → served number self.now fed calls text → closing number self.now left talk fed calls text) }
         ensures only { IfSome result IsByFault }
         ensures settled { IfNone result (settled self.now) }
-        ensures may_end { IfNone result ((number : ℕ) → MayEnd (served number self.now) (carried number)) };
+        ensures may_end { IfNone result ((number : ℕ) → MayEnd (served number self.now) (carried (tokens self.now) number)) };
 
     /// Where no frame waits and the bytes have no fault: the ending by the end of the input.
     fn end(&self) -> Talk
@@ -104,10 +110,10 @@ pub trait Session {
 
         ensures goes { OnOk result (Done (λ calls. A.ran access.old calls access.new) (L.taken link.old) (L.taken link.new)
             connection.old.taken connection.new.taken (λ calls text. (left : Option (List ℕ)) → Leads connection.old.taken
-            (closing connection.old.number self.old left over) (λ fed called said. carried connection.old.number left fed called said over) calls text)) }
+            (closing connection.old.number self.old left over) (λ fed called said. carried (tokens self.old) connection.old.number left fed called said over) calls text)) }
         ensures halts { IfErr result (λ talk. Done (λ calls. A.ran access.old calls access.new) (L.taken link.old) (L.taken link.new)
             connection.old.taken connection.new.taken (λ calls text. (left : Option (List ℕ)) → Leads connection.old.taken
-            (closing connection.old.number self.old left over) (λ fed called said. carried connection.old.number left fed called said talk) calls text)) }
+            (closing connection.old.number self.old left over) (λ fed called said. carried (tokens self.old) connection.old.number left fed called said talk) calls text)) }
         ensures only { IfErr result IsAtMove }
         ensures writes { CountsFaults (IsErrOf result Talk.WriteFault) (L.write_faults link.old) (L.write_faults link.new) }
         ensures same { L.same link.old link.new }

@@ -1,37 +1,34 @@
 //! The rows of each protocol, and a failing disk.
-ghost use Rattle.std.specs.Prelude.{◌≡◌, ◌⊎◌};
-
 use crate::harness::{Failing, NONE, Part, Row, device, joined, serve};
-use crate::{lumberjack_rows, relp_rows};
+use crate::{hec_rows, lumberjack_rows, relp_rows};
 use edge_io::Proto;
 use event_form::{Attended, Talk};
 use std::process::Abort;
 use std::test::Fail;
 
 // Serves each row's input in each of its steps.
-fn check(rt: &(impl Abort + AllocGlobal), proto: Proto, rows: &[Row]) -> Result<(), Fail>
-    requires { (proto ≡ Proto.Relp) ⊎ (proto ≡ Proto.Lumberjack) }
-{
+fn check(rt: &(impl Abort + AllocGlobal), proto: Proto, rows: &[Row]) -> Result<(), Fail> {
     let alloc = rt.alloc();
-    for (number, row) in rows.iter().enumerate() {
+    for row in rows {
         for step in row.steps {
             let slot = row.slot.clamp(4096, 1_000_000);
             let input = joined(alloc, row.input)?;
             let step = (*step).max(1);
             let served = serve(alloc, proto, device(alloc, slot)?, input, step, row.failing)?;
             let left = served.ok_or("not opened")?;
-            let Row { talk, taken, .. } = *row;
+            let Row {
+                name,
+                talk,
+                taken,
+                ..
+            } = *row;
             let attended = Attended { talk, taken };
-            assert_eq!(rt; left.attended, attended, "row {number}, step {step}");
+            assert_eq!(rt; left.attended, attended, "{name}, step {step}");
             let written = joined(alloc, row.written)?;
-            assert_eq!(rt; left.written, written, "row {number}, step {step}");
-            assert_eq!(rt; left.count as u64, taken, "row {number}, step {step}");
+            assert_eq!(rt; left.written, written, "{name}, step {step}");
+            assert_eq!(rt; left.count as u64, taken, "{name}, step {step}");
             if let Some(entries) = row.entries {
-                assert_eq!(rt;
-                    left.entries.as_slice(),
-                    entries,
-                    "row {number}, step {step}"
-                );
+                assert_eq!(rt; left.entries.as_slice(), entries, "{name}, step {step}");
             }
         }
     }
@@ -46,7 +43,7 @@ struct Faulty {
     written: [(u64, &'static [u8]); 3],
 }
 
-const FAULTY: [Faulty; 2] = [
+const FAULTY: [Faulty; 3] = [
     Faulty {
         proto: Proto::Relp,
         input: b"1 open 0\n2 syslog 5 first\n3 syslog 6 second\n",
@@ -80,6 +77,11 @@ const FAULTY: [Faulty; 2] = [
             (2, b"2A\0\0\0\x02"),
             (3, b"2A\0\0\0\x022A\0\0\0\x01"),
         ],
+    },
+    Faulty {
+        proto: Proto::Hec,
+        input: hec_rows::TWO_TAKES,
+        written: hec_rows::AT_EACH,
     },
 ];
 
@@ -140,4 +142,35 @@ fn relp_is_served(rt: HostRuntime) -> Result<(), Fail> {
 #[test]
 fn lumberjack_is_served(rt: HostRuntime) -> Result<(), Fail> {
     check(&rt, Proto::Lumberjack, &lumberjack_rows::ROWS)
+}
+
+#[test]
+fn the_collector_is_served(rt: HostRuntime) -> Result<(), Fail> {
+    check(&rt, Proto::Hec, &hec_rows::ROWS)?;
+    check(&rt, Proto::Hec, &hec_rows::REFUSED)?;
+    check(&rt, Proto::Hec, &hec_rows::ENDINGS)
+}
+
+// A connection that isn't closed goes on, whatever number of requests came.
+#[test]
+fn a_thousand_requests_are_answered(rt: HostRuntime) -> Result<(), Fail> {
+    let alloc = rt.alloc();
+    let mut input = Vec::new(alloc);
+    let mut expected = Vec::new(alloc);
+    for _ in 0..1000 {
+        input.extend_from_slice(hec_rows::ONE)?;
+        expected.extend_from_slice(hec_rows::OK)?;
+    }
+    let served = serve(alloc, Proto::Hec, device(alloc, 65_536)?, input, 1000, NONE)?;
+    let left = served.ok_or("not opened")?;
+    assert_eq!(rt;
+        left.attended,
+        Attended {
+            talk: Talk::Ended,
+            taken: 1000
+        }
+    );
+    assert_eq!(rt; left.written, expected);
+    assert_eq!(rt; left.count, 1000);
+    Ok(())
 }

@@ -1,5 +1,5 @@
 //! One connection over a spool in memory.
-ghost use Rattle.std.specs.Prelude.{◌≡◌, ◌⊎◌, ◌<◌, ◌≤◌};
+ghost use Rattle.std.specs.Prelude.{◌<◌, ◌≤◌};
 
 use conn_serve::{Rules, attend};
 use desk_access::{Access, Alone, Desk};
@@ -13,6 +13,11 @@ use std::test::Fail;
 
 /// The number of the connection.
 const CONN: u64 = 7;
+
+/// The tokens, of which only the collector makes use.
+const TOKEN: u128 = 0x1111_1111_2222_3333_4444_5555_5555_5555;
+
+const ACK_TOKEN: u128 = 0xaaaa_aaaa_2222_3333_4444_5555_5555_5555;
 
 /// Which calls of the disk, the input and the output fail, counted from 0.
 #[derive(Clone, Copy)]
@@ -39,6 +44,8 @@ pub enum Part {
 /// A connection, and what it leaves.
 #[derive(Clone, Copy)]
 pub struct Row {
+    /// What it shows.
+    pub name: &'static str,
     pub input: &'static [Part],
     /// How many bytes a read brings at most, each in turn.
     pub steps: &'static [usize],
@@ -50,7 +57,7 @@ pub struct Row {
     pub taken: u64,
     pub written: &'static [Part],
     /// The entries, one after another as `CONN INDEX UNIT`, a letter for the form (`r` RELP, `d` pairs, `j`
-    /// JSON), the text and LF. None: they are long, and only counted.
+    /// JSON, `o` an object, `w` a raw line), the text and LF. None: they are long, and only counted.
     pub entries: Option<&'static [u8]>,
 }
 
@@ -98,7 +105,8 @@ fn letter(origin: Origin) -> u8 {
         Origin::Relp => b'r',
         Origin::LumberData => b'd',
         Origin::LumberJson => b'j',
-        _ => b'?',
+        Origin::HecEvent => b'o',
+        Origin::HecRaw => b'w',
     }
 }
 
@@ -124,7 +132,6 @@ pub fn serve(
     step: usize,
     failing: Failing,
 ) -> Result<Option<Left>, Fail>
-    requires proto { (proto ≡ Proto.Relp) ⊎ (proto ≡ Proto.Lumberjack) }
     requires some { 0 < step }
 {
     let disk = MemDisk::of(device, failing.disk.to_vec(alloc)?);
@@ -141,8 +148,8 @@ pub fn serve(
     };
     let rules = Rules {
         proto,
-        token: None,
-        ack_token: None,
+        token: Some(TOKEN),
+        ack_token: Some(ACK_TOKEN),
     };
     let attended = attend(alloc, &mut link, &rules, &mut access, CONN);
     let Both { .. } = link;

@@ -8,6 +8,8 @@ mod connections;
 #[cfg(test)]
 mod harness;
 #[cfg(test)]
+mod hec_rows;
+#[cfg(test)]
 mod lumberjack_rows;
 #[cfg(test)]
 mod relp_rows;

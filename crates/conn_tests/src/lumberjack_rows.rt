@@ -6,6 +6,7 @@ use event_form::{Talk, Why};
 /// What is sent, and what comes of it.
 pub const ROWS: [Row; 26] = [
     Row {
+        name: "no bytes",
         input: &[],
         steps: &[1],
         slot: 4096,
@@ -15,8 +16,8 @@ pub const ROWS: [Row; 26] = [
         written: &[],
         entries: Some(b""),
     },
-    // A window of two frames.
     Row {
+        name: "a window of two frames",
         input: &[Part::Bytes(
             b"2W\0\0\0\x022J\0\0\0\x01\0\0\0\x07{\"a\":1}2J\0\0\0\x02\0\0\0\x02{}",
         )],
@@ -28,8 +29,8 @@ pub const ROWS: [Row; 26] = [
         written: &[Part::Bytes(b"2A\0\0\0\x02")],
         entries: Some(b"7 0 1 j{\"a\":1}\n7 1 2 j{}\n"),
     },
-    // A new window cuts the old one.
     Row {
+        name: "a new window cuts the old one",
         input: &[Part::Bytes(
             b"2W\0\0\0\x032J\0\0\0\x01\0\0\0\x02{}2J\0\0\0\x02\0\0\0\x02{}2W\0\0\0\x012J\0\0\0\x01\0\0\0\x02[]",
         )],
@@ -41,8 +42,8 @@ pub const ROWS: [Row; 26] = [
         written: &[Part::Bytes(b"2A\0\0\0\x022A\0\0\0\x01")],
         entries: Some(b"7 0 1 j{}\n7 1 2 j{}\n7 2 1 j[]\n"),
     },
-    // A window of zero has no effect, and a frame outside a window is a window of one.
     Row {
+        name: "a window of zero has no effect",
         input: &[Part::Bytes(b"2W\0\0\0\02J\0\0\0\x09\0\0\0\x02{}")],
         steps: &[1, 7, 1000],
         slot: 4096,
@@ -53,6 +54,7 @@ pub const ROWS: [Row; 26] = [
         entries: Some(b"7 0 9 j{}\n"),
     },
     Row {
+        name: "a frame outside a window is a window of one",
         input: &[Part::Bytes(b"2J\0\0\0\x05\0\0\0\x01x2J\0\0\0\x03\0\0\0\x01y")],
         steps: &[1, 7, 1000],
         slot: 4096,
@@ -62,8 +64,8 @@ pub const ROWS: [Row; 26] = [
         written: &[Part::Bytes(b"2A\0\0\0\x052A\0\0\0\x03")],
         entries: Some(b"7 0 5 jx\n7 1 3 jy\n"),
     },
-    // Pairs stay as they stand, doubled keys too, or none.
     Row {
+        name: "pairs stay as they stand, doubled keys too",
         input: &[Part::Bytes(
             b"2D\0\0\0\x01\0\0\0\x02\0\0\0\x01a\0\0\0\x01x\0\0\0\x01a\0\0\0\x01y",
         )],
@@ -76,6 +78,7 @@ pub const ROWS: [Row; 26] = [
         entries: Some(b"7 0 1 d\0\0\0\x01a\0\0\0\x01x\0\0\0\x01a\0\0\0\x01y\n"),
     },
     Row {
+        name: "a frame without pairs",
         input: &[Part::Bytes(b"2D\0\0\0\x01\0\0\0\0")],
         steps: &[1, 7, 1000],
         slot: 4096,
@@ -85,8 +88,8 @@ pub const ROWS: [Row; 26] = [
         written: &[Part::Bytes(b"2A\0\0\0\x01")],
         entries: Some(b"7 0 1 d\n"),
     },
-    // The end of the input ends the window.
     Row {
+        name: "the end of the input ends the window",
         input: &[Part::Bytes(b"2W\0\0\0\x032J\0\0\0\x08\0\0\0\x02{}2J\0\0\0\x06\0\0\0\x02[]")],
         steps: &[1, 7, 1000],
         slot: 4096,
@@ -98,6 +101,7 @@ pub const ROWS: [Row; 26] = [
     },
     // At an ending what is staged is stored and acknowledged first.
     Row {
+        name: "staged, then one byte of a frame",
         input: &[Part::Bytes(b"2W\0\0\0\x022J\0\0\0\x01\0\0\0\x02{}2")],
         steps: &[1, 1000],
         slot: 4096,
@@ -108,6 +112,7 @@ pub const ROWS: [Row; 26] = [
         entries: Some(b"7 0 1 j{}\n"),
     },
     Row {
+        name: "staged, then a part of a window frame",
         input: &[Part::Bytes(b"2W\0\0\0\x022J\0\0\0\x01\0\0\0\x02{}2W\0\0")],
         steps: &[1, 1000],
         slot: 4096,
@@ -118,6 +123,7 @@ pub const ROWS: [Row; 26] = [
         entries: Some(b"7 0 1 j{}\n"),
     },
     Row {
+        name: "staged, then a compressed frame",
         input: &[Part::Bytes(b"2W\0\0\0\x022J\0\0\0\x01\0\0\0\x02{}2C")],
         steps: &[1, 1000],
         slot: 4096,
@@ -131,6 +137,7 @@ pub const ROWS: [Row; 26] = [
         entries: Some(b"7 0 1 j{}\n"),
     },
     Row {
+        name: "staged, then another version",
         input: &[Part::Bytes(b"2W\0\0\0\x022J\0\0\0\x01\0\0\0\x02{}1W")],
         steps: &[1, 1000],
         slot: 4096,
@@ -144,6 +151,7 @@ pub const ROWS: [Row; 26] = [
         entries: Some(b"7 0 1 j{}\n"),
     },
     Row {
+        name: "staged, then an acknowledgment",
         input: &[Part::Bytes(b"2W\0\0\0\x022J\0\0\0\x01\0\0\0\x02{}2A\0\0\0\x01")],
         steps: &[1, 1000],
         slot: 4096,
@@ -157,6 +165,7 @@ pub const ROWS: [Row; 26] = [
         entries: Some(b"7 0 1 j{}\n"),
     },
     Row {
+        name: "staged, then a window too large",
         input: &[Part::Bytes(b"2W\0\0\0\x022J\0\0\0\x01\0\0\0\x02{}2W\0\x01\0\x01")],
         steps: &[1, 1000],
         slot: 4096,
@@ -170,6 +179,7 @@ pub const ROWS: [Row; 26] = [
         entries: Some(b"7 0 1 j{}\n"),
     },
     Row {
+        name: "staged, then a frame too long",
         input: &[Part::Bytes(b"2W\0\0\0\x022J\0\0\0\x01\0\0\0\x02{}2J\0\0\0\x02\0\x02\0\x01")],
         steps: &[1, 1000],
         slot: 4096,
@@ -184,6 +194,7 @@ pub const ROWS: [Row; 26] = [
     },
     // At a failed read what is staged is given up.
     Row {
+        name: "what is staged is given up at a failed read",
         input: &[Part::Bytes(b"2W\0\0\0\x022J\0\0\0\x01\0\0\0\x02{}2J\0\0\0\x02\0\0\0\x02{}")],
         steps: &[18],
         slot: 4096,
@@ -197,6 +208,7 @@ pub const ROWS: [Row; 26] = [
         entries: Some(b""),
     },
     Row {
+        name: "what was acknowledged stays at a failed read",
         input: &[Part::Bytes(b"2W\0\0\0\x022J\0\0\0\x01\0\0\0\x02{}2J\0\0\0\x02\0\0\0\x02{}")],
         steps: &[1000],
         slot: 4096,
@@ -211,6 +223,7 @@ pub const ROWS: [Row; 26] = [
     },
     // The acknowledgment is not written: after a whole window, and at the end of the input.
     Row {
+        name: "an acknowledgment isn't written, after a whole window",
         input: &[Part::Bytes(
             b"2J\0\0\0\x01\0\0\0\x01x2J\0\0\0\x02\0\0\0\x01y2J\0\0\0\x03\0\0\0\x01z",
         )],
@@ -226,6 +239,7 @@ pub const ROWS: [Row; 26] = [
         entries: Some(b"7 0 1 jx\n7 1 2 jy\n"),
     },
     Row {
+        name: "an acknowledgment isn't written, at the end of the input",
         input: &[Part::Bytes(b"2J\0\0\0\x01\0\0\0\x01x2W\0\0\0\x052J\0\0\0\x02\0\0\0\x01y")],
         steps: &[1000],
         slot: 4096,
@@ -240,6 +254,7 @@ pub const ROWS: [Row; 26] = [
     },
     // A refused batch is not acknowledged: at the end of a window, of the input and at a fault.
     Row {
+        name: "a batch is refused at the end of a window",
         input: &[
             Part::Bytes(b"2W\0\0\0\x012J\0\0\0\x01\0\0\x0b\xb8"),
             Part::Fill(3000),
@@ -258,6 +273,7 @@ pub const ROWS: [Row; 26] = [
         entries: None,
     },
     Row {
+        name: "a batch is refused at the end of the input",
         input: &[
             Part::Bytes(b"2W\0\0\0\x012J\0\0\0\x01\0\0\x0b\xb8"),
             Part::Fill(3000),
@@ -276,6 +292,7 @@ pub const ROWS: [Row; 26] = [
         entries: None,
     },
     Row {
+        name: "a batch is refused at a fault",
         input: &[
             Part::Bytes(b"2W\0\0\0\x012J\0\0\0\x01\0\0\x0b\xb8"),
             Part::Fill(3000),
@@ -295,6 +312,7 @@ pub const ROWS: [Row; 26] = [
         entries: None,
     },
     Row {
+        name: "a batch is refused at a frame cut short",
         input: &[
             Part::Bytes(b"2W\0\0\0\x012J\0\0\0\x01\0\0\x0b\xb8"),
             Part::Fill(3000),
@@ -315,6 +333,7 @@ pub const ROWS: [Row; 26] = [
     },
     // Two events are one group, which has to fit whole.
     Row {
+        name: "two events are one group, which no slot takes",
         input: &[
             Part::Bytes(b"2W\0\0\0\x022J\0\0\0\x01\0\0\x07\xd0"),
             Part::Fill(2000),
@@ -333,6 +352,7 @@ pub const ROWS: [Row; 26] = [
         entries: Some(b""),
     },
     Row {
+        name: "two events are one group, which fits exactly",
         input: &[
             Part::Bytes(b"2W\0\0\0\x022J\0\0\0\x01\0\0\x07\xd0"),
             Part::Fill(2000),
@@ -349,6 +369,7 @@ pub const ROWS: [Row; 26] = [
     },
     // The longest frames: the window is full before a piece is, and takes the rest once they are served.
     Row {
+        name: "the longest frames",
         input: &[
             Part::Bytes(b"2W\0\0\0\x012J\0\0\0\x01\0\x02\0\0"),
             Part::Fill(131072),

@@ -19,8 +19,8 @@ const OMRELP: &[u8] = b"1 open 86 relp_version=0\n\
 
 /// What is sent, and what comes of it.
 pub const ROWS: [Row; 16] = [
-    // The bytes after a close are dropped.
     Row {
+        name: "bytes after a close are dropped",
         input: &[
             Part::Bytes(OPEN),
             Part::Bytes(b"2 syslog 5 first\n3 syslog 6 second\n4 close 0\n?!"),
@@ -38,6 +38,7 @@ pub const ROWS: [Row; 16] = [
     },
     // A frame after a close is neither stored nor answered.
     Row {
+        name: "a frame after a close",
         input: &[Part::Bytes(OPEN), Part::Bytes(b"2 close 0\n3 syslog 1 a\n")],
         steps: &[1, 1000],
         slot: 4096,
@@ -52,6 +53,7 @@ pub const ROWS: [Row; 16] = [
     },
     // What rsyslog 8.2302 sends: its open, its first event and its close.
     Row {
+        name: "what rsyslog 8.2302 sends",
         input: &[Part::Bytes(OMRELP)],
         steps: &[1, 1000],
         slot: 4096,
@@ -64,8 +66,8 @@ pub const ROWS: [Row; 16] = [
         ],
         entries: None,
     },
-    // Each frame is answered by how far the session is.
     Row {
+        name: "each frame is answered by how far the session is",
         input: &[
             Part::Bytes(b"8 syslog 1 a\n9 noop 0\n2 open 14 relp_version=1\n"),
             Part::Bytes(OPEN),
@@ -87,8 +89,8 @@ pub const ROWS: [Row; 16] = [
         ],
         entries: Some(b"7 0 5 r\n"),
     },
-    // An ending has its place.
     Row {
+        name: "no bytes",
         input: &[],
         steps: &[1],
         slot: 4096,
@@ -99,6 +101,7 @@ pub const ROWS: [Row; 16] = [
         entries: Some(b""),
     },
     Row {
+        name: "an open alone",
         input: &[Part::Bytes(OPEN)],
         steps: &[1, 61, 1000],
         slot: 4096,
@@ -109,6 +112,7 @@ pub const ROWS: [Row; 16] = [
         entries: Some(b""),
     },
     Row {
+        name: "an event, then the end",
         input: &[Part::Bytes(OPEN), Part::Bytes(b"2 syslog 5 first\n")],
         steps: &[1, 78, 1000],
         slot: 4096,
@@ -119,6 +123,7 @@ pub const ROWS: [Row; 16] = [
         entries: Some(b"7 0 2 rfirst\n"),
     },
     Row {
+        name: "an event, then a part of a frame",
         input: &[Part::Bytes(OPEN), Part::Bytes(b"2 syslog 5 first\n3 sys")],
         steps: &[1, 1000],
         slot: 4096,
@@ -128,8 +133,8 @@ pub const ROWS: [Row; 16] = [
         written: &[Part::Bytes(OPENED), Part::Bytes(b"2 rsp 6 200 OK\n")],
         entries: Some(b"7 0 2 rfirst\n"),
     },
-    // The frames before a fault are served first.
     Row {
+        name: "the frames before a fault are served",
         input: &[
             Part::Bytes(OPEN),
             Part::Bytes(b"2 syslog 5 first\n3 sys-log"),
@@ -145,8 +150,8 @@ pub const ROWS: [Row; 16] = [
         written: &[Part::Bytes(OPENED), Part::Bytes(b"2 rsp 6 200 OK\n")],
         entries: Some(b"7 0 2 rfirst\n"),
     },
-    // A close before a fault ends the connection.
     Row {
+        name: "a close before a fault",
         input: &[
             Part::Bytes(OPEN),
             Part::Bytes(b"2 syslog 5 first\n3 close 0\n-"),
@@ -164,6 +169,7 @@ pub const ROWS: [Row; 16] = [
     },
     // The answer is not written: the event stands in the spool.
     Row {
+        name: "an answer isn't written",
         input: &[
             Part::Bytes(OPEN),
             Part::Bytes(b"2 syslog 5 first\n3 syslog 6 second\n"),
@@ -179,8 +185,8 @@ pub const ROWS: [Row; 16] = [
         written: &[Part::Bytes(OPENED)],
         entries: Some(b"7 0 2 rfirst\n"),
     },
-    // A read fails.
     Row {
+        name: "a read fails",
         input: &[
             Part::Bytes(OPEN),
             Part::Bytes(b"2 syslog 5 first\n3 syslog 6 second\n"),
@@ -198,6 +204,7 @@ pub const ROWS: [Row; 16] = [
     },
     // Of 4,078 bytes 3,038 are taken, and 1,040 are left: a refused event is not answered.
     Row {
+        name: "a refused event is not answered",
         input: &[
             Part::Bytes(OPEN),
             Part::Bytes(b"2 syslog 3000 "),
@@ -221,8 +228,8 @@ pub const ROWS: [Row; 16] = [
         ],
         entries: None,
     },
-    // The hint is not written.
     Row {
+        name: "the hint is not written",
         input: &[
             Part::Bytes(OPEN),
             Part::Bytes(b"2 syslog 3000 "),
@@ -242,8 +249,8 @@ pub const ROWS: [Row; 16] = [
         written: &[Part::Bytes(OPENED), Part::Bytes(b"2 rsp 6 200 OK\n")],
         entries: None,
     },
-    // An exact fit, and a group that no slot takes.
     Row {
+        name: "an exact fit, and a group that no slot takes",
         input: &[
             Part::Bytes(OPEN),
             Part::Bytes(b"2 syslog 4040 "),
@@ -269,6 +276,7 @@ pub const ROWS: [Row; 16] = [
     },
     // The longest frames: the window is full before a piece is, and takes the rest once they are served.
     Row {
+        name: "the longest frames",
         input: &[
             Part::Bytes(OPEN),
             Part::Bytes(b"2 syslog 131072 "),

@@ -13,7 +13,8 @@ ghost use Rattle.desk_access.specs.Endings.{IsAtMove};
 ghost use Rattle.conn_serve.specs.Lumber.{lumberjack, why_of};
 ghost use Rattle.conn_serve.specs.Done.{Anyway, Done, Leads, SoFar};
 ghost use Rattle.conn_serve.specs.Endings.{CountsFaults};
-ghost use Rattle.conn_serve.specs.Handled.{Served, Closing, ReadBy, IsIdle};
+ghost use Rattle.conn_serve.specs.Tokens.{no_tokens};
+ghost use Rattle.conn_serve.specs.Handled.{Served, Closing, ReadBy, IsIdle, GivesNext};
 ghost use Rattle.conn_serve.specs.LumberServing.{Handles};
 
 use super::act::{commit, serve_frame};
@@ -109,9 +110,11 @@ impl LumberSession {
 }
 
 impl Session for LumberSession {
+    ghost tokens = { λ _. no_tokens };
+
     ghost served = { λ number s. Served (Handles number s.core s.staged.entries.items s.staged.last) (ReadBy receiver (Spells Receiver) s.window s.fault) };
 
-    ghost carried = { λ number. Carried (lumberjack number) };
+    ghost carried = { λ tokens number. Carried (lumberjack number) };
 
     ghost closing = { λ number s. Closing (lumberjack number) (Handles number s.core s.staged.entries.items s.staged.last) };
 

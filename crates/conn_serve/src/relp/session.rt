@@ -11,7 +11,8 @@ ghost use Rattle.desk_access.specs.Endings.{IsAtMove};
 ghost use Rattle.conn_serve.specs.Relp.{relp, why_of};
 ghost use Rattle.conn_serve.specs.Done.{Anyway, Done, Leads};
 ghost use Rattle.conn_serve.specs.Endings.{CountsFaults};
-ghost use Rattle.conn_serve.specs.Handled.{Served, Closing, ReadBy, IsIdle};
+ghost use Rattle.conn_serve.specs.Tokens.{no_tokens};
+ghost use Rattle.conn_serve.specs.Handled.{Served, Closing, ReadBy, IsIdle, GivesNext};
 ghost use Rattle.conn_serve.specs.RelpServing.{Handles};
 
 use super::act::serve_frame;
@@ -104,9 +105,11 @@ impl RelpSession {
 }
 
 impl Session for RelpSession {
+    ghost tokens = { λ _. no_tokens };
+
     ghost served = { λ number s. Served (Handles number s.core) (ReadBy stream.relp IsSpelling s.window s.fault) };
 
-    ghost carried = { λ number. Carried (relp number) };
+    ghost carried = { λ tokens number. Carried (relp number) };
 
     ghost closing = { λ number s. Closing (relp number) (Handles number s.core) };
 

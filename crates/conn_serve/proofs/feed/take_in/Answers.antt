@@ -4,7 +4,7 @@ use Rattle.std.proofs.Math.Seq.{take-add}
 use Rattle.conn_serve.specs.Done.{Anyway, SoFar}
 use Rattle.conn_serve.proofs.Acting.{err_is}
 use Rattle.conn_serve.proofs.Faults.{counts_from, counts_none, err_of}
-use Rattle.conn_serve.proofs.Feeding.{on_start, on_fed, on_then, on_halts, on_is, goes_as}
+use Rattle.conn_serve.proofs.Feeding.{on_start, on_fed, on_then, on_halts, on_is, goes_as, halts_as}
 use Rattle.conn_serve.proofs.Leading.{so_far_fed, so_far_less, so_far_then}
 use Rattle.conn_serve.proofs.feed.take_in.Goals as goal
 
@@ -16,6 +16,7 @@ loop-fed-init g c = record {
   idle = c.requires.idle;
   extent = omega arith;
   same_number = refl;
+  same_tokens = refl;
   may = c.requires.may;
   writes = refl;
   same = g.L.Object.same_refl _;
@@ -61,6 +62,7 @@ loop-fed-preserved g c =
       idle = call.idle;
       extent = omega (arith, inv.extent, c.feed-fed.ensures.extent, call.extent);
       same_number = call.number ∙ inv.same_number;
+      same_tokens = call.tokens ∙ c.feed-fed.ensures.tokens ∙ inv.same_tokens;
       may = rw (← inv.same_number) call.may;
       writes = call.writes.quiet (λ is. cc) ∙ inv.writes;
       same = g.L.Object.same_trans _ _ _ inv.same call.same;
@@ -79,13 +81,15 @@ returns-in_err-serve-clause-halts g c =
     let on = λ (b : List ℕ) (cs : _) (t : List ℕ) (s : _). subst (λ (v : List ℕ). g.S.Session.served number c.feed-fed.new.self (b ++ take n v) cs t) left (c.feed-fed.ensures.fed number b cs t s) in
     let call = c.in_err-serve.ensures in
     let talk = c.in_err-serve.field-0.0 in
-    let halts = goes_as _ _ _ _ _ _ number (λ k. g.S.Session.served k c.feed-fed.new.self) (λ k. Anyway (g.S.Session.carried k) talk) inv.same_number call.halts in
+    let tokens = g.S.Session.tokens c.args.session.now in
     let from = g.S.Session.served number c.args.session.now in
     let mid = g.S.Session.served number c.feed-fed.new.self in
+    let halts = halts_as _ _ _ _ _ _ tokens mid (λ t. Anyway (g.S.Session.carried t number) talk) (c.feed-fed.ensures.tokens ∙ inv.same_tokens)
+    (goes_as _ _ _ _ _ _ number (λ k. g.S.Session.served k c.feed-fed.new.self) (λ k. Anyway (g.S.Session.carried (g.S.Session.tokens c.feed-fed.new.self) k) talk) inv.same_number call.halts) in
     let fed = on_fed _ _ _ _ _ (take l.fed piece) (take n rest) from (g.S.Session.served number l.session) mid on inv.done in
     err_is c.from_residual.result talk _ c.from_residual.ensures.1
-    (on_halts _ _ _ _ _ (take l.fed piece ++ take n rest) (drop (l.fed + n) piece) piece from (g.S.Session.carried number) talk (ap (λ (v : List ℕ). v ++ drop (l.fed + n) piece) (sym (take-add l.fed n piece)) ∙ take-append-drop (l.fed + n) piece)
-    (on_then _ _ _ _ _ _ _ _ _ (take l.fed piece ++ take n rest) from mid (Anyway (g.S.Session.carried number) talk) (λ xs ys p q. g.met.A.Access.ran_more _ _ _ xs ys p q) fed halts))
+    (on_halts _ _ _ _ _ (take l.fed piece ++ take n rest) (drop (l.fed + n) piece) piece from (g.S.Session.carried tokens number) talk (ap (λ (v : List ℕ). v ++ drop (l.fed + n) piece) (sym (take-add l.fed n piece)) ∙ take-append-drop (l.fed + n) piece)
+    (on_then _ _ _ _ _ _ _ _ _ (take l.fed piece ++ take n rest) from mid (Anyway (g.S.Session.carried tokens number) talk) (λ xs ys p q. g.met.A.Access.ran_more _ _ _ xs ys p q) fed halts))
 
 pub returns-in_err-serve-clause-writes : goal.returns-in_err-serve-clause-writes
 returns-in_err-serve-clause-writes g c =

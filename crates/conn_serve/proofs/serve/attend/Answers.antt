@@ -6,10 +6,12 @@ use Rattle.lumber_frame.specs.declared.fault.LumberFault.{LumberFault}
 use Rattle.lumber_session.specs.Counting.{Core}
 use Rattle.event_form.specs.declared.talk.Talk.TheVariants.{NoMemory}
 use Rattle.conn_serve.specs.Done.{told}
-use Rattle.conn_serve.specs.Serves.{CarriedBy}
+use Rattle.conn_serve.specs.Serves.{CarriedAs, CarriedBy}
+use Rattle.conn_serve.specs.Tokens.{tokens_of}
 use Rattle.conn_serve.proofs.Batching.{handles_none}
 use Rattle.conn_serve.proofs.RelpSessions as relp_sessions
 use Rattle.conn_serve.proofs.LumberSessions as lumber_sessions
+use Rattle.conn_serve.proofs.HecSessions as hec_sessions
 use Rattle.conn_serve.proofs.Running.{serves_none}
 use Rattle.conn_serve.proofs.Windowed as windowed
 use Rattle.conn_serve.proofs.serve.attend.Goals as goal
@@ -37,9 +39,15 @@ run-requires-in-Ok-new-clause-may_end g c =
 pub returns-in-Err-clause-carried : goal.returns-in-Err-clause-carried
 returns-in-Err-clause-carried g c =
     let now = told (g.L.Source.given c.args.link.now) (g.L.Source.left c.args.link.now) (g.L.Sink.taken c.args.link.now) in
-    serves_none (CarriedBy c.args.rules.now.proto c.args.conn) now _ NoMemory (g.met.A.Access.ran_none _) (subst (λ (p : Proto). CarriedBy p c.args.conn now.left [] [] [] NoMemory) (sym c.in-Relp.is) (relp_sessions.none_carried c.args.conn now.left))
+    serves_none (CarriedBy c.args.rules.now c.args.conn) now _ NoMemory (g.met.A.Access.ran_none _) (subst (λ (p : Proto). CarriedAs p (tokens_of c.args.rules.now) c.args.conn now.left [] [] [] NoMemory) (sym c.in-Relp.is) (relp_sessions.none_carried c.args.conn now.left))
 
 pub returns-in-Err-new-clause-carried : goal.returns-in-Err-new-clause-carried
 returns-in-Err-new-clause-carried g c =
     let now = told (g.L.Source.given c.args.link.now) (g.L.Source.left c.args.link.now) (g.L.Sink.taken c.args.link.now) in
-    serves_none (CarriedBy c.args.rules.now.proto c.args.conn) now _ NoMemory (g.met.A.Access.ran_none _) (subst (λ (p : Proto). CarriedBy p c.args.conn now.left [] [] [] NoMemory) (sym c.in-Lumberjack.is) (lumber_sessions.none_carried c.args.conn now.left))
+    serves_none (CarriedBy c.args.rules.now c.args.conn) now _ NoMemory (g.met.A.Access.ran_none _) (subst (λ (p : Proto). CarriedAs p (tokens_of c.args.rules.now) c.args.conn now.left [] [] [] NoMemory) (sym c.in-Lumberjack.is) (lumber_sessions.none_carried c.args.conn now.left))
+
+pub returns-in-Err-new-2-clause-carried : goal.returns-in-Err-new-2-clause-carried
+returns-in-Err-new-2-clause-carried g c =
+    let now = told (g.L.Source.given c.args.link.now) (g.L.Source.left c.args.link.now) (g.L.Sink.taken c.args.link.now) in
+    let tokens = tokens_of c.args.rules.now in
+    serves_none (CarriedBy c.args.rules.now c.args.conn) now _ NoMemory (g.met.A.Access.ran_none _) (subst (λ (p : Proto). CarriedAs p tokens c.args.conn now.left [] [] [] NoMemory) (sym c.in-Hec.is) (hec_sessions.none_carried tokens c.args.conn now.left))

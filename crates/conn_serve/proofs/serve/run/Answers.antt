@@ -1,6 +1,8 @@
-use Rattle.std.proofs.Common.{◌∙◌, arith}
+use Rattle.std.proofs.Common.{ℕ, ◌∙◌, sym, subst, arith}
+use Rattle.hec_session.specs.declared.tokens.Tokens.{Tokens}
 use Rattle.conn_serve.specs.Done.{told}
-use Rattle.conn_serve.proofs.Running.{progress_turn, serves_turn, serves_close, so_far_of}
+use Rattle.conn_serve.specs.Endings.{MayEnd}
+use Rattle.conn_serve.proofs.Running.{progress_turn, serves_as, serves_turn, serves_close, so_far_of}
 use Rattle.conn_serve.proofs.serve.run.Goals as goal
 
 pub turn-requires-clause-so_far : goal.turn-requires-clause-so_far
@@ -8,11 +10,19 @@ turn-requires-clause-so_far g c =
     let l = c.loop-total in
     so_far_of (λ k. g.S.Session.served k l.session) _ _ _ _ _ _ l.connection.number c.args.connection.now.number l.invariant.same_number (omega (arith, l.invariant.below, c.min-room.ensures)) l.invariant.progress
 
+pub turn-requires-clause-may_end : goal.turn-requires-clause-may_end
+turn-requires-clause-may_end g c =
+    let l = c.loop-total in
+    let number = c.args.connection.now.number in
+    subst (λ (n : ℕ). MayEnd (g.S.Session.served n l.session) (g.S.Session.carried (g.S.Session.tokens l.session) n)) (sym l.invariant.same_number)
+    (subst (λ (t : Tokens). MayEnd (g.S.Session.served number l.session) (g.S.Session.carried t number)) (sym l.invariant.same_tokens) l.invariant.may_end)
+
 pub returns-in-Err-clause-serves : goal.returns-in-Err-clause-serves
 returns-in-Err-clause-serves g c =
     let l = c.loop-total in
     let start = told (g.L.Source.given c.args.link.now) (g.L.Source.left c.args.link.now) (g.L.Sink.taken c.args.link.now) in
-    serves_turn start _ _ _ _ _ (λ xs ys p q. g.met.A.Access.ran_more _ _ _ xs ys p q) _ _ _ _ _ l.invariant.same_number (λ k. g.S.Session.served k l.session) g.S.Session.carried c.in-Err.talk l.invariant.progress c.in-Err.ensures.halts
+    serves_as (λ t. g.S.Session.carried t c.args.connection.now.number) _ _ _ _ _ _ _ _ _ _ l.invariant.same_tokens
+    (serves_turn start _ _ _ _ _ (λ xs ys p q. g.met.A.Access.ran_more _ _ _ xs ys p q) _ _ _ _ _ l.invariant.same_number (λ k. g.S.Session.served k l.session) (g.S.Session.carried (g.S.Session.tokens l.session)) c.in-Err.talk l.invariant.progress c.in-Err.ensures.halts)
 
 pub close-requires-clause-so_far : goal.close-requires-clause-so_far
 close-requires-clause-so_far g c =
@@ -34,9 +44,10 @@ returns-in-Some-clause-serves g c =
     let writes = g.met.L.Link.writes_keep _ _ c.close.ensures.apart in
     let p = progress_turn start _ (told (g.L.Source.given now.link) (g.L.Source.left now.link) (g.L.Sink.taken now.link)) _ _ (λ calls. g.A.Access.ran c.args.access.now calls now.access)
     (λ xs ys p q. g.met.A.Access.ran_more _ _ _ xs ys p q) _ _ _ _ _ l.invariant.same_number (λ k. g.S.Session.served k l.session) (λ k. g.S.Session.served k now.session) c.in-Ok.len l.invariant.progress went.goes in
-    serves_close start _ _ _ _ _ _ _ _ _ _ _ _ _ _ (λ k. g.S.Session.served k now.session) (λ k left. g.S.Session.closing k now.session left c.in-Some.talk) g.S.Session.carried c.close.result (λ xs ys p q. g.met.A.Access.ran_more _ _ _ xs ys p q) (went.number
-    ∙ l.invariant.same_number) writes.0 writes.1 p
-    (λ fed calls text s. c.in-Some.ensures.closing number (g.L.Source.left now.link) fed calls text went.end s) c.close.ensures.closes
+    serves_as (λ t. g.S.Session.carried t number) _ _ _ _ _ _ _ _ _ _ (went.tokens ∙ l.invariant.same_tokens)
+    (serves_close start _ _ _ _ _ _ _ _ _ _ _ _ _ _ (λ k. g.S.Session.served k now.session) (λ k left. g.S.Session.closing k now.session left c.in-Some.talk) (g.S.Session.carried (g.S.Session.tokens now.session)) c.close.result
+    (λ xs ys p q. g.met.A.Access.ran_more _ _ _ xs ys p q) (went.number ∙ l.invariant.same_number) writes.0 writes.1 p
+    (λ fed calls text s. c.in-Some.ensures.closing number (g.L.Source.left now.link) fed calls text went.end s) c.close.ensures.closes)
 
 pub loop-total-preserved : goal.loop-total-preserved
 loop-total-preserved g c =
@@ -50,7 +61,8 @@ loop-total-preserved g c =
       progress = progress_turn start _ (told (g.L.Source.given now.link) (g.L.Source.left now.link) (g.L.Sink.taken now.link)) _ _ (λ calls. g.A.Access.ran c.args.access.now calls now.access)
           (λ xs ys p q. g.met.A.Access.ran_more _ _ _ xs ys p q) _ _ _ _ _ inv.same_number (λ k. g.S.Session.served k l.session) (λ k. g.S.Session.served k now.session) c.in-Ok.len inv.progress went.goes;
       idle = went.idle;
-      may_end = c.in_default.ensures.may_end number;
+      may_end = subst (λ (t : Tokens). MayEnd (g.S.Session.served number now.session) (g.S.Session.carried t number)) (went.tokens ∙ inv.same_tokens) (c.in_default.ensures.may_end number);
+      same_tokens = went.tokens ∙ inv.same_tokens;
       same_number = went.number ∙ inv.same_number;
       may = rw (← inv.same_number) went.may;
       extent = omega (arith, inv.extent, went.extent);

@@ -1,0 +1,287 @@
+-- How a session of the collector goes on, and how it ends.
+use Rattle.std.proofs.Common.{◌≡◌, ◌≢◌, inl, inr, ℕ, zero, suc, ◌+◌, ◌*◌, ◌^◌, ◌<◌, ◌≤◌, ◌∙◌, Bool, true, false, List, [], ◌∷◌, ◌++◌, Option, Some, None, length, take, drop, refl, sym, ap, subst, arith, append_assoc, length-append}
+use Rattle.std.proofs.lemmas.List.{append-nil, take-append-drop}
+use Rattle.std.specs.Prelude.{Ok, Err}
+use Rattle.std.specs.Io.KnownBytes.{IsAtEnd}
+use Rattle.event_form.specs.declared.feed_fault.FeedFault.{FeedFault}
+use Rattle.event_form.specs.declared.feed_fault.FeedFault.TheVariants as feed
+use Rattle.event_form.specs.declared.talk.Talk.{Talk}
+use Rattle.event_form.specs.declared.talk.Talk.TheVariants as talk
+use Rattle.http_edge.specs.declared.fault.HttpFault.{HttpFault}
+use Rattle.http_edge.specs.declared.request.HttpItem.{HttpItem}
+use Rattle.http_edge.specs.declared.request.HttpItem.TheVariants.{Continue, Request}
+use Rattle.http_edge.specs.Lending.{GivesItem}
+use Rattle.http_edge.specs.Reading.{ReadsTo, come}
+use Rattle.http_edge.specs.Window.{Window, Feeds, Reads, taken_of}
+use Rattle.http_edge.proofs.FeedLaws.{feeds_faulty}
+use Rattle.hec_session.specs.Acts.{count_of}
+use Rattle.hec_session.proofs.EventLaws.{few_events}
+use Rattle.hec_session.specs.declared.act.HecAct.{HecAct}
+use Rattle.hec_session.specs.declared.act.HecAct.TheVariants.{StoreThenSay, SayThenStore, Ask, Say}
+use Rattle.hec_session.specs.declared.tokens.Tokens.{Tokens}
+use Rattle.desk_access.specs.Call.{Call}
+use Rattle.desk_access.specs.Step.{Step, frames_of, calls_of, count}
+use Rattle.desk_access.specs.Protocol.{Protocol, AreMoves}
+use Rattle.desk_access.specs.Carried.{IsOver, Carried}
+use Rattle.desk_access.specs.Endings.{IsAtMove}
+use Rattle.desk_access.proofs.Moves.{count_then}
+use Rattle.conn_serve.specs.declared.hec.asked.Asked.{Asked}
+use Rattle.conn_serve.specs.declared.hec.asked.Asked.TheVariants.{Leave, Act}
+use Rattle.conn_serve.specs.Done.{Done, Leads, SoFar, Anyway}
+use Rattle.conn_serve.specs.Endings.{MayEnd}
+use Rattle.conn_serve.specs.Handled.{Handled, Served, Closing}
+use Rattle.conn_serve.specs.Hec.{hec, reply, why_of, AreTold, CarriesItem, EndsAtAct, IsCut, IsDone, SaysLast, StopsAtItem, entries_of}
+use Rattle.conn_serve.specs.HecServing.{Carries, Halts, HaltsAtItem, IsAsked, ReadsBy}
+use Rattle.hec_session.specs.declared.code.HecCode.TheVariants.{InvalidFormat}
+use Rattle.conn_serve.proofs.Handling.{handled_none, handled_push, carried_unread, carried_too_much, carried_starved, carried_at, carried_over, carried_instead}
+use Rattle.conn_serve.proofs.HecEntries.{count_entries}
+use Rattle.conn_serve.proofs.HecFronts.{stream_told, faulty_told, told_first, told_more, told_few, holds_come, stream_size}
+
+abbrev Met : Type 0
+Met = Option (FeedFault HttpFault)
+
+-- ---- what was read
+
+reads_told : (b : List ℕ) (items : List HttpItem) (w : Window) (fault : Option HttpFault) → ReadsTo b items w.reading fault → AreTold b items w.reading.at
+reads_told b items w None (rest, stream, holds) = stream_told b items w.reading.at rest stream
+reads_told b items w (Some e) (faulty, none) = faulty_told b items w.reading.at e.at e.why faulty
+
+-- the items given stand at the front
+given_told : (b : List ℕ) (items : List HttpItem) (w : Window) → Reads b items w → (at : ℕ) × AreTold b items at
+given_told b items w r = told_first b items w.reading.waiting w.reading.at (reads_told b (items ++ w.reading.waiting) w w.reading.fault r)
+
+-- and so they do whatever the window has met
+pub by_told : (w : Window) (met : Met) (b : List ℕ) (items : List HttpItem) → ReadsBy w met b items → (at : ℕ) × AreTold b items at
+by_told w None b items r = given_told b items w r.0
+by_told w (Some (feed.Fault e)) b items r = given_told b items w r.0
+by_told w (Some feed.NoMemory) b items (front, more, is, r) =
+    let t = given_told front items w r in
+    (t.0, subst (λ (l : List ℕ). AreTold l items t.0) (sym is) (told_more front items t.0 more t.1))
+
+-- the next item is given
+pub by_next : (w w' : Window) (met : Met) (i : HttpItem) → GivesItem w i w' → (b : List ℕ) (items : List HttpItem) → ReadsBy w met b items → ReadsBy w' met b (items ++ i ∷ [])
+by_next w w' None i g b items (r, sound) = (g.reads b items r, ap (λ (x : _). x.fault) g.same ∙ sound)
+by_next w w' (Some (feed.Fault e)) i g b items (r, is) = (g.reads b items r, ap (λ (x : _). x.fault) g.same ∙ is)
+by_next w w' (Some feed.NoMemory) i g b items (front, more, is, r) = (front, more, is, g.reads front items r)
+
+-- ---- more bytes
+
+pub fed_ok : (old new : Window) (met : Met) (piece : List ℕ) (n : ℕ) → met ≢ Some feed.NoMemory → old.reading.fault ≡ None → Feeds old piece (Ok n) new → (b : List ℕ) (items : List HttpItem) → ReadsBy old met b items → ReadsBy new met (b ++ take n piece) items
+fed_ok old new None piece n found sound (is, none, on) b items (r, s) = (on b items r, none)
+fed_ok old new (Some (feed.Fault e)) piece n found sound f b items (r, is) = cc
+fed_ok old new (Some feed.NoMemory) piece n found sound f b items r = absurd (found refl)
+
+-- whatever follows a fault
+after_fault : (w : Window) (e : HttpFault) → w.reading.fault ≡ Some e → (more b : List ℕ) (items : List HttpItem) → Reads b items w → Reads (b ++ more) items w
+after_fault w e is more b items r = (feeds_faulty w.reading more e is).1 b items r
+
+all_of : (b piece : List ℕ) (n : ℕ) → (b ++ take n piece) ++ drop n piece ≡ b ++ piece
+all_of b piece n = append_assoc b (take n piece) (drop n piece) ∙ ap (λ (l : List ℕ). b ++ l) (take-append-drop n piece)
+
+pub fed_err : (old new : Window) (met : Met) (piece : List ℕ) (fault : FeedFault HttpFault) → met ≢ Some feed.NoMemory → Feeds old piece (Err fault) new → ((e : HttpFault) → old.reading.fault ≡ Some e → new ≡ old)
+    → (b : List ℕ) (items : List HttpItem) → ReadsBy old met b items → ReadsBy new (Some fault) (b ++ piece) items
+fed_err old new None piece (feed.Fault e) found (is, on) stays b items (r, sound) =
+    let n = taken_of old piece in
+    (subst (λ (l : List ℕ). Reads l items new) (all_of b piece n) (after_fault new e is (drop n piece) (b ++ take n piece) items (on sound b items r)), is)
+fed_err old new (Some (feed.Fault d)) piece (feed.Fault e) found (is, on) stays b items (r, had) =
+    (subst (Reads (b ++ piece) items) (sym (stays d had)) (after_fault old d had piece b items r), is)
+fed_err old new None piece feed.NoMemory found (same, sound) stays b items (r, none) = (b, piece, refl, subst (Reads b items) (sym same) r)
+fed_err old new (Some (feed.Fault d)) piece feed.NoMemory found (same, sound) stays b items (r, had) = (b, piece, refl, subst (Reads b items) (sym same) r)
+fed_err old new (Some feed.NoMemory) piece fault found f stays b items r = absurd (found refl)
+
+-- ---- how many entries are taken
+
+count_done : (conn index : ℕ) (act : HecAct) (closing : Bool) (calls : List Call) (text : List ℕ) → IsDone conn index act closing calls text → count calls ≤ count_of act
+count_done conn index (Say say) closing calls text (code, is, none, said) = omega (arith, ap count none)
+count_done conn index (StoreThenSay events) closing calls text (receipt, took, said) =
+    omega (arith, ap count took, length-append (entries_of conn index 0 events.items) [], count_entries conn index 0 events.items)
+count_done conn index (SayThenStore channel events) closing calls text (id, receipt, unsettled, took, said) =
+    omega (arith, ap count took, length-append (entries_of conn index id events.items) [], count_entries conn index id events.items)
+count_done conn index (Ask channel ids) closing calls text (known, asked, said) = omega (arith, ap count asked)
+
+count_item : (tokens : Tokens) (conn index : ℕ) (i : HttpItem) (calls : List Call) (text : List ℕ) → CarriesItem tokens conn index i calls text → count calls ≤ 10000
+count_item tokens conn index Continue calls text (none, said) = omega (arith, ap count none)
+count_item tokens conn index (Request r) calls text (act, is, stays, done) = omega (arith, count_done conn index act false calls text done, few_events tokens r act is)
+
+count_moves : (tokens : Tokens) (conn : ℕ) (before steps : List (Step HttpItem)) → AreMoves (hec tokens conn) before steps → count (calls_of steps) ≤ 10000 * length (frames_of steps)
+count_moves tokens conn before [] m = omega arith
+count_moves tokens conn before (s ∷ steps) m =
+    let move = m.0 in
+    omega (arith, count_then s.calls (calls_of steps), count_item tokens conn _ move.0 s.calls s.text move.2, ap length move.1, length-append s.frames (frames_of steps), count_moves tokens conn (before ++ s ∷ []) steps m.1)
+
+module _ (tokens : Tokens) (conn : ℕ) where
+  abbrev p : Protocol HttpItem
+  p = hec tokens conn
+
+  -- what a session with this window, which met that, has served
+  abbrev ServedBy : Window → Met → List ℕ → List Call → List ℕ → Type 0
+  ServedBy w met = Served (Handled p) (ReadsBy w met)
+
+  few_calls : (frames : List HttpItem) (calls : List Call) (text : List ℕ) → Handled p frames calls text → count calls ≤ 10000 * length frames
+  few_calls frames calls text h = omega (arith, ap count h.made, count_moves tokens conn [] h.steps h.each, ap length h.whole, length-append (frames_of h.steps) h.held)
+
+  -- an index for each entry of one more request
+  pub so_far_few : (w : Window) (met : Met) (n more : ℕ) → SoFar (ServedBy w met) n more → n + 10000 < 2 ^ 63
+  so_far_few w met n more s =
+      let t = by_told w met s.bytes s.served.frames s.served.reads in
+      omega (arith, s.counted, few_calls s.served.frames s.calls s.text s.served.handled, told_few s.bytes s.served.frames t.0 t.1, s.short)
+
+  -- ---- an item more
+
+  module _ (ran : List Call → Type 0) (written written' : Option (List ℕ)) (n n' : ℕ) (w w' : Window) (met : Met) (i : HttpItem) (asked : Asked) (g : GivesItem w i w') (is_asked : IsAsked tokens i asked) (k : ℕ) (same : k ≡ conn) where
+    carries : (calls : List Call) (text : List ℕ) → (j : HttpItem) (a : Asked) → IsAsked tokens j a → Carries k n a calls text → CarriesItem tokens conn n j calls text
+    carries calls text Continue Leave is c = c
+    carries calls text Continue (Act act closing) is c = absurd is
+    carries calls text (Request r) Leave is c = absurd is
+    carries calls text (Request r) (Act act closing) (is, last) (stays, done) = (act, is, sym last ∙ stays, subst (λ (m : ℕ). IsDone m n act false calls text) same done)
+
+    halts : (calls : List Call) (text : List ℕ) (over : Talk) → (j : HttpItem) (a : Asked) → IsAsked tokens j a → Halts k n a over calls text → HaltsAtItem tokens conn n j over calls text
+    halts calls text over Continue Leave is (none, cut, e) = inr (subst (StopsAtItem tokens conn n Continue calls text) (sym e) (none, cut))
+    halts calls text over Continue (Act act closing) is h = absurd is
+    halts calls text over (Request r) Leave is h = absurd is
+    halts calls text over (Request r) (Act act closing) (is, last) (inl starved) = inl starved
+    halts calls text over (Request r) (Act act closing) (is, last) (inr ends) =
+        inr (act, is, subst (λ (b : Bool). EndsAtAct conn n act b calls text over) last (subst (λ (m : ℕ). EndsAtAct m n act closing calls text over) same ends))
+
+    pub served_item : Done ran written written' n n' (Carries k n asked) → Done ran written written' n n' (Leads n (ServedBy w met) (ServedBy w' met))
+    served_item d = record {
+      calls = d.calls;
+      text = d.text;
+      made = d.made;
+      wrote = d.wrote;
+      counted = d.counted;
+      is = λ fed called said counted s.
+          let h = s.handled in
+          let step : Step HttpItem = record { frames = i ∷ []; calls = d.calls; text = d.text } in
+          let move : CarriesItem tokens conn (count (calls_of h.steps)) i d.calls d.text =
+          subst (λ (m : ℕ). CarriesItem tokens conn m i d.calls d.text) (counted ∙ ap count h.made) (carries d.calls d.text i asked is_asked d.is) in
+          record {
+            frames = s.frames ++ i ∷ [];
+            handled = handled_push p s.frames called said h i step (ap (λ (l : List HttpItem). l ++ i ∷ []) (sym h.kept)) (i, refl, move) refl;
+            reads = by_next w w' met i g fed s.frames s.reads;
+          };
+    }
+
+    pub served_halt : (over : Talk) → IsAtMove over → Done ran written written' n n' (Halts k n asked over) → Done ran written written' n n' (Leads n (ServedBy w met) (Anyway (Carried p) over))
+    served_halt over is d = record {
+      calls = d.calls;
+      text = d.text;
+      made = d.made;
+      wrote = d.wrote;
+      counted = d.counted;
+      is = λ fed called said counted s left more.
+          let h = s.handled in
+          let front = by_told w met fed s.frames s.reads in
+          let next = by_told w' met fed (s.frames ++ i ∷ []) (by_next w w' met i g fed s.frames s.reads) in
+          carried_at p left (fed ++ more) s.frames front.0 called said h (told_more fed s.frames front.0 more front.1) i next.0 d.calls d.text over is (told_more fed (s.frames ++ i ∷ []) next.0 more next.1)
+          (elim (halts d.calls d.text over i asked is_asked d.is) [
+            | inl starved ↦ inl starved
+            | inr stops ↦ inr (subst (λ (m : ℕ). StopsAtItem tokens conn m i d.calls d.text over) (counted ∙ ap count h.made) stops)
+          ]);
+    }
+
+  -- ---- the bytes are at their end, or have a fault
+
+  -- nothing was served
+  pub served_none : (w : Window) → Reads [] [] w → w.reading.fault ≡ None → ServedBy w None [] [] []
+  served_none w reads sound = record { frames = []; handled = handled_none p refl; reads = (reads, sound) }
+
+  pub none_carried : (left : Option (List ℕ)) → Carried p left [] [] [] talk.NoMemory
+  none_carried left =
+      carried_starved p left [] [] 0 [] [] (handled_none p refl) (record { before = []; rest = []; told = []; requests = record { requests = []; front = []; spelled = refl; whole = refl; at_is = refl; items_are = refl }; items_are = refl; going = inl refl })
+
+  module _ (w : Window) (met : Met) (left : Option (List ℕ)) (fed : List ℕ) (calls : List Call) (text : List ℕ) (s : ServedBy w met fed calls text) where
+    -- no memory was found
+    pub ends_starved : (more : List ℕ) → Carried p left (fed ++ more) calls text talk.NoMemory
+    ends_starved more =
+        let t = by_told w met fed s.frames s.reads in
+        carried_starved p left (fed ++ more) s.frames t.0 calls text s.handled (told_more fed s.frames t.0 more t.1)
+
+    module _ (none : w.reading.waiting ≡ []) (sound : met ≡ None) where
+      all_read : ReadsTo fed s.frames w.reading None
+      all_read =
+          let by : ReadsBy w None fed s.frames = subst (λ (m : Met). ReadsBy w m fed s.frames) sound s.reads in
+          let r = subst (λ (o : Option HttpFault). ReadsTo fed (s.frames ++ w.reading.waiting) w.reading o) by.1 by.0 in
+          subst (λ (l : List HttpItem). ReadsTo fed l w.reading None) (ap (λ (l : List HttpItem). s.frames ++ l) none ∙ append-nil s.frames) r
+
+      front : p.IsFront fed s.frames w.reading.at
+      front = stream_told fed s.frames w.reading.at all_read.0 all_read.1
+
+      whole : p.IsWhole fed s.frames w.reading.at
+      whole = (all_read.0, all_read.1)
+
+      size : w.reading.at + come w.reading ≡ length fed
+      size =
+          let r = w.reading in
+          omega (arith, stream_size fed s.frames r.at all_read.0 all_read.1, holds_come r.begun r.stage r.body r.read r.unread all_read.0 all_read.2)
+
+      closes_so : (over : Talk) → IsOver p left fed s.frames w.reading.at over → Closing p (Handled p) left over fed calls text
+      closes_so over o = record { frames = s.frames; handled = s.handled; at = w.reading.at; front = front; is_over = o }
+
+      pub closing_ended : IsAtEnd left → come w.reading ≡ 0 → Closing p (Handled p) left talk.Ended fed calls text
+      closing_ended out empty = closes_so talk.Ended (out, whole, omega (arith, size, empty))
+
+      pub closing_truncated : IsAtEnd left → 0 < come w.reading → Closing p (Handled p) left (talk.Truncated w.reading.at) fed calls text
+      closing_truncated out some = closes_so (talk.Truncated w.reading.at) (out, whole, omega (arith, size, some), refl)
+
+      ends_unread : Carried p left fed calls text talk.ReadFault
+      ends_unread = carried_unread p left fed s.frames w.reading.at calls text s.handled front whole
+
+      ends_too_much : length fed ≡ 2 ^ 40 → Carried p left fed calls text (talk.TooMuch (2 ^ 40))
+      ends_too_much most = carried_too_much p left fed s.frames w.reading.at calls text s.handled front whole most
+
+    -- the bytes have a fault
+    pub closing_faulty : (e : HttpFault) → w.reading.waiting ≡ [] → met ≡ Some (feed.Fault e) → Closing p (Handled p) left (talk.Fault e.at (why_of e.why)) fed calls text
+    closing_faulty e none is =
+        let by : ReadsBy w (Some (feed.Fault e)) fed s.frames = subst (λ (m : Met). ReadsBy w m fed s.frames) is s.reads in
+        let r = subst (λ (o : Option HttpFault). ReadsTo fed (s.frames ++ w.reading.waiting) w.reading o) by.1 by.0 in
+        let all = subst (λ (l : List HttpItem). ReadsTo fed l w.reading (Some e)) (ap (λ (l : List HttpItem). s.frames ++ l) none ∙ append-nil s.frames) r in
+        record {
+          frames = s.frames;
+          handled = s.handled;
+          at = w.reading.at;
+          front = faulty_told fed s.frames w.reading.at e.at e.why all.0;
+          is_over = (w.reading.at, e.why, all.0, refl);
+        }
+
+  -- a connection may end here for want of more
+  pub may_end : (w : Window) (met : Met) → w.reading.waiting ≡ [] → met ≡ None → MayEnd (ServedBy w met) (Carried p)
+  may_end w met none sound = record {
+    read_fault = λ left fed calls text s. ends_unread w met left fed calls text s none sound;
+    too_much = λ left fed calls text s most. ends_too_much w met left fed calls text s none sound most;
+  }
+
+  -- ---- the last reply
+
+  says_nothing : (over : Talk) → ((at : ℕ) (why : _) → over ≡ talk.Fault at why → ⊥) → SaysLast over [] []
+  says_nothing (talk.Fault at why) other = absurd (other at why refl)
+  says_nothing over other = (refl, refl)
+
+  module _ (left : Option (List ℕ)) (over : Talk) (fed : List ℕ) (called : List Call) (said : List ℕ) (c : Closing p (Handled p) left over fed called said) where
+    -- nothing is to be said at the end of the input
+    pub finished : ((at : ℕ) (why : _) → over ≡ talk.Fault at why → ⊥) → Carried p left fed (called ++ []) (said ++ []) over
+    finished other = carried_over p left fed c.frames c.at called said c.handled c.front over [] [] c.is_over (says_nothing over other)
+
+    -- at a fault it was said
+    pub finished_said : (at : ℕ) (why : _) → over ≡ talk.Fault at why → Carried p left fed (called ++ []) (said ++ reply InvalidFormat None true) over
+    finished_said at why is =
+        carried_over p left fed c.frames c.at called said c.handled c.front over [] (reply InvalidFormat None true) c.is_over
+        (subst (λ (t : Talk). SaysLast t [] (reply InvalidFormat None true)) (sym is) (refl, refl))
+
+    -- or it wasn't said whole
+    pub finished_unsaid : (at : ℕ) (why : _) → over ≡ talk.Fault at why → (part : List ℕ) (instead : Talk) → IsAtMove instead → instead ≡ talk.WriteFault → IsCut (reply InvalidFormat None true) part → Carried p left fed (called ++ []) (said ++ part) instead
+    finished_unsaid at why is part instead move e cut =
+        carried_instead p left fed c.frames c.at called said c.handled c.front over [] part instead move c.is_over
+        (inr (subst (λ (t : Talk). p.StopsLast c.handled.steps c.handled.held t [] part instead) (sym is) (subst (λ (t : Talk). p.StopsLast c.handled.steps c.handled.held (talk.Fault at why) [] part t) (sym e) (refl, cut))))
+
+pub some_come : (n : ℕ) → (n ≡ 0 → ⊥) → 0 < n
+some_come zero h = absurd (h refl)
+some_come (suc n) h = omega arith
+
+-- what a session has served, by the tokens, the window and what it has met as they are now
+pub served_same : (ran : List Call → Type 0) (written written' : Option (List ℕ)) (n n' : ℕ) (From : List ℕ → List Call → List ℕ → Type 0) (conn : ℕ) (core core' : Tokens) (w w' : Window) (met met' : Met) → core' ≡ core → w' ≡ w → met' ≡ met
+    → Done ran written written' n n' (Leads n From (Served (Handled (hec core conn)) (ReadsBy w met))) → Done ran written written' n n' (Leads n From (Served (Handled (hec core' conn)) (ReadsBy w' met')))
+served_same ran written written' n n' From conn core core' w w' met met' same_core same_window same_met d =
+    subst (λ (t : Tokens). Done ran written written' n n' (Leads n From (Served (Handled (hec t conn)) (ReadsBy w' met')))) (sym same_core)
+    (subst (λ (v : Window). Done ran written written' n n' (Leads n From (Served (Handled (hec core conn)) (ReadsBy v met')))) (sym same_window)
+    (subst (λ (m : Met). Done ran written written' n n' (Leads n From (Served (Handled (hec core conn)) (ReadsBy w m)))) (sym same_met) d))

@@ -1,0 +1,65 @@
+use Rattle.std.proofs.Common.{rules, ◌≡◌, ◌+◌, List, [], ◌∷◌, None, length, inl, refl, sym, ap, subst, arith, length-append}
+use Rattle.std.specs.Prelude.{Ok, Err}
+use Rattle.std.specs.List.{All}
+use Rattle.event_form.specs.declared.event.Entry.{Entry}
+use Rattle.event_form.specs.Entry.{IsEntry}
+use Rattle.hec_session.specs.declared.act.HecAct.TheVariants.{StoreThenSay}
+use Rattle.desk_access.specs.Batch.{AreNext}
+use Rattle.desk_access.specs.Call.{takes}
+use Rattle.desk_access.specs.Step.{count}
+use Rattle.conn_serve.specs.declared.connection.Connection.{Connection}
+use Rattle.conn_serve.specs.Groups.{IsFrameEntry}
+use Rattle.conn_serve.specs.Hec.{entries_of, success}
+use Rattle.conn_serve.proofs.Acting.{done_nothing, err_then}
+use Rattle.conn_serve.proofs.HecActing.{refused_take, said_part}
+use Rattle.conn_serve.proofs.HecEntries.{count_entries, entries_next, entries_plain}
+use Rattle.conn_serve.proofs.hec.act.store_then_say.Goals as goal
+
+pub returns-in_default-clause-halts : goal.returns-in_default-clause-halts
+returns-in_default-clause-halts g c = done_nothing _ _ _ _ (g.met.A.Access.ran_none _) (inl ((refl, refl), refl))
+
+pub returns-in-Err-clause-halts : goal.returns-in-Err-clause-halts
+returns-in-Err-clause-halts g c = done_nothing _ _ _ _ (g.met.A.Access.ran_none _) (inl ((refl, refl), c.in-Err.ensures.starved))
+
+pub take_group-requires-clause-few : goal.take_group-requires-clause-few
+take_group-requires-clause-few g c =
+    let connection = c.args.connection.now in
+    let is : c.deref.result.now ≡ entries_of connection.number connection.taken 0 c.args.events.items = search rules in
+    omega (arith, ap length is, count_entries connection.number connection.taken 0 c.args.events.items, c.requires.within.few)
+
+pub take_group-requires-clause-limits : goal.take_group-requires-clause-limits
+take_group-requires-clause-limits g c =
+    let connection = c.args.connection.now in
+    let is : c.deref.result.now ≡ entries_of connection.number connection.taken 0 c.args.events.items = search rules in
+    let limits : All IsEntry c.deref.result.now = search rules in
+    subst (All IsFrameEntry) (sym is) (entries_plain connection.number connection.taken c.args.events.items (subst (All IsEntry) is limits))
+
+pub take_group-requires-clause-next : goal.take_group-requires-clause-next
+take_group-requires-clause-next g c =
+    let connection = c.args.connection.now in
+    let is : c.deref.result.now ≡ entries_of connection.number connection.taken 0 c.args.events.items = search rules in
+    subst (AreNext connection.number connection.taken) (sym is) (entries_next connection.number connection.taken 0 c.args.events.items)
+
+pub take_group-requires-clause-early : goal.take_group-requires-clause-early
+take_group-requires-clause-early g c =
+    let connection = c.args.connection.now in
+    let is : c.deref.result.now ≡ entries_of connection.number connection.taken 0 c.args.events.items = search rules in
+    omega (arith, ap length is, count_entries connection.number connection.taken 0 c.args.events.items, c.requires.within.few, c.requires.early)
+
+pub returns-in-Ok-take_group-clause-halts : goal.returns-in-Ok-take_group-clause-halts
+returns-in-Ok-take_group-clause-halts g c =
+    let connection = c.args.connection.now in
+    let receipt = c.in-Ok-take_group.field-0 in
+    let is : c.deref.result.now ≡ entries_of connection.number connection.taken 0 c.args.events.items = search rules in
+    let text : c.as_slice.result.now ≡ success None c.args.closing = search rules in
+    let calls = takes c.deref.result.now (Ok receipt) ∷ [] in
+    let counted : c.take_group.new.connection.taken ≡ connection.taken + count calls = omega (arith, ap (λ (x : Connection). x.taken) c.in-Ok-take_group.ensures.next, length-append c.deref.result.now []) in
+    err_then c.say.result _ _ c.say.ensures.part (λ talk h. said_part _ _ _ _ _ connection.number connection.taken (StoreThenSay c.args.events) c.args.closing calls (success None c.args.closing) c.as_slice.result.now h.1.0 talk c.in-Ok-take_group.ensures.ran counted text
+    (inl (receipt, ap (λ (l : List Entry). takes l (Ok receipt) ∷ []) is, refl)) h.0 h.1.1 h.1.2)
+
+pub returns-clause-halts : goal.returns-clause-halts
+returns-clause-halts g c =
+    let connection = c.args.connection.now in
+    let is : c.deref.result.now ≡ entries_of connection.number connection.taken 0 c.args.events.items = search rules in
+    refused_take connection.number connection.taken c.args.events c.args.closing _ _ _ _ _ c.in-Err-take_group.fault c.refuse.result (subst (λ (l : List Entry). g.A.Access.ran c.args.access.now (takes l (Err c.in-Err-take_group.fault) ∷ []) c.take_group.new.access) is c.in-Err-take_group.ensures.ran)
+    (ap (λ (x : Connection). x.taken) c.in-Err-take_group.ensures.stays) c.refuse.ensures.ends

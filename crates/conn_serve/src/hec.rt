@@ -1,0 +1,7 @@
+//! The HTTP Event Collector as a connection serves it.
+mod act;
+mod asked;
+mod ids;
+mod last;
+mod replies;
+pub(crate) mod session;
