@@ -4,6 +4,10 @@ pub mod Given
 pub mod Sure
 pub mod Failing
 pub mod Replays
+pub mod Sessions
+pub mod Forwarding
+pub mod Firsts
+pub mod Hanging
 pub mod Durable
 pub mod Doing
 pub mod Sharing

@@ -18,6 +18,7 @@ use Rattle.desk_access.specs.History.{AllKept, Grows}
 use Rattle.desk_access.specs.Alone.{AloneView, IsAt, Ran}
 use Rattle.desk_access.specs.Journal.{calls_by}
 use Rattle.desk_access.proofs.Lasting.{image_kept}
+use Rattle.hec_session.specs.declared.tokens.Tokens.{Tokens}
 use Rattle.bridge_words.specs.declared.note.Note.{Note}
 use Rattle.bridge_words.specs.Notes.{note_of_talk}
 use Rattle.bridge_core.specs.Done.{IsRefusedFirst}
@@ -27,28 +28,39 @@ use Rattle.bridge_core.specs.Replayed.{desk_in, Keeps, IsStored, IsServed}
 pub desk_at : (s : SpoolState) (ids : Table) (run : ℕ) (v : AloneView) → ids ≡ opened run 0 → run ≡ s.run → IsAt (desk_of s [] ids) v → IsAt (desk_in s) v
 desk_at s ids run v none same at = subst (λ (t : Table). IsAt (desk_of s [] t) v) (none ∙ ap (λ (n : ℕ). opened n 0) same) at
 
+-- what calls of a desk with one caller lead to, and that memory knows it
+pub record KeepsTo (s : SpoolState) (old new : AloneView) (calls : List Call) : Type 0 where
+  pub keeps : Keeps s old.spool.moment new.spool.moment calls
+  pub here : IsAt keeps.reached.after new
+
 -- the calls of a desk with one caller keep what they took
-pub ran_keeps : (s : SpoolState) (tells : Type 0) (old new : AloneView) (calls : List Call) → tells → IsAt (desk_in s) old → Ran tells old calls new → Keeps s old.spool.moment new.spool.moment calls
-ran_keeps s tells old new calls told at ran =
+pub ran_keeps_to : (s : SpoolState) (tells : Type 0) (old new : AloneView) (calls : List Call) → tells → IsAt (desk_in s) old → Ran tells old calls new → KeepsTo s old new calls
+ran_keeps_to s tells old new calls told at ran =
     let leads = ran.runs.leads (desk_in s) told at in
     let own = calls_by 0 calls ran.records ran.by in record {
-      reached = record {
-        records = ran.records;
-        by = ran.by;
-        after = leads.after;
-        goes = leads.goes;
-        images = leads.reached.spool.each;
-        each = λ c image.
-            let kept = image_kept (desk_in s) old new ran.records at leads c image in
-            record { state = kept.0; stands = kept.1; later = kept.2; kept = subst (AllKept kept.0) own kept.3; grows = subst (λ (l : List Call). Grows (desk_in s) l kept.0) own kept.4 };
+      keeps = record {
+        reached = record {
+          records = ran.records;
+          by = ran.by;
+          after = leads.after;
+          goes = leads.goes;
+          images = leads.reached.spool.each;
+          each = λ c image.
+              let kept = image_kept (desk_in s) old new ran.records at leads c image in
+              record { state = kept.0; stands = kept.1; later = kept.2; kept = subst (AllKept kept.0) own kept.3; grows = subst (λ (l : List Call). Grows (desk_in s) l kept.0) own kept.4 };
+        };
+        any_moment = leads.any_moment;
       };
-      any_moment = leads.any_moment;
+      here = leads.reached;
     }
 
+pub ran_keeps : (s : SpoolState) (tells : Type 0) (old new : AloneView) (calls : List Call) → tells → IsAt (desk_in s) old → Ran tells old calls new → Keeps s old.spool.moment new.spool.moment calls
+ran_keeps s tells old new calls told at ran = (ran_keeps_to s tells old new calls told at ran).keeps
+
 -- what was served, where the calls made mean something else too
-pub served_as : (proto : Proto) (conn : ℕ) (given given' left left' taken taken' : Option (List ℕ)) (Made Also : List Call → Type 0) (note : Note) → ((calls : List Call) → Made calls → Also calls)
-    → IsServed proto conn given given' left left' taken taken' Made note → IsServed proto conn given given' left left' taken taken' Also note
-served_as proto conn given given' left left' taken taken' Made Also note also served = record {
+pub served_as : (proto : Proto) (tokens : Tokens) (conn : ℕ) (given given' left left' taken taken' : Option (List ℕ)) (Made Also : List Call → Type 0) (note : Note) → ((calls : List Call) → Made calls → Also calls)
+    → IsServed proto tokens conn given given' left left' taken taken' Made note → IsServed proto tokens conn given given' left left' taken taken' Also note
+served_as proto tokens conn given given' left left' taken taken' Made Also note also served = record {
   attended = served.attended;
   note_is = served.note_is;
   serves = record {

@@ -1,16 +1,19 @@
 -- What the top call does with the words of a command.
-use Rattle.std.specs.Prelude.{◌≡◌, ◌⊎◌, ℕ, List, Option}
+use Rattle.std.specs.Prelude.{◌≡◌, ◌⊎◌, ℕ, List, Option, None, Some}
+use Rattle.edge_io.specs.Net.{NetState}
+use Rattle.edge_io.specs.declared.proto.Proto.{Proto}
 use Rattle.edge_disk.specs.Disk.{Moment, LeavesOnly}
 use Rattle.spool_log.specs.Making.Format.{IsFormatStep}
 use Rattle.bridge_words.specs.declared.command.Command.{Command}
-use Rattle.bridge_words.specs.declared.command.Command.TheVariants.{Format, List as ListCommand, Replay}
+use Rattle.bridge_words.specs.declared.command.Command.TheVariants.{Format, List as ListCommand, Replay, Drain}
 use Rattle.bridge_words.specs.declared.note.Note.{Note}
-use Rattle.bridge_words.specs.declared.note.Note.TheVariants.{Usage, WrongLength, RunsSpent, Worn}
+use Rattle.bridge_words.specs.declared.note.Note.TheVariants.{Fine, Usage, WrongLength, RunsSpent, Worn}
 use Rattle.bridge_core.specs.Formatted.{IsFormatted}
 use Rattle.bridge_core.specs.Listed.{IsListNote, IsListed}
 use Rattle.bridge_core.specs.Replayed.{IsUnopened, IsReplayed}
+use Rattle.bridge_core.specs.Drained.{IsLooked, IsIdle, IsUnread, IsStreamed, IsNeedless, IsUndialed, IsPlaced}
 
--- What is told of the disk, the input and the output, before the call and after it.
+-- What is told of the disk, the input, the output and the net, before the call and after it.
 pub record Run : Type 1 where
   -- the disk tells what it reads
   pub tells : Type 0
@@ -23,6 +26,9 @@ pub record Run : Type 1 where
   pub left_after : Option (List ℕ)
   pub taken : Option (List ℕ)
   pub taken_after : Option (List ℕ)
+  -- the links that the net hung up
+  pub net : NetState
+  pub net_after : NetState
 
 -- nothing was read or written
 pub record IsSilent (run : Run) : Type 0 where
@@ -30,8 +36,31 @@ pub record IsSilent (run : Run) : Type 0 where
   pub left : run.left_after ≡ run.left
   pub taken : run.taken_after ≡ run.taken
 
+-- nothing was given by the input
+pub record IsUngiven (run : Run) : Type 0 where
+  pub given : run.given_after ≡ run.given
+  pub left : run.left_after ≡ run.left
+
+-- Entries are forwarded to the output: nothing is pending, and then nothing is read or written; or one session is held over
+-- the input and the output.
+abbrev pub DoesStream : Proto → Run → Note → Type 0
+DoesStream proto run note =
+    (IsUnread run.tells run.disk run.disk_after note × IsSilent run)
+    ⊎ (((run.tells → IsLooked IsIdle run.disk run.disk_after) × (note ≡ Fine) × IsSilent run)
+    ⊎ IsStreamed proto run.tells run.disk run.disk_after run.given run.given_after run.left run.left_after run.taken run.taken_after note)
+
+-- Entries are forwarded to a place: nothing is pending, and then nothing is dialed; or the dial failed; or one session is
+-- held over the link.
+abbrev pub DoesPlace : Proto → List ℕ → Run → Note → Type 0
+DoesPlace proto place run note =
+    (IsUnread run.tells run.disk run.disk_after note × IsSilent run × (run.net_after ≡ run.net))
+    ⊎ (IsUngiven run × (IsNeedless run.tells run.disk run.disk_after run.net run.net_after run.taken run.taken_after note
+    ⊎ (IsUndialed run.tells run.disk run.disk_after run.net run.net_after run.taken run.taken_after note
+    ⊎ IsPlaced proto place run.tells run.disk run.disk_after run.net run.net_after run.taken run.taken_after note)))
+
 -- The device is made an empty spool; or the entries are listed that aren't known as confirmed, and nothing is written to the
--- device, so that a crash leaves what it could leave before; or the input is served as one connection of a protocol.
+-- device, so that a crash leaves what it could leave before; or the input is served as one connection of a protocol,
+-- by the tokens of the words; or the entries that aren't known as confirmed are forwarded.
 abbrev pub Does : Command → Run → Note → Type 0
 Does (Format slots size) run note =
     IsFormatted slots size run.tells run.disk run.disk_after run.taken run.taken_after note
@@ -39,9 +68,11 @@ Does (Format slots size) run note =
 Does (ListCommand form) run note =
     IsListNote note
     × (run.tells → IsListed form run.disk.reads run.taken run.taken_after note × LeavesOnly run.disk.image run.disk run.disk_after)
-Does (Replay proto) run note =
+Does (Replay proto token ack_token) run note =
     (IsUnopened run.tells run.disk run.disk_after note × IsSilent run)
-    ⊎ IsReplayed proto run.tells run.disk run.disk_after run.given run.given_after run.left run.left_after run.taken run.taken_after note
+    ⊎ IsReplayed proto (record { token = token; ack_token = ack_token }) run.tells run.disk run.disk_after run.given run.given_after run.left run.left_after run.taken run.taken_after note
+Does (Drain proto None) run note = DoesStream proto run note
+Does (Drain proto (Some place)) run note = DoesPlace proto place run note
 
 -- the words or the device were refused, before the input or the output was met
 abbrev pub IsRefusedFirst : Note → Type 0

@@ -1,8 +1,11 @@
 pub mod Written
 pub mod Refused
+pub mod Failed
 pub mod Formatted
 pub mod Listed
 pub mod Acknowledged
 pub mod Replayed
+pub mod Drained
+pub mod Sending
 pub mod Done
 pub mod Opening

@@ -14,11 +14,12 @@ use Rattle.desk_access.specs.Call.{Call, Record, AreBy}
 use Rattle.desk_access.specs.Desk.{DeskState, desk_of, Goes, Stood}
 use Rattle.desk_access.specs.History.{IsLater, Grows, AllKept}
 use Rattle.conn_serve.specs.Acked.{Acknowledges}
-use Rattle.conn_serve.specs.Serves.{CarriedBy, Serves}
+use Rattle.conn_serve.specs.Serves.{CarriedAs, Serves}
+use Rattle.hec_session.specs.declared.tokens.Tokens.{Tokens}
 use Rattle.bridge_words.specs.declared.note.Note.{Note}
 use Rattle.bridge_words.specs.Notes.{note_of_talk}
 use Rattle.bridge_core.specs.Refused.{note_of_recover}
-use Rattle.bridge_core.specs.Acknowledged.{AckedIsDurable}
+use Rattle.bridge_core.specs.Acknowledged.{AckedIsDurable, AnswersAreDurable}
 
 -- the desk of a spool that was opened in this state: nothing is in doubt, and no id of its run was issued
 abbrev pub desk_in : SpoolState → DeskState
@@ -73,16 +74,18 @@ pub record IsUnopened (tells : Type 0) (old new : Moment) (note : Note) : Type 0
   pub why : tells → IsRefusedAs Raise old.reads fault
   pub any_moment : tells → LeavesOnly (IsRefusing Raise fault old) old new
 
--- The input was served by this protocol, as one connection of this number: the bytes read are its frames, from
+-- The input was served by this protocol and these tokens, as one connection of this number: the bytes read are its frames, from
 -- the first one, none skipped; the calls on the spool and the bytes written are those that they ask for; where it
 -- ended with the input, the input was read to its end; and the note is that of the connection's ending.
-pub record IsServed (proto : Proto) (conn : ℕ) (given given' left left' taken taken' : Option (List ℕ)) (Made : List Call → Type 0) (note : Note) : Type 0 where
+pub record IsServed (proto : Proto) (tokens : Tokens) (conn : ℕ) (given given' left left' taken taken' : Option (List ℕ)) (Made : List Call → Type 0) (note : Note) : Type 0 where
   pub attended : Attended
   pub note_is : note ≡ note_of_talk attended.talk
-  pub serves : Serves (CarriedBy proto conn) given given' left left' taken taken' Made attended
+  pub serves : Serves (CarriedAs proto tokens conn) given given' left left' taken taken' Made attended
 
--- And that was done over the spool that the device stood for. Whatever the text that was written acknowledges is durable.
-pub record IsReplayed (proto : Proto) (tells : Type 0) (old new : Moment) (given given' left left' taken taken' : Option (List ℕ)) (note : Note) : Type 0 where
+-- And that was done over the spool that the device stood for. Whatever the text that was written acknowledges is durable:
+-- by RELP and Lumberjack the numbers in it, and by the collector its replies.
+pub record IsReplayed (proto : Proto) (tokens : Tokens) (tells : Type 0) (old new : Moment) (given given' left left' taken taken' : Option (List ℕ)) (note : Note) : Type 0 where
   pub conn : ℕ
-  pub served : IsServed proto conn given given' left left' taken taken' (λ calls. tells → IsStored old new conn calls) note
+  pub served : IsServed proto tokens conn given given' left left' taken taken' (λ calls. tells → IsStored old new conn calls) note
   pub acknowledged : (numbers : List ℕ) → tells → Acknowledges proto served.serves.text numbers → AckedIsDurable served.serves.calls new numbers
+  pub answered : tells → AnswersAreDurable proto tokens conn left' served.serves.bytes served.serves.calls served.serves.text served.attended.talk served.serves.carried new

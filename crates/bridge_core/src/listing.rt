@@ -8,11 +8,10 @@ ghost use Rattle.spool_log.specs.Memory.{end_of};
 ghost use Rattle.spool_log.specs.State.{view, IsIn};
 ghost use Rattle.conn_serve.specs.Endings.{CountsFaults};
 ghost use Rattle.bridge_words.specs.declared.note.Note.TheVariants.{Fine};
-ghost use Rattle.bridge_words.specs.Notes.{status_of};
 ghost use Rattle.bridge_core.specs.Listed.{ArePrinted, PrintsPart, IsPrintNote, IsListNote, IsListed};
 ghost use Rattle.bridge_core.specs.Done.{IsRefusedFirst};
 
-use crate::ended::Ended;
+use crate::ended::Finished;
 use crate::lines::print_entries;
 use crate::refused::{pend_note, recover_note};
 use bridge_words::{ListForm, Note};
@@ -95,8 +94,7 @@ fn print_left<D: Disk, K: Sink>(
 /// and then nothing is written. `DiskFault` and `WriteFault` come only where a call of the disk or a write
 /// failed in this call; then the first lines are written, the last one perhaps in part. Nothing is written to
 /// the device: whatever a crash leaves of it is what it could leave before.
-pub fn list<D: Disk, K: Sink>(alloc: Global, disk: D, output: &mut K, form: ListForm) -> Ended<D>
-    ensures status { result.status ≡ status_of result.note }
+pub fn list<D: Disk, K: Sink>(alloc: Global, disk: D, output: &mut K, form: ListForm) -> Finished<D>
     ensures known { IsListNote result.note }
     ensures unused { IsRefusedFirst result.note → output.new ≡ output.old }
     ensures calls { Calls (result.note ≡ Note.DiskFault) (D.moment disk) (D.moment result.disk) }
@@ -107,8 +105,8 @@ pub fn list<D: Disk, K: Sink>(alloc: Global, disk: D, output: &mut K, form: List
     match Spool::recover(alloc, disk, Opening::Keep) {
         Ok(mut spool) => {
             let note = print_left(alloc, &mut spool, output, form);
-            Ended::of(note, spool.into_disk())
+            Finished::of(note, spool.into_disk())
         }
-        Err(Refusal { fault, disk }) => Ended::of(recover_note(fault), disk),
+        Err(Refusal { fault, disk }) => Finished::of(recover_note(fault), disk),
     }
 }

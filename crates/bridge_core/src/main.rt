@@ -1,4 +1,4 @@
-//! bridge: takes log events by RELP and by Lumberjack, and keeps them in a spool on a device of a fixed length.
+//! bridge: takes log events by RELP, by Lumberjack and by Splunk's HTTP Event Collector, and keeps them in a spool on a device of a fixed length.
 //! The one contract is that of `bridge`, the top call: what it makes, lists, stores and answers for its words.
 #![tactic(auto)]
 
@@ -7,13 +7,16 @@ ghost use Rattle.std.specs.Process.{exit_status};
 ghost use Rattle.bridge_words.specs.Notes.{status_of};
 
 mod bridge;
+mod draining;
 mod ended;
 mod formatting;
 mod lines;
 mod listing;
+mod placing;
 mod program;
 mod refused;
 mod replaying;
+mod sending;
 #[cfg(test)]
 mod tests;
 

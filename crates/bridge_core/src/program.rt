@@ -1,15 +1,16 @@
 //! The program round the top call: its words, its streams, and the device that the words want.
 ghost use Rattle.std.specs.Prelude.{◌≡◌, ◌⊎◌, ◌↔◌, map, string_bytes};
 ghost use Rattle.edge_disk.specs.declared.open_fault.Sharing.TheVariants.{Shared};
-ghost use Rattle.conn_serve.specs.Endings.{CountsFaults};
-ghost use Rattle.bridge_words.specs.declared.note.Note.TheVariants.{Usage, NoMemory, ReadFault, WriteFault};
+ghost use Rattle.bridge_words.specs.declared.note.Note.TheVariants.{Usage, NoMemory};
 ghost use Rattle.bridge_words.specs.Words.{IsNoCommand};
+ghost use Rattle.bridge_core.specs.Failed.{TellsReadFault, TellsWriteFault, TellsNetFault};
 ghost use Rattle.bridge_core.specs.Opening.{open_text, AreList};
 
 use crate::bridge::bridge;
 use bridge_words::{Command, Need, Note, need_of, note_text};
 use edge_disk::{Disk, FileDisk, MemDisk, OpenFault, Sharing};
-use edge_io::{FileIo, Sink, Source};
+use edge_io::{FileIo, Net, Sink, Source};
+use edge_net::TcpNet;
 use std::fs::{File, OpenOptions};
 use std::rt::Env;
 use std::{env, io, str};
@@ -52,6 +53,7 @@ fn sharing_of(words: &[String]) -> Sharing
         Some(Command::List { .. }) => Sharing::Shared,
         Some(Command::Format { .. }) => Sharing::Exclusive,
         Some(Command::Replay { .. }) => Sharing::Exclusive,
+        Some(Command::Drain { .. }) => Sharing::Exclusive,
         None => Sharing::Exclusive,
     }
 }
@@ -70,20 +72,24 @@ fn open_text(fault: OpenFault) -> &'static str
 }
 
 // Runs the words over the file as a disk, where it was opened, and else says why it wasn't.
-fn run_over<S: Source, K: Sink>(
+fn run_over<S: Source, K: Sink, N: Net>(
     rt: &HostRuntime,
     file: &str,
     words: &[String],
     opened: Result<FileDisk, OpenFault>,
     input: &mut S,
     output: &mut K,
+    net: &mut N,
 ) -> Note
+where
+    N::P: Drop,
     ensures usage { result ≡ Usage → IsNoCommand (map string_bytes words.now) }
-    ensures reads { CountsFaults (result ≡ ReadFault) (S.read_faults input.old) (S.read_faults input.new) }
-    ensures writes { CountsFaults (result ≡ WriteFault) (K.write_faults output.old) (K.write_faults output.new) }
+    ensures reads { TellsReadFault (map string_bytes words.now) result (S.read_faults input.old) (S.read_faults input.new) (N.told net.old) (N.told net.new) }
+    ensures writes { TellsWriteFault (map string_bytes words.now) result (K.write_faults output.old) (K.write_faults output.new) (N.told net.old) (N.told net.new) }
+    ensures dials { TellsNetFault result (N.told net.old) (N.told net.new) }
 {
     match opened {
-        Ok(disk) => bridge(rt.alloc(), words, disk, input, output).note,
+        Ok(disk) => bridge(rt.alloc(), words, disk, input, output, net).note,
         Err(fault) => {
             let why = open_text(fault);
             let _ = eprintln!(rt; "bridge: {file}: {why}");
@@ -96,30 +102,34 @@ fn run_over<S: Source, K: Sink>(
 /// without a byte where they want none. A `file` that can't be opened is a fault of the disk, and standard
 /// error says why in a line of its own. `list` shares `file` with others that list it; every other command
 /// has it alone while it runs.
-pub fn run_words<S: Source, K: Sink>(
+pub fn run_words<S: Source, K: Sink, N: Net>(
     rt: &HostRuntime,
     file: &str,
     words: &[String],
     input: &mut S,
     output: &mut K,
+    net: &mut N,
 ) -> Note
+where
+    N::P: Drop,
     ensures usage { result ≡ Usage → IsNoCommand (map string_bytes words.now) }
     ensures no_command { IsNoCommand (map string_bytes words.now) → result ≡ Usage ⊎ result ≡ NoMemory }
-    ensures reads { CountsFaults (result ≡ ReadFault) (S.read_faults input.old) (S.read_faults input.new) }
-    ensures writes { CountsFaults (result ≡ WriteFault) (K.write_faults output.old) (K.write_faults output.new) }
+    ensures reads { TellsReadFault (map string_bytes words.now) result (S.read_faults input.old) (S.read_faults input.new) (N.told net.old) (N.told net.new) }
+    ensures writes { TellsWriteFault (map string_bytes words.now) result (K.write_faults output.old) (K.write_faults output.new) (N.told net.old) (N.told net.new) }
+    ensures dials { TellsNetFault result (N.told net.old) (N.told net.new) }
 {
     let alloc = rt.alloc();
     match need_of(alloc, words) {
         Ok(Need::Make { len }) => {
             let opened = FileDisk::make_locked(rt, file, len);
-            run_over(rt, file, words, opened, input, output)
+            run_over(rt, file, words, opened, input, output, net)
         }
         Ok(Need::Existing) => {
             let opened = FileDisk::open_locked(rt, file, sharing_of(words));
-            run_over(rt, file, words, opened, input, output)
+            run_over(rt, file, words, opened, input, output, net)
         }
         Ok(Need::NoCommand | Need::Nothing) => match MemDisk::plain(alloc, 0) {
-            Ok(disk) => bridge(alloc, words, disk, input, output).note,
+            Ok(disk) => bridge(alloc, words, disk, input, output, net).note,
             Err(_) => Note::NoMemory,
         },
         Err(_) => Note::NoMemory,
@@ -148,7 +158,8 @@ pub fn run(rt: &HostRuntime) -> Note {
     };
     let mut input = FileIo::of(rt.reader());
     let mut output = FileIo::of(io::writer(rt));
-    run_words(rt, &file, &words, &mut input, &mut output)
+    let mut net = TcpNet::new(rt.alloc(), rt);
+    run_words(rt, &file, &words, &mut input, &mut output, &mut net)
 }
 
 /// Prints the note's text to standard error, where there is one. A write that fails there is not reported.

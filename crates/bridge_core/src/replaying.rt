@@ -1,22 +1,23 @@
 //! The command `replay`: the input is served as one connection, over the spool that the device holds.
 ghost use Rattle.std.specs.Prelude.{◌≡◌, ◌≢◌, ◌⊎◌, ℕ, ◌*◌, ◌^◌, [], false};
 ghost use Rattle.spool_state.specs.SpoolState.{SpoolState};
-ghost use Rattle.edge_disk.specs.Calls.{Calls};
+ghost use Rattle.edge_io.specs.declared.proto.Proto.{Proto};
 ghost use Rattle.spool_log.specs.Memory.{run_of};
 ghost use Rattle.spool_log.specs.State.{view, IsIn};
 ghost use Rattle.conn_serve.specs.Endings.{CountsFaults};
-ghost use Rattle.bridge_words.specs.declared.note.Note.TheVariants.{Usage, WrongLength, ReadFault, WriteFault, DiskFault};
-ghost use Rattle.bridge_words.specs.Notes.{status_of};
+ghost use Rattle.conn_serve.specs.Tokens.{tokens_of};
+ghost use Rattle.bridge_words.specs.declared.note.Note.TheVariants.{Usage, WrongLength, ReadFault, WriteFault};
+ghost use Rattle.bridge_core.specs.Failed.{TellsDiskFault};
 ghost use Rattle.bridge_core.specs.Replayed.{Keeps, IsServed, IsUnopened, IsReplayed};
 ghost use Rattle.bridge_core.specs.Done.{IsRefusedFirst};
 
-use crate::ended::Ended;
+use crate::ended::Finished;
 use crate::refused::recover_note;
 use bridge_words::Note;
 use conn_serve::{Rules, attend};
 use desk_access::{Alone, Desk};
 use edge_disk::Disk;
-use edge_io::{Both, Link, Proto, Sink, Source};
+use edge_io::{Both, Link, Sink, Source};
 use hec_ids::Ids;
 use spool_log::{Opening, Refusal, Spool};
 use std::alloc::Global;
@@ -24,66 +25,57 @@ use std::alloc::Global;
 /// How many numbers the connections of a run have.
 const CONNECTIONS: u64 = 1 << 32;
 
-/// Serves the link by this protocol, as the first connection of the spool's run.
+/// Serves the link by these rules, as the first connection of the spool's run.
 pub(crate) fn serve_link<D: Disk, L: Link>(
     alloc: Global,
-    proto: Proto,
+    rules: Rules,
     spool: Spool<D>,
     link: &mut L,
-) -> Ended<D>
-    requires proto { (proto ≡ Proto.Relp) ⊎ (proto ≡ Proto.Lumberjack) }
+) -> Finished<D>
     requires sure { spool.doubt ≡ false }
 
-    ensures status { result.status ≡ status_of result.note }
     ensures known { IsRefusedFirst result.note → ⊥ }
-    ensures calls { Calls (result.note ≡ DiskFault) (D.moment spool.disk) (D.moment result.disk) }
+    ensures calls { TellsDiskFault (rules.proto ≡ Proto.Hec) result.note (D.moment spool.disk) (D.moment result.disk) }
     ensures reads { CountsFaults (result.note ≡ ReadFault) (L.read_faults link.old) (L.read_faults link.new) }
     ensures writes { CountsFaults (result.note ≡ WriteFault) (L.write_faults link.old) (L.write_faults link.new) }
     ensures same { L.same link.old link.new }
-    ensures served { IsServed proto (run_of spool.memory * 2 ^ 32) (L.given link.old) (L.given link.new) (L.left link.old) (L.left link.new) (L.taken link.old) (L.taken link.new)
+    ensures served { IsServed rules.proto (tokens_of rules) (run_of spool.memory * 2 ^ 32) (L.given link.old) (L.given link.new) (L.left link.old) (L.left link.new) (L.taken link.old) (L.taken link.new)
         (λ calls. (s : SpoolState) → D.tells → IsIn s [] (view spool.memory spool.doubt (D.moment spool.disk)) → Keeps s (D.moment spool.disk) (D.moment result.disk) calls) result.note }
 {
     let run = spool.run();
     let conn = u64::from(run) * CONNECTIONS;
     let ids = Ids::new(alloc, run, 0);
     let mut access = Alone::new(Desk { spool, ids });
-    let rules = Rules {
-        proto,
-        token: None,
-        ack_token: None,
-    };
     let attended = attend(alloc, link, &rules, &mut access, conn);
     let desk = access.into_desk();
-    Ended::of(Note::of_talk(attended.talk), desk.spool.into_disk())
+    Finished::of(Note::of_talk(attended.talk), desk.spool.into_disk())
 }
 
-// Serves the input by this protocol, as the first connection of the spool's run.
+// Serves the input by these rules, as the first connection of the spool's run.
 fn serve_input<D: Disk, S: Source, K: Sink>(
     alloc: Global,
-    proto: Proto,
+    rules: Rules,
     spool: Spool<D>,
     input: &mut S,
     output: &mut K,
-) -> Ended<D>
-    requires proto { (proto ≡ Proto.Relp) ⊎ (proto ≡ Proto.Lumberjack) }
+) -> Finished<D>
     requires sure { spool.doubt ≡ false }
 
-    ensures status { result.status ≡ status_of result.note }
     ensures known { IsRefusedFirst result.note → ⊥ }
-    ensures calls { Calls (result.note ≡ DiskFault) (D.moment spool.disk) (D.moment result.disk) }
+    ensures calls { TellsDiskFault (rules.proto ≡ Proto.Hec) result.note (D.moment spool.disk) (D.moment result.disk) }
     ensures reads { CountsFaults (result.note ≡ ReadFault) (S.read_faults input.old) (S.read_faults input.new) }
     ensures writes { CountsFaults (result.note ≡ WriteFault) (K.write_faults output.old) (K.write_faults output.new) }
-    ensures served { IsServed proto (run_of spool.memory * 2 ^ 32) (S.given input.old) (S.given input.new) (S.left input.old) (S.left input.new) (K.taken output.old) (K.taken output.new)
+    ensures served { IsServed rules.proto (tokens_of rules) (run_of spool.memory * 2 ^ 32) (S.given input.old) (S.given input.new) (S.left input.old) (S.left input.new) (K.taken output.old) (K.taken output.new)
         (λ calls. (s : SpoolState) → D.tells → IsIn s [] (view spool.memory spool.doubt (D.moment spool.disk)) → Keeps s (D.moment spool.disk) (D.moment result.disk) calls) result.note }
 {
     let mut link = Both {
         source: &mut *input,
         sink: &mut *output,
     };
-    serve_link(alloc, proto, spool, &mut link)
+    serve_link(alloc, rules, spool, &mut link)
 }
 
-/// Serves the input as one connection by this protocol, RELP or Lumberjack, over the spool that the device
+/// Serves the input as one connection by the protocol and the tokens of these rules, over the spool that the device
 /// holds, of which the run is raised by one first. The connection has the number run * 2^32.
 ///
 /// Where the device can't be opened nothing is read or written: `NotSpool` comes exactly where it breaks a
@@ -92,24 +84,21 @@ fn serve_input<D: Disk, S: Source, K: Sink>(
 /// ending.
 pub fn replay<D: Disk, S: Source, K: Sink>(
     alloc: Global,
-    proto: Proto,
+    rules: Rules,
     disk: D,
     input: &mut S,
     output: &mut K,
-) -> Ended<D>
-    requires proto { (proto ≡ Proto.Relp) ⊎ (proto ≡ Proto.Lumberjack) }
-
-    ensures status { result.status ≡ status_of result.note }
+) -> Finished<D>
     ensures known { (result.note ≢ Usage) × ((have want : ℕ) → result.note ≢ WrongLength have want) }
-    ensures calls { Calls (result.note ≡ DiskFault) (D.moment disk) (D.moment result.disk) }
+    ensures calls { TellsDiskFault (rules.proto ≡ Proto.Hec) result.note (D.moment disk) (D.moment result.disk) }
     ensures reads { CountsFaults (result.note ≡ ReadFault) (S.read_faults input.old) (S.read_faults input.new) }
     ensures writes { CountsFaults (result.note ≡ WriteFault) (K.write_faults output.old) (K.write_faults output.new) }
     ensures unused { IsRefusedFirst result.note → (input.new ≡ input.old) × (output.new ≡ output.old) }
     ensures replayed { (IsUnopened D.tells (D.moment disk) (D.moment result.disk) result.note × (input.new ≡ input.old) × (output.new ≡ output.old))
-        ⊎ IsReplayed proto D.tells (D.moment disk) (D.moment result.disk) (S.given input.old) (S.given input.new) (S.left input.old) (S.left input.new) (K.taken output.old) (K.taken output.new) result.note }
+        ⊎ IsReplayed rules.proto (tokens_of rules) D.tells (D.moment disk) (D.moment result.disk) (S.given input.old) (S.given input.new) (S.left input.old) (S.left input.new) (K.taken output.old) (K.taken output.new) result.note }
 {
     match Spool::recover(alloc, disk, Opening::Raise) {
-        Ok(spool) => serve_input(alloc, proto, spool, input, output),
-        Err(Refusal { fault, disk }) => Ended::of(recover_note(fault), disk),
+        Ok(spool) => serve_input(alloc, rules, spool, input, output),
+        Err(Refusal { fault, disk }) => Finished::of(recover_note(fault), disk),
     }
 }

@@ -1,10 +1,12 @@
 //! Tests of the top call: scripts of calls, with what each is given and what it has to leave.
 
 mod devices;
+mod drains;
 mod faults;
 mod lists;
 mod parts;
 mod play;
+mod requests;
 mod script;
 mod sessions;
 mod slots;
@@ -18,7 +20,7 @@ use std::alloc::Global;
 use std::process::Abort;
 use std::test::Fail;
 
-// Scripts, and the greatest length of a read: of RELP, of Lumberjack, and over disks that fail.
+// Scripts, and the greatest length of a read: of RELP, of Lumberjack, of the collector, and over disks that fail.
 type Scripts = &'static [(&'static str, usize)];
 
 const RELP: Scripts = &[
@@ -43,6 +45,23 @@ const LUMBERJACK: Scripts = &[
     (lists::LISTS, 8192),
 ];
 
+const COLLECTOR: Scripts = &[
+    (requests::REQUESTS, 1),
+    (requests::REQUESTS, 7),
+    (requests::REQUESTS, 8192),
+    (requests::IDS, 1),
+    (requests::IDS, 8192),
+    (requests::FULL, 8192),
+    (requests::STOPS, 8192),
+];
+
+const DRAINS: Scripts = &[
+    (drains::DRAINS, 1),
+    (drains::DRAINS, 8192),
+    (drains::PLACES, 8192),
+    (drains::WINDOW, 8192),
+];
+
 fn run_scripts(rt: &impl Abort, alloc: Global, scripts: Scripts) -> Result<(), Fail> {
     for (script, piece) in scripts {
         run_script(rt, alloc, script, *piece)?;
@@ -62,6 +81,16 @@ fn sessions_of_relp(rt: HostRuntime) -> Result<(), Fail> {
 #[test]
 fn windows_of_lumberjack(rt: HostRuntime) -> Result<(), Fail> {
     run_scripts(&rt, rt.alloc(), LUMBERJACK)
+}
+
+#[test]
+fn requests_of_the_collector(rt: HostRuntime) -> Result<(), Fail> {
+    run_scripts(&rt, rt.alloc(), COLLECTOR)
+}
+
+#[test]
+fn entries_forwarded(rt: HostRuntime) -> Result<(), Fail> {
+    run_scripts(&rt, rt.alloc(), DRAINS)
 }
 
 #[test]

@@ -9,6 +9,10 @@ use Rattle.event_form.specs.declared.event.Entry.{Entry}
 abbrev pub spool_line : ℕ → ℕ → List ℕ
 spool_line slots size = decimal slots ++ (codes " slots of " ++ (decimal size ++ (codes " bytes" ++ 10 ∷ [])))
 
+-- what is printed of entries that were forwarded to a place: how many were confirmed, and how many are left
+abbrev pub drain_line : ℕ → ℕ → List ℕ
+drain_line confirmed left = decimal confirmed ++ (codes " confirmed, " ++ (decimal left ++ (codes " left" ++ 10 ∷ [])))
+
 abbrev pub origin_word : Origin → List ℕ
 origin_word Relp = codes "relp"
 origin_word LumberData = codes "pairs"

@@ -4,7 +4,7 @@ use Rattle.std.specs.Fmt.{decimal}
 use Rattle.event_form.specs.declared.talk.Talk.{Talk}
 use Rattle.event_form.specs.declared.talk.Why.{Why}
 use Rattle.bridge_words.specs.declared.note.Note.{Note}
-use Rattle.bridge_words.specs.declared.note.Note.TheVariants.{Fine, Usage, NotSpool, WrongLength, Fault, Full, TooLarge, Busy, NoMemory, ReadFault, WriteFault, DiskFault, Truncated, RunsSpent, Spent, Worn, NoMore, TooMuch}
+use Rattle.bridge_words.specs.declared.note.Note.TheVariants.{Fine, Usage, NotSpool, WrongLength, Fault, Full, TooLarge, Busy, Refused, PeerClosed, Unconfirmed, NoMemory, ReadFault, WriteFault, DiskFault, NetFault, Truncated, RunsSpent, Spent, Worn, NoMore, TooMuch}
 
 abbrev pub status_of : Note → ℕ
 status_of Fine = 0
@@ -15,10 +15,14 @@ status_of (Fault at why) = 66
 status_of (Full need room) = 67
 status_of (TooLarge need most) = 67
 status_of (Busy held) = 67
+status_of (Refused unit code) = 68
+status_of PeerClosed = 68
+status_of (Unconfirmed asked) = 69
 status_of NoMemory = 70
 status_of ReadFault = 71
 status_of WriteFault = 72
 status_of DiskFault = 73
+status_of NetFault = 74
 status_of (Truncated at) = 75
 status_of (RunsSpent run) = 76
 status_of (Spent end) = 77
@@ -52,10 +56,14 @@ text_of (Fault at why) = codes "fault at " ++ (decimal at ++ (codes ": " ++ why_
 text_of (Full need room) = codes "spool full: " ++ (decimal need ++ (codes " needed, " ++ (decimal room ++ codes " free")))
 text_of (TooLarge need most) = codes "group too large: " ++ (decimal need ++ (codes " needed, " ++ (decimal most ++ codes " at most")))
 text_of (Busy held) = codes "id table full: " ++ (decimal held ++ codes " held")
+text_of (Refused unit code) = codes "peer refused " ++ (decimal unit ++ (codes " with " ++ decimal code))
+text_of PeerClosed = codes "peer closed"
+text_of (Unconfirmed asked) = codes "unconfirmed " ++ decimal asked
 text_of NoMemory = codes "no memory"
 text_of ReadFault = codes "read fault"
 text_of WriteFault = codes "write fault"
 text_of DiskFault = codes "disk fault"
+text_of NetFault = codes "net fault"
 text_of (Truncated at) = codes "input ended in a frame at " ++ decimal at
 text_of (RunsSpent run) = codes "run " ++ (decimal run ++ codes " was the last")
 text_of (Spent end) = codes "history spent at " ++ decimal end

@@ -1,13 +1,16 @@
 -- Which words are which command, and which device they want.
-use Rattle.std.specs.Prelude.{◌≡◌, ◌⊎◌, ℕ, ◌≤◌, List, [], ◌∷◌, length, codes}
+use Rattle.std.specs.Prelude.{◌≡◌, ◌⊎◌, ℕ, ◌<◌, ◌≤◌, false, List, [], ◌∷◌, ◌++◌, length, Option, None, Some, option_map, codes}
+use Rattle.std.specs.Int.{from_be_bytes, w128}
 use Rattle.std.specs.Str.Parse.{IsNumeral, digits_value}
+use Rattle.uuid.specs.Text.{parsed}
 use Rattle.edge_io.specs.declared.proto.Proto.{Proto}
 use Rattle.edge_io.specs.declared.proto.Proto.TheVariants.{Relp, Lumberjack, Hec}
 use Rattle.spool_state.specs.Image.{slot_at}
+use Rattle.bridge_words.specs.Places.{is_option}
 use Rattle.bridge_words.specs.declared.command.ListForm.{ListForm}
 use Rattle.bridge_words.specs.declared.command.ListForm.TheVariants.{Plain, Text, JsonObject, HecObject}
 use Rattle.bridge_words.specs.declared.command.Command.{Command}
-use Rattle.bridge_words.specs.declared.command.Command.TheVariants.{Format, List as ListCommand, Replay}
+use Rattle.bridge_words.specs.declared.command.Command.TheVariants.{Format, List as ListCommand, Replay, Drain}
 use Rattle.bridge_words.specs.declared.need.Need.{Need}
 use Rattle.bridge_words.specs.declared.need.Need.TheVariants.{NoCommand, Existing, Make}
 
@@ -30,25 +33,101 @@ pub record IsLayout (slots size : ℕ) (slots_word size_word : List ℕ) : Type 
   pub size_is : IsNumber size size_word
   pub in_range : IsSize slots size
 
--- the words after `list` that ask for a form
-abbrev pub form_words : ListForm → List (List ℕ)
-form_words Plain = []
-form_words Text = codes "--as" ∷ codes "relp" ∷ []
-form_words JsonObject = codes "--as" ∷ codes "json" ∷ []
-form_words HecObject = codes "--as" ∷ codes "hec" ∷ []
+-- An option with its value: `--name=value`, or `--name` and then `value`. No value of today begins with `-`.
+abbrev pub AreOption : List ℕ → List ℕ → List (List ℕ) → Type 0
+AreOption name value words = (words ≡ (name ++ 61 ∷ value) ∷ []) ⊎ (words ≡ name ∷ value ∷ [])
 
--- the words ask for a replay by the protocol; none ask for one by HEC yet
-abbrev pub AreReplay : Proto → List (List ℕ) → Type 0
-AreReplay Relp words = words ≡ codes "replay" ∷ codes "relp" ∷ []
-AreReplay Lumberjack words = words ≡ codes "replay" ∷ codes "lumberjack" ∷ []
-AreReplay Hec words = ⊥
+-- the words of `format`: after `--` there is no option, and so it has no effect wherever it stands
+abbrev pub AreFormat : List ℕ → List ℕ → List (List ℕ) → Type 0
+AreFormat slots_word size_word words =
+    (words ≡ slots_word ∷ size_word ∷ [])
+    ⊎ ((words ≡ codes "--" ∷ slots_word ∷ size_word ∷ [])
+    ⊎ ((words ≡ slots_word ∷ codes "--" ∷ size_word ∷ []) ⊎ (words ≡ slots_word ∷ size_word ∷ codes "--" ∷ [])))
 
--- The words are `format SLOTS SIZE`, `list`, `list --as relp`, `list --as json`, `list --as hec`, `replay relp` or
--- `replay lumberjack`, in this order and with no other.
+-- the words that ask `list` for a form
+abbrev pub AreForm : ListForm → List (List ℕ) → Type 0
+AreForm Plain words = words ≡ []
+AreForm Text words = AreOption (codes "--as") (codes "relp") words
+AreForm JsonObject words = AreOption (codes "--as") (codes "json") words
+AreForm HecObject words = AreOption (codes "--as") (codes "hec") words
+
+-- and then perhaps `--`
+abbrev pub AreList : ListForm → List (List ℕ) → Type 0
+AreList form words = (own : List (List ℕ)) × AreForm form own × ((words ≡ own) ⊎ (words ≡ own ++ codes "--" ∷ []))
+
+-- the number of the GUID that a text writes: simple, hyphenated, in braces or as a URN (RFC 9562, section 4)
+abbrev pub guid : List ℕ → Option ℕ
+guid text = option_map (from_be_bytes w128) (parsed text)
+
+-- an option of that name with a GUID
+abbrev pub AreToken : List ℕ → ℕ → List (List ℕ) → Type 0
+AreToken name token words = (text : List ℕ) × (guid text ≡ Some token) × AreOption name text words
+
+abbrev pub proto_word : Proto → List ℕ
+proto_word Relp = codes "relp"
+proto_word Lumberjack = codes "lumberjack"
+proto_word Hec = codes "hec"
+
+-- The words ask `replay` for a protocol and for the tokens of a collector: in any order, each once at most. After `--`
+-- there is no option.
+pub data AskFor : Option Proto → Option ℕ → Option ℕ → List (List ℕ) → Type 0 where
+  asks_nothing : AskFor None None None []
+  asks_protocol : {proto : Proto} {token ack_token : Option ℕ} {words : List (List ℕ)} → AskFor None token ack_token words → AskFor (Some proto) token ack_token (proto_word proto ∷ words)
+  asks_token : {proto : Option Proto} {token : ℕ} {ack_token : Option ℕ} {own words : List (List ℕ)} → AreToken (codes "--token") token own → AskFor proto None ack_token words → AskFor proto (Some token) ack_token (own ++ words)
+  asks_ack_token : {proto : Option Proto} {token : Option ℕ} {ack_token : ℕ} {own words : List (List ℕ)} → AreToken (codes "--ack-token") ack_token own → AskFor proto token None words → AskFor proto token (Some ack_token) (own ++ words)
+  ends : AskFor None None None (codes "--" ∷ [])
+  ends_before : {proto : Proto} → AskFor (Some proto) None None (codes "--" ∷ proto_word proto ∷ [])
+
+-- entries are forwarded by this protocol
+abbrev pub IsSender : Proto → Type 0
+IsSender Relp = Unit {0}
+IsSender Lumberjack = Unit {0}
+IsSender Hec = ⊥
+
+-- the words that ask `drain` for a protocol alone, and perhaps `--`
+abbrev pub AreStream : Proto → List (List ℕ) → Type 0
+AreStream proto words = (words ≡ proto_word proto ∷ []) ⊎ ((words ≡ codes "--" ∷ proto_word proto ∷ []) ⊎ (words ≡ proto_word proto ∷ codes "--" ∷ []))
+
+-- a place before `--`, or where there is none: it isn't taken for an option
+abbrev pub ArePlain : Proto → List ℕ → List (List ℕ) → Type 0
+ArePlain proto place words = (is_option place ≡ false) × ((words ≡ proto_word proto ∷ place ∷ []) ⊎ (words ≡ proto_word proto ∷ place ∷ codes "--" ∷ []))
+
+-- a place after `--`
+abbrev pub AreAfterEnd : Proto → List ℕ → List (List ℕ) → Type 0
+AreAfterEnd proto place words = (words ≡ codes "--" ∷ proto_word proto ∷ place ∷ []) ⊎ (words ≡ proto_word proto ∷ codes "--" ∷ place ∷ [])
+
+-- The words ask `drain` for a protocol, and for a place, which isn't empty.
+abbrev pub AreDrain : Proto → Option (List ℕ) → List (List ℕ) → Type 0
+AreDrain proto None words = AreStream proto words
+AreDrain proto (Some place) words = (0 < length place) × (ArePlain proto place words ⊎ AreAfterEnd proto place words)
+
+-- what stands after the name of the command
+abbrev pub IsCommandBy : Command → List (List ℕ) → Type 0
+IsCommandBy (Format slots size) words = (slots_word : List ℕ) × (size_word : List ℕ) × AreFormat slots_word size_word words × IsLayout slots size slots_word size_word
+IsCommandBy (ListCommand form) words = AreList form words
+IsCommandBy (Replay proto token ack_token) words = AskFor (Some proto) token ack_token words
+IsCommandBy (Drain proto place) words = IsSender proto × AreDrain proto place words
+
+-- the words ask for this spool
+abbrev pub IsFormat : Command → List (List ℕ) → Type 0
+IsFormat (Format slots size) words = IsCommandBy (Format slots size) words
+IsFormat command words = ⊥
+
+-- the words ask for this replay
+abbrev pub IsReplay : Command → List (List ℕ) → Type 0
+IsReplay (Replay proto token ack_token) words = IsCommandBy (Replay proto token ack_token) words
+IsReplay command words = ⊥
+
+abbrev pub name_of : Command → List ℕ
+name_of (Format slots size) = codes "format"
+name_of (ListCommand form) = codes "list"
+name_of (Replay proto token ack_token) = codes "replay"
+name_of (Drain proto place) = codes "drain"
+
+-- The words are `format SLOTS SIZE`, `list [--as FORM]`, `replay PROTO [--token GUID] [--ack-token GUID]` or
+-- `drain PROTO [PLACE]`. Options stand in any order after the name, each once at most.
 abbrev pub IsCommand : Command → List (List ℕ) → Type 0
-IsCommand (Format slots size) words = (slots_word : List ℕ) × (size_word : List ℕ) × (words ≡ codes "format" ∷ slots_word ∷ size_word ∷ []) × IsLayout slots size slots_word size_word
-IsCommand (ListCommand form) words = words ≡ codes "list" ∷ form_words form
-IsCommand (Replay proto) words = AreReplay proto words
+IsCommand command words = (after : List (List ℕ)) × (words ≡ name_of command ∷ after) × IsCommandBy command after
 
 -- the words are none of them
 abbrev pub IsNoCommand : List (List ℕ) → Type 0
@@ -58,7 +137,8 @@ IsNoCommand words = (command : Command) → IsCommand command words → ⊥
 abbrev pub need_for : Command → Need
 need_for (Format slots size) = Make (slot_at size slots)
 need_for (ListCommand form) = Existing
-need_for (Replay proto) = Existing
+need_for (Replay proto token ack_token) = Existing
+need_for (Drain proto place) = Existing
 
 -- the words want this
 abbrev pub IsNeed : List (List ℕ) → Need → Type 0

@@ -3,14 +3,19 @@
 //! text is the one that its definition has.
 #![tactic(auto)]
 
+mod arguments;
 mod command;
+mod draining;
 mod line;
 mod need;
 mod note;
 mod number;
+mod place;
 mod why;
+mod word;
 
 pub use command::{Command, ListForm};
-pub use line::{entry_line, spool_line};
+pub use line::{drain_line, entry_line, spool_line};
 pub use need::{Need, need_of};
 pub use note::{Note, note_text};
+pub use place::Place;

@@ -1,7 +1,7 @@
 //! The lines that bridge prints.
 ghost use Rattle.std.specs.Prelude.{◌≡◌, ◌++◌, OnOk, IfOk, string_bytes};
 ghost use Rattle.std.specs.Fmt.{decimal};
-ghost use Rattle.bridge_words.specs.Lines.{spool_line, origin_word, entry_line};
+ghost use Rattle.bridge_words.specs.Lines.{spool_line, drain_line, origin_word, entry_line};
 
 use event_form::{Entry, Origin};
 use itoa::Buffer;
@@ -15,6 +15,13 @@ pub fn spool_line(alloc: Global, slots: u32, size: u64) -> Result<String, AllocE
     ensures { IfOk result (λ line. string_bytes line ≡ spool_line slots size) }
 {
     format!(in alloc; "{slots} slots of {size} bytes\n")
+}
+
+/// The line that says how many entries were confirmed, and how many are left.
+pub fn drain_line(alloc: Global, confirmed: u64, left: u64) -> Result<String, AllocError>
+    ensures { IfOk result (λ line. string_bytes line ≡ drain_line confirmed left) }
+{
+    format!(in alloc; "{confirmed} confirmed, {left} left\n")
 }
 
 // The word for an origin.

@@ -18,25 +18,27 @@ pub enum Need {
     Make { len: u64 },
 }
 
-impl Command {
+impl<'a> Command<'a> {
     ghost use Rattle.bridge_words.specs.Words.{need_for, IsSize};
     ghost use Rattle.bridge_words.specs.declared.command.Command.TheVariants.{Format};
 
     // Which device it wants.
-    fn need(self) -> Need
-        requires { (slots size : ℕ) → self ≡ Format slots size → IsSize slots size }
-        ensures { result ≡ need_for self }
+    fn need(&self) -> Need
+        requires { (slots size : ℕ) → self.now ≡ Format slots size → IsSize slots size }
+        ensures { result ≡ need_for self.now }
     {
         match self {
             Command::Format { slots, size } => Need::Make {
-                len: 12_288 + u64::from(slots) * size,
+                len: 12_288 + u64::from(*slots) * *size,
             },
-            Command::List { .. } | Command::Replay { .. } => Need::Existing,
+            Command::List { .. } | Command::Replay { .. } | Command::Drain { .. } => {
+                Need::Existing
+            },
         }
     }
 }
 
-/// Which device the words want. Words without options are read without memory, so none is wanted yet.
+/// Which device the words want. They are read without memory, so none is wanted yet.
 pub fn need_of(_alloc: Global, words: &[String]) -> Result<Need, AllocError>
     ensures { IfOk result (IsNeed (map string_bytes words.now)) }
 {

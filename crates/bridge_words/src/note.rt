@@ -18,7 +18,7 @@ pub enum Note {
     NotSpool { at: u64 },
     /// The device has another number of bytes than the spool that is wanted.
     WrongLength { have: u64, want: u64 },
-    /// The input breaks its protocol at this offset of it.
+    /// The input, or what the peer sends, breaks its protocol at this offset of it.
     Fault { at: u64, why: Why },
     /// The group of the next event needs `need` bytes, and the active slot has `room` bytes left. No slot is free.
     Full { need: u64, room: u64 },
@@ -26,14 +26,22 @@ pub enum Note {
     TooLarge { need: u64, most: u64 },
     /// The table of ids is full: it holds `held` of them.
     Busy { held: u32 },
+    /// The peer refused the frame or the request of this number with this code.
+    Refused { unit: u64, code: u32 },
+    /// The peer's bytes ended, or it said that it closes the session, while entries were unconfirmed.
+    PeerClosed,
+    /// Asked as often as it may be, the peer never said that the request of this id is acknowledged.
+    Unconfirmed { asked: u64 },
     /// No memory was found.
     NoMemory,
-    /// A read of the input failed.
+    /// A read of the input, or of the link that was dialed, failed.
     ReadFault,
-    /// A write of the output failed.
+    /// A write of the output, or of the link that was dialed, failed.
     WriteFault,
     /// A call of the disk failed.
     DiskFault,
+    /// A place was not dialed.
+    NetFault,
     /// The input ended inside the frame that begins at this offset of it.
     Truncated { at: u64 },
     /// The spool was opened for storing as often as it can be.
@@ -84,10 +92,13 @@ impl Note {
             Note::NotSpool { .. } | Note::WrongLength { .. } => 65,
             Note::Fault { .. } => 66,
             Note::Full { .. } | Note::TooLarge { .. } | Note::Busy { .. } => 67,
+            Note::Refused { .. } | Note::PeerClosed => 68,
+            Note::Unconfirmed { .. } => 69,
             Note::NoMemory => 70,
             Note::ReadFault => 71,
             Note::WriteFault => 72,
             Note::DiskFault => 73,
+            Note::NetFault => 74,
             Note::Truncated { .. } => 75,
             Note::RunsSpent { .. } => 76,
             Note::Spent { .. } | Note::Worn { .. } | Note::NoMore { .. } | Note::TooMuch { .. } =>
@@ -119,10 +130,14 @@ impl Note {
                 format!(in alloc; "group too large: {need} needed, {most} at most")
             }
             Note::Busy { held } => format!(in alloc; "id table full: {held} held"),
+            Note::Refused { unit, code } => format!(in alloc; "peer refused {unit} with {code}"),
+            Note::PeerClosed => String::from_str(alloc, "peer closed"),
+            Note::Unconfirmed { asked } => format!(in alloc; "unconfirmed {asked}"),
             Note::NoMemory => String::from_str(alloc, "no memory"),
             Note::ReadFault => String::from_str(alloc, "read fault"),
             Note::WriteFault => String::from_str(alloc, "write fault"),
             Note::DiskFault => String::from_str(alloc, "disk fault"),
+            Note::NetFault => String::from_str(alloc, "net fault"),
             Note::Truncated { at } => format!(in alloc; "input ended in a frame at {at}"),
             Note::RunsSpent { run } => format!(in alloc; "run {run} was the last"),
             Note::Spent { end } => format!(in alloc; "history spent at {end}"),

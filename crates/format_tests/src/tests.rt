@@ -28,6 +28,10 @@ fn events_and_their_forms(rt: HostRuntime) -> Result<(), Fail> {
     assert!(rt; maps::each_event_has_its_forms(alloc)?);
     assert!(rt; words::commands(alloc)?);
     assert!(rt; words::no_commands(alloc)?);
+    assert!(rt; words::replays(alloc)?);
+    assert!(rt; words::no_replays(alloc)?);
+    assert!(rt; words::drains(alloc)?);
+    assert!(rt; words::no_drains(alloc)?);
     assert!(rt; words::texts(alloc)?);
     assert!(rt; words::lines(alloc)?);
     Ok(())

@@ -1,4 +1,6 @@
-use bridge_words::{Command, ListForm, Need, Note, entry_line, need_of, note_text, spool_line};
+use bridge_words::{
+    Command, ListForm, Need, Note, Place, drain_line, entry_line, need_of, note_text, spool_line,
+};
 use edge_io::Proto;
 use event_form::{Blob, Entry, Event, Origin, Why};
 use std::alloc::Global;
@@ -13,7 +15,7 @@ fn words_of(alloc: Global, words: &[&str]) -> Result<Vec<String>, Fail> {
 }
 
 // Each command, and the device that it wants.
-const COMMANDS: [(&[&str], Command, Need); 9] = [
+const COMMANDS: [(&[&str], Command<'static>, Need); 14] = [
     (
         &["format", "2", "4096"],
         Command::Format {
@@ -69,18 +71,319 @@ const COMMANDS: [(&[&str], Command, Need); 9] = [
         Need::Existing,
     ),
     (
-        &["replay", "relp"],
-        Command::Replay { proto: Proto::Relp },
-        Need::Existing,
-    ),
-    (
-        &["replay", "lumberjack"],
-        Command::Replay {
-            proto: Proto::Lumberjack,
+        &["list", "--as=json"],
+        Command::List {
+            form: ListForm::JsonObject,
         },
         Need::Existing,
     ),
+    (
+        &["list", "--"],
+        Command::List {
+            form: ListForm::Plain,
+        },
+        Need::Existing,
+    ),
+    (
+        &["list", "--as", "relp", "--"],
+        Command::List {
+            form: ListForm::Text,
+        },
+        Need::Existing,
+    ),
+    (
+        &["list", "--as=hec", "--"],
+        Command::List {
+            form: ListForm::HecObject,
+        },
+        Need::Existing,
+    ),
+    (
+        &["format", "--", "2", "4096"],
+        Command::Format {
+            slots: 2,
+            size: 4096,
+        },
+        Need::Make { len: 20_480 },
+    ),
+    (
+        &["format", "2", "--", "4096"],
+        Command::Format {
+            slots: 2,
+            size: 4096,
+        },
+        Need::Make { len: 20_480 },
+    ),
+    (
+        &["format", "2", "4096", "--"],
+        Command::Format {
+            slots: 2,
+            size: 4096,
+        },
+        Need::Make { len: 20_480 },
+    ),
 ];
+
+// The two tokens as they are spelt, and in one word with an option.
+const T: &str = "11111111-2222-3333-4444-555555555555";
+
+const A: &str = "aaaaaaaa-2222-3333-4444-555555555555";
+
+const TOKEN_IS_T: &str = "--token=11111111-2222-3333-4444-555555555555";
+
+const TOKEN_IS_A: &str = "--token=aaaaaaaa-2222-3333-4444-555555555555";
+
+const ACK_TOKEN_IS_A: &str = "--ack-token=aaaaaaaa-2222-3333-4444-555555555555";
+
+const TOKEN: u128 = 0x1111_1111_2222_3333_4444_5555_5555_5555;
+
+const ACK_TOKEN: u128 = 0xaaaa_aaaa_2222_3333_4444_5555_5555_5555;
+
+// What follows `replay`, and what it asks for: a protocol, the token and the token with acks.
+const REPLAYS: [(&[&str], Proto, Option<u128>, Option<u128>); 20] = [
+    (&["relp"], Proto::Relp, None, None),
+    (&["lumberjack"], Proto::Lumberjack, None, None),
+    (&["hec"], Proto::Hec, None, None),
+    (&["hec", "--"], Proto::Hec, None, None),
+    (&["--", "hec"], Proto::Hec, None, None),
+    (&["relp", "--token", T], Proto::Relp, Some(TOKEN), None),
+    (
+        &["lumberjack", "--ack-token", A],
+        Proto::Lumberjack,
+        None,
+        Some(ACK_TOKEN),
+    ),
+    (&["hec", "--token", T], Proto::Hec, Some(TOKEN), None),
+    (&["hec", TOKEN_IS_T], Proto::Hec, Some(TOKEN), None),
+    (&["--token", T, "hec"], Proto::Hec, Some(TOKEN), None),
+    (&[TOKEN_IS_T, "--", "hec"], Proto::Hec, Some(TOKEN), None),
+    (
+        &["hec", "--ack-token", A],
+        Proto::Hec,
+        None,
+        Some(ACK_TOKEN),
+    ),
+    (
+        &["hec", ACK_TOKEN_IS_A, "--"],
+        Proto::Hec,
+        None,
+        Some(ACK_TOKEN),
+    ),
+    (
+        &["hec", "--token", T, "--ack-token", A],
+        Proto::Hec,
+        Some(TOKEN),
+        Some(ACK_TOKEN),
+    ),
+    (
+        &["--ack-token", A, "hec", "--token", T],
+        Proto::Hec,
+        Some(TOKEN),
+        Some(ACK_TOKEN),
+    ),
+    (
+        &[ACK_TOKEN_IS_A, "--token", T, "hec"],
+        Proto::Hec,
+        Some(TOKEN),
+        Some(ACK_TOKEN),
+    ),
+    (
+        &["hec", "--token", T, "--ack-token", T],
+        Proto::Hec,
+        Some(TOKEN),
+        Some(TOKEN),
+    ),
+    (
+        &["hec", "--token", "11111111222233334444555555555555"],
+        Proto::Hec,
+        Some(TOKEN),
+        None,
+    ),
+    (
+        &["hec", "--token", "{11111111-2222-3333-4444-555555555555}"],
+        Proto::Hec,
+        Some(TOKEN),
+        None,
+    ),
+    (
+        &[
+            "hec",
+            "--ack-token=urn:uuid:AAAAAAAA-2222-3333-4444-555555555555",
+        ],
+        Proto::Hec,
+        None,
+        Some(ACK_TOKEN),
+    ),
+];
+
+fn named_words(alloc: Global, name: &str, after: &[&str]) -> Result<Vec<String>, Fail> {
+    let mut words = words_of(alloc, &[name])?;
+    for word in after {
+        words.push(String::from_str(alloc, word)?)?;
+    }
+    Ok(words)
+}
+
+pub(crate) fn replays(alloc: Global) -> Result<bool, Fail> {
+    for (after, proto, token, ack_token) in REPLAYS {
+        let words = named_words(alloc, "replay", after)?;
+        let command = Command::Replay {
+            proto,
+            token,
+            ack_token,
+        };
+        if Command::of(&words) != Some(command) {
+            return Ok(false);
+        }
+        if need_of(alloc, &words)? != Need::Existing {
+            return Ok(false);
+        }
+    }
+    Ok(true)
+}
+
+// What follows `replay` in words that are no command.
+const NO_REPLAYS: [&[&str]; 32] = [
+    &[],
+    &["x"],
+    &["lumber"],
+    &["Lumberjack"],
+    &["HEC"],
+    &["relp", "x"],
+    &["relp", "relp"],
+    &["lumberjack", "relp"],
+    &["relp", "--", "relp"],
+    &["--", "relp", "relp"],
+    &["--"],
+    &["--", "--"],
+    &["--", "hec", "--"],
+    &["--token", T],
+    &["hec", "--token"],
+    &["hec", "--token="],
+    &["hec", "--token", "zz"],
+    &["hec", "--token=zz"],
+    &["hec", "--token", "="],
+    &["hec", "--token", "1111111122223333444455555555555"],
+    &["hec", "--token", T, "--token", T],
+    &["hec", "--token", T, TOKEN_IS_A],
+    &["hec", ACK_TOKEN_IS_A, "--ack-token", A],
+    &["hec", "--token", "--ack-token", A],
+    &["hec", "--token", "--", T],
+    &["hec", "--", "--token", T],
+    &["--", "hec", "--token", T],
+    &["--", TOKEN_IS_T, "hec"],
+    &["hec", "--tok", T],
+    &["hec", "-t", T],
+    &["hec", "--as", "json"],
+    &["hec", T],
+];
+
+pub(crate) fn no_replays(alloc: Global) -> Result<bool, Fail> {
+    for after in NO_REPLAYS {
+        let words = named_words(alloc, "replay", after)?;
+        if Command::of(&words) != None {
+            return Ok(false);
+        }
+        if need_of(alloc, &words)? != Need::NoCommand {
+            return Ok(false);
+        }
+    }
+    Ok(true)
+}
+
+// What follows `drain`, and what it asks for: a protocol and a place.
+const DRAINS: [(&[&str], Proto, Option<&str>); 16] = [
+    (&["relp"], Proto::Relp, None),
+    (&["lumberjack"], Proto::Lumberjack, None),
+    (&["--", "relp"], Proto::Relp, None),
+    (&["lumberjack", "--"], Proto::Lumberjack, None),
+    (&["relp", "p"], Proto::Relp, Some("p")),
+    (
+        &["relp", "127.0.0.1:2514"],
+        Proto::Relp,
+        Some("127.0.0.1:2514"),
+    ),
+    (
+        &["lumberjack", "logs.example:5044"],
+        Proto::Lumberjack,
+        Some("logs.example:5044"),
+    ),
+    (&["relp", "-"], Proto::Relp, Some("-")),
+    (&["relp", "-", "--"], Proto::Relp, Some("-")),
+    (&["relp", "p", "--"], Proto::Relp, Some("p")),
+    (&["relp", "relp"], Proto::Relp, Some("relp")),
+    (&["relp", "--", "p"], Proto::Relp, Some("p")),
+    (&["relp", "--", "-x"], Proto::Relp, Some("-x")),
+    (&["relp", "--", "--"], Proto::Relp, Some("--")),
+    (&["--", "relp", "--to"], Proto::Relp, Some("--to")),
+    (&["--", "lumberjack", "p"], Proto::Lumberjack, Some("p")),
+];
+
+// Whether the place is this one.
+fn is_place(place: Option<Place>, want: Option<&str>) -> bool {
+    match (place, want) {
+        (None, None) => true,
+        (Some(place), Some(want)) => place.as_str() == want,
+        _ => false,
+    }
+}
+
+pub(crate) fn drains(alloc: Global) -> Result<bool, Fail> {
+    for (after, want, want_place) in DRAINS {
+        let words = named_words(alloc, "drain", after)?;
+        let Some(Command::Drain { proto, place }) = Command::of(&words) else {
+            return Ok(false);
+        };
+        if proto != want || !is_place(place, want_place) {
+            return Ok(false);
+        }
+        if need_of(alloc, &words)? != Need::Existing {
+            return Ok(false);
+        }
+    }
+    Ok(true)
+}
+
+// What follows `drain` in words that are no command.
+const NO_DRAINS: [&[&str]; 24] = [
+    &[],
+    &["hec"],
+    &["hec", "p"],
+    &["Relp"],
+    &[""],
+    &["p"],
+    &["p", "relp"],
+    &["relp", ""],
+    &["relp", "--", ""],
+    &["--", "relp", ""],
+    &["relp", "-x"],
+    &["relp", "-1"],
+    &["relp", "--to"],
+    &["relp", "-x", "--"],
+    &["relp", "p", "q"],
+    &["relp", "p", "--", "q"],
+    &["relp", "--", "p", "q"],
+    &["--", "relp", "p", "--"],
+    &["--", "--", "relp"],
+    &["--", "hec"],
+    &["--"],
+    &["--", "--"],
+    &["relp", "p", "--polls", "2"],
+    &["--out-token", T, "relp"],
+];
+
+pub(crate) fn no_drains(alloc: Global) -> Result<bool, Fail> {
+    for after in NO_DRAINS {
+        let words = named_words(alloc, "drain", after)?;
+        if Command::of(&words) != None {
+            return Ok(false);
+        }
+        if need_of(alloc, &words)? != Need::NoCommand {
+            return Ok(false);
+        }
+    }
+    Ok(true)
+}
 
 pub(crate) fn commands(alloc: Global) -> Result<bool, Fail> {
     for (words, command, need) in COMMANDS {
@@ -96,7 +399,7 @@ pub(crate) fn commands(alloc: Global) -> Result<bool, Fail> {
 }
 
 // Words that are no command.
-const NO_COMMANDS: [&[&str]; 28] = [
+const NO_COMMANDS: [&[&str]; 36] = [
     &[],
     &["format"],
     &["format", "0", "4096"],
@@ -114,16 +417,24 @@ const NO_COMMANDS: [&[&str]; 28] = [
     &["list", "--as", "lumberjack"],
     &["list", "--as", ""],
     &["list", "--as", "RELP"],
-    &["list", "--as=json"],
+    &["list", "--as="],
+    &["list", "--as=json", "--as=json"],
+    &["list", "--as=json", "relp"],
+    &["list", "--", "--as", "json"],
+    &["list", "--as", "--", "json"],
+    &["list", "--as", "--"],
+    &["list", "--", "--"],
+    &["format", "--", "2", "4096", "--"],
+    &["format", "--slots", "2", "4096"],
+    &["-", "list"],
+    &["--", "list"],
+    &["list", "-"],
     &["list", "--as", "hec", "x"],
     &["--as", "hec", "list"],
     &["List"],
     &["replay"],
-    &["replay", "hec"],
     &["relp", "replay"],
-    &["replay", "relp", "x"],
-    &["replay", "lumber"],
-    &["replay", "Lumberjack"],
+    &["--token", T, "replay", "hec"],
     &["replay", "lumberjack", "relp"],
 ];
 
@@ -141,7 +452,7 @@ pub(crate) fn no_commands(alloc: Global) -> Result<bool, Fail> {
 }
 
 // Notes, their statuses and their texts.
-const NOTES: [(Note, u8, &str); 23] = [
+const NOTES: [(Note, u8, &str); 27] = [
     (Note::Fine, 0, ""),
     (
         Note::Usage,
@@ -177,6 +488,14 @@ const NOTES: [(Note, u8, &str); 23] = [
     (Note::ReadFault, 71, "read fault"),
     (Note::WriteFault, 72, "write fault"),
     (Note::DiskFault, 73, "disk fault"),
+    (
+        Note::Refused { unit: 2, code: 500 },
+        68,
+        "peer refused 2 with 500",
+    ),
+    (Note::PeerClosed, 68, "peer closed"),
+    (Note::Unconfirmed { asked: 7 }, 69, "unconfirmed 7"),
+    (Note::NetFault, 74, "net fault"),
     (
         Note::RunsSpent { run: 2_097_151 },
         76,
@@ -283,6 +602,14 @@ const LINES: [(Origin, &str); 5] = [
 
 pub(crate) fn lines(alloc: Global) -> Result<bool, Fail> {
     if spool_line(alloc, 2, 4096)?.as_str() != "2 slots of 4096 bytes\n" {
+        return Ok(false);
+    }
+    if drain_line(alloc, 10_000, 0)?.as_str() != "10000 confirmed, 0 left\n" {
+        return Ok(false);
+    }
+    if drain_line(alloc, 0, 18_446_744_073_709_551_615)?.as_str()
+        != "0 confirmed, 18446744073709551615 left\n"
+    {
         return Ok(false);
     }
     for (origin, line) in LINES {

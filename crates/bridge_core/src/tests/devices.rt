@@ -13,7 +13,7 @@ in text 1 open 0%0a
 read 0
 ends 64 usage: bridge FILE format|replay|list|drain|serve|load
 same
-call replay hec
+call replay hec --token 1
 in text 1 open 0%0a
 read 0
 ends 64 usage: bridge FILE format|replay|list|drain|serve|load

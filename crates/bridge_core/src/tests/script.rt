@@ -2,6 +2,7 @@
 
 use crate::tests::parts::{add, bytes_of, number, word};
 use crate::tests::play::{Outcome, Play};
+use crate::tests::requests::exchange;
 use crate::tests::sweeps::{fails_well, stops_well};
 use bridge_words::note_text;
 use std::alloc::Global;
@@ -61,6 +62,25 @@ fn set(alloc: Global, play: &mut Play, step: &str, rest: &str) -> Result<Option<
     Ok(Some(true))
 }
 
+// Says what the peer at the place does, and what it has to be sent. None: the step is none of these.
+fn peer(alloc: Global, play: &mut Play, step: &str, rest: &str) -> Result<Option<bool>, Fail> {
+    if step == "replies" {
+        add(alloc, &mut play.replies, rest)?;
+    } else if step == "sent" {
+        play.links = 1;
+        add(alloc, &mut play.sent, rest)?;
+    } else if step == "peer_read" {
+        play.peer_reads.push(number(rest)?)?;
+    } else if step == "peer_write" {
+        play.peer_writes.push(number(rest)?)?;
+    } else if step == "dial" {
+        play.dials.push(number(rest)?)?;
+    } else {
+        return Ok(None);
+    }
+    Ok(Some(true))
+}
+
 // Says what stands on the device, or what may be left. None: the step is none of these.
 fn lay(alloc: Global, play: &mut Play, step: &str, rest: &str) -> Result<Option<bool>, Fail> {
     let (first, spelled) = word(rest);
@@ -87,7 +107,11 @@ fn end(alloc: Global, play: &mut Play, rest: &str) -> Result<bool, Fail> {
     let text = note_text(alloc, &left.note)?;
     let ends = u64::from(left.status) == status && text.bytes() == note.as_bytes();
     let after = left.disk.bytes().to_vec(alloc)?;
-    let is_right = ends && left.written == play.output && after.len() == play.device.len();
+    let is_sent = left.sent == play.sent && left.links == play.links;
+    let is_right = ends
+        && is_sent
+        && left.written == play.output
+        && after.len() == play.device.len();
     play.before = play.device.to_vec(alloc)?;
     play.device = after;
     Ok(is_right)
@@ -136,6 +160,12 @@ fn follow(alloc: Global, play: &mut Play, line: &str) -> Result<bool, Fail> {
     if let Some(is_right) = set(alloc, play, step, rest)? {
         return Ok(is_right);
     }
+    if let Some(is_right) = exchange(alloc, play, step, rest)? {
+        return Ok(is_right);
+    }
+    if let Some(is_right) = peer(alloc, play, step, rest)? {
+        return Ok(is_right);
+    }
     if let Some(is_right) = lay(alloc, play, step, rest)? {
         return Ok(is_right);
     }
@@ -150,6 +180,13 @@ fn follow(alloc: Global, play: &mut Play, line: &str) -> Result<bool, Fail> {
 ///   input and to the output that is wanted, and `open` adds the `open` of RELP to the one and its
 ///   answer to the other; `read N` and `write N`: that read of the input fails, or that write of
 ///   the output, from 0;
+/// - `event BODY` adds a request of the collector with the token to the input, `acked BODY` one with the token that uses
+///   acks and the channel, and `ask BODY` a query; `says BODY` adds its reply of status 200 to the output, `refuses
+///   BODY` one of 400, and `ends_busy BODY` and `ends_malformed BODY` closing ones of 503 and of 400; `later` keeps the input and
+///   the output so far for the call that comes after each one that fails or stops;
+/// - `replies BYTES` adds to what the peer at the place `there` gives; `peer_read N`, `peer_write N` and
+///   `dial N`: that read or write of its link, or that dial, fails, from 0; `sent BYTES` adds to what it
+///   has to be written by the time that its one link is hung up, and without it none may be dialed;
 /// - `ends STATUS NOTE` makes the call: so it ends, with that output, and the device keeps its
 ///   length;
 /// - `same`, `keeps FROM END`, `holds AT BYTES`: the device, or that part of it, is as it was

@@ -211,6 +211,21 @@ call list
 ends 0
 same
 
+- no input by the collector: the run is raised, and nothing else changes
+device 20480
+call format 2 4096
+out text 2 slots of 4096 bytes%0a
+ends 0
+call replay hec --token 11111111-2222-3333-4444-555555555555
+ends 0
+keeps 0 8192
+keeps 12288 20480
+holds 8192 text %01%00%00%00%00%00%00%00%02%00%00%00%13
+holds 8205 text %02%00%00%00%00%00%00%00%01%00%00%00%00%00%00%00%00%00%00
+call list
+ends 0
+same
+
 - the longest event
 device 4206592
 call format 2 2097152

@@ -31,6 +31,20 @@ fn listed(alloc: Global, device: Vec<u8>) -> Result<Option<Vec<u8>>, AllocError>
     }
 }
 
+// Whether the same words, with the input that is kept for it, then write what is wanted over a device.
+fn answers_later(alloc: Global, play: &Play, device: Vec<u8>) -> Result<bool, AllocError> {
+    if play.after.is_empty() {
+        return Ok(true);
+    }
+    let mut later = Play::new(alloc, play.piece);
+    for word in &play.words {
+        later.words.push(String::from_str(alloc, word.as_str())?)?;
+    }
+    later.input = play.after.to_vec(alloc)?;
+    let left = later.call(alloc, MemDisk::of(device, Vec::new(alloc)))?;
+    Ok(left.note == Note::Fine && left.written == play.answer)
+}
+
 // Where the outcomes have this one.
 fn place_of(outcomes: &[Outcome], written: u64, lines: &[u8]) -> u64 {
     let mut place = 0_u64;
@@ -72,8 +86,13 @@ fn outcome_over(
         note,
         written,
         disk,
+        sent: _,
+        links: _,
     } = play.call(alloc, disk)?;
     let device = bytes_after(alloc, disk, crash)?;
+    if !answers_later(alloc, play, device.to_vec(alloc)?)? {
+        return Ok((note, WRONG));
+    }
     let Some(lines) = listed(alloc, device)? else {
         return Ok((note, WRONG));
     };

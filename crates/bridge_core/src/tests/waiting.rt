@@ -1,10 +1,10 @@
 //! Senders that wait for each answer before they send on.
-ghost use Rattle.std.specs.Prelude.{◌≡◌, ◌⊎◌, ◌≤◌, None, false, length, IfOk};
-ghost use Rattle.edge_io.specs.declared.proto.Proto.{Proto};
+ghost use Rattle.std.specs.Prelude.{◌≡◌, ◌≤◌, None, false, length, IfOk};
 
 use crate::replaying::serve_link;
 use crate::tests::script::{OPEN, OPENED};
 use bridge_words::Note;
+use conn_serve::Rules;
 use edge_disk::MemDisk;
 use edge_io::{Link, Object, Proto, ReadFault, Sink, Source, WriteFault};
 use spool_log::{Opening, Spool, format};
@@ -28,6 +28,21 @@ const LUMBERJACK: &[Turn] = &[
         b"2A\0\0\0\x02",
     ),
     (b"2W\0\0\0\x012J\0\0\0\x01\0\0\0\x02{}", b"2A\0\0\0\x01"),
+];
+
+const HEC: &[Turn] = &[
+    (
+        b"POST /services/collector HTTP/1.1\r\nAuthorization: Splunk 11111111-2222-3333-4444-555555555555\r\nContent-Length: 13\r\nExpect: 100-continue\r\n\r\n",
+        b"HTTP/1.1 100 Continue\r\n\r\n",
+    ),
+    (
+        b"{\"event\":\"a\"}",
+        b"HTTP/1.1 200 OK\r\nContent-Type: application/json\r\nContent-Length: 27\r\n\r\n{\"text\":\"Success\",\"code\":0}",
+    ),
+    (
+        b"GET /services/collector/health HTTP/1.1\r\n\r\n",
+        b"HTTP/1.1 200 OK\r\nContent-Type: application/json\r\nContent-Length: 35\r\n\r\n{\"text\":\"HEC is healthy\",\"code\":17}",
+    ),
 ];
 
 // A link to a sender that waits.
@@ -133,13 +148,12 @@ impl Link for Waiting<'_> {
     ghost writes_keep = { λ x y same. (Prim.cc, Prim.cc, same, Prim.cc) };
 }
 
-// The protocol, of the two that are served.
-fn served(proto: Proto) -> Proto
-    ensures { (result ≡ Proto.Relp) ⊎ (result ≡ Proto.Lumberjack) }
-{
-    match proto {
-        Proto::Relp => Proto::Relp,
-        _ => Proto::Lumberjack,
+// The rules by which the link is served: the protocol, and the two tokens.
+fn rules(proto: Proto) -> Rules {
+    Rules {
+        proto,
+        token: Some(0x1111_1111_2222_3333_4444_5555_5555_5555),
+        ack_token: Some(0xaaaa_aaaa_2222_3333_4444_5555_5555_5555),
     }
 }
 
@@ -177,7 +191,7 @@ fn serve<'a>(
         read_faults: 0,
         write_faults: 0,
     };
-    let ended = serve_link(alloc, served(proto), spool(alloc)?, &mut link);
+    let ended = serve_link(alloc, rules(proto), spool(alloc)?, &mut link);
     Ok((ended.note, link.written))
 }
 
@@ -193,7 +207,11 @@ fn answers(alloc: Global, turns: &[Turn]) -> Result<Vec<u8>, AllocError> {
 /// A sender that waits is served to its end where each answer is written before the next read;
 /// where answers come late, it waits for the first one for ever.
 pub(crate) fn wait_for_answers(rt: &impl Abort, alloc: Global) -> Result<(), Fail> {
-    for (proto, turns) in [(Proto::Relp, RELP), (Proto::Lumberjack, LUMBERJACK)] {
+    for (proto, turns) in [
+        (Proto::Relp, RELP),
+        (Proto::Lumberjack, LUMBERJACK),
+        (Proto::Hec, HEC),
+    ] {
         let all = answers(alloc, turns)?;
         for piece in [1, 7, 8192] {
             let (note, written) = serve(alloc, proto, turns, piece, false)?;

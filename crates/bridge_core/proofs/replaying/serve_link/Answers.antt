@@ -1,10 +1,11 @@
 use Rattle.std.proofs.Common.{◌≡◌, ℕ, ◌*◌, ◌^◌, sym, ◌∙◌, ap, subst, arith}
-use Rattle.edge_disk.specs.Calls.{Calls}
+use Rattle.edge_io.specs.declared.proto.Proto.TheVariants.{Hec}
 use Rattle.hec_ids.specs.Rows.{opened}
 use Rattle.bridge_words.specs.Notes.{note_of_talk}
-use Rattle.bridge_words.specs.declared.note.Note.{Note}
-use Rattle.conn_serve.specs.Serves.{CarriedBy}
+use Rattle.conn_serve.specs.Serves.{CarriedAs}
+use Rattle.conn_serve.specs.Tokens.{tokens_of}
 use Rattle.conn_serve.proofs.Faults.{counts_as}
+use Rattle.bridge_core.specs.Failed.{TellsDiskFault}
 use Rattle.bridge_core.specs.Replayed.{Keeps}
 use Rattle.bridge_core.proofs.Failing.{disk_calls, talk_by_read, talk_by_write}
 use Rattle.bridge_core.proofs.Replays.{desk_at, ran_keeps, no_ending}
@@ -21,9 +22,9 @@ returns-clause-calls g c =
     let run = c.attend-attended.ensures.carried in
     let before : c.new-access.result.desk.spool.disk ≡ c.args.spool.disk = ap (λ d. d.spool.disk) c.new-access.ensures.desk in
     let after : c.of.result.disk ≡ c.attend-attended.new.access.desk.spool.disk = c.of.ensures.disk ∙ c.into_disk.ensures ∙ ap (λ d. d.spool.disk) c.into_desk-desk.ensures in
-    subst (λ (d : _). Calls (c.of.result.note ≡ Note.DiskFault) (g.D.Disk.moment d) (g.D.Disk.moment c.of.result.disk)) before
-    (subst (λ (d : _). Calls (c.of.result.note ≡ Note.DiskFault) (g.D.Disk.moment c.new-access.result.desk.spool.disk) (g.D.Disk.moment d)) (sym after)
-    (disk_calls c.args.proto _ _ run.bytes run.calls run.text c.attend-attended.result.talk c.of.result.note g.D.Disk.tells _ _ (c.of.ensures.note ∙ c.of_talk.ensures) run.carried run.made))
+    subst (λ (d : _). TellsDiskFault (c.args.rules.proto ≡ Hec) c.of.result.note (g.D.Disk.moment d) (g.D.Disk.moment c.of.result.disk)) before
+    (subst (λ (d : _). TellsDiskFault (c.args.rules.proto ≡ Hec) c.of.result.note (g.D.Disk.moment c.new-access.result.desk.spool.disk) (g.D.Disk.moment d)) (sym after)
+    (disk_calls c.args.rules.proto (tokens_of c.args.rules) _ _ run.bytes run.calls run.text c.attend-attended.result.talk c.of.result.note g.D.Disk.tells _ _ (c.of.ensures.note ∙ c.of_talk.ensures) run.carried run.made))
 
 pub returns-clause-reads : goal.returns-clause-reads
 returns-clause-reads g c =
@@ -57,6 +58,6 @@ returns-clause-served g c =
             (subst (λ (d : _). Keeps s (g.D.Disk.moment c.new-access.result.desk.spool.disk) (g.D.Disk.moment d) run.calls) (sym after)
             (ran_keeps s _ _ _ run.calls tells at run.made));
         counted = run.counted;
-        carried = subst (λ (n : ℕ). CarriedBy c.args.proto n (g.L.Source.left c.attend-attended.new.link) run.bytes run.calls run.text c.attend-attended.result.talk) (number ∙ ap (λ (n : ℕ). n * 2 ^ 32) c.run-run.ensures) run.carried;
+        carried = subst (λ (n : ℕ). CarriedAs c.args.rules.proto (tokens_of c.args.rules) n (g.L.Source.left c.attend-attended.new.link) run.bytes run.calls run.text c.attend-attended.result.talk) (number ∙ ap (λ (n : ℕ). n * 2 ^ 32) c.run-run.ensures) run.carried;
       };
     }

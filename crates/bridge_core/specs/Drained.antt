@@ -1,0 +1,138 @@
+-- What the top call does with the words of `drain`.
+use Rattle.std.specs.Prelude.{◌≡◌, ◌⊎◌, ℕ, ◌-◌, ◌<◌, List, [], Option, None}
+use Rattle.edge_io.specs.declared.proto.Proto.{Proto}
+use Rattle.edge_io.specs.Net.{NetState, IsHungUp}
+use Rattle.edge_io.specs.Told.{IsFresh, IsDialed, Adds}
+use Rattle.edge_disk.specs.Disk.{Moment, LeavesOnly}
+use Rattle.spool_state.specs.SpoolState.{SpoolState, end}
+use Rattle.spool_state.specs.Left.{left}
+use Rattle.spool_state.specs.Image.{StandsFor}
+use Rattle.spool_log.specs.declared.fault.RecoverFault.{RecoverFault}
+use Rattle.desk_access.specs.Call.{Call}
+use Rattle.desk_access.specs.Desk.{Stood}
+use Rattle.forward_core.specs.declared.sent.Sent.{Sent}
+use Rattle.forward_core.specs.declared.sent.Sent.TheVariants as Sending
+use Rattle.forward_core.specs.Forwarded.{Forwards}
+use Rattle.forward_core.specs.Protocols.{EndsAs, HintsAs}
+use Rattle.forward_core.specs.Settings.{Settings}
+use Rattle.bridge_words.specs.declared.note.Note.{Note}
+use Rattle.bridge_words.specs.declared.note.Note.TheVariants.{Fine, NoMemory, NetFault}
+use Rattle.bridge_words.specs.Lines.{drain_line}
+use Rattle.bridge_core.specs.Listed.{IsUnreadable}
+use Rattle.bridge_core.specs.Refused.{note_of_recover, note_of_sent}
+use Rattle.bridge_core.specs.Replayed.{desk_in, Reaches}
+use Rattle.bridge_core.specs.Written.{IsWritten}
+
+-- The device stood for a state of which this is so, and nothing was written to it: a crash leaves what it could leave
+-- before.
+pub record IsLooked (Is : SpoolState → Type 0) (old new : Moment) : Type 0 where
+  pub state : SpoolState
+  pub stood : StandsFor state old.reads
+  pub is : Is state
+  pub any_moment : LeavesOnly old.image old new
+
+-- nothing is pending
+abbrev pub IsIdle : SpoolState → Type 0
+IsIdle s = (s.cursor ≡ end s) × (left s ≡ [])
+
+-- entries are pending
+abbrev pub HasMore : SpoolState → Type 0
+HasMore s = s.cursor < end s
+
+-- A device that is opened as it is was refused: it breaks a rule, the first one at that place; or a call of the disk failed,
+-- or no memory was found. Nothing was written to it.
+pub record IsUnread (tells : Type 0) (old new : Moment) (note : Note) : Type 0 where
+  pub fault : RecoverFault
+  pub note_is : note ≡ note_of_recover fault
+  pub why : tells → IsUnreadable old.reads note
+  pub any_moment : tells → LeavesOnly old.image old new
+
+-- The device stood for a state, of which entries were pending, and was opened as it is. The session's entries are those
+-- from its cursor to its end, and its calls were made on the spool. The cursor rose by so many numbers, and so many are left
+-- above it. Whatever a crash left meanwhile is what it could leave as the call began, or stands for a state on the way of the
+-- calls.
+pub record IsSent (old new : Moment) (start until : ℕ) (calls : List Call) (confirmed remaining : ℕ) : Type 0 where
+  pub state : SpoolState
+  pub stood : StandsFor state old.reads
+  pub more : HasMore state
+  pub start_is : start ≡ state.cursor
+  pub until_is : until ≡ end state
+  pub reached : Reaches state new calls
+  pub any_moment : LeavesOnly (λ c. old.image c ⊎ Stood (desk_in state) reached.records c) old new
+  pub confirmed_is : confirmed ≡ reached.after.spool.cursor - state.cursor
+  pub remaining_is : remaining ≡ end reached.after.spool - reached.after.spool.cursor
+
+-- what a session is set to where the words name the protocol alone
+abbrev pub plain : Settings
+plain = record { token = 0; channel = 0; polls = 60 }
+
+-- One session by this protocol, of the entries from one number on and below another: the bytes read and written, its calls
+-- on the desk and its ending are those that it may have of them.
+pub record IsSession (proto : Proto) (given given' left left' written written' : Option (List ℕ)) (Made : ℕ → ℕ → List Call → Type 0)
+    (sent : Sent) : Type 0 where
+  pub start : ℕ
+  pub until : ℕ
+  pub forwards : Forwards (EndsAs plain proto) (HintsAs proto) given given' left left' written written' (Made start until) start until sent
+
+-- and that was done over the spool that the device stood for
+abbrev pub IsOverSpool : Type 0 → Moment → Moment → ℕ → ℕ → ℕ → ℕ → List Call → Type 0
+IsOverSpool tells old new confirmed remaining start until calls = tells → IsSent old new start until calls confirmed remaining
+
+-- One session over the input and the output. The note is that of its ending.
+pub record IsStreamed (proto : Proto) (tells : Type 0) (old new : Moment) (given given' left left' taken taken' : Option (List ℕ)) (note : Note) : Type 0 where
+  pub sent : Sent
+  pub note_is : note ≡ note_of_sent sent
+  pub confirmed : ℕ
+  pub remaining : ℕ
+  pub session : IsSession proto given given' left left' taken taken' (IsOverSpool tells old new confirmed remaining) sent
+
+-- ---- with a place
+
+-- the note of what ended, or where that was well the note of what came then
+abbrev pub first_of : Note → Note → Note
+first_of Fine then = then
+first_of note then = note
+
+-- A line was written after what ended so, as far as the print's own note says. The note that is told is the first one's.
+pub record PrintsAfter (ended : Note) (line : List ℕ) (note : Note) (old new : Option (List ℕ)) : Type 0 where
+  pub print : Note
+  pub written : IsWritten print line old new
+  pub note_is : note ≡ first_of ended print
+
+-- The line is printed after each ending of a session but want of memory.
+abbrev pub PrintsOf : Sent → List ℕ → Note → Option (List ℕ) → Option (List ℕ) → Type 0
+PrintsOf Sending.NoMemory line note old new = (note ≡ NoMemory) × (new ≡ old)
+PrintsOf sent line note old new = PrintsAfter (note_of_sent sent) line note old new
+
+-- The place was dialed, one session was held over the new link, the link was hung up, and the line was printed. The place
+-- that is told of the link as it was hung up is not said here.
+pub record IsPlaced (proto : Proto) (place : List ℕ) (tells : Type 0) (old new : Moment) (net net' : NetState) (taken taken' : Option (List ℕ))
+    (note : Note) : Type 0 where
+  pub sent : Sent
+  pub confirmed : ℕ
+  pub remaining : ℕ
+  pub dialed : Option (List ℕ)
+  pub given : Option (List ℕ)
+  pub given_after : Option (List ℕ)
+  pub left_there : Option (List ℕ)
+  pub left_after : Option (List ℕ)
+  pub written : Option (List ℕ)
+  pub written_after : Option (List ℕ)
+  pub place_is : IsDialed net.hung dialed place
+  pub fresh : IsFresh net.hung given written left_there
+  pub session : IsSession proto given given_after left_there left_after written written_after (IsOverSpool tells old new confirmed remaining) sent
+  pub hung : Adds net.hung net'.hung (IsHungUp None given_after written_after left_after)
+  pub printed : PrintsOf sent (drain_line confirmed remaining) note taken taken'
+
+-- The dial failed: nothing was printed, and nothing was done to the device.
+pub record IsUndialed (tells : Type 0) (old new : Moment) (net net' : NetState) (taken taken' : Option (List ℕ)) (note : Note) : Type 0 where
+  pub why : (note ≡ NetFault) ⊎ (note ≡ NoMemory)
+  pub pending : tells → IsLooked HasMore old new
+  pub hung : net'.hung ≡ net.hung
+  pub silent : taken' ≡ taken
+
+-- Nothing was pending: nothing was dialed, and a line says so.
+pub record IsNeedless (tells : Type 0) (old new : Moment) (net net' : NetState) (taken taken' : Option (List ℕ)) (note : Note) : Type 0 where
+  pub idle : tells → IsLooked IsIdle old new
+  pub undialed : net' ≡ net
+  pub line : IsWritten note (drain_line 0 0) taken taken'

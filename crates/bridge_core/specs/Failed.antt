@@ -1,0 +1,78 @@
+-- What failed in a run, as its note says.
+use Rattle.std.specs.Prelude.{◌≡◌, ◌⊎◌, ℕ, ◌≤◌, List, Option, None, Some}
+use Rattle.foundation.specs.Faults.{Rose}
+use Rattle.conn_serve.specs.Endings.{CountsFaults}
+use Rattle.edge_io.specs.Net.{NetState}
+use Rattle.edge_io.specs.declared.proto.Proto.{Proto}
+use Rattle.edge_disk.specs.Disk.{Moment}
+use Rattle.edge_disk.specs.Calls.{Calls}
+use Rattle.edge_io.specs.declared.proto.Proto.TheVariants.{Hec}
+use Rattle.bridge_words.specs.declared.command.Command.TheVariants.{Replay, Drain}
+use Rattle.bridge_words.specs.declared.note.Note.{Note}
+use Rattle.bridge_words.specs.declared.note.Note.TheVariants.{Fine, NotSpool, Worn, NoMemory, ReadFault, WriteFault, DiskFault, NetFault}
+use Rattle.bridge_words.specs.Words.{IsCommand}
+
+-- the words ask for a replay of the collector's requests
+abbrev pub AsksCollector : List (List ℕ) → Type 0
+AsksCollector words = (token : Option ℕ) × (ack_token : Option ℕ) × IsCommand (Replay Hec token ack_token) words
+
+-- A call of the disk failed exactly where the note says so. There is one exception: the collector replies that the disk
+-- failed, and where that reply was cut short, the note says that a write failed.
+abbrev pub TellsDiskFault : Type 0 → Note → Moment → Moment → Type 0
+TellsDiskFault collector note old new = Calls (note ≡ DiskFault) old new ⊎ (collector × (note ≡ WriteFault) × Calls (Unit {0}) old new)
+
+-- the words forward entries: to the output, or to a place
+abbrev pub AsksStream : List (List ℕ) → Type 0
+AsksStream words = (proto : Proto) × IsCommand (Drain proto None) words
+
+abbrev pub AsksPlace : List (List ℕ) → Type 0
+AsksPlace words = (proto : Proto) × (place : List ℕ) × IsCommand (Drain proto (Some place)) words
+
+abbrev pub AsksDrain : List (List ℕ) → Type 0
+AsksDrain words = (proto : Proto) × (place : Option (List ℕ)) × IsCommand (Drain proto place) words
+
+-- want of memory, or a refusal of the spool: it may have come after a write that failed
+abbrev pub IsHaltNote : Note → Type 0
+IsHaltNote DiskFault = Unit {0}
+IsHaltNote (NotSpool at) = Unit {0}
+IsHaltNote (Worn ordinal) = Unit {0}
+IsHaltNote NoMemory = Unit {0}
+IsHaltNote note = ⊥
+
+-- Where entries are forwarded to the output: a write of it failed where the note says so, and else only before a halt.
+pub record CountsWrites (note : Note) (before now : ℕ) : Type 0 where
+  pub later : before ≤ now
+  pub cause : note ≡ WriteFault → Rose 1 before now
+  pub quiet : (note ≡ WriteFault → ⊥) → (IsHaltNote note → ⊥) → now ≡ before
+
+-- Where entries are forwarded to a place: the read that the note tells of was one of a link that was hung up.
+pub record ReadsOfLink (note : Note) (before now hung_before hung_now : ℕ) : Type 0 where
+  pub none : now ≡ before
+  pub later : hung_before ≤ hung_now
+  pub cause : note ≡ ReadFault → Rose 1 hung_before hung_now
+
+-- The write that the note tells of was one of a link that was hung up, or of the output. Where all was well, none of the
+-- output failed.
+pub record WritesOfBoth (note : Note) (before now hung_before hung_now : ℕ) : Type 0 where
+  pub later : before ≤ now
+  pub hung_later : hung_before ≤ hung_now
+  pub cause : note ≡ WriteFault → Rose 1 before now ⊎ Rose 1 hung_before hung_now
+  pub quiet : note ≡ Fine → now ≡ before
+
+-- A read of the input failed exactly where the note says so; where entries are forwarded to a place none of it did, and the
+-- note tells of the link.
+abbrev pub TellsReadFault : List (List ℕ) → Note → ℕ → ℕ → NetState → NetState → Type 0
+TellsReadFault words note before now net net' =
+    CountsFaults (note ≡ ReadFault) before now
+    ⊎ (AsksPlace words × ReadsOfLink note before now net.read_faults net'.read_faults)
+
+-- A write of the output failed exactly where the note says so, but where entries are forwarded.
+abbrev pub TellsWriteFault : List (List ℕ) → Note → ℕ → ℕ → NetState → NetState → Type 0
+TellsWriteFault words note before now net net' =
+    CountsFaults (note ≡ WriteFault) before now
+    ⊎ ((AsksStream words × CountsWrites note before now)
+    ⊎ (AsksPlace words × WritesOfBoth note before now net.write_faults net'.write_faults))
+
+-- A dial failed exactly where the note says so.
+abbrev pub TellsNetFault : Note → NetState → NetState → Type 0
+TellsNetFault note net net' = CountsFaults (note ≡ NetFault) net.net_faults net'.net_faults

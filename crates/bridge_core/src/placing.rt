@@ -1,0 +1,170 @@
+//! The command `drain` with a place: the entries that aren't known as confirmed are forwarded over a link that is dialed.
+ghost use Rattle.std.specs.Prelude.{◌≡◌, ◌≢◌, ◌⊎◌, ◌≤◌, ◌<◌, ◌-◌, ◌∷◌, ℕ, [], false, List};
+ghost use Rattle.spool_state.specs.SpoolState.{SpoolState};
+ghost use Rattle.edge_disk.specs.Calls.{Calls};
+ghost use Rattle.spool_log.specs.Memory.{cursor_of, end_of};
+ghost use Rattle.spool_log.specs.State.{view, IsIn};
+ghost use Rattle.conn_serve.specs.Endings.{CountsFaults};
+ghost use Rattle.forward_core.specs.declared.sent.Sent.TheVariants as Ending;
+ghost use Rattle.bridge_words.specs.declared.note.Note.TheVariants.{Usage, WrongLength, WriteFault};
+ghost use Rattle.bridge_words.specs.Lines.{drain_line};
+ghost use Rattle.bridge_core.specs.Written.{IsWritten};
+ghost use Rattle.bridge_core.specs.Refused.{note_of_sent};
+ghost use Rattle.bridge_core.specs.Drained.{first_of, PrintsOf, IsUnread, IsNeedless, IsUndialed, IsPlaced};
+ghost use Rattle.bridge_core.specs.Sending.{Sends, IsNotSent, IsSentOver, IsSentThere, RoseBy, WroteAfter};
+ghost use Rattle.bridge_core.specs.Failed.{TellsNetFault, WritesOfBoth};
+
+use crate::ended::Finished;
+use crate::refused::{net_note, recover_note, sent_note};
+use crate::sending::{Sending, is_idle, send};
+use bridge_words::{Note, drain_line};
+use edge_disk::Disk;
+use edge_io::{Net, Proto, Sink, write_whole};
+use forward_core::Sent;
+use spool_log::{Opening, Refusal, Spool};
+use std::alloc::Global;
+
+// Prints how many entries were confirmed, and how many are left.
+fn print_counts<K: Sink>(alloc: Global, output: &mut K, confirmed: u64, left: u64) -> Note
+    ensures writes { CountsFaults (result ≡ WriteFault) (K.write_faults output.old) (K.write_faults output.new) }
+    ensures undisturbed { (result ≡ Note.Fine) ⊎ ((result ≡ WriteFault) ⊎ (result ≡ Note.NoMemory)) }
+    ensures line { IsWritten result (drain_line confirmed left) (K.taken output.old) (K.taken output.new) }
+{
+    let Ok(line) = drain_line(alloc, confirmed, left) else {
+        return Note::NoMemory;
+    };
+    match write_whole(output, line.as_bytes()) {
+        Ok(()) => Note::Fine,
+        Err(_) => Note::WriteFault,
+    }
+}
+
+// The note of what ended first, or where that was well the other.
+fn first_of(ended: Note, then: Note) -> Note
+    ensures { result ≡ first_of ended then }
+{
+    match ended {
+        Note::Fine => then,
+        note => note,
+    }
+}
+
+// Prints the line after a session that ended so, unless no memory was found for it. The note is that of the session, or
+// where that was well of the print.
+fn print_after<K: Sink>(
+    alloc: Global,
+    output: &mut K,
+    sent: Sent,
+    confirmed: u64,
+    left: u64,
+) -> Note
+    ensures writes { WroteAfter (note_of_sent sent) result (K.write_faults output.old) (K.write_faults output.new) }
+    ensures note { (result ≡ note_of_sent sent) ⊎ ((result ≡ WriteFault) ⊎ (result ≡ Note.NoMemory)) }
+    ensures printed { PrintsOf sent (drain_line confirmed left) result (K.taken output.old) (K.taken output.new) }
+{
+    match sent {
+        Sent::NoMemory => Note::NoMemory,
+        sent => first_of(
+            sent_note(sent),
+            print_counts(alloc, output, confirmed, left),
+        ),
+    }
+}
+
+// Holds one session over the link, hangs it up, and prints the line.
+fn send_over<D: Disk, K: Sink, N: Net>(
+    alloc: Global,
+    proto: Proto,
+    spool: Spool<D>,
+    link: N::L,
+    output: &mut K,
+    net: &mut N,
+) -> Finished<D>
+    requires sure { spool.doubt ≡ false }
+    requires room { N.has_room net.old }
+
+    ensures known { (result.note ≢ Usage) × ((have want : ℕ) → result.note ≢ WrongLength have want) }
+    ensures calls { Calls (result.note ≡ Note.DiskFault) (D.moment spool.disk) (D.moment result.disk) }
+    ensures reads { RoseBy (result.note ≡ Note.ReadFault) (N.told net.old).read_faults (N.told net.new).read_faults }
+    ensures writes { WritesOfBoth result.note (K.write_faults output.old) (K.write_faults output.new) (N.told net.old).write_faults
+        (N.told net.new).write_faults }
+    ensures dials { (result.note ≢ Note.NetFault) × ((N.told net.new).net_faults ≡ (N.told net.old).net_faults) }
+    ensures sent { IsSentOver proto (N.told net.old) (N.told net.new) (N.L.given link) (N.L.left link) (N.L.taken link) (cursor_of spool.memory)
+        (K.taken output.old) (K.taken output.new)
+        (λ start until cursor last calls. (s : SpoolState) → D.tells → IsIn s [] (view spool.memory spool.doubt (D.moment spool.disk))
+        → Sends s (D.moment spool.disk) (D.moment result.disk) start until calls cursor last) result.note }
+{
+    let mut link = link;
+    let before = spool.cursor();
+    let Sending { sent, spool } = send(alloc, proto, spool, &mut link, net);
+    net.hang_up(link);
+    let confirmed = spool.cursor().saturating_sub(before);
+    let left = spool.end().saturating_sub(spool.cursor());
+    let note = print_after(alloc, output, sent, confirmed, left);
+    Finished::of(note, spool.into_disk())
+}
+
+// Forwards the entries to the place, unless none is pending.
+fn send_there<D: Disk, K: Sink, N: Net>(
+    alloc: Global,
+    proto: Proto,
+    place: &str,
+    spool: Spool<D>,
+    output: &mut K,
+    net: &mut N,
+) -> Finished<D>
+    requires sure { spool.doubt ≡ false }
+
+    ensures known { (result.note ≢ Usage) × ((have want : ℕ) → result.note ≢ WrongLength have want) }
+    ensures calls { Calls (result.note ≡ Note.DiskFault) (D.moment spool.disk) (D.moment result.disk) }
+    ensures reads { RoseBy (result.note ≡ Note.ReadFault) (N.told net.old).read_faults (N.told net.new).read_faults }
+    ensures writes { WritesOfBoth result.note (K.write_faults output.old) (K.write_faults output.new) (N.told net.old).write_faults
+        (N.told net.new).write_faults }
+    ensures dials { TellsNetFault result.note (N.told net.old) (N.told net.new) }
+    ensures placed { IsNotSent (cursor_of spool.memory) (end_of spool.memory) (result.disk ≡ spool.disk) (N.told net.old) (N.told net.new)
+        (K.taken output.old) (K.taken output.new) result.note
+        ⊎ IsSentThere proto place.now (cursor_of spool.memory) (end_of spool.memory) (N.told net.old) (N.told net.new) (K.taken output.old) (K.taken output.new)
+        (λ start until cursor last calls. (s : SpoolState) → D.tells → IsIn s [] (view spool.memory spool.doubt (D.moment spool.disk))
+        → Sends s (D.moment spool.disk) (D.moment result.disk) start until calls cursor last) result.note }
+{
+    if is_idle(&spool) {
+        let note = print_counts(alloc, output, 0, 0);
+        return Finished::of(note, spool.into_disk());
+    }
+    match net.dial(place) {
+        Ok(link) => send_over(alloc, proto, spool, link, output, net),
+        Err(fault) => Finished::of(net_note(fault), spool.into_disk()),
+    }
+}
+
+/// Forwards the entries that aren't known as confirmed by this protocol to the place, which is dialed for it, and then prints
+/// how many were confirmed and how many are left.
+///
+/// Where none is pending nothing is dialed, and the line says so. `NetFault` comes where the place was not dialed, and then
+/// nothing is printed. The line is printed after each ending of the session but want of memory; before it the link is
+/// hung up. The note is that of the session's ending, or where that was well of the print.
+pub(crate) fn drain_to<D: Disk, K: Sink, N: Net>(
+    alloc: Global,
+    proto: Proto,
+    place: &str,
+    disk: D,
+    output: &mut K,
+    net: &mut N,
+) -> Finished<D>
+    ensures known { (result.note ≢ Usage) × ((have want : ℕ) → result.note ≢ WrongLength have want) }
+    ensures calls { Calls (result.note ≡ Note.DiskFault) (D.moment disk) (D.moment result.disk) }
+    ensures reads { RoseBy (result.note ≡ Note.ReadFault) (N.told net.old).read_faults (N.told net.new).read_faults }
+    ensures writes { WritesOfBoth result.note (K.write_faults output.old) (K.write_faults output.new) (N.told net.old).write_faults
+        (N.told net.new).write_faults }
+    ensures dials { TellsNetFault result.note (N.told net.old) (N.told net.new) }
+    ensures drained { (IsUnread D.tells (D.moment disk) (D.moment result.disk) result.note × (output.new ≡ output.old) × (net.new ≡ net.old))
+        ⊎ (IsNeedless D.tells (D.moment disk) (D.moment result.disk) (N.told net.old) (N.told net.new) (K.taken output.old) (K.taken output.new) result.note
+        ⊎ (IsUndialed D.tells (D.moment disk) (D.moment result.disk) (N.told net.old) (N.told net.new) (K.taken output.old) (K.taken output.new) result.note
+        ⊎ IsPlaced proto place.now D.tells (D.moment disk) (D.moment result.disk) (N.told net.old) (N.told net.new) (K.taken output.old)
+        (K.taken output.new) result.note)) }
+{
+    match Spool::recover(alloc, disk, Opening::Keep) {
+        Ok(spool) => send_there(alloc, proto, place, spool, output, net),
+        Err(Refusal { fault, disk }) => Finished::of(recover_note(fault), disk),
+    }
+}
