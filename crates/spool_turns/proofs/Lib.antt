@@ -2,4 +2,8 @@ pub mod Views
 pub mod KeepsRule
 pub mod Led
 pub mod Called
+pub mod Picks
+pub mod OwnParts
+pub mod Issuing
+pub mod Lists
 pub mod Closing

@@ -1,6 +1,9 @@
 pub mod Rules
 pub mod Own
 pub mod Passes
+pub mod OwnEntries
+pub mod Issuing
+pub mod Whole
 pub mod Replays
 pub mod Named
 pub mod Ran

@@ -1,10 +1,11 @@
 -- What a caller of the shared desk knows.
-use Rattle.std.specs.Prelude.{◌≡◌, ℕ, zero, suc, ◌-◌, ◌≤◌, List, [], ◌∷◌, ◌++◌, Option, None, Some}
+use Rattle.std.specs.Prelude.{◌≡◌, ℕ, zero, suc, ◌-◌, ◌≤◌, Bool, List, [], ◌∷◌, ◌++◌, map, Option, None, Some}
 use mathlib.Core.List.{IsPrefix}
 use Rattle.atomic_table.specs.Table.{Me}
 use Rattle.atomic_table.specs.Seated.{TableId}
 use Rattle.edge_disk.specs.Disk.{Moment}
 use Rattle.spool_state.specs.SpoolState.{end}
+use Rattle.hec_ids.specs.Table.{holds_settled}
 use Rattle.desk_access.specs.Call.{Call, Record, own_of}
 use Rattle.desk_access.specs.Desk.{DeskState, Goes}
 use Rattle.desk_access.specs.Legal.{Met}
@@ -103,6 +104,15 @@ pub record Calls (start : DeskState → Type 0) (run seats : ℕ) (v : Known) (c
   pub end_known : v.end_known ≤ w.end_known
   pub cursor_known : v.cursor_known ≤ w.cursor_known
   pub lawful : (x : DeskState) → start x → LeadsAbove x w.seen v.end_known v.cursor_known
+
+-- Before its last record the journal led to a desk at which the channel held just those of the ids settled that the answer says.
+pub record IsAsked (x : DeskState) (channel : ℕ) (ids : List ℕ) (answer : List Bool) (log : List Record) : Type 0 where
+  pub before : List Record
+  pub one : Record
+  pub seen : log ≡ before ++ one ∷ []
+  pub at : DeskState
+  pub goes : Goes x before at
+  pub held : answer ≡ map (λ id. holds_settled channel id at.ids.held) ids
 
 -- what the type of the locked value keeps of its seat: all passes were made, and the words are those that the desk answered
 pub record IsTurn (seats : ℕ) (me : Me ℕ View) (v : AloneView) : Type 0 where

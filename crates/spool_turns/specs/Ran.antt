@@ -113,7 +113,8 @@ pub ran_next : (start : DeskState → Type 0) (run : ℕ) (a b : Known) (calls :
     → IsNext run a.number a.own conn index → IsNext run b.number b.own conn (index + length (taken_of calls))
 ran_next start run a b calls conn index p sure all next =
     subst (λ (l : List Call). IsNext run b.number l conn (index + length (taken_of calls))) (sym p.own)
-    (subst (λ (n : ℕ). IsNext run n (a.own ++ calls) conn (index + length (taken_of calls))) (sym p.number) (next_more run a.number a.own calls conn index sure all next))
+    (subst (λ (n : ℕ). IsNext run n (a.own ++ calls) conn (index + length (taken_of calls))) (sym p.number)
+    (next_more run a.number a.own calls conn index sure all next))
 
 pub ran_issued : (start : DeskState → Type 0) (a b : Known) (channel id : ℕ) → Ran start a (issues channel (Ok id) ∷ []) b → IsUnused b.own id
 ran_issued start a b channel id p = subst (λ (l : List Call). IsUnused l id) (sym p.own) (unused_new a.own channel id)

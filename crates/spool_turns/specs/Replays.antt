@@ -1,5 +1,5 @@
 -- What the calls of a journal did to a desk that many callers share.
-use Rattle.std.specs.Prelude.{◌≡◌, ℕ, ◌+◌, ◌-◌, ◌≤◌, List, [], ◌∷◌, ◌++◌, All, None}
+use Rattle.std.specs.Prelude.{◌≡◌, ◌⊎◌, ℕ, ◌-◌, ◌<◌, ◌≤◌, List, [], ◌∷◌, ◌++◌, All, None}
 use Rattle.event_form.specs.declared.event.Entry.{Entry}
 use Rattle.foundation.specs.Faults.{Rose}
 use Rattle.spool_state.specs.SpoolState.{end}
@@ -9,10 +9,13 @@ use Rattle.spool_log.specs.State.{view}
 use Rattle.desk_access.specs.declared.desk.Desk.{Desk}
 use Rattle.desk_access.specs.Call.{Call, Record, own_of, calls_of, failures_of}
 use Rattle.desk_access.specs.Desk.{DeskState, Goes, Stood}
-use Rattle.desk_access.specs.History.{IsDesk}
+use Rattle.desk_access.specs.History.{IsDesk, Was}
 use Rattle.desk_access.specs.Alone.{AloneView, alone_view, IsAt}
-use Rattle.desk_access.specs.Legal.{May, Met, AddsGroups, IsLegal}
+use Rattle.desk_access.specs.Legal.{May, Met, AddsGroups, IsOfRun, IsLegal}
 use Rattle.spool_turns.specs.Passes.{Known, Stands}
+use Rattle.spool_turns.specs.OwnEntries.{groups_by, AddsOwn}
+use Rattle.spool_turns.specs.Issuing.{ids_of, AreFrom}
+use Rattle.spool_turns.specs.Whole.{Keeps}
 
 -- the disk was at this moment when the desk was given
 pub record BeganAt (began m : Moment) : Type 0 where
@@ -55,16 +58,33 @@ MayMake run confirming number own (call ∷ calls) = May run confirming number o
 abbrev pub desk_at : {D : Type 0} {disks : Ghosts D} → Desk D disks → AloneView
 desk_at {disks = disks} d = alone_view (view d.spool.memory d.spool.doubt (disks.moment d.spool.disk)) d.ids None 0 0
 
--- The desk that these passes leave, by the one journal of all their calls. The caller with the greatest number confirms.
--- What a journal adds is legal: each connection has the indexes 0, 1, 2 and so on, and the entries of an id are one group.
--- What each pass has seen is a beginning of the journal, and its own calls are all that the journal has of its number.
-pub record Closes (tells : Type 0) (start : DeskState → Type 0) (run seats : ℕ) (began : Moment) (log : List Record) (passes : List Known) (new : AloneView) : Type 0 where
+-- one of the passes has that number
+abbrev pub HasNumber : List Known → ℕ → Type 0
+HasNumber [] number = ⊥
+HasNumber (pass ∷ passes) number = (pass.number ≡ number) ⊎ HasNumber passes number
+
+-- The desk that these passes leave, by the one journal of all their calls, from each state x in which it may have been given.
+pub record Closes (tells : Type 0) (start : DeskState → Type 0) (run seats : ℕ) (began : Moment)
+    (log : List Record) (passes : List Known) (new : AloneView) : Type 0 where
+  -- the journal is lawful, and led to where the desk is
   pub replays : Replays tells start run began log new
+  -- Each call is one that its caller might make. The caller with the greatest number confirms.
   pub met : Met run (seats - 1) [] log
-  pub legal : (x : DeskState) → start x → (groups : List (List Entry)) → AddsGroups (calls_of log) groups → IsLegal run groups
   pub each : (number : ℕ) → MayMake run (seats - 1) number [] (own_of number log)
+  -- What the journal adds is legal, and so is each caller's part of it.
+  pub legal : (x : DeskState) → start x → (groups : List (List Entry)) → AddsGroups (calls_of log) groups → IsLegal run groups
+  pub own : (x : DeskState) → start x → (groups : List (List Entry)) → AddsGroups (calls_of log) groups
+      → (number : ℕ) → AddsOwn run number (own_of number log) groups (groups_by number log groups)
+  -- The ids that it issues are new.
+  pub issued : (x : DeskState) → start x → AreFrom x.ids.next (ids_of (calls_of log)) × All (IsOfRun run) (ids_of (calls_of log))
+  -- What a crash leaves then has all that was taken, and what it left before is a later state than that of the opening.
+  pub kept : (x : DeskState) → start x → (c : List ℕ) → new.spool.moment.image c → Keeps x log c
+  pub was : (x : DeskState) → start x → (c : List ℕ) → new.spool.moment.image_since began.clock c → Was x (calls_of log) c
+  -- What each pass has seen is a beginning of the journal, and its own calls are all that the journal has of its number.
   pub pass : All (Stands log) passes
+  -- The journal has no record of another number, and where all passes are there, each record is of one of them.
   pub no_others : (number : ℕ) → seats ≤ number → own_of number log ≡ []
+  pub by_passes : ((number : ℕ) → number < seats → HasNumber passes number) → All (λ (one : Record). HasNumber passes one.by) log
 
 -- the words of the end and the cursor are those of each state that the desk may be in
 abbrev pub IsExact : Type 0 → AloneView → Type 0

@@ -12,6 +12,7 @@
 //! the lock has the journal, and a pass comes under the lock for the time of a call.
 #![tactic(auto)]
 
+mod laws;
 mod naming;
 mod pass;
 mod rule;
@@ -22,6 +23,7 @@ mod turn;
 mod unnamed;
 mod view;
 
+pub use laws::ids_of_runs_differ;
 pub use naming::Naming;
 pub use pass::Pass;
 pub use seated::Seated;

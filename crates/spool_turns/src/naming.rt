@@ -10,14 +10,19 @@ pub trait Naming {
     ghost use Rattle.edge_disk.specs.Disk.{Moment};
     ghost use Rattle.desk_access.specs.Desk.{DeskState};
 
+    /// The table of seats.
     ghost table: { TableId };
 
+    /// How many passes there are.
     ghost seats: { ℕ };
 
+    /// How often the spool was opened for storing.
     ghost run: { ℕ };
 
+    /// The states in which the desk may have been given.
     ghost start: { DeskState → Type 0 };
 
+    /// The moment of its disk then.
     ghost began: { Moment };
 }
 

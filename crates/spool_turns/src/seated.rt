@@ -13,8 +13,11 @@ use std::sync::Wait;
 /// A pass at its desk. What it does may wait for the lock, but for `run`, `end` and `cursor`.
 #[derive(Drop)]
 pub struct Seated<'a, D: Disk, J: Naming, R: Wait> {
+    /// The desk that the pass is of.
     pub shared: &'a Shared<D, J>,
+    /// Who calls.
     pub pass: Pass<J>,
+    /// The right to wait for the lock.
     pub rt: &'a R,
 }
 
@@ -22,7 +25,8 @@ impl<'a, D: Disk, J: Naming, R: Wait> Access for Seated<'a, D, J, R> {
     ghost use Rattle.std.specs.Prelude.{◌≡◌, ◌+◌};
     ghost use Rattle.desk_access.specs.History.{IsDesk};
     ghost use Rattle.desk_access.specs.Legal.{IsNext, IsUnused, IsStored};
-    ghost use Rattle.spool_turns.specs.Ran.{Ran, ran_none, ran_more, ran_seen, ran_lawful, ran_next, ran_issued, ran_unused, ran_stored, ran_still_stored, ran_confirms};
+    ghost use Rattle.spool_turns.specs.Ran.{Ran, ran_none, ran_more, ran_seen, ran_lawful};
+    ghost use Rattle.spool_turns.specs.Ran.{ran_next, ran_issued, ran_unused, ran_stored, ran_still_stored, ran_confirms};
 
     ghost number = { λ a. a.pass.number };
 

@@ -9,7 +9,7 @@ ghost use Rattle.desk_access.specs.Call.{Record, takes, pends, confirms, marks, 
 ghost use Rattle.desk_access.specs.Batch.{MayTake, MayUse};
 ghost use Rattle.desk_access.specs.Desk.{DeskState};
 ghost use Rattle.desk_access.specs.Legal.{IsNext, IsUnused, IsStored};
-ghost use Rattle.spool_turns.specs.Passes.{Calls, LeadsBelow};
+ghost use Rattle.spool_turns.specs.Passes.{Calls, IsAsked, LeadsBelow};
 ghost use Rattle.spool_turns.specs.Replays.{Closes, desk_at};
 
 use crate::naming::Naming;
@@ -148,8 +148,8 @@ impl<D: Disk, J: Naming> Shared<D, J> {
             .forget(&self.table.shared, pass, channel, id)
     }
 
-    /// Writes of each id into `known`, at its place, whether the channel holds it settled. Those that it does are
-    /// forgotten. The ids are distinct. The group of an id that is told true stands in the journal that the pass has seen.
+    /// Writes of each id into `known`, at its place, whether the channel holds it settled at this call. Those that it does
+    /// are forgotten. The ids are distinct. The group of an id that is told true stands in the journal that the pass has seen.
     pub fn ask<R: Wait>(
         &self,
         rt: &R,
@@ -162,6 +162,7 @@ impl<D: Disk, J: Naming> Shared<D, J> {
         requires distinct { IsDistinct nat_eq ids.now }
 
         ensures call { Calls J.start J.run J.seats pass.old (asks channel ids.now known.new) pass.new }
+        ensures held { (x : DeskState) → J.start x → IsAsked x channel ids.now known.new pass.new.seen }
         ensures stored { (x : DeskState) → J.start x → (k : ℕ) → k < length ids.now → get_or known.new k false ≡ true
             → (caller : ℕ) × IsStored (own_of caller pass.new.seen) (get_or ids.now k 0) }
     {
@@ -212,7 +213,9 @@ impl<D: Disk, J: Naming> Shared<D, J> {
         pass.meet(&self.table.shared, other);
     }
 
-    /// The desk again, as one lawful journal of all calls left it.
+    /// The desk again, as one lawful journal of all calls left it. What each pass has seen is a beginning of that journal, what the
+    /// journal adds is legal, and so is each pass's own part of it. Whatever a crash leaves has each entry that was taken, at its number
+    /// or below the cursor.
     pub fn close(self, passes: Vec<Pass<J>>) -> Desk<D>
         ensures { (log : List Record) × Closes D.tells J.start J.run J.seats J.began log passes.items (desk_at result) }
     {

@@ -3,7 +3,8 @@ ghost use Rattle.std.specs.Prelude.{◌≡◌, ◌+◌, ◌^◌, ◌<◌, ◌≤
 ghost use mathlib.Core.List.{IsPrefix};
 ghost use Rattle.desk_access.specs.Call.{Call, own_of};
 ghost use Rattle.desk_access.specs.Alone.{alone_at, record_of, RunsTo};
-ghost use Rattle.spool_turns.specs.Rules.{Knows, Fresh, made_by, after_call, with_record, one_pass_more, new_pass, end_at, cursor_at, merged, compared_pass, knowing_end, knowing_cursor};
+ghost use Rattle.spool_turns.specs.Rules.{Knows, Fresh, made_by, after_call, with_record, one_pass_more, new_pass};
+ghost use Rattle.spool_turns.specs.Rules.{end_at, cursor_at, merged, compared_pass, knowing_end, knowing_cursor};
 ghost use Rattle.spool_turns.specs.Passes.{IsLocked, IsCalling, IsPass, locked_of, calling_of, pass_of, facts_in, caller_in, pass_in};
 ghost use Rattle.spool_turns.specs.Replays.{IsExact};
 

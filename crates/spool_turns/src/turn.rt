@@ -8,7 +8,7 @@ ghost use Rattle.desk_access.specs.Call.{takes, pends, confirms, marks, counts, 
 ghost use Rattle.desk_access.specs.Batch.{MayTake, MayUse};
 ghost use Rattle.desk_access.specs.Desk.{DeskState};
 ghost use Rattle.desk_access.specs.Legal.{IsNext, IsUnused, IsStored};
-ghost use Rattle.spool_turns.specs.Passes.{Calls};
+ghost use Rattle.spool_turns.specs.Passes.{Calls, IsAsked};
 ghost use Rattle.spool_turns.specs.Replays.{Closes, desk_at};
 
 use crate::naming::Naming;
@@ -258,6 +258,7 @@ impl<D: Disk, J: Naming> Turn<D, J> {
         requires distinct { IsDistinct nat_eq ids.now }
 
         ensures call { Calls J.start J.run J.seats pass.old (asks channel ids.now known.new) pass.new }
+        ensures held { (x : DeskState) → J.start x → IsAsked x channel ids.now known.new pass.new.seen }
         ensures stored { (x : DeskState) → J.start x → (k : ℕ) → k < length ids.now → get_or known.new k false ≡ true
             → (caller : ℕ) × IsStored (own_of caller pass.new.seen) (get_or ids.now k 0) }
     {

@@ -20,13 +20,16 @@ use std::sync::Mutex;
 /// There was no memory. The desk is given back.
 #[derive(Drop)]
 pub struct NoShare<D: Disk> {
+    /// The desk, as it was given.
     pub desk: Desk<D>,
 }
 
 /// A shared desk and its passes, in the order of their numbers.
 #[derive(Drop)]
 pub struct Opened<D: Disk, J: Naming> {
+    /// The desk that the passes share.
     pub shared: Shared<D, J>,
+    /// One pass for each caller.
     pub passes: Vec<Pass<J>>,
 }
 
@@ -37,6 +40,7 @@ pub struct Opened<D: Disk, J: Naming> {
 /// name.
 #[derive(Drop)]
 pub struct Unnamed<D: Disk> {
+    /// The desk, as one that has a single caller yet.
     pub alone: Alone<D>,
     pub(crate) table: SeatTable,
     pub(crate) locked: PassSeat,

@@ -1,6 +1,6 @@
 use Rattle.std.proofs.Common.{◌∙◌}
 use Rattle.spool_turns.proofs.Called.{turn_after, pass_after, calls_after}
-use Rattle.spool_turns.proofs.Closing.{told_stored}
+use Rattle.spool_turns.proofs.Closing.{told_stored, asked_held}
 use Rattle.spool_turns.proofs.turn.Turn.ask.Goals as goal
 
 pub invariant_of-self : goal.invariant_of-self
@@ -31,3 +31,6 @@ returns-clause-call g c =
 
 pub returns-clause-stored : goal.returns-clause-stored
 returns-clause-stored g c = λ x s. told_stored g.D.Disk.tells g.J.Naming.start g.J.Naming.run g.J.Naming.seats _ _ _ _ _ (returns-clause-call g c) x s (c.self.invariant.2.begins x s)
+
+pub returns-clause-held : goal.returns-clause-held
+returns-clause-held g c = λ x s. asked_held g.J.Naming.start g.J.Naming.run g.J.Naming.seats _ _ _ _ _ (returns-clause-call g c) x s

@@ -1,4 +1,4 @@
-use Rattle.std.proofs.Common.{rules, ◌≡◌, List, ◌++◌, ◌∷◌, [], All, refl, sym, ap, ◌∙◌, subst, append_assoc, arith}
+use Rattle.std.proofs.Common.{rules, ◌≡◌, ℕ, List, ◌++◌, ◌∷◌, [], All, refl, sym, ap, ◌∙◌, subst, append_assoc, arith}
 use Rattle.std.proofs.lemmas.List.{nil_from_length, append-nil}
 use Rattle.std.proofs.lemmas.List.Elements.{All-cons}
 use Rattle.std.specs.Prelude.{option_to_list, MatchOption, vec_len, ◌+◌, ◌-◌, ◌≤◌}
@@ -9,7 +9,7 @@ use Rattle.desk_access.specs.Legal.{Met}
 use Rattle.spool_turns.specs.Passes.{Known, Stands, locked_of, facts_in}
 use Rattle.spool_turns.specs.Replays.{Replays, desk_at}
 use Rattle.spool_turns.proofs.Led.{replays_less}
-use Rattle.spool_turns.proofs.Closing.{adds_legal, each_may}
+use Rattle.spool_turns.proofs.Closing.{adds_legal, each_may, each_own, new_ids, keeps, left_before, by_a_pass}
 use Rattle.spool_turns.proofs.turn.Turn.close.Goals as goal
 
 pub loop-pass-preserved : goal.loop-pass-preserved
@@ -35,13 +35,19 @@ returns g c =
     (λ k. view (d k).spool.memory (d k).spool.doubt (g.D.Disk.moment (d k).spool.disk)) (ap (λ x. x.ids) d) refl refl
     (subst (λ (l : List Record). Replays g.D.Disk.tells g.J.Naming.start g.J.Naming.run g.J.Naming.began l (alone_at c.self.inside.alone)) is v.2) in
     let met = subst (Met g.J.Naming.run (g.J.Naming.seats - 1) []) is v.3 in
+    let none_other : (n : ℕ) → g.J.Naming.seats ≤ n → own_of n c.args.self ≡ [] = λ n le. ap (own_of n) (sym is) ∙ c.check_numbers.ensures.none n (subst (λ k. k ≤ n) (sym v.1.made) le) in
     record {
       replays = replays;
       met = met;
-      legal = adds_legal _ _ _ _ _ _ _ replays met;
       each = λ n. each_may _ _ n c.args.self met;
+      legal = adds_legal _ _ _ _ _ _ _ replays met;
+      own = each_own _ _ _ _ _ _ _ replays met;
+      issued = new_ids _ _ _ _ _ _ replays;
+      kept = keeps _ _ _ _ _ _ _ replays met;
+      was = left_before _ _ _ _ _ _ replays;
       pass = subst (All (Stands c.args.self)) all i.2.2;
-      no_others = λ n le. ap (own_of n) (sym is) ∙ c.check_numbers.ensures.none n (subst (λ k. k ≤ n) (sym v.1.made) le);
+      no_others = none_other;
+      by_passes = by_a_pass g.J.Naming.seats c.args.self c.args.passes.items none_other;
     }
 
 pub loop-pass-init : goal.loop-pass-init

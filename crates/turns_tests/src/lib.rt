@@ -1,0 +1,19 @@
+//! Callers of a shared desk: passes that take in threads of their own, and the tests of `spool_turns`. The tests stand in
+//! a crate of their own, since the gate proves a crate with tests twice, with and without them; measurements use what
+//! they use.
+#![tactic(auto)]
+
+mod crew;
+mod taking;
+
+pub use crew::{Shift, work_together};
+pub use taking::{entry, take_many};
+
+#[cfg(test)]
+mod faults;
+#[cfg(test)]
+mod made;
+#[cfg(test)]
+mod pair;
+#[cfg(test)]
+mod threads;

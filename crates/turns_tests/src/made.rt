@@ -1,0 +1,41 @@
+//! A desk over a spool in memory.
+ghost use Rattle.std.specs.Prelude.{◌≡◌, ◌^◌, ◌≤◌, false, IfSome};
+ghost use Rattle.spool_log.specs.Memory.{run_of};
+ghost use Rattle.desk_access.specs.Alone.{HoldsNone};
+
+use desk_access::Desk;
+use edge_disk::MemDisk;
+use hec_ids::Ids;
+use spool_log::{Opening, Spool, format};
+use std::alloc::{AllocError, Global};
+
+/// A disk with an empty spool of two slots of that size. It keeps no record of what a crash may leave.
+pub(crate) fn formatted(alloc: Global, slot: u64) -> Result<Option<MemDisk>, AllocError>
+    requires { (4096 ≤ slot) × (slot ≤ 2 ^ 30) }
+{
+    let mut disk = MemDisk::plain(alloc, 12_288 + 2 * slot)?;
+    if format(&mut disk, 2, slot).is_err() {
+        return Ok(None);
+    }
+    Ok(Some(disk))
+}
+
+/// The desk of the spool on a disk, opened for storing, with no id.
+pub(crate) fn opened(alloc: Global, disk: MemDisk) -> Option<Desk<MemDisk>>
+    ensures sure { IfSome result (λ desk. desk.spool.doubt ≡ false) }
+    ensures ids { IfSome result (λ desk. HoldsNone (run_of desk.spool.memory) desk.ids) }
+{
+    match Spool::recover(alloc, disk, Opening::Raise) {
+        Ok(spool) => Some(desk_over(alloc, spool)),
+        Err(_) => None,
+    }
+}
+
+// The desk of a spool, with no id.
+fn desk_over(alloc: Global, spool: Spool<MemDisk>) -> Desk<MemDisk>
+    ensures spool { result.spool ≡ spool }
+    ensures ids { HoldsNone (run_of spool.memory) result.ids }
+{
+    let ids = Ids::new(alloc, spool.run(), 0);
+    Desk { spool, ids }
+}
