@@ -18,7 +18,7 @@ ack_length (Pairs seq text) b h = absurd h.0
 ack_length (Json seq text) b h = absurd h.0
 ack_length (Ack seq) b h = omega (arith, ap length h.1.1, h.1.2.four)
 
-acks_length : (fs : List LumberFrame) (b : List ℕ) → AreSpelled (Spells side.Sender) fs b → length b ≡ 6 * length fs
+pub acks_length : (fs : List LumberFrame) (b : List ℕ) → AreSpelled (Spells side.Sender) fs b → length b ≡ 6 * length fs
 acks_length [] b h = ap length h
 acks_length (f ∷ fs) b h = omega (arith, ack_length f h.0 h.2, ap length h.3, length-append h.0 h.1, acks_length fs h.1 h.4)
 

@@ -144,5 +144,25 @@ done_at turn s k is done =
     let none : length s.batch ≡ 0 = ap length d.none in
     omega (arith, d.told, none, k.acked)
 
+pub within_at : (s : Sender) → Keeps s → s.told ≤ given s
+within_at s k = omega (arith, k.told, k.acked)
+
+-- a turn at which the session goes on with the receiver's frames, or ended by them
+waits_at : (turn : Turn) (s : Sender) → Keeps s → IsTurn turn s → IsResting turn → turn ≢ Need → turn ≢ Done → Waits s
+waits_at (Write text) s k is at need done = absurd at
+waits_at (Confirmed upto) s k is at need done = absurd at
+waits_at (Also from to) s k is at need done = absurd at
+waits_at Need s k is at need done = absurd (need refl)
+waits_at Wait s k is at need done = is.0.1
+waits_at Pause s k is at need done = absurd is
+waits_at Done s k is at need done = absurd (done refl)
+waits_at (Refused unit code) s k is at need done = absurd is
+waits_at PeerClosed s k is at need done = absurd is
+waits_at (PeerFault place w) s k is at need done = elim is [ inl x ↦ k.ended place x.0 | inr x ↦ x.0.1 ]
+waits_at (Unconfirmed asked) s k is at need done = absurd is
+
+pub left_at : (turn : Turn) (s : Sender) → Keeps s → IsTurn turn s → IsResting turn → turn ≢ Need → turn ≢ Done → s.told < given s
+left_at turn s k is at need done = let w = waits_at turn s k is at need done in omega (arith, w.told, w.some, k.acked)
+
 pub spent_at : (s : Sender) → Keeps s → spent s ≤ 2 * given s
 spent_at s k = omega (arith, k.order, k.told, k.acked)

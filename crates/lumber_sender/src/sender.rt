@@ -5,6 +5,7 @@ ghost use Rattle.event_form.specs.declared.event.Entry.{Entry};
 ghost use Rattle.event_form.specs.Event.{IsEvent};
 ghost use Rattle.lumber_sender.specs.declared.due.Due.TheVariants.{Confirm, Ask, Hear};
 ghost use Rattle.event_form.specs.declared.turn.Turn.TheVariants.{Need, Done};
+ghost use Rattle.lumber_frame.specs.declared.side.Side.TheVariants as side;
 ghost use Rattle.lumber_sender.specs.declared.limits.TheConstants.{WINDOW};
 ghost use Rattle.lumber_sender.specs.Progress.{known_by};
 ghost use Rattle.lumber_sender.specs.Sender.{untouched, given, known, extent, MayFollow, Keeps, Needs, IsDue};
@@ -92,6 +93,7 @@ impl LumberSender {
         ensures given { given self.new ≡ given self.old + length entries.items }
         ensures first { self.new.first + given self.old ≡ first }
         ensures extent { extent self.new ≡ extent self.old }
+        ensures spent { spent self.new ≡ spent self.old }
     {
         self.first = first - self.done;
         self.batch = entries;
@@ -150,6 +152,8 @@ impl LumberSender {
         ensures most { (h : History) → Sends h self.new → self.new.told ≤ known_by h.progress }
         ensures known { IfOk result (λ turn. HasTold turn → (h : History) → Sends h self.new → TellsAll h self.new) }
         ensures done { IfOk result (λ turn. turn ≡ Done → self.new.told ≡ given self.new) }
+        ensures within { self.new.told ≤ given self.new }
+        ensures left { IfOk result (λ turn. IsResting turn → turn ≢ Need → turn ≢ Done → self.new.told < given self.new) }
         // when each turn comes
         ensures turn { IfOk result (λ turn. IsTurn turn self.new) }
         ensures exactly { IfOk result (λ turn. IsFor self.old turn) }
@@ -158,6 +162,7 @@ impl LumberSender {
         ensures spent { IfOk result (λ turn. IsSpent turn (spent self.old) (spent self.new)) }
         ensures bound { spent self.new ≤ 2 * given self.new }
         // what stays
+        ensures side { self.new.reader.side ≡ side.Sender }
         ensures extent { extent self.new ≡ extent self.old }
         ensures given { given self.new ≡ given self.old }
         ensures first { self.new.first ≡ self.old.first }

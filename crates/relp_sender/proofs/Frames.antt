@@ -1,7 +1,7 @@
 -- A frame of the peer.
-use Rattle.std.proofs.Common.{◌≡◌, ◌≢◌, inl, inr, ℕ, zero, suc, ◌+◌, ◌-◌, ◌<◌, ◌≤◌, ◌^◌, ◌∙◌, Bool, true, false, List, [], ◌∷◌, ◌++◌, length, take, drop, refl, sym, ap, subst, arith}
+use Rattle.std.proofs.Common.{◌≡◌, ◌≢◌, inl, inr, ℕ, suc, ◌+◌, ◌<◌, ◌∙◌, Bool, true, false, List, [], ◌∷◌, ◌++◌, length, take, drop, refl, sym, ap, subst, arith}
 use Rattle.std.specs.Prelude.{◌⊎◌, All, Option, Some, None, slice_index}
-use Rattle.std.specs.List.{AllPairs, remove}
+use Rattle.std.specs.List.{remove}
 use Rattle.std.proofs.lemmas.Bool.{false≢true}
 use Rattle.std.proofs.lemmas.List.Elements.{All-append, All-take, All-drop}
 use Rattle.std.proofs.lemmas.List.Quantifiers.{all_pairs_remove}
@@ -16,19 +16,19 @@ use Rattle.relp_sender.specs.declared.stage.Stop.{Stop}
 use Rattle.relp_sender.specs.declared.stage.Stop.TheVariants.{Hint, Refused, BadReply}
 use Rattle.relp_sender.specs.declared.hearing.Heard.{Heard}
 use Rattle.relp_sender.specs.declared.hearing.Heard.TheVariants.{Ignored, Opens, Acknowledged, Stopped}
-use Rattle.relp_sender.specs.Texts.{txnr_of, open_text}
+use Rattle.relp_sender.specs.Texts.{txnr_of}
 use Rattle.relp_sender.specs.Reply.{code_of, IsReply}
 use Rattle.relp_sender.specs.Marks.{NoneAwaits, Acknowledges, grown, allowed, open_from}
 use Rattle.relp_sender.specs.Window.{IsFirstOf, first_open, beyond_of}
 use Rattle.relp_sender.specs.Hearing.{IsUnawaited, IsAwaited, IsStop, IsHeard}
 use Rattle.relp_sender.specs.Progress.{Progress, Unopened, Opened, Takes, TakesAll, Stops, Awaits}
-use Rattle.relp_sender.specs.Sender.{Sender, Keeps, KeepsAt, HasTold, IsBeyond, Needs, given, MustHear}
+use Rattle.relp_sender.specs.Sender.{Sender, Keeps, KeepsAt, HasTold, given, MustHear}
 use Rattle.relp_sender.specs.Due.{heard}
-use Rattle.relp_sender.specs.Sends.{History, Sends, SendsOn, CanHave, HasRead, HasMarks, Knows, Stands, StopsAt, Said}
+use Rattle.relp_sender.specs.Sends.{History, SendsOn, CanHave, HasRead, HasMarks, Knows, Stands, StopsAt, Said}
 use Rattle.relp_sender.proofs.Marking.{mark_first, none_awaits, grown_whole, marked_length, allowed_full, allowed_all}
 use Rattle.relp_sender.proofs.TextLaws.{append_none}
 use Rattle.relp_sender.proofs.Giving.{no_stop, no_place}
-use Rattle.relp_sender.proofs.Knowing.{knows_same, knows_grown, knows_opened, knows_marked, knows_also, front_rises, beyond_at}
+use Rattle.relp_sender.proofs.Knowing.{knows_grown, knows_opened, knows_marked, knows_also, front_rises, beyond_at}
 
 -- the window and the entries leave nothing to be written
 pub allowed_is : (s : Sender) (marks : List Bool) → Keeps s → length (grown s.written marks) ≡ s.written → s.unanswered ≡ open_from 0 (grown s.written marks) → MustHear Open s

@@ -1,13 +1,13 @@
 -- Bytes that are fed, and what a change of the sender keeps.
-use Rattle.std.proofs.Common.{◌≡◌, inl, inr, ℕ, ◌≤◌, ◌∙◌, Bool, true, false, List, [], ◌∷◌, ◌++◌, length, refl, sym, ap, subst, arith}
+use Rattle.std.proofs.Common.{◌≡◌, ℕ, List, [], ◌∷◌, ◌++◌, sym, subst}
 use Rattle.std.specs.Prelude.{Option, Some, None}
 use Rattle.relp_frame.specs.declared.frame.Frame.{Frame}
 use Rattle.relp_frame.specs.Reading.{Reader, Reads, ReadsOn}
 use Rattle.relp_frame.proofs.Placing.{begins_more}
 use Rattle.relp_sender.specs.declared.stage.Stop.{Stop}
 use Rattle.relp_sender.specs.declared.stage.Stop.TheVariants.{Hint, Refused, BadReply}
-use Rattle.relp_sender.specs.Progress.{Progress, Unopened, TakesAll, Stops}
-use Rattle.relp_sender.specs.Sender.{Sender, given}
+use Rattle.relp_sender.specs.Progress.{Progress, Unopened, TakesAll}
+use Rattle.relp_sender.specs.Sender.{Sender}
 use Rattle.relp_sender.specs.Sends.{History, Sends, CanHave, HasRead, StopsAt}
 use Rattle.relp_sender.proofs.TextLaws.{append_none}
 

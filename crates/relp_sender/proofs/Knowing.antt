@@ -1,5 +1,5 @@
 -- Which entries are acknowledged, as the peer's frames come and as they are told.
-use Rattle.std.proofs.Common.{◌≡◌, ◌≢◌, inl, inr, ℕ, zero, suc, ◌+◌, ◌<◌, ◌≤◌, ◌∙◌, Bool, true, false, List, [], ◌∷◌, ◌++◌, length, get_or, refl, sym, ap, subst, arith}
+use Rattle.std.proofs.Common.{◌≡◌, ◌≢◌, inl, inr, ℕ, zero, suc, ◌+◌, ◌<◌, ◌≤◌, ◌∙◌, Bool, true, false, List, [], ◌∷◌, ◌++◌, length, get_or, sym, ap, subst, arith}
 use Rattle.std.specs.Prelude.{◌⊎◌, All, Contains, Option, Some, None, slice_index, ◌==◌, if◌then◌else◌}
 use Rattle.std.specs.List.{AllPairs, remove}
 use Rattle.std.proofs.lemmas.Bool.{false≢true, ne_eqb}
@@ -7,9 +7,9 @@ use Rattle.std.proofs.lemmas.List.Elements.{All-head, All-get_or, Contains-get_o
 use Rattle.std.proofs.lemmas.List.Quantifiers.{all_pairs_push}
 use Rattle.relp_sender.specs.Marks.{grown, open_from, known_front}
 use Rattle.relp_sender.specs.Window.{first_open, beyond_of}
-use Rattle.relp_sender.specs.Progress.{Progress, Unopened, Opened, IsKnown, known_by}
+use Rattle.relp_sender.specs.Progress.{Progress, Unopened, Opened, IsKnown}
 use Rattle.relp_sender.specs.Sends.{Knows}
-use Rattle.relp_sender.proofs.Marking.{known_now, known_still, known_here, not_known, known_grown, front_known, front_open, front_grown}
+use Rattle.relp_sender.proofs.Marking.{known_now, known_still, known_here, not_known, known_grown, front_known, front_open}
 use Rattle.relp_sender.proofs.TextLaws.{append_none}
 
 -- a progress with the same marks

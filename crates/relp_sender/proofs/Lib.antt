@@ -7,3 +7,5 @@ pub mod Writing
 pub mod Telling
 pub mod Whole
 pub mod OneDue
+pub mod Spending
+pub mod Bounds

@@ -1,14 +1,13 @@
 -- Marks, and the places that have none.
-use Rattle.std.proofs.Common.{◌≡◌, ◌≢◌, inl, inr, ℕ, zero, suc, ◌+◌, ◌-◌, ◌<◌, ◌≤◌, ◌∙◌, Bool, true, false, List, [], ◌∷◌, ◌++◌, length, take, drop, get_or, refl, sym, ap, subst, arith, append_assoc}
-use Rattle.std.specs.Prelude.{◌⊎◌, All, replicate, slice_index, min}
+use Rattle.std.proofs.Common.{◌≡◌, ◌≢◌, inl, inr, ℕ, zero, suc, ◌+◌, ◌-◌, ◌<◌, ◌≤◌, ◌∙◌, Bool, true, false, List, [], ◌∷◌, ◌++◌, length, take, get_or, refl, sym, ap, arith, append_assoc}
+use Rattle.std.specs.Prelude.{◌⊎◌, All, replicate, slice_index}
 use Rattle.std.specs.List.{remove}
 use Rattle.std.proofs.lemmas.Bool.{false≢true}
 use Rattle.std.proofs.lemmas.Grind.{common_steps, replicate_next}
-use Rattle.std.proofs.lemmas.List.Elements.{All-nil, All-cons, All-head, All-tail, All-append}
-use Rattle.std.proofs.lemmas.List.{length-replicate}
+use Rattle.std.proofs.lemmas.List.Elements.{All-head, All-tail}
 use Rattle.std.proofs.Math.ListN.{length-append}
 use Rattle.relp_sender.specs.Texts.{txnr_of}
-use Rattle.relp_sender.specs.Marks.{count_known, known_front, open_from, NoneAwaits, grown, Acknowledges, allowed}
+use Rattle.relp_sender.specs.Marks.{count_known, known_front, open_from, NoneAwaits, grown, allowed}
 use Rattle.relp_sender.specs.Window.{IsFirstOf, first_open}
 
 pub count_open : (m : List Bool) (i : ℕ) → count_known m + length (open_from i m) ≡ length m

@@ -1,12 +1,12 @@
 -- At most one thing is due.
-use Rattle.std.proofs.Common.{◌≡◌, inl, inr, ℕ, ◌<◌, ◌∙◌, Bool, true, false, List, [], length, refl, sym, ap, arith}
-use Rattle.std.specs.Prelude.{◌⊎◌, Option, Some, None, IsSome}
+use Rattle.std.proofs.Common.{◌≡◌, inl, inr, ◌<◌, ◌∙◌, Bool, [], length, refl, sym, ap, arith}
+use Rattle.std.specs.Prelude.{Option, Some, None, IsSome}
 use Rattle.std.proofs.lemmas.Bool.{false≢true}
 use Rattle.relp_sender.specs.declared.due.Due.{Due}
 use Rattle.relp_sender.specs.declared.due.Due.TheVariants.{Stopped, Confirm, Tell, Send, Ask, End, Hear}
 use Rattle.relp_sender.specs.declared.stage.Stage.{Stage}
 use Rattle.relp_sender.specs.declared.stage.Stage.TheVariants.{Fresh, Opening, Open, Closed}
-use Rattle.relp_sender.specs.Sender.{Sender, HasTold, MayWrite, MayAsk, IsDone, MustHear, Needs}
+use Rattle.relp_sender.specs.Sender.{Sender, HasTold, MayWrite, MayAsk, IsDone, MustHear}
 use Rattle.relp_sender.specs.Due.{IsDue}
 
 some_none : {A : Type 0} (o : Option A) → IsSome o → o ≡ None → ⊥

@@ -9,7 +9,7 @@ use Rattle.relp_sender.specs.declared.stage.Stage.{Stage}
 use Rattle.relp_sender.specs.declared.stage.Stage.TheVariants.{Fresh, Opening, Open, Closed}
 use Rattle.relp_sender.specs.Due.{Suits}
 use Rattle.relp_sender.specs.Sender.{Sender, MayWrite}
-use Rattle.relp_sender.specs.Sends.{History, Sends, SendsOn, CanHave, Knows, Said, later}
+use Rattle.relp_sender.specs.Sends.{Sends, SendsOn, CanHave, Knows, Said, later}
 use Rattle.relp_sender.specs.Turns.{Stays}
 use Rattle.relp_sender.proofs.TextLaws.{append_none}
 use Rattle.relp_sender.proofs.Giving.{same_takes, same_read}

@@ -1,6 +1,6 @@
 -- The text is whole, and what is acknowledged was told.
 use Rattle.std.proofs.Common.{◌≡◌, ◌≢◌, inl, inr, ℕ, ◌+◌, ◌-◌, ◌<◌, ◌≤◌, ◌∙◌, Bool, true, false, List, [], ◌∷◌, ◌++◌, length, take, refl, sym, ap, subst, arith, add-one, append_assoc}
-use Rattle.std.specs.Prelude.{◌⊎◌, Option, Some, None, Contains, ◌==◌, if◌then◌else◌}
+use Rattle.std.specs.Prelude.{◌⊎◌, Some, None, ◌==◌, if◌then◌else◌}
 use Rattle.std.proofs.lemmas.Bool.{false≢true, ne_eqb, eq-eqb}
 use Rattle.std.proofs.Math.ListN.{length-append}
 use Rattle.event_form.specs.declared.event.Entry.{Entry}
@@ -16,8 +16,7 @@ use Rattle.relp_sender.specs.Window.{first_open}
 use Rattle.relp_sender.specs.Progress.{Progress, Unopened, Opened, IsKnown, known_by}
 use Rattle.relp_sender.specs.Text.{session_text, text_by, closing_text}
 use Rattle.relp_sender.specs.Sender.{Sender, Keeps, KeepsAt, HasTold, given, MustHear, IsDone, MayAsk}
-use Rattle.relp_sender.specs.Due.{IsDue}
-use Rattle.relp_sender.specs.Sends.{History, Sends, CanHave, HasMarks, Stands, Said, Knows}
+use Rattle.relp_sender.specs.Sends.{History, Sends, CanHave, HasMarks, Stands, Said}
 use Rattle.relp_sender.specs.Turns.{IsTurn, IsWhole, IsWholeOf, IsFirstOf, Begins, TellsAll}
 use Rattle.relp_sender.proofs.Marking.{count_open, count_grown, front_open, front_grown, allowed_all, allowed_least}
 use Rattle.relp_sender.proofs.TextLaws.{append_none, frames_append}
@@ -181,7 +180,7 @@ front_by Closed s p at stands told = front_marks s p stands told
 below_none : (s : Sender) (place : ℕ) → s.written ≡ 0 → s.unanswered ≡ [] → place < first_open s.unanswered s.written → ⊥
 below_none s place zero none lt = let e : first_open s.unanswered s.written ≡ 0 = ap (λ (l : List ℕ). first_open l s.written) none ∙ zero in omega (arith, lt, e)
 
-below_by : (stage : Stage) (s : Sender) (p : Progress) (place : ℕ) → KeepsAt stage s → Stands stage p s.written s.unanswered → place < first_open s.unanswered s.written → IsKnown p place
+pub below_by : (stage : Stage) (s : Sender) (p : Progress) (place : ℕ) → KeepsAt stage s → Stands stage p s.written s.unanswered → place < first_open s.unanswered s.written → IsKnown p place
 below_by Fresh s p place at stands lt = absurd (below_none s place at.0 at.1 lt)
 below_by Opening s p place at stands lt = absurd (below_none s place at.0 at.1 lt)
 below_by Open s p place at stands lt = known_below p stands.0 s.unanswered s.written place stands.1 stands.2 stands.3 lt

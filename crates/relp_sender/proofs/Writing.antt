@@ -1,6 +1,6 @@
 -- A text that is written.
-use Rattle.std.proofs.Common.{◌≡◌, ◌≢◌, inl, inr, ℕ, ◌+◌, ◌-◌, ◌<◌, ◌≤◌, ◌^◌, ◌∙◌, Bool, true, false, List, [], ◌∷◌, ◌++◌, length, take, drop, refl, sym, ap, subst, arith, append_assoc}
-use Rattle.std.specs.Prelude.{◌⊎◌, All, Option, Some, None}
+use Rattle.std.proofs.Common.{◌≡◌, inl, inr, ℕ, ◌+◌, ◌<◌, ◌≤◌, ◌∙◌, false, List, [], ◌∷◌, ◌++◌, length, refl, sym, ap, subst, arith, append_assoc}
+use Rattle.std.specs.Prelude.{◌⊎◌, All, None}
 use Rattle.std.specs.List.{AllPairs}
 use Rattle.std.proofs.lemmas.Bool.{false≢true}
 use Rattle.std.proofs.lemmas.List.Elements.{All-tail, All-push, All-weaker, All-get_or}
@@ -13,11 +13,10 @@ use Rattle.relp_sender.specs.declared.stage.Stage.TheVariants.{Fresh, Opening, O
 use Rattle.relp_sender.specs.Texts.{open_text, event_text, close_text, frames_text}
 use Rattle.relp_sender.specs.Marks.{grown, open_from}
 use Rattle.relp_sender.specs.Window.{first_open}
-use Rattle.relp_sender.specs.Progress.{Progress, Unopened, Opened}
 use Rattle.relp_sender.specs.Sender.{Sender, Keeps, KeepsAt, HasTold, given, MayWrite}
-use Rattle.relp_sender.specs.Sends.{History, Sends, SendsOn, CanHave, HasMarks, Knows, Stands, Said}
+use Rattle.relp_sender.specs.Sends.{SendsOn, CanHave, HasMarks, Knows, Stands, Said}
 use Rattle.relp_sender.proofs.Marking.{grown_one, open_append}
-use Rattle.relp_sender.proofs.TextLaws.{append_none, frames_then}
+use Rattle.relp_sender.proofs.TextLaws.{frames_then}
 use Rattle.relp_sender.proofs.Giving.{no_stop, no_place, same_takes, same_read}
 use Rattle.relp_sender.proofs.Knowing.{knows_also}
 

@@ -1,5 +1,5 @@
 -- What is due of a sender, and the text that it writes next.
-use Rattle.std.specs.Prelude.{◌≡◌, ◌⊎◌, ℕ, ◌<◌, ◌≤◌, List, [], ◌∷◌, length, Some, None, IsSome, slice_index}
+use Rattle.std.specs.Prelude.{◌≡◌, ◌⊎◌, ◌<◌, ◌≤◌, List, [], ◌∷◌, length, Some, None, IsSome, slice_index}
 use Rattle.std.specs.List.{remove}
 use Rattle.std.specs.VecDeque.{deque_capacity}
 use Rattle.event_form.specs.declared.event.Entry.{Entry}
@@ -29,7 +29,9 @@ IsDue Hear s = (s.stop ≡ None) × HasTold s × MustHear s.stage s
 abbrev pub IsNext : Sender → Next → Type 0
 IsNext s next.Nothing = ⊥
 IsNext s (next.Open text places) = (s.stage ≡ Fresh) × (text ≡ open_text) × (0 < length text) × (places.items ≡ []) × (1024 ≤ deque_capacity places)
-IsNext s (next.Frame text) = (e : Entry) × (es : List Entry) × ((s.stage ≡ Opening) ⊎ (s.stage ≡ Open)) × (s.waiting ≡ e ∷ es) × (text ≡ event_text s.written e.event) × (0 < length text)
+IsNext s (next.Frame text) =
+    (e : Entry) × (es : List Entry) × ((s.stage ≡ Opening) ⊎ (s.stage ≡ Open)) × (s.waiting ≡ e ∷ es)
+    × (text ≡ event_text s.written e.event) × (0 < length text)
 IsNext s (next.Close text) = (s.stage ≡ Open) × (s.waiting ≡ []) × (text ≡ close_text s.written) × (0 < length text)
 
 -- it is the next text where one is due, and where the answer to the first frame may make one due

@@ -28,8 +28,10 @@ IsUnawaited Closed unanswered txnr = Unit {0}
 -- the frame, which begins at an offset, ends the session
 abbrev pub IsStop : Stage → List ℕ → ℕ → Frame → Stop → Type 0
 IsStop stage unanswered at f Hint = IsHint f
-IsStop stage unanswered at f (Refused unit code) = IsReply f × IsAwaited stage unanswered f.txnr × (unit ≡ f.txnr) × (code_of f.body ≡ Some code) × (code ≢ 200)
-IsStop stage unanswered at f (BadReply place) = (place ≡ at) × (((IsHint f → ⊥) × (IsReply f → ⊥)) ⊎ (IsReply f × IsAwaited stage unanswered f.txnr × (code_of f.body ≡ None)))
+IsStop stage unanswered at f (Refused unit code) =
+    IsReply f × IsAwaited stage unanswered f.txnr × (unit ≡ f.txnr) × (code_of f.body ≡ Some code) × (code ≢ 200)
+IsStop stage unanswered at f (BadReply place) =
+    (place ≡ at) × (((IsHint f → ⊥) × (IsReply f → ⊥)) ⊎ (IsReply f × IsAwaited stage unanswered f.txnr × (code_of f.body ≡ None)))
 
 abbrev pub IsHeard : Stage → List ℕ → ℕ → Frame → Heard → Type 0
 IsHeard stage unanswered at f Ignored = IsReply f × IsUnawaited stage unanswered f.txnr

@@ -6,6 +6,8 @@ pub mod Hearing
 pub mod Progress
 pub mod Text
 pub mod Sender
+pub mod View
 pub mod Due
 pub mod Sends
+pub mod Spending
 pub mod Turns

@@ -47,7 +47,8 @@ Said Closed written out = out ≡ open_text ++ (frames_text 0 written ++ close_t
 
 -- where the session is open: the marks, grown to the frames written, have these places unanswered
 abbrev pub HasMarks : Progress → ℕ → List ℕ → Type 0
-HasMarks p written unanswered = (marks : List Bool) × (p ≡ Opened marks) × (length (grown written marks) ≡ written) × (unanswered ≡ open_from 0 (grown written marks))
+HasMarks p written unanswered =
+    (marks : List Bool) × (p ≡ Opened marks) × (length (grown written marks) ≡ written) × (unanswered ≡ open_from 0 (grown written marks))
 
 -- how far the peer's frames have brought it
 abbrev pub Stands : Stage → Progress → ℕ → List ℕ → Type 0

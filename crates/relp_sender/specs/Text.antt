@@ -1,7 +1,7 @@
 -- THE TEXT of a list of entries, by what the peer's frames have brought: nothing for no entry; else the
 -- frame that opens the session, once it is answered the frames of as many entries as may be written, and
 -- once all are acknowledged the frame that closes it, where no more entries come.
-use Rattle.std.specs.Prelude.{ℕ, Bool, true, false, ◌==◌, ◌&&◌, if◌then◌else◌, List, [], ◌∷◌, ◌++◌, length, take}
+use Rattle.std.specs.Prelude.{ℕ, Bool, ◌==◌, ◌&&◌, if◌then◌else◌, List, [], ◌∷◌, ◌++◌, length, take}
 use Rattle.event_form.specs.declared.event.Entry.{Entry}
 use Rattle.relp_sender.specs.Texts.{open_text, close_text, frames_text}
 use Rattle.relp_sender.specs.Marks.{count_known, allowed}

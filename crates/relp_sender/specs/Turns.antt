@@ -10,12 +10,12 @@ use Rattle.relp_sender.specs.declared.stage.Stop.TheVariants as stops
 use Rattle.relp_sender.specs.declared.due.Due.{Due}
 use Rattle.relp_sender.specs.declared.due.Due.TheVariants.{Stopped, Confirm, Tell, Send, Ask, End, Hear}
 use Rattle.relp_sender.specs.declared.stage.Stop.{Stop}
-use Rattle.relp_sender.specs.Progress.{Progress, IsKnown, known_by}
+use Rattle.relp_sender.specs.Progress.{IsKnown, known_by}
 use Rattle.relp_sender.specs.Text.{session_text}
 use Rattle.relp_sender.specs.Window.{first_open}
 use Rattle.relp_sender.specs.Sender.{Sender, HasTold, Needs, given}
 use Rattle.relp_sender.specs.Due.{IsDue}
-use Rattle.relp_sender.specs.Sends.{History, Sends}
+use Rattle.relp_sender.specs.Sends.{History}
 
 -- the place of the entry that a turn tells by itself, the number of the first entry given
 abbrev pub also_of : ℕ → Turn → List ℕ
@@ -26,14 +26,16 @@ also_of first turn = []
 abbrev pub IsTurn : Turn → Sender → Type 0
 IsTurn (Write text) s = (s.stop ≡ None) × HasTold s × (0 < length text)
 IsTurn (Confirmed upto) s = (s.stop ≡ None) × (s.told ≡ first_open s.unanswered s.written) × (upto ≡ s.first + s.told)
-IsTurn (Also from to) s = (s.stop ≡ None) × HasTold s × (s.first + s.told < from) × (to ≡ from + 1)
+IsTurn (Also from to) s = (s.stop ≡ None) × HasTold s × (s.first + s.told < from) × (to ≡ from + 1) × (from < s.first + given s)
 IsTurn Need s = Needs s
 IsTurn Wait s = IsDue Hear s × (s.reader.waiting ≡ []) × (s.reader.fault ≡ None)
 IsTurn Pause s = ⊥
 IsTurn Done s = IsDue End s
 IsTurn (Refused unit code) s = s.stop ≡ Some (stops.Refused unit code)
 IsTurn PeerClosed s = s.stop ≡ Some stops.Hint
-IsTurn (PeerFault at why) s = ((s.stop ≡ Some (stops.BadReply at)) × (why ≡ Reply)) ⊎ (IsDue Hear s × (s.reader.waiting ≡ []) × ((e : RelpFault) × (s.reader.fault ≡ Some e) × (at ≡ e.at) × (why ≡ why_of e.why)))
+IsTurn (PeerFault at why) s =
+    ((s.stop ≡ Some (stops.BadReply at)) × (why ≡ Reply))
+    ⊎ (IsDue Hear s × (s.reader.waiting ≡ []) × ((e : RelpFault) × (s.reader.fault ≡ Some e) × (at ≡ e.at) × (why ≡ why_of e.why)))
 IsTurn (Unconfirmed asked) s = ⊥
 
 -- how many of the first entries were told before a turn and after it
@@ -53,6 +55,10 @@ pub record Stays (old new : Sender) : Type 0 where
 pub record TellsAll (h : History) (s : Sender) : Type 0 where
   pub front : s.told ≡ known_by h.progress
   pub all : (place : ℕ) → IsKnown h.progress place ↔ ((place < s.told) ⊎ Contains h.also place)
+
+-- the entries that were told are acknowledged
+abbrev pub TellsKnown : History → Sender → Type 0
+TellsKnown h s = (place : ℕ) → (place < s.told) ⊎ Contains h.also place → IsKnown h.progress place
 
 -- the text is that of the entries given
 abbrev pub IsWhole : History → Sender → Type 0
@@ -85,7 +91,8 @@ IsUnheard (Some e) turn = turn ≡ PeerFault e.at (why_of e.why)
 abbrev pub Acts : Due → Sender → Turn → Sender → Type 0
 Acts Stopped old turn new = ((stop : Stop) → old.stop ≡ Some stop → turn ≡ ending_of stop) × (new ≡ old)
 Acts Confirm old turn new = let front = first_open old.unanswered old.written in (turn ≡ Confirmed (old.first + front)) × (new ≡ record old { told = front })
-Acts Tell old turn new = ((place : ℕ) → old.beyond ≡ Some place → turn ≡ Also (old.first + place) (old.first + place + 1)) × (new ≡ record old { beyond = None })
+Acts Tell old turn new =
+    ((place : ℕ) → old.beyond ≡ Some place → turn ≡ Also (old.first + place) (old.first + place + 1)) × (new ≡ record old { beyond = None })
 Acts Send old turn new = (text : List ℕ) × (turn ≡ Write text)
 Acts Ask old turn new = (turn ≡ Need) × (new ≡ record old { asked = true })
 Acts End old turn new = (turn ≡ Done) × (new ≡ old)

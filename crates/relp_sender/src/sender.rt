@@ -1,26 +1,25 @@
 //! The sender.
-ghost use Rattle.std.specs.Prelude.{◌≡◌, ◌≢◌, ◌⊎◌, ◌↔◌, ℕ, ◌+◌, ◌-◌, ◌<◌, ◌≤◌, ◌^◌, true, false, List, [], ◌∷◌, ◌++◌, length, Option, Some, None, All, Ok, IsTrue, IfOk, IfSome, IfNone, OnOk, OnErr};
+ghost use Rattle.std.specs.Prelude.{◌≡◌, ◌≢◌, ◌+◌, ◌*◌, ◌<◌, ◌≤◌, ◌^◌, true, false, List, ◌++◌, length, All, IfOk, OnOk, OnErr};
 ghost use Rattle.event_form.specs.declared.event.Entry.{Entry};
-ghost use Rattle.event_form.specs.declared.turn.Turn.TheVariants.{Need, Write, Done};
+ghost use Rattle.event_form.specs.declared.turn.Turn.TheVariants.{Need, Done};
 ghost use Rattle.event_form.specs.Event.{IsEvent};
 ghost use Rattle.relp_frame.specs.Reading.{unfed};
 ghost use Rattle.event_form.specs.Turn.{HasTold as TellsNothing, IsResting, text_of};
 ghost use Rattle.relp_sender.specs.declared.due.Due.{Due};
-ghost use Rattle.relp_sender.specs.declared.due.Due.TheVariants.{Stopped, Confirm, Tell, Send, Ask, Hear};
-ghost use Rattle.relp_sender.specs.declared.next.Next.{Next};
-ghost use Rattle.relp_sender.specs.Due.{IsDue, IsNext, Suits};
+ghost use Rattle.relp_sender.specs.Due.{IsDue};
 ghost use Rattle.relp_sender.specs.Sender.{Keeps, given};
 ghost use Rattle.relp_sender.specs.Sends.{History, Sends, SendsOn, untouched};
-ghost use Rattle.relp_sender.specs.Turns.{Acts, Begins, Hears, IsFirstOf, IsToldOn, IsTurn, IsWhole, IsWholeOf, Stays, TellsAll, also_of};
+ghost use Rattle.relp_sender.specs.Spending.{IsSpent, spent};
+ghost use Rattle.relp_sender.specs.Turns.{Acts, Begins, Hears, IsFirstOf, IsToldOn, IsTurn, IsWhole, IsWholeOf, Stays, TellsAll, TellsKnown, also_of};
 ghost use Rattle.relp_sender.specs.Window.{first_open};
 
+mod acting;
+mod taking;
+mod writing;
+
 use crate::due::Due;
-use crate::hearing::{Heard, hear};
-use crate::next::Next;
 use crate::stage::{Stage, Stop};
-use crate::text::{close_text, event_text, open_text};
-use crate::window::beyond;
-use event_form::{Blob, Entry, FeedFault, Turn, Why};
+use event_form::{Entry, FeedFault, Turn};
 use relp_frame::{RelpFault, RelpReader};
 use std::alloc::{AllocError, Global};
 use std::collections::VecDeque;
@@ -48,15 +47,15 @@ pub struct RelpSender {
 }
 
 impl Model for RelpSender {
-    ghost use Rattle.std.specs.Prelude.{◌≡◌};
-    ghost use Rattle.std.specs.VecDeque.{deque_capacity};
-    ghost use Rattle.relp_sender.specs.Sender.{HasRoom, Keeps, Sender};
+    ghost use Rattle.relp_sender.specs.Sender.{Sender};
 
     ghost Value = { Sender };
 
-    ghost view = { λ r. record { reader = r.reader; stage = r.stage; waiting = r.waiting.items; written = r.written; unanswered = r.unanswered.items; first = r.first; told = r.told; beyond = r.beyond; finished = r.finished; asked = r.asked; stop = r.stop } };
+    ghost use Rattle.relp_sender.specs.View.{sender_of, KeepsFields};
 
-    ghost invariant = { λ r. Keeps (record { reader = r.reader; stage = r.stage; waiting = r.waiting.items; written = r.written; unanswered = r.unanswered.items; first = r.first; told = r.told; beyond = r.beyond; finished = r.finished; asked = r.asked; stop = r.stop }) × (r.fault ≡ r.reader.fault) × HasRoom r.stage (deque_capacity r.unanswered) };
+    ghost view = { sender_of };
+
+    ghost invariant = { KeepsFields };
 }
 
 impl RelpSender {
@@ -133,6 +132,40 @@ impl RelpSender {
         }
     }
 
+    /// Does the next thing: tells what is acknowledged, writes what may be written, asks for more entries,
+    /// or takes the peer's frames, one after another, until something comes of them.
+    ///
+    /// The only error is want of memory. After it the sender is as before.
+    pub fn turn(&mut self) -> Result<Turn, AllocError>
+        ensures err { OnErr result (self.new ≡ self.old) }
+        ensures sends { IfOk result (λ turn. SendsOn self.old (text_of turn) (also_of self.old.first turn) self.new) }
+        ensures turn { IfOk result (λ turn. IsTurn turn self.new) }
+        ensures acts { IfOk result (λ turn. (due : Due) → IsDue due self.old → (Hears self.old → ⊥)
+            → Acts due (record self.old { asked = false }) turn self.new) }
+        ensures asked { IfOk result (λ turn. self.new.asked ≡ true → turn ≡ Need) }
+        ensures need { IfOk result (λ turn. turn ≡ Need → self.new.asked ≡ true) }
+        ensures known { IfOk result (λ turn. TellsNothing turn → (h : History) → Sends h self.new → TellsAll h self.new) }
+        ensures begins { (h : History) (more : List Entry) → Sends h self.new → IsFirstOf self.new more → Begins h more }
+        ensures whole { IfOk result (λ turn. IsResting turn → (h : History) → Sends h self.new → IsWhole h self.new) }
+        ensures all { IfOk result (λ turn. IsResting turn → turn ≢ Need
+            → (h : History) (more : List Entry) → Sends h self.new → IsFirstOf self.new more → IsWholeOf h more) }
+        ensures done { IfOk result (λ turn. turn ≡ Done → (self.new.finished ≡ true) × (self.new.told ≡ given self.new)) }
+        ensures stays { Stays self.old self.new }
+        ensures told { IfOk result (λ turn. IsToldOn turn self.old.told self.new.told) }
+        ensures most { (h : History) → Sends h self.new → TellsKnown h self.new }
+        ensures within { self.new.told ≤ given self.new }
+        ensures left { IfOk result (λ turn. IsResting turn → turn ≢ Need → turn ≢ Done → self.new.told < given self.new) }
+        ensures spent { IfOk result (λ turn. IsSpent turn (spent self.old) (spent self.new)) }
+        ensures bound { spent self.new ≤ 2 * given self.new + 2050 }
+    {
+        let next = self.prepare()?;
+        self.asked = false;
+        while self.take_frame() {}
+        let turn = self.act(next);
+        self.settle();
+        Ok(turn)
+    }
+
     // How many entries are acknowledged from the first one on.
     fn known(&self) -> u64
         ensures { result ≡ first_open self.now.unanswered self.now.written }
@@ -171,309 +204,10 @@ impl RelpSender {
         }
     }
 
-    // The next text, where one is due or where the answer to the first frame may make one due.
-    fn prepare(&self) -> Result<Next, AllocError>
-        ensures { IfOk result (λ next. Suits self.now next) }
-    {
-        if let Stage::Opening = self.stage {
-            return self.prepare_frame();
-        }
-        let Due::Send = self.due() else {
-            return Ok(Next::Nothing);
-        };
-        match self.stage {
-            Stage::Fresh => {
-                let text = open_text(self.alloc)?;
-                let places = VecDeque::with_capacity(self.alloc, WINDOW)?;
-                Ok(Next::Open(text, places))
-            }
-            Stage::Opening | Stage::Open => self.prepare_frame(),
-            Stage::Closed => Ok(Next::Nothing),
-        }
-    }
-
-    // The frame of the next entry, or the one that closes the session.
-    fn prepare_frame(&self) -> Result<Next, AllocError>
-        requires { (self.now.stage ≡ Stage.Opening) ⊎ (self.now.stage ≡ Stage.Open) }
-        ensures { IfOk result (λ next. Suits self.now next) }
-    {
-        match self.waiting.front() {
-            Some(entry) => {
-                let text = event_text(self.alloc, self.written, &entry.event)?;
-                Ok(Next::Frame(text))
-            }
-            None => {
-                let text = close_text(self.alloc, self.written)?;
-                Ok(Next::Close(text))
-            }
-        }
-    }
-
-    // Takes the next of the peer's frames, where that is due and one waits, and does what it says.
-    fn take_frame(&mut self) -> bool
-        requires asked { self.old.asked ≡ false }
-        ensures sends { IsTrue result → SendsOn self.old [] [] self.new }
-        ensures none { result ≡ false → (self.new ≡ self.old) × (IsDue Hear self.old → self.old.reader.waiting ≡ []) }
-        ensures hears { IsTrue result → Hears self.old }
-        ensures fewer { IsTrue result → length self.new.reader.waiting < length self.old.reader.waiting }
-        ensures asked { self.new.asked ≡ false }
-        ensures stays { Stays self.old self.new }
-        ensures suits { (n : Next) → Suits self.old n → Suits self.new n }
-        ensures told { self.new.told ≡ self.old.told }
-    {
-        let Due::Hear = self.due() else {
-            return false;
-        };
-        let Some(placed) = self.reader.take_placed() else {
-            return false;
-        };
-        match hear(self.stage, &self.unanswered, placed.at, &placed.frame) {
-            Heard::Ignored => true,
-            Heard::Opens => {
-                self.stage = Stage::Open;
-                true
-            }
-            Heard::Acknowledged(index) => {
-                let Some(place) = self.unanswered.remove(index) else {
-                    unreachable!()
-                };
-                self.beyond = beyond(index, place);
-                true
-            }
-            Heard::Stopped(stop) => {
-                self.stop = Some(stop);
-                true
-            }
-        }
-    }
-
-    // Writes the frame that opens the session.
-    fn open(&mut self, text: Blob, places: VecDeque<u64>) -> Turn
-        requires due { IsDue Send self.old }
-        requires next { IsNext self.old (Next.Open text places) }
-        requires asked { self.old.asked ≡ false }
-        ensures turn { result ≡ Write text }
-        ensures sends { SendsOn self.old text [] self.new }
-        ensures holds { IsTurn result self.new }
-        ensures asked { self.new.asked ≡ false }
-        ensures stays { Stays self.old self.new }
-        ensures told { self.new.told ≡ self.old.told }
-    {
-        self.unanswered = places;
-        self.stage = Stage::Opening;
-        Turn::Write(text)
-    }
-
-    // Writes the frame of the next entry.
-    fn send(&mut self, text: Blob) -> Turn
-        requires due { IsDue Send self.old }
-        requires next { IsNext self.old (Next.Frame text) }
-        requires asked { self.old.asked ≡ false }
-        ensures turn { result ≡ Write text }
-        ensures sends { SendsOn self.old text [] self.new }
-        ensures holds { IsTurn result self.new }
-        ensures asked { self.new.asked ≡ false }
-        ensures stays { Stays self.old self.new }
-        ensures told { self.new.told ≡ self.old.told }
-    {
-        let Some(_entry) = self.waiting.pop_front() else {
-            unreachable!()
-        };
-        self.unanswered.push_back_reserved(self.written);
-        self.written += 1;
-        Turn::Write(text)
-    }
-
-    // Writes the frame that closes the session.
-    fn close(&mut self, text: Blob) -> Turn
-        requires due { IsDue Send self.old }
-        requires next { IsNext self.old (Next.Close text) }
-        requires asked { self.old.asked ≡ false }
-        ensures turn { result ≡ Write text }
-        ensures sends { SendsOn self.old text [] self.new }
-        ensures holds { IsTurn result self.new }
-        ensures asked { self.new.asked ≡ false }
-        ensures stays { Stays self.old self.new }
-        ensures told { self.new.told ≡ self.old.told }
-    {
-        self.stage = Stage::Closed;
-        Turn::Write(text)
-    }
-
-    // Writes the next text.
-    fn write(&mut self, next: Next) -> Turn
-        requires due { IsDue Send self.old }
-        requires next { IsNext self.old next }
-        requires asked { self.old.asked ≡ false }
-        ensures sends { SendsOn self.old (text_of result) (also_of self.old.first result) self.new }
-        ensures turn { IsTurn result self.new }
-        ensures need { result ≢ Need }
-        ensures asked { self.new.asked ≡ false }
-        ensures stays { Stays self.old self.new }
-        ensures told { IsToldOn result self.old.told self.new.told }
-        ensures acts { Acts Send self.old result self.new }
-    {
-        match next {
-            Next::Open(text, places) => self.open(text, places),
-            Next::Frame(text) => self.send(text),
-            Next::Close(text) => self.close(text),
-            Next::Nothing => unreachable!(),
-        }
-    }
-
-    // The ending that the peer made.
-    fn stopped(&self, stop: Stop) -> Turn
-        requires { self.now.stop ≡ Some stop }
-        ensures turn { IsTurn result self.now }
-        ensures text { text_of result ≡ [] }
-        ensures also { also_of self.now.first result ≡ [] }
-        ensures need { result ≢ Need }
-        ensures told { IsToldOn result self.now.told self.now.told }
-        ensures acts { Acts Stopped self.now result self.now }
-    {
-        match stop {
-            Stop::Hint => Turn::PeerClosed,
-            Stop::Refused { unit, code } => Turn::Refused { unit, code },
-            Stop::BadReply { at } => Turn::PeerFault {
-                at,
-                why: Why::Reply,
-            },
-        }
-    }
-
-    // Where no frame waits: the fault of the peer's bytes, or more of them are to be fed.
-    fn unheard(&self) -> Turn
-        requires due { IsDue Hear self.now }
-        requires none { self.now.reader.waiting ≡ [] }
-        ensures turn { IsTurn result self.now }
-        ensures text { text_of result ≡ [] }
-        ensures also { also_of self.now.first result ≡ [] }
-        ensures need { result ≢ Need }
-        ensures told { IsToldOn result self.now.told self.now.told }
-        ensures acts { Acts Hear self.now result self.now }
-    {
-        match self.fault {
-            Some(fault) => Turn::PeerFault {
-                at: fault.at,
-                why: Why::from(fault.why),
-            },
-            None => Turn::Wait,
-        }
-    }
-
-    // Tells how many of the first entries are acknowledged.
-    fn confirm(&mut self) -> Turn
-        requires due { IsDue Confirm self.old }
-        requires asked { self.old.asked ≡ false }
-        ensures sends { SendsOn self.old [] [] self.new }
-        ensures text { text_of result ≡ [] }
-        ensures also { also_of self.old.first result ≡ [] }
-        ensures turn { IsTurn result self.new }
-        ensures need { result ≢ Need }
-        ensures asked { self.new.asked ≡ false }
-        ensures stays { Stays self.old self.new }
-        ensures told { IsToldOn result self.old.told self.new.told }
-        ensures acts { Acts Confirm self.old result self.new }
-    {
-        self.told = self.known();
-        Turn::Confirmed {
-            upto: self.first + self.told,
-        }
-    }
-
-    // Tells that an entry after those is acknowledged.
-    fn tell(&mut self) -> Turn
-        requires due { IsDue Tell self.old }
-        requires asked { self.old.asked ≡ false }
-        ensures sends { SendsOn self.old [] (also_of self.old.first result) self.new }
-        ensures text { text_of result ≡ [] }
-        ensures turn { IsTurn result self.new }
-        ensures need { result ≢ Need }
-        ensures asked { self.new.asked ≡ false }
-        ensures stays { Stays self.old self.new }
-        ensures told { IsToldOn result self.old.told self.new.told }
-        ensures acts { Acts Tell self.old result self.new }
-    {
-        let Some(place) = self.beyond.take() else {
-            unreachable!()
-        };
-        let from = self.first + place;
-        Turn::Also { from, to: from + 1 }
-    }
-
-    // Asks for more entries.
-    fn ask(&mut self) -> Turn
-        requires due { IsDue Ask self.old }
-        ensures sends { SendsOn self.old [] [] self.new }
-        ensures turn { IsTurn result self.new }
-        ensures need { result ≡ Need }
-        ensures asked { self.new.asked ≡ true }
-        ensures stays { Stays self.old self.new }
-        ensures told { self.new.told ≡ self.old.told }
-        ensures acts { Acts Ask self.old result self.new }
-    {
-        self.asked = true;
-        Turn::Need
-    }
-
     // Does nothing: it says what holds of each sender.
     fn settle(&self)
         ensures { Keeps self.now }
     {
         let _told = self.told;
-    }
-
-    // Does what is due.
-    fn act(&mut self, next: Next) -> Turn
-        requires next { Suits self.old next }
-        requires asked { self.old.asked ≡ false }
-        requires heard { IsDue Hear self.old → self.old.reader.waiting ≡ [] }
-        ensures sends { SendsOn self.old (text_of result) (also_of self.old.first result) self.new }
-        ensures turn { IsTurn result self.new }
-        ensures asked { self.new.asked ≡ true → result ≡ Need }
-        ensures need { result ≡ Need → self.new.asked ≡ true }
-        ensures stays { Stays self.old self.new }
-        ensures told { IsToldOn result self.old.told self.new.told }
-        ensures acts { (due : Due) → IsDue due self.old → Acts due self.old result self.new }
-    {
-        if let Some(stop) = self.stop {
-            return self.stopped(stop);
-        }
-        match self.due() {
-            Due::Confirm => self.confirm(),
-            Due::Tell => self.tell(),
-            Due::Send => self.write(next),
-            Due::Ask => self.ask(),
-            Due::End => Turn::Done,
-            Due::Hear => self.unheard(),
-            Due::Stopped => unreachable!(),
-        }
-    }
-
-    /// Does the next thing: tells what is acknowledged, writes what may be written, asks for more entries,
-    /// or takes the peer's frames, one after another, until something comes of them.
-    ///
-    /// The only error is want of memory. After it the sender is as before.
-    pub fn turn(&mut self) -> Result<Turn, AllocError>
-        ensures err { OnErr result (self.new ≡ self.old) }
-        ensures sends { IfOk result (λ turn. SendsOn self.old (text_of turn) (also_of self.old.first turn) self.new) }
-        ensures turn { IfOk result (λ turn. IsTurn turn self.new) }
-        ensures acts { IfOk result (λ turn. (due : Due) → IsDue due self.old → (Hears self.old → ⊥) → Acts due (record self.old { asked = false }) turn self.new) }
-        ensures asked { IfOk result (λ turn. self.new.asked ≡ true → turn ≡ Need) }
-        ensures need { IfOk result (λ turn. turn ≡ Need → self.new.asked ≡ true) }
-        ensures known { IfOk result (λ turn. TellsNothing turn → (h : History) → Sends h self.new → TellsAll h self.new) }
-        ensures begins { IfOk result (λ _. (h : History) (more : List Entry) → Sends h self.new → IsFirstOf self.new more → Begins h more) }
-        ensures whole { IfOk result (λ turn. IsResting turn → (h : History) → Sends h self.new → IsWhole h self.new) }
-        ensures all { IfOk result (λ turn. IsResting turn → turn ≢ Need → (h : History) (more : List Entry) → Sends h self.new → IsFirstOf self.new more → IsWholeOf h more) }
-        ensures done { IfOk result (λ turn. turn ≡ Done → (self.new.finished ≡ true) × (self.new.told ≡ given self.new)) }
-        ensures stays { Stays self.old self.new }
-        ensures told { IfOk result (λ turn. IsToldOn turn self.old.told self.new.told) }
-    {
-        let next = self.prepare()?;
-        self.asked = false;
-        while self.take_frame() {}
-        let turn = self.act(next);
-        self.settle();
-        Ok(turn)
     }
 }

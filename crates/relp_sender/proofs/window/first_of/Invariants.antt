@@ -1,4 +1,4 @@
-use Rattle.std.proofs.Common.{◌≡◌, ℕ, take}
+use Rattle.std.proofs.Common.{ℕ, take}
 use Rattle.std.specs.Prelude.{All, ◌≢◌}
 use Rattle.relp_sender.specs.Texts.{txnr_of}
 use Rattle.relp_sender.proofs.window.first_of.Given as goal

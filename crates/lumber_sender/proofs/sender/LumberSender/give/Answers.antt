@@ -2,6 +2,7 @@ use Rattle.std.proofs.Common.{◌≡◌, inl, inr, ◌<◌, ◌+◌, true, lengt
 use Rattle.std.proofs.lemmas.Bool.{cases_lt}
 use Rattle.std.specs.Prelude.{◌%◌}
 use Rattle.lumber_sender.specs.Sender.{given}
+use Rattle.lumber_sender.specs.Turns.{spent}
 use Rattle.lumber_sender.specs.View.{sender_of}
 use Rattle.lumber_sender.proofs.Giving.{keeps_more, sends_more}
 use Rattle.lumber_sender.proofs.sender.LumberSender.give.Goals as goal
@@ -40,3 +41,11 @@ returns-clause-first c =
       | inl some ↦ (let at = next some in omega (arith, none, is, at))
       | inr zero ↦ omega (arith, none, is, zero)
     ]
+
+pub returns-clause-spent : goal.returns-clause-spent
+returns-clause-spent c =
+    let s = sender_of c.self.inside in
+    let asked : s.asked ≡ true = rw (← c.self.view_is) at c.requires.asked in
+    let none : length s.batch ≡ 0 = ap length (c.self.invariant.0.need asked).none in
+    let is : spent c.args.self.now ≡ spent s = sym (ap spent c.self.view_is) in
+    omega (arith, none, c.self.invariant.0.order, is)

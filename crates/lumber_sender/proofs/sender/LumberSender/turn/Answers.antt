@@ -6,7 +6,7 @@ use Rattle.lumber_sender.specs.Turns.{IsFor, spent}
 use Rattle.lumber_sender.specs.View.{sender_of}
 use Rattle.lumber_sender.proofs.Writing.{sends_told, sends_then}
 use Rattle.lumber_sender.proofs.Telling.{for_same, for_taken}
-use Rattle.lumber_sender.proofs.Whole.{text_at, whole_at, begins_at, tells_at, most_at, spent_at}
+use Rattle.lumber_sender.proofs.Whole.{text_at, whole_at, begins_at, tells_at, most_at, within_at, left_at, spent_at}
 use Rattle.lumber_sender.proofs.sender.LumberSender.turn.Goals as goal
 
 pub loop-init : goal.loop-init
@@ -63,6 +63,12 @@ returns-clause-known c = tells_at c.act-turn.result c.act-turn.new.self c.settle
 
 pub returns-clause-most : goal.returns-clause-most
 returns-clause-most c = most_at c.act-turn.new.self c.settle-2.ensures
+
+pub returns-clause-within : goal.returns-clause-within
+returns-clause-within c = within_at c.act-turn.new.self c.settle-2.ensures
+
+pub returns-clause-left : goal.returns-clause-left
+returns-clause-left c = left_at c.act-turn.result c.act-turn.new.self c.settle-2.ensures c.act-turn.ensures.turn
 
 pub returns-clause-bound : goal.returns-clause-bound
 returns-clause-bound c = spent_at c.act-turn.new.self c.settle-2.ensures

@@ -1,8 +1,7 @@
-use Rattle.std.proofs.Common.{◌≡◌, ◌∙◌, ◌<◌, List, [], ◌∷◌, ℕ, length, drop, get_or, refl, sym, ap, arith}
+use Rattle.std.proofs.Common.{◌≡◌, ◌∙◌, ◌<◌, List, [], ◌∷◌, length, drop, get_or, refl, sym, ap, arith}
 use Rattle.event_form.specs.declared.event.Entry.{Entry}
 use Rattle.relp_sender.specs.Sender.{Sender}
 use Rattle.relp_sender.specs.Texts.{event_text}
-use Rattle.relp_sender.specs.contracts.sender.RelpSender.{the_view}
 use Rattle.relp_sender.proofs.sender.RelpSender.prepare_frame.Goals as goal
 
 first_is : (es : List Entry) (e : Entry) → 0 < length es → e ≡ get_or es 0 e → es ≡ e ∷ drop 1 es

@@ -1,5 +1,4 @@
 use Rattle.std.proofs.Common.{◌≡◌, ◌∙◌, ◌∷◌, false, ap, sym, subst}
-use Rattle.std.specs.VecDeque.{deque_capacity}
 use Rattle.event_form.specs.declared.event.Entry.{Entry}
 use Rattle.relp_sender.specs.declared.due.Due.TheVariants.{Send}
 use Rattle.relp_sender.specs.declared.next.Next.TheVariants.{Frame}

@@ -1,6 +1,7 @@
 use Rattle.std.proofs.Common.{◌≡◌, [], length, false}
 use Rattle.relp_sender.specs.Due.{Suits}
 use Rattle.relp_sender.specs.Sends.{SendsOn}
+use Rattle.relp_sender.specs.Spending.{spent}
 use Rattle.relp_sender.specs.Turns.{Hears, Stays}
 use Rattle.relp_sender.proofs.sender.RelpSender.turn.Given as goal
 
@@ -12,6 +13,7 @@ invariant-loop l = record {
   asked : l.self.asked ≡ false;
   stays : Stays l.fn.self l.self;
   told : l.self.told ≡ l.fn.self.told;
+  spent : spent l.self ≡ spent l.fn.self;
 }
 
 abbrev pub decreases-loop : goal.decreases-loop
