@@ -1,0 +1,124 @@
+//! A sender that is driven.
+ghost use Rattle.std.specs.Prelude.{◌+◌, ◌≤◌, ◌^◌, All, IfOk};
+ghost use Rattle.event_form.specs.Event.{IsEvent};
+ghost use Rattle.hec_sender.specs.Sender.{extent};
+
+use anyhow::bail;
+use event_form::{Blob, Entry, Event, Origin, Turn};
+use hec_sender::{HecSender, WINDOW};
+use std::alloc::{AllocError, Global};
+use std::marker::Model;
+
+/// The text of an event: 100 bytes, a JSON object with six pairs of quotation marks.
+pub const TEXT: &[u8] =
+    b"{\"host\":\"host7\",\"app\":\"sshd\",\"message\":\"connection from 192.0.2.17 closed, 48213 bytes in 0.1872 s\"}";
+
+/// What events have for their text.
+#[derive(Clone, Copy)]
+pub enum Kind {
+    /// An event object, which is sent as it stands.
+    Object,
+    /// A text of any kind, which is put into one.
+    Text,
+}
+
+/// Entries whose events keep their limits.
+#[derive(Drop)]
+struct Events {
+    entries: Vec<Entry>,
+}
+
+impl Model for Events {
+    ghost use Rattle.std.specs.Prelude.{List, All};
+    ghost use Rattle.event_form.specs.declared.event.Entry.{Entry};
+    ghost use Rattle.event_form.specs.Event.{IsEvent};
+
+    ghost Value = { List Entry };
+
+    ghost view = { λ b. b.entries.items };
+
+    ghost invariant = { λ b. All (λ (e : Entry). IsEvent e.event) b.entries.items };
+}
+
+impl Events {
+    /// Adds an entry.
+    fn add(&mut self, alloc: Global, kind: Kind) -> Result<(), AllocError> {
+        let origin = match kind {
+            Kind::Object => Origin::HecEvent,
+            Kind::Text => Origin::Relp,
+        };
+        let text = Blob::of(Vec::from_slice(alloc, TEXT)?);
+        let event = Event { origin, text };
+        self.entries.push(Entry {
+            conn: 1,
+            index: 0,
+            unit: 0,
+            event,
+        })?;
+        Ok(())
+    }
+
+    /// The entries.
+    fn into_entries(self) -> Vec<Entry>
+        ensures { All (λ e. IsEvent e.event) result.items }
+    {
+        self.entries
+    }
+}
+
+/// A run's entries.
+pub fn batch(alloc: Global, kind: Kind) -> Result<Vec<Entry>, AllocError>
+    ensures { IfOk result (λ batch. All (λ e. IsEvent e.event) batch.items) }
+{
+    let mut events = Events {
+        entries: Vec::with_capacity(alloc, WINDOW)?,
+    };
+    for _ in 0..WINDOW {
+        events.add(alloc, kind)?;
+    }
+    Ok(events.into_entries())
+}
+
+/// A sender whose run is under way, and how many bytes it may still be fed.
+#[derive(Drop)]
+pub struct Driven {
+    sender: HecSender,
+    left: usize,
+    ghost room: { extent sender + left ≤ 2 ^ 40 },
+}
+
+impl Driven {
+    /// A sender that was given a run's entries.
+    pub fn new(alloc: Global, entries: Vec<Entry>) -> anyhow::Result<Driven>
+        requires { All (λ e. IsEvent e.event) entries.items }
+    {
+        if entries.is_empty() || entries.len() > WINDOW {
+            bail!("no run");
+        }
+        let mut sender = HecSender::new(alloc, 1, 2, 60);
+        match sender.turn()? {
+            Turn::Need => {}
+            turn => bail!("{turn:?}"),
+        }
+        sender.give(0, entries);
+        Ok(Driven {
+            sender,
+            left: 1 << 40,
+        })
+    }
+
+    /// The next turn.
+    pub fn turn(&mut self) -> Result<Turn, AllocError> {
+        self.sender.turn()
+    }
+
+    /// Feeds a piece.
+    pub fn feed(&mut self, piece: &[u8]) -> anyhow::Result<()> {
+        if piece.len() > self.left {
+            bail!("too many bytes");
+        }
+        self.left -= piece.len();
+        self.sender.feed(piece)?;
+        Ok(())
+    }
+}

@@ -1,0 +1,9 @@
+pub mod Fitting
+pub mod Cutting
+pub mod Judging
+pub mod Dues
+pub mod Giving
+pub mod Writing
+pub mod Taking
+pub mod Hears
+pub mod Whole

@@ -1,0 +1,10 @@
+pub mod Texts
+pub mod Requests
+pub mod Replies
+pub mod Progress
+pub mod Sender
+pub mod View
+pub mod Hearing
+pub mod Sends
+pub mod Turns
+pub mod Laws
