@@ -1,0 +1,72 @@
+use Rattle.std.proofs.Common.{ℕ, sym, ap, subst}
+use Rattle.std.specs.Prelude.{List}
+use Rattle.edge_io.specs.declared.proto.Proto.{Proto}
+use Rattle.edge_io.specs.declared.proto.Proto.TheVariants.{Relp, Lumberjack, Hec}
+use Rattle.desk_access.specs.Call.{Call}
+use Rattle.forward_core.specs.Forwarded.{Forwards}
+use Rattle.forward_core.specs.Hec.{settings_of}
+use Rattle.forward_core.specs.Protocols.{EndsAs, HintsAs, settings_as}
+use Rattle.forward_core.specs.Settings.{Settings}
+use Rattle.forward_core.proofs.Beginning.{forwards_nothing}
+use Rattle.forward_core.proofs.forwarding.forward.Goals as goal
+
+pub returns-in_default-clause-forwards : goal.returns-in_default-clause-forwards
+returns-in_default-clause-forwards g c =
+    let begun = c.begin.ensures in
+    let link = c.args.link.now in
+    let outward = c.args.outward.now in (
+      begun.0,
+      begun.1,
+      c.begin.new.access,
+      begun.2,
+      forwards_nothing (settings_as outward) outward.proto (g.L.Source.given link) (g.L.Source.left link) (g.L.Sink.taken link) (λ calls. g.A.Access.ran c.begin.new.access calls c.begin.new.access) begun.0 begun.1 (g.met.A.Access.ran_none _),
+    )
+
+pub returns-in-Relp-clause-forwards : goal.returns-in-Relp-clause-forwards
+returns-in-Relp-clause-forwards g c =
+    let begun = c.in-Ok.ensures in
+    let was = c.args.link.now in
+    let now = c.run.new.link in
+    let set = settings_as c.args.outward.now in
+    let ran = λ (calls : List Call). g.A.Access.ran c.begin.new.access calls c.run.new.access in
+    let By = λ (proto : Proto) (start until : ℕ). Forwards (EndsAs set proto) (HintsAs proto) (g.L.Source.given was) (g.L.Source.given now) (g.L.Source.left was) (g.L.Source.left now) (g.L.Sink.taken was) (g.L.Sink.taken now) ran start until c.run.result in (
+      begun.0,
+      begun.1,
+      c.begin.new.access,
+      begun.2,
+      subst (λ (p : Proto). By p begun.0 begun.1) (sym c.in-Relp.is)
+          (subst (λ (n : ℕ). By Relp n begun.1) begun.3.next (subst (λ (n : ℕ). By Relp c.in-Ok.course.next n) begun.3.end_is c.run.ensures.forwards)),
+    )
+
+pub returns-in-Lumberjack-clause-forwards : goal.returns-in-Lumberjack-clause-forwards
+returns-in-Lumberjack-clause-forwards g c =
+    let begun = c.in-Ok.ensures in
+    let was = c.args.link.now in
+    let now = c.run-in-Lumberjack.new.link in
+    let set = settings_as c.args.outward.now in
+    let ran = λ (calls : List Call). g.A.Access.ran c.begin.new.access calls c.run-in-Lumberjack.new.access in
+    let By = λ (proto : Proto) (start until : ℕ). Forwards (EndsAs set proto) (HintsAs proto) (g.L.Source.given was) (g.L.Source.given now) (g.L.Source.left was) (g.L.Source.left now) (g.L.Sink.taken was) (g.L.Sink.taken now) ran start until c.run-in-Lumberjack.result in (
+      begun.0,
+      begun.1,
+      c.begin.new.access,
+      begun.2,
+      subst (λ (p : Proto). By p begun.0 begun.1) (sym c.in-Lumberjack.is)
+          (subst (λ (n : ℕ). By Lumberjack n begun.1) begun.3.next (subst (λ (n : ℕ). By Lumberjack c.in-Ok.course.next n) begun.3.end_is c.run-in-Lumberjack.ensures.forwards)),
+    )
+
+pub returns-clause-forwards : goal.returns-clause-forwards
+returns-clause-forwards g c =
+    let begun = c.in-Ok.ensures in
+    let was = c.args.link.now in
+    let now = c.run-in-Hec.new.link in
+    let set = settings_as c.args.outward.now in
+    let ran = λ (calls : List Call). g.A.Access.ran c.begin.new.access calls c.run-in-Hec.new.access in
+    let By = λ (settings : Settings) (proto : Proto) (start until : ℕ). Forwards (EndsAs settings proto) (HintsAs proto) (g.L.Source.given was) (g.L.Source.given now) (g.L.Source.left was) (g.L.Source.left now) (g.L.Sink.taken was) (g.L.Sink.taken now) ran start until c.run-in-Hec.result in (
+      begun.0,
+      begun.1,
+      c.begin.new.access,
+      begun.2,
+      subst (λ (p : Proto). By set p begun.0 begun.1) (sym c.in-Hec.is)
+          (subst (λ (n : ℕ). By set Hec n begun.1) begun.3.next (subst (λ (n : ℕ). By set Hec c.in-Ok.course.next n) begun.3.end_is
+          (subst (λ (settings : Settings). By settings Hec c.in-Ok.course.next c.in-Ok.course.end) (ap settings_of c.new-sender-in-Hec.ensures.untouched) c.run-in-Hec.ensures.forwards))),
+    )

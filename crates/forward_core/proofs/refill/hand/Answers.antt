@@ -1,0 +1,74 @@
+use Rattle.std.proofs.Common.{◌≡◌, ◌∙◌, ℕ, ◌+◌, ◌<◌, ◌≤◌, ◌^◌, true, false, List, [], ◌∷◌, ◌++◌, All, length, ap, sym, subst, arith}
+use Rattle.std.specs.Prelude.{Ok}
+use Rattle.std.proofs.lemmas.List.{append-nil, nil_from_length}
+use Rattle.std.proofs.lemmas.Grind.{common_steps}
+use Rattle.event_form.specs.Event.{IsEvent}
+use Rattle.event_form.specs.declared.event.Entry.{Entry}
+use Rattle.spool_log.specs.declared.reading.numbered.Numbered.{Numbered}
+use Rattle.desk_access.specs.Call.{pends}
+use Rattle.forward_core.specs.Calls.{asked_from, entries_of, within}
+use Rattle.forward_core.specs.Moments.{LeadsBy}
+use Rattle.forward_core.specs.Reading.{AddsBatch}
+use Rattle.forward_core.specs.Session.{Stands}
+use Rattle.forward_core.proofs.Handing.{added_of, agrees_given, batch_events, batch_small, counted, less_counted, ok_by}
+use Rattle.forward_core.proofs.Standing.{stands_added}
+use Rattle.forward_core.proofs.refill.hand.Goals as goal
+
+pub add-requires-clause-small : goal.add-requires-clause-small
+add-requires-clause-small g c = batch_small c.args.course.now c.args.room c.args.batch c.requires.batch
+
+pub returns-then-is_empty-clause-stands : goal.returns-then-is_empty-clause-stands
+returns-then-is_empty-clause-stands g c =
+    let old = c.args.course.now in
+    let adds = ok_by c.add.result _ c.add.ensures.ok (sym c.is_err.ensures.value ∙ c.if-is_err.false) in
+    let none : length c.add.new.batch.entries.items ≡ 0 = grind (arith, common_steps) in
+    λ given total are few is.
+    let w : entries_of (within old.next old.end given) ≡ [] = sym is.entries ∙ sym (ap (λ v. v.items) c.add.ensures.entries) ∙ nil_from_length c.add.new.batch.entries.items none in
+    subst (λ (n : ℕ). LeadsBy (Stands (g.S.Outgoing.has_sent c.args.sender.now) true total old) (Stands (g.S.Outgoing.has_sent c.args.sender.now) false total c.add.new.self) (pends old.next n (Ok given) ∷ [])) (sym c.requires.room)
+    (stands_added (g.S.Outgoing.has_sent c.args.sender.now) (g.S.Outgoing.has_sent c.args.sender.now) total old c.add.new.self given c.requires.more (omega (arith, old.counted)) are (subst (λ (n : ℕ). length given ≤ n) c.requires.room few)
+    (added_of old c.add.new.self c.args.batch c.args.room given c.requires.room is adds)
+    (λ entries fed out also h. subst (λ (l : List Entry). g.S.Outgoing.has_sent c.args.sender.now l fed out also) (sym (append-nil entries) ∙ ap (λ (l : List Entry). entries ++ l) (sym w)) h))
+
+pub give-requires-clause-few : goal.give-requires-clause-few
+give-requires-clause-few g c =
+    let adds = ok_by c.add.result _ c.add.ensures.ok (sym c.is_err.ensures.value ∙ c.if-is_err.false) in
+    let count = counted c.args.course.now c.add.new.self c.args.batch c.args.room c.requires.more c.requires.room c.requires.batch adds in
+    subst (λ (l : List Entry). length l ≤ 128) (sym (ap (λ v. v.items) c.add.ensures.entries)) count.few
+
+pub give-requires-clause-limits : goal.give-requires-clause-limits
+give-requires-clause-limits g c =
+    subst (λ (l : List Entry). All (λ (e : Entry). IsEvent e.event) l) (sym (ap (λ v. v.items) c.add.ensures.entries)) (batch_events c.args.course.now c.args.room c.args.batch c.requires.batch)
+
+pub give-requires-clause-number : goal.give-requires-clause-number
+give-requires-clause-number g c =
+    let old = c.args.course.now in
+    let adds = ok_by c.add.result _ c.add.ensures.ok (sym c.is_err.ensures.value ∙ c.if-is_err.false) in
+    let count = counted old c.add.new.self c.args.batch c.args.room c.requires.more c.requires.room c.requires.batch adds in
+    let limit : old.end ≤ 2 ^ 63 = old.limit in
+    let sum : old.given + length c.args.batch.entries.items ≤ 2 ^ 63 = omega (arith, count.count, count.within, count.end, c.requires.agrees.few, limit) in
+    subst (λ (l : List Entry). old.given + length l ≤ 2 ^ 63) (sym (ap (λ v. v.items) c.add.ensures.entries)) sum
+
+pub returns-clause-stands : goal.returns-clause-stands
+returns-clause-stands g c =
+    let old = c.args.course.now in
+    let adds = ok_by c.add.result _ c.add.ensures.ok (sym c.is_err.ensures.value ∙ c.if-is_err.false) in
+    λ given total are few is.
+    let w : c.add.new.batch.entries.items ≡ entries_of (within old.next old.end given) = ap (λ v. v.items) c.add.ensures.entries ∙ is.entries in
+    subst (λ (n : ℕ). LeadsBy (Stands (g.S.Outgoing.has_sent c.args.sender.now) true total old) (Stands (g.S.Outgoing.has_sent c.give.new.self) false total c.add.new.self) (pends old.next n (Ok given) ∷ [])) (sym c.requires.room)
+    (stands_added (g.S.Outgoing.has_sent c.args.sender.now) (g.S.Outgoing.has_sent c.give.new.self) total old c.add.new.self given c.requires.more (omega (arith, old.counted)) are (subst (λ (n : ℕ). length given ≤ n) c.requires.room few)
+    (added_of old c.add.new.self c.args.batch c.args.room given c.requires.room is adds)
+    (λ entries fed out also h. subst (λ (l : List Entry). g.S.Outgoing.has_sent c.give.new.self (entries ++ l) fed out also) w (c.give.ensures.sent entries fed out also h)))
+
+pub returns-clause-agrees : goal.returns-clause-agrees
+returns-clause-agrees g c =
+    let old = c.args.course.now in
+    let adds = ok_by c.add.result _ c.add.ensures.ok (sym c.is_err.ensures.value ∙ c.if-is_err.false) in
+    let count = counted old c.add.new.self c.args.batch c.args.room c.requires.more c.requires.room c.requires.batch adds in
+    agrees_given old c.add.new.self c.args.batch _ _ _ _ _ _ _ _ count adds.told adds.over c.requires.unfinished c.requires.agrees
+    (c.give.ensures.given ∙ ap (λ v. g.S.Outgoing.given c.args.sender.now + length v.items) c.add.ensures.entries) c.give.ensures.told c.give.ensures.first c.give.ensures.finished
+
+pub returns-clause-less : goal.returns-clause-less
+returns-clause-less g c =
+    let old = c.args.course.now in
+    let adds = ok_by c.add.result _ c.add.ensures.ok (sym c.is_err.ensures.value ∙ c.if-is_err.false) in
+    less_counted old c.add.new.self c.args.batch (counted old c.add.new.self c.args.batch c.args.room c.requires.more c.requires.room c.requires.batch adds) adds.over

@@ -1,0 +1,71 @@
+use Rattle.std.proofs.Common.{◌≡◌, ◌∙◌, ℕ, ◌≤◌, ◌^◌, false, [], ◌∷◌, refl, sym, subst, arith}
+use Rattle.desk_access.specs.Call.{Call}
+use Rattle.std.specs.Prelude.{List}
+use Rattle.forward_core.specs.Moments.{Does, told}
+use Rattle.forward_core.specs.Session.{Ended, Stands}
+use Rattle.forward_core.proofs.Joining.{forwards_of, so_none, so_then}
+use Rattle.forward_core.proofs.Running.{agrees_start, stands_start}
+use Rattle.forward_core.proofs.session.run.Goals as goal
+
+pub turns-init : goal.turns-init
+turns-init g c = record {
+  done = so_none (told (g.L.Source.given c.args.link.now) (g.L.Source.left c.args.link.now) (g.L.Sink.taken c.args.link.now)) (λ calls. g.A.Access.ran c.args.access.now calls c.args.access.now)
+      (Stands (g.S.Outgoing.has_sent c.args.sender.now) false 0 c.args.course.now c.args.course.now.next) (g.met.A.Access.ran_none _)
+      (stands_start (g.S.Outgoing.has_sent c.args.sender.now) c.args.course.now c.requires.given c.requires.marks c.requires.sent);
+  may = c.requires.may;
+  end_known = c.requires.end;
+  same_end = refl;
+  agrees = agrees_start _ _ _ (g.S.Outgoing.finished c.args.sender.now) c.args.course.now c.requires.given c.requires.over c.requires.unused c.requires.untold c.requires.unfinished;
+  fed = omega (arith, c.requires.unfed);
+  within = omega arith;
+  settings = refl;
+  reads = refl;
+  writes = refl;
+  same = g.L.Object.same_refl _;
+  rested = g.Z.Object.same_refl _;
+  paused = g.met.Z.Pause.pause_refl _;
+}
+
+pub turns-preserved : goal.turns-preserved
+turns-preserved g c =
+    let l = c.turns in
+    let inv = l.invariant in
+    let e = c.in_default.ensures in
+    let n = c.step.new in
+    let start = told (g.L.Source.given c.args.link.now) (g.L.Source.left c.args.link.now) (g.L.Sink.taken c.args.link.now) in
+    let mid = told (g.L.Source.given l.link) (g.L.Source.left l.link) (g.L.Sink.taken l.link) in
+    let now = told (g.L.Source.given n.link) (g.L.Source.left n.link) (g.L.Sink.taken n.link) in
+    let rises = g.met.A.Access.known_rises l.access n.access e.goes.calls e.goes.made in
+    record {
+      done = so_then start mid now (λ calls. g.A.Access.ran c.args.access.now calls l.access) (λ calls. g.A.Access.ran l.access calls n.access) (λ calls. g.A.Access.ran c.args.access.now calls n.access) c.args.course.now.next
+          (Stands (g.S.Outgoing.has_sent l.sender) false l.total l.course) (Stands (g.S.Outgoing.has_sent n.sender) false n.total n.course) (λ xs ys p q. g.met.A.Access.ran_more _ _ _ xs ys p q) inv.done e.goes;
+      may = g.met.A.Access.may_confirm_more l.access n.access e.goes.calls e.goes.made inv.may;
+      end_known = omega (arith, rises.0, inv.end_known, c.step.ensures.end);
+      same_end = c.step.ensures.end ∙ inv.same_end;
+      agrees = e.agrees;
+      fed = e.fed;
+      within = e.within;
+      settings = c.step.ensures.settings ∙ inv.settings;
+      reads = e.reads.quiet (λ is. cc) ∙ inv.reads;
+      writes = e.writes.quiet (λ is. cc) (λ is. is) ∙ inv.writes;
+      same = g.L.Object.same_trans _ _ _ inv.same c.step.ensures.same;
+      rested = g.Z.Object.same_trans _ _ _ inv.rested c.step.ensures.rested;
+      paused = g.met.Z.Pause.pause_trans _ _ _ inv.paused c.step.ensures.paused;
+    }
+
+pub returns-in-Err-clause-forwards : goal.returns-in-Err-clause-forwards
+returns-in-Err-clause-forwards g c =
+    let l = c.turns in
+    let inv = l.invariant in
+    let e = c.in-Err.ensures in
+    let n = c.step.new in
+    let s = c.args.sender.now in
+    let start = told (g.L.Source.given c.args.link.now) (g.L.Source.left c.args.link.now) (g.L.Sink.taken c.args.link.now) in
+    let mid = told (g.L.Source.given l.link) (g.L.Source.left l.link) (g.L.Sink.taken l.link) in
+    let now = told (g.L.Source.given n.link) (g.L.Source.left n.link) (g.L.Sink.taken n.link) in
+    let ran = λ (calls : List Call). g.A.Access.ran c.args.access.now calls n.access in
+    let d = so_then start mid now (λ calls. g.A.Access.ran c.args.access.now calls l.access) (λ calls. g.A.Access.ran l.access calls n.access) ran c.args.course.now.next
+    (Stands (g.S.Outgoing.has_sent l.sender) false l.total l.course) (Ended (g.S.Outgoing.ends (g.S.Outgoing.settings l.sender)) g.S.Outgoing.hints now.left l.course.end c.in-Err.sent) (λ xs ys p q. g.met.A.Access.ran_more _ _ _ xs ys p q) inv.done e.ends in
+    forwards_of (g.S.Outgoing.ends (g.S.Outgoing.settings s)) g.S.Outgoing.hints start now ran c.args.course.now.next c.args.course.now.end c.in-Err.sent
+    (subst (λ x. Does ran start now (Ended (g.S.Outgoing.ends x) g.S.Outgoing.hints now.left c.args.course.now.end c.in-Err.sent c.args.course.now.next)) inv.settings
+    (subst (λ (k : ℕ). Does ran start now (Ended (g.S.Outgoing.ends (g.S.Outgoing.settings l.sender)) g.S.Outgoing.hints now.left k c.in-Err.sent c.args.course.now.next)) inv.same_end d))

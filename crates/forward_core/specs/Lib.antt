@@ -1,0 +1,17 @@
+pub mod Acting
+pub mod Calls
+pub mod Course
+pub mod Forwarded
+pub mod Hearing
+pub mod Hec
+pub mod Laws
+pub mod Lumber
+pub mod Marking
+pub mod Moments
+pub mod Outlet
+pub mod Protocols
+pub mod Reading
+pub mod Relp
+pub mod Session
+pub mod Settings
+pub mod Turning

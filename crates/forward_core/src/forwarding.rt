@@ -1,0 +1,72 @@
+//! Forwarding what a desk holds.
+ghost use Rattle.std.specs.Prelude.{◌≡◌, ◌<◌, ℕ};
+ghost use Rattle.forward_core.specs.Forwarded.{Asked, CountsFaults, CountsWrites, Forwards};
+ghost use Rattle.forward_core.specs.Protocols.{EndsAs, HintsAs, settings_as};
+ghost use Rattle.forward_core.specs.Turning.{IsHalt};
+ghost use Rattle.forward_core.specs.declared.sent.Sent.TheVariants as Ending;
+
+use crate::begin::begin;
+use crate::outward::Outward;
+use crate::sent::Sent;
+use crate::session::run;
+use desk_access::Access;
+use edge_io::{Link, Pause, Proto};
+use hec_sender::HecSender;
+use lumber_sender::LumberSender;
+use relp_sender::RelpSender;
+use std::alloc::Global;
+
+/// Sends the entries from the desk's cursor to its end, as both stand at its start, to the peer of the link, in the
+/// order of their numbers, and marks those that the peer acknowledges as known. Entries that are known already are
+/// passed over. They are read in batches of 128.
+///
+/// What is acknowledged is marked before each read of the peer's bytes, before each reading of entries, and at each
+/// ending but want of memory and a refusal by the desk. A mark that is refused at an ending is the ending in its place.
+///
+/// - `Drained`: all entries were sent, all of the text was written, and all are acknowledged.
+/// - `Refused`, `PeerFault`, `Unconfirmed`: as the peer's bytes end the session by its protocol.
+/// - `PeerClosed`: a read gave no bytes, or the peer said that it closes the session.
+/// - `TooMuch`: 2^40 bytes of the peer were read.
+/// - `ReadFault` and `WriteFault` come only where the link's count of faults rose.
+/// - `DiskFault`, `NotSpool` and `Worn` come only from the last call on the desk, with its values.
+/// - `NoMemory` may come at any time.
+///
+/// By the collector's protocol each request has the token and the channel of `outward`, and a request's query is asked
+/// at most `polls` times, which is above 0; `rest` pauses before it is asked again.
+pub fn forward<L: Link, A: Access, Z: Pause>(
+    alloc: Global,
+    link: &mut L,
+    outward: &Outward,
+    access: &mut A,
+    rest: &mut Z,
+) -> Sent
+    requires polls { 0 < outward.now.polls }
+    requires may { A.may_confirm access.old }
+
+    ensures forwards { (start : ℕ) × (until : ℕ) × (begun : A) × Asked A.ran A.cursor_known A.end_known A.seen access.old start until begun
+        × Forwards (EndsAs (settings_as outward.now) outward.now.proto) (HintsAs outward.now.proto) (L.given link.old) (L.given link.new)
+        (L.left link.old) (L.left link.new) (L.taken link.old) (L.taken link.new) (λ calls. A.ran begun calls access.new) start until result }
+    ensures reads { CountsFaults (result ≡ Ending.ReadFault) (L.read_faults link.old) (L.read_faults link.new) }
+    ensures writes { CountsWrites (result ≡ Ending.WriteFault) (IsHalt result) (L.write_faults link.old) (L.write_faults link.new) }
+    ensures same { L.same link.old link.new }
+    ensures rested { Z.same rest.old rest.new }
+    ensures paused { Z.pause_apart rest.old rest.new }
+{
+    let Ok(mut course) = begin(alloc, access) else {
+        return Sent::NoMemory;
+    };
+    match outward.proto {
+        Proto::Relp => {
+            let mut sender = RelpSender::new(alloc);
+            run(alloc, link, access, rest, &mut sender, &mut course)
+        }
+        Proto::Lumberjack => {
+            let mut sender = LumberSender::new(alloc);
+            run(alloc, link, access, rest, &mut sender, &mut course)
+        }
+        Proto::Hec => {
+            let mut sender = HecSender::new(alloc, outward.token, outward.channel, outward.polls);
+            run(alloc, link, access, rest, &mut sender, &mut course)
+        }
+    }
+}

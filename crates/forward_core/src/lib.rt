@@ -1,0 +1,27 @@
+//! Forwards the entries of a desk that aren't known as confirmed to a peer, and marks those that the peer
+//! acknowledged, by RELP, Lumberjack or Splunk's collector. `forward` says which entries were sent, as which
+//! bytes, and which of them were marked, whatever comes.
+#![tactic(auto)]
+
+mod begin;
+mod course;
+mod forwarding;
+mod hear;
+mod hec;
+mod laws;
+mod listen;
+mod lumber;
+mod marking;
+mod outgoing;
+mod outward;
+mod refill;
+mod relp;
+mod sent;
+mod session;
+mod write;
+
+pub use forwarding::forward;
+pub use laws::marks_are_known;
+pub use outgoing::Outgoing;
+pub use outward::Outward;
+pub use sent::Sent;
