@@ -1,5 +1,6 @@
 pub mod Front
 pub mod LineLaws
+pub mod EventOf
 pub mod EventLaws
 pub mod AckLaws
 pub mod Queries

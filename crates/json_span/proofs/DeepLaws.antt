@@ -35,11 +35,11 @@ accepts_in (Names d st) e = cc
 accepts_in (Name d st) e = cc
 accepts_in (InName k d st) e = cc
 
-pub deep_alone : (x y : List ℕ) (s : State) (c : ℕ) → Json 127 x → run (Value 127 []) (x ++ y) ≡ Going s → Fails Deep ≡ step s c → ⊥
-deep_alone x y s c i r f =
-    let v = value_run 127 x (spaced_now (Json 127) x i) in
+pub deep_alone : (levels : ℕ) (x y : List ℕ) (s : State) (c : ℕ) → Json levels x → run (Value levels []) (x ++ y) ≡ Going s → Fails Deep ≡ step s c → ⊥
+deep_alone levels x y s c i r f =
+    let v = value_run levels x (spaced_now (Json levels) x i) in
     let a = accepts_in v.0 v.2 in
-    let g : run v.0 y ≡ Going s = run_after (Value 127 []) s v.0 x y v.1 r in
+    let g : run v.0 y ≡ Going s = run_after (Value levels []) s v.0 x y v.1 r in
     let t = stays a.0 a.1 s y (subst (λ z. run z y ≡ Going s) a.2 g) in
     not_deep t.0 a.1 c (f ∙ ap (λ z. step z c) t.1)
 

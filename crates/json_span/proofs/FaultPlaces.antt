@@ -133,17 +133,17 @@ begun_only bytes a b to s t =
     let m : b < a → ⊥ = λ h. let l : get_or bytes a 0 < 192 = g.low a h f.order in omega (arith, l, f.high) in
     omega (arith, n, m)
 
-place_tail : (bytes : List ℕ) (at start i place : ℕ) (s : State) → Stretch AreSpaces bytes at start → start ≤ i → i ≤ length bytes → run (Value 127 []) (slice_range bytes start i) ≡ Going s → is_tail (token_in s) ≡ true → IsLastLead bytes i place → IsFaultPlace bytes at i place
-place_tail bytes at start i place s w a b r t f =
-    let c = tail_begun s (slice_range bytes start i) 127 r t in
+place_tail : (levels : ℕ) (bytes : List ℕ) (at start i place : ℕ) (s : State) → Stretch AreSpaces bytes at start → start ≤ i → i ≤ length bytes → run (Value levels []) (slice_range bytes start i) ≡ Going s → is_tail (token_in s) ≡ true → IsLastLead bytes i place → IsFaultPlace bytes at i place
+place_tail levels bytes at start i place s w a b r t f =
+    let c = tail_begun s (slice_range bytes start i) levels r t in
     let p = range_parts bytes c.0 c.1 start i a b c.2 in
     let x : Stretch IsBegun bytes (start + length c.0) i = record { order = p.0; bound = b; text = subst IsBegun (sym p.2) c.3 } in
     let g = begun_at bytes (start + length c.0) i x in
     let q : place ≡ start + length c.0 = f (start + length c.0) g.order g.short g.high g.low in
     inl (omega (arith, q, w.order), subst (λ z. Stretch IsBegun bytes z i) (sym q) x)
 
-place_other : (bytes : List ℕ) (at start i place : ℕ) (s : State) → Stretch AreSpaces bytes at start → start ≤ i → run (Value 127 []) (slice_range bytes start i) ≡ Going s → is_tail (token_in s) ≡ false → place ≡ i → IsFaultPlace bytes at i place
-place_other bytes at start i place s w a r t q = inr (q, none)
+place_other : (levels : ℕ) (bytes : List ℕ) (at start i place : ℕ) (s : State) → Stretch AreSpaces bytes at start → start ≤ i → run (Value levels []) (slice_range bytes start i) ≡ Going s → is_tail (token_in s) ≡ false → place ≡ i → IsFaultPlace bytes at i place
+place_other levels bytes at start i place s w a r t q = inr (q, none)
   where
     none : (from : ℕ) → at ≤ from → Stretch IsBegun bytes from i → ⊥
     none from l x =
@@ -151,13 +151,13 @@ place_other bytes at start i place s w a r t q = inr (q, none)
         let n : from < start → ⊥ = λ h. let y : is_space (get_or bytes from 0) ≡ true = space_within bytes at start from w l h in let z : is_space (get_or bytes from 0) ≡ false = g.space in cc in
         let o : start ≤ from = omega (arith, n) in
         let e : slice_range bytes start i ≡ slice_range bytes start from ++ slice_range bytes from i = range_split bytes start from i o x.order in
-        let f = run_front (Value 127 []) s (slice_range bytes start from) (slice_range bytes from i) (subst (λ z. run (Value 127 []) z ≡ Going s) e r) in
-        let y : is_tail (token_in s) ≡ true = run_begun (Value 127 []) f.0 s (slice_range bytes start from) (slice_range bytes from i) tt f.1 f.2 x.text in
+        let f = run_front (Value levels []) s (slice_range bytes start from) (slice_range bytes from i) (subst (λ z. run (Value levels []) z ≡ Going s) e r) in
+        let y : is_tail (token_in s) ≡ true = run_begun (Value levels []) f.0 s (slice_range bytes start from) (slice_range bytes from i) tt f.1 f.2 x.text in
         cc
 
-pub fault_found : (bytes : List ℕ) (at start i place : ℕ) (s : State) → Stretch AreSpaces bytes at start → start ≤ i → i ≤ length bytes → run (Value 127 []) (slice_range bytes start i) ≡ Going s → (is_tail (token_in s) ≡ true → IsLastLead bytes i place) → (is_tail (token_in s) ≡ false → place ≡ i) → IsFaultPlace bytes at i place
-fault_found bytes at start i place s w a b r f g = go (is_tail (token_in s)) refl
+pub fault_found : (levels : ℕ) (bytes : List ℕ) (at start i place : ℕ) (s : State) → Stretch AreSpaces bytes at start → start ≤ i → i ≤ length bytes → run (Value levels []) (slice_range bytes start i) ≡ Going s → (is_tail (token_in s) ≡ true → IsLastLead bytes i place) → (is_tail (token_in s) ≡ false → place ≡ i) → IsFaultPlace bytes at i place
+fault_found levels bytes at start i place s w a b r f g = go (is_tail (token_in s)) refl
   where
     go : (p : Bool) → is_tail (token_in s) ≡ p → IsFaultPlace bytes at i place
-    go true q = place_tail bytes at start i place s w a b r q (f q)
-    go false q = place_other bytes at start i place s w a r q (g q)
+    go true q = place_tail levels bytes at start i place s w a b r q (f q)
+    go false q = place_other levels bytes at start i place s w a r q (g q)

@@ -29,13 +29,13 @@ no_longer d n x z c i f j =
     bad_none d n (x ++ c ∷ []) s (begins_value n (x ++ c ∷ []) z (subst (Json n) (sym (append_assoc x (c ∷ []) z)) j))
 
 -- such a value is the first one
-pub first_followed : (bytes : List ℕ) (at start end : ℕ) → Stretch AreSpaces bytes at start → Stretch (Json 127) bytes start end → IsFollowed bytes end → IsFirst bytes at (record { start = start; end = end })
-first_followed bytes at start end w v f = record { space = w; value = v; longest = longest }
+pub first_followed : (levels : ℕ) (bytes : List ℕ) (at start end : ℕ) → Stretch AreSpaces bytes at start → Stretch (Json levels) bytes start end → IsFollowed bytes end → IsFirst levels bytes at (record { start = start; end = end })
+first_followed levels bytes at start end w v f = record { space = w; value = v; longest = longest }
   where
     longest : (d e : ℕ) → Stretch (Json d) bytes start e → e ≤ end
     longest d e s =
         let no : end < e → ⊥ = λ h.
         let p : slice_range bytes start e ≡ slice_range bytes start end ++ slice_range bytes end e = range_split bytes start end e v.order (omega (arith, h)) in
         let q : slice_range bytes end e ≡ get_or bytes end 0 ∷ slice_range bytes (end + 1) e = range_head bytes end e h s.bound in
-        no_longer 127 d (slice_range bytes start end) (slice_range bytes (end + 1) e) (get_or bytes end 0) v.text (f (omega (arith, h, s.bound))) (subst (Json d) (p ∙ ap (λ z. slice_range bytes start end ++ z) q) s.text) in
+        no_longer levels d (slice_range bytes start end) (slice_range bytes (end + 1) e) (get_or bytes end 0) v.text (f (omega (arith, h, s.bound))) (subst (Json d) (p ∙ ap (λ z. slice_range bytes start end ++ z) q) s.text) in
         omega (arith, no)

@@ -29,4 +29,7 @@ pub mod PlainLaws
 pub mod LaneLaws
 pub mod ListForms
 pub mod MembersExist
+pub mod PlainStrings
+pub mod StringLaws
 pub mod NamedLaws
+pub mod Alone

@@ -11,7 +11,7 @@ use Rattle.json_span.proofs.Stretches.{drop_split}
 use Rattle.json_span.proofs.NumberLaws.{first_there, object_there}
 
 -- the first value's text, with what is before and after it
-pub first_text : (bytes : List ℕ) (at : ℕ) (s : Span) → IsFirst bytes at s → drop at bytes ≡ slice_range bytes at s.start ++ (slice_range bytes s.start s.end ++ drop s.end bytes)
+pub first_text : (bytes : List ℕ) (at : ℕ) (s : Span) → IsFirst 127 bytes at s → drop at bytes ≡ slice_range bytes at s.start ++ (slice_range bytes s.start s.end ++ drop s.end bytes)
 first_text bytes at s f = drop_split bytes at s.start f.space.order ∙ ap (λ z. slice_range bytes at s.start ++ z) (drop_split bytes s.start s.end f.value.order)
 
 -- what stands first after a place
@@ -36,14 +36,14 @@ stretch_of : (P : List ℕ → Type 0) (bytes : List ℕ) (at : ℕ) (w rest : L
 stretch_of P bytes at w rest s p = record { order = omega arith; bound = s.bound; text = subst P (sym s.text) p }
 
 -- White space and a value that is no number: the value is the first one, whatever is after it.
-pub first_by_text : (bytes : List ℕ) (at : ℕ) (w x rest : List ℕ) → at ≤ length bytes → drop at bytes ≡ w ++ (x ++ rest) → AreSpaces w → Json 127 x → (IsNumber x → ⊥) → IsFirst bytes at (record { start = at + length w; end = at + length w + length x })
+pub first_by_text : (bytes : List ℕ) (at : ℕ) (w x rest : List ℕ) → at ≤ length bytes → drop at bytes ≡ w ++ (x ++ rest) → AreSpaces w → Json 127 x → (IsNumber x → ⊥) → IsFirst 127 bytes at (record { start = at + length w; end = at + length w + length x })
 first_by_text bytes at w x rest h e a i n =
     let s = stands_first bytes at w (x ++ rest) h e in
     let t = stands_first bytes (at + length w) x rest s.bound s.after in
-    first_there bytes at (at + length w) (at + length w + length x) (stretch_of AreSpaces bytes at w (x ++ rest) s a) (stretch_of (Json 127) bytes (at + length w) x rest t i) (λ k. n (subst IsNumber t.text k))
+    first_there 127 bytes at (at + length w) (at + length w + length x) (stretch_of AreSpaces bytes at w (x ++ rest) s a) (stretch_of (Json 127) bytes (at + length w) x rest t i) (λ k. n (subst IsNumber t.text k))
 
 -- So is an object.
-pub object_by_text : (bytes : List ℕ) (at : ℕ) (w x rest : List ℕ) → at ≤ length bytes → drop at bytes ≡ w ++ (x ++ rest) → AreSpaces w → JsonObject 127 x → IsFirst bytes at (record { start = at + length w; end = at + length w + length x })
+pub object_by_text : (bytes : List ℕ) (at : ℕ) (w x rest : List ℕ) → at ≤ length bytes → drop at bytes ≡ w ++ (x ++ rest) → AreSpaces w → JsonObject 127 x → IsFirst 127 bytes at (record { start = at + length w; end = at + length w + length x })
 object_by_text bytes at w x rest h e a i =
     let s = stands_first bytes at w (x ++ rest) h e in
     let t = stands_first bytes (at + length w) x rest s.bound s.after in

@@ -34,7 +34,7 @@ structure_at c P bytes a b s =
 structure_only : (bytes : List ℕ) (c d : ℕ) (P Q : List ℕ → Type 0) (a b e : ℕ) → is_space c ≡ false → is_space d ≡ false → (s : StructureAt c P bytes a b) (t : StructureAt d Q bytes a e) → s.place ≡ t.place
 structure_only bytes c d P Q a b e f g s t = space_ends bytes a s.place t.place s.before t.before (λ _. subst (λ z. is_space z ≡ false) (sym s.byte) f) t.inside (subst (λ z. is_space z ≡ false) (sym t.byte) g)
 
-separator_only : (bytes : List ℕ) (c a b e : ℕ) → is_space c ≡ false → Stretch (Separator c) bytes a b → Stretch (Separator c) bytes a e → b < length bytes → is_space (get_or bytes b 0) ≡ false → e < length bytes → is_space (get_or bytes e 0) ≡ false → b ≡ e
+pub separator_only : (bytes : List ℕ) (c a b e : ℕ) → is_space c ≡ false → Stretch (Separator c) bytes a b → Stretch (Separator c) bytes a e → b < length bytes → is_space (get_or bytes b 0) ≡ false → e < length bytes → is_space (get_or bytes e 0) ≡ false → b ≡ e
 separator_only bytes c a b e f s t m n p q =
     let x = structure_at c AreSpaces bytes a b s in
     let y = structure_at c AreSpaces bytes a e t in
@@ -46,15 +46,15 @@ name_byte bytes m i =
     let s = string_byte bytes m.name.start m.name.end i.name in
     (omega (arith, s.0, i.name.bound), subst (λ z. is_space z ≡ false) (sym s.1) refl)
 
-value_byte_at : (bytes : List ℕ) (m : Member) → IsMemberAt bytes m → (m.value.start < length bytes) × (is_space (get_or bytes m.value.start 0) ≡ false)
+pub value_byte_at : (bytes : List ℕ) (m : Member) → IsMemberAt bytes m → (m.value.start < length bytes) × (is_space (get_or bytes m.value.start 0) ≡ false)
 value_byte_at bytes m i = (omega (arith, value_some bytes 126 m.value.start m.value.end i.value, i.value.bound), value_byte bytes 126 m.value.start m.value.end i.value)
 
 -- a span that is followed is the only one with its start
 span_only : (bytes : List ℕ) (s t : Span) → Stretch (Json 127) bytes s.start s.end → Stretch (Json 127) bytes t.start t.end → IsFollowed bytes s.end → IsFollowed bytes t.end → s.start ≡ t.start → s ≡ t
 span_only bytes s t a b f g e =
-    let x : IsFirst bytes s.start s = first_followed bytes s.start s.start s.end (no_spaces bytes s.start (omega (arith, a.order, a.bound))) a f in
-    let y : IsFirst bytes s.start t = subst (λ z. IsFirst bytes z t) (sym e) (first_followed bytes t.start t.start t.end (no_spaces bytes t.start (omega (arith, b.order, b.bound))) b g) in
-    first_only bytes s.start s t x y
+    let x : IsFirst 127 bytes s.start s = first_followed 127 bytes s.start s.start s.end (no_spaces bytes s.start (omega (arith, a.order, a.bound))) a f in
+    let y : IsFirst 127 bytes s.start t = subst (λ z. IsFirst 127 bytes z t) (sym e) (first_followed 127 bytes t.start t.start t.end (no_spaces bytes t.start (omega (arith, b.order, b.bound))) b g) in
+    first_only 127 bytes s.start s t x y
 
 member_only : (bytes : List ℕ) (m n : Member) → IsMemberAt bytes m → IsMemberAt bytes n → IsFollowed bytes m.value.end → IsFollowed bytes n.value.end → m.name.start ≡ n.name.start → m ≡ n
 member_only bytes m n i j f g e =

@@ -2,15 +2,16 @@
 use Rattle.std.proofs.Common.{◌≡◌, ℕ, ◌+◌, ◌≤◌, ◌<◌, Bool, true, false, ◌||◌, cond, eqb, List, [], ◌∷◌, ◌++◌, get_or, refl, sym, ap, ◌∙◌, suc, zero, subst, append_assoc, inl, inr, arith, ◌⊎◌, Some, None}
 use Rattle.std.specs.Prelude.{slice_range, ◌==◌}
 use Rattle.json_span.specs.Numbers.{between, IsUnsigned, IsNumber}
+use Rattle.json_span.specs.Strings.{IsString}
 use Rattle.json_span.specs.Json.{AreSpaces, IsScalar, Json, JsonObject}
 use Rattle.json_span.specs.Machine.{Token, Word, Zero, Int, Chars, next, first, State, Value, First, Names, In, Bad, Step, Goes, Fails, begin, step, accepts, Going, Stopped, onward, run}
 use Rattle.json_span.specs.Spans.{Stretch, IsFirst}
 use Rattle.json_span.proofs.TextLaws.{spaced_now}
 use Rattle.json_span.proofs.TokenForth.{forth_minus}
-use Rattle.json_span.proofs.StepForth.{json_some}
+use Rattle.json_span.proofs.StepForth.{json_scalar, json_some}
 use Rattle.json_span.proofs.RunLaws.{run_push}
 use Rattle.json_span.proofs.Fronts.{top, value_run, bad_none, begins_value}
-use Rattle.json_span.proofs.Stretches.{range_split}
+use Rattle.json_span.proofs.Stretches.{range_split, no_spaces}
 use Rattle.json_span.proofs.Values.{range_head}
 use Rattle.json_span.proofs.CalmLaws.{loose, to, calm_run, calm_stops}
 
@@ -127,22 +128,34 @@ values_here d n x y a b i j q = go (compare x y a b q)
         inr (subst IsNumber (sym h.2) (more_number d y h.1 h.0 f k), f)
 
 -- So what is no number and stands at a place is the first value there.
-pub first_there : (bytes : List ℕ) (at start end : ℕ) → Stretch AreSpaces bytes at start → Stretch (Json 127) bytes start end → (IsNumber (slice_range bytes start end) → ⊥) → IsFirst bytes at (record { start = start; end = end })
-first_there bytes at start end w v f = record { space = w; value = v; longest = longest }
+pub first_there : (levels : ℕ) (bytes : List ℕ) (at start end : ℕ) → Stretch AreSpaces bytes at start → Stretch (Json levels) bytes start end → (IsNumber (slice_range bytes start end) → ⊥) → IsFirst levels bytes at (record { start = start; end = end })
+first_there levels bytes at start end w v f = record { space = w; value = v; longest = longest }
   where
     longest : (d e : ℕ) → Stretch (Json d) bytes start e → e ≤ end
     longest d e s =
         let no : end < e → ⊥ = λ h.
         let p : slice_range bytes start e ≡ slice_range bytes start end ++ slice_range bytes end e = range_split bytes start end e v.order (omega (arith, h)) in
         let q : slice_range bytes end e ≡ get_or bytes end 0 ∷ slice_range bytes (end + 1) e = range_head bytes end e h s.bound in
-        f (front_number 127 d (slice_range bytes start end) (slice_range bytes (end + 1) e) (get_or bytes end 0) v.text (subst (Json d) (p ∙ ap (λ z. slice_range bytes start end ++ z) q) s.text)) in
+        f (front_number levels d (slice_range bytes start end) (slice_range bytes (end + 1) e) (get_or bytes end 0) v.text (subst (Json d) (p ∙ ap (λ z. slice_range bytes start end ++ z) q) s.text)) in
         omega (arith, no)
 
 -- and an object is
-pub object_there : (bytes : List ℕ) (at start end : ℕ) → Stretch AreSpaces bytes at start → Stretch (JsonObject 127) bytes start end → IsFirst bytes at (record { start = start; end = end })
+pub object_there : (bytes : List ℕ) (at start end : ℕ) → Stretch AreSpaces bytes at start → Stretch (JsonObject 127) bytes start end → IsFirst 127 bytes at (record { start = start; end = end })
 unfolding opens
 object_there bytes at start end w v =
-    first_there bytes at start end w (record { order = v.order; bound = v.bound; text = inr (inr v.text) }) (λ n.
+    first_there 127 bytes at start end w (record { order = v.order; bound = v.bound; text = inr (inr v.text) }) (λ n.
     let e : slice_range bytes start end ≡ 123 ∷ v.text.0 = v.text.1 in
     let k : opens 123 ≡ true = number_opens 123 v.text.0 (subst IsNumber e n) in
     cc)
+
+-- what begins with a quotation mark is no number
+pub no_quote : (x : List ℕ) → IsNumber (34 ∷ x) → ⊥
+unfolding opens
+no_quote x n = let k : opens 34 ≡ true = number_opens 34 x n in cc
+
+-- and a string is
+pub string_there : (levels : ℕ) (bytes : List ℕ) (start end : ℕ) → Stretch IsString bytes start end → IsFirst levels bytes start (record { start = start; end = end })
+string_there levels bytes start end s =
+    first_there levels bytes start start end (no_spaces bytes start (omega (arith, s.order, s.bound))) (record { order = s.order; bound = s.bound; text = json_scalar levels (slice_range bytes start end) (inl s.text) }) (λ n.
+    let e : slice_range bytes start end ≡ 34 ∷ s.text.0 = s.text.2 in
+    no_quote s.text.0 (subst IsNumber e n))

@@ -29,7 +29,7 @@ object_json zero x i = absurd i
 object_json (suc d) x i = inr (inr i)
 
 -- the first value is an object where its first byte is a brace
-pub first_object : (bytes : List ℕ) (at : ℕ) (s : Span) → IsFirst bytes at s → get_or bytes s.start 0 ≡ 123 → HasObject bytes s
+pub first_object : (bytes : List ℕ) (at : ℕ) (s : Span) → IsFirst 127 bytes at s → get_or bytes s.start 0 ≡ 123 → HasObject bytes s
 first_object bytes at s f b = record {
   order = f.value.order;
   bound = f.value.bound;
@@ -40,7 +40,7 @@ first_object bytes at s f b = record {
 }
 
 -- one object, and nothing but white space round it
-pub object_text : (bytes : List ℕ) (s : Span) (to : ℕ) → IsFirst bytes 0 s → get_or bytes s.start 0 ≡ 123 → Stretch AreSpaces bytes s.end to → to ≡ length bytes → IsObjectText bytes
+pub object_text : (bytes : List ℕ) (s : Span) (to : ℕ) → IsFirst 127 bytes 0 s → get_or bytes s.start 0 ≡ 123 → Stretch AreSpaces bytes s.end to → to ≡ length bytes → IsObjectText bytes
 object_text bytes s to f b w e =
     let c : Stretch (JsonObject 127) bytes s.start s.end = first_object bytes 0 s f b in
     let v : Stretch (Then (JsonObject 127) AreSpaces) bytes s.start (length bytes) = then_back (JsonObject 127) AreSpaces bytes s.start s.end (length bytes) c (subst (Stretch AreSpaces bytes s.end) e w) in
@@ -49,7 +49,7 @@ object_text bytes s to f b w e =
 
 pub record ObjectFirst (bytes : List ℕ) : Type 0 where
   pub span : Span
-  pub first : IsFirst bytes 0 span
+  pub first : IsFirst 127 bytes 0 span
   pub brace : get_or bytes span.start 0 ≡ 123
   pub after : Stretch AreSpaces bytes span.end (length bytes)
 
@@ -60,22 +60,22 @@ object_first bytes t =
     let b = then_at (JsonObject 127) AreSpaces bytes a.0 (length bytes) a.2 in
     record {
       span = record { start = a.0; end = b.0 };
-      first = first_followed bytes 0 a.0 b.0 a.1 (stretch_map (JsonObject 127) (Json 127) bytes a.0 b.0 (object_json 127) b.1) (λ l. Space (space_within bytes b.0 (length bytes) b.0 b.2 (omega arith) l));
+      first = first_followed 127 bytes 0 a.0 b.0 a.1 (stretch_map (JsonObject 127) (Json 127) bytes a.0 b.0 (object_json 127) b.1) (λ l. Space (space_within bytes b.0 (length bytes) b.0 b.2 (omega arith) l));
       brace = (byte_at 123 (λ y. Unit) bytes a.0 b.0 (stretch_map (JsonObject 127) (λ x. (y : List ℕ) × (x ≡ 123 ∷ y) × Unit) bytes a.0 b.0 (λ x i. (i.0, i.1, tt)) b.1)).byte;
       after = b.2;
     }
 
 -- the first value is that object
-pub object_span : (bytes : List ℕ) (s : Span) → IsFirst bytes 0 s → IsObjectText bytes → get_or bytes s.start 0 ≡ 123
+pub object_span : (bytes : List ℕ) (s : Span) → IsFirst 127 bytes 0 s → IsObjectText bytes → get_or bytes s.start 0 ≡ 123
 object_span bytes s f t =
     let o = object_first bytes t in
-    let e : s ≡ o.span = first_only bytes 0 s o.span f o.first in
+    let e : s ≡ o.span = first_only 127 bytes 0 s o.span f o.first in
     subst (λ z. get_or bytes z.start 0 ≡ 123) (sym e) o.brace
 
-pub object_end : (bytes : List ℕ) (s : Span) (to : ℕ) → IsFirst bytes 0 s → IsObjectText bytes → Stretch AreSpaces bytes s.end to → (to < length bytes → is_space (get_or bytes to 0) ≡ false) → to ≡ length bytes
+pub object_end : (bytes : List ℕ) (s : Span) (to : ℕ) → IsFirst 127 bytes 0 s → IsObjectText bytes → Stretch AreSpaces bytes s.end to → (to < length bytes → is_space (get_or bytes to 0) ≡ false) → to ≡ length bytes
 object_end bytes s to f t w g =
     let o = object_first bytes t in
-    let e : s ≡ o.span = first_only bytes 0 s o.span f o.first in
+    let e : s ≡ o.span = first_only 127 bytes 0 s o.span f o.first in
     let b : Stretch AreSpaces bytes s.end (length bytes) = subst (λ z. Stretch AreSpaces bytes z.end (length bytes)) (sym e) o.after in
     let n : to < length bytes → ⊥ = λ l. let p : is_space (get_or bytes to 0) ≡ true = space_within bytes s.end (length bytes) to b w.order l in let q : is_space (get_or bytes to 0) ≡ false = g l in cc in
     omega (arith, n, w.bound)

@@ -26,8 +26,8 @@ value_byte bytes d start end s =
     value_first d (get_or bytes start 0) (slice_range bytes (start + 1) end) (subst (Json d) (range_head bytes start end (value_some bytes d start end s) s.bound) s.text)
 
 -- where the first value's span lies
-pub first_within : (bytes : List ℕ) (at : ℕ) (s : Span) → IsFirst bytes at s → IsWithin at s (length bytes)
-first_within bytes at s f = record { after = f.space.order; some = value_some bytes 127 s.start s.end f.value; bound = f.value.bound }
+pub first_within : (levels : ℕ) (bytes : List ℕ) (at : ℕ) (s : Span) → IsFirst levels bytes at s → IsWithin at s (length bytes)
+first_within levels bytes at s f = record { after = f.space.order; some = value_some bytes levels s.start s.end f.value; bound = f.value.bound }
 
 -- white space that ends where none stands, or where the bytes end, ends where each value after it begins
 pub value_start : (bytes : List ℕ) (at start d from end : ℕ) → Stretch AreSpaces bytes at start → (start < length bytes → is_space (get_or bytes start 0) ≡ false) → Stretch AreSpaces bytes at from → Stretch (Json d) bytes from end → start ≡ from

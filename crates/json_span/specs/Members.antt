@@ -1,9 +1,9 @@
 -- Where the members of an object stand: RFC 8259, section 4.
-use Rattle.std.specs.Prelude.{◌≡◌, ℕ, List, [], ◌∷◌, ◌++◌, slice_range}
+use Rattle.std.specs.Prelude.{◌≡◌, ℕ, List, [], ◌∷◌, ◌++◌, slice_range, Option, Some, None}
 use Rattle.std.specs.List.{All}
 use Rattle.json_span.specs.Strings.{IsString}
 use Rattle.json_span.specs.Json.{AreSpaces, Spaced, Byte, Then, IsEmpty, Json, JsonObject}
-use Rattle.json_span.specs.Spans.{Stretch, IsFirst}
+use Rattle.json_span.specs.Spans.{Stretch}
 use Rattle.json_span.specs.declared.span.Span.{Span}
 use Rattle.json_span.specs.declared.object.Member.{Member}
 
@@ -39,17 +39,25 @@ HasMembers bytes object (m ∷ ms) = Stretch (Byte 123 AreSpaces) bytes object.s
 abbrev pub IsSpelt : List ℕ → List ℕ → Member → Type 0
 IsSpelt bytes name m = slice_range bytes m.name.start m.name.end ≡ name
 
--- The value of the object's first member that is spelt so begins at this place, and is the longest one there.
-pub record HasFirstNamed (bytes : List ℕ) (object : Span) (name : List ℕ) (at : ℕ) : Type 0 where
+-- The first of these members that is spelt so has this value.
+pub record IsFirstSpelt (bytes name : List ℕ) (members : List Member) (value : Span) : Type 0 where
   pub before : List Member
   pub member : Member
   pub after : List Member
-  pub members : HasMembers bytes object (before ++ member ∷ after)
+  pub whole : members ≡ before ++ member ∷ after
   pub first : All (λ m. ¬ IsSpelt bytes name m) before
   pub spelt : IsSpelt bytes name member
-  pub starts : member.value.start ≡ at
-  pub longest : IsFirst bytes at member.value
+  pub is : member.value ≡ value
 
--- none of the object's members is spelt so
-abbrev pub HasNoneNamed : List ℕ → Span → List ℕ → Type 0
-HasNoneNamed bytes object name = (members : List Member) × HasMembers bytes object members × All (λ m. ¬ IsSpelt bytes name m) members
+-- the value of the first of these members that is spelt so, or there is no such member
+abbrev pub FirstSpelt : List ℕ → List ℕ → List Member → Option Span → Type 0
+FirstSpelt bytes name members (Some value) = IsFirstSpelt bytes name members value
+FirstSpelt bytes name members None = All (λ m. ¬ IsSpelt bytes name m) members
+
+-- the same of the object's members
+abbrev pub HasNamed : List ℕ → Span → List ℕ → Option Span → Type 0
+HasNamed bytes object name value = (members : List Member) × HasMembers bytes object members × FirstSpelt bytes name members value
+
+-- after the white space at a place the span is an object of at most 127 levels
+abbrev pub IsObjectAt : List ℕ → ℕ → Span → Type 0
+IsObjectAt bytes at object = Stretch AreSpaces bytes at object.start × HasObject bytes object

@@ -1,5 +1,5 @@
 -- What the code's readings stand for in the machine. No public contract names this.
-use Rattle.std.specs.Prelude.{◌≡◌, ℕ, ◌+◌, ◌^◌, ◌<◌, ◌%◌, ◌/◌, ◌==◌, if◌then◌else◌, ⊤, zero, suc, List, [], ◌∷◌, Option, Some, None}
+use Rattle.std.specs.Prelude.{◌≡◌, ℕ, ◌+◌, ◌^◌, ◌<◌, ◌≤◌, ◌%◌, ◌/◌, ◌==◌, if◌then◌else◌, ⊤, zero, suc, List, [], ◌∷◌, Option, Some, None}
 use Rattle.json_span.specs.Machine as m
 use Rattle.json_span.specs.Machine.{Bracket, State, Step, Goes, Fails}
 use Rattle.json_span.specs.Strings as s
@@ -72,9 +72,9 @@ step_of (t.Go r) = Goes (state_of r)
 step_of t.Bad = Fails m.Bad
 step_of t.Deep = Fails m.Deep
 
--- 127 levels in all, and a bit for each open bracket
+-- at most 127 levels in all, and a bit for each open bracket
 pub record Fits (r : Reading) : Type 0 where
-  pub levels : r.depth + r.left ≡ 127
+  pub levels : r.depth + r.left ≤ 127
   pub bits : r.bits < 2 ^ r.depth
 
 abbrev pub FitsTurn : Turn → Type 0

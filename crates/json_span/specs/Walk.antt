@@ -1,11 +1,13 @@
 -- How far a walk over an object's members has come. No public contract names this.
-use Rattle.std.specs.Prelude.{◌≡◌, ℕ, ◌<◌, ◌⊎◌, List, [], ◌∷◌, length, slice_index}
-use Rattle.json_span.specs.Json.{Byte, Then, IsEmpty, Items, IsMember, Json}
+use Rattle.std.specs.Prelude.{◌≡◌, ◌≢◌, ℕ, ◌<◌, ◌⊎◌, false, List, [], ◌∷◌, length, slice_index, Option, Some, None}
+use Rattle.json_span.specs.Json.{is_space, AreSpaces, Spaced, Byte, Then, IsEmpty, Items, IsMember, Json}
 use Rattle.json_span.specs.Machine.{Follows}
 use Rattle.json_span.specs.Spans.{Stretch}
-use Rattle.json_span.specs.Members.{IsMemberAt, AreFurther}
+use Rattle.json_span.specs.Members.{Separator, IsMemberAt, AreFurther, IsSpelt}
 use Rattle.json_span.specs.declared.span.Span.{Span}
 use Rattle.json_span.specs.declared.object.Member.{Member}
+use Rattle.json_span.specs.declared.named.Next.{Next}
+use Rattle.json_span.specs.declared.named.Next.TheVariants.{Another, End}
 
 -- the bytes end, or a byte that may stand after a value or a name does
 abbrev pub IsFollowed : List ℕ → ℕ → Type 0
@@ -24,12 +26,18 @@ abbrev pub AreAhead : List ℕ → ℕ → List Member → ℕ → Type 0
 AreAhead bytes at [] end = Stretch (Byte 125 IsEmpty) bytes at end
 AreAhead bytes at (m ∷ ms) end = (m.name.start ≡ at) × IsMemberAt bytes m × AreFurther bytes m.value.end ms end
 
--- The member that begins at a place, of those up to the end: its name, and where its value begins.
-pub record IsHead (bytes : List ℕ) (at end : ℕ) (name : Span) (value : ℕ) : Type 0 where
-  pub member : Member
-  pub begins : member.name.start ≡ at
-  pub named : member.name ≡ name
-  pub starts : member.value.start ≡ value
-  pub is : IsMemberAt bytes member
-  pub followed : IsFollowed bytes member.value.end
-  pub rest : Stretch (Items (IsMember (Json 126)) 125) bytes member.value.end end
+-- what comes at a place inside an object's braces: a member, where no white space stands, or nothing more
+abbrev pub ComesFirst : List ℕ → ℕ → Next → Type 0
+ComesFirst bytes from (Another at) = Stretch AreSpaces bytes from at × (at < length bytes → is_space (slice_index bytes at) ≡ false) × (at < length bytes → slice_index bytes at ≢ 125)
+ComesFirst bytes from (End end) = Stretch (Spaced (Byte 125 IsEmpty)) bytes from end
+
+-- and after a member
+abbrev pub ComesAfter : List ℕ → ℕ → Next → Type 0
+ComesAfter bytes from (Another at) = Stretch (Separator 44) bytes from at × (at < length bytes → is_space (slice_index bytes at) ≡ false)
+ComesAfter bytes from (End end) = Stretch (Spaced (Byte 125 IsEmpty)) bytes from end
+
+-- the value of the first member that is spelt so, after one member more
+abbrev pub Chooses : List ℕ → List ℕ → Option Span → Member → Option Span → Type 0
+Chooses bytes name (Some value) m chosen = chosen ≡ Some value
+Chooses bytes name None m (Some value) = IsSpelt bytes name m × (m.value ≡ value)
+Chooses bytes name None m None = ¬ IsSpelt bytes name m

@@ -1,5 +1,5 @@
 //! Kinds of bytes.
-ghost use Rattle.std.specs.Prelude.{◌≡◌, ◌≤◌, ◌<◌, length, slice_index, false};
+ghost use Rattle.std.specs.Prelude.{◌≡◌, ◌≤◌, ◌<◌, ◌↔◌, IsTrue, length, slice_index, false};
 ghost use Rattle.json_span.specs.Numbers.{is_digit};
 ghost use Rattle.json_span.specs.Strings.{is_hex, is_plain};
 ghost use Rattle.json_span.specs.Json.{is_space, AreSpaces};
@@ -53,4 +53,11 @@ pub(crate) fn after_space(bytes: &[u8], at: usize) -> usize
         }
     }
     bytes.len()
+}
+
+/// Whether this byte stands at a place.
+pub(crate) fn stands_at(bytes: &[u8], at: usize, byte: u8) -> bool
+    ensures { IsTrue result ↔ ((at < length bytes.now) × (slice_index bytes.now at ≡ byte)) }
+{
+    at < bytes.len() && bytes[at] == byte
 }

@@ -1,5 +1,5 @@
 //! Where JSON values stand in bytes: the first value after a place, whether some bytes are one
-//! object, and an object's members. JSON is as RFC 8259 has it, in UTF-8 as RFC 3629 has it, of at
+//! object, an object's members, and the value of one of them. JSON is as RFC 8259 has it, in UTF-8 as RFC 3629 has it, of at
 //! most 127 levels of arrays and objects; an escape of a lone surrogate passes. Nothing is decoded and
 //! nothing is copied: what the callers get are spans.
 //!
@@ -10,12 +10,14 @@
 
 mod bytes;
 mod characters;
+mod named;
 mod object;
 mod reading;
 mod scan;
 mod span;
 mod token;
 
-pub use object::{Member, first_named, is_object, members};
+pub use named::{Named, named_value};
+pub use object::{Member, is_object, members};
 pub use scan::first_value;
 pub use span::{JsonFault, Span};

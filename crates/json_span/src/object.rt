@@ -1,9 +1,9 @@
 //! Objects and their members.
-ghost use Rattle.std.specs.Prelude.{◌≡◌, ◌≤◌, ◌<◌, ℕ, List, length, IsTrue, ◌↔◌, IfOk, IfSome, IfNone};
+ghost use Rattle.std.specs.Prelude.{◌≡◌, ◌≤◌, ◌<◌, ℕ, List, length, IsTrue, ◌↔◌, IfOk};
 ghost use Rattle.json_span.specs.Json.{AreSpaces, Items, IsMember, Json};
 ghost use Rattle.json_span.specs.Spans.{Stretch};
-ghost use Rattle.json_span.specs.Members.{HasObject, IsObjectText, IsMemberAt, AreFurther, HasMembers, HasFirstNamed, HasNoneNamed};
-ghost use Rattle.json_span.specs.Walk.{IsFollowed, MembersLeft, IsLeft, AreAhead, IsHead};
+ghost use Rattle.json_span.specs.Members.{HasObject, IsObjectText, IsMemberAt, AreFurther, HasMembers};
+ghost use Rattle.json_span.specs.Walk.{IsFollowed, MembersLeft, IsLeft, AreAhead};
 
 use crate::bytes::after_space;
 use crate::scan::first_value;
@@ -87,36 +87,4 @@ pub fn members(alloc: Global, bytes: &[u8], object: Span) -> Result<Vec<Member>,
         at = after_member(bytes, member.value.end);
     }
     Ok(members)
-}
-
-/// The name of the member at a place where one is known to stand, and where its value begins.
-fn head_at(bytes: &[u8], at: usize) -> (Span, usize)
-    requires { (end : ℕ) × Stretch MembersLeft bytes.now at end }
-    ensures head { (end : ℕ) → Stretch MembersLeft bytes.now at end → IsHead bytes.now at end result.0 result.1 }
-    ensures order { result.0.start ≤ result.0.end }
-    ensures bound { result.0.end ≤ length bytes.now }
-    ensures value { result.1 ≤ length bytes.now }
-{
-    let name = value_at(bytes, at);
-    let colon = after_space(bytes, name.end);
-    let value = after_space(bytes, colon + 1);
-    (name, value)
-}
-
-/// Where the value begins of the first member of the object over the span `object` that is spelt `name`, its quotes
-/// too; escapes aren't read. That value and the members after it aren't looked at. It takes no memory.
-pub fn first_named(bytes: &[u8], object: Span, name: &[u8]) -> Option<usize>
-    requires { HasObject bytes.now object }
-    ensures some { IfSome result (λ at. HasFirstNamed bytes.now object name.now at) }
-    ensures none { IfNone result (HasNoneNamed bytes.now object name.now) }
-{
-    let mut at = after_space(bytes, object.start + 1);
-    while bytes[at] != b'}' {
-        let (named, value) = head_at(bytes, at);
-        if &bytes[named.start..named.end] == name {
-            return Some(value);
-        }
-        at = after_member(bytes, value_at(bytes, value).end);
-    }
-    None
 }

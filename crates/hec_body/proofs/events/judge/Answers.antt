@@ -1,18 +1,12 @@
-use Rattle.std.proofs.Common.{◌≡◌, ◌∷◌, ◌++◌, false, refl, arith}
-use Rattle.std.specs.Prelude.{IsTrue, slice_range}
-use Rattle.hec_body.specs.Events.{IsBlank}
+use Rattle.std.proofs.Common.{ℕ, List, Bor, Option, subst, arith}
+use Rattle.std.specs.Prelude.{IfSome, IsTrue}
+use Rattle.hec_body.specs.Events.{HasEvent, IsBlank}
 use Rattle.hec_body.proofs.events.judge.Goals as goal
 
 pub returns-clause-event : goal.returns-clause-event
 returns-clause-event c =
     let text = c.args.text.now in
-    let h = c.in-Some.ensures.some in
-    let value = slice_range text h.member.value.start h.member.value.end in
-    let other : IsBlank value → ⊥ = λ blank. let is : IsTrue c.is_blank_at.result = (c.is_blank_at.ensures h.member.value h.longest).1 blank in absurd (cc) in (
-      omega arith,
-      (
-        value,
-        (h.before ++ h.member ∷ h.after, h.members, record { before = h.before; event = h.member; after = h.after; whole = refl; first = h.first; named = h.spelt; is = refl }),
-        other,
-      ),
-    )
+    let value = c.in-Some.value.now in
+    let has : HasEvent text value = subst (λ (r : Option (Bor (List ℕ))). IfSome r (λ v. HasEvent text v.now)) c.in-Some.is c.requires.has in
+    let other : IsBlank value → ⊥ = λ blank. let is : IsTrue c.is_blank.result = c.is_blank.ensures.1 blank in absurd (cc) in
+    (omega arith, (value, has, other))

@@ -1,18 +1,24 @@
-use Rattle.std.proofs.Common.{◌≡◌, refl, ◌∙◌, ap, get_or}
-use Rattle.json_span.specs.declared.span.Span.{Span}
-use Rattle.hec_body.proofs.Front.{span_of, begins_first, first_begins, begins_brace}
+use Rattle.std.proofs.Common.{ℕ, List}
+use Rattle.json_span.proofs.NamedLaws.{none_anyhow}
+use Rattle.hec_body.specs.Events.{BeginsObject}
+use Rattle.hec_body.proofs.Front.{span_of, begins_at, object_begins}
+use Rattle.hec_body.proofs.EventOf.{value_inside, part_event, part_none}
 use Rattle.hec_body.proofs.objects.first_object.Goals as goal
-use Rattle.hec_body.proofs.objects.first_object.Goals.{in_default-via-in-Ok+else-bytes-span-eq123, in_default-via-in_default}
 
-pub returns-in-Ok-clause-some : goal.returns-in-Ok-clause-some
-returns-in-Ok-clause-some c = first_begins c.args.bytes.now c.in-Ok.span ((c.in-Ok.ensures.ok c.in-Ok.span).0 refl) c.if-bytes-span-eq123.true
+pub returns-in_err-found-clause-none : goal.returns-in_err-found-clause-none
+returns-in_err-found-clause-none c =
+    let b = c.args.bytes.now in
+    none_anyhow c.from_residual.result ((text rest : List ℕ) → BeginsObject b text rest → ⊥)
+    (λ text rest begins. c.in_err-found.ensures.none (span_of b text rest begins) (begins_at b text rest begins))
 
-pub returns-in_default-clause-none : goal.returns-in_default-clause-none
-returns-in_default-clause-none c = λ text rest b.
-    let first = (c.first_value.ensures.ok (span_of c.args.bytes.now text rest b)).1 (begins_first c.args.bytes.now text rest b) in
-    elim c.in_default.branch [
-      | in_default-via-in-Ok+else-bytes-span-eq123 w ↦
-          let same : w.in-Ok.span ≡ span_of c.args.bytes.now text rest b = cc in
-          w.if-bytes-span-eq123.false (ap (λ (s : Span). get_or c.args.bytes.now s.start 0) same ∙ begins_brace c.args.bytes.now text rest b)
-      | in_default-via-in_default w ↦ w.in_default.not-Ok (span_of c.args.bytes.now text rest b) first
-    ]
+pub part-requires : goal.part-requires
+part-requires c = let f = c.in_ok-found in value_inside c.args.bytes.now f.found.object f.found.value f.ensures.object.1 f.ensures.value
+
+pub returns-clause-object : goal.returns-clause-object
+returns-clause-object c = object_begins c.args.bytes.now c.in_ok-found.found.object c.in_ok-found.ensures.object
+
+pub returns-clause-event : goal.returns-clause-event
+returns-clause-event c = let f = c.in_ok-found in part_event c.args.bytes.now f.found.object f.found.value c.part.result f.ensures.object.1 f.ensures.value c.part.ensures
+
+pub returns-clause-no_event : goal.returns-clause-no_event
+returns-clause-no_event c = let f = c.in_ok-found in part_none c.args.bytes.now f.found.object f.found.value c.part.result f.ensures.object.1 f.ensures.value c.part.ensures
