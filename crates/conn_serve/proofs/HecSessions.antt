@@ -14,6 +14,7 @@ use Rattle.http_edge.specs.Lending.{GivesItem}
 use Rattle.http_edge.specs.Reading.{ReadsTo, come}
 use Rattle.http_edge.specs.Window.{Window, Feeds, Reads, taken_of}
 use Rattle.http_edge.proofs.FeedLaws.{feeds_faulty}
+use Rattle.http_edge.specs.Why.{why_of}
 use Rattle.hec_session.specs.Acts.{count_of}
 use Rattle.hec_session.proofs.EventLaws.{few_events}
 use Rattle.hec_session.specs.declared.act.HecAct.{HecAct}
@@ -30,7 +31,7 @@ use Rattle.conn_serve.specs.declared.hec.asked.Asked.TheVariants.{Leave, Act}
 use Rattle.conn_serve.specs.Done.{Done, Leads, SoFar, Anyway}
 use Rattle.conn_serve.specs.Endings.{MayEnd}
 use Rattle.conn_serve.specs.Handled.{Handled, Served, Closing}
-use Rattle.conn_serve.specs.Hec.{hec, reply, why_of, AreTold, CarriesItem, EndsAtAct, IsCut, IsDone, SaysLast, StopsAtItem, entries_of}
+use Rattle.conn_serve.specs.Hec.{hec, reply, AreTold, CarriesItem, EndsAtAct, IsCut, IsDone, SaysLast, StopsAtItem, entries_of}
 use Rattle.conn_serve.specs.HecServing.{Carries, Halts, HaltsAtItem, IsAsked, ReadsBy}
 use Rattle.hec_session.specs.declared.code.HecCode.TheVariants.{InvalidFormat}
 use Rattle.conn_serve.proofs.Handling.{handled_none, handled_push, carried_unread, carried_too_much, carried_starved, carried_at, carried_over, carried_instead}

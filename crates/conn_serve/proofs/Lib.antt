@@ -20,3 +20,4 @@ mod HecFronts
 mod HecSessions
 pub mod HecAcks
 pub mod Failing
+pub mod Indexing

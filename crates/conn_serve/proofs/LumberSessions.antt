@@ -10,6 +10,7 @@ use Rattle.lumber_frame.specs.declared.fault.LumberFault.{LumberFault}
 use Rattle.lumber_frame.specs.declared.side.Side.TheVariants.{Receiver}
 use Rattle.lumber_frame.specs.Reading.{receiver}
 use Rattle.lumber_frame.specs.Spelling.{IsSpelling, Spells}
+use Rattle.lumber_frame.specs.Why.{why_of}
 use Rattle.lumber_session.specs.Staged.{Staged, staged}
 use Rattle.lumber_session.specs.Acts.{last_seq}
 use Rattle.lumber_session.specs.Counting.{Core}
@@ -21,7 +22,7 @@ use Rattle.desk_access.specs.Protocol.{AreMoves}
 use Rattle.desk_access.specs.Carried.{Carried}
 use Rattle.desk_access.specs.Endings.{IsAtMove}
 use Rattle.desk_access.proofs.Moves.{count_then}
-use Rattle.conn_serve.specs.Lumber.{lumberjack, why_of, entries_of, StoresGroup, EndsAtGroup, StoresLast}
+use Rattle.conn_serve.specs.Lumber.{lumberjack, entries_of, StoresGroup, EndsAtGroup, StoresLast}
 use Rattle.conn_serve.specs.Handled.{Served, Closing, ReadBy}
 use Rattle.conn_serve.specs.Done.{Done, Leads, SoFar, Anyway}
 use Rattle.conn_serve.specs.LumberServing.{Handles, HaltsAtFrame}

@@ -8,6 +8,7 @@ use Rattle.relp_frame.specs.declared.frame.Frame.{Frame}
 use Rattle.relp_frame.specs.declared.fault.RelpFault.{RelpFault}
 use Rattle.relp_frame.specs.Reading as stream
 use Rattle.relp_frame.specs.Spelling.{IsSpelling}
+use Rattle.relp_frame.specs.Why.{why_of}
 use Rattle.relp_session.specs.declared.state.State.{State}
 use Rattle.relp_session.specs.declared.state.State.TheVariants.{Unopened}
 use Rattle.relp_session.specs.Session.{state_after}
@@ -20,7 +21,7 @@ use Rattle.desk_access.specs.Protocol.{AreMoves}
 use Rattle.desk_access.specs.Carried.{Carried}
 use Rattle.desk_access.specs.Endings.{IsAtMove}
 use Rattle.desk_access.proofs.Moves.{count_then}
-use Rattle.conn_serve.specs.Relp.{relp, Carries, CarriesFrame, StopsAtFrame, why_of}
+use Rattle.conn_serve.specs.Relp.{relp, Carries, CarriesFrame, StopsAtFrame}
 use Rattle.conn_serve.specs.Handled.{Served, Closing, ReadBy}
 use Rattle.conn_serve.specs.Done.{Done, Leads, SoFar, Anyway}
 use Rattle.conn_serve.specs.RelpServing.{Handles, HaltsAtFrame}

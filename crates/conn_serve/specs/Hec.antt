@@ -4,15 +4,13 @@ use Rattle.event_form.specs.declared.event.Event.{Event}
 use Rattle.event_form.specs.declared.event.Entry.{Entry}
 use Rattle.event_form.specs.declared.talk.Talk.{Talk}
 use Rattle.event_form.specs.declared.talk.Talk.TheVariants as talk
-use Rattle.event_form.specs.declared.talk.Why.{Why}
-use Rattle.event_form.specs.declared.talk.Why.TheVariants as why
 use Rattle.http_edge.specs.declared.fault.HttpWhy.{HttpWhy}
-use Rattle.http_edge.specs.declared.fault.HttpWhy.TheVariants.{BadHead, BadLength, TooLong, BadChunk}
 use Rattle.http_edge.specs.declared.request.HttpItem.{HttpItem}
 use Rattle.http_edge.specs.declared.request.HttpItem.TheVariants.{Continue, Request}
 use Rattle.http_edge.specs.Fields.{closes}
 use Rattle.http_edge.specs.HttpStream.{AreRequests, IsStream, IsFaulty, BeginsWith, told_of}
 use Rattle.http_edge.specs.Reply.{crlf, reply_text}
+use Rattle.http_edge.specs.Why.{why_of}
 use Rattle.httparse.specs.Grammar.{RequestHead}
 use Rattle.hec_body.specs.Acks.{answer_of}
 use Rattle.hec_ids.specs.declared.fault.IssueFault.{IssueFault}
@@ -171,13 +169,6 @@ pub record AreTold (b : List ℕ) (items : List HttpItem) (at : ℕ) : Type 0 wh
   pub requests : AreRequests b before at rest
   pub items_are : items ≡ before ++ told
   pub going : (told ≡ []) ⊎ ((h : RequestHead) × (text : List ℕ) × BeginsWith rest h text × (told ≡ told_of h))
-
--- the reason, as a connection tells it
-abbrev pub why_of : HttpWhy → Why
-why_of BadHead = why.BadHead
-why_of BadLength = why.BadLength
-why_of TooLong = why.TooLong
-why_of BadChunk = why.BadChunk
 
 -- The collector with these tokens, on the connection of this number. A step is for one item: a request, or the question
 -- of one whether its body may come. No item is held.

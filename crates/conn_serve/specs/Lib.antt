@@ -14,3 +14,4 @@ pub mod Groups
 pub mod Acked
 pub mod HecAcked
 pub mod DiskFaults
+pub mod Numbering

@@ -3,14 +3,11 @@ use Rattle.std.specs.Prelude.{◌≡◌, ℕ, ◌+◌, ◌<◌, ◌^◌, List, [
 use Rattle.event_form.specs.declared.event.Entry.{Entry}
 use Rattle.event_form.specs.declared.talk.Talk.{Talk}
 use Rattle.event_form.specs.declared.talk.Talk.TheVariants.{WriteFault}
-use Rattle.event_form.specs.declared.talk.Why.{Why}
-use Rattle.event_form.specs.declared.talk.Why.TheVariants as why
 use Rattle.lumber_frame.specs.declared.frame.LumberFrame.{LumberFrame}
-use Rattle.lumber_frame.specs.declared.fault.LumberWhy.{LumberWhy}
-use Rattle.lumber_frame.specs.declared.fault.LumberWhy.TheVariants.{Version, Kind, Compressed, AckFromWriter, TooLong, TooMany}
 use Rattle.lumber_frame.specs.declared.side.Side.TheVariants.{Receiver}
 use Rattle.lumber_frame.specs.Reading.{receiver}
 use Rattle.lumber_frame.specs.Spelling.{Spells, ack_text}
+use Rattle.lumber_frame.specs.Why.{why_of}
 use Rattle.lumber_session.specs.Staged.{Staged, staged}
 use Rattle.lumber_session.specs.Acts.{last_seq}
 use Rattle.lumber_session.specs.Batches.{EndsNowhere, IsBatch}
@@ -48,15 +45,6 @@ EndsAtBatch conn index events = EndsAtGroup (entries_of conn index events) (last
 abbrev pub StoresLast : ℕ → ℕ → List Staged → List Call → List ℕ → Type 0
 StoresLast conn index [] calls text = IsNothing calls text
 StoresLast conn index (s ∷ more) calls text = StoresBatch conn index (s ∷ more) calls text
-
--- the reason, as a connection tells it
-abbrev pub why_of : LumberWhy → Why
-why_of Version = why.Version
-why_of Kind = why.Kind
-why_of Compressed = why.Compressed
-why_of AckFromWriter = why.AckFromWriter
-why_of TooLong = why.TooLong
-why_of TooMany = why.TooMany
 
 -- Lumberjack, on the connection of this number. A step is for one batch: its data frames, and the window
 -- frames that stand among them. The frames held are those after the last batch. The index of an entry

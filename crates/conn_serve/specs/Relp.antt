@@ -4,13 +4,10 @@ use Rattle.event_form.specs.declared.event.Event.{Event}
 use Rattle.event_form.specs.declared.event.Entry.{Entry}
 use Rattle.event_form.specs.declared.talk.Talk.{Talk}
 use Rattle.event_form.specs.declared.talk.Talk.TheVariants as talk
-use Rattle.event_form.specs.declared.talk.Why.{Why}
-use Rattle.event_form.specs.declared.talk.Why.TheVariants as why
 use Rattle.relp_frame.specs.declared.frame.Frame.{Frame}
-use Rattle.relp_frame.specs.declared.fault.RelpWhy.{RelpWhy}
-use Rattle.relp_frame.specs.declared.fault.RelpWhy.TheVariants.{Digits, Space, Command, TooLong, Trailer}
 use Rattle.relp_frame.specs.Reading as stream
 use Rattle.relp_frame.specs.Spelling.{IsSpelling}
+use Rattle.relp_frame.specs.Why.{why_of}
 use Rattle.relp_session.specs.declared.act.RelpAct.{RelpAct}
 use Rattle.relp_session.specs.declared.act.RelpAct.TheVariants.{Store, Say, End}
 use Rattle.relp_session.specs.Answer.{IsAnswer, stored, hint}
@@ -91,14 +88,6 @@ CarriesFrame conn state index f calls text = (act : RelpAct) × IsAnswer state f
 -- how the connection ends at a frame
 abbrev pub StopsAtFrame : ℕ → State → ℕ → Frame → List Call → List ℕ → Talk → Type 0
 StopsAtFrame conn state index f late part talk = (act : RelpAct) × IsAnswer state f act × EndsAtAct conn index act late part talk
-
--- the reason, as a connection tells it
-abbrev pub why_of : RelpWhy → Why
-why_of Digits = why.Digits
-why_of Space = why.Space
-why_of Command = why.Command
-why_of TooLong = why.TooLong
-why_of Trailer = why.Trailer
 
 -- RELP, on the connection of this number. A step is for one frame. The frames before it say how far the session is,
 -- and the index of an entry counts those that were taken before. No frame is held, and where the input is over

@@ -2,6 +2,7 @@
 ghost use Rattle.conn_serve.specs.Acked.{AckedIsTaken, AcksAreOfGroups};
 ghost use Rattle.conn_serve.specs.DiskFaults.{DiskFaultIsTold};
 ghost use Rattle.conn_serve.specs.HecAcked.{SaidLiesWhole, AcknowledgedIsTaken, SettledIsStored, ToldIsTaken};
+ghost use Rattle.conn_serve.specs.Numbering.{CallsAreOfConn};
 
 /// Whatever a sender finds acknowledged by whole frames at the front of the text of its connection was taken: the
 /// numbers are those of the first groups that were taken, one each, in order. By RELP a `rsp` frame that says `200 OK`
@@ -32,4 +33,11 @@ pub fn replies_acknowledge_what_was_taken()
 /// and where that reply is cut short, the connection ends with `WriteFault`.
 pub fn disk_fault_is_told()
     ensures { DiskFaultIsTold }
+{}
+
+/// The calls of a connection take entries of its number alone, and its entries that were taken have the indexes 0, 1,
+/// 2 and so on. So has a group that was refused, or that the disk failed to take: it is of the connection, and its indexes
+/// go on from those that were taken before.
+pub fn calls_are_of_conn()
+    ensures { CallsAreOfConn }
 {}

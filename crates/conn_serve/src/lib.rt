@@ -19,7 +19,8 @@ mod session;
 mod talk;
 
 pub use laws::{
-    acked_is_taken, acks_are_of_groups, disk_fault_is_told, replies_acknowledge_what_was_taken,
+    acked_is_taken, acks_are_of_groups, calls_are_of_conn, disk_fault_is_told,
+    replies_acknowledge_what_was_taken,
 };
 pub use rules::Rules;
 pub use serve::attend;

@@ -17,7 +17,8 @@ use Rattle.hec_sender.specs.Requests.{request_of}
 use Rattle.hec_sender.specs.Replies.{Says}
 use Rattle.hec_sender.specs.Sender.{Sender, Keeps, IsDue, IsOut, asked_by}
 use Rattle.hec_sender.specs.Hearing.{Hears}
-use Rattle.hec_sender.specs.Turns.{IsDry, IsFor, ending_of, turn_for, why_of}
+use Rattle.http_edge.specs.Why.{why_of}
+use Rattle.hec_sender.specs.Turns.{IsDry, IsFor, ending_of, turn_for}
 use Rattle.hec_sender.proofs.Judging.{one_verdict}
 
 -- ---- what is due, as a function

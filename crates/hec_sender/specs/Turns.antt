@@ -1,14 +1,12 @@
 -- What a sender does next, and where each turn comes.
 use Rattle.std.specs.Prelude.{◌≡◌, ◌⊎◌, ◌↔◌, ℕ, ◌+◌, ◌-◌, ◌*◌, ◌<◌, nat_lt, if◌then◌else◌, true, Option, List, [], ◌++◌, length, Some, None}
 use Rattle.event_form.specs.declared.event.Entry.{Entry}
-use Rattle.event_form.specs.declared.talk.Why.{Why}
 use Rattle.event_form.specs.declared.talk.Why.TheVariants as why
 use Rattle.event_form.specs.declared.turn.Turn.{Turn}
 use Rattle.event_form.specs.declared.turn.Turn.TheVariants.{Write, Confirmed, Also, Need, Wait, Pause, Done, Refused, PeerClosed, PeerFault, Unconfirmed}
 use Rattle.event_form.specs.Turn.{text_of}
 use Rattle.http_edge.specs.declared.fault.HttpFault.{HttpFault}
-use Rattle.http_edge.specs.declared.fault.HttpWhy.{HttpWhy}
-use Rattle.http_edge.specs.declared.fault.HttpWhy.TheVariants as http
+use Rattle.http_edge.specs.Why.{why_of}
 use Rattle.hec_sender.specs.declared.due.Due.TheVariants as due
 use Rattle.hec_sender.specs.declared.query.Query.{Query}
 use Rattle.hec_sender.specs.declared.stage.Stage.{Stage}
@@ -24,13 +22,6 @@ use Rattle.hec_sender.specs.Progress.{session_text, known_by}
 use Rattle.hec_sender.specs.Sender.{Sender, given, extent, asked_by, Needs, IsDone, Awaits, IsDue}
 use Rattle.hec_sender.specs.Hearing.{Hears}
 use Rattle.hec_sender.specs.Sends.{History, SendsOn}
-
--- the reason of the same name
-abbrev pub why_of : HttpWhy → Why
-why_of http.BadHead = why.BadHead
-why_of http.BadLength = why.BadLength
-why_of http.TooLong = why.TooLong
-why_of http.BadChunk = why.BadChunk
 
 -- how a session ended, as a turn
 abbrev pub ending_of : Stop → Turn

@@ -17,7 +17,6 @@ mod stop;
 mod terms;
 mod text;
 mod verdict;
-mod why;
 
 pub use laws::{one_verdict, requests_fit};
 pub use limits::{MOST_BODY, WINDOW};

@@ -23,8 +23,7 @@ use crate::stop::Stop;
 use crate::terms::Terms;
 use crate::text::query;
 use crate::verdict::{Verdict, judge};
-use crate::why::why_of;
-use event_form::{Entry, FeedFault, Turn};
+use event_form::{Entry, FeedFault, Turn, Why};
 use http_edge::HttpFault;
 use http_reply::ReplyReader;
 use std::alloc::{AllocError, Global};
@@ -305,7 +304,7 @@ impl HecSender {
         match self.fault {
             Some(fault) => Turn::PeerFault {
                 at: fault.at,
-                why: why_of(fault.why),
+                why: Why::from(fault.why),
             },
             None => Turn::Wait,
         }

@@ -7,42 +7,42 @@ use Rattle.hec_session.specs.declared.code.HecCode.TheVariants.{Success, TokenRe
 use Rattle.hec_session.specs.declared.say.HecSay.{HecSay}
 
 -- a code's number, the status of its replies, and its text
-pub record Row : Type 0 where
+pub record Meaning : Type 0 where
   pub number : ℕ
   pub status : ℕ
   pub text : List ℕ
 
-abbrev pub row : ℕ → ℕ → List ℕ → Row
-row number status text = record { number = number; status = status; text = text }
+abbrev pub meaning : ℕ → ℕ → List ℕ → Meaning
+meaning number status text = record { number = number; status = status; text = text }
 
 -- the table of codes; 404 and 405 are this project's own
-abbrev pub row_of : HecCode → Row
-row_of Success = row 0 200 (codes "Success")
-row_of TokenRequired = row 2 401 (codes "Token is required")
-row_of InvalidAuthorization = row 3 401 (codes "Invalid authorization")
-row_of InvalidToken = row 4 403 (codes "Invalid token")
-row_of EmptyBody = row 5 400 (codes "No data")
-row_of InvalidFormat = row 6 400 (codes "Invalid data format")
-row_of ServerError = row 8 500 (codes "Internal server error")
-row_of ServerBusy = row 9 503 (codes "Server is busy")
-row_of ChannelMissing = row 10 400 (codes "Data channel is missing")
-row_of InvalidChannel = row 11 400 (codes "Invalid data channel")
-row_of EventRequired = row 12 400 (codes "Event field is required")
-row_of EventBlank = row 13 400 (codes "Event field cannot be blank")
-row_of AckDisabled = row 14 400 (codes "ACK is disabled")
-row_of QueryAuthorization = row 16 400 (codes "Query string authorization is not enabled")
-row_of Healthy = row 17 200 (codes "HEC is healthy")
-row_of NotFound = row 404 404 (codes "Not found")
-row_of MethodNotAllowed = row 405 405 (codes "Method not allowed")
+abbrev pub meaning_of : HecCode → Meaning
+meaning_of Success = meaning 0 200 (codes "Success")
+meaning_of TokenRequired = meaning 2 401 (codes "Token is required")
+meaning_of InvalidAuthorization = meaning 3 401 (codes "Invalid authorization")
+meaning_of InvalidToken = meaning 4 403 (codes "Invalid token")
+meaning_of EmptyBody = meaning 5 400 (codes "No data")
+meaning_of InvalidFormat = meaning 6 400 (codes "Invalid data format")
+meaning_of ServerError = meaning 8 500 (codes "Internal server error")
+meaning_of ServerBusy = meaning 9 503 (codes "Server is busy")
+meaning_of ChannelMissing = meaning 10 400 (codes "Data channel is missing")
+meaning_of InvalidChannel = meaning 11 400 (codes "Invalid data channel")
+meaning_of EventRequired = meaning 12 400 (codes "Event field is required")
+meaning_of EventBlank = meaning 13 400 (codes "Event field cannot be blank")
+meaning_of AckDisabled = meaning 14 400 (codes "ACK is disabled")
+meaning_of QueryAuthorization = meaning 16 400 (codes "Query string authorization is not enabled")
+meaning_of Healthy = meaning 17 200 (codes "HEC is healthy")
+meaning_of NotFound = meaning 404 404 (codes "Not found")
+meaning_of MethodNotAllowed = meaning 405 405 (codes "Method not allowed")
 
 abbrev pub number_of : HecCode → ℕ
-number_of code = (row_of code).number
+number_of code = (meaning_of code).number
 
 abbrev pub status_of : HecCode → ℕ
-status_of code = (row_of code).status
+status_of code = (meaning_of code).status
 
 abbrev pub text_of : HecCode → List ℕ
-text_of code = (row_of code).text
+text_of code = (meaning_of code).text
 
 -- a reply with this code, and with the number of an event at fault
 abbrev pub say_of : HecCode → Option ℕ → HecSay

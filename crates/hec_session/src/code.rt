@@ -43,21 +43,21 @@ pub enum HecCode {
     MethodNotAllowed,
 }
 
-/// What the table has for a code.
+/// What the table says of a code.
 #[derive(Clone, Copy)]
-struct Row {
+struct Meaning {
     number: u16,
     status: u16,
     text: &'static [u8],
 }
 
-// A row of the table.
-fn made(number: u16, status: u16, text: &'static [u8]) -> Row
+// An entry of the table.
+fn made(number: u16, status: u16, text: &'static [u8]) -> Meaning
     ensures number { result.number ≡ number }
     ensures status { result.status ≡ status }
     ensures text { result.text.now ≡ text.now }
 {
-    Row {
+    Meaning {
         number,
         status,
         text,
@@ -87,7 +87,7 @@ const CODES: [HecCode; 17] = [
 
 impl HecCode {
     // The table.
-    fn of_table(self) -> Row
+    fn of_table(self) -> Meaning
         ensures number { result.number ≡ number_of self }
         ensures status { result.status ≡ status_of self }
         ensures text { result.text.now ≡ text_of self }

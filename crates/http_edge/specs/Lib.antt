@@ -1,4 +1,5 @@
 pub mod Fields
+pub mod Why
 pub mod Reply
 pub mod Heads
 pub mod Lengths

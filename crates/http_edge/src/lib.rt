@@ -38,6 +38,7 @@ mod step;
 mod taking;
 mod text;
 mod waiting;
+mod why;
 mod window;
 
 pub use copy::{copy_fields, front, join};

@@ -4,7 +4,7 @@ ghost use Rattle.event_form.specs.declared.feed_fault.FeedFault.TheVariants as f
 ghost use Rattle.http_edge.specs.Reading.{come};
 ghost use Rattle.http_edge.specs.Window.{Reads, clear};
 ghost use Rattle.desk_access.specs.Carried.{Carried};
-ghost use Rattle.conn_serve.specs.Hec.{hec, why_of};
+ghost use Rattle.conn_serve.specs.Hec.{hec};
 ghost use Rattle.conn_serve.specs.Handled.{Handled, Served, Closing};
 ghost use Rattle.conn_serve.specs.HecServing.{GivesAsked, IsIdle, IsSoundAsked, ReadsBy};
 
@@ -18,7 +18,7 @@ use desk_access::Access;
 use edge_io::Link;
 use event_form::{FeedFault, Talk, Why};
 use hec_session::HecCore;
-use http_edge::{HttpFault, HttpWhy, HttpWindow, ItemRef};
+use http_edge::{HttpFault, HttpWindow, ItemRef};
 use std::alloc::{AllocError, Global};
 
 /// The window over the bytes, the receiver with its tokens, the buffer of replies, and why the window took no more
@@ -29,18 +29,6 @@ pub struct HecSession {
     core: HecCore,
     text: Vec<u8>,
     met: Option<FeedFault<HttpFault>>,
-}
-
-// The reason, as a connection tells it.
-fn why_of(why: HttpWhy) -> Why
-    ensures { result ≡ why_of why }
-{
-    match why {
-        HttpWhy::BadHead => Why::BadHead,
-        HttpWhy::BadLength => Why::BadLength,
-        HttpWhy::TooLong => Why::TooLong,
-        HttpWhy::BadChunk => Why::BadChunk,
-    }
 }
 
 // Whether no memory was found for bytes.
@@ -142,7 +130,7 @@ impl Session for HecSession {
             None => None,
             Some(FeedFault::Fault(fault)) => Some(Talk::Fault {
                 at: fault.at,
-                why: why_of(fault.why),
+                why: Why::from(fault.why),
             }),
             Some(FeedFault::NoMemory) => None,
         }

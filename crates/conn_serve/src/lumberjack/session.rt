@@ -10,7 +10,7 @@ ghost use Rattle.lumber_session.specs.Counting.{IsBehind, unused};
 ghost use Rattle.stream_grammar.specs.Reading.{clear, Reads};
 ghost use Rattle.desk_access.specs.Carried.{Carried};
 ghost use Rattle.desk_access.specs.Endings.{IsAtMove};
-ghost use Rattle.conn_serve.specs.Lumber.{lumberjack, why_of};
+ghost use Rattle.conn_serve.specs.Lumber.{lumberjack};
 ghost use Rattle.conn_serve.specs.Done.{Anyway, Done, Leads, SoFar};
 ghost use Rattle.conn_serve.specs.Endings.{CountsFaults};
 ghost use Rattle.conn_serve.specs.Tokens.{no_tokens};
@@ -24,7 +24,7 @@ use crate::session::Session;
 use desk_access::Access;
 use edge_io::Link;
 use event_form::{Talk, Why};
-use lumber_frame::{LumberFault, LumberWhy, LumberWindow};
+use lumber_frame::{LumberFault, LumberWindow};
 use lumber_session::LumberCore;
 use std::alloc::{AllocError, Global};
 
@@ -35,20 +35,6 @@ pub struct LumberSession {
     core: LumberCore,
     staged: Staged,
     fault: Option<LumberFault>,
-}
-
-// The reason, as a connection tells it.
-fn why_of(why: LumberWhy) -> Why
-    ensures { result ≡ why_of why }
-{
-    match why {
-        LumberWhy::Version => Why::Version,
-        LumberWhy::Kind => Why::Kind,
-        LumberWhy::Compressed => Why::Compressed,
-        LumberWhy::AckFromWriter => Why::AckFromWriter,
-        LumberWhy::TooLong => Why::TooLong,
-        LumberWhy::TooMany => Why::TooMany,
-    }
 }
 
 // Serves the next whole frame, and says whether one waited. The error is the ending of the connection at
@@ -156,7 +142,7 @@ impl Session for LumberSession {
         let fault = self.fault?;
         Some(Talk::Fault {
             at: fault.at,
-            why: why_of(fault.why),
+            why: Why::from(fault.why),
         })
     }
 

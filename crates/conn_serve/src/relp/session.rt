@@ -8,7 +8,7 @@ ghost use Rattle.relp_session.specs.declared.state.State.TheVariants.{Unopened};
 ghost use Rattle.stream_grammar.specs.Reading.{clear, Reads};
 ghost use Rattle.desk_access.specs.Carried.{Carried};
 ghost use Rattle.desk_access.specs.Endings.{IsAtMove};
-ghost use Rattle.conn_serve.specs.Relp.{relp, why_of};
+ghost use Rattle.conn_serve.specs.Relp.{relp};
 ghost use Rattle.conn_serve.specs.Done.{Anyway, Done, Leads};
 ghost use Rattle.conn_serve.specs.Endings.{CountsFaults};
 ghost use Rattle.conn_serve.specs.Tokens.{no_tokens};
@@ -22,7 +22,7 @@ use crate::session::Session;
 use desk_access::Access;
 use edge_io::Link;
 use event_form::{Talk, Why};
-use relp_frame::{RelpFault, RelpWhy, RelpWindow};
+use relp_frame::{RelpFault, RelpWindow};
 use relp_session::RelpCore;
 use std::alloc::{AllocError, Global};
 
@@ -34,19 +34,6 @@ pub struct RelpSession {
     core: RelpCore,
     texts: Texts,
     fault: Option<RelpFault>,
-}
-
-// The reason, as a connection tells it.
-fn why_of(why: RelpWhy) -> Why
-    ensures { result ≡ why_of why }
-{
-    match why {
-        RelpWhy::Digits => Why::Digits,
-        RelpWhy::Space => Why::Space,
-        RelpWhy::Command => Why::Command,
-        RelpWhy::TooLong => Why::TooLong,
-        RelpWhy::Trailer => Why::Trailer,
-    }
 }
 
 // Serves the next whole frame, and says whether one waited. The error is the ending of the connection at
@@ -151,7 +138,7 @@ impl Session for RelpSession {
         let fault = self.fault?;
         Some(Talk::Fault {
             at: fault.at,
-            why: why_of(fault.why),
+            why: Why::from(fault.why),
         })
     }
 

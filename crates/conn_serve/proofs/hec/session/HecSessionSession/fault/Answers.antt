@@ -12,4 +12,4 @@ pub returns-in-Some-Fault-clause-faulty : goal.returns-in-Some-Fault-clause-faul
 returns-in-Some-Fault-clause-faulty c = λ number left fed calls text s.
     let now = c.args.self.now in
     let is : now.met ≡ Some (Fault c.in-Some-Fault.fault) = search rules in
-    rw c.why_of.ensures (closing_faulty now.core number now.window now.met left fed calls text s c.in-Some-Fault.fault c.requires.none is)
+    rw c.from.ensures (closing_faulty now.core number now.window now.met left fed calls text s c.in-Some-Fault.fault c.requires.none is)

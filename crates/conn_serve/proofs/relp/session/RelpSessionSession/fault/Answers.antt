@@ -11,4 +11,4 @@ returns-in_err-fault-clause-may_end c =
 pub returns-clause-faulty : goal.returns-clause-faulty
 returns-clause-faulty c = λ number left fed calls text s.
     let now = c.args.self.now in
-    rw c.why_of.ensures (windowed.closing_faulty (kind number now.core) now.window now.fault left fed calls text s c.in_ok-fault.fault c.requires.none c.in_ok-fault.was)
+    rw c.from.ensures (windowed.closing_faulty (kind number now.core) now.window now.fault left fed calls text s c.in_ok-fault.fault c.requires.none c.in_ok-fault.was)
