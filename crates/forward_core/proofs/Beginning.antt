@@ -49,6 +49,7 @@ forwards_nothing settings proto given left written ran start until none = record
     told = 0;
     also = [];
     session = tt;
+    low = tt;
     ordered = tt;
     refused = inr tt;
     ends = λ more are. nothing_as settings proto (entries_of more);

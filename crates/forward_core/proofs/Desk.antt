@@ -7,19 +7,20 @@ use Rattle.known_numbers.specs.declared.stretch.Stretch.{Stretch}
 use Rattle.spool_log.specs.Outcome.{AreNumbered}
 use Rattle.spool_log.specs.declared.reading.numbered.Numbered.{Numbered}
 use Rattle.desk_access.specs.Call.{Call, pends, marks}
-use Rattle.forward_core.specs.Calls.{AreGranted, AreOfSession, IsMarked, MarksFirst, asked_from, next_after, next_of, numbers_of, read_of, within}
+use Rattle.forward_core.specs.Calls.{AreGranted, AreOfSession, IsMarked, MarksBelowNext, MarksFirst, asked_from, next_after, next_of, numbers_of, read_of, within}
 use Rattle.forward_core.specs.Course.{below, alone, SameTold, TellsFirst, TellsOne}
 use Rattle.forward_core.specs.Reading.{Added}
 use Rattle.forward_core.specs.Session.{IsToMark, OnDesk}
 use Rattle.forward_core.specs.declared.course.Course.{Course}
 use Rattle.forward_core.proofs.Batches.{reading_leads}
-use Rattle.forward_core.proofs.CallLists.{first_true, granted_then, marked_cases, marked_left, next_then, read_then, session_then}
-use Rattle.forward_core.proofs.Marks.{to_mark_first, to_mark_marked, to_mark_more, to_mark_one}
+use Rattle.forward_core.proofs.CallLists.{first_true, granted_then, low_then, marked_cases, marked_left, next_then, read_then, session_then}
+use Rattle.forward_core.proofs.Marks.{to_mark_first, to_mark_low, to_mark_marked, to_mark_more, to_mark_one}
 use Rattle.forward_core.proofs.Numbered.{numbered_then}
 
 -- the same over the parts of a course
 pub record Desk (marked : Bool) (start next end given told : ℕ) (numbers : List ℕ) (stretches : List Stretch) (also : List ℕ) (calls : List Call) : Type 0 where
   pub session : AreOfSession end start calls
+  pub low : MarksBelowNext end start calls
   pub ordered : (more : List Call) → MarksFirst marked more → MarksFirst false (calls ++ more)
   pub granted : AreGranted calls
   pub next_is : next ≡ next_of end start calls
@@ -31,10 +32,10 @@ pub record Desk (marked : Bool) (start next end given told : ℕ) (numbers : Lis
   pub to_mark : IsToMark (read_of end calls) told also stretches calls
 
 pub desk_of : (marked : Bool) (start : ℕ) (c : Course) (also : List ℕ) (calls : List Call) → OnDesk marked start c also calls → Desk marked start c.next c.end c.given c.told c.numbers.items c.marks.items also calls
-desk_of marked start c also calls d = record { session = d.session; ordered = d.ordered; granted = d.granted; next_is = d.next; begun = d.begun; rising = d.rising; count = d.count; numbers_are = d.numbers; places = d.places; to_mark = d.marks }
+desk_of marked start c also calls d = record { session = d.session; low = d.low; ordered = d.ordered; granted = d.granted; next_is = d.next; begun = d.begun; rising = d.rising; count = d.count; numbers_are = d.numbers; places = d.places; to_mark = d.marks }
 
 on_desk : (marked : Bool) (start : ℕ) (c : Course) (also : List ℕ) (calls : List Call) → Desk marked start c.next c.end c.given c.told c.numbers.items c.marks.items also calls → OnDesk marked start c also calls
-on_desk marked start c also calls d = record { session = d.session; ordered = d.ordered; granted = d.granted; next = d.next_is; begun = d.begun; rising = d.rising; count = d.count; numbers = d.numbers_are; places = d.places; marks = d.to_mark }
+on_desk marked start c also calls d = record { session = d.session; low = d.low; ordered = d.ordered; granted = d.granted; next = d.next_is; begun = d.begun; rising = d.rising; count = d.count; numbers = d.numbers_are; places = d.places; marks = d.to_mark }
 
 -- a course with these parts
 pub desk_at : (marked : Bool) (start next end given told : ℕ) (numbers : List ℕ) (stretches : List Stretch) (also : List ℕ) (calls : List Call) (c : Course) → c.next ≡ next → c.end ≡ end → c.given ≡ given → c.told ≡ told → c.numbers.items ≡ numbers → c.marks.items ≡ stretches
@@ -73,6 +74,7 @@ desk_marked marked start next end given told numbers stretches also calls d =
     let same = sym (read_marked end calls stretches) in
     record {
       session = session_then end start calls (call ∷ []) d.granted d.session tt;
+      low = low_then end start calls (call ∷ []) d.low (subst (λ (n : ℕ). MarksBelowNext end n (call ∷ [])) d.next_is (to_mark_low start next (read_of end calls) told also stretches calls d.rising d.to_mark, tt));
       ordered = λ more m. subst (λ (l : List Call). MarksFirst false l) (sym (append_assoc calls (call ∷ []) more)) (d.ordered (call ∷ more) m);
       granted = granted_then calls (call ∷ []) d.granted tt;
       next_is = d.next_is ∙ sym (next_marked end start calls stretches);
@@ -96,7 +98,7 @@ pub unmarked_on : (start : ℕ) (old new : Course) (also : List ℕ) (calls : Li
 unmarked_on start old new also calls n e g t ns ms d =
     let f = desk_of true start old also calls d in
     desk_at false start old.next old.end old.given old.told old.numbers.items old.marks.items also calls new n e g t ns ms
-    (record { session = f.session; ordered = λ more m. f.ordered more (first_true more m); granted = f.granted; next_is = f.next_is; begun = f.begun; rising = f.rising; count = f.count; numbers_are = f.numbers_are; places = f.places; to_mark = f.to_mark })
+    (record { session = f.session; low = f.low; ordered = λ more m. f.ordered more (first_true more m); granted = f.granted; next_is = f.next_is; begun = f.begun; rising = f.rising; count = f.count; numbers_are = f.numbers_are; places = f.places; to_mark = f.to_mark })
 
 -- ---- told
 
@@ -106,6 +108,7 @@ desk_first marked start next end given told now numbers stretches also calls les
     let sum : told + (now - told) ≡ now = omega arith in
     record {
       session = d.session;
+      low = d.low;
       ordered = d.ordered;
       granted = d.granted;
       next_is = d.next_is;
@@ -127,6 +130,7 @@ desk_one : (marked : Bool) (start next end given told place : ℕ) (numbers : Li
     → Desk marked start next end given told numbers (stretches ++ alone (slice_index numbers (place - told)) ∷ []) (also ++ place ∷ []) calls
 desk_one marked start next end given told place numbers stretches also calls after less d = record {
   session = d.session;
+  low = d.low;
   ordered = d.ordered;
   granted = d.granted;
   next_is = d.next_is;
@@ -162,6 +166,7 @@ desk_read start next end given told numbers stretches also calls listed more few
     let leads = reading_leads next end listed more are count in
     record {
       session = session_then end start calls (call ∷ []) d.granted d.session (d.next_is, subst (λ (n : ℕ). n < end) d.next_is more, ap (λ (n : ℕ). asked_from end n) d.next_is, tt);
+      low = low_then end start calls (call ∷ []) d.low tt;
       ordered = λ others m. subst (λ (l : List Call). MarksFirst false l) (sym (append_assoc calls (call ∷ []) others)) (d.ordered (call ∷ others) (refl, m));
       granted = granted_then calls (call ∷ []) d.granted tt;
       next_is = sym (next_more start next end (asked_from end next) calls listed d.next_is);

@@ -1,6 +1,6 @@
 -- A session ends.
 use Rattle.std.proofs.Common.{◌≡◌, ◌≢◌, ℕ, ◌+◌, ◌*◌, ◌<◌, ◌≤◌, ◌^◌, Bool, true, false, List, [], ◌∷◌, ◌++◌, length, take, refl, ap, ◌∙◌, sym, subst, inl, inr, arith, append_assoc, length-append}
-use Rattle.std.specs.Prelude.{◌⊎◌, Contains, Option, Ok, Err}
+use Rattle.std.specs.Prelude.{◌⊎◌, Contains, Option, Result, Ok, Err}
 use Rattle.std.specs.Io.KnownBytes.{IsAtEnd}
 use Rattle.std.proofs.lemmas.List.{append-nil, length-map, map-append, take-append-le}
 use Rattle.known_numbers.specs.declared.stretch.Stretch.{Stretch}
@@ -12,8 +12,8 @@ use Rattle.spool_log.specs.declared.fault.ConfirmFault.TheVariants as Confirm
 use Rattle.spool_log.specs.Outcome.{AreNumbered}
 use Rattle.spool_log.specs.declared.reading.numbered.Numbered.{Numbered}
 use Rattle.desk_access.specs.Call.{Call, pends, marks}
-use Rattle.forward_core.specs.Calls.{AreGranted, AreOfSession, IsMarked, MarksFirst, asked_from, entries_of, next_after, next_of, number_at, read_of, within}
-use Rattle.forward_core.specs.Marking.{EndsSo, MarksOnlyTold, MarksTold}
+use Rattle.forward_core.specs.Calls.{AreGranted, AreOfSession, IsMarked, MarksBelowNext, MarksFirst, after_last, asked_from, entries_of, next_after, next_of, number_at, read_of, within}
+use Rattle.forward_core.specs.Marking.{EndsSo, IsOfOne, MarksOnlyTold, MarksTold}
 use Rattle.forward_core.specs.Marking as marking
 use Rattle.forward_core.specs.Reading as reading
 use Rattle.forward_core.specs.Session.{Agrees, Ended, EndsBy, EndsRefused, IsToMark, MarksBy, OnDesk, Stands}
@@ -22,9 +22,9 @@ use Rattle.forward_core.specs.declared.course.Course.{Course}
 use Rattle.forward_core.specs.declared.sent.Sent.{Sent}
 use Rattle.forward_core.specs.declared.sent.Sent.TheVariants as Ending
 use Rattle.forward_core.proofs.Batches.{Leads, reading_leads}
-use Rattle.forward_core.proofs.CallLists.{granted_then, marked_cases, next_then, read_then, session_then}
+use Rattle.forward_core.proofs.CallLists.{granted_then, low_then, marked_cases, next_then, read_then, session_then}
 use Rattle.forward_core.proofs.Desk.{next_marked, next_more, read_marked, read_more}
-use Rattle.forward_core.proofs.Marks.{marks_only, marks_told, to_mark_more}
+use Rattle.forward_core.proofs.Marks.{marks_only, marks_told, only_marked, to_mark_low, to_mark_more}
 use Rattle.forward_core.proofs.Numbered.{numbered_then}
 
 abbrev pub Table : Type 1
@@ -97,6 +97,7 @@ may_follow F given next end (x ∷ more) over whole are = record { none = λ f. 
 -- What is known where a session ends, of calls that read these entries, the last of which begin where the others end.
 record Close (start end next : ℕ) (calls : List Call) (read : List Numbered) : Type 0 where
   session : AreOfSession end start calls
+  low : MarksBelowNext end start calls
   ordered : MarksFirst false calls
   reads : read_of end calls ≡ read
   next_is : next_of end start calls ≡ next
@@ -108,6 +109,7 @@ ended_of Ends Hints left start end next told sent bytes text also calls read clo
   told = told;
   also = also;
   session = close.session;
+  low = close.low;
   ordered = close.ordered;
   refused = refused;
   ends = λ more are. subst (λ (l : List Numbered). Ends (entries_of (l ++ more)) bytes text told also sent) (sym close.reads) (ends more (subst (λ (n : ℕ). AreNumbered n end more) close.next_is are));
@@ -127,6 +129,11 @@ module _ (Ends : Table) (Hints : List ℕ → Type 0) (left : Option (List ℕ))
   to_mark_all : (more : List Numbered) → IsToMark (read_of c.end calls ++ more) c.told s.also c.marks.items calls
   to_mark_all more = to_mark_more (read_of c.end calls) more c.told s.also c.marks.items calls told_few (λ p q. omega (arith, s.desk.places p q, s.desk.count)) s.desk.marks
 
+  low_marks : (answer : Result Unit ConfirmFault) → MarksBelowNext c.end start (calls ++ marks c.marks.items answer ∷ [])
+  low_marks answer =
+      low_then c.end start calls (marks c.marks.items answer ∷ []) s.desk.low
+      (subst (λ (n : ℕ). MarksBelowNext c.end n (marks c.marks.items answer ∷ [])) s.desk.next (to_mark_low start c.next (read_of c.end calls) c.told s.also c.marks.items calls s.desk.rising s.desk.marks, tt))
+
   tabled : (sent : Sent) → ((more : List Entry) → MayFollow F given more → Ends (entries_of (read_of c.end calls) ++ more) bytes' text' told s.also sent) → (more : List Numbered) → AreNumbered c.next c.end more → Ends (entries_of (read_of c.end calls ++ more)) bytes' text' told s.also sent
   tabled sent table more are =
       subst (λ (l : List Entry). Ends l bytes' text' told s.also sent) (sym (map-append (λ (one : Numbered). one.entry) (read_of c.end calls) more)) (table (entries_of more) (may_follow F given c.next c.end more over whole are))
@@ -139,6 +146,7 @@ module _ (Ends : Table) (Hints : List ℕ → Type 0) (left : Option (List ℕ))
       ended_of Ends Hints left start c.end c.next told sent bytes' text' s.also (calls ++ call ∷ []) (read_of c.end calls)
       (record {
         session = session_then c.end start calls (call ∷ []) s.desk.granted s.desk.session tt;
+        low = low_marks (Ok tt);
         ordered = s.desk.ordered (call ∷ []) tt;
         reads = read_marked c.end calls c.marks.items;
         next_is = next_marked c.end start calls c.marks.items ∙ sym s.desk.next;
@@ -150,16 +158,21 @@ module _ (Ends : Table) (Hints : List ℕ → Type 0) (left : Option (List ℕ))
       (marks_by sent (calls ++ call ∷ []) (read_of c.end calls ++ more) c.told s.also (marks_told start all.0 (read_of c.end calls ++ more) c.told s.also c.marks.items calls all.1 (to_mark_all more)))))
       closed
 
-  -- the session halts after calls that mark no more, which were granted but for the last, or are none
-  ended_halt : (sent : Sent) (last : List Call) → IsHalt sent → Close start c.end c.next (calls ++ last) (read_of c.end calls) → EndsBy sent (calls ++ last) → ((n : ℕ) → IsMarked last n → ⊥)
+  -- the session halts after calls that mark no more than what was told, which were granted but for the last, or are none
+  ended_halt : (sent : Sent) (last : List Call) → IsHalt sent → Close start c.end c.next (calls ++ last) (read_of c.end calls) → EndsBy sent (calls ++ last)
+      → ((more : List Numbered) (n : ℕ) → IsMarked (calls ++ last) n → (n < after_last 0 (take c.told (read_of c.end calls ++ more))) ⊎ IsOfOne (read_of c.end calls ++ more) s.also n)
       → ((more : List Entry) → MayFollow F given more → Ends (entries_of (read_of c.end calls) ++ more) bytes' text' told s.also sent) → Ended Ends Hints left c.end sent start bytes' (calls ++ last) text'
-  ended_halt sent last halt close refused none table =
+  ended_halt sent last halt close refused only table =
       ended_of Ends Hints left start c.end c.next told sent bytes' text' s.also (calls ++ last) (read_of c.end calls) close refused (tabled sent table)
       (λ more are. (let all = all_rise start c.next c.end (read_of c.end calls) more s.desk.begun s.desk.rising are in
       subst (λ (n : ℕ). MarksBy sent (calls ++ last) (read_of c.end calls ++ more) n s.also) (sym told_is)
       (marks_halt sent (calls ++ last) (read_of c.end calls ++ more) c.told s.also halt
-      (marks_only start all.0 (read_of c.end calls ++ more) c.told s.also (calls ++ last) all.1 (λ n m. elim (marked_cases calls last n m) [ inl a ↦ (to_mark_all more).only n a | inr b ↦ absurd (none n b) ])))))
+      (marks_only start all.0 (read_of c.end calls ++ more) c.told s.also (calls ++ last) all.1 (only more)))))
       (λ is. halt_open sent (IsAtEnd left ⊎ Hints bytes') halt is)
+
+  -- calls that mark nothing mark no more
+  no_more : (last : List Call) → ((n : ℕ) → IsMarked last n → ⊥) → (more : List Numbered) (n : ℕ) → IsMarked (calls ++ last) n → (n < after_last 0 (take c.told (read_of c.end calls ++ more))) ⊎ IsOfOne (read_of c.end calls ++ more) s.also n
+  no_more last none more n m = elim (marked_cases calls last n m) [ inl a ↦ (to_mark_all more).only n a | inr b ↦ absurd (none n b) ]
 
   -- a mark was refused
   pub ended_unmarked : (fault : ConfirmFault) → ((more : List Entry) → MayFollow F given more → Ends (entries_of (read_of c.end calls) ++ more) bytes' text' told s.also (marking.sent_by fault))
@@ -169,11 +182,13 @@ module _ (Ends : Table) (Hints : List ℕ → Type 0) (left : Option (List ℕ))
       ended_halt (marking.sent_by fault) (call ∷ []) (halts_mark fault)
       (record {
         session = session_then c.end start calls (call ∷ []) s.desk.granted s.desk.session refl;
+        low = low_marks (Err fault);
         ordered = s.desk.ordered (call ∷ []) tt;
         reads = read_then c.end calls (call ∷ []) ∙ append-nil (read_of c.end calls);
         next_is = next_then c.end start calls (call ∷ []) ∙ sym s.desk.next;
       })
-      (mark_refused calls c.marks.items fault) (λ n m. m) table
+      (mark_refused calls c.marks.items fault)
+      (λ more. only_marked (read_of c.end calls ++ more) c.told s.also c.marks.items calls (Err fault) (to_mark_all more)) table
 
   -- no memory was found
   pub ended_starved : ((more : List Entry) → MayFollow F given more → Ends (entries_of (read_of c.end calls) ++ more) bytes' text' told s.also Ending.NoMemory) → Ended Ends Hints left c.end Ending.NoMemory start bytes' calls text'
@@ -182,11 +197,12 @@ module _ (Ends : Table) (Hints : List ℕ → Type 0) (left : Option (List ℕ))
       (ended_halt Ending.NoMemory [] tt
       (record {
         session = subst (λ (l : List Call). AreOfSession c.end start l) (sym (append-nil calls)) s.desk.session;
+        low = subst (λ (l : List Call). MarksBelowNext c.end start l) (sym (append-nil calls)) s.desk.low;
         ordered = s.desk.ordered [] tt;
         reads = ap (λ (l : List Call). read_of c.end l) (append-nil calls);
         next_is = ap (λ (l : List Call). next_of c.end start l) (append-nil calls) ∙ sym s.desk.next;
       })
-      (inr (subst AreGranted (sym (append-nil calls)) s.desk.granted)) (λ n m. m) table)
+      (inr (subst AreGranted (sym (append-nil calls)) s.desk.granted)) (no_more [] (λ n m. m)) table)
 
   -- a mark was answered Ok, or refused, which is the ending in place of the one that it was to be
   pub ended_so : (sent result : Sent) (call : Call) → (IsHalt sent → ⊥) → EndsSo c.marks.items sent call result
@@ -207,11 +223,12 @@ module _ (Ends : Table) (Hints : List ℕ → Type 0) (left : Option (List ℕ))
       ended_halt (reading.sent_by fault) (call ∷ []) (halts_read fault)
       (record {
         session = session_then c.end start calls (call ∷ []) s.desk.granted s.desk.session (s.desk.next, subst (λ (n : ℕ). n < c.end) s.desk.next more_to_read, ap (λ (n : ℕ). asked_from c.end n) s.desk.next, refl);
+        low = low_then c.end start calls (call ∷ []) s.desk.low tt;
         ordered = s.desk.ordered (call ∷ []) (first, tt);
         reads = read_then c.end calls (call ∷ []) ∙ append-nil (read_of c.end calls);
         next_is = next_then c.end start calls (call ∷ []) ∙ sym s.desk.next;
       })
-      (read_refused calls c.next (asked_from c.end c.next) fault) (λ n m. m) table
+      (read_refused calls c.next (asked_from c.end c.next) fault) (no_more (call ∷ []) (λ n m. m)) table
 
   -- entries were read, and no memory was found to give them
   pub ended_ungiven : (listed : List Numbered) → marked ≡ true → c.next < c.end → AreNumbered 0 (2 ^ 63) listed → length listed ≤ asked_from c.end c.next
@@ -225,6 +242,7 @@ module _ (Ends : Table) (Hints : List ℕ → Type 0) (left : Option (List ℕ))
       ended_of Ends Hints left start c.end after told Ending.NoMemory bytes' text' s.also (calls ++ call ∷ []) (read_of c.end calls ++ w)
       (record {
         session = session_then c.end start calls (call ∷ []) s.desk.granted s.desk.session (s.desk.next, subst (λ (n : ℕ). n < c.end) s.desk.next more_to_read, ap (λ (n : ℕ). asked_from c.end n) s.desk.next, tt);
+        low = low_then c.end start calls (call ∷ []) s.desk.low tt;
         ordered = s.desk.ordered (call ∷ []) (first, tt);
         reads = read_more c.next c.end (asked_from c.end c.next) calls listed;
         next_is = next_more start c.next c.end (asked_from c.end c.next) calls listed s.desk.next;

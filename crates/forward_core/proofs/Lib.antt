@@ -17,3 +17,7 @@ pub mod LumberEnding
 pub mod HecEnding
 pub mod Beginning
 pub mod KnownLaw
+pub mod Rest
+pub mod SendsLaw
+pub mod AfterLaw
+pub mod DropLaw

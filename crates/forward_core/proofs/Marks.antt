@@ -1,11 +1,12 @@
 -- What is marked of entries, and what is to be marked.
 use Rattle.std.proofs.Common.{◌≡◌, ℕ, ◌+◌, ◌-◌, ◌<◌, ◌≤◌, suc, List, [], ◌∷◌, ◌++◌, length, take, drop, map, get_or, refl, ap, ◌∙◌, sym, subst, inl, inr, arith, length-append}
-use Rattle.std.specs.Prelude.{◌⊎◌, Contains, slice_index, Ok, Err}
+use Rattle.std.specs.Prelude.{◌⊎◌, Contains, slice_index, Result, Ok, Err}
 use Rattle.std.proofs.lemmas.Bool.{cases_lt}
 use Rattle.std.proofs.lemmas.List.{length-map, map-append, get_or_append_left, get_or-drop, take-append-le}
 use Rattle.std.proofs.lemmas.List.Elements.{Contains-append_left, Contains-append_cases, Contains-push, Contains-push_cases}
 use Rattle.known_numbers.specs.declared.stretch.Stretch.{Stretch}
 use Rattle.known_numbers.specs.Numbers.{IsInSome, IsWithin}
+use Rattle.spool_log.specs.declared.fault.ConfirmFault.{ConfirmFault}
 use Rattle.spool_log.specs.Outcome.{AreNumbered}
 use Rattle.spool_log.specs.declared.reading.numbered.Numbered.{Numbered}
 use Rattle.desk_access.specs.Call.{Call, marks}
@@ -14,8 +15,8 @@ use Rattle.forward_core.specs.Course.{below, alone}
 use Rattle.forward_core.specs.Marking.{IsOfOne, MarksOnlyTold, MarksTold}
 use Rattle.forward_core.specs.Session.{IsToMark}
 use Rattle.forward_core.specs.Turning.{IsTold}
-use Rattle.forward_core.proofs.CallLists.{marked_cases, marked_left, marked_right}
-use Rattle.forward_core.proofs.Numbered.{after_at, after_first, after_more, before_first, one_place}
+use Rattle.forward_core.proofs.CallLists.{all_below_last, marked_cases, marked_left, marked_right}
+use Rattle.forward_core.proofs.Numbered.{after_at, after_first, after_more, after_within, before_first, number_within, numbered_lower, numbered_take, one_place}
 
 -- ---- more entries
 
@@ -55,10 +56,10 @@ marks_only start end all told also calls are only = record {
   numbers = only;
 }
 
--- what a mark adds is what was told
-pub only_marked : (all : List Numbered) (told : ℕ) (also : List ℕ) (stretches : List Stretch) (calls : List Call) → IsToMark all told also stretches calls
-    → (n : ℕ) → IsMarked (calls ++ marks stretches (Ok tt) ∷ []) n → (n < after_last 0 (take told all)) ⊎ IsOfOne all also n
-only_marked all told also stretches calls h n m = elim (marked_cases calls (marks stretches (Ok tt) ∷ []) n m) [
+-- what a mark adds is what was told, whatever its answer
+pub only_marked : (all : List Numbered) (told : ℕ) (also : List ℕ) (stretches : List Stretch) (calls : List Call) (answer : Result Unit ConfirmFault) → IsToMark all told also stretches calls
+    → (n : ℕ) → IsMarked (calls ++ marks stretches answer ∷ []) n → (n < after_last 0 (take told all)) ⊎ IsOfOne all also n
+only_marked all told also stretches calls answer h n m = elim (marked_cases calls (marks stretches answer ∷ []) n m) [
   | inl before ↦ h.only n before
   | inr now ↦ elim now [
     | inl here ↦ (let at : IsInSome (below (after_last 0 (take told all)) ∷ h.waiting) n = subst (λ (l : List Stretch). IsInSome l n) h.are here in
@@ -81,17 +82,20 @@ marks_told start end all told also stretches calls are h =
           | inr waits ↦ in_last (number_at all place) (inr waits)
         ]
       ];
-      only = marks_only start end all told also (calls ++ marks stretches (Ok tt) ∷ []) are (only_marked all told also stretches calls h);
+      front = all_below_last (after_last 0 (take told all)) calls stretches h.waiting h.are;
+      only = marks_only start end all told also (calls ++ marks stretches (Ok tt) ∷ []) are (only_marked all told also stretches calls (Ok tt) h);
     }
 
--- the same where nothing is left to be marked
-pub marked_told : (start end : ℕ) (all : List Numbered) (told : ℕ) (also : List ℕ) (calls : List Call) → AreNumbered start end all
-    → ((place : ℕ) → place < told → place < length all → IsMarked calls (number_at all place)) → ((place : ℕ) → Contains also place → IsMarked calls (number_at all place))
-    → ((n : ℕ) → IsMarked calls n → (n < after_last 0 (take told all)) ⊎ IsOfOne all also n) → MarksTold calls all told also
-marked_told start end all told also calls are first others only = record {
-  each = λ place less is. elim is [ inl lt ↦ first place lt less | inr c ↦ others place c ];
-  only = marks_only start end all told also calls are only;
-}
+-- what is to be marked was read
+pub to_mark_low : (start next : ℕ) (read : List Numbered) (told : ℕ) (also : List ℕ) (stretches : List Stretch) (calls : List Call) → AreNumbered start next read → IsToMark read told also stretches calls
+    → (n : ℕ) → IsInSome stretches n → n < next
+to_mark_low start next read told also stretches calls are h n there =
+    let first : after_last 0 (take told read) ≤ next = after_within 0 next (take told read) (omega arith) (numbered_take told 0 next read (numbered_lower 0 start next read (omega arith) are)) in
+    let at : IsInSome (below (after_last 0 (take told read)) ∷ h.waiting) n = subst (λ (l : List Stretch). IsInSome l n) h.are there in
+    elim at [
+      | inl low ↦ omega (arith, low.1, first)
+      | inr one ↦ (let of = h.ones n one in omega (arith, of.3, (number_within start next read of.0 are of.2).1))
+    ]
 
 -- after a mark only the first stretch is left, which may be marked again
 pub to_mark_marked : (read : List Numbered) (told : ℕ) (also : List ℕ) (stretches : List Stretch) (calls : List Call) → IsToMark read told also stretches calls
@@ -104,7 +108,7 @@ to_mark_marked read told also stretches calls h = record {
     | inl before ↦ inl (marked_left calls (marks stretches (Ok tt) ∷ []) (number_at read place) before)
     | inr waits ↦ inl (marked_right calls (marks stretches (Ok tt) ∷ []) (number_at read place) (inl (subst (λ (l : List Stretch). IsInSome l (number_at read place)) (sym h.are) (inr waits))))
   ];
-  only = only_marked read told also stretches calls h;
+  only = only_marked read told also stretches calls (Ok tt) h;
 }
 
 -- ---- told

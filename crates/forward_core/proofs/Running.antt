@@ -34,6 +34,7 @@ stands_start Has c given ms sent =
       sent = sent;
       desk = record {
         session = tt;
+        low = tt;
         ordered = λ more m. m;
         granted = tt;
         next = refl;

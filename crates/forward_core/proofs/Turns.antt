@@ -195,6 +195,7 @@ ended_also Ends Hints left end place start bytes calls text e = record {
   told = e.told;
   also = e.also ++ place ∷ [];
   session = e.session;
+  low = e.low;
   ordered = e.ordered;
   refused = e.refused;
   ends = e.ends;

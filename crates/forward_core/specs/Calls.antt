@@ -74,8 +74,21 @@ AreGranted (pends from most (Ok given) ∷ calls) = AreGranted calls
 AreGranted (marks stretches (Ok done) ∷ calls) = AreGranted calls
 AreGranted (call ∷ calls) = ⊥
 
--- the number is one that the calls marked
+-- the number is one that the calls marked, or were refused to mark
 abbrev pub IsMarked : List Call → ℕ → Type 0
 IsMarked [] n = ⊥
-IsMarked (marks stretches (Ok done) ∷ calls) n = IsInSome stretches n ⊎ IsMarked calls n
+IsMarked (marks stretches result ∷ calls) n = IsInSome stretches n ⊎ IsMarked calls n
 IsMarked (call ∷ calls) n = IsMarked calls n
+
+-- Each mark, also one that is refused, is of numbers below the one from which the next reading begins.
+abbrev pub MarksBelowNext : ℕ → ℕ → List Call → Type 0
+MarksBelowNext end next [] = Unit {0}
+MarksBelowNext end next (pends from most (Ok given) ∷ calls) = MarksBelowNext end (next_after end next given) calls
+MarksBelowNext end next (marks stretches result ∷ calls) = ((n : ℕ) → IsInSome stretches n → n < next) × MarksBelowNext end next calls
+MarksBelowNext end next (call ∷ calls) = MarksBelowNext end next calls
+
+-- A mark that was answered Ok begins with all numbers below that one, as one stretch.
+abbrev pub MarksAllBelow : ℕ → List Call → Type 0
+MarksAllBelow n [] = ⊥
+MarksAllBelow n (marks (stretch ∷ more) (Ok done) ∷ calls) = (stretch ≡ record { from = 0; to = n }) ⊎ MarksAllBelow n calls
+MarksAllBelow n (call ∷ calls) = MarksAllBelow n calls

@@ -12,7 +12,7 @@ use Rattle.hec_sender.specs.declared.terms.Terms.{Terms}
 use Rattle.hec_sender.specs.Progress.{Progress, TakesAll, Stops, known_by, session_text, unconfirmed}
 use Rattle.hec_sender.specs.Sender.{Sender}
 use Rattle.hec_sender.specs.Sends.{Sends}
-use Rattle.hec_sender.specs.Turns.{why_of}
+use Rattle.http_edge.specs.Why.{why_of}
 use Rattle.forward_core.specs.declared.sent.Sent.{Sent}
 use Rattle.forward_core.specs.declared.sent.Sent.TheVariants.{Refused, PeerFault, Unconfirmed}
 use Rattle.forward_core.specs.Outlet.{Outlet}

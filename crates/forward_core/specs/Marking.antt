@@ -5,7 +5,7 @@ use Rattle.spool_log.specs.declared.fault.ConfirmFault.{ConfirmFault}
 use Rattle.spool_log.specs.declared.fault.ConfirmFault.TheVariants as Confirm
 use Rattle.spool_log.specs.declared.reading.numbered.Numbered.{Numbered}
 use Rattle.desk_access.specs.Call.{Call, marks}
-use Rattle.forward_core.specs.Calls.{IsMarked, after_last, number_at}
+use Rattle.forward_core.specs.Calls.{IsMarked, MarksAllBelow, after_last, number_at}
 use Rattle.forward_core.specs.Turning.{IsTold}
 use Rattle.forward_core.specs.declared.sent.Sent.{Sent}
 use Rattle.forward_core.specs.declared.sent.Sent.TheVariants as Ending
@@ -14,15 +14,17 @@ use Rattle.forward_core.specs.declared.sent.Sent.TheVariants as Ending
 abbrev pub IsOfOne : List Numbered → List ℕ → ℕ → Type 0
 IsOfOne all also n = (place : ℕ) × Contains also place × (place < length all) × (n ≡ number_at all place)
 
--- Of the entries, the calls marked none but those that were told. No other number was marked, but those that lie below
--- the last of the first entries told.
+-- Of the entries, the calls marked none but those that were told, nor were they refused to mark another. No other number was
+-- marked, but those that lie below the last of the first entries told.
 pub record MarksOnlyTold (calls : List Call) (all : List Numbered) (told : ℕ) (also : List ℕ) : Type 0 where
   pub those : (place : ℕ) → place < length all → IsMarked calls (number_at all place) → IsTold told also place
   pub numbers : (n : ℕ) → IsMarked calls n → (n < after_last 0 (take told all)) ⊎ IsOfOne all also n
 
--- Of the entries, the calls marked those that were told, all of them and no others.
+-- Of the entries, the calls marked those that were told, all of them and no others: the first ones by one stretch, which has
+-- all numbers up to that of the last of them.
 pub record MarksTold (calls : List Call) (all : List Numbered) (told : ℕ) (also : List ℕ) : Type 0 where
   pub each : (place : ℕ) → place < length all → IsTold told also place → IsMarked calls (number_at all place)
+  pub front : MarksAllBelow (after_last 0 (take told all)) calls
   pub only : MarksOnlyTold calls all told also
 
 -- the ending by a mark that was refused

@@ -49,6 +49,7 @@ pub fn forward<L: Link, A: Access, Z: Pause>(
     ensures reads { CountsFaults (result ≡ Ending.ReadFault) (L.read_faults link.old) (L.read_faults link.new) }
     ensures writes { CountsWrites (result ≡ Ending.WriteFault) (IsHalt result) (L.write_faults link.old) (L.write_faults link.new) }
     ensures same { L.same link.old link.new }
+    ensures dialed { L.dialed link.new ≡ L.dialed link.old }
     ensures rested { Z.same rest.old rest.new }
     ensures paused { Z.pause_apart rest.old rest.new }
 {

@@ -54,6 +54,7 @@ pub(crate) fn hear<L: Link, A: Access, S: Outgoing>(
     ensures reads { CountsFaults (IsErrOf result Ending.ReadFault) (L.read_faults link.old) (L.read_faults link.new) }
     ensures writes { L.write_faults link.new ≡ L.write_faults link.old }
     ensures same { L.same link.old link.new }
+    ensures dialed { L.dialed link.new ≡ L.dialed link.old }
 {
     mark(access, course)?;
     listen(link, sender, total)

@@ -21,7 +21,10 @@ mod session;
 mod write;
 
 pub use forwarding::forward;
-pub use laws::marks_are_known;
+pub use laws::{
+    acknowledged_entries_are_gone, marks_are_known, only_marked_is_known, session_leaves_the_rest,
+    session_sends_what_is_left,
+};
 pub use outgoing::Outgoing;
 pub use outward::Outward;
 pub use sent::Sent;

@@ -69,6 +69,7 @@ fn step<L: Link, A: Access, Z: Pause, S: Outgoing>(
     ensures reads { CountsFaults (IsErrOf result Ending.ReadFault) (L.read_faults link.old) (L.read_faults link.new) }
     ensures writes { CountsWrites (IsErrOf result Ending.WriteFault) (IsErrAnd result IsHalt) (L.write_faults link.old) (L.write_faults link.new) }
     ensures same { L.same link.old link.new }
+    ensures dialed { L.dialed link.new ≡ L.dialed link.old }
     ensures rested { Z.same rest.old rest.new }
     ensures paused { Z.pause_apart rest.old rest.new }
 {
@@ -123,6 +124,7 @@ pub(crate) fn run<L: Link, A: Access, Z: Pause, S: Outgoing>(
     ensures reads { CountsFaults (result ≡ Ending.ReadFault) (L.read_faults link.old) (L.read_faults link.new) }
     ensures writes { CountsWrites (result ≡ Ending.WriteFault) (IsHalt result) (L.write_faults link.old) (L.write_faults link.new) }
     ensures same { L.same link.old link.new }
+    ensures dialed { L.dialed link.new ≡ L.dialed link.old }
     ensures rested { Z.same rest.old rest.new }
     ensures paused { Z.pause_apart rest.old rest.new }
 {

@@ -22,6 +22,7 @@ turns-init g c = record {
   reads = refl;
   writes = refl;
   same = g.L.Object.same_refl _;
+  dialed = refl;
   rested = g.Z.Object.same_refl _;
   paused = g.met.Z.Pause.pause_refl _;
 }
@@ -49,6 +50,7 @@ turns-preserved g c =
       reads = e.reads.quiet (λ is. cc) ∙ inv.reads;
       writes = e.writes.quiet (λ is. cc) (λ is. is) ∙ inv.writes;
       same = g.L.Object.same_trans _ _ _ inv.same c.step.ensures.same;
+      dialed = c.step.ensures.dialed ∙ inv.dialed;
       rested = g.Z.Object.same_trans _ _ _ inv.rested c.step.ensures.rested;
       paused = g.met.Z.Pause.pause_trans _ _ _ inv.paused c.step.ensures.paused;
     }

@@ -20,6 +20,7 @@ invariant-turns g l = record {
   reads : g.L.Source.read_faults l.link ≡ g.L.Source.read_faults l.fn.link;
   writes : g.L.Sink.write_faults l.link ≡ g.L.Sink.write_faults l.fn.link;
   same : g.L.Object.same l.fn.link l.link;
+  dialed : g.L.Link.dialed l.link ≡ g.L.Link.dialed l.fn.link;
   rested : g.Z.Object.same l.fn.rest l.rest;
   paused : g.Z.Pause.pause_apart l.fn.rest l.rest;
 }
