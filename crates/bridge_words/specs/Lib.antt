@@ -1,6 +1,6 @@
-pub mod Places
+pub mod Grammar
+pub mod Values
 pub mod Words
-pub mod Arguments
-pub mod Drains
+pub mod Wrong
 pub mod Notes
 pub mod Lines

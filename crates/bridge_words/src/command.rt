@@ -1,16 +1,12 @@
 //! The commands.
-ghost use Rattle.std.specs.Prelude.{◌≡◌, ℕ, ◌∷◌, None, Some, IfSome, IfNone, MatchOption, Option, map, string_bytes};
-ghost use Rattle.edge_io.specs.declared.proto.Proto.{Proto};
-ghost use Rattle.bridge_words.specs.declared.command.Command.TheVariants.{Format};
-ghost use Rattle.bridge_words.specs.Words.{IsLayout, AskFor, IsFormat, IsReplay, IsCommandBy, IsCommand, IsNoCommand};
-ghost use Rattle.bridge_words.specs.Arguments.{form_at, form_in, format_read, list_read};
+ghost use Rattle.std.specs.Prelude.{◌≡◌, Ok, Some, None, map, string_bytes};
+ghost use Rattle.bridge_words.specs.declared.command.Command.{Command};
+ghost use Rattle.bridge_words.specs.Words.{IsCommand, IsNoCommand};
 
-use crate::arguments::Arguments;
-use crate::draining::drain_of;
-use crate::number::number_of;
-use crate::place::Place;
-use crate::word::{is_word, value_in};
+use crate::Place;
+use crate::reading::{Unread, read};
 use edge_io::Proto;
+use std::alloc::{AllocError, Global};
 
 /// How `list` prints an entry.
 #[derive(Clone, Copy, PartialEq, Eq, Debug)]
@@ -25,9 +21,25 @@ pub enum ListForm {
     HecObject,
 }
 
+/// What `drain` forwards to.
+#[derive(Clone, Copy, PartialEq, Eq, Debug)]
+pub enum Receiver {
+    /// A receiver of RELP.
+    Relp,
+    /// A receiver of Lumberjack.
+    Lumberjack,
+    /// Splunk's HTTP Event Collector, with the token and on the channel of these numbers. A request of events is asked
+    /// for `polls` times at most, 1 to 1,000.
+    Hec {
+        token: u128,
+        channel: u128,
+        polls: u32,
+    },
+}
+
 /// What the program is to do.
 #[derive(PartialEq, Eq, Drop, Debug)]
-pub enum Command<'a> {
+pub enum Command {
     /// Make the device an empty spool of `slots` slots, 1 to 1,024, of `size` bytes, 4,096 to 1,073,741,824.
     Format {
         slots: u32,
@@ -44,147 +56,44 @@ pub enum Command<'a> {
         token: Option<u128>,
         ack_token: Option<u128>,
     },
-    /// Forward the entries that are not confirmed by this protocol: to the place, which is dialed, or where there is
-    /// none to the output, with the peer's replies in the input.
+    /// Forward the entries that are not confirmed to this receiver: at the place, which is dialed, or where there is
+    /// none over the output, with the peer's replies in the input.
     Drain {
+        receiver: Receiver,
+        place: Option<Place>,
+    },
+    /// Run `count` generated events, 0 to 100,000, through a replay and a drain in memory, by this protocol. The events
+    /// are those of this number, which is below 2^31.
+    Load {
         proto: Proto,
-        place: Option<Place<'a>>,
+        number: u32,
+        count: u32,
     },
 }
 
-// The numbers of slots and of bytes, where both words are such.
-fn layout_of(slots_word: &String, size_word: &String) -> Option<(u32, u64)>
-    ensures some { IfSome result (λ layout. IsLayout layout.0 layout.1 (string_bytes slots_word.now) (string_bytes size_word.now)) }
-    ensures none { IfNone result ((slots : ℕ) (size : ℕ) → IsLayout slots size (string_bytes slots_word.now) (string_bytes size_word.now) → ⊥) }
-{
-    let slots = number_of(slots_word.as_str())?;
-    let size = number_of(size_word.as_str())?;
-    if (1..=1024).contains(&slots) && (4096..=1_073_741_824).contains(&size) {
-        return Some((slots as u32, size));
-    }
-    None
-}
-
-// The two words after `format`, without the `--` that may stand among them.
-fn format_words(words: &[String]) -> Option<(&String, &String)>
-    ensures { MatchOption result (format_read (map string_bytes words.now) ≡ None) (λ read. format_read (map string_bytes words.now) ≡ Some (string_bytes read.0.now, string_bytes read.1.now)) }
-{
-    match words {
-        [slots, size] => Some((slots, size)),
-        [end, slots, size] if is_word(end, "--") => Some((slots, size)),
-        [slots, end, size] if is_word(end, "--") => Some((slots, size)),
-        [slots, size, end] if is_word(end, "--") => Some((slots, size)),
-        _ => None,
-    }
-}
-
-// The command for which the words after `format` ask.
-fn format_of(words: &[String]) -> Option<Command<'_>>
-    ensures some { IfSome result (λ command. IsFormat command (map string_bytes words.now)) }
-    ensures none { IfNone result ((slots size : ℕ) → IsCommandBy (Format slots size) (map string_bytes words.now) → ⊥) }
-{
-    let (slots, size) = format_words(words)?;
-    let (slots, size) = layout_of(slots, size)?;
-    Some(Command::Format { slots, size })
-}
-
-// The form that a text names.
-fn form_of(text: &[u8]) -> Option<ListForm>
-    ensures { result ≡ form_at text.now }
-{
-    if text == b"relp".as_slice() {
-        Some(ListForm::Text)
-    } else if text == b"json".as_slice() {
-        Some(ListForm::JsonObject)
-    } else if text == b"hec".as_slice() {
-        Some(ListForm::HecObject)
-    } else {
-        None
-    }
-}
-
-// The form that the value of `--as` names, in one word with the option.
-fn form_in(word: &String) -> Option<ListForm>
-    ensures { result ≡ form_in (string_bytes word.now) }
-{
-    match value_in(b"--as", word.as_bytes()) {
-        Some(text) => form_of(text),
-        None => None,
-    }
-}
-
-// The form for which the words after `list` ask.
-fn list_of(words: &[String]) -> Option<ListForm>
-    ensures { result ≡ list_read (map string_bytes words.now) }
-{
-    match words {
-        [] => Some(ListForm::Plain),
-        [end] if is_word(end, "--") => Some(ListForm::Plain),
-        [option] => form_in(option),
-        [option, end] if is_word(end, "--") => form_in(option),
-        [option, form] if is_word(option, "--as") => form_of(form.as_bytes()),
-        [option, form, end] if is_word(option, "--as") && is_word(end, "--") => {
-            form_of(form.as_bytes())
-        }
-        _ => None,
-    }
-}
-
-// The command for which the words after `replay` ask.
-fn replay_of(words: &[String]) -> Option<Command<'_>>
-    ensures some { IfSome result (λ command. IsReplay command (map string_bytes words.now)) }
-    ensures none { IfNone result ((proto : Proto) (token ack_token : Option ℕ) → AskFor (Some proto) token ack_token (map string_bytes words.now) → ⊥) }
-{
-    let arguments = Arguments::of(words)?;
-    if !arguments.is_whole() {
-        return None;
-    }
-    Some(Command::Replay {
-        proto: arguments.proto?,
-        token: arguments.token,
-        ack_token: arguments.ack_token,
-    })
-}
-
-// The command of this name for which the words after it ask.
-fn command_of<'a>(name: &String, after: &'a [String]) -> Option<Command<'a>>
-    ensures some { IfSome result (λ command. IsCommand command (string_bytes name.now ∷ map string_bytes after.now)) }
-    ensures none { IfNone result (IsNoCommand (string_bytes name.now ∷ map string_bytes after.now)) }
-{
-    if is_word(name, "list") {
-        match list_of(after) {
-            Some(form) => Some(Command::List { form }),
-            None => None,
-        }
-    } else if is_word(name, "replay") {
-        replay_of(after)
-    } else if is_word(name, "format") {
-        format_of(after)
-    } else if is_word(name, "drain") {
-        drain_of(after)
-    } else {
-        None
-    }
-}
-
-impl<'a> Command<'a> {
+impl Command {
     /// The command that the words are, or nothing where they are none:
     ///
-    /// - `format SLOTS SIZE`, with 1 to 10 decimal digits each, leading zeros allowed;
+    /// - `format SLOTS SIZE`, with numbers of 1 to 10 decimal digits, leading zeros allowed;
     /// - `list [--as FORM]`, with the form `relp`, `json` or `hec`;
     /// - `replay PROTO [--token GUID] [--ack-token GUID]`, with the protocol `relp`, `lumberjack` or `hec`;
-    /// - `drain PROTO [PLACE]`, with the protocol `relp` or `lumberjack`, and a place that isn't empty. One of two bytes or
-    ///   more that begins with `-` is a place only after `--`.
+    /// - `drain PROTO [PLACE] [--out-token GUID] [--out-channel GUID] [--polls N]`, with a place that isn't empty. `hec`
+    ///   needs the token and the channel. Without `--polls` it is 60;
+    /// - `load PROTO NUMBER COUNT`.
     ///
-    /// Options stand in any order after the name, each once at most, as `--name value` or as `--name=value`. `--` may
-    /// stand once, and no option stands after it.
-    pub fn of(words: &'a [String]) -> Option<Command<'a>>
-        ensures some { IfSome result (λ command. IsCommand command (map string_bytes words.now)) }
-        ensures none { IfNone result (IsNoCommand (map string_bytes words.now)) }
+    /// Options stand in any order after the name, each once at most, as `--name value` or as `--name=value`. A word of two
+    /// bytes or more that begins with `-` is an option, and no value, unless it stands after `--`. `--` may stand once
+    /// after the name, and no option stands after it.
+    ///
+    /// The error says that no memory was found to read the words, or for the place.
+    pub fn of(alloc: Global, words: &[String]) -> Result<Option<Command>, AllocError>
+        ensures some { (command : Command) → result ≡ Ok (Some command) → IsCommand command (map string_bytes words.now) }
+        ensures none { result ≡ Ok None → IsNoCommand (map string_bytes words.now) }
     {
-        match words {
-            [name, after @ ..] => command_of(name, after),
-            [] => None,
+        match read(alloc, words) {
+            Ok(command) => Ok(Some(command)),
+            Err(Unread::Wrong(_)) => Ok(None),
+            Err(Unread::NoMemory) => Err(AllocError),
         }
     }
 }

@@ -10,7 +10,7 @@ use std::alloc::{AllocError, Global};
 pub enum Need {
     /// The words are no command, and no device is opened.
     NoCommand,
-    /// The command does its work in memory. No command of today is such.
+    /// The command does its work in memory.
     Nothing,
     /// A device that exists.
     Existing,
@@ -18,7 +18,7 @@ pub enum Need {
     Make { len: u64 },
 }
 
-impl<'a> Command<'a> {
+impl Command {
     ghost use Rattle.bridge_words.specs.Words.{need_for, IsSize};
     ghost use Rattle.bridge_words.specs.declared.command.Command.TheVariants.{Format};
 
@@ -34,15 +34,16 @@ impl<'a> Command<'a> {
             Command::List { .. } | Command::Replay { .. } | Command::Drain { .. } => {
                 Need::Existing
             },
+            Command::Load { .. } => Need::Nothing,
         }
     }
 }
 
-/// Which device the words want. They are read without memory, so none is wanted yet.
-pub fn need_of(_alloc: Global, words: &[String]) -> Result<Need, AllocError>
+/// Which device the words want. The error says that no memory was found to read them.
+pub fn need_of(alloc: Global, words: &[String]) -> Result<Need, AllocError>
     ensures { IfOk result (IsNeed (map string_bytes words.now)) }
 {
-    match Command::of(words) {
+    match Command::of(alloc, words)? {
         Some(command) => Ok(command.need()),
         None => Ok(Need::NoCommand),
     }

@@ -1,78 +1,55 @@
 //! A place of the net on the command line.
-ghost use Rattle.std.specs.Prelude.{◌≡◌, string_bytes};
+ghost use Rattle.std.specs.Prelude.{◌≡◌, IfOk};
 ghost use Rattle.std.proofs.Common.{rules};
 ghost use Rattle.std.specs.Cmp.Rules.{comparing};
-ghost use Rattle.bridge_words.specs.Places.{place_at, plain_place_at, is_option};
 
+use std::alloc::{AllocError, Global};
 use std::marker::Model;
 
 /// A place of the net, as the command line names it, for example `127.0.0.1:2514`. It isn't empty. Contracts see its bytes.
 #[derive(Drop, Debug)]
-pub struct Place<'a> {
-    text: &'a str,
+pub struct Place {
+    text: String,
 }
 
-impl<'a> Model for Place<'a> {
-    ghost use Rattle.std.specs.Prelude.{ℕ, List};
+impl Model for Place {
+    ghost use Rattle.std.specs.Prelude.{ℕ, List, string_bytes};
 
     ghost Value = { List ℕ };
 
-    ghost view = { λ place. place.text.now };
+    ghost view = { λ place. string_bytes place.text };
 }
 
-impl<'a> Place<'a> {
+impl Place {
+    /// The place that a text names.
+    pub(crate) fn of(alloc: Global, text: &str) -> Result<Place, AllocError>
+        ensures { IfOk result (λ place. place ≡ text.now) }
+    {
+        Ok(Place {
+            text: String::from_str(alloc, text)?,
+        })
+    }
+
     /// The place as a text.
-    pub fn as_str(&self) -> &'a str
+    pub fn as_str(&self) -> &str
         ensures { result.now ≡ self.now }
     {
-        self.text
+        self.text.as_str()
     }
 }
 
-impl<'a> PartialEq for Place<'a> {
+impl PartialEq for Place {
     ghost use Rattle.std.specs.Str.{bytes_eq};
 
     ghost eq = { bytes_eq };
 
     ghost laws = { Prim.search (comparing, rules) };
 
-    fn eq(&self, other: &Place<'a>) -> bool {
-        self.text == other.text
+    fn eq(&self, other: &Place) -> bool {
+        self.text.as_str() == other.text.as_str()
     }
 }
 
-impl<'a> Eq for Place<'a> {
+impl Eq for Place {
     ghost laws = { Prim.search (comparing, rules) };
-}
-
-// Whether the word is taken for an option: it begins with `-` and has two bytes or more.
-fn is_option(word: &String) -> bool
-    ensures { result ≡ is_option (string_bytes word.now) }
-{
-    match word.as_bytes() {
-        [first, _, ..] => *first == b'-',
-        _ => false,
-    }
-}
-
-/// The place that a word names after `--`: any that isn't empty.
-pub(crate) fn place_at(word: &String) -> Option<Place<'_>>
-    ensures { result ≡ place_at (string_bytes word.now) }
-{
-    if word.is_empty() {
-        return None;
-    }
-    Some(Place {
-        text: word.as_str(),
-    })
-}
-
-/// The place that a word names where no `--` stands before it.
-pub(crate) fn plain_place_at(word: &String) -> Option<Place<'_>>
-    ensures { result ≡ plain_place_at (string_bytes word.now) }
-{
-    if is_option(word) {
-        return None;
-    }
-    place_at(word)
 }

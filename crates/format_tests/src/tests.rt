@@ -26,8 +26,11 @@ fn events_and_their_forms(rt: HostRuntime) -> Result<(), Fail> {
     assert!(rt; entries::a_pair_is_read()?);
     assert!(rt; entries::each_fault_has_its_place(alloc)?);
     assert!(rt; maps::each_event_has_its_forms(alloc)?);
-    assert!(rt; words::commands(alloc)?);
+    assert!(rt; words::formats(alloc)?);
+    assert!(rt; words::lists(alloc)?);
+    assert!(rt; words::loads(alloc)?);
     assert!(rt; words::no_commands(alloc)?);
+    assert!(rt; words::fault_texts());
     assert!(rt; words::replays(alloc)?);
     assert!(rt; words::no_replays(alloc)?);
     assert!(rt; words::drains(alloc)?);

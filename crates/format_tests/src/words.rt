@@ -1,5 +1,6 @@
 use bridge_words::{
-    Command, ListForm, Need, Note, Place, drain_line, entry_line, need_of, note_text, spool_line,
+    Command, ListForm, Need, Note, Place, Receiver, WordsFault, drain_line, entry_line, need_of,
+    note_text, spool_line, wrong_words,
 };
 use edge_io::Proto;
 use event_form::{Blob, Entry, Event, Origin, Why};
@@ -14,115 +15,83 @@ fn words_of(alloc: Global, words: &[&str]) -> Result<Vec<String>, Fail> {
     Ok(texts)
 }
 
-// Each command, and the device that it wants.
-const COMMANDS: [(&[&str], Command<'static>, Need); 14] = [
+fn named_words(alloc: Global, name: &str, after: &[&str]) -> Result<Vec<String>, Fail> {
+    let mut words = words_of(alloc, &[name])?;
+    for word in after {
+        words.push(String::from_str(alloc, word)?)?;
+    }
+    Ok(words)
+}
+
+// Whether the words are this command, and want this of the device.
+fn are(alloc: Global, words: &[String], command: Command, need: Need) -> Result<bool, Fail> {
+    Ok(
+        Command::of(alloc, words)? == Some(command)
+            && need_of(alloc, words)? == need
+            && wrong_words(alloc, words)? == None,
+    )
+}
+
+// Whether the words are no command, for this reason.
+fn are_none(alloc: Global, words: &[String], fault: WordsFault) -> Result<bool, Fail> {
+    Ok(
+        Command::of(alloc, words)? == None
+            && need_of(alloc, words)? == Need::NoCommand
+            && wrong_words(alloc, words)? == Some(fault),
+    )
+}
+
+// What follows `format`, the numbers that it asks for, and the length of the device.
+const FORMATS: [(&[&str], u32, u64, u64); 6] = [
+    (&["2", "4096"], 2, 4096, 20_480),
+    (&["01", "0000004096"], 1, 4096, 16_384),
     (
-        &["format", "2", "4096"],
-        Command::Format {
-            slots: 2,
-            size: 4096,
-        },
-        Need::Make { len: 20_480 },
+        &["1024", "1073741824"],
+        1024,
+        1_073_741_824,
+        1_099_511_640_064,
     ),
-    (
-        &["format", "01", "0000004096"],
-        Command::Format {
-            slots: 1,
-            size: 4096,
-        },
-        Need::Make { len: 16_384 },
-    ),
-    (
-        &["format", "1024", "1073741824"],
-        Command::Format {
-            slots: 1024,
-            size: 1_073_741_824,
-        },
-        Need::Make {
-            len: 1_099_511_640_064,
-        },
-    ),
-    (
-        &["list"],
-        Command::List {
-            form: ListForm::Plain,
-        },
-        Need::Existing,
-    ),
-    (
-        &["list", "--as", "relp"],
-        Command::List {
-            form: ListForm::Text,
-        },
-        Need::Existing,
-    ),
-    (
-        &["list", "--as", "json"],
-        Command::List {
-            form: ListForm::JsonObject,
-        },
-        Need::Existing,
-    ),
-    (
-        &["list", "--as", "hec"],
-        Command::List {
-            form: ListForm::HecObject,
-        },
-        Need::Existing,
-    ),
-    (
-        &["list", "--as=json"],
-        Command::List {
-            form: ListForm::JsonObject,
-        },
-        Need::Existing,
-    ),
-    (
-        &["list", "--"],
-        Command::List {
-            form: ListForm::Plain,
-        },
-        Need::Existing,
-    ),
-    (
-        &["list", "--as", "relp", "--"],
-        Command::List {
-            form: ListForm::Text,
-        },
-        Need::Existing,
-    ),
-    (
-        &["list", "--as=hec", "--"],
-        Command::List {
-            form: ListForm::HecObject,
-        },
-        Need::Existing,
-    ),
-    (
-        &["format", "--", "2", "4096"],
-        Command::Format {
-            slots: 2,
-            size: 4096,
-        },
-        Need::Make { len: 20_480 },
-    ),
-    (
-        &["format", "2", "--", "4096"],
-        Command::Format {
-            slots: 2,
-            size: 4096,
-        },
-        Need::Make { len: 20_480 },
-    ),
-    (
-        &["format", "2", "4096", "--"],
-        Command::Format {
-            slots: 2,
-            size: 4096,
-        },
-        Need::Make { len: 20_480 },
-    ),
+    (&["--", "2", "4096"], 2, 4096, 20_480),
+    (&["2", "--", "4096"], 2, 4096, 20_480),
+    (&["2", "4096", "--"], 2, 4096, 20_480),
 ];
+
+pub(crate) fn formats(alloc: Global) -> Result<bool, Fail> {
+    for (after, slots, size, len) in FORMATS {
+        let words = named_words(alloc, "format", after)?;
+        if !are(
+            alloc,
+            &words,
+            Command::Format { slots, size },
+            Need::Make { len },
+        )? {
+            return Ok(false);
+        }
+    }
+    Ok(true)
+}
+
+// What follows `list`, and the form that it asks for.
+const LISTS: [(&[&str], ListForm); 8] = [
+    (&[], ListForm::Plain),
+    (&["--as", "relp"], ListForm::Text),
+    (&["--as", "json"], ListForm::JsonObject),
+    (&["--as", "hec"], ListForm::HecObject),
+    (&["--as=json"], ListForm::JsonObject),
+    (&["--"], ListForm::Plain),
+    (&["--as", "relp", "--"], ListForm::Text),
+    (&["--as=hec", "--"], ListForm::HecObject),
+];
+
+pub(crate) fn lists(alloc: Global) -> Result<bool, Fail> {
+    for (after, form) in LISTS {
+        let words = named_words(alloc, "list", after)?;
+        if !are(alloc, &words, Command::List { form }, Need::Existing)? {
+            return Ok(false);
+        }
+    }
+    Ok(true)
+}
 
 // The two tokens as they are spelt, and in one word with an option.
 const T: &str = "11111111-2222-3333-4444-555555555555";
@@ -216,14 +185,6 @@ const REPLAYS: [(&[&str], Proto, Option<u128>, Option<u128>); 20] = [
     ),
 ];
 
-fn named_words(alloc: Global, name: &str, after: &[&str]) -> Result<Vec<String>, Fail> {
-    let mut words = words_of(alloc, &[name])?;
-    for word in after {
-        words.push(String::from_str(alloc, word)?)?;
-    }
-    Ok(words)
-}
-
 pub(crate) fn replays(alloc: Global) -> Result<bool, Fail> {
     for (after, proto, token, ack_token) in REPLAYS {
         let words = named_words(alloc, "replay", after)?;
@@ -232,91 +193,163 @@ pub(crate) fn replays(alloc: Global) -> Result<bool, Fail> {
             token,
             ack_token,
         };
-        if Command::of(&words) != Some(command) {
-            return Ok(false);
-        }
-        if need_of(alloc, &words)? != Need::Existing {
+        if !are(alloc, &words, command, Need::Existing)? {
             return Ok(false);
         }
     }
     Ok(true)
 }
 
-// What follows `replay` in words that are no command.
-const NO_REPLAYS: [&[&str]; 32] = [
-    &[],
-    &["x"],
-    &["lumber"],
-    &["Lumberjack"],
-    &["HEC"],
-    &["relp", "x"],
-    &["relp", "relp"],
-    &["lumberjack", "relp"],
-    &["relp", "--", "relp"],
-    &["--", "relp", "relp"],
-    &["--"],
-    &["--", "--"],
-    &["--", "hec", "--"],
-    &["--token", T],
-    &["hec", "--token"],
-    &["hec", "--token="],
-    &["hec", "--token", "zz"],
-    &["hec", "--token=zz"],
-    &["hec", "--token", "="],
-    &["hec", "--token", "1111111122223333444455555555555"],
-    &["hec", "--token", T, "--token", T],
-    &["hec", "--token", T, TOKEN_IS_A],
-    &["hec", ACK_TOKEN_IS_A, "--ack-token", A],
-    &["hec", "--token", "--ack-token", A],
-    &["hec", "--token", "--", T],
-    &["hec", "--", "--token", T],
-    &["--", "hec", "--token", T],
-    &["--", TOKEN_IS_T, "hec"],
-    &["hec", "--tok", T],
-    &["hec", "-t", T],
-    &["hec", "--as", "json"],
-    &["hec", T],
+// What follows `replay` in words that are no command, and why they are none.
+const NO_REPLAYS: [(&[&str], WordsFault); 32] = [
+    (&[], WordsFault::MissingWord),
+    (&["x"], WordsFault::Proto),
+    (&["lumber"], WordsFault::Proto),
+    (&["Lumberjack"], WordsFault::Proto),
+    (&["HEC"], WordsFault::Proto),
+    (&["relp", "x"], WordsFault::UnknownWord),
+    (&["relp", "relp"], WordsFault::UnknownWord),
+    (&["lumberjack", "relp"], WordsFault::UnknownWord),
+    (&["relp", "--", "relp"], WordsFault::UnknownWord),
+    (&["--", "relp", "relp"], WordsFault::UnknownWord),
+    (&["--"], WordsFault::MissingWord),
+    (&["--", "--"], WordsFault::Proto),
+    (&["--", "hec", "--"], WordsFault::UnknownWord),
+    (&["--token", T], WordsFault::MissingWord),
+    (&["hec", "--token"], WordsFault::MissingValue),
+    (&["hec", "--token="], WordsFault::Token),
+    (&["hec", "--token", "zz"], WordsFault::Token),
+    (&["hec", "--token=zz"], WordsFault::Token),
+    (&["hec", "--token", "="], WordsFault::Token),
+    (
+        &["hec", "--token", "1111111122223333444455555555555"],
+        WordsFault::Token,
+    ),
+    (&["hec", "--token", T, "--token", T], WordsFault::GivenTwice),
+    (&["hec", "--token", T, TOKEN_IS_A], WordsFault::GivenTwice),
+    (
+        &["hec", ACK_TOKEN_IS_A, "--ack-token", A],
+        WordsFault::GivenTwice,
+    ),
+    (
+        &["hec", "--token", "--ack-token", A],
+        WordsFault::MissingValue,
+    ),
+    (&["hec", "--token", "--", T], WordsFault::UnknownWord),
+    (&["hec", "--", "--token", T], WordsFault::UnknownWord),
+    (&["--", "hec", "--token", T], WordsFault::UnknownWord),
+    (&["--", TOKEN_IS_T, "hec"], WordsFault::UnknownWord),
+    (&["hec", "--tok", T], WordsFault::UnknownWord),
+    (&["hec", "-t", T], WordsFault::UnknownWord),
+    (&["hec", "--as", "json"], WordsFault::UnknownWord),
+    (&["hec", T], WordsFault::UnknownWord),
 ];
 
 pub(crate) fn no_replays(alloc: Global) -> Result<bool, Fail> {
-    for after in NO_REPLAYS {
-        let words = named_words(alloc, "replay", after)?;
-        if Command::of(&words) != None {
-            return Ok(false);
-        }
-        if need_of(alloc, &words)? != Need::NoCommand {
+    for (after, fault) in NO_REPLAYS {
+        if !are_none(alloc, &named_words(alloc, "replay", after)?, fault)? {
             return Ok(false);
         }
     }
     Ok(true)
 }
 
-// What follows `drain`, and what it asks for: a protocol and a place.
-const DRAINS: [(&[&str], Proto, Option<&str>); 16] = [
-    (&["relp"], Proto::Relp, None),
-    (&["lumberjack"], Proto::Lumberjack, None),
-    (&["--", "relp"], Proto::Relp, None),
-    (&["lumberjack", "--"], Proto::Lumberjack, None),
-    (&["relp", "p"], Proto::Relp, Some("p")),
+const COLLECTOR: Receiver = Receiver::Hec {
+    token: TOKEN,
+    channel: ACK_TOKEN,
+    polls: 60,
+};
+
+const CHANNEL_IS_A: &str = "--out-channel=aaaaaaaa-2222-3333-4444-555555555555";
+
+// What follows `drain`, and what it asks for: a receiver and a place.
+const DRAINS: [(&[&str], Receiver, Option<&str>); 26] = [
+    (&["relp"], Receiver::Relp, None),
+    (&["lumberjack"], Receiver::Lumberjack, None),
+    (&["--", "relp"], Receiver::Relp, None),
+    (&["lumberjack", "--"], Receiver::Lumberjack, None),
+    (&["relp", "p"], Receiver::Relp, Some("p")),
     (
         &["relp", "127.0.0.1:2514"],
-        Proto::Relp,
+        Receiver::Relp,
         Some("127.0.0.1:2514"),
     ),
     (
         &["lumberjack", "logs.example:5044"],
-        Proto::Lumberjack,
+        Receiver::Lumberjack,
         Some("logs.example:5044"),
     ),
-    (&["relp", "-"], Proto::Relp, Some("-")),
-    (&["relp", "-", "--"], Proto::Relp, Some("-")),
-    (&["relp", "p", "--"], Proto::Relp, Some("p")),
-    (&["relp", "relp"], Proto::Relp, Some("relp")),
-    (&["relp", "--", "p"], Proto::Relp, Some("p")),
-    (&["relp", "--", "-x"], Proto::Relp, Some("-x")),
-    (&["relp", "--", "--"], Proto::Relp, Some("--")),
-    (&["--", "relp", "--to"], Proto::Relp, Some("--to")),
-    (&["--", "lumberjack", "p"], Proto::Lumberjack, Some("p")),
+    (&["relp", "-"], Receiver::Relp, Some("-")),
+    (&["relp", "-", "--"], Receiver::Relp, Some("-")),
+    (&["relp", "p", "--"], Receiver::Relp, Some("p")),
+    (&["relp", "relp"], Receiver::Relp, Some("relp")),
+    (&["relp", "--", "p"], Receiver::Relp, Some("p")),
+    (&["relp", "--", "-x"], Receiver::Relp, Some("-x")),
+    (&["relp", "--", "--"], Receiver::Relp, Some("--")),
+    (&["--", "relp", "--to"], Receiver::Relp, Some("--to")),
+    (&["--", "lumberjack", "p"], Receiver::Lumberjack, Some("p")),
+    (
+        &["--polls", "0000000007", "lumberjack"],
+        Receiver::Lumberjack,
+        None,
+    ),
+    (
+        &["relp", "--out-token", T, "--polls=3", "p"],
+        Receiver::Relp,
+        Some("p"),
+    ),
+    (
+        &["relp", "--out-channel", A, "--", "--polls"],
+        Receiver::Relp,
+        Some("--polls"),
+    ),
+    (
+        &["hec", "--out-token", T, "--out-channel", A],
+        COLLECTOR,
+        None,
+    ),
+    (
+        &["hec", "127.0.0.1:8088", "--out-token", T, CHANNEL_IS_A],
+        COLLECTOR,
+        Some("127.0.0.1:8088"),
+    ),
+    (
+        &[CHANNEL_IS_A, "--out-token", T, "--", "hec", "-x"],
+        COLLECTOR,
+        Some("-x"),
+    ),
+    (
+        &["hec", "--polls", "60", CHANNEL_IS_A, "p", "--out-token", T],
+        COLLECTOR,
+        Some("p"),
+    ),
+    (
+        &["hec", "--polls=1", "--out-token", A, "--out-channel", A],
+        Receiver::Hec {
+            token: ACK_TOKEN,
+            channel: ACK_TOKEN,
+            polls: 1,
+        },
+        None,
+    ),
+    (
+        &[
+            "hec",
+            "--polls",
+            "1000",
+            "--out-token",
+            A,
+            "--out-channel",
+            T,
+        ],
+        Receiver::Hec {
+            token: ACK_TOKEN,
+            channel: TOKEN,
+            polls: 1000,
+        },
+        None,
+    ),
+    (&["relp", "--polls=1000"], Receiver::Relp, None),
 ];
 
 // Whether the place is this one.
@@ -331,124 +364,197 @@ fn is_place(place: Option<Place>, want: Option<&str>) -> bool {
 pub(crate) fn drains(alloc: Global) -> Result<bool, Fail> {
     for (after, want, want_place) in DRAINS {
         let words = named_words(alloc, "drain", after)?;
-        let Some(Command::Drain { proto, place }) = Command::of(&words) else {
+        let Some(Command::Drain { receiver, place }) = Command::of(alloc, &words)? else {
             return Ok(false);
         };
-        if proto != want || !is_place(place, want_place) {
+        if receiver != want || !is_place(place, want_place) {
             return Ok(false);
         }
-        if need_of(alloc, &words)? != Need::Existing {
+        if need_of(alloc, &words)? != Need::Existing || wrong_words(alloc, &words)? != None {
             return Ok(false);
         }
     }
     Ok(true)
 }
 
-// What follows `drain` in words that are no command.
-const NO_DRAINS: [&[&str]; 24] = [
-    &[],
-    &["hec"],
-    &["hec", "p"],
-    &["Relp"],
-    &[""],
-    &["p"],
-    &["p", "relp"],
-    &["relp", ""],
-    &["relp", "--", ""],
-    &["--", "relp", ""],
-    &["relp", "-x"],
-    &["relp", "-1"],
-    &["relp", "--to"],
-    &["relp", "-x", "--"],
-    &["relp", "p", "q"],
-    &["relp", "p", "--", "q"],
-    &["relp", "--", "p", "q"],
-    &["--", "relp", "p", "--"],
-    &["--", "--", "relp"],
-    &["--", "hec"],
-    &["--"],
-    &["--", "--"],
-    &["relp", "p", "--polls", "2"],
-    &["--out-token", T, "relp"],
+// What follows `drain` in words that are no command, and why they are none.
+const NO_DRAINS: [(&[&str], WordsFault); 36] = [
+    (&[], WordsFault::MissingWord),
+    (&["hec"], WordsFault::NoOutToken),
+    (&["hec", "p"], WordsFault::NoOutToken),
+    (&["--", "hec"], WordsFault::NoOutToken),
+    (&["hec", "--out-channel", A], WordsFault::NoOutToken),
+    (&["hec", "p", "--out-token", T], WordsFault::NoOutChannel),
+    (
+        &["hec", "--out-token", "zz", "--out-channel", A],
+        WordsFault::OutToken,
+    ),
+    (
+        &["hec", "--out-token", T, "--out-channel="],
+        WordsFault::OutChannel,
+    ),
+    (&["relp", "--out-token", "zz"], WordsFault::OutToken),
+    (&["relp", "--out-channel", "zz"], WordsFault::OutChannel),
+    (&["relp", "p", "--polls", "0"], WordsFault::Polls),
+    (&["relp", "--polls", "1001"], WordsFault::Polls),
+    (&["relp", "--polls", "00000000060"], WordsFault::Polls),
+    (&["relp", "--polls=+6"], WordsFault::Polls),
+    (&["relp", "--polls="], WordsFault::Polls),
+    (&["relp", "--polls=6", "--polls=6"], WordsFault::GivenTwice),
+    (&["relp", "--out-token"], WordsFault::MissingValue),
+    (&["relp", "--token", T], WordsFault::UnknownWord),
+    (&["Relp"], WordsFault::Proto),
+    (&[""], WordsFault::Proto),
+    (&["p"], WordsFault::Proto),
+    (&["p", "relp"], WordsFault::Proto),
+    (&["relp", ""], WordsFault::Place),
+    (&["relp", "--", ""], WordsFault::Place),
+    (&["--", "relp", ""], WordsFault::Place),
+    (&["relp", "-x"], WordsFault::UnknownWord),
+    (&["relp", "-1"], WordsFault::UnknownWord),
+    (&["relp", "--to"], WordsFault::UnknownWord),
+    (&["relp", "-x", "--"], WordsFault::UnknownWord),
+    (&["relp", "p", "q"], WordsFault::UnknownWord),
+    (&["relp", "p", "--", "q"], WordsFault::UnknownWord),
+    (&["relp", "--", "p", "q"], WordsFault::UnknownWord),
+    (&["--", "relp", "p", "--"], WordsFault::UnknownWord),
+    (&["--", "--", "relp"], WordsFault::Proto),
+    (&["--"], WordsFault::MissingWord),
+    (&["--", "--"], WordsFault::Proto),
 ];
 
 pub(crate) fn no_drains(alloc: Global) -> Result<bool, Fail> {
-    for after in NO_DRAINS {
-        let words = named_words(alloc, "drain", after)?;
-        if Command::of(&words) != None {
-            return Ok(false);
-        }
-        if need_of(alloc, &words)? != Need::NoCommand {
+    for (after, fault) in NO_DRAINS {
+        if !are_none(alloc, &named_words(alloc, "drain", after)?, fault)? {
             return Ok(false);
         }
     }
     Ok(true)
 }
 
-pub(crate) fn commands(alloc: Global) -> Result<bool, Fail> {
-    for (words, command, need) in COMMANDS {
-        let words = words_of(alloc, words)?;
-        if Command::of(&words) != Some(command) {
-            return Ok(false);
-        }
-        if need_of(alloc, &words)? != need {
+// What follows `load`, and what it asks for: a protocol, a number and a count.
+const LOADS: [(&[&str], Proto, u32, u32); 4] = [
+    (&["relp", "1", "2"], Proto::Relp, 1, 2),
+    (
+        &["lumberjack", "2147483647", "100000"],
+        Proto::Lumberjack,
+        2_147_483_647,
+        100_000,
+    ),
+    (&["hec", "0", "--", "0"], Proto::Hec, 0, 0),
+    (&["hec", "0000000007", "0000100000"], Proto::Hec, 7, 100_000),
+];
+
+pub(crate) fn loads(alloc: Global) -> Result<bool, Fail> {
+    for (after, proto, number, count) in LOADS {
+        let words = named_words(alloc, "load", after)?;
+        let command = Command::Load {
+            proto,
+            number,
+            count,
+        };
+        if !are(alloc, &words, command, Need::Nothing)? {
             return Ok(false);
         }
     }
     Ok(true)
 }
 
-// Words that are no command.
-const NO_COMMANDS: [&[&str]; 36] = [
-    &[],
-    &["format"],
-    &["format", "0", "4096"],
-    &["format", "1025", "4096"],
-    &["format", "1", "4095"],
-    &["format", "1", "1073741825"],
-    &["format", "1", "00000004096"],
-    &["format", "+1", "4096"],
-    &["format", "1", "-4096"],
-    &["format", "", "4096"],
-    &["format", "1", "4096", "x"],
-    &["format", "1", "0x1000"],
-    &["list", "--as"],
-    &["list", "relp"],
-    &["list", "--as", "lumberjack"],
-    &["list", "--as", ""],
-    &["list", "--as", "RELP"],
-    &["list", "--as="],
-    &["list", "--as=json", "--as=json"],
-    &["list", "--as=json", "relp"],
-    &["list", "--", "--as", "json"],
-    &["list", "--as", "--", "json"],
-    &["list", "--as", "--"],
-    &["list", "--", "--"],
-    &["format", "--", "2", "4096", "--"],
-    &["format", "--slots", "2", "4096"],
-    &["-", "list"],
-    &["--", "list"],
-    &["list", "-"],
-    &["list", "--as", "hec", "x"],
-    &["--as", "hec", "list"],
-    &["List"],
-    &["replay"],
-    &["relp", "replay"],
-    &["--token", T, "replay", "hec"],
-    &["replay", "lumberjack", "relp"],
+// Words that are no command, and why they are none.
+const NO_COMMANDS: [(&[&str], WordsFault); 54] = [
+    (&[], WordsFault::NoCommand),
+    (&["-"], WordsFault::UnknownWord),
+    (&[""], WordsFault::UnknownWord),
+    (&["serves"], WordsFault::UnknownWord),
+    (&["help"], WordsFault::UnknownWord),
+    (&["help", "list"], WordsFault::UnknownWord),
+    (&["--help"], WordsFault::UnknownWord),
+    (&["-h"], WordsFault::UnknownWord),
+    (&["--version"], WordsFault::UnknownWord),
+    (&["list", "--help"], WordsFault::UnknownWord),
+    (&["list", "-h"], WordsFault::UnknownWord),
+    (&["list", "help"], WordsFault::UnknownWord),
+    (&["list", "list"], WordsFault::UnknownWord),
+    (&["format"], WordsFault::MissingWord),
+    (&["format", "1"], WordsFault::MissingWord),
+    (&["format", "0", "4096"], WordsFault::Slots),
+    (&["format", "1025", "4096"], WordsFault::Slots),
+    (&["format", "1", "4095"], WordsFault::Size),
+    (&["format", "1", "1073741825"], WordsFault::Size),
+    (&["format", "1", "00000004096"], WordsFault::Size),
+    (&["format", "+1", "4096"], WordsFault::Slots),
+    (&["format", "1", "-4096"], WordsFault::UnknownWord),
+    (&["format", "", "4096"], WordsFault::Slots),
+    (&["format", "1", "4096", "x"], WordsFault::UnknownWord),
+    (&["format", "1", "0x1000"], WordsFault::Size),
+    (
+        &["format", "--", "2", "4096", "--"],
+        WordsFault::UnknownWord,
+    ),
+    (&["format", "--slots", "2", "4096"], WordsFault::UnknownWord),
+    (&["list", "--as"], WordsFault::MissingValue),
+    (&["list", "relp"], WordsFault::UnknownWord),
+    (&["list", "--as", "lumberjack"], WordsFault::Form),
+    (&["list", "--as", ""], WordsFault::Form),
+    (&["list", "--as", "RELP"], WordsFault::Form),
+    (&["list", "--as="], WordsFault::Form),
+    (&["list", "--as=-x"], WordsFault::Form),
+    (&["list", "--as=json", "--as=json"], WordsFault::GivenTwice),
+    (&["list", "--as=json", "relp"], WordsFault::UnknownWord),
+    (&["list", "--", "--as", "json"], WordsFault::UnknownWord),
+    (&["list", "--as", "--", "json"], WordsFault::UnknownWord),
+    (&["list", "--as", "--"], WordsFault::MissingValue),
+    (&["list", "--", "--"], WordsFault::UnknownWord),
+    (&["list", "--a", "json"], WordsFault::UnknownWord),
+    (&["list", "-"], WordsFault::UnknownWord),
+    (&["list", "--as", "hec", "x"], WordsFault::UnknownWord),
+    (&["-", "list"], WordsFault::UnknownWord),
+    (&["--", "list"], WordsFault::UnknownWord),
+    (&["--as", "hec", "list"], WordsFault::UnknownWord),
+    (&["List"], WordsFault::UnknownWord),
+    (&["relp", "replay"], WordsFault::UnknownWord),
+    (&["--token", T, "replay", "hec"], WordsFault::UnknownWord),
+    (&["load", "relp", "1"], WordsFault::MissingWord),
+    (&["load", "relp", "2147483648", "1"], WordsFault::Number),
+    (&["load", "relp", "1", "100001"], WordsFault::Count),
+    (&["load", "x", "1", "2"], WordsFault::Proto),
+    (&["load", "relp", "1", "2", "3"], WordsFault::UnknownWord),
 ];
 
 pub(crate) fn no_commands(alloc: Global) -> Result<bool, Fail> {
-    for words in NO_COMMANDS {
-        let words = words_of(alloc, words)?;
-        if Command::of(&words) != None {
-            return Ok(false);
-        }
-        if need_of(alloc, &words)? != Need::NoCommand {
+    for (words, fault) in NO_COMMANDS {
+        if !are_none(alloc, &words_of(alloc, words)?, fault)? {
             return Ok(false);
         }
     }
     Ok(true)
+}
+
+// What is wrong with words, and the text for it.
+const FAULTS: [(WordsFault, &str); 19] = [
+    (WordsFault::NoCommand, "no command is named"),
+    (WordsFault::UnknownWord, "unknown word or option"),
+    (WordsFault::MissingWord, "a word is missing"),
+    (WordsFault::MissingValue, "an option has no value"),
+    (WordsFault::GivenTwice, "an option is given twice"),
+    (WordsFault::Slots, "SLOTS: 1 to 1024"),
+    (WordsFault::Size, "SIZE: 4096 to 1073741824"),
+    (WordsFault::Proto, "PROTO: relp, lumberjack or hec"),
+    (WordsFault::Place, "PLACE: empty"),
+    (WordsFault::Number, "NUMBER: 0 to 2147483647"),
+    (WordsFault::Count, "COUNT: 0 to 100000"),
+    (WordsFault::Form, "--as: relp, json or hec"),
+    (WordsFault::Token, "--token: no GUID"),
+    (WordsFault::AckToken, "--ack-token: no GUID"),
+    (WordsFault::OutToken, "--out-token: no GUID"),
+    (WordsFault::OutChannel, "--out-channel: no GUID"),
+    (WordsFault::Polls, "--polls: 1 to 1000"),
+    (WordsFault::NoOutToken, "hec: --out-token is needed"),
+    (WordsFault::NoOutChannel, "hec: --out-channel is needed"),
+];
+
+pub(crate) fn fault_texts() -> bool {
+    FAULTS.iter().all(|(fault, text)| fault.text() == *text)
 }
 
 // Notes, their statuses and their texts.

@@ -1,0 +1,70 @@
+-- Words with which something is wrong are no command.
+use Rattle.std.proofs.Common.{◌≡◌, ◌∙◌, ◌⊎◌, inl, inr, ℕ, List, refl, sym, subst}
+use Rattle.std.specs.Prelude.{Option, None, Some, Result, Ok, Err}
+use Rattle.clap.specs.Walk.{Row, Text}
+use Rattle.clap.specs.Kinds.{IsAmong}
+use Rattle.clap.specs.declared.error.kind.ErrorKind.{ErrorKind}
+use Rattle.clap.specs.declared.error.kind.ErrorKind.TheVariants as kind
+use Rattle.edge_io.specs.declared.proto.Proto.{Proto}
+use Rattle.bridge_words.specs.declared.command.Command.{Command}
+use Rattle.bridge_words.specs.declared.command.Command.TheVariants.{Format, List as ListCommand, Replay, Drain, Load}
+use Rattle.bridge_words.specs.declared.command.Receiver.{Receiver}
+use Rattle.bridge_words.specs.declared.fault.WordsFault.{WordsFault}
+use Rattle.bridge_words.specs.declared.reading.Unread.TheVariants.{Wrong}
+use Rattle.bridge_words.specs.Grammar.{refusals}
+use Rattle.bridge_words.specs.Words.{IsFormat, IsReplay, IsDrain, IsLoad, IsCommandBy, IsCommand, IsNoCommand, name_of}
+use Rattle.bridge_words.specs.Wrong.{fault_for, unread_for, WrongFormat, WrongList, WrongReplay, WrongDrain, WrongLoad, WrongBy, IsWrong}
+use Rattle.bridge_words.specs.Wrong.WrongBy.{no_name, in_format, in_list, in_replay, in_drain, in_load}
+use Rattle.bridge_words.specs.Wrong.IsWrong.{refused, nameless, found}
+use Rattle.bridge_words.proofs.Once.{apart, same_name, same_rows}
+
+-- what is read is not wrong
+never : {A : Type 0} (r : Result A WordsFault) (x : A) (w : WordsFault) → r ≡ Ok x → r ≡ Err w → ⊥
+never r x w is is_not = absurd (cc)
+
+no_format : (w : WordsFault) (rows : List Row) (slots size : ℕ) → WrongFormat w rows → IsFormat slots size rows → ⊥
+no_format w rows slots size (inl h) is = never _ _ _ is.slots_is h
+no_format w rows slots size (inr h) is = never _ _ _ is.size_is h
+
+no_replay : (w : WordsFault) (rows : List Row) (proto : Proto) (token ack_token : Option ℕ) → WrongReplay w rows → IsReplay proto token ack_token rows → ⊥
+no_replay w rows proto token ack_token (inl h) is = never _ _ _ is.proto_is h
+no_replay w rows proto token ack_token (inr (inl h)) is = never _ _ _ is.token_is h
+no_replay w rows proto token ack_token (inr (inr h)) is = never _ _ _ is.ack_token_is h
+
+no_drain : (w : WordsFault) (rows : List Row) (receiver : Receiver) (place : Option Text) → WrongDrain w rows → IsDrain receiver place rows → ⊥
+no_drain w rows receiver place (inl h) is = never _ _ _ is.receiver_is h
+no_drain w rows receiver place (inr h) is = never _ _ _ is.place_is h
+
+no_load : (w : WordsFault) (rows : List Row) (proto : Proto) (number count : ℕ) → WrongLoad w rows → IsLoad proto number count rows → ⊥
+no_load w rows proto number count (inl h) is = never _ _ _ is.proto_is h
+no_load w rows proto number count (inr (inl h)) is = never _ _ _ is.number_is h
+no_load w rows proto number count (inr (inr h)) is = never _ _ _ is.count_is h
+
+wrong_by : (name : Text) (w : WordsFault) (rows : List Row) (command : Command) → WrongBy name w rows → name_of command ≡ name → IsCommandBy command rows → ⊥
+wrong_by name w rows command (no_name none is) at asks = none command at
+wrong_by name w rows (Format slots size) (in_format is h) at asks = no_format w rows slots size h asks
+wrong_by name w rows command (in_format is h) at asks = apart (name_of command) _ refl (at ∙ is)
+wrong_by name w rows (ListCommand form) (in_list is h) at asks = never _ _ _ asks h
+wrong_by name w rows command (in_list is h) at asks = apart (name_of command) _ refl (at ∙ is)
+wrong_by name w rows (Replay proto token ack_token) (in_replay is h) at asks = no_replay w rows proto token ack_token h asks
+wrong_by name w rows command (in_replay is h) at asks = apart (name_of command) _ refl (at ∙ is)
+wrong_by name w rows (Drain receiver place) (in_drain is h) at asks = no_drain w rows receiver place h asks
+wrong_by name w rows command (in_drain is h) at asks = apart (name_of command) _ refl (at ∙ is)
+wrong_by name w rows (Load proto number count) (in_load is h) at asks = no_load w rows proto number count h asks
+wrong_by name w rows command (in_load is h) at asks = apart (name_of command) _ refl (at ∙ is)
+
+pub wrong_is_none : (w : WordsFault) (words : List Text) → IsWrong w words → IsNoCommand words
+wrong_is_none w words (refused why among is) command c = subst (IsAmong why) c.taken among
+wrong_is_none w words (nameless none is) command c = let both : ◌≡◌ {A = Option (Text × List Row)} None (Some (name_of command, c.rows)) = sym none ∙ c.found in absurd (cc)
+wrong_is_none w words (found name rows at h) command c =
+    let both : ◌≡◌ {A = Option (Text × List Row)} (Some (name_of command, c.rows)) (Some (name, rows)) = sym c.found ∙ at in
+    wrong_by name w rows command h (same_name _ _ _ _ both) (subst (IsCommandBy command) (same_rows _ _ _ _ both) c.asks)
+
+-- what a kind of clap's errors says, where it isn't for want of memory
+fault_is : (why : ErrorKind) (w : WordsFault) → unread_for why ≡ Wrong w → w ≡ fault_for why
+fault_is kind.OutOfMemory w is = absurd (cc)
+fault_is why w is = cc
+
+pub kind_is : (why : ErrorKind) (w : WordsFault) (words : List Text) → (why ≡ kind.OutOfMemory) ⊎ IsAmong why (refusals words) → unread_for why ≡ Wrong w → IsWrong w words
+kind_is why w words (inl memory) is = let none : unread_for kind.OutOfMemory ≡ Wrong w = subst (λ (k : ErrorKind). unread_for k ≡ Wrong w) memory is in absurd (cc)
+kind_is why w words (inr among) is = refused why among (fault_is why w is)

@@ -1,0 +1,83 @@
+-- What is wrong with words that are no command, and the text for it.
+use Rattle.std.specs.Prelude.{◌≡◌, ◌⊎◌, List, [], None, Some, Err, codes}
+use Rattle.clap.specs.Walk.{Row, Text}
+use Rattle.clap.specs.Kinds.{IsAmong}
+use Rattle.clap.specs.declared.error.kind.ErrorKind.{ErrorKind}
+use Rattle.clap.specs.declared.error.kind.ErrorKind.TheVariants as kind
+use Rattle.bridge_words.specs.declared.command.Command.{Command}
+use Rattle.bridge_words.specs.declared.fault.WordsFault.{WordsFault}
+use Rattle.bridge_words.specs.declared.fault.WordsFault.TheVariants as fault
+use Rattle.bridge_words.specs.declared.reading.Unread.{Unread}
+use Rattle.bridge_words.specs.declared.reading.Unread.TheVariants.{NoMemory, Wrong}
+use Rattle.bridge_words.specs.Grammar.{refusals, named}
+use Rattle.bridge_words.specs.Values.{slots_in, size_in, proto_in, place_in, number_in, count_in, form_in, token_in, ack_token_in}
+use Rattle.bridge_words.specs.Words.{name_of, receiver_in}
+
+-- what a kind of clap's errors says of the words
+abbrev pub fault_for : ErrorKind → WordsFault
+fault_for kind.MissingSubcommand = fault.NoCommand
+fault_for kind.MissingRequiredArgument = fault.MissingWord
+fault_for kind.InvalidValue = fault.MissingValue
+fault_for kind.ArgumentConflict = fault.GivenTwice
+fault_for _ = fault.UnknownWord
+
+-- the same of an error that may be for want of memory
+abbrev pub unread_for : ErrorKind → Unread
+unread_for kind.OutOfMemory = NoMemory
+unread_for why = Wrong (fault_for why)
+
+-- ---- one of a command's words is wrong
+
+abbrev pub WrongFormat : WordsFault → List Row → Type 0
+WrongFormat w rows = (slots_in rows ≡ Err w) ⊎ (size_in rows ≡ Err w)
+
+abbrev pub WrongList : WordsFault → List Row → Type 0
+WrongList w rows = form_in rows ≡ Err w
+
+abbrev pub WrongReplay : WordsFault → List Row → Type 0
+WrongReplay w rows = (proto_in rows ≡ Err w) ⊎ ((token_in rows ≡ Err w) ⊎ (ack_token_in rows ≡ Err w))
+
+abbrev pub WrongDrain : WordsFault → List Row → Type 0
+WrongDrain w rows = (receiver_in rows ≡ Err w) ⊎ (place_in rows ≡ Err w)
+
+abbrev pub WrongLoad : WordsFault → List Row → Type 0
+WrongLoad w rows = (proto_in rows ≡ Err w) ⊎ ((number_in rows ≡ Err w) ⊎ (count_in rows ≡ Err w))
+
+-- there is no command of this name, or what was found of its words is wrong by this
+pub data WrongBy (name : Text) (w : WordsFault) (rows : List Row) : Type 0 where
+  no_name : ((command : Command) → name_of command ≡ name → ⊥) → w ≡ fault.UnknownWord → WrongBy name w rows
+  in_format : name ≡ codes "format" → WrongFormat w rows → WrongBy name w rows
+  in_list : name ≡ codes "list" → WrongList w rows → WrongBy name w rows
+  in_replay : name ≡ codes "replay" → WrongReplay w rows → WrongBy name w rows
+  in_drain : name ≡ codes "drain" → WrongDrain w rows → WrongBy name w rows
+  in_load : name ≡ codes "load" → WrongLoad w rows → WrongBy name w rows
+
+-- ---- the words
+
+-- clap refuses the words for a reason that says this, or names no command in them, or what it finds is wrong by this
+pub data IsWrong (w : WordsFault) (words : List Text) : Type 0 where
+  refused : (why : ErrorKind) → IsAmong why (refusals words) → w ≡ fault_for why → IsWrong w words
+  nameless : named words ≡ None → w ≡ fault.NoCommand → IsWrong w words
+  found : (name : Text) → (rows : List Row) → named words ≡ Some (name, rows) → WrongBy name w rows → IsWrong w words
+
+-- the text has no end of line
+abbrev pub fault_text : WordsFault → Text
+fault_text fault.NoCommand = codes "no command is named"
+fault_text fault.UnknownWord = codes "unknown word or option"
+fault_text fault.MissingWord = codes "a word is missing"
+fault_text fault.MissingValue = codes "an option has no value"
+fault_text fault.GivenTwice = codes "an option is given twice"
+fault_text fault.Slots = codes "SLOTS: 1 to 1024"
+fault_text fault.Size = codes "SIZE: 4096 to 1073741824"
+fault_text fault.Proto = codes "PROTO: relp, lumberjack or hec"
+fault_text fault.Place = codes "PLACE: empty"
+fault_text fault.Number = codes "NUMBER: 0 to 2147483647"
+fault_text fault.Count = codes "COUNT: 0 to 100000"
+fault_text fault.Form = codes "--as: relp, json or hec"
+fault_text fault.Token = codes "--token: no GUID"
+fault_text fault.AckToken = codes "--ack-token: no GUID"
+fault_text fault.OutToken = codes "--out-token: no GUID"
+fault_text fault.OutChannel = codes "--out-channel: no GUID"
+fault_text fault.Polls = codes "--polls: 1 to 1000"
+fault_text fault.NoOutToken = codes "hec: --out-token is needed"
+fault_text fault.NoOutChannel = codes "hec: --out-channel is needed"

@@ -1,0 +1,93 @@
+//! What is wrong with words that are no command.
+ghost use Rattle.std.specs.Prelude.{◌≡◌, Ok, Some, None, map, string_bytes};
+ghost use Rattle.bridge_words.specs.declared.fault.WordsFault.{WordsFault};
+ghost use Rattle.bridge_words.specs.Words.{IsSomeCommand, IsNoCommand};
+ghost use Rattle.bridge_words.specs.Wrong.{IsWrong, fault_text};
+
+use crate::reading::{Unread, read};
+use std::alloc::{AllocError, Global};
+
+/// What is wrong with words that are no command.
+#[derive(Clone, Copy, PartialEq, Eq, Debug)]
+pub enum WordsFault {
+    /// No command is named.
+    NoCommand,
+    /// A word or an option that the command doesn't have.
+    UnknownWord,
+    /// A word that the command needs is missing.
+    MissingWord,
+    /// An option has no value.
+    MissingValue,
+    /// An option is given twice.
+    GivenTwice,
+    /// SLOTS isn't 1 to 1,024.
+    Slots,
+    /// SIZE isn't 4,096 to 1,073,741,824.
+    Size,
+    /// PROTO is no protocol.
+    Proto,
+    /// PLACE is empty.
+    Place,
+    /// NUMBER isn't below 2^31.
+    Number,
+    /// COUNT isn't 0 to 100,000.
+    Count,
+    /// `--as` names no form.
+    Form,
+    /// `--token` is no GUID.
+    Token,
+    /// `--ack-token` is no GUID.
+    AckToken,
+    /// `--out-token` is no GUID.
+    OutToken,
+    /// `--out-channel` is no GUID.
+    OutChannel,
+    /// `--polls` isn't 1 to 1,000.
+    Polls,
+    /// `drain hec` without `--out-token`.
+    NoOutToken,
+    /// `drain hec` without `--out-channel`.
+    NoOutChannel,
+}
+
+impl WordsFault {
+    /// The text for it: one line, without its end.
+    pub fn text(self) -> &'static str
+        ensures { result.now ≡ fault_text self }
+    {
+        match self {
+            WordsFault::NoCommand => "no command is named",
+            WordsFault::UnknownWord => "unknown word or option",
+            WordsFault::MissingWord => "a word is missing",
+            WordsFault::MissingValue => "an option has no value",
+            WordsFault::GivenTwice => "an option is given twice",
+            WordsFault::Slots => "SLOTS: 1 to 1024",
+            WordsFault::Size => "SIZE: 4096 to 1073741824",
+            WordsFault::Proto => "PROTO: relp, lumberjack or hec",
+            WordsFault::Place => "PLACE: empty",
+            WordsFault::Number => "NUMBER: 0 to 2147483647",
+            WordsFault::Count => "COUNT: 0 to 100000",
+            WordsFault::Form => "--as: relp, json or hec",
+            WordsFault::Token => "--token: no GUID",
+            WordsFault::AckToken => "--ack-token: no GUID",
+            WordsFault::OutToken => "--out-token: no GUID",
+            WordsFault::OutChannel => "--out-channel: no GUID",
+            WordsFault::Polls => "--polls: 1 to 1000",
+            WordsFault::NoOutToken => "hec: --out-token is needed",
+            WordsFault::NoOutChannel => "hec: --out-channel is needed",
+        }
+    }
+}
+
+/// What is wrong with the words, or nothing where they are a command.
+pub fn wrong_words(alloc: Global, words: &[String]) -> Result<Option<WordsFault>, AllocError>
+    ensures none { result ≡ Ok None → IsSomeCommand (map string_bytes words.now) }
+    ensures some { (fault : WordsFault) → result ≡ Ok (Some fault) → IsNoCommand (map string_bytes words.now) }
+    ensures wrong { (fault : WordsFault) → result ≡ Ok (Some fault) → IsWrong fault (map string_bytes words.now) }
+{
+    match read(alloc, words) {
+        Ok(_command) => Ok(None),
+        Err(Unread::Wrong(fault)) => Ok(Some(fault)),
+        Err(Unread::NoMemory) => Err(AllocError),
+    }
+}

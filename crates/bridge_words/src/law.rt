@@ -1,0 +1,29 @@
+//! What holds of all words.
+ghost use Rattle.std.specs.Prelude.{◌≡◌, ℕ, List, [], ◌∷◌, ◌++◌, Some, None, codes};
+ghost use Rattle.clap.specs.Walk.{Text};
+ghost use Rattle.edge_io.specs.declared.proto.Proto.TheVariants.{Hec};
+ghost use Rattle.bridge_words.specs.declared.command.Command.{Command};
+ghost use Rattle.bridge_words.specs.declared.command.Command.TheVariants.{Replay, Drain};
+ghost use Rattle.bridge_words.specs.declared.command.Receiver.TheVariants.{Relp as ToRelp};
+ghost use Rattle.bridge_words.specs.Values.{guid};
+ghost use Rattle.bridge_words.specs.Words.{IsCommand, IsNoCommand};
+
+/// Words are one command at most.
+pub fn one_command()
+    ensures { (c d : Command) (words : List Text) → IsCommand c words → IsCommand d words → c ≡ d }
+{}
+
+/// How options are spelt, at `replay`, whatever their values are: they stand in any order, each once, and only after the
+/// command's name and before `--`. A place after `--` is any text that isn't empty.
+pub fn spelling()
+    ensures joined { (t a : Text) (token ack_token : ℕ) → guid t ≡ Some token → guid a ≡ Some ack_token
+        → IsCommand (Replay Hec (Some token) (Some ack_token))
+        (codes "replay" ∷ codes "hec" ∷ (codes "--token=" ++ t) ∷ (codes "--ack-token=" ++ a) ∷ []) }
+    ensures turned { (t a : Text) (token ack_token : ℕ) → guid t ≡ Some token → guid a ≡ Some ack_token
+        → IsCommand (Replay Hec (Some token) (Some ack_token))
+        (codes "replay" ∷ (codes "--ack-token=" ++ a) ∷ (codes "--token=" ++ t) ∷ codes "--" ∷ codes "hec" ∷ []) }
+    ensures twice { (t u : Text) → IsNoCommand (codes "replay" ∷ codes "hec" ∷ (codes "--token=" ++ t) ∷ (codes "--token=" ++ u) ∷ []) }
+    ensures ended { (t : Text) → IsNoCommand (codes "replay" ∷ codes "hec" ∷ codes "--" ∷ (codes "--token=" ++ t) ∷ []) }
+    ensures before { (t : Text) → IsNoCommand ((codes "--token=" ++ t) ∷ codes "replay" ∷ codes "hec" ∷ []) }
+    ensures placed { (x : ℕ) (more : Text) → IsCommand (Drain ToRelp (Some (x ∷ more))) (codes "drain" ∷ codes "relp" ∷ codes "--" ∷ (x ∷ more) ∷ []) }
+{}

@@ -1,0 +1,198 @@
+//! The one reading of the words: clap finds what stands where, and each word is then tested.
+ghost use Rattle.std.specs.Prelude.{◌≡◌, Err, IfOk, codes, map, string_bytes};
+ghost use Rattle.bridge_words.specs.declared.fault.WordsFault.{WordsFault};
+ghost use Rattle.bridge_words.specs.declared.reading.Unread.TheVariants.{NoMemory, Wrong};
+ghost use Rattle.bridge_words.specs.Values.{rows_in, receiver_of};
+ghost use Rattle.bridge_words.specs.Words.{IsNamed, IsCommand, receiver_in, HasPolls};
+ghost use Rattle.bridge_words.specs.Wrong.{fault_for, unread_for, WrongFormat, WrongList, WrongReplay, WrongDrain, WrongLoad, WrongBy, IsWrong};
+
+use crate::fault::WordsFault;
+use crate::grammar::{found, parse};
+use crate::values::{
+    ack_token_in, count_in, form_in, number_in, out_channel_in, out_token_in, place_in, polls_in,
+    proto_in, size_in, slots_in, token_in,
+};
+use crate::{Command, Receiver};
+use clap::ArgMatches;
+use clap::error::ErrorKind;
+use edge_io::Proto;
+use std::alloc::{AllocError, Global};
+
+/// Why no command was read from the words.
+#[derive(Clone, Copy, PartialEq, Eq, Debug)]
+pub(crate) enum Unread {
+    /// No memory was found.
+    NoMemory,
+    /// They are no command.
+    Wrong(WordsFault),
+}
+
+impl From<AllocError> for Unread {
+    ghost from_gives = { λ _ unread. unread ≡ NoMemory };
+
+    fn from(_error: AllocError) -> Unread {
+        Unread::NoMemory
+    }
+}
+
+impl From<WordsFault> for Unread {
+    ghost from_gives = { λ fault unread. unread ≡ Wrong fault };
+
+    fn from(fault: WordsFault) -> Unread {
+        Unread::Wrong(fault)
+    }
+}
+
+// What a kind of clap's errors says of the words.
+fn fault_for(kind: ErrorKind) -> WordsFault
+    ensures { result ≡ fault_for kind }
+{
+    match kind {
+        ErrorKind::MissingSubcommand => WordsFault::NoCommand,
+        ErrorKind::MissingRequiredArgument => WordsFault::MissingWord,
+        ErrorKind::InvalidValue => WordsFault::MissingValue,
+        ErrorKind::ArgumentConflict => WordsFault::GivenTwice,
+        _ => WordsFault::UnknownWord,
+    }
+}
+
+// The same of an error that may be for want of memory.
+fn unread_for(kind: ErrorKind) -> Unread
+    ensures { result ≡ unread_for kind }
+{
+    match kind {
+        ErrorKind::OutOfMemory => Unread::NoMemory,
+        _ => Unread::Wrong(fault_for(kind)),
+    }
+}
+
+// `format SLOTS SIZE`
+fn format_in(matches: &ArgMatches<'_>) -> Result<Command, Unread>
+    ensures command { IfOk result (IsNamed (codes "format") (rows_in matches.now)) }
+    ensures wrong { (fault : WordsFault) → result ≡ Err (Wrong fault) → WrongFormat fault (rows_in matches.now) }
+{
+    let slots = slots_in(matches)?;
+    let size = size_in(matches)?;
+    Ok(Command::Format {
+        slots,
+        size: u64::from(size),
+    })
+}
+
+// `list [--as FORM]`
+fn list_in(matches: &ArgMatches<'_>) -> Result<Command, Unread>
+    ensures command { IfOk result (IsNamed (codes "list") (rows_in matches.now)) }
+    ensures wrong { (fault : WordsFault) → result ≡ Err (Wrong fault) → WrongList fault (rows_in matches.now) }
+{
+    let form = form_in(matches)?;
+    Ok(Command::List { form })
+}
+
+// `replay PROTO [--token G] [--ack-token G]`
+fn replay_in(matches: &ArgMatches<'_>) -> Result<Command, Unread>
+    ensures command { IfOk result (IsNamed (codes "replay") (rows_in matches.now)) }
+    ensures wrong { (fault : WordsFault) → result ≡ Err (Wrong fault) → WrongReplay fault (rows_in matches.now) }
+{
+    let proto = proto_in(matches)?;
+    let token = token_in(matches)?;
+    let ack_token = ack_token_in(matches)?;
+    Ok(Command::Replay {
+        proto,
+        token,
+        ack_token,
+    })
+}
+
+// A collector is sent to with a token and on a channel.
+fn receiver_of(
+    proto: Proto,
+    token: Option<u128>,
+    channel: Option<u128>,
+    polls: u32,
+) -> Result<Receiver, WordsFault>
+    ensures { result ≡ receiver_of proto token channel polls }
+{
+    match (proto, token, channel) {
+        (Proto::Relp, _, _) => Ok(Receiver::Relp),
+        (Proto::Lumberjack, _, _) => Ok(Receiver::Lumberjack),
+        (Proto::Hec, None, _) => Err(WordsFault::NoOutToken),
+        (Proto::Hec, Some(_), None) => Err(WordsFault::NoOutChannel),
+        (Proto::Hec, Some(token), Some(channel)) => Ok(Receiver::Hec {
+            token,
+            channel,
+            polls,
+        }),
+    }
+}
+
+// What `drain` forwards to.
+fn receiver_in(matches: &ArgMatches<'_>) -> Result<Receiver, WordsFault>
+    ensures receiver { result ≡ receiver_in (rows_in matches.now) }
+    ensures polls { IfOk result HasPolls }
+{
+    let proto = proto_in(matches)?;
+    let token = out_token_in(matches)?;
+    let channel = out_channel_in(matches)?;
+    let polls = polls_in(matches)?;
+    receiver_of(proto, token, channel, polls)
+}
+
+// `drain PROTO [PLACE] [--out-token G] [--out-channel G] [--polls N]`
+fn drain_in(alloc: Global, matches: &ArgMatches<'_>) -> Result<Command, Unread>
+    ensures command { IfOk result (IsNamed (codes "drain") (rows_in matches.now)) }
+    ensures wrong { (fault : WordsFault) → result ≡ Err (Wrong fault) → WrongDrain fault (rows_in matches.now) }
+{
+    let receiver = receiver_in(matches)?;
+    let place = place_in(alloc, matches)?;
+    Ok(Command::Drain { receiver, place })
+}
+
+// `load PROTO NUMBER COUNT`
+fn load_in(matches: &ArgMatches<'_>) -> Result<Command, Unread>
+    ensures command { IfOk result (IsNamed (codes "load") (rows_in matches.now)) }
+    ensures wrong { (fault : WordsFault) → result ≡ Err (Wrong fault) → WrongLoad fault (rows_in matches.now) }
+{
+    let proto = proto_in(matches)?;
+    let number = number_in(matches)?;
+    let count = count_in(matches)?;
+    Ok(Command::Load {
+        proto,
+        number,
+        count,
+    })
+}
+
+// The command of this name for which its words ask.
+fn command_in(alloc: Global, name: &str, matches: &ArgMatches<'_>) -> Result<Command, Unread>
+    ensures command { IfOk result (IsNamed name.now (rows_in matches.now)) }
+    ensures wrong { (fault : WordsFault) → result ≡ Err (Wrong fault) → WrongBy name.now fault (rows_in matches.now) }
+{
+    if name == "list" {
+        list_in(matches)
+    } else if name == "replay" {
+        replay_in(matches)
+    } else if name == "drain" {
+        drain_in(alloc, matches)
+    } else if name == "format" {
+        format_in(matches)
+    } else if name == "load" {
+        load_in(matches)
+    } else {
+        Err(Unread::Wrong(WordsFault::UnknownWord))
+    }
+}
+
+/// The command that the words are, or what is wrong with them.
+pub(crate) fn read(alloc: Global, words: &[String]) -> Result<Command, Unread>
+    ensures command { IfOk result (λ command. IsCommand command (map string_bytes words.now)) }
+    ensures wrong { (fault : WordsFault) → result ≡ Err (Wrong fault) → IsWrong fault (map string_bytes words.now) }
+{
+    let matches = match parse(alloc, words) {
+        Ok(matches) => matches,
+        Err(error) => return Err(unread_for(error.kind())),
+    };
+    match found(&matches) {
+        Some((name, matches)) => command_in(alloc, name, matches),
+        None => Err(Unread::Wrong(WordsFault::NoCommand)),
+    }
+}
