@@ -1,0 +1,9 @@
+pub mod Counted
+pub mod Led
+pub mod Unfailing
+pub mod Asked
+pub mod Shorts
+pub mod Texts
+pub mod Sessions
+pub mod Newest
+pub mod Finished

@@ -1,0 +1,40 @@
+//! What a load counts.
+use event_form::Talk;
+use forward_core::Sent;
+
+/// What a load came to, in numbers.
+#[derive(Clone, Copy, Debug, PartialEq, Eq)]
+pub struct Loaded {
+    /// How many entries were taken into the spool.
+    pub events: u64,
+    /// How many bytes the stream has that was replayed.
+    pub bytes_in: u64,
+    /// How many bytes the replies to it have.
+    pub bytes_out: u64,
+    /// How many entries the peer of the drain confirmed.
+    pub confirmed: u64,
+    /// How many entries are left in the spool that aren't known as confirmed, from the first of them to the last entry.
+    pub left: u64,
+}
+
+/// Why a load came to no numbers.
+#[derive(Clone, Copy, Debug, PartialEq, Eq)]
+pub enum LoadFault {
+    /// The connection by which the stream was replayed ended so.
+    Replayed { talk: Talk },
+    /// The session by which the spool was drained ended so.
+    Drained { sent: Sent },
+    /// No memory was found.
+    NoMemory,
+}
+
+impl From<std::alloc::AllocError> for LoadFault {
+    ghost use Rattle.std.specs.Prelude.{◌≡◌};
+    ghost use Rattle.load_run.specs.declared.loaded.LoadFault.TheVariants.{NoMemory as Starved};
+
+    ghost from_gives = { λ _ fault. fault ≡ Starved };
+
+    fn from(_: std::alloc::AllocError) -> LoadFault {
+        LoadFault::NoMemory
+    }
+}
