@@ -1,0 +1,66 @@
+//! Workers that have a desk to themselves.
+ghost use Rattle.std.specs.Prelude.{◌≡◌, ◌^◌, ◌≤◌, List, map, IfOk, vec_len};
+ghost use Rattle.desk_access.specs.Call.{Record};
+ghost use Rattle.spool_turns.specs.Passes.{Known};
+ghost use Rattle.spool_turns.specs.Replays.{Closes, desk_at};
+ghost use Rattle.serve_workers.specs.Crews.{AreNew, HaveWorked};
+
+use desk_access::Desk;
+use edge_disk::Disk;
+use edge_io::Door;
+use serve_workers::{Crew, Post, WorkerEnd, serve_doors};
+use spool_turns::{Naming, Opened};
+use std::alloc::Global;
+use std::sync::Wait;
+use std::thread::Threads;
+
+/// What workers leave: the desk, and the door and the end of each, in their order.
+#[derive(Drop)]
+pub struct Served<P: Door, D: Disk> {
+    pub desk: Desk<D>,
+    pub doors: Vec<P>,
+    pub ends: Vec<WorkerEnd>,
+}
+
+/// Has a worker serve at each of the doors, with the passes of a desk that nobody else calls, and closes the desk. One journal
+/// left it, and each worker's part of it is the calls of the links that it served. The error is want of memory, and the
+/// desk then.
+pub fn serve_alone<
+    P: Door + Drop + Send,
+    D: Disk + Drop + Send,
+    J: Naming + Send + Sync,
+    R: Threads + Wait + Sync,
+>(
+    rt: &R,
+    alloc: Global,
+    opened: Opened<D, J>,
+    posts: Vec<Post<P>>,
+    talks: u32,
+) -> Result<Served<P, D>, Desk<D>>
+where
+    P::L: Send,
+    requires many { (vec_len opened.passes ≡ vec_len posts) × (vec_len posts ≤ 64) }
+    requires new { AreNew 0 opened.passes.items }
+    requires talks { talks ≤ 2 ^ 26 }
+
+    ensures journal { IfOk result (λ served. (log : List Record) × (passes : List Known) × Closes D.tells J.start J.run J.seats J.began log passes (desk_at served.desk)
+        × HaveWorked J.start J.run talks (map (λ (post : _). post.rules) posts.items) (map (λ (post : _). P.told post.door) posts.items)
+        opened.passes.items (map (λ (door : _). P.told door) served.doors.items) passes served.ends.items) }
+{
+    let Opened { shared, passes } = opened;
+    match serve_doors(rt, alloc, &shared, posts, passes, talks) {
+        Ok(crew) => {
+            let Crew {
+                doors,
+                passes,
+                ends,
+            } = crew;
+            Ok(Served {
+                desk: shared.close(passes),
+                doors,
+                ends,
+            })
+        }
+        Err(none) => Err(shared.close(none.passes)),
+    }
+}

@@ -1,0 +1,4 @@
+mod Joining
+mod Linking
+mod Following
+pub mod Placing

@@ -1,0 +1,125 @@
+-- Workers in their order.
+use Rattle.std.proofs.Common.{◌≡◌, ℕ, zero, suc, ◌+◌, ◌<◌, ◌≤◌, ◌∙◌, arith, List, [], ◌∷◌, ◌++◌, length, map, take, get_or, refl, sym, ap, subst}
+use Rattle.std.specs.Prelude.{All, Some, slice_get}
+use Rattle.std.specs.List.{zip}
+use Rattle.std.proofs.lemmas.List.{map_push, take_all, take-append-le}
+use Rattle.std.proofs.lemmas.List.Elements.{All-nil, All-cons, All-head, All-tail}
+use Rattle.edge_io.specs.Door.{DoorState}
+use Rattle.desk_access.specs.Desk.{DeskState}
+use Rattle.conn_serve.specs.declared.rules.Rules.{Rules}
+use Rattle.spool_turns.specs.Passes.{Known, fresh}
+use Rattle.serve_workers.specs.declared.worker.WorkerEnd.{WorkerEnd}
+use Rattle.serve_workers.specs.Works.{Worked}
+use Rattle.serve_workers.specs.Crews.{AreNew, HaveWorked}
+
+-- one at a place of a list of what a function has of each
+at_map : {X Y : Type 0} (f : X → Y) (xs : List X) (k : ℕ) (y : Y) → slice_get (map f xs) k ≡ Some y → (x : X) × (slice_get xs k ≡ Some x) × (f x ≡ y)
+at_map f [] k y is = absurd (cc)
+at_map f (x ∷ xs) zero y is = (x, refl, cc)
+at_map f (x ∷ xs) (suc k) y is = at_map f xs k y is
+
+at_place : {X : Type 0} (xs : List X) (k : ℕ) (x d : X) → slice_get xs k ≡ Some x → (k < length xs) × (get_or xs k d ≡ x)
+at_place [] k x d is = absurd (cc)
+at_place (y ∷ ys) zero x d is = (omega arith, cc)
+at_place (y ∷ ys) (suc k) x d is = let rest = at_place ys k x d is in (omega (arith, rest.0), rest.1)
+
+-- the same of a list that equals it
+in_list : {X Y : Type 0} (f : X → Y) (xs : List X) (ys : List Y) (k : ℕ) (x : X) (y : Y) → map f xs ≡ ys → slice_get ys k ≡ Some y → slice_get xs k ≡ Some x → f x ≡ y
+in_list f xs ys k x y is here there =
+    let found = at_map f xs k y (ap (λ l. slice_get l k) is ∙ here) in
+    let same : x ≡ found.0 = cc (there, found.1) in
+    ap f same ∙ found.2
+
+-- What each worker did, where it is known by its place.
+pub have_worked : {X : Type 0} (rules_of : X → Rules) (door_of : X → DoorState) (pass_of : X → Known) (end_of : X → WorkerEnd) (start : DeskState → Type 0) (run talks : ℕ) (xs ys : List X)
+    (rules : List Rules) (doors doors' : List DoorState) (passes passes' : List Known) (ends : List WorkerEnd)
+    → ((k : ℕ) (d : X) → k < length xs → Worked start run (rules_of (get_or xs k d)) talks (door_of (get_or xs k d)) (door_of (get_or ys k d)) (pass_of (get_or xs k d)) (pass_of (get_or ys k d)) (end_of (get_or ys k d)))
+    → map rules_of xs ≡ rules → map door_of xs ≡ doors → map pass_of xs ≡ passes → map door_of ys ≡ doors' → map pass_of ys ≡ passes' → map end_of ys ≡ ends
+    → HaveWorked start run talks rules doors passes doors' passes' ends
+have_worked rules_of door_of pass_of end_of start run talks xs ys rules doors doors' passes passes' ends each r d p d' p' e k by old new pass pass' end by_is old_is pass_is new_is pass'_is end_is =
+    let x = at_map rules_of xs k by (ap (λ l. slice_get l k) r ∙ by_is) in
+    let y = at_map end_of ys k end (ap (λ l. slice_get l k) e ∙ end_is) in
+    let x_at = at_place xs k x.0 x.0 x.1 in
+    let y_at = at_place ys k y.0 x.0 y.1 in
+    let old_of = in_list door_of xs doors k x.0 old d old_is x.1 in
+    let pass_of_is = in_list pass_of xs passes k x.0 pass p pass_is x.1 in
+    let new_of = in_list door_of ys doors' k y.0 new d' new_is y.1 in
+    let pass'_of = in_list pass_of ys passes' k y.0 pass' p' pass'_is y.1 in
+    subst (λ (t : Rules × DoorState × DoorState × Known × Known × WorkerEnd). Worked start run t.0 talks t.1 t.2 t.3 t.4 t.5)
+    (λ i. ((ap rules_of x_at.1 ∙ x.2) i, (ap door_of x_at.1 ∙ old_of) i, (ap door_of y_at.1 ∙ new_of) i, (ap pass_of x_at.1 ∙ pass_of_is) i, (ap pass_of y_at.1 ∙ pass'_of) i, (ap end_of y_at.1 ∙ y.2) i)) (each k x.0 x_at.0)
+
+-- ---- lists side by side
+
+pub all_more : {X : Type 0} (P : X → Type 0) (xs : List X) (x : X) → All P xs → P x → All P (xs ++ x ∷ [])
+all_more P [] x all here = All-cons P x [] here (All-nil P)
+all_more P (y ∷ ys) x all here = All-cons P y (ys ++ x ∷ []) (All-head P y ys all) (all_more P ys x (All-tail P y ys all) here)
+
+pairs : {X Y : Type 0} (l : List (X × Y)) → map (λ (p : X × Y). (p.0, p.1)) l ≡ l
+pairs [] = refl
+pairs {X} {Y} (p ∷ l) = ap (λ (m : List (X × Y)). p ∷ m) (pairs l)
+
+of_first : {X Y Z : Type 0} (h : X → Z) (xs : List X) (ys : List Y) → length xs ≡ length ys → map (λ (z : X × Y). h z.0) (zip xs ys) ≡ map h xs
+of_first h [] ys same = refl
+of_first h (x ∷ xs) [] same = absurd (omega (arith, same))
+of_first {Z = Z} h (x ∷ xs) (y ∷ ys) same = ap (λ (l : List Z). h x ∷ l) (of_first h xs ys (omega (arith, same)))
+
+of_second : {X Y : Type 0} (xs : List X) (ys : List Y) → length xs ≡ length ys → map (λ (z : X × Y). z.1) (zip xs ys) ≡ ys
+of_second [] [] same = refl
+of_second [] (y ∷ ys) same = absurd (omega (arith, same))
+of_second (x ∷ xs) [] same = absurd (omega (arith, same))
+of_second {Y = Y} (x ∷ xs) (y ∷ ys) same = ap (λ (l : List Y). y ∷ l) (of_second xs ys (omega (arith, same)))
+
+-- of pairs that are those of two lists
+pub firsts : {X Y Z : Type 0} (h : X → Z) (l : List (X × Y)) (xs : List X) (ys : List Y) → map (λ (p : X × Y). (p.0, p.1)) l ≡ zip xs ys → length xs ≡ length ys → map (λ (z : X × Y). h z.0) l ≡ map h xs
+firsts {X} {Y} h l xs ys is same = ap (map (λ (z : X × Y). h z.0)) (sym (pairs l) ∙ is) ∙ of_first h xs ys same
+
+pub seconds : {X Y : Type 0} (l : List (X × Y)) (xs : List X) (ys : List Y) → map (λ (p : X × Y). (p.0, p.1)) l ≡ zip xs ys → length xs ≡ length ys → map (λ (z : X × Y). z.1) l ≡ ys
+seconds {X} {Y} l xs ys is same = ap (map (λ (z : X × Y). z.1)) (sym (pairs l) ∙ is) ∙ of_second xs ys same
+
+pub zip_few : {X Y : Type 0} (xs : List X) (ys : List Y) → length (zip xs ys) ≤ length xs
+zip_few [] ys = omega arith
+zip_few (x ∷ xs) [] = omega arith
+zip_few (x ∷ xs) (y ∷ ys) = omega (arith, zip_few xs ys)
+
+-- what a function has of each, after one more
+pub pushed : {X Y Z : Type 0} (f : X → Z) (h : Y → Z) (old new : List X) (x : X) (ys : List Y) (y : Y) → new ≡ old ++ x ∷ [] → map f old ≡ map h ys → f x ≡ h y → map f new ≡ map h (ys ++ y ∷ [])
+pushed {Z = Z} f h old new x ys y is so here = ap (map f) is ∙ map_push f old x ∙ (λ i. so i ++ here i ∷ []) ∙ sym (map_push h ys y)
+
+pub ready_pushed : {X : Type 0} (P : X → Type 0) (old new : List X) (x : X) → new ≡ old ++ x ∷ [] → All P old → P x → All P new
+ready_pushed P old new x is all here = subst (All P) (sym is) (all_more P old x all here)
+
+-- the pass at a place
+pub new_at : {X : Type 0} (number : ℕ) (xs : List X) (passes : List Known) (k : ℕ) (d : X × Known) → AreNew number passes → k < length (zip xs passes)
+    → ((get_or (zip xs passes) k d).1.number ≡ number + k) × ((get_or (zip xs passes) k d).1.own ≡ [])
+new_at number [] passes k d new lt = absurd (omega (arith, lt))
+new_at number (x ∷ xs) [] k d new lt = absurd (omega (arith, lt))
+new_at number (x ∷ xs) (pass ∷ passes) zero d new lt = (omega (arith, new.0), new.1)
+new_at number (x ∷ xs) (pass ∷ passes) (suc k) d new lt = let rest = new_at (number + 1) xs passes k d new.2 (omega (arith, lt)) in (omega (arith, rest.0), rest.1)
+
+-- ---- what a function has of each, told by another
+
+map_of : {X Y Z : Type 0} (f : X → Y) (h : Y → Z) (xs : List X) → map h (map f xs) ≡ map (λ x. h (f x)) xs
+map_of f h [] = refl
+map_of {Z = Z} f h (x ∷ xs) = ap (λ (l : List Z). h (f x) ∷ l) (map_of f h xs)
+
+pub told_same : {X Y Z : Type 0} (f : X → Y) (h : Y → Z) (xs : List X) (ys : List Y) → map f xs ≡ ys → map (λ x. h (f x)) xs ≡ map h ys
+told_same f h xs ys is = sym (map_of f h xs) ∙ ap (map h) is
+
+pub told_alike : {X V Y Z : Type 0} (f : X → Y) (e : V → Y) (h : Y → Z) (xs : List X) (vs : List V) → map f xs ≡ map e vs → map (λ x. h (f x)) xs ≡ map (λ v. h (e v)) vs
+told_alike f e h xs vs is = told_same f h xs (map e vs) is ∙ map_of e h vs
+
+-- a list that was written back over one of its length
+pub written_back : {X : Type 0} (n : ℕ) (ys zs : List X) → n ≡ length ys → take n (ys ++ zs) ≡ ys
+written_back n ys zs same = take-append-le n ys zs (omega (arith, same)) ∙ take_all n ys (omega (arith, same))
+
+-- ---- new passes
+
+-- those that a shared desk gives are new
+pub fresh_new : (number count end cursor : ℕ) → AreNew number (fresh number count end cursor)
+fresh_new number zero end cursor = tt
+fresh_new number (suc count) end cursor = (refl, refl, subst (λ (n : ℕ). AreNew n (fresh (suc number) count end cursor)) (omega arith) (fresh_new (suc number) count end cursor))
+
+-- and so are the first ones of such
+pub new_front : (number : ℕ) (passes : List Known) (last : Known) → AreNew number (passes ++ last ∷ []) → AreNew number passes
+new_front number [] last new = tt
+new_front number (pass ∷ passes) last new = (new.0, new.1, new_front (number + 1) passes last new.2)

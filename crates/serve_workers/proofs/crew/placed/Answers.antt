@@ -1,0 +1,75 @@
+use Rattle.std.proofs.Common.{arith, ◌∷◌, [], length, length-append, refl, ap, ◌∙◌}
+use Rattle.std.proofs.lemmas.Iterator.{YieldsList-from_zip}
+use Rattle.std.proofs.lemmas.Iterator.Adapters.{YieldsList-from_vec}
+use Rattle.std.proofs.lemmas.Iterator.Consumers.{YieldsList-turn, YieldsList-end}
+use Rattle.serve_workers.specs.Crews.{IsReady}
+use Rattle.serve_workers.proofs.Placing.{firsts, seconds, zip_few, pushed, ready_pushed, new_at}
+use Rattle.serve_workers.proofs.crew.placed.Goals as goal
+
+pub overflow_add-number : goal.overflow_add-number
+overflow_add-number g c =
+    let a = c.into_iter.ensures in
+    let b = c.zip-post-items.ensures in
+    let d = c.into_iter-post-iterator.ensures.into_iter_gives in
+    let it = c.into_iter-post-iterator.result in
+    let posts = YieldsList-from_vec {s = it.a} c.args.posts.items (ap (λ z. z.a.rest.items) d ∙ ap (λ z. z.rest.items) b.first ∙ a.rest) (ap (λ z. z.a.rest.len) d ∙ ap (λ z. z.rest.len) b.first ∙ a.len ∙ c.args.posts.ok.0) in
+    let passes = YieldsList-from_vec {s = it.b} c.args.passes.items (ap (λ z. z.b.rest.items) d ∙ b.second.0) (ap (λ z. z.b.rest.len) d ∙ b.second.1 ∙ c.args.passes.ok.0) in
+    let turn = YieldsList-turn (YieldsList-from_zip {s = it} posts passes) c.loop-post.yielded c.loop-post.post-iterator c.loop-post.yielded_by c.next.result c.next.new.self (c.in-Some.post, c.in-Some.pass) c.in-Some.is c.next.ensures.steps in
+    omega (arith, turn.0, zip_few c.args.posts.items c.args.passes.items, c.args.posts.ok.0, c.requires.many.1, c.loop-post.invariant.number)
+
+pub loop-post-preserved : goal.loop-post-preserved
+loop-post-preserved g c =
+    let a = c.into_iter.ensures in
+    let b = c.zip-post-items.ensures in
+    let d = c.into_iter-post-iterator.ensures.into_iter_gives in
+    let it = c.into_iter-post-iterator.result in
+    let posts = YieldsList-from_vec {s = it.a} c.args.posts.items (ap (λ z. z.a.rest.items) d ∙ ap (λ z. z.rest.items) b.first ∙ a.rest) (ap (λ z. z.a.rest.len) d ∙ ap (λ z. z.rest.len) b.first ∙ a.len ∙ c.args.posts.ok.0) in
+    let passes = YieldsList-from_vec {s = it.b} c.args.passes.items (ap (λ z. z.b.rest.items) d ∙ b.second.0) (ap (λ z. z.b.rest.len) d ∙ b.second.1 ∙ c.args.passes.ok.0) in
+    let turn = YieldsList-turn (YieldsList-from_zip {s = it} posts passes) c.loop-post.yielded c.loop-post.post-iterator c.loop-post.yielded_by c.next.result c.next.new.self (c.in-Some.post, c.in-Some.pass) c.in-Some.is c.next.ensures.steps in
+    let i = c.loop-post.invariant in
+    let p = c.push_reserved.ensures in
+    let many = zip_few c.args.posts.items c.args.passes.items in
+    let at = new_at 0 c.args.posts.items c.args.passes.items (length c.loop-post.yielded) (c.in-Some.post, c.in-Some.pass) c.requires.new turn.0 in
+    let ready : IsReady c.loop-post.number c.in-Some.pass = (omega (arith, i.number, ap (λ z. z.1.number) turn.1, at.0), omega (arith, turn.0, many, c.args.posts.ok.0, c.requires.many.1, i.number), ap (λ z. z.1.own) turn.1 ∙ at.1) in
+    record {
+      doors = pushed (λ w. w.door) (λ y. y.0.door) _ _ _ c.loop-post.yielded (c.in-Some.post, c.in-Some.pass) p.items i.doors refl;
+      rules = pushed (λ w. w.rules) (λ y. y.0.rules) _ _ _ c.loop-post.yielded (c.in-Some.post, c.in-Some.pass) p.items i.rules refl;
+      passes = pushed (λ w. w.seated.pass) (λ y. y.1) _ _ _ c.loop-post.yielded (c.in-Some.post, c.in-Some.pass) p.items i.passes refl;
+      ready = ready_pushed (λ w. IsReady w.number w.seated.pass) _ _ _ p.items i.ready ready;
+      many = omega (arith, p.len, i.many, length-append c.loop-post.yielded ((c.in-Some.post, c.in-Some.pass) ∷ []));
+      number = omega (arith, i.number, length-append c.loop-post.yielded ((c.in-Some.post, c.in-Some.pass) ∷ []));
+      room = omega (arith, p.capacity, i.room);
+    }
+
+pub returns-clause-doors : goal.returns-clause-doors
+returns-clause-doors g c =
+    let a = c.into_iter.ensures in
+    let b = c.zip-post-items.ensures in
+    let d = c.into_iter-post-iterator.ensures.into_iter_gives in
+    let it = c.into_iter-post-iterator.result in
+    let posts = YieldsList-from_vec {s = it.a} c.args.posts.items (ap (λ z. z.a.rest.items) d ∙ ap (λ z. z.rest.items) b.first ∙ a.rest) (ap (λ z. z.a.rest.len) d ∙ ap (λ z. z.rest.len) b.first ∙ a.len ∙ c.args.posts.ok.0) in
+    let passes = YieldsList-from_vec {s = it.b} c.args.passes.items (ap (λ z. z.b.rest.items) d ∙ b.second.0) (ap (λ z. z.b.rest.len) d ∙ b.second.1 ∙ c.args.passes.ok.0) in
+    let end = YieldsList-end (YieldsList-from_zip {s = it} posts passes) c.loop-post.yielded c.loop-post.post-iterator c.loop-post.yielded_by c.next.result c.next.new.self c.in-None.is c.next.ensures.steps in
+    c.loop-post.invariant.doors ∙ firsts (λ p. p.door) c.loop-post.yielded c.args.posts.items c.args.passes.items end.0 (omega (arith, c.args.posts.ok.0, c.args.passes.ok.0, c.requires.many.0))
+
+pub returns-clause-rules : goal.returns-clause-rules
+returns-clause-rules g c =
+    let a = c.into_iter.ensures in
+    let b = c.zip-post-items.ensures in
+    let d = c.into_iter-post-iterator.ensures.into_iter_gives in
+    let it = c.into_iter-post-iterator.result in
+    let posts = YieldsList-from_vec {s = it.a} c.args.posts.items (ap (λ z. z.a.rest.items) d ∙ ap (λ z. z.rest.items) b.first ∙ a.rest) (ap (λ z. z.a.rest.len) d ∙ ap (λ z. z.rest.len) b.first ∙ a.len ∙ c.args.posts.ok.0) in
+    let passes = YieldsList-from_vec {s = it.b} c.args.passes.items (ap (λ z. z.b.rest.items) d ∙ b.second.0) (ap (λ z. z.b.rest.len) d ∙ b.second.1 ∙ c.args.passes.ok.0) in
+    let end = YieldsList-end (YieldsList-from_zip {s = it} posts passes) c.loop-post.yielded c.loop-post.post-iterator c.loop-post.yielded_by c.next.result c.next.new.self c.in-None.is c.next.ensures.steps in
+    c.loop-post.invariant.rules ∙ firsts (λ p. p.rules) c.loop-post.yielded c.args.posts.items c.args.passes.items end.0 (omega (arith, c.args.posts.ok.0, c.args.passes.ok.0, c.requires.many.0))
+
+pub returns-clause-passes : goal.returns-clause-passes
+returns-clause-passes g c =
+    let a = c.into_iter.ensures in
+    let b = c.zip-post-items.ensures in
+    let d = c.into_iter-post-iterator.ensures.into_iter_gives in
+    let it = c.into_iter-post-iterator.result in
+    let posts = YieldsList-from_vec {s = it.a} c.args.posts.items (ap (λ z. z.a.rest.items) d ∙ ap (λ z. z.rest.items) b.first ∙ a.rest) (ap (λ z. z.a.rest.len) d ∙ ap (λ z. z.rest.len) b.first ∙ a.len ∙ c.args.posts.ok.0) in
+    let passes = YieldsList-from_vec {s = it.b} c.args.passes.items (ap (λ z. z.b.rest.items) d ∙ b.second.0) (ap (λ z. z.b.rest.len) d ∙ b.second.1 ∙ c.args.passes.ok.0) in
+    let end = YieldsList-end (YieldsList-from_zip {s = it} posts passes) c.loop-post.yielded c.loop-post.post-iterator c.loop-post.yielded_by c.next.result c.next.new.self c.in-None.is c.next.ensures.steps in
+    c.loop-post.invariant.passes ∙ seconds c.loop-post.yielded c.args.posts.items c.args.passes.items end.0 (omega (arith, c.args.posts.ok.0, c.args.passes.ok.0, c.requires.many.0))

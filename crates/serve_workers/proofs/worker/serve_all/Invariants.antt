@@ -1,0 +1,5 @@
+use Rattle.serve_workers.proofs.Following.{Works}
+use Rattle.serve_workers.proofs.worker.serve_all.Given as goal
+
+abbrev pub invariant-loop-talk : goal.invariant-loop-talk
+invariant-loop-talk g l = Works g.J.Naming.start g.J.Naming.run l.fn.rules l.talk (g.P.Door.told l.fn.door) (g.P.Door.told l.door) l.fn.seated.pass l.seated.pass

@@ -1,0 +1,84 @@
+use Rattle.std.proofs.Common.{◌≡◌, [], ◌∷◌, ◌∙◌, refl, sym, ap, subst, arith}
+use Rattle.std.specs.Prelude.{Option, Some, None, IfSome, IfNone}
+use Rattle.edge_io.specs.Told.{IsFresh, IsToldAs}
+use Rattle.edge_io.specs.Door.{TakesLink, SameLinks}
+use Rattle.bridge_words.specs.Notes.{status_of}
+use Rattle.serve_workers.proofs.Joining.{tells_none}
+use Rattle.serve_workers.proofs.Linking.{link_of, tells_one, link_at_door, idle_at_door}
+use Rattle.serve_workers.proofs.worker.serve_next.Goals as goal
+
+at_some : {X : Type 0} (o : Option X) (x : X) (P : X → Type 0) → o ≡ Some x → IfSome o P → P x
+at_some o x P is p = subst (λ (q : Option _). IfSome q P) is p
+
+at_none : {X : Type 0} (o : Option X) (P : Type 0) → o ≡ None → IfNone o P → P
+at_none o P is p = subst (λ (q : Option _). IfNone q P) is p
+
+pub returns-in-Ok-clause-serves : goal.returns-in-Ok-clause-serves
+returns-in-Ok-clause-serves g c =
+    let told = g.P.Door.told in
+    let old = told c.args.door.now in
+    let between = told c.accept.new.self in
+    let new = told c.give_back.new.self in
+    let link = c.in-Ok-Some.link in
+    let fresh = at_some _ link (λ l. IsFresh old.talks (g.P.L.Source.given l) (g.P.L.Sink.taken l) (g.P.L.Source.left l)) c.in-Ok-Some.field-0-is c.in-Ok-Some.ensures.fresh in
+    let takes = at_some _ link (λ _. TakesLink old between) c.in-Ok-Some.field-0-is c.in-Ok-Some.ensures.link in
+    let rest = c.accept.ensures.rest in
+    let served = c.attend-attended.ensures in
+    let back = c.in-Ok.ensures in
+    let attended = c.attend-attended.result in
+    let s = served.carried in
+    let status = c.status-status.ensures ∙ ap status_of c.of_talk.ensures in
+    let one = link_of c.args.conn (g.P.L.Source.left c.attend-attended.new.link) s.calls s.bytes s.text attended.talk in
+    let tells = tells_one c.args.rules.now c.args.conn _ old between new _ _ _ _ _ _ _ attended fresh rest s status back.adds in (
+      one,
+      link_at_door c.args.rules.now c.args.conn old between new _ _ _ _ _ _ _ attended _ _ _ _ (one ∷ []) takes rest s served.reads served.writes back.reads back.writes back.rest tells,
+      back.rest.accept_faults ∙ c.in-Ok-Some.ensures.cause.quiet refl,
+    )
+
+pub returns-in-Ok-None-clause-stops : goal.returns-in-Ok-None-clause-stops
+returns-in-Ok-None-clause-stops g c =
+    let told = g.P.Door.told in
+    let old = told c.args.door.now in
+    let new = told c.accept.new.self in
+    let shut = at_none _ (IsToldAs old.waiting 0 × SameLinks old new) c.in-Ok-None.field-0-is c.in-Ok-None.ensures.shut in
+    record {
+      late = [];
+      at_door = idle_at_door c.args.rules.now c.args.conn old new _ (g.met.A.Access.ran_none c.args.access.now) shut.1.waiting shut.1.accepted c.accept.ensures.rest;
+      ends = (refl, subst (λ o. IsToldAs o 0) (sym shut.1.waiting) shut.0);
+      accept_faults = record { later = c.accept.ensures.cause.later; cause = λ is. absurd (cc); quiet = λ none. c.in-Ok-None.ensures.cause.quiet refl };
+    }
+
+pub returns-in-Err-clause-stops : goal.returns-in-Err-clause-stops
+returns-in-Err-clause-stops g c =
+    let told = g.P.Door.told in
+    let old = told c.args.door.now in
+    let new = told c.accept.new.self in
+    record {
+      late = [];
+      at_door = idle_at_door c.args.rules.now c.args.conn old new _ (g.met.A.Access.ran_none c.args.access.now) c.in-Err.ensures.err.waiting c.in-Err.ensures.err.accepted c.accept.ensures.rest;
+      ends = refl;
+      accept_faults = record { later = c.accept.ensures.cause.later; cause = λ is. c.in-Err.ensures.cause.failed refl; quiet = λ other. absurd (other refl) };
+    }
+
+pub returns-in-Err-give_back-clause-stops : goal.returns-in-Err-give_back-clause-stops
+returns-in-Err-give_back-clause-stops g c =
+    let told = g.P.Door.told in
+    let old = told c.args.door.now in
+    let between = told c.accept.new.self in
+    let new = told c.give_back.new.self in
+    let link = c.in-Ok-Some.link in
+    let takes = at_some _ link (λ _. TakesLink old between) c.in-Ok-Some.field-0-is c.in-Ok-Some.ensures.link in
+    let rest = c.accept.ensures.rest in
+    let served = c.attend-attended.ensures in
+    let back = c.in-Err-give_back.ensures in
+    let attended = c.attend-attended.result in
+    let s = served.carried in
+    let one = link_of c.args.conn (g.P.L.Source.left c.attend-attended.new.link) s.calls s.bytes s.text attended.talk in
+    let tells = tells_none c.args.rules.now old.talks new.talks (back.err ∙ rest.talks) in
+    let same = back.rest.accept_faults ∙ c.in-Ok-Some.ensures.cause.quiet refl in
+    record {
+      late = one ∷ [];
+      at_door = link_at_door c.args.rules.now c.args.conn old between new _ _ _ _ _ _ _ attended _ _ _ _ [] takes rest s served.reads served.writes back.reads back.writes back.rest tells;
+      ends = refl;
+      accept_faults = record { later = omega (arith, same); cause = λ is. absurd (cc); quiet = λ none. same };
+    }

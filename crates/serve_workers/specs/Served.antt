@@ -1,0 +1,84 @@
+-- Links that were served at a door, and what the door tells of them.
+use Rattle.std.specs.Prelude.{◌≡◌, ℕ, ◌+◌, List, [], ◌∷◌, ◌++◌, length, Option, Some, None}
+use Rattle.std.specs.List.{AllZip, flat_map, sum_by}
+use Rattle.foundation.specs.Faults.{Rose}
+use Rattle.event_form.specs.declared.talk.Talk.{Talk}
+use Rattle.event_form.specs.declared.talk.Talk.TheVariants.{ReadFault, WriteFault, DiskFault}
+use Rattle.edge_io.specs.Door.{Talked, DoorState}
+use Rattle.desk_access.specs.Call.{Call}
+use Rattle.desk_access.specs.Endings.{IsAtEndOfInput}
+use Rattle.conn_serve.specs.declared.rules.Rules.{Rules}
+use Rattle.conn_serve.specs.Serves.{CarriedBy}
+use Rattle.bridge_words.specs.Notes.{status_of, note_of_talk}
+
+-- A link that was served: the number of its connection, its calls on the desk, the bytes read, what its input has left
+-- where it says so, the text written, and the ending.
+pub record Served : Type 0 where
+  pub conn : ℕ
+  pub calls : List Call
+  pub bytes : List ℕ
+  pub left : Option (List ℕ)
+  pub text : List ℕ
+  pub talk : Talk
+
+-- the calls of all links, in order
+abbrev pub calls_in : List Served → List Call
+calls_in served = flat_map (λ one. one.calls) served
+
+-- the link was served by these rules
+abbrev pub IsServed : Rules → Served → Type 0
+IsServed rules one = CarriedBy rules one.conn one.left one.bytes one.calls one.text one.talk
+
+-- so were all, and their connections have the numbers from this one on
+abbrev pub AreServed : Rules → ℕ → List Served → Type 0
+AreServed rules conn [] = Unit {0}
+AreServed rules conn (one ∷ more) = (one.conn ≡ conn) × IsServed rules one × AreServed rules (conn + 1) more
+
+-- What a door tells of a link that was given back is what was served. Where its input was read to its end, no byte is left.
+pub record Tells (rules : Rules) (one : Served) (told : Talked) : Type 0 where
+  pub proto : told.proto ≡ rules.proto
+  pub conn : told.conn ≡ one.conn
+  pub read : told.read ≡ one.bytes
+  pub written : told.written ≡ one.text
+  pub status : told.status ≡ status_of (note_of_talk one.talk)
+  pub left : (rest : List ℕ) × (one.left ≡ Some rest) × (told.left ≡ length rest)
+  pub at_end : IsAtEndOfInput one.talk → told.left ≡ 0
+
+-- the list that a door tells, where it tells one, has these links more at its end, in order
+abbrev pub TellsMore : Rules → List Served → Option (List Talked) → Option (List Talked) → Type 0
+TellsMore rules served None new = new ≡ None
+TellsMore rules served (Some old) new = (more : List Talked) × AllZip (Tells rules) served more × (new ≡ Some (old ++ more))
+
+-- the number that is told, where one is, rose by so many
+abbrev pub RisesBy : ℕ → Option ℕ → Option ℕ → Type 0
+RisesBy n None new = new ≡ None
+RisesBy n (Some old) new = new ≡ Some (old + n)
+
+-- one where a connection ended at a read that failed, at a write that failed, or since the disk failed
+abbrev pub by_read : Talk → ℕ
+by_read ReadFault = 1
+by_read talk = 0
+
+abbrev pub by_write : Talk → ℕ
+by_write WriteFault = 1
+by_write talk = 0
+
+abbrev pub by_disk : Talk → ℕ
+by_disk DiskFault = 1
+by_disk talk = 0
+
+-- how many of the links ended so
+abbrev pub how_many : (Talk → ℕ) → List Served → ℕ
+how_many so served = sum_by (λ one. so one.talk) served
+
+-- What was done at a door: these links were accepted, one after another, and each was served to its end by the rules,
+-- with the numbers from `first` on. Those that are told were given back. The calls made are those of the links.
+pub record AtDoor (rules : Rules) (first : ℕ) (old new : DoorState) (made : List Call → Type 0) (links told : List Served) : Type 0 where
+  pub calls : made (calls_in links)
+  pub served : AreServed rules first links
+  pub talks : TellsMore rules told old.talks new.talks
+  pub place : new.place ≡ old.place
+  pub waiting : RisesBy (length links) new.waiting old.waiting
+  pub accepted : RisesBy (length links) old.accepted new.accepted
+  pub reads : Rose (how_many by_read links) old.read_faults new.read_faults
+  pub writes : Rose (how_many by_write links) old.write_faults new.write_faults

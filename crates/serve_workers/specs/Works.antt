@@ -1,0 +1,49 @@
+-- What a worker does at its door.
+use Rattle.std.specs.Prelude.{◌≡◌, ℕ, ◌+◌, ◌*◌, ◌^◌, ◌≤◌, List, [], ◌∷◌, ◌++◌, length}
+use Rattle.edge_io.specs.Told.{IsToldAs}
+use Rattle.edge_io.specs.Door.{DoorState}
+use Rattle.desk_access.specs.Call.{Call, failures_of}
+use Rattle.desk_access.specs.Desk.{DeskState}
+use Rattle.conn_serve.specs.declared.rules.Rules.{Rules}
+use Rattle.conn_serve.specs.Endings.{CountsFaults}
+use Rattle.spool_turns.specs.Passes.{Known}
+use Rattle.spool_turns.specs.Ran.{Ran}
+use Rattle.serve_workers.specs.declared.worker.WorkerEnd.{WorkerEnd}
+use Rattle.serve_workers.specs.declared.worker.WorkerEnd.TheVariants.{Shut, Enough, AcceptFault, NoMemory}
+use Rattle.serve_workers.specs.Served.{Served, AtDoor, calls_in, how_many, by_disk}
+
+-- the number of the first connection of the worker of that number, in that run
+abbrev pub first_conn : ℕ → ℕ → ℕ
+first_conn run number = run * 2 ^ 32 + number * 2 ^ 26
+
+-- the next link was accepted, served and given back
+abbrev pub ServesLink : Rules → ℕ → DoorState → DoorState → (List Call → Type 0) → Type 0
+ServesLink rules conn old new made = (one : Served) × AtDoor rules conn old new made (one ∷ []) (one ∷ []) × (new.accept_faults ≡ old.accept_faults)
+
+-- Why a worker ends, by how many links it served and didn't give back: its door is shut, and no link waits; it served as many
+-- links as it was to; an accept failed; or there was no memory to give a link back, and that one alone isn't told.
+abbrev pub EndsBy : Type 0 → DoorState → ℕ → WorkerEnd → Type 0
+EndsBy enough door late Shut = (late ≡ 0) × IsToldAs door.waiting 0
+EndsBy enough door late Enough = (late ≡ 0) × enough
+EndsBy enough door late AcceptFault = late ≡ 0
+EndsBy enough door late NoMemory = late ≡ 1
+
+-- no next link was given back
+pub record Stops (rules : Rules) (conn : ℕ) (old new : DoorState) (made : List Call → Type 0) (end : WorkerEnd) : Type 0 where
+  pub late : List Served
+  pub at_door : AtDoor rules conn old new made late []
+  pub ends : EndsBy ⊥ new (length late) end
+  pub accept_faults : CountsFaults (end ≡ AcceptFault) old.accept_faults new.accept_faults
+
+-- A worker with this pass, which was new, has ended. Of the links that it accepted it served each to its end, with the
+-- connections' numbers in order from its first one on, and gave back the finished ones, at most `talks`. The pass's calls
+-- are those of the links, joined. Where no memory was found to give a link back, that link's calls stand after the others'.
+pub record Worked (start : DeskState → Type 0) (run : ℕ) (rules : Rules) (talks : ℕ) (old new : DoorState) (pass pass' : Known) (end : WorkerEnd) : Type 0 where
+  pub finished : List Served
+  pub late : List Served
+  pub at_door : AtDoor rules (first_conn run pass.number) old new (λ calls. Ran start pass calls pass') (finished ++ late) finished
+  pub many : length (finished ++ late) ≤ talks
+  pub ends : EndsBy (length finished ≡ talks) new (length late) end
+  pub accept_faults : CountsFaults (end ≡ AcceptFault) old.accept_faults new.accept_faults
+  -- no more connections ended since the disk failed than calls of the pass were answered so
+  pub disk_faults : how_many by_disk (finished ++ late) ≤ failures_of (calls_in (finished ++ late))

@@ -1,0 +1,108 @@
+//! A worker at its door.
+ghost use Rattle.std.specs.Prelude.{◌≡◌, ◌^◌, ◌<◌, ◌≤◌, [], OnOk, IfErr};
+ghost use Rattle.serve_workers.specs.Works.{first_conn, ServesLink, Stops, Worked};
+ghost use Rattle.serve_workers.specs.Crews.{IsReady};
+
+use bridge_words::Note;
+use conn_serve::{Rules, attend};
+use desk_access::Access;
+use edge_disk::Disk;
+use edge_io::Door;
+use spool_turns::{Naming, Seated};
+use std::alloc::Global;
+use std::sync::Wait;
+
+/// Why a worker ended.
+#[derive(Clone, Copy, Debug, PartialEq, Eq)]
+pub enum WorkerEnd {
+    /// Its door is shut.
+    Shut,
+    /// It served as many links as it was to.
+    Enough,
+    /// An accept failed.
+    AcceptFault,
+    /// There was no memory to give a link back.
+    NoMemory,
+}
+
+/// A worker: its door, its pass at the shared desk, the rules by which it serves, and its number, which is that of its
+/// pass. Before it has worked, its end is `Enough`.
+#[derive(Drop)]
+pub(crate) struct Worker<'a, P: Door, D: Disk, J: Naming, R: Wait> {
+    pub(crate) door: P,
+    pub(crate) seated: Seated<'a, D, J, R>,
+    pub(crate) rules: Rules,
+    pub(crate) number: u32,
+    pub(crate) end: WorkerEnd,
+}
+
+// Accepts the next link of the door, serves it, and gives it back. The error is the end of the worker.
+fn serve_next<P: Door, A: Access>(
+    alloc: Global,
+    door: &mut P,
+    rules: &Rules,
+    access: &mut A,
+    conn: u64,
+) -> Result<(), WorkerEnd>
+    requires may { A.may_take access.old conn 0 }
+
+    ensures serves { OnOk result (ServesLink rules.now conn (P.told door.old) (P.told door.new) (λ calls. A.ran access.old calls access.new)) }
+    ensures stops { IfErr result (Stops rules.now conn (P.told door.old) (P.told door.new) (λ calls. A.ran access.old calls access.new)) }
+{
+    let mut link = match door.accept() {
+        Ok(Some(link)) => link,
+        Ok(None) => return Err(WorkerEnd::Shut),
+        Err(_) => return Err(WorkerEnd::AcceptFault),
+    };
+    let attended = attend(alloc, &mut link, rules, access, conn);
+    let status = Note::of_talk(attended.talk).status();
+    match door.give_back(link, rules.proto, conn, status) {
+        Ok(()) => Ok(()),
+        Err(_) => Err(WorkerEnd::NoMemory),
+    }
+}
+
+// Serves links of the door one after another, with the connections' numbers from `first` on: `talks` of them at most.
+fn serve_all<P: Door, D: Disk, J: Naming, R: Wait>(
+    alloc: Global,
+    door: &mut P,
+    rules: &Rules,
+    seated: &mut Seated<'_, D, J, R>,
+    first: u64,
+    talks: u32,
+) -> WorkerEnd
+    requires first { first ≡ first_conn J.run seated.old.pass.number }
+    requires ready { IsReady seated.old.pass.number seated.old.pass }
+    requires talks { talks ≤ 2 ^ 26 }
+
+    ensures { Worked J.start J.run rules.now talks (P.told door.old) (P.told door.new) seated.old.pass seated.new.pass result }
+{
+    for talk in 0..talks {
+        if let Err(end) = serve_next(alloc, door, rules, seated, first + u64::from(talk)) {
+            return end;
+        }
+    }
+    WorkerEnd::Enough
+}
+
+impl<'a, P: Door, D: Disk, J: Naming, R: Wait> Worker<'a, P, D, J, R> {
+    /// Serves the links of its door until the door is shut, after `talks` links, at an accept that fails, or where no
+    /// memory is found to give a link back.
+    pub(crate) fn work(&mut self, alloc: Global, talks: u32)
+        requires ready { IsReady self.old.number self.old.seated.pass }
+        requires talks { talks ≤ 2 ^ 26 }
+
+        ensures { Worked J.start J.run self.old.rules talks (P.told self.old.door) (P.told self.new.door) self.old.seated.pass self.new.seated.pass self.new.end }
+    {
+        let run = u64::from(self.seated.shared.run());
+        let first = (run << 32) + (u64::from(self.number) << 26);
+        self.end = serve_all(
+            alloc,
+            &mut self.door,
+            &self.rules,
+            &mut self.seated,
+            first,
+            talks,
+        );
+    }
+}
