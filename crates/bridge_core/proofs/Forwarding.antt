@@ -2,14 +2,11 @@
 use Rattle.std.proofs.Common.{◌≡◌, ◌⊎◌, inl, inr, ℕ, ◌-◌, ◌<◌, ◌≤◌, List, [], refl, sym, ◌∙◌, ap, subst, arith}
 use Rattle.std.specs.Prelude.{Bool, true, false, Option}
 use Rattle.std.proofs.lemmas.Bool.{cases_lt}
-use Rattle.foundation.specs.Faults.{Rose}
-use Rattle.edge_io.specs.declared.proto.Proto.{Proto}
 use Rattle.edge_disk.specs.Disk.{Moment, LeavesOnly}
 use Rattle.edge_disk.specs.Calls.{Calls}
 use Rattle.edge_disk.proofs.Calls.{calls_as}
 use Rattle.edge_disk.proofs.Moments.{both, weaker}
 use Rattle.spool_state.specs.SpoolState.{SpoolState, end}
-use Rattle.spool_state.specs.Left.{left}
 use Rattle.spool_state.specs.Image.{StandsFor}
 use Rattle.spool_state.proofs.Lefts.{left_from-cursor, left_from-end}
 use Rattle.spool_log.specs.declared.fault.RecoverFault.{RecoverFault}
@@ -24,6 +21,7 @@ use Rattle.desk_access.specs.Desk.{Stood}
 use Rattle.forward_core.specs.Forwarded.{Forwards}
 use Rattle.forward_core.specs.Forwarded as sending
 use Rattle.forward_core.specs.Turning.{IsHalt}
+use Rattle.forward_core.specs.declared.outward.Outward.{Outward}
 use Rattle.forward_core.specs.declared.sent.Sent.{Sent}
 use Rattle.forward_core.specs.declared.sent.Sent.TheVariants as Ending
 use Rattle.conn_serve.specs.Endings.{CountsFaults}
@@ -133,9 +131,9 @@ sent_from s old mid new start until before most cursor last calls stood sees mor
 }
 
 -- a session, where the calls made mean something else too
-pub session_as : (proto : Proto) (given given' left_there left' written written' : Option (List ℕ)) (Made Also : ℕ → ℕ → List Call → Type 0) (sent : Sent) → ((start until : ℕ) (calls : List Call) → Made start until calls → Also start until calls)
-    → IsSession proto given given' left_there left' written written' Made sent → IsSession proto given given' left_there left' written written' Also sent
-session_as proto given given' left_there left' written written' Made Also sent also session = record {
+pub session_as : (outward : Outward) (given given' left_there left' written written' : Option (List ℕ)) (Made Also : ℕ → ℕ → List Call → Type 0) (sent : Sent) → ((start until : ℕ) (calls : List Call) → Made start until calls → Also start until calls)
+    → IsSession outward given given' left_there left' written written' Made sent → IsSession outward given given' left_there left' written written' Also sent
+session_as outward given given' left_there left' written written' Made Also sent also session = record {
   start = session.start;
   until = session.until;
   forwards = record {

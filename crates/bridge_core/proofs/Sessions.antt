@@ -1,25 +1,23 @@
 -- A session over a spool with one caller.
-use Rattle.std.proofs.Common.{◌≡◌, ◌⊎◌, inl, inr, ℕ, List, [], ◌∷◌, ◌++◌, refl, sym, ◌∙◌, ap, subst, arith}
+use Rattle.std.proofs.Common.{◌≡◌, inl, inr, ℕ, List, [], ◌∷◌, ◌++◌, refl, ◌∙◌, ap, subst, arith}
 use Rattle.std.specs.Prelude.{Ok, Err}
 use Rattle.foundation.specs.Faults.{Rose}
 use Rattle.edge_disk.specs.Calls.{Calls}
 use Rattle.spool_state.specs.SpoolState.{SpoolState, end}
 use Rattle.spool_log.specs.Memory.{cursor_of, end_of}
-use Rattle.desk_access.specs.Call.{Call, Record, AreBy, calls_of, failures_of, failures_in, pends, marks}
+use Rattle.desk_access.specs.Call.{Call, Record, AreBy, failures_of, failures_in, pends, marks}
 use Rattle.desk_access.specs.Journal.{calls_by}
-use Rattle.desk_access.specs.Desk.{DeskState, Goes}
+use Rattle.desk_access.specs.Desk.{DeskState}
 use Rattle.desk_access.specs.Alone.{AloneView, IsAt, Ran, HasSeen, LeadsFrom}
 use Rattle.desk_access.proofs.Leading.{end_is}
 use Rattle.forward_core.specs.Calls.{AreGranted, AreOfSession, next_after}
 use Rattle.forward_core.specs.Forwarded.{Asked}
 use Rattle.forward_core.specs.Session.{EndsBy, EndsRefused, IsRefusedWith}
-use Rattle.forward_core.specs.Reading as reading
-use Rattle.forward_core.specs.Marking as marking
 use Rattle.forward_core.specs.declared.sent.Sent.{Sent}
 use Rattle.forward_core.specs.declared.sent.Sent.TheVariants as Ending
 use Rattle.spool_log.specs.declared.fault.PendFault.TheVariants as Pend
 use Rattle.spool_log.specs.declared.fault.ConfirmFault.TheVariants as Confirm
-use Rattle.bridge_core.specs.Replayed.{desk_in, Keeps}
+use Rattle.bridge_core.specs.Replayed.{desk_in}
 use Rattle.bridge_core.specs.Sending.{Sends}
 use Rattle.bridge_core.proofs.Replays.{ran_keeps_to}
 

@@ -18,7 +18,7 @@ use Rattle.spool_log.specs.declared.fault.RecoverFault.TheVariants as Recover
 use Rattle.spool_log.specs.declared.opening.Opening.TheVariants.{Keep}
 use Rattle.spool_log.specs.State.{View, IsIn}
 use Rattle.spool_log.specs.Opening.{IsRefusing, IsRefusedAs}
-use Rattle.spool_log.specs.Outcome.{IsNotBroken, Pends, PendsFrom, given_entries, AreNumbered}
+use Rattle.spool_log.specs.Outcome.{IsNotBroken, Pends, PendsFrom, given_entries}
 use Rattle.conn_serve.specs.Endings.{CountsFaults}
 use Rattle.conn_serve.proofs.Faults.{counts_none}
 use Rattle.bridge_words.specs.declared.command.ListForm.{ListForm}
@@ -28,7 +28,7 @@ use Rattle.bridge_core.specs.Written.{IsWritten}
 use Rattle.bridge_core.specs.Refused.{note_of_pend, note_of_recover}
 use Rattle.bridge_core.specs.Listed.{ArePrinted, PrintsPart, IsUnreadable, IsPrintNote, IsListNote}
 use Rattle.bridge_core.proofs.Printing.{IsLimited, some_lines, unwritten, printed_then, printed_cut}
-use Rattle.bridge_core.proofs.Rising.{after_last, left_after, left_limits}
+use Rattle.bridge_core.proofs.Rising.{left_after}
 use Rattle.bridge_core.proofs.Given.{given_last}
 
 -- What a reading of entries does outside doubt.

@@ -1,16 +1,18 @@
 -- What the top call does with the words of a command.
 use Rattle.std.specs.Prelude.{◌≡◌, ◌⊎◌, ℕ, List, Option, None, Some}
 use Rattle.edge_io.specs.Net.{NetState}
-use Rattle.edge_io.specs.declared.proto.Proto.{Proto}
+use Rattle.forward_core.specs.declared.outward.Outward.{Outward}
 use Rattle.edge_disk.specs.Disk.{Moment, LeavesOnly}
 use Rattle.spool_log.specs.Making.Format.{IsFormatStep}
 use Rattle.bridge_words.specs.declared.command.Command.{Command}
-use Rattle.bridge_words.specs.declared.command.Command.TheVariants.{Format, List as ListCommand, Replay, Drain}
+use Rattle.bridge_words.specs.declared.command.Command.TheVariants.{Format, List as ListCommand, Replay, Drain, Load}
 use Rattle.bridge_words.specs.declared.note.Note.{Note}
-use Rattle.bridge_words.specs.declared.note.Note.TheVariants.{Fine, Usage, WrongLength, RunsSpent, Worn}
+use Rattle.bridge_words.specs.declared.note.Note.TheVariants.{Fine, Usage, NoMemory, WrongLength, RunsSpent, Worn}
 use Rattle.bridge_core.specs.Formatted.{IsFormatted}
 use Rattle.bridge_core.specs.Listed.{IsListNote, IsListed}
 use Rattle.bridge_core.specs.Replayed.{IsUnopened, IsReplayed}
+use Rattle.bridge_core.specs.Receivers.{outward_of}
+use Rattle.bridge_core.specs.Loading.{LoadIsTold}
 use Rattle.bridge_core.specs.Drained.{IsLooked, IsIdle, IsUnread, IsStreamed, IsNeedless, IsUndialed, IsPlaced}
 
 -- What is told of the disk, the input, the output and the net, before the call and after it.
@@ -43,24 +45,34 @@ pub record IsUngiven (run : Run) : Type 0 where
 
 -- Entries are forwarded to the output: nothing is pending, and then nothing is read or written; or one session is held over
 -- the input and the output.
-abbrev pub DoesStream : Proto → Run → Note → Type 0
-DoesStream proto run note =
+abbrev pub DoesStream : Outward → Run → Note → Type 0
+DoesStream outward run note =
     (IsUnread run.tells run.disk run.disk_after note × IsSilent run)
     ⊎ (((run.tells → IsLooked IsIdle run.disk run.disk_after) × (note ≡ Fine) × IsSilent run)
-    ⊎ IsStreamed proto run.tells run.disk run.disk_after run.given run.given_after run.left run.left_after run.taken run.taken_after note)
+    ⊎ IsStreamed outward run.tells run.disk run.disk_after run.given run.given_after run.left run.left_after run.taken run.taken_after note)
 
 -- Entries are forwarded to a place: nothing is pending, and then nothing is dialed; or the dial failed; or one session is
 -- held over the link.
-abbrev pub DoesPlace : Proto → List ℕ → Run → Note → Type 0
-DoesPlace proto place run note =
+abbrev pub DoesPlace : Outward → List ℕ → Run → Note → Type 0
+DoesPlace outward place run note =
     (IsUnread run.tells run.disk run.disk_after note × IsSilent run × (run.net_after ≡ run.net))
     ⊎ (IsUngiven run × (IsNeedless run.tells run.disk run.disk_after run.net run.net_after run.taken run.taken_after note
     ⊎ (IsUndialed run.tells run.disk run.disk_after run.net run.net_after run.taken run.taken_after note
-    ⊎ IsPlaced proto place run.tells run.disk run.disk_after run.net run.net_after run.taken run.taken_after note)))
+    ⊎ IsPlaced outward place run.tells run.disk run.disk_after run.net run.net_after run.taken run.taken_after note)))
+
+-- No memory was found for reading the words, and all stayed the same.
+abbrev pub IsUndone : Type 0 → Note → Type 0
+IsUndone Same note = (note ≡ NoMemory) × Same
+
+-- nothing was given by the input, and the net tells nothing new
+pub record IsApart (run : Run) : Type 0 where
+  pub ungiven : IsUngiven run
+  pub net : run.net_after ≡ run.net
 
 -- The device is made an empty spool; or the entries are listed that aren't known as confirmed, and nothing is written to the
 -- device, so that a crash leaves what it could leave before; or the input is served as one connection of a protocol,
--- by the tokens of the words; or the entries that aren't known as confirmed are forwarded.
+-- by the tokens of the words; or the entries that aren't known as confirmed are forwarded; or a stream is stored and forwarded in
+-- memory alone.
 abbrev pub Does : Command → Run → Note → Type 0
 Does (Format slots size) run note =
     IsFormatted slots size run.tells run.disk run.disk_after run.taken run.taken_after note
@@ -71,8 +83,9 @@ Does (ListCommand form) run note =
 Does (Replay proto token ack_token) run note =
     (IsUnopened run.tells run.disk run.disk_after note × IsSilent run)
     ⊎ IsReplayed proto (record { token = token; ack_token = ack_token }) run.tells run.disk run.disk_after run.given run.given_after run.left run.left_after run.taken run.taken_after note
-Does (Drain proto None) run note = DoesStream proto run note
-Does (Drain proto (Some place)) run note = DoesPlace proto place run note
+Does (Drain receiver None) run note = DoesStream (outward_of receiver) run note
+Does (Drain receiver (Some place)) run note = DoesPlace (outward_of receiver) place run note
+Does (Load proto number count) run note = LoadIsTold proto number count note run.taken run.taken_after × IsApart run
 
 -- the words or the device were refused, before the input or the output was met
 abbrev pub IsRefusedFirst : Note → Type 0

@@ -1,6 +1,5 @@
 -- What the top call does with the words of `drain`.
-use Rattle.std.specs.Prelude.{◌≡◌, ◌⊎◌, ℕ, ◌-◌, ◌<◌, List, [], Option, None}
-use Rattle.edge_io.specs.declared.proto.Proto.{Proto}
+use Rattle.std.specs.Prelude.{◌≡◌, ◌⊎◌, ℕ, ◌-◌, ◌<◌, List, [], Option}
 use Rattle.edge_io.specs.Net.{NetState, IsHungUp}
 use Rattle.edge_io.specs.Told.{IsFresh, IsDialed, Adds}
 use Rattle.edge_disk.specs.Disk.{Moment, LeavesOnly}
@@ -9,12 +8,15 @@ use Rattle.spool_state.specs.Left.{left}
 use Rattle.spool_state.specs.Image.{StandsFor}
 use Rattle.spool_log.specs.declared.fault.RecoverFault.{RecoverFault}
 use Rattle.desk_access.specs.Call.{Call}
-use Rattle.desk_access.specs.Desk.{Stood}
+use Rattle.spool_log.specs.Stages.{IsOneOf}
+use Rattle.desk_access.specs.Desk.{DeskState, Stood}
 use Rattle.forward_core.specs.declared.sent.Sent.{Sent}
 use Rattle.forward_core.specs.declared.sent.Sent.TheVariants as Sending
 use Rattle.forward_core.specs.Forwarded.{Forwards}
-use Rattle.forward_core.specs.Protocols.{EndsAs, HintsAs}
-use Rattle.forward_core.specs.Settings.{Settings}
+use Rattle.forward_core.specs.Laws.{EndsOver, KnowsMarked, DropsTold}
+use Rattle.forward_core.specs.Turning.{IsHalt}
+use Rattle.forward_core.specs.Protocols.{EndsAs, HintsAs, settings_as}
+use Rattle.forward_core.specs.declared.outward.Outward.{Outward}
 use Rattle.bridge_words.specs.declared.note.Note.{Note}
 use Rattle.bridge_words.specs.declared.note.Note.TheVariants.{Fine, NoMemory, NetFault}
 use Rattle.bridge_words.specs.Lines.{drain_line}
@@ -62,29 +64,42 @@ pub record IsSent (old new : Moment) (start until : ℕ) (calls : List Call) (co
   pub confirmed_is : confirmed ≡ reached.after.spool.cursor - state.cursor
   pub remaining_is : remaining ≡ end reached.after.spool - reached.after.spool.cursor
 
--- what a session is set to where the words name the protocol alone
-abbrev pub plain : Settings
-plain = record { token = 0; channel = 0; polls = 60 }
-
--- One session by this protocol, of the entries from one number on and below another: the bytes read and written, its calls
+-- One session that speaks so, of the entries from one number on and below another: the bytes read and written, its calls
 -- on the desk and its ending are those that it may have of them.
-pub record IsSession (proto : Proto) (given given' left left' written written' : Option (List ℕ)) (Made : ℕ → ℕ → List Call → Type 0)
+pub record IsSession (outward : Outward) (given given' left left' written written' : Option (List ℕ)) (Made : ℕ → ℕ → List Call → Type 0)
     (sent : Sent) : Type 0 where
   pub start : ℕ
   pub until : ℕ
-  pub forwards : Forwards (EndsAs plain proto) (HintsAs proto) given given' left left' written written' (Made start until) start until sent
+  pub forwards : Forwards (EndsAs (settings_as outward) outward.proto) (HintsAs outward.proto) given given' left left' written written' (Made start until) start until sent
 
 -- and that was done over the spool that the device stood for
 abbrev pub IsOverSpool : Type 0 → Moment → Moment → ℕ → ℕ → ℕ → ℕ → List Call → Type 0
 IsOverSpool tells old new confirmed remaining start until calls = tells → IsSent old new start until calls confirmed remaining
 
+-- The entries of a session over a state are all that weren't known there, in order: by the peer's protocol it ended so of them.
+-- In each state that may stand then, no number became known but those that the session marked. Unless it was halted, the first
+-- entries that the peer acknowledged are gone from what is left; after `Drained` none is left.
+pub record SendsLeft (outward : Outward) (s : SpoolState) (after : DeskState) (sent : Sent) (bytes : List ℕ) (calls : List Call) (text : List ℕ)
+    (told : ℕ) (also : List ℕ) : Type 0 where
+  pub ends : EndsOver (settings_as outward) outward.proto s sent bytes calls text told also
+  pub marks : (t : SpoolState) → IsOneOf after.spool after.doubt t → KnowsMarked s calls t
+  pub drops : (IsHalt sent → ⊥) → DropsTold ends.all told also sent after.spool
+
+-- one session over the spool that the device stood for
+pub record IsSessionOver (outward : Outward) (tells : Type 0) (old new : Moment) (given given' left left' written written' : Option (List ℕ))
+    (confirmed remaining : ℕ) (sent : Sent) : Type 0 where
+  pub session : IsSession outward given given' left left' written written' (IsOverSpool tells old new confirmed remaining) sent
+  pub entries : (told : tells) → let forwards = session.forwards in
+      SendsLeft outward (forwards.made told).state (forwards.made told).reached.after sent forwards.bytes forwards.calls forwards.text forwards.ended.told
+      forwards.ended.also
+
 -- One session over the input and the output. The note is that of its ending.
-pub record IsStreamed (proto : Proto) (tells : Type 0) (old new : Moment) (given given' left left' taken taken' : Option (List ℕ)) (note : Note) : Type 0 where
+pub record IsStreamed (outward : Outward) (tells : Type 0) (old new : Moment) (given given' left left' taken taken' : Option (List ℕ)) (note : Note) : Type 0 where
   pub sent : Sent
   pub note_is : note ≡ note_of_sent sent
   pub confirmed : ℕ
   pub remaining : ℕ
-  pub session : IsSession proto given given' left left' taken taken' (IsOverSpool tells old new confirmed remaining) sent
+  pub session : IsSessionOver outward tells old new given given' left left' taken taken' confirmed remaining sent
 
 -- ---- with a place
 
@@ -104,9 +119,9 @@ abbrev pub PrintsOf : Sent → List ℕ → Note → Option (List ℕ) → Optio
 PrintsOf Sending.NoMemory line note old new = (note ≡ NoMemory) × (new ≡ old)
 PrintsOf sent line note old new = PrintsAfter (note_of_sent sent) line note old new
 
--- The place was dialed, one session was held over the new link, the link was hung up, and the line was printed. The place
--- that is told of the link as it was hung up is not said here.
-pub record IsPlaced (proto : Proto) (place : List ℕ) (tells : Type 0) (old new : Moment) (net net' : NetState) (taken taken' : Option (List ℕ))
+-- The place was dialed, one session was held over the new link, the link was hung up, and the line was printed. What is told
+-- of the link that was hung up is the place at which it was dialed, and the bytes of the session.
+pub record IsPlaced (outward : Outward) (place : List ℕ) (tells : Type 0) (old new : Moment) (net net' : NetState) (taken taken' : Option (List ℕ))
     (note : Note) : Type 0 where
   pub sent : Sent
   pub confirmed : ℕ
@@ -120,8 +135,8 @@ pub record IsPlaced (proto : Proto) (place : List ℕ) (tells : Type 0) (old new
   pub written_after : Option (List ℕ)
   pub place_is : IsDialed net.hung dialed place
   pub fresh : IsFresh net.hung given written left_there
-  pub session : IsSession proto given given_after left_there left_after written written_after (IsOverSpool tells old new confirmed remaining) sent
-  pub hung : Adds net.hung net'.hung (IsHungUp None given_after written_after left_after)
+  pub session : IsSessionOver outward tells old new given given_after left_there left_after written written_after confirmed remaining sent
+  pub hung : Adds net.hung net'.hung (IsHungUp dialed given_after written_after left_after)
   pub printed : PrintsOf sent (drain_line confirmed remaining) note taken taken'
 
 -- The dial failed: nothing was printed, and nothing was done to the device.

@@ -7,7 +7,8 @@ use Rattle.edge_io.specs.declared.proto.Proto.{Proto}
 use Rattle.edge_disk.specs.Disk.{Moment}
 use Rattle.edge_disk.specs.Calls.{Calls}
 use Rattle.edge_io.specs.declared.proto.Proto.TheVariants.{Hec}
-use Rattle.bridge_words.specs.declared.command.Command.TheVariants.{Replay, Drain}
+use Rattle.bridge_words.specs.declared.command.Receiver.{Receiver}
+use Rattle.bridge_words.specs.declared.command.Command.TheVariants.{Replay, Drain, Load}
 use Rattle.bridge_words.specs.declared.note.Note.{Note}
 use Rattle.bridge_words.specs.declared.note.Note.TheVariants.{Fine, NotSpool, Worn, NoMemory, ReadFault, WriteFault, DiskFault, NetFault}
 use Rattle.bridge_words.specs.Words.{IsCommand}
@@ -23,13 +24,17 @@ TellsDiskFault collector note old new = Calls (note ≡ DiskFault) old new ⊎ (
 
 -- the words forward entries: to the output, or to a place
 abbrev pub AsksStream : List (List ℕ) → Type 0
-AsksStream words = (proto : Proto) × IsCommand (Drain proto None) words
+AsksStream words = (receiver : Receiver) × IsCommand (Drain receiver None) words
 
 abbrev pub AsksPlace : List (List ℕ) → Type 0
-AsksPlace words = (proto : Proto) × (place : List ℕ) × IsCommand (Drain proto (Some place)) words
+AsksPlace words = (receiver : Receiver) × (place : List ℕ) × IsCommand (Drain receiver (Some place)) words
 
 abbrev pub AsksDrain : List (List ℕ) → Type 0
-AsksDrain words = (proto : Proto) × (place : Option (List ℕ)) × IsCommand (Drain proto place) words
+AsksDrain words = (receiver : Receiver) × (place : Option (List ℕ)) × IsCommand (Drain receiver place) words
+
+-- the words ask for the test in memory
+abbrev pub AsksLoad : List (List ℕ) → Type 0
+AsksLoad words = (proto : Proto) × (number : ℕ) × (count : ℕ) × IsCommand (Load proto number count) words
 
 -- want of memory, or a refusal of the spool: it may have come after a write that failed
 abbrev pub IsHaltNote : Note → Type 0

@@ -1,9 +1,9 @@
 -- What one session does over a spool that was opened.
-use Rattle.std.specs.Prelude.{◌≡◌, ◌⊎◌, ◌<◌, ◌≤◌, ◌-◌, ℕ, List, [], Option, None}
+use Rattle.std.specs.Prelude.{◌≡◌, ◌⊎◌, ◌<◌, ◌≤◌, ◌-◌, ℕ, List, Option}
 use Rattle.foundation.specs.Faults.{Rose}
 use Rattle.edge_io.specs.Net.{NetState, IsHungUp}
 use Rattle.edge_io.specs.Told.{Adds, IsDialed, IsFresh}
-use Rattle.edge_io.specs.declared.proto.Proto.{Proto}
+use Rattle.forward_core.specs.declared.outward.Outward.{Outward}
 use Rattle.forward_core.specs.declared.sent.Sent.{Sent}
 use Rattle.bridge_words.specs.declared.note.Note.{Note}
 use Rattle.bridge_words.specs.declared.note.Note.TheVariants.{Fine, NoMemory, WriteFault, NetFault}
@@ -26,18 +26,18 @@ pub record Sends (s : SpoolState) (old new : Moment) (start until : ℕ) (calls 
   pub last_is : last ≡ end keeps.reached.after.spool
 
 -- one session, of which the note tells the ending
-pub record IsSentOut (proto : Proto) (More : Type 0) (given given' left left' written written' : Option (List ℕ))
+pub record IsSentOut (outward : Outward) (More : Type 0) (given given' left left' written written' : Option (List ℕ))
     (Made : ℕ → ℕ → ℕ → ℕ → List Call → Type 0) (note : Note) : Type 0 where
   pub more : More
   pub sent : Sent
   pub note_is : note ≡ note_of_sent sent
   pub cursor : ℕ
   pub last : ℕ
-  pub session : IsSession proto given given' left left' written written' (λ start until calls. Made start until cursor last calls) sent
+  pub session : IsSession outward given given' left left' written written' (λ start until calls. Made start until cursor last calls) sent
 
--- One session over a link that has told this, which was then hung up; and the line, which counts from a cursor before. The
--- place of the link that is told as hung up is not said here.
-pub record IsSentOver (proto : Proto) (net net' : NetState) (given left written : Option (List ℕ)) (before : ℕ) (taken taken' : Option (List ℕ))
+-- One session over a link that has told this, which was then hung up, as dialed at its place; and the line, which counts from a
+-- cursor before.
+pub record IsSentOver (outward : Outward) (net net' : NetState) (dialed given left written : Option (List ℕ)) (before : ℕ) (taken taken' : Option (List ℕ))
     (Made : ℕ → ℕ → ℕ → ℕ → List Call → Type 0) (note : Note) : Type 0 where
   pub sent : Sent
   pub cursor : ℕ
@@ -45,8 +45,8 @@ pub record IsSentOver (proto : Proto) (net net' : NetState) (given left written 
   pub given_after : Option (List ℕ)
   pub left_after : Option (List ℕ)
   pub written_after : Option (List ℕ)
-  pub session : IsSession proto given given_after left left_after written written_after (λ start until calls. Made start until cursor last calls) sent
-  pub hung : Adds net.hung net'.hung (IsHungUp None given_after written_after left_after)
+  pub session : IsSession outward given given_after left left_after written written_after (λ start until calls. Made start until cursor last calls) sent
+  pub hung : Adds net.hung net'.hung (IsHungUp dialed given_after written_after left_after)
   pub printed : PrintsOf sent (drain_line (cursor - before) (last - cursor)) note taken taken'
 
 -- No session was held: nothing was pending, and a line says so; or the dial failed, and nothing was printed.
@@ -56,7 +56,7 @@ IsNotSent cursor last Same net net' taken taken' note =
     ⊎ ((cursor < last) × Same × ((note ≡ NetFault) ⊎ (note ≡ NoMemory)) × (net'.hung ≡ net.hung) × (taken' ≡ taken))
 
 -- One session over a link that was dialed at the place.
-pub record IsSentThere (proto : Proto) (place : List ℕ) (before until : ℕ) (net net' : NetState) (taken taken' : Option (List ℕ))
+pub record IsSentThere (outward : Outward) (place : List ℕ) (before until : ℕ) (net net' : NetState) (taken taken' : Option (List ℕ))
     (Made : ℕ → ℕ → ℕ → ℕ → List Call → Type 0) (note : Note) : Type 0 where
   pub more : before < until
   pub dialed : Option (List ℕ)
@@ -65,7 +65,7 @@ pub record IsSentThere (proto : Proto) (place : List ℕ) (before until : ℕ) (
   pub written : Option (List ℕ)
   pub place_is : IsDialed net.hung dialed place
   pub fresh : IsFresh net.hung given written left_there
-  pub over : IsSentOver proto net net' given left_there written before taken taken' Made note
+  pub over : IsSentOver outward net net' dialed given left_there written before taken taken' Made note
 
 -- ---- faults
 

@@ -18,26 +18,28 @@ use crate::refused::{recover_note, sent_note};
 use crate::sending::{Sending, is_idle, send};
 use bridge_words::Note;
 use edge_disk::Disk;
-use edge_io::{Both, Pause, Proto, Sink, Source};
+use edge_io::{Both, Pause, Sink, Source};
+use forward_core::Outward;
 use spool_log::{Opening, Refusal, Spool};
 use std::alloc::Global;
 
 // Holds one session over the input and the output.
 fn send_both<D: Disk, S: Source, K: Sink, Z: Pause>(
     alloc: Global,
-    proto: Proto,
+    outward: &Outward,
     spool: Spool<D>,
     input: &mut S,
     output: &mut K,
     rest: &mut Z,
 ) -> Sending<D>
     requires sure { spool.doubt ≡ false }
+    requires polls { 0 < outward.now.polls }
 
     ensures calls { Calls (result.sent ≡ Ending.DiskFault) (D.moment spool.disk) (D.moment result.spool.disk) }
     ensures reads { sending.CountsFaults (result.sent ≡ Ending.ReadFault) (S.read_faults input.old) (S.read_faults input.new) }
     ensures writes { sending.CountsWrites (result.sent ≡ Ending.WriteFault) (IsHalt result.sent) (K.write_faults output.old) (K.write_faults output.new) }
     ensures paused { Z.pause_apart rest.old rest.new }
-    ensures session { IsSession proto (S.given input.old) (S.given input.new) (S.left input.old) (S.left input.new) (K.taken output.old) (K.taken output.new)
+    ensures session { IsSession outward.now (S.given input.old) (S.given input.new) (S.left input.old) (S.left input.new) (K.taken output.old) (K.taken output.new)
         (λ start until calls. (s : SpoolState) → D.tells → IsIn s [] (view spool.memory spool.doubt (D.moment spool.disk))
         → Sends s (D.moment spool.disk) (D.moment result.spool.disk) start until calls (cursor_of result.spool.memory)
         (end_of result.spool.memory)) result.sent }
@@ -46,19 +48,20 @@ fn send_both<D: Disk, S: Source, K: Sink, Z: Pause>(
         source: &mut *input,
         sink: &mut *output,
     };
-    send(alloc, proto, spool, &mut link, rest)
+    send(alloc, outward, spool, &mut link, rest)
 }
 
 // Forwards the entries over the input and the output, unless none is pending.
 fn send_out<D: Disk, S: Source, K: Sink, Z: Pause>(
     alloc: Global,
-    proto: Proto,
+    outward: &Outward,
     spool: Spool<D>,
     input: &mut S,
     output: &mut K,
     rest: &mut Z,
 ) -> Finished<D>
     requires sure { spool.doubt ≡ false }
+    requires polls { 0 < outward.now.polls }
 
     ensures known { (result.note ≢ Usage) × ((have want : ℕ) → result.note ≢ WrongLength have want) }
     ensures calls { Calls (result.note ≡ Note.DiskFault) (D.moment spool.disk) (D.moment result.disk) }
@@ -68,7 +71,7 @@ fn send_out<D: Disk, S: Source, K: Sink, Z: Pause>(
     ensures paused { Z.pause_apart rest.old rest.new }
     ensures streamed { ((input.new ≡ input.old) × (output.new ≡ output.old) × (result.note ≡ Note.Fine) × (result.disk ≡ spool.disk)
         × (end_of spool.memory ≤ cursor_of spool.memory))
-        ⊎ IsSentOut proto (cursor_of spool.memory < end_of spool.memory) (S.given input.old) (S.given input.new) (S.left input.old) (S.left input.new)
+        ⊎ IsSentOut outward.now (cursor_of spool.memory < end_of spool.memory) (S.given input.old) (S.given input.new) (S.left input.old) (S.left input.new)
         (K.taken output.old) (K.taken output.new)
         (λ start until cursor last calls. (s : SpoolState) → D.tells → IsIn s [] (view spool.memory spool.doubt (D.moment spool.disk))
         → Sends s (D.moment spool.disk) (D.moment result.disk) start until calls cursor last) result.note }
@@ -76,23 +79,25 @@ fn send_out<D: Disk, S: Source, K: Sink, Z: Pause>(
     if is_idle(&spool) {
         return Finished::of(Note::Fine, spool.into_disk());
     }
-    let Sending { sent, spool } = send_both(alloc, proto, spool, input, output, rest);
+    let Sending { sent, spool } = send_both(alloc, outward, spool, input, output, rest);
     Finished::of(sent_note(sent), spool.into_disk())
 }
 
-/// Forwards the entries that aren't known as confirmed by this protocol: what is sent is written to the output, and the
-/// peer's replies are read from the input. `rest` waits where the protocol asks again after a while.
+/// Forwards the entries that aren't known as confirmed, speaking so to the peer: what is sent is written to the output, and
+/// the peer's replies are read from the input. `rest` waits where the protocol asks again after a while.
 ///
 /// Where none is pending nothing is read or written. `NotSpool` comes where the device breaks a rule of the layout,
 /// with the place of the first one, and then nothing is read or written. Else the note is that of the session's ending.
 pub(crate) fn drain_out<D: Disk, S: Source, K: Sink, Z: Pause>(
     alloc: Global,
-    proto: Proto,
+    outward: &Outward,
     disk: D,
     input: &mut S,
     output: &mut K,
     rest: &mut Z,
 ) -> Finished<D>
+    requires polls { 0 < outward.now.polls }
+
     ensures known { (result.note ≢ Usage) × ((have want : ℕ) → result.note ≢ WrongLength have want) }
     ensures calls { Calls (result.note ≡ Note.DiskFault) (D.moment disk) (D.moment result.disk) }
     ensures reads { CountsFaults (result.note ≡ ReadFault) (S.read_faults input.old) (S.read_faults input.new) }
@@ -102,11 +107,11 @@ pub(crate) fn drain_out<D: Disk, S: Source, K: Sink, Z: Pause>(
     ensures drained { (IsUnread D.tells (D.moment disk) (D.moment result.disk) result.note × (input.new ≡ input.old) × (output.new ≡ output.old))
         ⊎ (((D.tells → IsLooked IsIdle (D.moment disk) (D.moment result.disk)) × (result.note ≡ Note.Fine) × (input.new ≡ input.old)
         × (output.new ≡ output.old))
-        ⊎ IsStreamed proto D.tells (D.moment disk) (D.moment result.disk) (S.given input.old) (S.given input.new) (S.left input.old) (S.left input.new)
+        ⊎ IsStreamed outward.now D.tells (D.moment disk) (D.moment result.disk) (S.given input.old) (S.given input.new) (S.left input.old) (S.left input.new)
         (K.taken output.old) (K.taken output.new) result.note) }
 {
     match Spool::recover(alloc, disk, Opening::Keep) {
-        Ok(spool) => send_out(alloc, proto, spool, input, output, rest),
+        Ok(spool) => send_out(alloc, outward, spool, input, output, rest),
         Err(Refusal { fault, disk }) => Finished::of(recover_note(fault), disk),
     }
 }

@@ -19,8 +19,8 @@ use crate::refused::{net_note, recover_note, sent_note};
 use crate::sending::{Sending, is_idle, send};
 use bridge_words::{Note, drain_line};
 use edge_disk::Disk;
-use edge_io::{Net, Proto, Sink, write_whole};
-use forward_core::Sent;
+use edge_io::{Net, Sink, write_whole};
+use forward_core::{Outward, Sent};
 use spool_log::{Opening, Refusal, Spool};
 use std::alloc::Global;
 
@@ -74,13 +74,14 @@ fn print_after<K: Sink>(
 // Holds one session over the link, hangs it up, and prints the line.
 fn send_over<D: Disk, K: Sink, N: Net>(
     alloc: Global,
-    proto: Proto,
+    outward: &Outward,
     spool: Spool<D>,
     link: N::L,
     output: &mut K,
     net: &mut N,
 ) -> Finished<D>
     requires sure { spool.doubt ≡ false }
+    requires polls { 0 < outward.now.polls }
     requires room { N.has_room net.old }
 
     ensures known { (result.note ≢ Usage) × ((have want : ℕ) → result.note ≢ WrongLength have want) }
@@ -89,14 +90,14 @@ fn send_over<D: Disk, K: Sink, N: Net>(
     ensures writes { WritesOfBoth result.note (K.write_faults output.old) (K.write_faults output.new) (N.told net.old).write_faults
         (N.told net.new).write_faults }
     ensures dials { (result.note ≢ Note.NetFault) × ((N.told net.new).net_faults ≡ (N.told net.old).net_faults) }
-    ensures sent { IsSentOver proto (N.told net.old) (N.told net.new) (N.L.given link) (N.L.left link) (N.L.taken link) (cursor_of spool.memory)
+    ensures sent { IsSentOver outward.now (N.told net.old) (N.told net.new) (N.L.dialed link) (N.L.given link) (N.L.left link) (N.L.taken link) (cursor_of spool.memory)
         (K.taken output.old) (K.taken output.new)
         (λ start until cursor last calls. (s : SpoolState) → D.tells → IsIn s [] (view spool.memory spool.doubt (D.moment spool.disk))
         → Sends s (D.moment spool.disk) (D.moment result.disk) start until calls cursor last) result.note }
 {
     let mut link = link;
     let before = spool.cursor();
-    let Sending { sent, spool } = send(alloc, proto, spool, &mut link, net);
+    let Sending { sent, spool } = send(alloc, outward, spool, &mut link, net);
     net.hang_up(link);
     let confirmed = spool.cursor().saturating_sub(before);
     let left = spool.end().saturating_sub(spool.cursor());
@@ -107,13 +108,14 @@ fn send_over<D: Disk, K: Sink, N: Net>(
 // Forwards the entries to the place, unless none is pending.
 fn send_there<D: Disk, K: Sink, N: Net>(
     alloc: Global,
-    proto: Proto,
+    outward: &Outward,
     place: &str,
     spool: Spool<D>,
     output: &mut K,
     net: &mut N,
 ) -> Finished<D>
     requires sure { spool.doubt ≡ false }
+    requires polls { 0 < outward.now.polls }
 
     ensures known { (result.note ≢ Usage) × ((have want : ℕ) → result.note ≢ WrongLength have want) }
     ensures calls { Calls (result.note ≡ Note.DiskFault) (D.moment spool.disk) (D.moment result.disk) }
@@ -123,7 +125,7 @@ fn send_there<D: Disk, K: Sink, N: Net>(
     ensures dials { TellsNetFault result.note (N.told net.old) (N.told net.new) }
     ensures placed { IsNotSent (cursor_of spool.memory) (end_of spool.memory) (result.disk ≡ spool.disk) (N.told net.old) (N.told net.new)
         (K.taken output.old) (K.taken output.new) result.note
-        ⊎ IsSentThere proto place.now (cursor_of spool.memory) (end_of spool.memory) (N.told net.old) (N.told net.new) (K.taken output.old) (K.taken output.new)
+        ⊎ IsSentThere outward.now place.now (cursor_of spool.memory) (end_of spool.memory) (N.told net.old) (N.told net.new) (K.taken output.old) (K.taken output.new)
         (λ start until cursor last calls. (s : SpoolState) → D.tells → IsIn s [] (view spool.memory spool.doubt (D.moment spool.disk))
         → Sends s (D.moment spool.disk) (D.moment result.disk) start until calls cursor last) result.note }
 {
@@ -132,25 +134,27 @@ fn send_there<D: Disk, K: Sink, N: Net>(
         return Finished::of(note, spool.into_disk());
     }
     match net.dial(place) {
-        Ok(link) => send_over(alloc, proto, spool, link, output, net),
+        Ok(link) => send_over(alloc, outward, spool, link, output, net),
         Err(fault) => Finished::of(net_note(fault), spool.into_disk()),
     }
 }
 
-/// Forwards the entries that aren't known as confirmed by this protocol to the place, which is dialed for it, and then prints
-/// how many were confirmed and how many are left.
+/// Forwards the entries that aren't known as confirmed to the place, which is dialed for it, speaking so to the peer there, and
+/// then prints how many were confirmed and how many are left.
 ///
 /// Where none is pending nothing is dialed, and the line says so. `NetFault` comes where the place was not dialed, and then
 /// nothing is printed. The line is printed after each ending of the session but want of memory; before it the link is
 /// hung up. The note is that of the session's ending, or where that was well of the print.
 pub(crate) fn drain_to<D: Disk, K: Sink, N: Net>(
     alloc: Global,
-    proto: Proto,
+    outward: &Outward,
     place: &str,
     disk: D,
     output: &mut K,
     net: &mut N,
 ) -> Finished<D>
+    requires polls { 0 < outward.now.polls }
+
     ensures known { (result.note ≢ Usage) × ((have want : ℕ) → result.note ≢ WrongLength have want) }
     ensures calls { Calls (result.note ≡ Note.DiskFault) (D.moment disk) (D.moment result.disk) }
     ensures reads { RoseBy (result.note ≡ Note.ReadFault) (N.told net.old).read_faults (N.told net.new).read_faults }
@@ -160,11 +164,11 @@ pub(crate) fn drain_to<D: Disk, K: Sink, N: Net>(
     ensures drained { (IsUnread D.tells (D.moment disk) (D.moment result.disk) result.note × (output.new ≡ output.old) × (net.new ≡ net.old))
         ⊎ (IsNeedless D.tells (D.moment disk) (D.moment result.disk) (N.told net.old) (N.told net.new) (K.taken output.old) (K.taken output.new) result.note
         ⊎ (IsUndialed D.tells (D.moment disk) (D.moment result.disk) (N.told net.old) (N.told net.new) (K.taken output.old) (K.taken output.new) result.note
-        ⊎ IsPlaced proto place.now D.tells (D.moment disk) (D.moment result.disk) (N.told net.old) (N.told net.new) (K.taken output.old)
+        ⊎ IsPlaced outward.now place.now D.tells (D.moment disk) (D.moment result.disk) (N.told net.old) (N.told net.new) (K.taken output.old)
         (K.taken output.new) result.note)) }
 {
     match Spool::recover(alloc, disk, Opening::Keep) {
-        Ok(spool) => send_there(alloc, proto, place, spool, output, net),
+        Ok(spool) => send_there(alloc, outward, place, spool, output, net),
         Err(Refusal { fault, disk }) => Finished::of(recover_note(fault), disk),
     }
 }

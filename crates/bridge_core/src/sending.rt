@@ -5,15 +5,14 @@ ghost use Rattle.edge_disk.specs.Calls.{Calls};
 ghost use Rattle.spool_log.specs.Memory.{cursor_of, end_of};
 ghost use Rattle.spool_log.specs.State.{view, IsIn};
 ghost use Rattle.forward_core.specs.Forwarded.{CountsFaults, CountsWrites};
-ghost use Rattle.forward_core.specs.Protocols.{settings_as};
 ghost use Rattle.forward_core.specs.Turning.{IsHalt};
 ghost use Rattle.forward_core.specs.declared.sent.Sent.TheVariants as Ending;
-ghost use Rattle.bridge_core.specs.Drained.{IsSession, plain};
+ghost use Rattle.bridge_core.specs.Drained.{IsSession};
 ghost use Rattle.bridge_core.specs.Sending.{Sends};
 
 use desk_access::{Alone, Desk};
 use edge_disk::Disk;
-use edge_io::{Link, Pause, Proto};
+use edge_io::{Link, Pause};
 use forward_core::{Outward, Sent, forward};
 use hec_ids::Ids;
 use spool_log::Spool;
@@ -33,37 +32,26 @@ pub(crate) fn is_idle<D: Disk>(spool: &Spool<D>) -> bool
     spool.end() <= spool.cursor()
 }
 
-// The protocol alone: the words name nothing of what the collector's needs beside.
-fn outward(proto: Proto) -> Outward
-    ensures proto { result.proto ≡ proto }
-    ensures settings { settings_as result ≡ plain }
-    ensures polls { 0 < result.polls }
-{
-    Outward {
-        proto,
-        token: 0,
-        channel: 0,
-        polls: 60,
-    }
-}
-
-/// Forwards the entries from the spool's cursor to its end by this protocol, and marks those that the peer acknowledges.
+/// Forwards the entries from the spool's cursor to its end, speaking so to the peer of the link, and marks those that it
+/// acknowledges.
 pub(crate) fn send<D: Disk, L: Link, Z: Pause>(
     alloc: Global,
-    proto: Proto,
+    outward: &Outward,
     spool: Spool<D>,
     link: &mut L,
     rest: &mut Z,
 ) -> Sending<D>
     requires sure { spool.doubt ≡ false }
+    requires polls { 0 < outward.now.polls }
 
     ensures calls { Calls (result.sent ≡ Ending.DiskFault) (D.moment spool.disk) (D.moment result.spool.disk) }
     ensures reads { CountsFaults (result.sent ≡ Ending.ReadFault) (L.read_faults link.old) (L.read_faults link.new) }
     ensures writes { CountsWrites (result.sent ≡ Ending.WriteFault) (IsHalt result.sent) (L.write_faults link.old) (L.write_faults link.new) }
     ensures same { L.same link.old link.new }
+    ensures dialed { L.dialed link.new ≡ L.dialed link.old }
     ensures rested { Z.same rest.old rest.new }
     ensures paused { Z.pause_apart rest.old rest.new }
-    ensures session { IsSession proto (L.given link.old) (L.given link.new) (L.left link.old) (L.left link.new) (L.taken link.old) (L.taken link.new)
+    ensures session { IsSession outward.now (L.given link.old) (L.given link.new) (L.left link.old) (L.left link.new) (L.taken link.old) (L.taken link.new)
         (λ start until calls. (s : SpoolState) → D.tells → IsIn s [] (view spool.memory spool.doubt (D.moment spool.disk))
         → Sends s (D.moment spool.disk) (D.moment result.spool.disk) start until calls (cursor_of result.spool.memory)
         (end_of result.spool.memory)) result.sent }
@@ -71,7 +59,7 @@ pub(crate) fn send<D: Disk, L: Link, Z: Pause>(
     let run = spool.run();
     let ids = Ids::new(alloc, run, 0);
     let mut access = Alone::new(Desk { spool, ids });
-    let sent = forward(alloc, link, &outward(proto), &mut access, rest);
+    let sent = forward(alloc, link, outward, &mut access, rest);
     let desk = access.into_desk();
     Sending {
         sent,

@@ -5,6 +5,7 @@ use Rattle.spool_log.specs.Memory.{cursor_of, end_of}
 use Rattle.spool_log.specs.Opening.{IsRefusing}
 use Rattle.bridge_core.proofs.Sure.{unopened_calls}
 use Rattle.bridge_core.proofs.Forwarding.{looked_idle, seen, sent_from, session_as, unread}
+use Rattle.bridge_core.proofs.Over.{session_over}
 use Rattle.bridge_core.proofs.draining.drain_out.Goals as goal
 
 pub returns-in-Ok-clause-drained : goal.returns-in-Ok-clause-drained
@@ -27,9 +28,9 @@ returns-in-Ok-clause-drained g c =
         note_is = sent.note_is;
         confirmed = sent.cursor - before;
         remaining = sent.last - sent.cursor;
-        session = session_as c.args.proto _ _ _ _ _ _ _ _ sent.sent (λ start until calls made tells.
+        session = session_over c.args.outward.now g.D.Disk.tells old new _ _ _ _ _ _ (sent.cursor - before) (sent.last - sent.cursor) sent.sent (session_as c.args.outward.now _ _ _ _ _ _ _ _ sent.sent (λ start until calls made tells.
             let found = c.in-Ok.ensures.opened tells in
-            sent_from found.0 old mid new start until before most sent.cursor sent.last calls found.1.stood (seen found.0 _ found.1.reached) sent.more (c.in-Ok.ensures.any_moment tells) (made found.0 tells found.1.reached)) sent.session;
+            sent_from found.0 old mid new start until before most sent.cursor sent.last calls found.1.stood (seen found.0 _ found.1.reached) sent.more (c.in-Ok.ensures.any_moment tells) (made found.0 tells found.1.reached)) sent.session);
       }))
     ]
 

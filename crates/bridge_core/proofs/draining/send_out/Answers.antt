@@ -14,6 +14,6 @@ returns-clause-streamed g c =
       note_is = c.of-2.ensures.note ∙ c.sent_note.ensures;
       cursor = cursor_of spool.memory;
       last = end_of spool.memory;
-      session = session_as c.args.proto _ _ _ _ _ _ _ _ c.send_both-sent.result.sent (λ start until calls made s tells held.
+      session = session_as c.args.outward.now _ _ _ _ _ _ _ _ c.send_both-sent.result.sent (λ start until calls made s tells held.
           subst (λ (d : _). Sends s (g.D.Disk.moment c.args.spool.disk) (g.D.Disk.moment d) start until calls (cursor_of spool.memory) (end_of spool.memory)) disk (made s tells held)) c.send_both-sent.ensures.session;
     })

@@ -5,6 +5,7 @@ use Rattle.spool_log.specs.Memory.{cursor_of, end_of}
 use Rattle.spool_log.specs.Opening.{IsRefusing}
 use Rattle.bridge_core.proofs.Sure.{unopened_calls}
 use Rattle.bridge_core.proofs.Forwarding.{looked_idle, looked_more, seen, sent_from, session_as, unread}
+use Rattle.bridge_core.proofs.Over.{session_over}
 use Rattle.bridge_core.proofs.placing.drain_to.Goals as goal
 
 pub returns-in-Ok-clause-drained : goal.returns-in-Ok-clause-drained
@@ -42,9 +43,9 @@ returns-in-Ok-clause-drained g c =
         written_after = sent.over.written_after;
         place_is = sent.place_is;
         fresh = sent.fresh;
-        session = session_as c.args.proto _ _ _ _ _ _ _ _ sent.over.sent (λ start until calls made tells.
+        session = session_over c.args.outward.now g.D.Disk.tells old new _ _ _ _ _ _ (sent.over.cursor - before) (sent.over.last - sent.over.cursor) sent.over.sent (session_as c.args.outward.now _ _ _ _ _ _ _ _ sent.over.sent (λ start until calls made tells.
             let found = c.in-Ok.ensures.opened tells in
-            sent_from found.0 old mid new start until before most sent.over.cursor sent.over.last calls found.1.stood (seen found.0 _ found.1.reached) sent.more (c.in-Ok.ensures.any_moment tells) (made found.0 tells found.1.reached)) sent.over.session;
+            sent_from found.0 old mid new start until before most sent.over.cursor sent.over.last calls found.1.stood (seen found.0 _ found.1.reached) sent.more (c.in-Ok.ensures.any_moment tells) (made found.0 tells found.1.reached)) sent.over.session);
         hung = sent.over.hung;
         printed = sent.over.printed;
       })))

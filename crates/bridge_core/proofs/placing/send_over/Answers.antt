@@ -43,9 +43,9 @@ returns-clause-sent g c =
       given_after = _;
       left_after = _;
       written_after = _;
-      session = session_as c.args.proto _ _ _ _ _ _ _ _ sent (λ start until calls made s tells held.
+      session = session_as c.args.outward.now _ _ _ _ _ _ _ _ sent (λ start until calls made s tells held.
           subst (λ (d : _). Sends s (g.D.Disk.moment c.args.spool.disk) (g.D.Disk.moment d) start until calls (cursor_of spool.memory) (end_of spool.memory)) disk (made s tells held)) c.send-sent.ensures.session;
-      hung = hung_up _ _ _ _ _ _ _ _ (ap (λ (t : NetState). t.hung) same) room c.hang_up.ensures.adds;
+      hung = hung_up _ _ _ _ _ _ _ _ _ (ap (λ (t : NetState). t.hung) same) c.send-sent.ensures.dialed room c.hang_up.ensures.adds;
       printed = subst (λ (n : Note). PrintsOf sent (drain_line (cursor_of spool.memory - cursor_of c.args.spool.memory) (end_of spool.memory - cursor_of spool.memory)) n (g.K.Sink.taken c.args.output.now) (g.K.Sink.taken c.print_after-note.new.output)) (sym c.of.ensures.note)
           (subst (λ (l : List ℕ). PrintsOf sent l c.print_after-note.result (g.K.Sink.taken c.args.output.now) (g.K.Sink.taken c.print_after-note.new.output)) line c.print_after-note.ensures.printed);
     }

@@ -1,15 +1,10 @@
 use Rattle.std.proofs.Common.{◌≡◌, ℕ, [], sym, ◌∙◌, ap, subst, arith}
 use Rattle.hec_ids.specs.Rows.{opened}
 use Rattle.spool_log.specs.Memory.{cursor_of, end_of}
-use Rattle.edge_io.specs.declared.proto.Proto.{Proto}
 use Rattle.edge_disk.specs.Calls.{Calls}
 use Rattle.desk_access.specs.Alone.{alone_at}
 use Rattle.desk_access.specs.Journal.{ran_then}
-use Rattle.forward_core.specs.Protocols.{EndsAs, HintsAs}
-use Rattle.forward_core.specs.Settings.{Settings}
-use Rattle.forward_core.specs.Session.{Ended}
 use Rattle.forward_core.specs.declared.sent.Sent.TheVariants as Ending
-use Rattle.bridge_core.specs.Drained.{plain}
 use Rattle.bridge_core.specs.Sending.{Sends}
 use Rattle.bridge_core.proofs.Replays.{desk_at}
 use Rattle.bridge_core.proofs.Sessions.{begun, sends, failed, disk_calls}
@@ -56,7 +51,6 @@ returns-clause-session g c =
             subst (λ (d : _). Sends s (g.D.Disk.moment d) (g.D.Disk.moment c.into_desk-desk.result.spool.disk) told.0 told.1 session.calls (cursor_of c.into_desk-desk.result.spool.memory) (end_of c.into_desk-desk.result.spool.memory)) before
             (subst (λ (p : _). Sends s (g.D.Disk.moment c.new-access.result.desk.spool.disk) (g.D.Disk.moment p.disk) told.0 told.1 session.calls (cursor_of p.memory) (end_of p.memory)) (sym after)
             (sends s tells _ _ told.0 told.1 session.calls told_by at first.start_is first.until_is whole));
-        ended = subst (λ (p : Proto). Ended (EndsAs plain p) (HintsAs p) (g.L.Source.left c.forward-sent.new.link) told.1 c.forward-sent.result told.0 session.bytes session.calls session.text) c.outward.ensures.proto
-            (subst (λ (set : Settings). Ended (EndsAs set c.outward.result.proto) (HintsAs c.outward.result.proto) (g.L.Source.left c.forward-sent.new.link) told.1 c.forward-sent.result told.0 session.bytes session.calls session.text) c.outward.ensures.settings session.ended);
+        ended = session.ended;
       };
     }

@@ -1,0 +1,23 @@
+-- Words list the entries exactly where their command does.
+use Rattle.std.proofs.Common.{◌≡◌, ◌↔◌, ℕ, List, sym, subst}
+use Rattle.bridge_words.specs.declared.command.Command.{Command}
+use Rattle.bridge_words.specs.declared.command.Command.TheVariants.{Format, List as ListCommand, Replay, Drain, Load}
+use Rattle.bridge_words.specs.Words.{IsCommand, IsNoCommand}
+use Rattle.bridge_words.proofs.Once.{one_command}
+use Rattle.bridge_cli.specs.Opening.{IsList, AreList}
+
+lists : (command : Command) (words : List (List ℕ)) → IsCommand command words → IsList command → AreList words
+lists (ListCommand form) words is list = (form, is)
+lists (Format slots size) words is list = absurd list
+lists (Replay proto token ack_token) words is list = absurd list
+lists (Drain receiver place) words is list = absurd list
+lists (Load proto number count) words is list = absurd list
+
+pub lists_by : (command : Command) (words : List (List ℕ)) → IsCommand command words → IsList command ↔ AreList words
+lists_by command words is = (
+  lists command words is,
+  λ list. let same : command ≡ ListCommand list.0 = one_command command (ListCommand list.0) words is list.1 in subst IsList (sym same) tt,
+)
+
+pub no_list : (words : List (List ℕ)) → IsNoCommand words → AreList words → ⊥
+no_list words none list = none (ListCommand list.0) list.1

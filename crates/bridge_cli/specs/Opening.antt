@@ -1,0 +1,24 @@
+-- What main says of a FILE that it didn't open, and how it shares one.
+use Rattle.std.specs.Prelude.{ℕ, List, codes}
+use Rattle.edge_disk.specs.declared.open_fault.OpenFault.{OpenFault}
+use Rattle.edge_disk.specs.declared.open_fault.OpenFault.TheVariants.{NotFound, NotAllowed, IsFolder, InUse, Other}
+use Rattle.bridge_words.specs.declared.command.ListForm.{ListForm}
+use Rattle.bridge_words.specs.declared.command.Command.{Command}
+use Rattle.bridge_words.specs.declared.command.Command.TheVariants.{List as ListCommand}
+use Rattle.bridge_words.specs.Words.{IsCommand}
+
+abbrev pub open_text : OpenFault → List ℕ
+open_text NotFound = codes "not found"
+open_text NotAllowed = codes "not allowed"
+open_text IsFolder = codes "a folder"
+open_text InUse = codes "in use"
+open_text Other = codes "can't be opened"
+
+-- a command that lists the entries, which changes nothing on the disk
+abbrev pub IsList : Command → Type 0
+IsList (ListCommand form) = Unit {0}
+IsList command = ⊥
+
+-- the words are such a command
+abbrev pub AreList : List (List ℕ) → Type 0
+AreList words = (form : ListForm) × IsCommand (ListCommand form) words

@@ -1,0 +1,96 @@
+//! How far a command is, for a user who waits.
+use edge_disk::{Disk, DiskFault};
+use std::time::Instant;
+
+/// How far a command is: a line on standard error, once a second at most.
+#[derive(Drop)]
+pub struct Progress<'a> {
+    rt: &'a HostRuntime,
+    // When the command began. Nothing is shown where there is none.
+    began: Option<Instant>,
+    // How many whole seconds had passed at the last line.
+    shown: u64,
+    // How many bytes of FILE were read.
+    read: u64,
+}
+
+impl<'a> Progress<'a> {
+    /// A command that begins, and has read nothing. It is shown where it is to be, and the clock can be read.
+    pub fn new(rt: &'a HostRuntime, is_shown: bool) -> Progress<'a> {
+        let began = if is_shown {
+            Instant::now(rt).ok()
+        } else {
+            None
+        };
+        Progress {
+            rt,
+            began,
+            shown: 0,
+            read: 0,
+        }
+    }
+
+    // Counts bytes that are read, and says how many they are where a second has passed.
+    fn count(&mut self, bytes: usize) {
+        self.read = self.read.saturating_add(bytes as u64);
+        let Some(began) = self.began else {
+            return;
+        };
+        let Ok(passed) = began.elapsed(self.rt) else {
+            return;
+        };
+        let seconds = passed.as_secs();
+        if seconds > self.shown {
+            self.shown = seconds;
+            let mebibytes = self.read / 1_048_576;
+            let _ = eprintln!(self.rt; "bridge: {mebibytes} MiB of FILE read in {seconds} s");
+        }
+    }
+}
+
+/// A disk, and how far its reading is. All else is as the disk has it.
+#[derive(Drop)]
+pub struct Watched<'a, D> {
+    disk: D,
+    progress: Progress<'a>,
+}
+
+impl<'a, D: Disk> Watched<'a, D> {
+    /// The disk, with the progress of the command that reads it.
+    pub fn new(disk: D, progress: Progress<'a>) -> Watched<'a, D> {
+        Watched { disk, progress }
+    }
+}
+
+impl<D: Disk> Disk for Watched<'_, D> {
+    ghost tells = { D.tells };
+
+    ghost tells_images = { λ w. D.tells_images w.disk };
+
+    ghost moment = { λ w. D.moment w.disk };
+
+    ghost reads_too = { λ w images. D.reads_too w.disk images };
+
+    ghost fits = { λ w. D.fits w.disk };
+
+    ghost lawful = { λ w tells. D.lawful w.disk tells };
+
+    ghost stands_in = { λ w t c tells. D.stands_in w.disk t c tells };
+
+    fn len(&self) -> u64 {
+        self.disk.len()
+    }
+
+    fn read_at(&mut self, at: u64, buf: &mut [u8]) -> Result<(), DiskFault> {
+        self.progress.count(buf.len());
+        self.disk.read_at(at, buf)
+    }
+
+    fn write_at(&mut self, at: u64, piece: &[u8]) -> Result<(), DiskFault> {
+        self.disk.write_at(at, piece)
+    }
+
+    fn sync(&mut self) -> Result<(), DiskFault> {
+        self.disk.sync()
+    }
+}

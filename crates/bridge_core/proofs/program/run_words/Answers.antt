@@ -1,8 +1,0 @@
-use Rattle.bridge_core.proofs.Doing.{needs_device}
-use Rattle.bridge_core.proofs.program.run_words.Goals as goal
-
-pub returns-in-Ok-Make-clause-no_command : goal.returns-in-Ok-Make-clause-no_command
-returns-in-Ok-Make-clause-no_command g c = λ none. absurd (needs_device _ _ (λ is. cc) c.in-Ok-Make.ensures none)
-
-pub returns-in-Ok-Existing-clause-no_command : goal.returns-in-Ok-Existing-clause-no_command
-returns-in-Ok-Existing-clause-no_command g c = λ none. absurd (needs_device _ _ (λ is. cc) c.in-Ok-Existing.ensures none)

@@ -1,0 +1,91 @@
+-- Where `drain` has to end well, and what the spool has then.
+use Rattle.std.specs.Prelude.{◌≡◌, ◌⊎◌, ◌<◌, ◌≤◌, ◌+◌, ◌^◌, ℕ, List, [], ◌∷◌, ◌++◌, length, map, None, Some}
+use Rattle.event_form.specs.declared.event.Entry.{Entry}
+use Rattle.edge_disk.specs.Disk.{Moment}
+use Rattle.edge_io.specs.declared.proto.Proto.{Proto}
+use Rattle.edge_io.specs.declared.proto.Proto.TheVariants.{Relp, Lumberjack, Hec}
+use Rattle.edge_io.specs.Net.{HungUp}
+use Rattle.spool_state.specs.Layout.{most_number}
+use Rattle.spool_state.specs.SpoolState.{SpoolState}
+use Rattle.spool_state.specs.Image.{StandsFor}
+use Rattle.spool_state.specs.Left.{NumberedEntry, left}
+use Rattle.forward_core.specs.Hec.{collector}
+use Rattle.forward_core.specs.Lumber.{lumberjack}
+use Rattle.forward_core.specs.Outlet.{Outlet}
+use Rattle.forward_core.specs.Protocols.{settings_as}
+use Rattle.forward_core.specs.Relp.{relp}
+use Rattle.forward_core.specs.Settings.{Settings}
+use Rattle.forward_core.specs.declared.sent.Sent.{Sent}
+use Rattle.bridge_words.specs.declared.command.Command.TheVariants.{Drain}
+use Rattle.bridge_words.specs.declared.note.Note.{Note}
+use Rattle.bridge_words.specs.declared.note.Note.TheVariants.{Fine, NoMemory}
+use Rattle.bridge_words.specs.Words.{IsCommand}
+use Rattle.bridge_core.specs.Complete.{Counts, IsRunOf, NoneFailed}
+use Rattle.bridge_core.specs.Done.{Run}
+use Rattle.bridge_words.specs.declared.command.Receiver.{Receiver}
+use Rattle.bridge_core.specs.Receivers.{outward_of}
+
+-- Whichever of the peer's frames were taken, as long as not all entries are acknowledged: these aren't all frames of its bytes, and
+-- what comes after them doesn't end the session. So its bytes acknowledge all entries before they end, have a fault or end the
+-- session otherwise.
+abbrev pub AcknowledgesAll : {F P : Type 0} → Outlet F P → List Entry → List ℕ → Type 0
+AcknowledgesAll {F} {P} o entries b =
+    (frames : List F) (p : P) → o.Takes (length entries) o.start frames p → o.IsFront b frames → o.front entries p < length entries
+    → (o.IsWhole b frames → ⊥) × ((sent : Sent) → o.Stops (length entries) b frames p sent → ⊥)
+
+-- the same by the protocol
+abbrev pub PeerAcknowledges : Settings → Proto → List Entry → List ℕ → Type 0
+PeerAcknowledges settings Relp entries b = AcknowledgesAll relp entries b
+PeerAcknowledges settings Lumberjack entries b = AcknowledgesAll lumberjack entries b
+PeerAcknowledges settings Hec entries b = AcknowledgesAll (collector settings) entries b
+
+-- the entries that are pending, in order
+abbrev pub pending : SpoolState → List Entry
+pending s = map (λ (one : NumberedEntry). one.entry) (left s)
+
+-- The device stands for that state, whose register can be written once for each pending entry.
+pub record CanDrain (run : Run) (s : SpoolState) : Type 0 where
+  pub told : run.tells
+  pub stands : StandsFor s run.disk.reads
+  pub ordinals : s.ordinal + length (left s) ≤ most_number
+
+-- nothing was pending, or whatever a crash leaves now stands for a state in which nothing is
+abbrev pub LeavesNothing : SpoolState → Moment → Type 0
+LeavesNothing s now = (left s ≡ []) ⊎ ((c : List ℕ) → now.image c → (t : SpoolState) × StandsFor t c × (left t ≡ []))
+
+-- all was drained, unless no memory was found
+abbrev pub DrainsAll : Run → SpoolState → Note → Type 0
+DrainsAll run s note = (note ≡ NoMemory) ⊎ ((note ≡ Fine) × LeavesNothing s run.disk_after)
+
+-- Where no call failed, `drain` over the input and the output ends well if the input's bytes acknowledge all that is pending.
+abbrev pub DrainEndsWell : Run → Counts → Type 0
+DrainEndsWell run counts =
+    (receiver : Receiver) (words : List (List ℕ)) (note : Note) (s : SpoolState) (b : List ℕ)
+    → IsRunOf words run counts note → NoneFailed run counts → IsCommand (Drain receiver None) words → CanDrain run s
+    → run.left ≡ Some b → length b < 2 ^ 40 → PeerAcknowledges (settings_as (outward_of receiver)) (outward_of receiver).proto (pending s) b → DrainsAll run s note
+
+-- The call hung up one link. Its peer had these bytes: those that the link gave, and then as many as it had left.
+pub record PeerHad (run : Run) (b : List ℕ) : Type 0 where
+  pub before : List HungUp
+  pub link : HungUp
+  pub was : run.net.hung ≡ Some before
+  pub now : run.net_after.hung ≡ Some (before ++ link ∷ [])
+  pub rest : List ℕ
+  pub whole : b ≡ link.read ++ rest
+  pub unread : link.left ≡ length rest
+
+-- the call hung up no link, and the net tells those hung up
+abbrev pub HungUpNone : Run → Type 0
+HungUpNone run = (before : List HungUp) × (run.net.hung ≡ Some before) × (run.net_after.hung ≡ Some before)
+
+-- it hung up no link, or one whose peer had bytes that are not too many and acknowledge these entries
+abbrev pub LinkAcknowledges : Settings → Proto → List Entry → Run → Type 0
+LinkAcknowledges settings proto entries run =
+    HungUpNone run ⊎ ((b : List ℕ) × PeerHad run b × (length b < 2 ^ 40) × PeerAcknowledges settings proto entries b)
+
+-- And with a place it does if those of the link's peer do.
+abbrev pub DrainThereEndsWell : Run → Counts → Type 0
+DrainThereEndsWell run counts =
+    (receiver : Receiver) (place : List ℕ) (words : List (List ℕ)) (note : Note) (s : SpoolState)
+    → IsRunOf words run counts note → NoneFailed run counts → IsCommand (Drain receiver (Some place)) words → CanDrain run s
+    → LinkAcknowledges (settings_as (outward_of receiver)) (outward_of receiver).proto (pending s) run → DrainsAll run s note

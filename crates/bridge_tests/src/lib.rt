@@ -1,0 +1,36 @@
+//! Tests of the top call: scripts of calls, with what each is given and what it has to leave. They stand in a crate of their
+//! own, since the gate proves a crate with tests twice, with and without them.
+#![tactic(auto)]
+
+#[cfg(test)]
+mod calls;
+#[cfg(test)]
+mod collectors;
+#[cfg(test)]
+mod devices;
+#[cfg(test)]
+mod drains;
+#[cfg(test)]
+mod faults;
+#[cfg(test)]
+mod lists;
+#[cfg(test)]
+mod marks;
+#[cfg(test)]
+mod parts;
+#[cfg(test)]
+mod play;
+#[cfg(test)]
+mod requests;
+#[cfg(test)]
+mod script;
+#[cfg(test)]
+mod sessions;
+#[cfg(test)]
+mod slots;
+#[cfg(test)]
+mod sweeps;
+#[cfg(test)]
+mod waiting;
+#[cfg(test)]
+mod windows;
