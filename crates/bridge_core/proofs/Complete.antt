@@ -26,7 +26,7 @@ module _ (words : List (List ℕ)) (run : Run) (counts : Counts) (note : Note) (
   not_dial by = none.dials (is.dials.cause by)
 
 pub format_ends_well : (run : Run) (counts : Counts) → FormatEndsWell run counts
-format_ends_well run counts slots size words note is none asks long = by_note note refl (is.done (Format slots size) asks).0
+format_ends_well run counts slots size words note is none asks long = elim (is.done (Format slots size) asks) [ inl memory ↦ inr memory | inr does ↦ by_note note refl does.0 ]
   where
     by_note : (n : Note) → note ≡ n → IsFormatted slots size run.tells run.disk run.disk_after run.taken run.taken_after n → EndsWell note
     by_note Note.Fine same made = inl same
@@ -37,7 +37,7 @@ format_ends_well run counts slots size words note is none asks long = by_note no
     by_note n same never = absurd never
 
 pub list_ends_well : (run : Run) (counts : Counts) → ListEndsWell run counts
-list_ends_well run counts form words note s is none asks tells stands = by_note note refl ((is.done (ListCommand form) asks).1 tells).0
+list_ends_well run counts form words note s is none asks tells stands = elim (is.done (ListCommand form) asks) [ inl memory ↦ inr memory | inr does ↦ by_note note refl (does.1 tells).0 ]
   where
     by_note : (n : Note) → note ≡ n → IsListed form run.disk.reads run.taken run.taken_after n → EndsWell note
     by_note Note.Fine same listed = inl same

@@ -220,19 +220,21 @@ module _ (words : List (List ℕ)) (run : Run) (counts : Counts) (note : Note) (
 
 pub drain_ends_well : (run : Run) (counts : Counts) → DrainEndsWell run counts
 drain_ends_well run counts proto words note s b is none asks can input short answers = elim (is.done (Drain proto None) asks) [
-  | inl refused ↦ unread words run counts note is none s can refused.0
-  | inr (inl nothing) ↦ inr (nothing.1, idle words run counts note is none s can (nothing.0 can.told))
-  | inr (inr streamed) ↦ by_sent words run counts note is none s can streamed.sent streamed.note_is
+  | inl memory ↦ inl memory
+  | inr (inl refused) ↦ unread words run counts note is none s can refused.0
+  | inr (inr (inl nothing)) ↦ inr (nothing.1, idle words run counts note is none s can (nothing.0 can.told))
+  | inr (inr (inr streamed)) ↦ by_sent words run counts note is none s can streamed.sent streamed.note_is
       (session_remains words run counts note is none s can (outward_of proto) run.given run.given_after run.left run.left_after run.taken run.taken_after streamed.confirmed streamed.remaining streamed.sent b streamed.session.session
       (λ bytes read consumed. whole_input run.left run.left_after b bytes input consumed) short answers)
 ]
 
 pub drain_there_ends_well : (run : Run) (counts : Counts) → DrainThereEndsWell run counts
 drain_there_ends_well run counts proto place words note s is none asks can links = elim (is.done (Drain proto (Some place)) asks) [
-  | inl refused ↦ unread words run counts note is none s can refused.0
-  | inr (ungiven, inl needless) ↦ by_line words run counts note is none s can _ _ _ needless.line (idle words run counts note is none s can (needless.idle can.told))
-  | inr (ungiven, inr (inl undialed)) ↦ elim undialed.why [ inl fault ↦ absurd (not_dial words run counts note is none fault) | inr wanting ↦ inl wanting ]
-  | inr (ungiven, inr (inr placed)) ↦ elim links [
+  | inl memory ↦ inl memory
+  | inr (inl refused) ↦ unread words run counts note is none s can refused.0
+  | inr (inr (ungiven, inl needless)) ↦ by_line words run counts note is none s can _ _ _ needless.line (idle words run counts note is none s can (needless.idle can.told))
+  | inr (inr (ungiven, inr (inl undialed))) ↦ elim undialed.why [ inl fault ↦ absurd (not_dial words run counts note is none fault) | inr wanting ↦ inl wanting ]
+  | inr (inr (ungiven, inr (inr placed))) ↦ elim links [
     | inl nobody ↦ absurd (hung_some run _ nobody placed.hung)
     | inr link ↦
         by_print words run counts note is none s can _ _ _ placed.sent placed.printed

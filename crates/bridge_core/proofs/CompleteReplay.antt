@@ -82,6 +82,7 @@ module _ (proto : Proto) (token ack_token : Option ℕ) (words : List (List ℕ)
 
 pub replay_ends_well : (run : Run) (counts : Counts) → ReplayEndsWell run counts
 replay_ends_well run counts proto token ack_token words note s b is none asks can ends fits = elim (is.done (Replay proto token ack_token) asks) [
-  | inl unopened ↦ inl (by_fault proto token ack_token words run counts note is none s b can unopened.0.fault unopened.0.note_is (unopened.0.why can.told))
-  | inr replayed ↦ serves_all proto token ack_token words run counts note is none s b can replayed ends fits
+  | inl memory ↦ inl memory
+  | inr (inl unopened) ↦ inl (by_fault proto token ack_token words run counts note is none s b can unopened.0.fault unopened.0.note_is (unopened.0.why can.told))
+  | inr (inr replayed) ↦ serves_all proto token ack_token words run counts note is none s b can replayed ends fits
 ]

@@ -19,13 +19,14 @@ pub record Counts : Type 0 where
   pub writes : ℕ
   pub writes_after : ℕ
 
--- What the contract of `bridge` says of a call with these words that ended with this note: its clauses of these names.
+-- What the contract of `bridge` says of a call with these words that ended with this note: its clauses of these names. Where no
+-- memory was found for reading the words, the note says so.
 pub record IsRunOf (words : List (List ℕ)) (run : Run) (counts : Counts) (note : Note) : Type 0 where
   pub calls : TellsDiskFault (AsksCollector words) note run.disk run.disk_after
   pub reads : TellsReadFault words note counts.reads counts.reads_after run.net run.net_after
   pub writes : TellsWriteFault words note counts.writes counts.writes_after run.net run.net_after
   pub dials : TellsNetFault note run.net run.net_after
-  pub done : (command : Command) → IsCommand command words → Does command run note
+  pub done : (command : Command) → IsCommand command words → (note ≡ NoMemory) ⊎ Does command run note
 
 -- the count of faults didn't rise, and could have: it doesn't stand at the end of its type
 abbrev pub DidNotRise : ℕ → ℕ → Type 0
