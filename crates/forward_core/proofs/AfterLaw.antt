@@ -153,7 +153,7 @@ mark_reaches numbers n stretch more sound is =
     let sound' : IsSoundKnown first = marked_sound numbers (record { from = 0; to = n } ∷ []) sound in
     subst (λ (s : Stretch). n ≤ (marked numbers (s ∷ more)).cursor) (sym is) (omega (arith, reached, marked_reaches first more sound'))
 
-front_known : (n : ℕ) (numbers : Numbers) (calls : List Call) → IsSoundKnown numbers → MarksAllBelow n calls → n ≤ (known_by numbers calls).cursor
+pub front_known : (n : ℕ) (numbers : Numbers) (calls : List Call) → IsSoundKnown numbers → MarksAllBelow n calls → n ≤ (known_by numbers calls).cursor
 front_known n numbers [] sound has = absurd has
 front_known n numbers (marks (stretch ∷ more) (Ok done) ∷ calls) sound (inl is) =
     omega (arith, mark_reaches numbers n stretch more sound is, known_reaches (marked numbers (stretch ∷ more)) calls (marked_sound numbers (stretch ∷ more) sound))

@@ -1,10 +1,12 @@
 -- The calls of a session, one after another.
-use Rattle.std.proofs.Common.{◌≡◌, ℕ, Bool, true, false, List, [], ◌∷◌, ◌++◌, refl, sym, ◌∙◌, ap, subst, inl, inr, append_assoc}
-use Rattle.std.specs.Prelude.{◌⊎◌, Ok, Err}
+use Rattle.std.proofs.Common.{◌≡◌, ℕ, ◌+◌, ◌<◌, ◌≤◌, Bool, true, false, List, [], ◌∷◌, ◌++◌, length, refl, sym, ◌∙◌, ap, subst, inl, inr, arith, append_assoc}
+use Rattle.std.specs.Prelude.{◌⊎◌, Ok, Err, nat_le, nat_lt}
+use Rattle.std.proofs.lemmas.Bool.{and_parts, cases_Bool, cases_lt, cond-false, cond-true, le-ltb, lt-ltb, ltb-true}
+use Rattle.known_numbers.specs.Numbers.{IsInSome}
 use Rattle.known_numbers.specs.declared.stretch.Stretch.{Stretch}
 use Rattle.spool_log.specs.declared.reading.numbered.Numbered.{Numbered}
 use Rattle.desk_access.specs.Call.{Call, pends, marks}
-use Rattle.forward_core.specs.Calls.{AreGranted, AreOfSession, IsMarked, MarksAllBelow, MarksBelowNext, MarksFirst, next_after, next_of, read_of, within}
+use Rattle.forward_core.specs.Calls.{AreGranted, AreOfSession, IsMarked, MarksAllBelow, MarksBelowRead, MarksFirst, after_last, asked_from, is_within, next_after, next_of, read_of, within}
 
 pub read_then : (end : ℕ) (xs ys : List Call) → read_of end (xs ++ ys) ≡ read_of end xs ++ read_of end ys
 read_then end [] ys = refl
@@ -46,11 +48,55 @@ marked_right [] ys n m = m
 marked_right (marks stretches result ∷ xs) ys n m = inr (marked_right xs ys n m)
 marked_right (call ∷ xs) ys n m = marked_right xs ys n m
 
-pub low_then : (end next : ℕ) (xs ys : List Call) → MarksBelowNext end next xs → MarksBelowNext end (next_of end next xs) ys → MarksBelowNext end next (xs ++ ys)
-low_then end next [] ys low more = more
-low_then end next (pends from most (Ok given) ∷ xs) ys low more = low_then end (next_after end next given) xs ys low more
-low_then end next (marks stretches result ∷ xs) ys low more = (low.0, low_then end next xs ys low.1 more)
-low_then end next (call ∷ xs) ys low more = low_then end next xs ys low more
+pub after_then : (past : ℕ) (xs ys : List Numbered) → after_last past (xs ++ ys) ≡ after_last (after_last past xs) ys
+after_then past [] ys = refl
+after_then past (x ∷ xs) ys = after_then (x.number + 1) xs ys
+
+pub low_then : (end past : ℕ) (xs ys : List Call) → MarksBelowRead end past xs → MarksBelowRead end (after_last past (read_of end xs)) ys → MarksBelowRead end past (xs ++ ys)
+low_then end past [] ys low more = more
+low_then end past (pends from most (Ok given) ∷ xs) ys low more =
+    low_then end (after_last past (within from end given)) xs ys low (subst (λ (n : ℕ). MarksBelowRead end n ys) (after_then past (within from end given) (read_of end xs)) more)
+low_then end past (marks stretches result ∷ xs) ys low more = (low.0, low_then end past xs ys low.1 more)
+low_then end past (call ∷ xs) ys low more = low_then end past xs ys low more
+
+-- ---- marks of what was read are of numbers below the one from which the next reading begins
+
+abbrev pub MarksBelowNext : ℕ → ℕ → List Call → Type 0
+MarksBelowNext end next [] = Unit {0}
+MarksBelowNext end next (pends from most (Ok given) ∷ calls) = MarksBelowNext end (next_after end next given) calls
+MarksBelowNext end next (marks stretches result ∷ calls) = ((n : ℕ) → IsInSome stretches n → n < next) × MarksBelowNext end next calls
+MarksBelowNext end next (call ∷ calls) = MarksBelowNext end next calls
+
+after_one : (past from end : ℕ) (given : List Numbered) → past ≤ end → after_last past (within from end given) ≤ end
+after_one past from end [] le = le
+after_one past from end (x ∷ given) le = elim (cases_Bool (is_within from end x.number)) [
+  | inl is ↦ subst (λ (l : List Numbered). after_last past l ≤ end) (sym (cond-true (is_within from end x.number) (x ∷ within from end given) (within from end given) is))
+      (after_one (x.number + 1) from end given (omega (arith, ltb-true x.number end (and_parts (nat_le from x.number) (nat_lt x.number end) is).1)))
+  | inr is ↦ subst (λ (l : List Numbered). after_last past l ≤ end) (sym (cond-false (is_within from end x.number) (x ∷ within from end given) (within from end given) is))
+      (after_one past from end given le)
+]
+
+after_some : (past next : ℕ) (some : List Numbered) → 0 < length some → after_last past some ≡ after_last next some
+after_some past next [] less = absurd (omega arith)
+after_some past next (x ∷ some) less = refl
+
+after_reading : (past next end : ℕ) (given : List Numbered) → past ≤ next → next < end → after_last past (within next end given) ≤ next_after end next given
+after_reading past next end given le more =
+    let w = within next end given in
+    elim (cases_lt (length w) (asked_from end next)) [
+      | inl lt ↦ subst (λ (n : ℕ). after_last past w ≤ n) (sym (cond-true (nat_lt (length w) (asked_from end next)) end (after_last next w) (lt-ltb (length w) (asked_from end next) lt))) (after_one past next end given (omega (arith, le, more)))
+      | inr all ↦ subst (λ (n : ℕ). after_last past w ≤ n) (sym (cond-false (nat_lt (length w) (asked_from end next)) end (after_last next w) (le-ltb (length w) (asked_from end next) all))) (omega (arith, after_some past next w (omega (arith, all, more))))
+    ]
+
+pub below_next : (end past next : ℕ) (calls : List Call) → past ≤ next → AreOfSession end next calls → MarksBelowRead end past calls → MarksBelowNext end next calls
+below_next end past next [] le of low = tt
+below_next end past next (pends from most (Ok given) ∷ calls) le of low =
+    below_next end (after_last past (within next end given)) (next_after end next given) calls (after_reading past next end given le of.1) of.3
+    (subst (λ (n : ℕ). MarksBelowRead end (after_last past (within n end given)) calls) of.0 low)
+below_next end past next (pends from most (Err fault) ∷ calls) le of low = subst (MarksBelowNext end next) (sym of.3) tt
+below_next end past next (marks stretches (Ok done) ∷ calls) le of low = (λ n there. omega (arith, low.0 n there, le), below_next end past next calls le of low.1)
+below_next end past next (marks stretches (Err fault) ∷ calls) le of low = (λ n there. omega (arith, low.0 n there, le), subst (MarksBelowNext end next) (sym of) tt)
+below_next end past next (call ∷ calls) le of low = absurd of
 
 -- the last call is a mark that begins with all numbers below one
 pub all_below_last : (n : ℕ) (xs : List Call) (stretches more : List Stretch) → stretches ≡ record { from = 0; to = n } ∷ more → MarksAllBelow n (xs ++ marks stretches (Ok tt) ∷ [])

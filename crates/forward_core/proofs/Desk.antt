@@ -1,13 +1,13 @@
 -- How far a session is on the desk, step by step.
-use Rattle.std.proofs.Common.{◌≡◌, ℕ, ◌+◌, ◌-◌, ◌<◌, ◌≤◌, ◌^◌, Bool, true, false, List, [], ◌∷◌, ◌++◌, length, take, drop, map, refl, ap, ◌∙◌, sym, subst, inl, inr, arith, append_assoc, length-append}
-use Rattle.std.specs.Prelude.{◌⊎◌, Contains, slice_index, Ok, Err}
+use Rattle.std.proofs.Common.{◌≡◌, ℕ, ◌+◌, ◌-◌, ◌<◌, ◌≤◌, ◌^◌, Bool, true, false, List, [], ◌∷◌, ◌++◌, length, take, drop, refl, ap, ◌∙◌, sym, subst, inl, inr, arith, append_assoc, length-append}
+use Rattle.std.specs.Prelude.{Contains, slice_index, Ok}
 use Rattle.std.proofs.lemmas.List.{append-nil, map-append, length-map, drop-append-le, drop-drop}
 use Rattle.std.proofs.lemmas.List.Elements.{Contains-push_cases}
 use Rattle.known_numbers.specs.declared.stretch.Stretch.{Stretch}
 use Rattle.spool_log.specs.Outcome.{AreNumbered}
 use Rattle.spool_log.specs.declared.reading.numbered.Numbered.{Numbered}
 use Rattle.desk_access.specs.Call.{Call, pends, marks}
-use Rattle.forward_core.specs.Calls.{AreGranted, AreOfSession, IsMarked, MarksBelowNext, MarksFirst, asked_from, next_after, next_of, numbers_of, read_of, within}
+use Rattle.forward_core.specs.Calls.{AreGranted, AreOfSession, IsMarked, MarksBelowRead, MarksFirst, asked_from, next_after, next_of, numbers_of, read_of, within}
 use Rattle.forward_core.specs.Course.{below, alone, SameTold, TellsFirst, TellsOne}
 use Rattle.forward_core.specs.Reading.{Added}
 use Rattle.forward_core.specs.Session.{IsToMark, OnDesk}
@@ -20,7 +20,7 @@ use Rattle.forward_core.proofs.Numbered.{numbered_then}
 -- the same over the parts of a course
 pub record Desk (marked : Bool) (start next end given told : ℕ) (numbers : List ℕ) (stretches : List Stretch) (also : List ℕ) (calls : List Call) : Type 0 where
   pub session : AreOfSession end start calls
-  pub low : MarksBelowNext end start calls
+  pub low : MarksBelowRead end 0 calls
   pub ordered : (more : List Call) → MarksFirst marked more → MarksFirst false (calls ++ more)
   pub granted : AreGranted calls
   pub next_is : next ≡ next_of end start calls
@@ -67,14 +67,14 @@ pub next_marked : (end start : ℕ) (calls : List Call) (stretches : List Stretc
 next_marked end start calls stretches = next_then end start calls (marks stretches (Ok tt) ∷ [])
 
 -- what may be said of the entries read may be said of them after a mark
-desk_marked : (marked : Bool) (start next end given told : ℕ) (numbers : List ℕ) (stretches : List Stretch) (also : List ℕ) (calls : List Call) → Desk marked start next end given told numbers stretches also calls
+desk_marked : (marked : Bool) (start next end given told : ℕ) (numbers : List ℕ) (stretches : List Stretch) (also : List ℕ) (calls : List Call) → told ≤ given → Desk marked start next end given told numbers stretches also calls
     → Desk true start next end given told numbers (take 1 stretches) also (calls ++ marks stretches (Ok tt) ∷ [])
-desk_marked marked start next end given told numbers stretches also calls d =
+desk_marked marked start next end given told numbers stretches also calls few d =
     let call : Call = marks stretches (Ok tt) in
     let same = sym (read_marked end calls stretches) in
     record {
       session = session_then end start calls (call ∷ []) d.granted d.session tt;
-      low = low_then end start calls (call ∷ []) d.low (subst (λ (n : ℕ). MarksBelowNext end n (call ∷ [])) d.next_is (to_mark_low start next (read_of end calls) told also stretches calls d.rising d.to_mark, tt));
+      low = low_then end 0 calls (call ∷ []) d.low (to_mark_low start next (read_of end calls) told also stretches calls d.rising (omega (arith, few, d.count)) d.to_mark, tt);
       ordered = λ more m. subst (λ (l : List Call). MarksFirst false l) (sym (append_assoc calls (call ∷ []) more)) (d.ordered (call ∷ more) m);
       granted = granted_then calls (call ∷ []) d.granted tt;
       next_is = d.next_is ∙ sym (next_marked end start calls stretches);
@@ -90,7 +90,7 @@ pub marked_on : (marked : Bool) (start : ℕ) (old new : Course) (also : List �
     → OnDesk true start new also (calls ++ marks old.marks.items (Ok tt) ∷ [])
 marked_on marked start old new also calls ms same d =
     desk_at true start old.next old.end old.given old.told old.numbers.items (take 1 old.marks.items) also (calls ++ marks old.marks.items (Ok tt) ∷ []) new same.rest.next same.rest.end same.rest.given same.told same.numbers ms
-    (desk_marked marked start old.next old.end old.given old.told old.numbers.items old.marks.items also calls (desk_of marked start old also calls d))
+    (desk_marked marked start old.next old.end old.given old.told old.numbers.items old.marks.items also calls (omega (arith, old.counted)) (desk_of marked start old also calls d))
 
 -- the mark is no longer the last call
 pub unmarked_on : (start : ℕ) (old new : Course) (also : List ℕ) (calls : List Call) → new.next ≡ old.next → new.end ≡ old.end → new.given ≡ old.given → new.told ≡ old.told → new.numbers.items ≡ old.numbers.items → new.marks.items ≡ old.marks.items
@@ -166,7 +166,7 @@ desk_read start next end given told numbers stretches also calls listed more few
     let leads = reading_leads next end listed more are count in
     record {
       session = session_then end start calls (call ∷ []) d.granted d.session (d.next_is, subst (λ (n : ℕ). n < end) d.next_is more, ap (λ (n : ℕ). asked_from end n) d.next_is, tt);
-      low = low_then end start calls (call ∷ []) d.low tt;
+      low = low_then end 0 calls (call ∷ []) d.low tt;
       ordered = λ others m. subst (λ (l : List Call). MarksFirst false l) (sym (append_assoc calls (call ∷ []) others)) (d.ordered (call ∷ others) (refl, m));
       granted = granted_then calls (call ∷ []) d.granted tt;
       next_is = sym (next_more start next end (asked_from end next) calls listed d.next_is);

@@ -1,10 +1,9 @@
 -- The first entries that are acknowledged are gone after a session.
-use Rattle.std.proofs.Common.{◌≡◌, ◌⊎◌, inl, inr, ℕ, suc, ◌+◌, ◌<◌, ◌≤◌, List, [], ◌∷◌, ◌++◌, length, take, drop, get_or, All, refl, sym, ◌∙◌, ap, subst, arith, take-append-drop}
+use Rattle.std.proofs.Common.{◌≡◌, inl, inr, ℕ, ◌+◌, ◌<◌, ◌≤◌, List, [], ◌∷◌, ◌++◌, length, take, drop, get_or, All, refl, sym, ◌∙◌, ap, subst, arith, take-append-drop}
 use Rattle.std.specs.Prelude.{Option, not}
-use Rattle.std.proofs.lemmas.Bool.{cases_lt}
 use Rattle.std.proofs.lemmas.List.{get_or-drop, drop_all, get_or-map, length-drop, length-map, map-append}
 use Rattle.std.proofs.lemmas.List.Elements.{All-cons, All-nil}
-use Rattle.known_numbers.specs.Numbers.{IsKnown, Numbers}
+use Rattle.known_numbers.specs.Numbers.{IsKnown}
 use Rattle.event_form.specs.declared.event.Entry.{Entry}
 use Rattle.edge_io.specs.declared.proto.Proto.{Proto}
 use Rattle.edge_io.specs.declared.proto.Proto.TheVariants.{Relp, Lumberjack, Hec}
@@ -17,6 +16,7 @@ use Rattle.spool_log.specs.Outcome.{AreNumbered, given_entries}
 use Rattle.spool_log.specs.Stages.{IsOneOf}
 use Rattle.desk_access.specs.Call.{Call, Record, calls_of}
 use Rattle.desk_access.specs.Desk.{DeskState}
+use Rattle.desk_access.proofs.Steps.{goes_later}
 use Rattle.forward_core.specs.Calls.{AreGranted, IsMarked, after_last, entries_of, number_at}
 use Rattle.forward_core.specs.Laws.{DropsTold, EndsOver, IsOnDesk, KnowsMarked}
 use Rattle.forward_core.specs.Marking.{MarksTold}
@@ -27,6 +27,7 @@ use Rattle.forward_core.specs.Turning.{IsHalt, IsTold}
 use Rattle.forward_core.specs.declared.sent.Sent.{Sent}
 use Rattle.forward_core.specs.declared.sent.Sent.TheVariants as Ending
 use Rattle.forward_core.proofs.AfterLaw.{leaves_rest, only_marked_known}
+use Rattle.forward_core.proofs.Counting.{none_above}
 use Rattle.forward_core.proofs.KnownLaw.{known_after}
 use Rattle.forward_core.proofs.Numbered.{after_rises, numbered_take}
 use Rattle.forward_core.proofs.Rest.{as_given, as_given_entries, given_as, left_rise, one_entry}
@@ -34,14 +35,14 @@ use Rattle.forward_core.proofs.SendsLaw.{on_desk}
 
 -- ---- an ending that is no halt
 
-granted_of : (sent : Sent) (calls : List Call) → (IsHalt sent → ⊥) → EndsBy sent calls → AreGranted calls
+pub granted_of : (sent : Sent) (calls : List Call) → (IsHalt sent → ⊥) → EndsBy sent calls → AreGranted calls
 granted_of Ending.DiskFault calls none by = absurd (none tt)
 granted_of (Ending.NotSpool at) calls none by = absurd (none tt)
 granted_of (Ending.Worn ordinal) calls none by = absurd (none tt)
 granted_of Ending.NoMemory calls none by = absurd (none tt)
 granted_of sent calls none by = by
 
-told_of : (sent : Sent) (calls : List Call) (all : List Numbered) (told : ℕ) (also : List ℕ) → (IsHalt sent → ⊥) → MarksBy sent calls all told also → MarksTold calls all told also
+pub told_of : (sent : Sent) (calls : List Call) (all : List Numbered) (told : ℕ) (also : List ℕ) → (IsHalt sent → ⊥) → MarksBy sent calls all told also → MarksTold calls all told also
 told_of Ending.DiskFault calls all told also none by = absurd (none tt)
 told_of (Ending.NotSpool at) calls all told also none by = absurd (none tt)
 told_of (Ending.Worn ordinal) calls all told also none by = absurd (none tt)
@@ -49,7 +50,7 @@ told_of Ending.NoMemory calls all told also none by = absurd (none tt)
 told_of sent calls all told also none by = by
 
 -- by the table, all are told as acknowledged after `Drained`
-all_told : (settings : Settings) (proto : Proto) (entries : List Entry) (bytes text : List ℕ) (told : ℕ) (also : List ℕ) → EndsAs settings proto entries bytes text told also Ending.Drained → told ≡ length entries
+pub all_told : (settings : Settings) (proto : Proto) (entries : List Entry) (bytes text : List ℕ) (told : ℕ) (also : List ℕ) → EndsAs settings proto entries bytes text told also Ending.Drained → told ≡ length entries
 all_told settings Relp entries bytes text told also ended = ended.ends.1
 all_told settings Lumberjack entries bytes text told also ended = ended.ends.1
 all_told settings Hec entries bytes text told also ended = ended.ends.1
@@ -57,7 +58,7 @@ all_told settings Hec entries bytes text told also ended = ended.ends.1
 -- ---- of a list
 
 -- entries that end at or below a number have lower ones
-below_end : (c low from end : ℕ) (xs : List Numbered) → AreNumbered from end xs → after_last low xs ≤ c → All (IsOf 0 c) (given_entries xs)
+pub below_end : (c low from end : ℕ) (xs : List Numbered) → AreNumbered from end xs → after_last low xs ≤ c → All (IsOf 0 c) (given_entries xs)
 below_end c low from end [] are le = All-nil (IsOf 0 c)
 below_end c low from end (x ∷ xs) are le =
     All-cons (IsOf 0 c) (one_entry x) (given_entries xs) (record { least = omega arith; most = omega (arith, le, after_rises (x.number + 1) end xs are.3) }) (below_end c (x.number + 1) (x.number + 1) end xs are.3 le)
@@ -67,7 +68,7 @@ list_rises : (s : SpoolState) (all : List Numbered) → IsSound s → given_entr
 list_rises s all sound is =
     subst (AreNumbered 0 (end s)) (ap as_given (left_from-base s 0 (omega arith) ∙ sym is) ∙ as_given_entries all) (left_rise s 0 sound)
 
-module _ (s t : SpoolState) (calls : List Call) (all : List Numbered) (told : ℕ) (also : List ℕ) (sound : IsSound s) (list_is : given_entries all ≡ left s) (knows : KnowsMarked s calls t) (front : after_last 0 (take told all) ≤ t.cursor) (marks : MarksTold calls all told also) where
+module _ (s t : SpoolState) (calls : List Call) (all : List Numbered) (told : ℕ) (also : List ℕ) (sound : IsSound s) (sound_after : IsSound t) (list_is : given_entries all ≡ left s) (knows : KnowsMarked s calls t) (front : after_last 0 (take told all) ≤ t.cursor) (marks : MarksTold calls all told also) where
   first_gone : unknown (numbers_of t) (given_entries (take told all)) ≡ []
   first_gone =
       unknown_none (numbers_of t) 0 t.cursor (given_entries (take told all)) (below_end t.cursor 0 0 (end s) (take told all) (numbered_take told 0 (end s) all (list_rises s all sound list_is)) front) (λ n ge lt. inl lt)
@@ -98,12 +99,17 @@ module _ (s t : SpoolState) (calls : List Call) (all : List Numbered) (told : �
         | inr now ↦ absurd (omega (arith, only place (marks.only.those place less (subst (IsMarked calls) (sym at) now))))
       ]
 
+  none_left : (settings : Settings) (proto : Proto) (bytes text : List ℕ) → EndsAs settings proto (entries_of all) bytes text told also Ending.Drained → left t ≡ []
+  none_left settings proto bytes text ends =
+      let whole : told ≡ length (entries_of all) = all_told settings proto (entries_of all) bytes text told also ends in
+      split ∙ ap (λ (l : List Numbered). unknown (numbers_of t) (given_entries l)) (drop_all told all (omega (arith, whole, length-map all (λ (one : Numbered). one.entry))))
+
   pub drops_told : (settings : Settings) (proto : Proto) (sent : Sent) (bytes text : List ℕ) → EndsAs settings proto (entries_of all) bytes text told also sent → DropsTold all told also sent t
   drops_told settings proto sent bytes text ends = record {
     left_is = split;
-    drained = λ is.
-        let whole : told ≡ length (entries_of all) = all_told settings proto (entries_of all) bytes text told also (subst (EndsAs settings proto (entries_of all) bytes text told also) is ends) in
-        split ∙ ap (λ (l : List Numbered). unknown (numbers_of t) (given_entries l)) (drop_all told all (omega (arith, whole, length-map all (λ (one : Numbered). one.entry))));
+    drained = λ is. none_left settings proto bytes text (subst (EndsAs settings proto (entries_of all) bytes text told also) is ends);
+    cursor = λ is. (none_above t sound_after (none_left settings proto bytes text (subst (EndsAs settings proto (entries_of all) bytes text told also) is ends))).0;
+    above = λ is. (none_above t sound_after (none_left settings proto bytes text (subst (EndsAs settings proto (entries_of all) bytes text told also) is ends))).1;
     others = λ only. split ∙ filter_all (λ e. not (is_known (numbers_of t) e.number)) (given_entries (drop told all)) (λ k d lt. ap not (unknown_from (numbers_of t) _ (others_left k d lt only)));
   }
 
@@ -124,4 +130,5 @@ told_is_gone settings proto bytes_left x y records start until sent bytes calls 
     let knows = only_marked_known x y records x.spool.cursor (end x.spool) y.spool on.rules on.sure ended.session on.goes here in
     let marks = told_of sent own over.all ended.told ended.also goes_on over.marked in
     let front = (leaves_rest x y records on.rules on.sure granted on.goes).front _ marks.front in
-    drops_told x.spool y.spool own over.all ended.told ended.also on.rules.sound over.is_list.are_left knows front marks settings proto sent bytes text over.ends)
+    let sound_after = (goes_later x y records on.rules on.goes).0.sound in
+    drops_told x.spool y.spool own over.all ended.told ended.also on.rules.sound sound_after over.is_list.are_left knows front marks settings proto sent bytes text over.ends)

@@ -1,8 +1,8 @@
 -- A session ends.
-use Rattle.std.proofs.Common.{◌≡◌, ◌≢◌, ℕ, ◌+◌, ◌*◌, ◌<◌, ◌≤◌, ◌^◌, Bool, true, false, List, [], ◌∷◌, ◌++◌, length, take, refl, ap, ◌∙◌, sym, subst, inl, inr, arith, append_assoc, length-append}
-use Rattle.std.specs.Prelude.{◌⊎◌, Contains, Option, Result, Ok, Err}
+use Rattle.std.proofs.Common.{◌≡◌, ℕ, ◌+◌, ◌*◌, ◌<◌, ◌≤◌, ◌^◌, Bool, true, false, List, [], ◌∷◌, ◌++◌, length, take, refl, ap, ◌∙◌, sym, subst, inl, inr, arith, append_assoc}
+use Rattle.std.specs.Prelude.{◌⊎◌, Option, Result, Ok, Err}
 use Rattle.std.specs.Io.KnownBytes.{IsAtEnd}
-use Rattle.std.proofs.lemmas.List.{append-nil, length-map, map-append, take-append-le}
+use Rattle.std.proofs.lemmas.List.{append-nil, map-append}
 use Rattle.known_numbers.specs.declared.stretch.Stretch.{Stretch}
 use Rattle.event_form.specs.declared.event.Entry.{Entry}
 use Rattle.spool_log.specs.declared.fault.PendFault.{PendFault}
@@ -12,16 +12,16 @@ use Rattle.spool_log.specs.declared.fault.ConfirmFault.TheVariants as Confirm
 use Rattle.spool_log.specs.Outcome.{AreNumbered}
 use Rattle.spool_log.specs.declared.reading.numbered.Numbered.{Numbered}
 use Rattle.desk_access.specs.Call.{Call, pends, marks}
-use Rattle.forward_core.specs.Calls.{AreGranted, AreOfSession, IsMarked, MarksBelowNext, MarksFirst, after_last, asked_from, entries_of, next_after, next_of, number_at, read_of, within}
+use Rattle.forward_core.specs.Calls.{AreGranted, AreOfSession, IsMarked, MarksBelowRead, MarksFirst, after_last, asked_from, entries_of, next_after, next_of, read_of, within}
 use Rattle.forward_core.specs.Marking.{EndsSo, IsOfOne, MarksOnlyTold, MarksTold}
 use Rattle.forward_core.specs.Marking as marking
 use Rattle.forward_core.specs.Reading as reading
-use Rattle.forward_core.specs.Session.{Agrees, Ended, EndsBy, EndsRefused, IsToMark, MarksBy, OnDesk, Stands}
+use Rattle.forward_core.specs.Session.{Ended, EndsBy, IsToMark, MarksBy, Stands}
 use Rattle.forward_core.specs.Turning.{IsHalt, MayFollow}
 use Rattle.forward_core.specs.declared.course.Course.{Course}
 use Rattle.forward_core.specs.declared.sent.Sent.{Sent}
 use Rattle.forward_core.specs.declared.sent.Sent.TheVariants as Ending
-use Rattle.forward_core.proofs.Batches.{Leads, reading_leads}
+use Rattle.forward_core.proofs.Batches.{reading_leads}
 use Rattle.forward_core.proofs.CallLists.{granted_then, low_then, marked_cases, next_then, read_then, session_then}
 use Rattle.forward_core.proofs.Desk.{next_marked, next_more, read_marked, read_more}
 use Rattle.forward_core.proofs.Marks.{marks_only, marks_told, only_marked, to_mark_low, to_mark_more}
@@ -97,7 +97,7 @@ may_follow F given next end (x ∷ more) over whole are = record { none = λ f. 
 -- What is known where a session ends, of calls that read these entries, the last of which begin where the others end.
 record Close (start end next : ℕ) (calls : List Call) (read : List Numbered) : Type 0 where
   session : AreOfSession end start calls
-  low : MarksBelowNext end start calls
+  low : MarksBelowRead end 0 calls
   ordered : MarksFirst false calls
   reads : read_of end calls ≡ read
   next_is : next_of end start calls ≡ next
@@ -129,10 +129,10 @@ module _ (Ends : Table) (Hints : List ℕ → Type 0) (left : Option (List ℕ))
   to_mark_all : (more : List Numbered) → IsToMark (read_of c.end calls ++ more) c.told s.also c.marks.items calls
   to_mark_all more = to_mark_more (read_of c.end calls) more c.told s.also c.marks.items calls told_few (λ p q. omega (arith, s.desk.places p q, s.desk.count)) s.desk.marks
 
-  low_marks : (answer : Result Unit ConfirmFault) → MarksBelowNext c.end start (calls ++ marks c.marks.items answer ∷ [])
+  low_marks : (answer : Result Unit ConfirmFault) → MarksBelowRead c.end 0 (calls ++ marks c.marks.items answer ∷ [])
   low_marks answer =
-      low_then c.end start calls (marks c.marks.items answer ∷ []) s.desk.low
-      (subst (λ (n : ℕ). MarksBelowNext c.end n (marks c.marks.items answer ∷ [])) s.desk.next (to_mark_low start c.next (read_of c.end calls) c.told s.also c.marks.items calls s.desk.rising s.desk.marks, tt))
+      low_then c.end 0 calls (marks c.marks.items answer ∷ []) s.desk.low
+      (to_mark_low start c.next (read_of c.end calls) c.told s.also c.marks.items calls s.desk.rising told_few s.desk.marks, tt)
 
   tabled : (sent : Sent) → ((more : List Entry) → MayFollow F given more → Ends (entries_of (read_of c.end calls) ++ more) bytes' text' told s.also sent) → (more : List Numbered) → AreNumbered c.next c.end more → Ends (entries_of (read_of c.end calls ++ more)) bytes' text' told s.also sent
   tabled sent table more are =
@@ -197,7 +197,7 @@ module _ (Ends : Table) (Hints : List ℕ → Type 0) (left : Option (List ℕ))
       (ended_halt Ending.NoMemory [] tt
       (record {
         session = subst (λ (l : List Call). AreOfSession c.end start l) (sym (append-nil calls)) s.desk.session;
-        low = subst (λ (l : List Call). MarksBelowNext c.end start l) (sym (append-nil calls)) s.desk.low;
+        low = subst (λ (l : List Call). MarksBelowRead c.end 0 l) (sym (append-nil calls)) s.desk.low;
         ordered = s.desk.ordered [] tt;
         reads = ap (λ (l : List Call). read_of c.end l) (append-nil calls);
         next_is = ap (λ (l : List Call). next_of c.end start l) (append-nil calls) ∙ sym s.desk.next;
@@ -223,7 +223,7 @@ module _ (Ends : Table) (Hints : List ℕ → Type 0) (left : Option (List ℕ))
       ended_halt (reading.sent_by fault) (call ∷ []) (halts_read fault)
       (record {
         session = session_then c.end start calls (call ∷ []) s.desk.granted s.desk.session (s.desk.next, subst (λ (n : ℕ). n < c.end) s.desk.next more_to_read, ap (λ (n : ℕ). asked_from c.end n) s.desk.next, refl);
-        low = low_then c.end start calls (call ∷ []) s.desk.low tt;
+        low = low_then c.end 0 calls (call ∷ []) s.desk.low tt;
         ordered = s.desk.ordered (call ∷ []) (first, tt);
         reads = read_then c.end calls (call ∷ []) ∙ append-nil (read_of c.end calls);
         next_is = next_then c.end start calls (call ∷ []) ∙ sym s.desk.next;
@@ -242,7 +242,7 @@ module _ (Ends : Table) (Hints : List ℕ → Type 0) (left : Option (List ℕ))
       ended_of Ends Hints left start c.end after told Ending.NoMemory bytes' text' s.also (calls ++ call ∷ []) (read_of c.end calls ++ w)
       (record {
         session = session_then c.end start calls (call ∷ []) s.desk.granted s.desk.session (s.desk.next, subst (λ (n : ℕ). n < c.end) s.desk.next more_to_read, ap (λ (n : ℕ). asked_from c.end n) s.desk.next, tt);
-        low = low_then c.end start calls (call ∷ []) s.desk.low tt;
+        low = low_then c.end 0 calls (call ∷ []) s.desk.low tt;
         ordered = s.desk.ordered (call ∷ []) (first, tt);
         reads = read_more c.next c.end (asked_from c.end c.next) calls listed;
         next_is = next_more start c.next c.end (asked_from c.end c.next) calls listed s.desk.next;

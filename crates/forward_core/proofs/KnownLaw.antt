@@ -17,7 +17,7 @@ use Rattle.forward_core.specs.Calls.{AreGranted}
 use Rattle.forward_core.specs.Laws.{known_by}
 
 -- the last stage of a mark has the numbers with what was marked
-last_marked : (s : SpoolState) (more : List Stretch) → IsSoundKnown (numbers_of s) → numbers_of (last_of s (known_stages s more)) ≡ marked (numbers_of s) more
+pub last_marked : (s : SpoolState) (more : List Stretch) → IsSoundKnown (numbers_of s) → numbers_of (last_of s (known_stages s more)) ≡ marked (numbers_of s) more
 last_marked s more sound =
     cond_both (nat_le (total_of (marked (numbers_of s) more)) (total_of (numbers_of s))) [] (with_marked s more ∷ []) (λ (l : List SpoolState). numbers_of (last_of s l) ≡ marked (numbers_of s) more)
     (λ yes. elim (marked_rises (numbers_of s) more sound) [

@@ -18,6 +18,7 @@ pub mod HecEnding
 pub mod Beginning
 pub mod KnownLaw
 pub mod Rest
+pub mod Counting
 pub mod SendsLaw
 pub mod AfterLaw
 pub mod DropLaw

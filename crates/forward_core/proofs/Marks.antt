@@ -1,11 +1,11 @@
 -- What is marked of entries, and what is to be marked.
-use Rattle.std.proofs.Common.{◌≡◌, ℕ, ◌+◌, ◌-◌, ◌<◌, ◌≤◌, suc, List, [], ◌∷◌, ◌++◌, length, take, drop, map, get_or, refl, ap, ◌∙◌, sym, subst, inl, inr, arith, length-append}
-use Rattle.std.specs.Prelude.{◌⊎◌, Contains, slice_index, Result, Ok, Err}
+use Rattle.std.proofs.Common.{◌≡◌, ℕ, ◌+◌, ◌-◌, ◌<◌, ◌≤◌, suc, List, [], ◌∷◌, ◌++◌, length, take, drop, get_or, ap, ◌∙◌, sym, subst, inl, inr, arith, length-append}
+use Rattle.std.specs.Prelude.{◌⊎◌, Contains, slice_index, Result, Ok}
 use Rattle.std.proofs.lemmas.Bool.{cases_lt}
-use Rattle.std.proofs.lemmas.List.{length-map, map-append, get_or_append_left, get_or-drop, take-append-le}
-use Rattle.std.proofs.lemmas.List.Elements.{Contains-append_left, Contains-append_cases, Contains-push, Contains-push_cases}
+use Rattle.std.proofs.lemmas.List.{length-map, map-append, get_or_append_left, get_or-drop, take-append-le, take_all}
+use Rattle.std.proofs.lemmas.List.Elements.{Contains-append_left, Contains-push, Contains-push_cases}
 use Rattle.known_numbers.specs.declared.stretch.Stretch.{Stretch}
-use Rattle.known_numbers.specs.Numbers.{IsInSome, IsWithin}
+use Rattle.known_numbers.specs.Numbers.{IsInSome}
 use Rattle.spool_log.specs.declared.fault.ConfirmFault.{ConfirmFault}
 use Rattle.spool_log.specs.Outcome.{AreNumbered}
 use Rattle.spool_log.specs.declared.reading.numbered.Numbered.{Numbered}
@@ -14,9 +14,8 @@ use Rattle.forward_core.specs.Calls.{IsMarked, after_last, number_at, numbers_of
 use Rattle.forward_core.specs.Course.{below, alone}
 use Rattle.forward_core.specs.Marking.{IsOfOne, MarksOnlyTold, MarksTold}
 use Rattle.forward_core.specs.Session.{IsToMark}
-use Rattle.forward_core.specs.Turning.{IsTold}
 use Rattle.forward_core.proofs.CallLists.{all_below_last, marked_cases, marked_left, marked_right}
-use Rattle.forward_core.proofs.Numbered.{after_at, after_first, after_more, after_within, before_first, number_within, numbered_lower, numbered_take, one_place}
+use Rattle.forward_core.proofs.Numbered.{after_at, after_first, after_more, before_first, one_place}
 
 -- ---- more entries
 
@@ -86,15 +85,17 @@ marks_told start end all told also stretches calls are h =
       only = marks_only start end all told also (calls ++ marks stretches (Ok tt) ∷ []) are (only_marked all told also stretches calls (Ok tt) h);
     }
 
--- what is to be marked was read
-pub to_mark_low : (start next : ℕ) (read : List Numbered) (told : ℕ) (also : List ℕ) (stretches : List Stretch) (calls : List Call) → AreNumbered start next read → IsToMark read told also stretches calls
-    → (n : ℕ) → IsInSome stretches n → n < next
-to_mark_low start next read told also stretches calls are h n there =
-    let first : after_last 0 (take told read) ≤ next = after_within 0 next (take told read) (omega arith) (numbered_take told 0 next read (numbered_lower 0 start next read (omega arith) are)) in
+-- what is to be marked lies below the number after the last entry read
+pub to_mark_low : (start next : ℕ) (read : List Numbered) (told : ℕ) (also : List ℕ) (stretches : List Stretch) (calls : List Call) → AreNumbered start next read → told ≤ length read → IsToMark read told also stretches calls
+    → (n : ℕ) → IsInSome stretches n → n < after_last 0 read
+to_mark_low start next read told also stretches calls are few h n there =
+    let all : take (length read) read ≡ read = take_all (length read) read (omega arith) in
+    let first : after_last 0 (take told read) ≤ after_last 0 (take (length read) read) = after_more 0 start next read told (length read) (omega arith) are few in
+    let whole : after_last 0 (take (length read) read) ≡ after_last 0 read = ap (λ (l : List Numbered). after_last 0 l) all in
     let at : IsInSome (below (after_last 0 (take told read)) ∷ h.waiting) n = subst (λ (l : List Stretch). IsInSome l n) h.are there in
     elim at [
-      | inl low ↦ omega (arith, low.1, first)
-      | inr one ↦ (let of = h.ones n one in omega (arith, of.3, (number_within start next read of.0 are of.2).1))
+      | inl low ↦ omega (arith, low.1, first, whole)
+      | inr one ↦ (let of = h.ones n one in omega (arith, of.3, before_first 0 start next read (length read) of.0 are of.2 of.2, whole))
     ]
 
 -- after a mark only the first stretch is left, which may be marked again

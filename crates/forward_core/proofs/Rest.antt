@@ -24,7 +24,8 @@ use Rattle.desk_access.specs.Call.{Call, Record, calls_of, marks, pends}
 use Rattle.desk_access.specs.Desk.{Answers, DeskState, Goes}
 use Rattle.desk_access.specs.History.{IsDesk}
 use Rattle.desk_access.proofs.Steps.{allowed_later}
-use Rattle.forward_core.specs.Calls.{AreOfSession, MarksBelowNext, after_last, asked_from, is_within, next_after, next_of, read_of, within}
+use Rattle.forward_core.specs.Calls.{AreOfSession, MarksBelowRead, after_last, asked_from, is_within, next_after, next_of, read_of, within}
+use Rattle.forward_core.proofs.CallLists.{MarksBelowNext, below_next}
 use Rattle.forward_core.proofs.Numbered.{after_rises, numbered_lower, numbered_take}
 
 -- ---- entries with their numbers, as a spool has them and as it gives them
@@ -48,7 +49,7 @@ as_given_entries (x ∷ xs) = ap (λ (l : List Numbered). x ∷ l) (as_given_ent
 
 -- ---- those from a number on
 
-abbrev from_on : ℕ → List NumberedEntry → List NumberedEntry
+abbrev pub from_on : ℕ → List NumberedEntry → List NumberedEntry
 from_on from xs = filter (λ e. nat_le from e.number) xs
 
 kept : (q : NumberedEntry → Bool) (x : NumberedEntry) (xs ys : List NumberedEntry) (b : Bool) → (b ≡ false → q x ≡ false) → filter q xs ≡ ys → filter q (cond b (x ∷ xs) xs) ≡ cond (q x) (x ∷ ys) ys
@@ -71,7 +72,7 @@ one_if : (b : Bool) (from end : ℕ) (x : NumberedEntry) (xs : List NumberedEntr
 one_if true from end x xs le lt is are = (le, lt, is, are)
 one_if false from end x xs le lt is are = numbered_lower from (x.number + 1) end (as_given xs) (omega (arith, le)) are
 
-some_rise : (p : NumberedEntry → Bool) (from end : ℕ) (xs : List NumberedEntry) → AreNumbered from end (as_given xs) → AreNumbered from end (as_given (filter p xs))
+pub some_rise : (p : NumberedEntry → Bool) (from end : ℕ) (xs : List NumberedEntry) → AreNumbered from end (as_given xs) → AreNumbered from end (as_given (filter p xs))
 some_rise p from end [] are = tt
 some_rise p from end (x ∷ xs) are = one_if (p x) from end x (filter p xs) are.0 are.1 are.2 (some_rise p (x.number + 1) end xs are.3)
 
@@ -82,7 +83,7 @@ later_rise from low end (x ∷ xs) are = elim (cases_lt x.number from) [
   | inr ge ↦ subst (λ (l : List NumberedEntry). AreNumbered from end (as_given l)) (sym (cond-true (nat_le from x.number) (x ∷ from_on from xs) (from_on from xs) (le-leb from x.number ge))) (ge, are.1, are.2, some_rise (λ e. nat_le from e.number) (x.number + 1) end xs are.3)
 ]
 
-all_rise : (first end : ℕ) (xs : List Entry) → first + length xs ≤ end → All IsEntry xs → AreNumbered first end (as_given (numbered first xs))
+pub all_rise : (first end : ℕ) (xs : List Entry) → first + length xs ≤ end → All IsEntry xs → AreNumbered first end (as_given (numbered first xs))
 all_rise first end [] le all = tt
 all_rise first end (x ∷ xs) le all = (omega arith, omega (arith, le), All-head IsEntry x xs all, all_rise (first + 1) end xs (omega (arith, le)) (All-tail IsEntry x xs all))
 
@@ -95,7 +96,7 @@ slots_limits n [] all = All-nil IsEntry
 slots_limits n (slot ∷ slots) all =
     All-append IsEntry (entries_in_segment slot.segment) (entries_in slots) (groups_limits slot.segment.groups (All-head (IsOpenSlot n) slot slots all).groups) (slots_limits n slots (All-tail (IsOpenSlot n) slot slots all))
 
-list_limits : (s : SpoolState) → IsSound s → All IsEntry (list s)
+pub list_limits : (s : SpoolState) → IsSound s → All IsEntry (list s)
 list_limits s sound = All-append IsEntry (entries_in s.older) (entries_in_segment s.active.segment) (slots_limits s.slots s.older sound.older) (groups_limits s.active.segment.groups sound.active.groups)
 
 -- those that are left from a number on have rising numbers from there on and below the end
@@ -111,7 +112,7 @@ all_from from end [] are = All-nil (λ (e : NumberedEntry). from ≤ e.number)
 all_from from end (x ∷ xs) are = All-cons (λ (e : NumberedEntry). from ≤ e.number) x xs are.0 (λ k d lt. omega (arith, are.0, all_from (x.number + 1) end xs are.3 k d lt))
 
 -- the first ones, and those with numbers after the last of these, are all
-taken_then : (k from end : ℕ) (xs : List NumberedEntry) → AreNumbered from end (as_given xs) → take k xs ++ from_on (after_last from (as_given (take k xs))) xs ≡ xs
+pub taken_then : (k from end : ℕ) (xs : List NumberedEntry) → AreNumbered from end (as_given xs) → take k xs ++ from_on (after_last from (as_given (take k xs))) xs ≡ xs
 taken_then zero from end xs are = filter_all (λ e. nat_le from e.number) xs (λ i d lt. le-leb from _ (all_from from end xs are i d lt))
 taken_then (suc k) from end [] are = refl
 taken_then (suc k) from end (x ∷ xs) are =
@@ -231,7 +232,7 @@ one_call s x z (marks stretches (Ok done)) calls met next sound rules none like 
 one_call s x z (marks stretches (Err fault)) calls met next sound rules none like answers of low on = splits_none s next calls of
 one_call s x z call calls met next sound rules none like answers of low on = absurd of
 
-splits_from : (s : SpoolState) (x y : DeskState) (records : List Record) (next : ℕ) → IsSound s → IsDesk x → x.doubt ≡ [] → Like next s x.spool
+pub splits_from : (s : SpoolState) (x y : DeskState) (records : List Record) (next : ℕ) → IsSound s → IsDesk x → x.doubt ≡ [] → Like next s x.spool
     → AreOfSession (end s) next (calls_of records) → MarksBelowNext (end s) next (calls_of records) → Goes x records y → Splits s next (calls_of records)
 splits_from s x y [] next sound rules none like of low goes = refl
 splits_from s x y (one ∷ records) next sound rules none like of low goes =
@@ -239,7 +240,7 @@ splits_from s x y (one ∷ records) next sound rules none like of low goes =
     (λ after sure like' of' low'. splits_from s goes.0 y records after sound (allowed_later x goes.0 one rules goes.1).0 sure like' of' low' goes.2)
 
 -- With no other caller, from a desk that isn't in doubt: what a session read, and what it would read next, is what was left.
-pub splits_left : (x y : DeskState) (records : List Record) → IsDesk x → x.doubt ≡ [] → AreOfSession (end x.spool) x.spool.cursor (calls_of records) → MarksBelowNext (end x.spool) x.spool.cursor (calls_of records) → Goes x records y
+pub splits_left : (x y : DeskState) (records : List Record) → IsDesk x → x.doubt ≡ [] → AreOfSession (end x.spool) x.spool.cursor (calls_of records) → MarksBelowRead (end x.spool) 0 (calls_of records) → Goes x records y
     → given_entries (read_of (end x.spool) (calls_of records) ++ as_given (left_from x.spool (next_of (end x.spool) x.spool.cursor (calls_of records)))) ≡ left x.spool
 splits_left x y records rules none of low goes =
     let s = x.spool in
@@ -247,5 +248,5 @@ splits_left x y records rules none of low goes =
     let rest = left_from s (next_of (end s) s.cursor (calls_of records)) in
     map-append one_entry read (as_given rest)
     ∙ ap (λ (l : List NumberedEntry). given_entries read ++ l) (entries_as_given rest)
-    ∙ sym (splits_from s x y records s.cursor rules.sound rules none (like_same s.cursor s s refl) of low goes)
+    ∙ sym (splits_from s x y records s.cursor rules.sound rules none (like_same s.cursor s s refl) of (below_next (end s) 0 s.cursor (calls_of records) (omega arith) of low) goes)
     ∙ left_from-cursor s s.cursor (omega arith)

@@ -1,5 +1,5 @@
 -- The calls of a session on the desk: it reads entries, and marks those that the peer acknowledged.
-use Rattle.std.specs.Prelude.{◌≡◌, ◌⊎◌, ℕ, ◌+◌, ◌-◌, ◌<◌, ◌≤◌, ◌&&◌, Bool, true, false, nat_lt, nat_le, min, if◌then◌else◌, List, [], ◌∷◌, ◌++◌, length, map, filter, slice_index, Result, Ok, Err}
+use Rattle.std.specs.Prelude.{◌≡◌, ◌⊎◌, ℕ, ◌+◌, ◌-◌, ◌<◌, ◌&&◌, Bool, true, false, nat_lt, nat_le, min, if◌then◌else◌, List, [], ◌∷◌, ◌++◌, length, map, filter, slice_index, Ok, Err}
 use Rattle.known_numbers.specs.Numbers.{IsInSome}
 use Rattle.event_form.specs.declared.event.Entry.{Entry}
 use Rattle.spool_log.specs.declared.reading.numbered.Numbered.{Numbered}
@@ -80,12 +80,13 @@ IsMarked [] n = ⊥
 IsMarked (marks stretches result ∷ calls) n = IsInSome stretches n ⊎ IsMarked calls n
 IsMarked (call ∷ calls) n = IsMarked calls n
 
--- Each mark, also one that is refused, is of numbers below the one from which the next reading begins.
-abbrev pub MarksBelowNext : ℕ → ℕ → List Call → Type 0
-MarksBelowNext end next [] = Unit {0}
-MarksBelowNext end next (pends from most (Ok given) ∷ calls) = MarksBelowNext end (next_after end next given) calls
-MarksBelowNext end next (marks stretches result ∷ calls) = ((n : ℕ) → IsInSome stretches n → n < next) × MarksBelowNext end next calls
-MarksBelowNext end next (call ∷ calls) = MarksBelowNext end next calls
+-- Each mark, also one that is refused, is of numbers below the one after the last entry that was read by then. That one is given
+-- as it is before these calls: 0 where none was read, so that a mark before the first reading marks no number.
+abbrev pub MarksBelowRead : ℕ → ℕ → List Call → Type 0
+MarksBelowRead end past [] = Unit {0}
+MarksBelowRead end past (pends from most (Ok given) ∷ calls) = MarksBelowRead end (after_last past (within from end given)) calls
+MarksBelowRead end past (marks stretches result ∷ calls) = ((n : ℕ) → IsInSome stretches n → n < past) × MarksBelowRead end past calls
+MarksBelowRead end past (call ∷ calls) = MarksBelowRead end past calls
 
 -- A mark that was answered Ok begins with all numbers below that one, as one stretch.
 abbrev pub MarksAllBelow : ℕ → List Call → Type 0

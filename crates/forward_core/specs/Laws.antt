@@ -94,11 +94,13 @@ RestIsLeft = (x y : DeskState) (records : List Record) → IsDesk x → x.doubt 
     → LeavesRest x.spool (calls_of records) y.spool
 
 -- Of the list of a session that was not halted the first entries acknowledged are gone. Of the others those are left that
--- aren't known: where no other one was told as acknowledged, all others. After `Drained` none is left.
+-- aren't known: where no other one was told as acknowledged, all others. After `Drained` none is left: the cursor is at the end, and no stretch is above it.
 pub record DropsTold (all : List Numbered) (told : ℕ) (also : List ℕ) (sent : Sent) (t : SpoolState) : Type 0 where
   pub left_is : left t ≡ unknown (numbers_of t) (given_entries (drop told all))
   pub others : ((place : ℕ) → IsTold told also place → place < told) → left t ≡ given_entries (drop told all)
   pub drained : sent ≡ Drained → left t ≡ []
+  pub cursor : sent ≡ Drained → t.cursor ≡ end t
+  pub above : sent ≡ Drained → t.known ≡ []
 
 abbrev pub ToldIsGone : Type 0
 ToldIsGone = (settings : Settings) (proto : Proto) (bytes_left : Option (List ℕ)) (x y : DeskState) (records : List Record) (start until : ℕ)

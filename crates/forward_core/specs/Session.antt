@@ -1,5 +1,5 @@
 -- How far a session is, and how it ends.
-use Rattle.std.specs.Prelude.{◌≡◌, ◌⊎◌, ℕ, ◌+◌, ◌*◌, ◌<◌, ◌≤◌, ◌^◌, Bool, true, false, List, [], ◌∷◌, ◌++◌, length, take, drop, Contains, Option, Result, Ok, Err}
+use Rattle.std.specs.Prelude.{◌≡◌, ◌⊎◌, ℕ, ◌+◌, ◌*◌, ◌<◌, ◌≤◌, Bool, true, false, List, [], ◌∷◌, ◌++◌, length, take, drop, Contains, Option, Err}
 use Rattle.std.specs.Io.KnownBytes.{IsAtEnd}
 use Rattle.known_numbers.specs.declared.stretch.Stretch.{Stretch}
 use Rattle.known_numbers.specs.Numbers.{IsInSome}
@@ -7,7 +7,7 @@ use Rattle.event_form.specs.declared.event.Entry.{Entry}
 use Rattle.spool_log.specs.declared.reading.numbered.Numbered.{Numbered}
 use Rattle.spool_log.specs.Outcome.{AreNumbered}
 use Rattle.desk_access.specs.Call.{Call, pends, marks}
-use Rattle.forward_core.specs.Calls.{AreGranted, AreOfSession, IsMarked, MarksBelowNext, MarksFirst, after_last, entries_of, next_of, number_at, numbers_of, read_of}
+use Rattle.forward_core.specs.Calls.{AreGranted, AreOfSession, IsMarked, MarksBelowRead, MarksFirst, after_last, entries_of, next_of, number_at, numbers_of, read_of}
 use Rattle.forward_core.specs.Course.{below}
 use Rattle.forward_core.specs.Marking.{IsOfOne, MarksOnlyTold, MarksTold}
 use Rattle.forward_core.specs.Marking as marking
@@ -29,7 +29,7 @@ pub record IsToMark (read : List Numbered) (told : ℕ) (also : List ℕ) (stret
 -- told are marked or are to be. The test says whether the last call was a mark, so that a reading may follow.
 pub record OnDesk (marked : Bool) (start : ℕ) (course : Course) (also : List ℕ) (calls : List Call) : Type 0 where
   pub session : AreOfSession course.end start calls
-  pub low : MarksBelowNext course.end start calls
+  pub low : MarksBelowRead course.end 0 calls
   pub ordered : (more : List Call) → MarksFirst marked more → MarksFirst false (calls ++ more)
   pub granted : AreGranted calls
   pub next : course.next ≡ next_of course.end start calls
@@ -98,14 +98,14 @@ MarksBy NoMemory calls all told also = MarksOnlyTold calls all told also
 MarksBy sent calls all told also = MarksTold calls all told also
 
 -- A session that ends so: the calls are those of one, and of the entries some are acknowledged, the first ones and those
--- at some places. What is marked was read before. Whatever entries stand after those that were read, up to the end at the start of the session, the
+-- at some places. What is marked lies below the number after the last entry read before. Whatever entries stand after those that were read, up to the end at the start of the session, the
 -- protocol's table says this of the whole list, and the calls marked those that are acknowledged. The peer closed it
 -- only where it said so, or its bytes were read to their end.
 pub record Ended (Ends : List Entry → List ℕ → List ℕ → ℕ → List ℕ → Sent → Type 0) (Hints : List ℕ → Type 0) (left : Option (List ℕ)) (end : ℕ) (sent : Sent) (start : ℕ) (bytes : List ℕ) (calls : List Call) (text : List ℕ) : Type 0 where
   pub told : ℕ
   pub also : List ℕ
   pub session : AreOfSession end start calls
-  pub low : MarksBelowNext end start calls
+  pub low : MarksBelowRead end 0 calls
   pub ordered : MarksFirst false calls
   pub refused : EndsBy sent calls
   pub ends : (more : List Numbered) → AreNumbered (next_of end start calls) end more → Ends (entries_of (read_of end calls ++ more)) bytes text told also sent
