@@ -1,5 +1,5 @@
 -- What a caller of the shared desk knows.
-use Rattle.std.specs.Prelude.{◌≡◌, ℕ, zero, suc, ◌-◌, ◌≤◌, Bool, List, [], ◌∷◌, ◌++◌, map, Option, None, Some}
+use Rattle.std.specs.Prelude.{◌≡◌, ℕ, zero, suc, ◌-◌, ◌≤◌, ◌==◌, if◌then◌else◌, Bool, List, [], ◌∷◌, ◌++◌, map, Option, None, Some}
 use mathlib.Core.List.{IsPrefix}
 use Rattle.atomic_table.specs.Table.{Me}
 use Rattle.atomic_table.specs.Seated.{TableId}
@@ -80,6 +80,11 @@ LeadsBelow x log most_end most_cursor = (y : DeskState) × Goes x log y × (end 
 -- the journal leads from that state to one whose end and cursor are at least these
 abbrev pub LeadsAbove : DeskState → List Record → ℕ → ℕ → Type 0
 LeadsAbove x log least_end least_cursor = (y : DeskState) × Goes x log y × (least_end ≤ end y.spool) × (least_cursor ≤ y.spool.cursor)
+
+-- the records up to the first of that caller
+abbrev pub upto_first : ℕ → List Record → List Record
+upto_first number [] = []
+upto_first number (one ∷ records) = if one.by == number then one ∷ [] else one ∷ upto_first number records
 
 -- what is true of each pass of a desk that was given in such a state
 pub record Sound (start : DeskState → Type 0) (m : PassView) : Type 0 where

@@ -1,5 +1,5 @@
 -- What calls of one pass lead from one moment of it to another, and what follows for what it may do.
-use Rattle.std.proofs.Common.{◌≡◌, ℕ, ◌+◌, ◌≤◌, ◌<◌, arith, List, [], ◌∷◌, ◌++◌, length, length-append, refl, sym, ap, ◌∙◌, subst, append_assoc}
+use Rattle.std.proofs.Common.{◌≡◌, ℕ, ◌+◌, ◌≤◌, ◌<◌, ◌==◌, Bool, true, false, cond, eq-eqb, arith, List, [], ◌∷◌, ◌++◌, length, length-append, refl, sym, ap, ◌∙◌, subst, append_assoc}
 use Rattle.std.specs.Prelude.{All, Ok}
 use Rattle.std.proofs.lemmas.List.{append-nil}
 use Rattle.event_form.specs.declared.event.Entry.{Entry}
@@ -12,11 +12,11 @@ use Rattle.desk_access.specs.History.{IsDesk}
 use Rattle.desk_access.specs.Journal.{own_then}
 use Rattle.desk_access.specs.Legal.{IsNext, AreUnused, IsUnused, IsStored}
 use Rattle.desk_access.proofs.Nexts.{next_more, unused_new, unused_more, stored_new, stored_more}
-use Rattle.spool_turns.specs.Passes.{Known, LeadsAbove, Calls}
+use Rattle.spool_turns.specs.Passes.{Known, LeadsAbove, Calls, upto_first}
 use Rattle.spool_turns.specs.Own.{own_of-snoc}
 
 -- These calls of the pass lead from the one moment to the other. The journal seen went on, if any call was made, and of
--- what was added the pass's are these.
+-- what was added the pass's are these. What was loaded before isn't above what the journal leads to by the first of them.
 pub record Ran (start : DeskState → Type 0) (a : Known) (calls : List Call) (b : Known) : Type 0 where
   pub between : List Record
   pub seen : b.seen ≡ a.seen ++ between
@@ -27,6 +27,25 @@ pub record Ran (start : DeskState → Type 0) (a : Known) (calls : List Call) (b
   pub cursor_known : a.cursor_known ≤ b.cursor_known
   pub quiet : length calls ≡ 0 → b.seen ≡ a.seen
   pub lawful : 0 < length calls → (x : DeskState) → start x → LeadsAbove x b.seen a.end_known a.cursor_known
+  pub first_lawful : 0 < length calls → (x : DeskState) → start x → LeadsAbove x (a.seen ++ upto_first a.number between) a.end_known a.cursor_known
+
+-- records in which the number has none, or has one
+pub upto_first-none : (n : ℕ) (xs ys : List Record) → own_of n xs ≡ [] → upto_first n (xs ++ ys) ≡ xs ++ upto_first n ys
+upto_first-none n [] ys none = refl
+upto_first-none n (x ∷ xs) ys none = by (x.by == n) none (λ rest. upto_first-none n xs ys rest) where
+  by : (b : Bool) → cond b (x.call ∷ own_of n xs) (own_of n xs) ≡ [] → (own_of n xs ≡ [] → upto_first n (xs ++ ys) ≡ xs ++ upto_first n ys) → cond b (x ∷ []) (x ∷ upto_first n (xs ++ ys)) ≡ x ∷ (xs ++ upto_first n ys)
+  by true off rest = absurd (cc (off))
+  by false off rest = ap (λ (l : List Record). x ∷ l) (rest off)
+
+pub upto_first-some : (n : ℕ) (xs ys : List Record) → 0 < length (own_of n xs) → upto_first n (xs ++ ys) ≡ upto_first n xs
+upto_first-some n [] ys some = absurd (omega arith)
+upto_first-some n (x ∷ xs) ys some = by (x.by == n) some (λ rest. upto_first-some n xs ys rest) where
+  by : (b : Bool) → 0 < length (cond b (x.call ∷ own_of n xs) (own_of n xs)) → (0 < length (own_of n xs) → upto_first n (xs ++ ys) ≡ upto_first n xs) → cond b (x ∷ []) (x ∷ upto_first n (xs ++ ys)) ≡ cond b (x ∷ []) (x ∷ upto_first n xs)
+  by true more rest = refl
+  by false more rest = ap (λ (l : List Record). x ∷ l) (rest more)
+
+pub upto_first-one : (n : ℕ) (one : Record) → one.by ≡ n → upto_first n (one ∷ []) ≡ one ∷ []
+upto_first-one n one is = ap (λ (b : Bool). cond b (one ∷ []) (one ∷ [])) (eq-eqb one.by n is)
 
 pub ran_none : (start : DeskState → Type 0) (a : Known) → Ran start a [] a
 ran_none start a = record {
@@ -39,6 +58,7 @@ ran_none start a = record {
   cursor_known = omega arith;
   quiet = λ none. refl;
   lawful = λ some. absurd (omega arith);
+  first_lawful = λ some. absurd (omega arith);
 }
 
 more_lawful : (start : DeskState → Type 0) (a b c : Known) (calls more : List Call) → Ran start a calls b → Ran start b more c → 0 < length (calls ++ more)
@@ -49,6 +69,18 @@ more_lawful start a b c calls [] p q some x s =
 more_lawful start a b c calls (call ∷ more) p q some x s =
     let h = q.lawful (omega arith) x s in
     (h.0, h.1, omega (arith, h.2, p.end_known), omega (arith, h.3, p.cursor_known))
+
+more_first : (start : DeskState → Type 0) (a b c : Known) (calls more : List Call) (p : Ran start a calls b) (q : Ran start b more c) → 0 < length (calls ++ more)
+    → (x : DeskState) → start x → LeadsAbove x (a.seen ++ upto_first a.number (p.between ++ q.between)) a.end_known a.cursor_known
+more_first start a b c [] more p q some x s =
+    let h = q.first_lawful some x s in
+    let same : b.seen ++ upto_first b.number q.between ≡ a.seen ++ upto_first a.number (p.between ++ q.between) =
+    (λ k. p.seen k ++ upto_first (p.number k) q.between) ∙ append_assoc a.seen p.between (upto_first a.number q.between)
+    ∙ ap (λ (l : List Record). a.seen ++ l) (sym (upto_first-none a.number p.between q.between p.own_between)) in
+    subst (λ (l : List Record). LeadsAbove x l a.end_known a.cursor_known) same (h.0, h.1, omega (arith, h.2, p.end_known), omega (arith, h.3, p.cursor_known))
+more_first start a b c (call ∷ calls) more p q some x s =
+    subst (λ (l : List Record). LeadsAbove x (a.seen ++ l) a.end_known a.cursor_known)
+    (sym (upto_first-some a.number p.between q.between (omega (arith, ap (λ (l : List Call). length l) p.own_between)))) (p.first_lawful (omega arith) x s)
 
 pub ran_more : (start : DeskState → Type 0) (a b c : Known) (calls more : List Call) → Ran start a calls b → Ran start b more c
     → Ran start a (calls ++ more) c
@@ -62,6 +94,7 @@ ran_more start a b c calls more p q = record {
   cursor_known = omega (arith, p.cursor_known, q.cursor_known);
   quiet = λ none. q.quiet (omega (arith, none, length-append calls more)) ∙ p.quiet (omega (arith, none, length-append calls more));
   lawful = more_lawful start a b c calls more p q;
+  first_lawful = more_first start a b c calls more p q;
 }
 
 -- one call
@@ -76,6 +109,9 @@ ran_one start run seats a call b p = record {
   cursor_known = p.cursor_known;
   quiet = λ none. absurd (omega arith);
   lawful = λ some. p.lawful;
+  first_lawful = λ some x s. subst (λ (l : List Record). LeadsAbove x l a.end_known a.cursor_known)
+      (p.seen ∙ append_assoc a.seen p.between (p.one ∷ []) ∙ ap (λ (l : List Record). a.seen ++ l) (sym (upto_first-none a.number p.between (p.one ∷ []) p.others ∙ ap (λ (l : List Record). p.between ++ l) (upto_first-one a.number p.one p.by))))
+      (p.lawful x s);
 }
 
 -- a word loaded
@@ -91,6 +127,7 @@ ran_loaded start a b number seen own end_known cursor_known = record {
   cursor_known = cursor_known;
   quiet = λ none. seen;
   lawful = λ some. absurd (omega arith);
+  first_lawful = λ some. absurd (omega arith);
 }
 
 pub ran_seen : (start : DeskState → Type 0) (a b : Known) (calls : List Call) (x : DeskState) (journal : List Record) → Ran start a calls b
