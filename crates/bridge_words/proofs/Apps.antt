@@ -1,11 +1,14 @@
 -- A command line with one more argument, and with one more command.
-use Rattle.std.proofs.Common.{◌≡◌, ◌∙◌, ap, ap₂, refl}
-use Rattle.std.specs.Prelude.{false}
+use Rattle.std.proofs.Common.{◌≡◌, ◌∙◌, List, ap, ap₂, refl, subst}
+use Rattle.std.specs.Prelude.{true, false, Result, IfOk}
+use Rattle.std.proofs.lemmas.Result.{IfOk-weaker}
 use Rattle.clap.specs.declared.builder.arg.Arg.{Arg}
 use Rattle.clap.specs.declared.builder.command.Command.{Command}
 use Rattle.clap.specs.Built.{AddsArg, AddsSubcommand}
-use Rattle.clap.specs.Walk.{Rule, rule_of}
-use Rattle.clap.specs.Simple.{App, with_rule, with_subcommand}
+use Rattle.clap.specs.declared.error.Error.{Error}
+use Rattle.clap.specs.declared.parser.matches.ArgMatches.{ArgMatches}
+use Rattle.clap.specs.Walk.{Rule, Text, rule_of}
+use Rattle.clap.specs.Words.{App, FailsBy, HasMatchesOf, app_of, fault_of, is_simple, is_simple_and_free, subcommand_of, subcommand_rows_of, with_rule, with_subcommand}
 use Rattle.bridge_words.specs.Grammar.{IsApp}
 
 pub adds_argument : (app : App) (rule : Rule) (old : Command) (a : Arg) (new : Command) → IsApp app old → a.global ≡ false → rule_of a ≡ rule → AddsArg old a new → IsApp (with_rule app rule) new
@@ -19,3 +22,13 @@ adds_command app sub_app old sub new is sub_is adds = record {
   is = adds.shape sub_is.local ∙ ap₂ with_subcommand is.is (ap (λ (a : App). a.top) sub_is.is);
   local = adds.globals ∙ rw (is.local, sub_is.local) refl;
 }
+
+-- what clap says of words, where the command line is this one
+pub fails_as : (app : App) (c : Command) (words : List Text) (r : Result ArgMatches Error) → IsApp app c → is_simple_and_free app ≡ true
+    → (is_simple_and_free (app_of c) ≡ true → FailsBy (fault_of (app_of c) words) r) → FailsBy (fault_of app words) r
+fails_as app c words r is simple kinds = subst (λ (a : App). is_simple_and_free a ≡ true → FailsBy (fault_of a words) r) is.is kinds simple
+
+pub finds_as : (app : App) (c : Command) (words : List Text) (r : Result ArgMatches Error) → IsApp app c → is_simple app ≡ true
+    → IfOk r (HasMatchesOf (app_of c) words) → IfOk r (λ matches. subcommand_rows_of matches ≡ subcommand_of app words)
+finds_as app c words r is simple has =
+    IfOk-weaker r _ _ (λ matches found. (found simple).1) (subst (λ (a : App). IfOk r (HasMatchesOf a words)) is.is has)

@@ -1,6 +1,6 @@
 -- Numbers of one to ten digits.
-use Rattle.std.proofs.Common.{◌≡◌, ◌∙◌, ℕ, ◌^◌, ◌<◌, ◌≤◌, List, [], ◌∷◌, length, get_or, true≢false, refl, sym, ap, subst, arith, lt-ltb, ltb-true}
-use Rattle.std.specs.Prelude.{Bool, true, false, cond, nat_lt, Option, None, Some}
+use Rattle.std.proofs.Common.{◌≡◌, ◌∙◌, ℕ, ◌^◌, ◌<◌, ◌≤◌, [], ◌∷◌, length, get_or, true≢false, refl, sym, ap, subst, arith, lt-ltb, ltb-true}
+use Rattle.std.specs.Prelude.{Bool, true, false, cond, nat_lt, None, Some}
 use Rattle.std.specs.List.{list_all}
 use Rattle.std.specs.Char.{digit_value}
 use Rattle.std.specs.Str.Parse.{AllDigits, IsNumeral, digits_value}

@@ -6,8 +6,10 @@ use Rattle.std.specs.Str.{bytes_eq}
 use Rattle.std.proofs.lemmas.Slice.Eq.{bytes_eq-Decides}
 use Rattle.clap.specs.Walk.{Row, Text}
 use Rattle.bridge_words.specs.declared.command.Command.{Command}
-use Rattle.bridge_words.specs.declared.command.Command.TheVariants.{Format, List as ListCommand, Replay, Drain, Load}
-use Rattle.bridge_words.specs.Words.{IsSize, IsCommandBy, IsCommand, name_of}
+use Rattle.bridge_words.specs.declared.command.Relay.{Relay}
+use Rattle.bridge_words.specs.declared.command.Server.{Server}
+use Rattle.bridge_words.specs.declared.command.Command.TheVariants.{Format, List as ListCommand, Replay, Drain, Load, Serve}
+use Rattle.bridge_words.specs.Words.{IsSize, IsServe, IsCommandBy, IsCommand, name_of}
 
 -- texts that a test tells apart are apart
 pub apart : (a b : Text) → bytes_eq a b ≡ false → a ≡ b → ⊥
@@ -26,6 +28,25 @@ same_name a b x y is = ap (name_or a) is
 pub same_rows : (a b : Text) (x y : List Row) → ◌≡◌ {A = Option (Text × List Row)} (Some (a, x)) (Some (b, y)) → x ≡ y
 same_rows a b x y is = ap (rows_or x) is
 
+-- a server is what its fields are
+server_of : (relp lumberjack hec : Option Text) (workers talks : ℕ) (token ack_token : Option ℕ) (forward : Option Relay) → Server
+server_of relp lumberjack hec workers talks token ack_token forward =
+    record { relp = relp; lumberjack = lumberjack; hec = hec; workers = workers; talks = talks; token = token; ack_token = ack_token; forward = forward }
+
+server_is : (s : Server) → server_of s.relp s.lumberjack s.hec s.workers s.talks s.token s.ack_token s.forward ≡ s
+unfolding server_of
+server_is s = refl
+
+one_server : (s t : Server) (rows : List Row) → IsServe s rows → IsServe t rows → s ≡ t
+one_server s t rows x y =
+    let relp = x.doors_are.relp_is in let relp' = y.doors_are.relp_is in
+    let lumberjack = x.doors_are.lumberjack_is in let lumberjack' = y.doors_are.lumberjack_is in
+    let hec = x.doors_are.hec_is in let hec' = y.doors_are.hec_is in
+    let workers = x.workers_is in let workers' = y.workers_is in let talks = x.talks_is in let talks' = y.talks_is in
+    let token = x.token_is in let token' = y.token_is in let ack_token = x.ack_token_is in let ack_token' = y.ack_token_is in
+    let forward = x.forward_is in let forward' = y.forward_is in
+    cc (server_is s, server_is t)
+
 one_by : (c d : Command) (rows : List Row) → name_of c ≡ name_of d → IsCommandBy c rows → IsCommandBy d rows → c ≡ d
 one_by (Format slots size) (Format slots' size') rows name x y =
     let a = x.slots_is in let b = y.slots_is in let e = x.size_is in let f = y.size_is in cc
@@ -36,6 +57,7 @@ one_by (Drain receiver place) (Drain receiver' place') rows name x y =
     let a = x.receiver_is in let b = y.receiver_is in let e = x.place_is in let f = y.place_is in cc
 one_by (Load proto number count) (Load proto' number' count') rows name x y =
     let a = x.proto_is in let b = y.proto_is in let e = x.number_is in let f = y.number_is in let g = x.count_is in let h = y.count_is in cc
+one_by (Serve server) (Serve server') rows name x y = ap (λ (s : Server). Serve s) (one_server server server' rows x y)
 one_by c d rows name x y = absurd (apart (name_of c) (name_of d) refl name)
 
 pub one_command : (c d : Command) (words : List Text) → IsCommand c words → IsCommand d words → c ≡ d

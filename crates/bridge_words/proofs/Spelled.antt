@@ -1,6 +1,6 @@
 -- How options may be spelt, as the words of clap have it: computed for words of which the values are any.
 use Rattle.std.proofs.Common.{◌≡◌, ℕ, List, [], ◌∷◌, ◌++◌, refl, ap, codes}
-use Rattle.std.specs.Prelude.{Option, None, Some, option_map, Result}
+use Rattle.std.specs.Prelude.{Option, Some, option_map, Result}
 use Rattle.std.specs.Option.{ok_or, option_map_or}
 use Rattle.clap.specs.Walk.{Row, Text}
 use Rattle.clap.specs.Kinds.{Kinds}

@@ -7,14 +7,15 @@ use Rattle.clap.specs.declared.error.kind.ErrorKind.{ErrorKind}
 use Rattle.clap.specs.declared.error.kind.ErrorKind.TheVariants as kind
 use Rattle.edge_io.specs.declared.proto.Proto.{Proto}
 use Rattle.bridge_words.specs.declared.command.Command.{Command}
-use Rattle.bridge_words.specs.declared.command.Command.TheVariants.{Format, List as ListCommand, Replay, Drain, Load}
+use Rattle.bridge_words.specs.declared.command.Command.TheVariants.{Format, List as ListCommand, Replay, Drain, Load, Serve}
 use Rattle.bridge_words.specs.declared.command.Receiver.{Receiver}
+use Rattle.bridge_words.specs.declared.command.Server.{Server}
 use Rattle.bridge_words.specs.declared.fault.WordsFault.{WordsFault}
 use Rattle.bridge_words.specs.declared.reading.Unread.TheVariants.{Wrong}
 use Rattle.bridge_words.specs.Grammar.{refusals}
-use Rattle.bridge_words.specs.Words.{IsFormat, IsReplay, IsDrain, IsLoad, IsCommandBy, IsCommand, IsNoCommand, name_of}
-use Rattle.bridge_words.specs.Wrong.{fault_for, unread_for, WrongFormat, WrongList, WrongReplay, WrongDrain, WrongLoad, WrongBy, IsWrong}
-use Rattle.bridge_words.specs.Wrong.WrongBy.{no_name, in_format, in_list, in_replay, in_drain, in_load}
+use Rattle.bridge_words.specs.Words.{IsFormat, IsReplay, IsDrain, IsLoad, HasDoor, AreDoors, IsServe, IsCommandBy, IsNoCommand, name_of}
+use Rattle.bridge_words.specs.Wrong.{fault_for, unread_for, WrongFormat, WrongReplay, WrongDrain, WrongLoad, WrongDoors, WrongServe, WrongBy, IsWrong}
+use Rattle.bridge_words.specs.Wrong.WrongBy.{no_name, in_format, in_list, in_replay, in_drain, in_load, in_serve}
 use Rattle.bridge_words.specs.Wrong.IsWrong.{refused, nameless, found}
 use Rattle.bridge_words.proofs.Once.{apart, same_name, same_rows}
 
@@ -40,6 +41,27 @@ no_load w rows proto number count (inl h) is = never _ _ _ is.proto_is h
 no_load w rows proto number count (inr (inl h)) is = never _ _ _ is.number_is h
 no_load w rows proto number count (inr (inr h)) is = never _ _ _ is.count_is h
 
+no_door : (relp lumberjack hec : Option Text) → HasDoor relp lumberjack hec → relp ≡ None → lumberjack ≡ None → hec ≡ None → ⊥
+no_door relp lumberjack hec (inl given) a b c = absurd (cc)
+no_door relp lumberjack hec (inr (inl given)) a b c = absurd (cc)
+no_door relp lumberjack hec (inr (inr given)) a b c = absurd (cc)
+
+no_doors : (w : WordsFault) (rows : List Row) (relp lumberjack hec : Option Text) → WrongDoors w rows → AreDoors relp lumberjack hec rows → ⊥
+no_doors w rows relp lumberjack hec (inl h) are = never _ _ _ are.relp_is h
+no_doors w rows relp lumberjack hec (inr (inl h)) are = never _ _ _ are.lumberjack_is h
+no_doors w rows relp lumberjack hec (inr (inr (inl h))) are = never _ _ _ are.hec_is h
+no_doors w rows relp lumberjack hec (inr (inr (inr h))) are =
+    let relp_is = are.relp_is in let lumberjack_is = are.lumberjack_is in let hec_is = are.hec_is in
+    no_door relp lumberjack hec are.some_door (cc (h.relp_is)) (cc (h.lumberjack_is)) (cc (h.hec_is))
+
+no_serve : (w : WordsFault) (rows : List Row) (server : Server) → WrongServe w rows → IsServe server rows → ⊥
+no_serve w rows server (inl h) is = no_doors w rows _ _ _ h is.doors_are
+no_serve w rows server (inr (inl h)) is = never _ _ _ is.workers_is h
+no_serve w rows server (inr (inr (inl h))) is = never _ _ _ is.talks_is h
+no_serve w rows server (inr (inr (inr (inl h)))) is = never _ _ _ is.token_is h
+no_serve w rows server (inr (inr (inr (inr (inl h))))) is = never _ _ _ is.ack_token_is h
+no_serve w rows server (inr (inr (inr (inr (inr h))))) is = never _ _ _ is.forward_is h
+
 wrong_by : (name : Text) (w : WordsFault) (rows : List Row) (command : Command) → WrongBy name w rows → name_of command ≡ name → IsCommandBy command rows → ⊥
 wrong_by name w rows command (no_name none is) at asks = none command at
 wrong_by name w rows (Format slots size) (in_format is h) at asks = no_format w rows slots size h asks
@@ -52,6 +74,8 @@ wrong_by name w rows (Drain receiver place) (in_drain is h) at asks = no_drain w
 wrong_by name w rows command (in_drain is h) at asks = apart (name_of command) _ refl (at ∙ is)
 wrong_by name w rows (Load proto number count) (in_load is h) at asks = no_load w rows proto number count h asks
 wrong_by name w rows command (in_load is h) at asks = apart (name_of command) _ refl (at ∙ is)
+wrong_by name w rows (Serve server) (in_serve is h) at asks = no_serve w rows server h asks
+wrong_by name w rows command (in_serve is h) at asks = apart (name_of command) _ refl (at ∙ is)
 
 pub wrong_is_none : (w : WordsFault) (words : List Text) → IsWrong w words → IsNoCommand words
 wrong_is_none w words (refused why among is) command c = subst (IsAmong why) c.taken among

@@ -3,7 +3,7 @@
 use Rattle.std.specs.Prelude.{◌≡◌, List, Option, Some, codes, true, false}
 use Rattle.clap.specs.declared.builder.command.Command.{Command}
 use Rattle.clap.specs.declared.builder.command.Command.TheViews.{out-Command}
-use Rattle.clap.specs.Walk.{Row, Rule, Text}
+use Rattle.clap.specs.Walk.{Row, Text}
 use Rattle.clap.specs.Simple.{App, app_of, new_app, new_rule, subcommand_of, with_rule, with_subcommand}
 use Rattle.clap.specs.Kinds.{Kinds}
 use Rattle.clap.specs.Faults.{fault_of}
@@ -15,7 +15,7 @@ needs name app = with_rule app (record (new_rule name) { required = true })
 abbrev may_have : Text → App → App
 may_have name app = with_rule app (new_rule name)
 
-abbrev option : Text → App → App
+abbrev pub option : Text → App → App
 option name app = with_rule app (record (new_rule name) { long = Some name })
 
 -- `format SLOTS SIZE`
@@ -40,6 +40,16 @@ drain_app =
 abbrev pub load_app : App
 load_app = needs (codes "count") (needs (codes "number") (needs (codes "proto") (new_app (codes "load"))))
 
+-- `serve [--relp P] [--lumberjack P] [--hec P] [--workers N] [--talks N] [--token G] [--ack-token G]
+--     [--forward PROTO] [--to P] [--out-token G] [--out-channel G] [--polls N]`
+abbrev pub serve_app : App
+serve_app =
+    option (codes "polls") (option (codes "out-channel") (option (codes "out-token")
+    (option (codes "to") (option (codes "forward")
+    (option (codes "ack-token") (option (codes "token")
+    (option (codes "talks") (option (codes "workers")
+    (option (codes "hec") (option (codes "lumberjack") (option (codes "relp") (new_app (codes "serve")))))))))))))
+
 -- one command is named, no word is `help`, and there is no option but the commands' own
 abbrev pub top_app : App
 top_app = let app = new_app (codes "bridge") in
@@ -55,8 +65,8 @@ top_app = let app = new_app (codes "bridge") in
 
 abbrev pub bridge_app : App
 bridge_app =
-    with_subcommand (with_subcommand (with_subcommand (with_subcommand (with_subcommand top_app
-    format_app.top) list_app.top) replay_app.top) drain_app.top) load_app.top
+    with_subcommand (with_subcommand (with_subcommand (with_subcommand (with_subcommand (with_subcommand top_app
+    format_app.top) list_app.top) replay_app.top) drain_app.top) load_app.top) serve_app.top
 
 -- the command line is this one, and none of its arguments is of all commands
 pub record IsApp (app : App) (c : Command) : Type 0 where

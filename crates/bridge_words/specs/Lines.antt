@@ -13,6 +13,11 @@ spool_line slots size = decimal slots ++ (codes " slots of " ++ (decimal size ++
 abbrev pub drain_line : ℕ → ℕ → List ℕ
 drain_line confirmed left = decimal confirmed ++ (codes " confirmed, " ++ (decimal left ++ (codes " left" ++ 10 ∷ [])))
 
+-- what is printed of a server that ended: how many connections were served to their end, how many entries were taken, how
+-- many were confirmed, and how many are left
+abbrev pub serve_line : ℕ → ℕ → ℕ → ℕ → List ℕ
+serve_line talks taken confirmed left = decimal talks ++ (codes " talks, " ++ (decimal taken ++ (codes " taken, " ++ drain_line confirmed left)))
+
 abbrev pub origin_word : Origin → List ℕ
 origin_word Relp = codes "relp"
 origin_word LumberData = codes "pairs"

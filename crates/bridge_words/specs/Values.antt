@@ -14,6 +14,7 @@ use Rattle.edge_io.specs.declared.proto.Proto.{Proto}
 use Rattle.edge_io.specs.declared.proto.Proto.TheVariants.{Relp, Lumberjack, Hec}
 use Rattle.bridge_words.specs.declared.command.ListForm.{ListForm}
 use Rattle.bridge_words.specs.declared.command.ListForm.TheVariants as form
+use Rattle.bridge_words.specs.declared.command.Relay.{Relay}
 use Rattle.bridge_words.specs.declared.command.Receiver.{Receiver}
 use Rattle.bridge_words.specs.declared.command.Receiver.TheVariants.{Relp as ToRelp, Lumberjack as ToLumberjack, Hec as ToHec}
 use Rattle.bridge_words.specs.declared.fault.WordsFault.{WordsFault}
@@ -91,9 +92,26 @@ size_in rows = must_be wrong.Size (number_within 4096 1073741824) (value_of (cod
 abbrev pub proto_in : List Row → Result Proto WordsFault
 proto_in rows = must_be wrong.Proto proto_at (value_of (codes "proto") rows)
 
+-- a place that may stand for a word
+abbrev pub place_for : Text → List Row → Result (Option Text) WordsFault
+place_for id rows = may_be wrong.Place place_at (value_of id rows)
+
 -- PLACE
 abbrev pub place_in : List Row → Result (Option Text) WordsFault
-place_in rows = may_be wrong.Place place_at (value_of (codes "place") rows)
+place_in = place_for (codes "place")
+
+-- the places of `--relp`, `--lumberjack` and `--hec`, at which connections come in, and of `--to`
+abbrev pub relp_in : List Row → Result (Option Text) WordsFault
+relp_in = place_for (codes "relp")
+
+abbrev pub lumberjack_in : List Row → Result (Option Text) WordsFault
+lumberjack_in = place_for (codes "lumberjack")
+
+abbrev pub hec_in : List Row → Result (Option Text) WordsFault
+hec_in = place_for (codes "hec")
+
+abbrev pub to_in : List Row → Result (Option Text) WordsFault
+to_in = place_for (codes "to")
 
 -- NUMBER and COUNT
 abbrev pub number_in : List Row → Result ℕ WordsFault
@@ -123,6 +141,17 @@ out_channel_in rows = may_be wrong.OutChannel guid (value_of (codes "out-channel
 abbrev pub polls_in : List Row → Result ℕ WordsFault
 polls_in rows = is_else 60 wrong.Polls (number_within 1 1000) (value_of (codes "polls") rows)
 
+-- the values of `--workers` and `--talks`
+abbrev pub workers_in : List Row → Result ℕ WordsFault
+workers_in rows = is_else 4 wrong.Workers (number_within 1 16) (value_of (codes "workers") rows)
+
+abbrev pub talks_in : List Row → Result ℕ WordsFault
+talks_in rows = is_else 67108864 wrong.Talks (number_within 1 67108864) (value_of (codes "talks") rows)
+
+-- the protocol of `--forward`
+abbrev pub forward_in : List Row → Result (Option Proto) WordsFault
+forward_in rows = may_be wrong.Proto proto_at (value_of (codes "forward") rows)
+
 -- ---- the receiver
 
 -- a collector is sent to with a token and on a channel
@@ -132,3 +161,15 @@ receiver_of Lumberjack token channel polls = Ok ToLumberjack
 receiver_of Hec None channel polls = Err wrong.NoOutToken
 receiver_of Hec (Some token) None polls = Err wrong.NoOutChannel
 receiver_of Hec (Some token) (Some channel) polls = Ok (ToHec token channel polls)
+
+-- a receiver at its place
+abbrev pub relay_at : Text → Result Receiver WordsFault → Result (Option Relay) WordsFault
+relay_at place (Ok receiver) = Ok (Some (record { receiver = receiver; place = place }))
+relay_at place (Err fault) = Err fault
+
+-- a protocol to forward by and a place to forward to stand together
+abbrev pub relay_of : Option Proto → Option Text → Option ℕ → Option ℕ → ℕ → Result (Option Relay) WordsFault
+relay_of None None token channel polls = Ok None
+relay_of None (Some place) token channel polls = Err wrong.NoForward
+relay_of (Some proto) None token channel polls = Err wrong.NoTo
+relay_of (Some proto) (Some place) token channel polls = relay_at place (receiver_of proto token channel polls)

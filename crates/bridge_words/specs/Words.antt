@@ -1,10 +1,12 @@
 -- Which words are which command, and which device they want.
-use Rattle.std.specs.Prelude.{◌≡◌, ◌⊎◌, ℕ, ◌≤◌, List, [], Option, None, Some, Result, Ok, Err, codes}
+use Rattle.std.specs.Prelude.{◌≡◌, ◌⊎◌, ℕ, ◌≤◌, ◌^◌, List, [], Option, Some, IsSome, IfSome, Result, Ok, Err, codes}
 use Rattle.clap.specs.Walk.{Row, Text}
 use Rattle.edge_io.specs.declared.proto.Proto.{Proto}
 use Rattle.spool_state.specs.Image.{slot_at}
 use Rattle.bridge_words.specs.declared.command.Command.{Command}
-use Rattle.bridge_words.specs.declared.command.Command.TheVariants.{Format, List as ListCommand, Replay, Drain, Load}
+use Rattle.bridge_words.specs.declared.command.Command.TheVariants.{Format, List as ListCommand, Replay, Drain, Load, Serve}
+use Rattle.bridge_words.specs.declared.command.Relay.{Relay}
+use Rattle.bridge_words.specs.declared.command.Server.{Server}
 use Rattle.bridge_words.specs.declared.command.Receiver.{Receiver}
 use Rattle.bridge_words.specs.declared.command.Receiver.TheVariants.{Hec as ToHec}
 use Rattle.bridge_words.specs.declared.fault.WordsFault.{WordsFault}
@@ -12,6 +14,7 @@ use Rattle.bridge_words.specs.declared.need.Need.{Need}
 use Rattle.bridge_words.specs.declared.need.Need.TheVariants.{NoCommand, Nothing, Existing, Make}
 use Rattle.bridge_words.specs.Grammar.{refusals, named}
 use Rattle.bridge_words.specs.Values.{slots_in, size_in, proto_in, place_in, number_in, count_in, form_in, token_in, ack_token_in, out_token_in, out_channel_in, polls_in, receiver_of}
+use Rattle.bridge_words.specs.Values.{relp_in, lumberjack_in, hec_in, workers_in, talks_in, forward_in, to_in, relay_of}
 
 -- ---- the table
 
@@ -64,6 +67,48 @@ pub record IsLoad (proto : Proto) (number count : ℕ) (rows : List Row) : Type 
   pub small : number ≤ 2147483647
   pub few : count ≤ 100000
 
+-- what `--forward`, `--to`, `--out-token`, `--out-channel` and `--polls` say together, or the first of them that is wrong
+abbrev pub relay_by : Result (Option Proto) WordsFault → Result (Option Text) WordsFault → Result (Option ℕ) WordsFault → Result (Option ℕ) WordsFault → Result ℕ WordsFault → Result (Option Relay) WordsFault
+relay_by (Ok proto) (Ok place) (Ok token) (Ok channel) (Ok polls) = relay_of proto place token channel polls
+relay_by (Ok proto) (Ok place) (Ok token) (Ok channel) (Err fault) = Err fault
+relay_by (Ok proto) (Ok place) (Ok token) (Err fault) polls = Err fault
+relay_by (Ok proto) (Ok place) (Err fault) channel polls = Err fault
+relay_by (Ok proto) (Err fault) token channel polls = Err fault
+relay_by (Err fault) place token channel polls = Err fault
+
+abbrev pub relay_in : List Row → Result (Option Relay) WordsFault
+relay_in rows = relay_by (forward_in rows) (to_in rows) (out_token_in rows) (out_channel_in rows) (polls_in rows)
+
+-- a server that forwards to a collector asks it 1 to 1,000 times
+abbrev pub HasRelayPolls : Option Relay → Type 0
+HasRelayPolls forward = IfSome forward (λ relay. HasPolls relay.receiver)
+
+-- one of the places at which connections come in is given
+abbrev pub HasDoor : Option Text → Option Text → Option Text → Type 0
+HasDoor relp lumberjack hec = IsSome relp ⊎ (IsSome lumberjack ⊎ IsSome hec)
+
+-- the places of `--relp`, `--lumberjack` and `--hec`
+pub record AreDoors (relp lumberjack hec : Option Text) (rows : List Row) : Type 0 where
+  pub relp_is : relp_in rows ≡ Ok relp
+  pub lumberjack_is : lumberjack_in rows ≡ Ok lumberjack
+  pub hec_is : hec_in rows ≡ Ok hec
+  pub some_door : HasDoor relp lumberjack hec
+
+-- `serve [--relp P] [--lumberjack P] [--hec P] [--workers N] [--talks N] [--token G] [--ack-token G]
+--     [--forward PROTO] [--to P] [--out-token G] [--out-channel G] [--polls N]`
+pub record IsServe (server : Server) (rows : List Row) : Type 0 where
+  pub doors_are : AreDoors server.relp server.lumberjack server.hec rows
+  pub workers_is : workers_in rows ≡ Ok server.workers
+  pub talks_is : talks_in rows ≡ Ok server.talks
+  pub token_is : token_in rows ≡ Ok server.token
+  pub ack_token_is : ack_token_in rows ≡ Ok server.ack_token
+  pub forward_is : relay_in rows ≡ Ok server.forward
+  pub some_worker : 1 ≤ server.workers
+  pub few_workers : server.workers ≤ 16
+  pub some_talk : 1 ≤ server.talks
+  pub few_talks : server.talks ≤ 2 ^ 26
+  pub few_polls : HasRelayPolls server.forward
+
 -- what was found of the words asks for this
 abbrev pub IsCommandBy : Command → List Row → Type 0
 IsCommandBy (Format slots size) rows = IsFormat slots size rows
@@ -71,6 +116,7 @@ IsCommandBy (ListCommand form) rows = form_in rows ≡ Ok form
 IsCommandBy (Replay proto token ack_token) rows = IsReplay proto token ack_token rows
 IsCommandBy (Drain receiver place) rows = IsDrain receiver place rows
 IsCommandBy (Load proto number count) rows = IsLoad proto number count rows
+IsCommandBy (Serve server) rows = IsServe server rows
 
 abbrev pub name_of : Command → Text
 name_of (Format slots size) = codes "format"
@@ -78,6 +124,7 @@ name_of (ListCommand form) = codes "list"
 name_of (Replay proto token ack_token) = codes "replay"
 name_of (Drain receiver place) = codes "drain"
 name_of (Load proto number count) = codes "load"
+name_of (Serve server) = codes "serve"
 
 -- the command has this name, and what was found asks for it
 abbrev pub IsNamed : Text → List Row → Command → Type 0
@@ -109,6 +156,7 @@ need_for (ListCommand form) = Existing
 need_for (Replay proto token ack_token) = Existing
 need_for (Drain receiver place) = Existing
 need_for (Load proto number count) = Nothing
+need_for (Serve server) = Existing
 
 -- the words want this
 abbrev pub IsNeed : List Text → Need → Type 0

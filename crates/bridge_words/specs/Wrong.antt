@@ -1,5 +1,5 @@
 -- What is wrong with words that are no command, and the text for it.
-use Rattle.std.specs.Prelude.{◌≡◌, ◌⊎◌, List, [], None, Some, Err, codes}
+use Rattle.std.specs.Prelude.{◌≡◌, ◌⊎◌, List, None, Some, Ok, Err, codes}
 use Rattle.clap.specs.Walk.{Row, Text}
 use Rattle.clap.specs.Kinds.{IsAmong}
 use Rattle.clap.specs.declared.error.kind.ErrorKind.{ErrorKind}
@@ -11,7 +11,8 @@ use Rattle.bridge_words.specs.declared.reading.Unread.{Unread}
 use Rattle.bridge_words.specs.declared.reading.Unread.TheVariants.{NoMemory, Wrong}
 use Rattle.bridge_words.specs.Grammar.{refusals, named}
 use Rattle.bridge_words.specs.Values.{slots_in, size_in, proto_in, place_in, number_in, count_in, form_in, token_in, ack_token_in}
-use Rattle.bridge_words.specs.Words.{name_of, receiver_in}
+use Rattle.bridge_words.specs.Values.{relp_in, lumberjack_in, hec_in, workers_in, talks_in}
+use Rattle.bridge_words.specs.Words.{name_of, receiver_in, relay_in}
 
 -- what a kind of clap's errors says of the words
 abbrev pub fault_for : ErrorKind → WordsFault
@@ -43,6 +44,19 @@ WrongDrain w rows = (receiver_in rows ≡ Err w) ⊎ (place_in rows ≡ Err w)
 abbrev pub WrongLoad : WordsFault → List Row → Type 0
 WrongLoad w rows = (proto_in rows ≡ Err w) ⊎ ((number_in rows ≡ Err w) ⊎ (count_in rows ≡ Err w))
 
+-- none of the places at which connections come in is given
+pub record HasNoDoor (w : WordsFault) (rows : List Row) : Type 0 where
+  pub relp_is : relp_in rows ≡ Ok None
+  pub lumberjack_is : lumberjack_in rows ≡ Ok None
+  pub hec_is : hec_in rows ≡ Ok None
+  pub says : w ≡ fault.NoDoor
+
+abbrev pub WrongDoors : WordsFault → List Row → Type 0
+WrongDoors w rows = (relp_in rows ≡ Err w) ⊎ ((lumberjack_in rows ≡ Err w) ⊎ ((hec_in rows ≡ Err w) ⊎ HasNoDoor w rows))
+
+abbrev pub WrongServe : WordsFault → List Row → Type 0
+WrongServe w rows = WrongDoors w rows ⊎ ((workers_in rows ≡ Err w) ⊎ ((talks_in rows ≡ Err w) ⊎ ((token_in rows ≡ Err w) ⊎ ((ack_token_in rows ≡ Err w) ⊎ (relay_in rows ≡ Err w)))))
+
 -- there is no command of this name, or what was found of its words is wrong by this
 pub data WrongBy (name : Text) (w : WordsFault) (rows : List Row) : Type 0 where
   no_name : ((command : Command) → name_of command ≡ name → ⊥) → w ≡ fault.UnknownWord → WrongBy name w rows
@@ -51,6 +65,7 @@ pub data WrongBy (name : Text) (w : WordsFault) (rows : List Row) : Type 0 where
   in_replay : name ≡ codes "replay" → WrongReplay w rows → WrongBy name w rows
   in_drain : name ≡ codes "drain" → WrongDrain w rows → WrongBy name w rows
   in_load : name ≡ codes "load" → WrongLoad w rows → WrongBy name w rows
+  in_serve : name ≡ codes "serve" → WrongServe w rows → WrongBy name w rows
 
 -- ---- the words
 
@@ -81,3 +96,8 @@ fault_text fault.OutChannel = codes "--out-channel: no GUID"
 fault_text fault.Polls = codes "--polls: 1 to 1000"
 fault_text fault.NoOutToken = codes "hec: --out-token is needed"
 fault_text fault.NoOutChannel = codes "hec: --out-channel is needed"
+fault_text fault.Workers = codes "--workers: 1 to 16"
+fault_text fault.Talks = codes "--talks: 1 to 67108864"
+fault_text fault.NoDoor = codes "serve: --relp, --lumberjack or --hec is needed"
+fault_text fault.NoTo = codes "--forward: --to is needed"
+fault_text fault.NoForward = codes "--to: --forward is needed"

@@ -21,7 +21,7 @@ pub enum ListForm {
     HecObject,
 }
 
-/// What `drain` forwards to.
+/// What `drain` and `serve` forward to.
 #[derive(Clone, Copy, PartialEq, Eq, Debug)]
 pub enum Receiver {
     /// A receiver of RELP.
@@ -35,6 +35,36 @@ pub enum Receiver {
         channel: u128,
         polls: u32,
     },
+}
+
+/// Where a server forwards to.
+#[derive(PartialEq, Eq, Drop, Debug)]
+pub struct Relay {
+    /// The protocol, with what a receiver of it is to be told.
+    pub receiver: Receiver,
+    /// The place, which is dialed.
+    pub place: Place,
+}
+
+/// What a server is to do.
+#[derive(PartialEq, Eq, Drop, Debug)]
+pub struct Server {
+    /// The place at which connections of RELP come in, if there is one. One of the three places is given.
+    pub relp: Option<Place>,
+    /// The place at which connections of Lumberjack come in.
+    pub lumberjack: Option<Place>,
+    /// The place at which connections of the HTTP Event Collector come in.
+    pub hec: Option<Place>,
+    /// How many workers serve each place, 1 to 16: as many connections are served there at once.
+    pub workers: u32,
+    /// How many connections each worker serves before it ends, 1 to 67,108,864.
+    pub talks: u32,
+    /// The token of the HTTP Event Collector whose requests are answered once they are durable.
+    pub token: Option<u128>,
+    /// The token of the HTTP Event Collector that uses acks.
+    pub ack_token: Option<u128>,
+    /// Where what was stored is forwarded to, if it is.
+    pub forward: Option<Relay>,
 }
 
 /// What the program is to do.
@@ -69,6 +99,10 @@ pub enum Command {
         number: u32,
         count: u32,
     },
+    /// Serve many connections at once, and forward meanwhile what they store.
+    Serve {
+        server: Server,
+    },
 }
 
 impl Command {
@@ -77,9 +111,15 @@ impl Command {
     /// - `format SLOTS SIZE`, with numbers of 1 to 10 decimal digits, leading zeros allowed;
     /// - `list [--as FORM]`, with the form `relp`, `json` or `hec`;
     /// - `replay PROTO [--token GUID] [--ack-token GUID]`, with the protocol `relp`, `lumberjack` or `hec`;
-    /// - `drain PROTO [PLACE] [--out-token GUID] [--out-channel GUID] [--polls N]`, with a place that isn't empty. `hec`
+    /// - `drain PROTO [PLACE] [--out-token GUID] [--out-channel GUID] [--polls N]`. `hec`
     ///   needs the token and the channel. Without `--polls` it is 60;
-    /// - `load PROTO NUMBER COUNT`.
+    /// - `load PROTO NUMBER COUNT`;
+    /// - `serve [--relp PLACE] [--lumberjack PLACE] [--hec PLACE] [--workers N] [--talks N] [--token GUID] [--ack-token GUID]
+    ///   [--forward PROTO] [--to PLACE] [--out-token GUID] [--out-channel GUID] [--polls N]`, with one of the first three
+    ///   places at least. Without `--workers` it is 4, without `--talks` 67,108,864, and without `--polls` 60. `--forward`
+    ///   and `--to` stand together, and `--forward hec` needs the token and the channel that go out.
+    ///
+    /// A place is any text that isn't empty.
     ///
     /// Options stand in any order after the name, each once at most, as `--name value` or as `--name=value`. A word of two
     /// bytes or more that begins with `-` is an option, and no value, unless it stands after `--`. `--` may stand once

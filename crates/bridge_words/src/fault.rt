@@ -24,9 +24,9 @@ pub enum WordsFault {
     Slots,
     /// SIZE isn't 4,096 to 1,073,741,824.
     Size,
-    /// PROTO is no protocol.
+    /// PROTO is no protocol, also where it is the value of `--forward`.
     Proto,
-    /// PLACE is empty.
+    /// PLACE is empty, or the place of an option is.
     Place,
     /// NUMBER isn't below 2^31.
     Number,
@@ -44,10 +44,20 @@ pub enum WordsFault {
     OutChannel,
     /// `--polls` isn't 1 to 1,000.
     Polls,
-    /// `drain hec` without `--out-token`.
+    /// `drain hec` or `--forward hec` without `--out-token`.
     NoOutToken,
-    /// `drain hec` without `--out-channel`.
+    /// `drain hec` or `--forward hec` without `--out-channel`.
     NoOutChannel,
+    /// `--workers` isn't 1 to 16.
+    Workers,
+    /// `--talks` isn't 1 to 67,108,864.
+    Talks,
+    /// `serve` without a place at which connections come in.
+    NoDoor,
+    /// `--forward` without `--to`.
+    NoTo,
+    /// `--to` without `--forward`.
+    NoForward,
 }
 
 impl WordsFault {
@@ -75,6 +85,11 @@ impl WordsFault {
             WordsFault::Polls => "--polls: 1 to 1000",
             WordsFault::NoOutToken => "hec: --out-token is needed",
             WordsFault::NoOutChannel => "hec: --out-channel is needed",
+            WordsFault::Workers => "--workers: 1 to 16",
+            WordsFault::Talks => "--talks: 1 to 67108864",
+            WordsFault::NoDoor => "serve: --relp, --lumberjack or --hec is needed",
+            WordsFault::NoTo => "--forward: --to is needed",
+            WordsFault::NoForward => "--to: --forward is needed",
         }
     }
 }

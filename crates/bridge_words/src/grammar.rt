@@ -3,10 +3,23 @@
 ghost use Rattle.std.specs.Prelude.{◌≡◌, IfOk, MatchOption, None, Some, map, string_bytes};
 ghost use Rattle.clap.specs.Words.{FailsBy, subcommand_rows_of};
 ghost use Rattle.bridge_words.specs.Values.{rows_in};
-ghost use Rattle.bridge_words.specs.Grammar.{IsApp, format_app, list_app, replay_app, drain_app, load_app, bridge_app, refusals, named};
+ghost use Rattle.clap.specs.Simple.{App};
+ghost use Rattle.bridge_words.specs.Grammar.{IsApp, option, top_app, format_app, list_app, replay_app, drain_app, load_app, serve_app, bridge_app, refusals, named};
 
 use clap::{Arg, ArgMatches, Command, Error};
 use std::alloc::{AllocError, Global};
+
+// The command with one option more, which has a value.
+fn with_option<'a>(
+    alloc: Global,
+    command: Command<'a>,
+    name: &'a str,
+) -> Result<Command<'a>, AllocError>
+    ensures { (app : App) → IsApp app command.entry → IfOk result (IsApp (option name.now app)) }
+{
+    let option = Arg::new(alloc, name).long(name);
+    command.arg(option)
+}
 
 // `format SLOTS SIZE`
 fn format_words<'a>(alloc: Global) -> Result<Command<'a>, AllocError>
@@ -22,8 +35,8 @@ fn format_words<'a>(alloc: Global) -> Result<Command<'a>, AllocError>
 fn list_words<'a>(alloc: Global) -> Result<Command<'a>, AllocError>
     ensures { IfOk result (IsApp list_app) }
 {
-    let form = Arg::new(alloc, "as").long("as");
-    Command::new(alloc, "list").arg(form)
+    let list = Command::new(alloc, "list");
+    with_option(alloc, list, "as")
 }
 
 // `replay PROTO [--token G] [--ack-token G]`
@@ -31,10 +44,9 @@ fn replay_words<'a>(alloc: Global) -> Result<Command<'a>, AllocError>
     ensures { IfOk result (IsApp replay_app) }
 {
     let proto = Arg::new(alloc, "proto").required(true);
-    let token = Arg::new(alloc, "token").long("token");
-    let ack_token = Arg::new(alloc, "ack-token").long("ack-token");
-    let replay = Command::new(alloc, "replay").arg(proto)?.arg(token)?;
-    replay.arg(ack_token)
+    let replay = Command::new(alloc, "replay").arg(proto)?;
+    let replay = with_option(alloc, replay, "token")?;
+    with_option(alloc, replay, "ack-token")
 }
 
 // `drain PROTO [PLACE] [--out-token G] [--out-channel G] [--polls N]`
@@ -43,12 +55,10 @@ fn drain_words<'a>(alloc: Global) -> Result<Command<'a>, AllocError>
 {
     let proto = Arg::new(alloc, "proto").required(true);
     let place = Arg::new(alloc, "place");
-    let token = Arg::new(alloc, "out-token").long("out-token");
-    let channel = Arg::new(alloc, "out-channel").long("out-channel");
-    let polls = Arg::new(alloc, "polls").long("polls");
     let drain = Command::new(alloc, "drain").arg(proto)?.arg(place)?;
-    let drain = drain.arg(token)?.arg(channel)?;
-    drain.arg(polls)
+    let drain = with_option(alloc, drain, "out-token")?;
+    let drain = with_option(alloc, drain, "out-channel")?;
+    with_option(alloc, drain, "polls")
 }
 
 // `load PROTO NUMBER COUNT`
@@ -62,16 +72,43 @@ fn load_words<'a>(alloc: Global) -> Result<Command<'a>, AllocError>
     load.arg(count)
 }
 
-// The whole command line.
-fn whole_words<'a>(alloc: Global) -> Result<Command<'a>, AllocError>
-    ensures { IfOk result (IsApp bridge_app) }
+// `serve [--relp P] [--lumberjack P] [--hec P] [--workers N] [--talks N] [--token G] [--ack-token G]
+// [--forward PROTO] [--to P] [--out-token G] [--out-channel G] [--polls N]`
+fn serve_words<'a>(alloc: Global) -> Result<Command<'a>, AllocError>
+    ensures { IfOk result (IsApp serve_app) }
 {
-    let bridge = Command::new(alloc, "bridge")
+    let serve = Command::new(alloc, "serve");
+    let serve = with_option(alloc, serve, "relp")?;
+    let serve = with_option(alloc, serve, "lumberjack")?;
+    let serve = with_option(alloc, serve, "hec")?;
+    let serve = with_option(alloc, serve, "workers")?;
+    let serve = with_option(alloc, serve, "talks")?;
+    let serve = with_option(alloc, serve, "token")?;
+    let serve = with_option(alloc, serve, "ack-token")?;
+    let serve = with_option(alloc, serve, "forward")?;
+    let serve = with_option(alloc, serve, "to")?;
+    let serve = with_option(alloc, serve, "out-token")?;
+    let serve = with_option(alloc, serve, "out-channel")?;
+    with_option(alloc, serve, "polls")
+}
+
+// The command line without its commands.
+fn top_words<'a>(alloc: Global) -> Command<'a>
+    ensures { IsApp top_app result }
+{
+    Command::new(alloc, "bridge")
         .no_binary_name(true)
         .disable_help_flag(true)
         .disable_help_subcommand(true)
         .disable_version_flag(true)
-        .subcommand_required(true);
+        .subcommand_required(true)
+}
+
+// The whole command line.
+fn whole_words<'a>(alloc: Global) -> Result<Command<'a>, AllocError>
+    ensures { IfOk result (IsApp bridge_app) }
+{
+    let bridge = top_words(alloc);
     let format = format_words(alloc)?;
     let bridge = bridge.subcommand(format)?;
     let list = list_words(alloc)?;
@@ -81,7 +118,9 @@ fn whole_words<'a>(alloc: Global) -> Result<Command<'a>, AllocError>
     let drain = drain_words(alloc)?;
     let bridge = bridge.subcommand(drain)?;
     let load = load_words(alloc)?;
-    bridge.subcommand(load)
+    let bridge = bridge.subcommand(load)?;
+    let serve = serve_words(alloc)?;
+    bridge.subcommand(serve)
 }
 
 /// What clap finds in the words. Its error has one of the kinds that are wrong with them, or memory ran out.

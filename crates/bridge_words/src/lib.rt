@@ -13,13 +13,14 @@ mod note;
 mod number;
 mod place;
 mod reading;
+mod server;
 mod values;
 mod why;
 
-pub use command::{Command, ListForm, Receiver};
+pub use command::{Command, ListForm, Receiver, Relay, Server};
 pub use fault::{WordsFault, wrong_words};
 pub use law::{one_command, spelling};
-pub use line::{drain_line, entry_line, spool_line};
+pub use line::{drain_line, entry_line, serve_line, spool_line};
 pub use need::{Need, need_of};
 pub use note::{Note, note_text};
 pub use place::Place;

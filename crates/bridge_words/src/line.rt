@@ -1,7 +1,7 @@
 //! The lines that bridge prints.
 ghost use Rattle.std.specs.Prelude.{◌≡◌, ◌++◌, OnOk, IfOk, string_bytes};
 ghost use Rattle.std.specs.Fmt.{decimal};
-ghost use Rattle.bridge_words.specs.Lines.{spool_line, drain_line, origin_word, entry_line};
+ghost use Rattle.bridge_words.specs.Lines.{spool_line, drain_line, serve_line, origin_word, entry_line};
 
 use event_form::{Entry, Origin};
 use itoa::Buffer;
@@ -22,6 +22,20 @@ pub fn drain_line(alloc: Global, confirmed: u64, left: u64) -> Result<String, Al
     ensures { IfOk result (λ line. string_bytes line ≡ drain_line confirmed left) }
 {
     format!(in alloc; "{confirmed} confirmed, {left} left\n")
+}
+
+/// The line that says how many connections a server served to their end, how many entries it took, how many were
+/// confirmed meanwhile, and how many are left.
+pub fn serve_line(
+    alloc: Global,
+    talks: u64,
+    taken: u64,
+    confirmed: u64,
+    left: u64,
+) -> Result<String, AllocError>
+    ensures { IfOk result (λ line. string_bytes line ≡ serve_line talks taken confirmed left) }
+{
+    format!(in alloc; "{talks} talks, {taken} taken, {confirmed} confirmed, {left} left\n")
 }
 
 // The word for an origin.

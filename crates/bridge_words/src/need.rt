@@ -31,9 +31,10 @@ impl Command {
             Command::Format { slots, size } => Need::Make {
                 len: 12_288 + u64::from(*slots) * *size,
             },
-            Command::List { .. } | Command::Replay { .. } | Command::Drain { .. } => {
-                Need::Existing
-            },
+            Command::List { .. }
+            | Command::Replay { .. }
+            | Command::Drain { .. }
+            | Command::Serve { .. } => Need::Existing,
             Command::Load { .. } => Need::Nothing,
         }
     }

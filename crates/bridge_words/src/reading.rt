@@ -8,6 +8,7 @@ ghost use Rattle.bridge_words.specs.Wrong.{fault_for, unread_for, WrongFormat, W
 
 use crate::fault::WordsFault;
 use crate::grammar::{found, parse};
+use crate::server::serve_in;
 use crate::values::{
     ack_token_in, count_in, form_in, number_in, out_channel_in, out_token_in, place_in, polls_in,
     proto_in, size_in, slots_in, token_in,
@@ -103,8 +104,8 @@ fn replay_in(matches: &ArgMatches<'_>) -> Result<Command, Unread>
     })
 }
 
-// A collector is sent to with a token and on a channel.
-fn receiver_of(
+/// A collector is sent to with a token and on a channel.
+pub(crate) fn receiver_of(
     proto: Proto,
     token: Option<u128>,
     channel: Option<u128>,
@@ -177,6 +178,8 @@ fn command_in(alloc: Global, name: &str, matches: &ArgMatches<'_>) -> Result<Com
         format_in(matches)
     } else if name == "load" {
         load_in(matches)
+    } else if name == "serve" {
+        serve_in(alloc, matches)
     } else {
         Err(Unread::Wrong(WordsFault::UnknownWord))
     }

@@ -1,10 +1,11 @@
 //! The words of the commands, each read from what clap found.
-ghost use Rattle.std.specs.Prelude.{◌≡◌, ◌≤◌, None, Some, Ok, Err, IfOk, MatchOption};
+ghost use Rattle.std.specs.Prelude.{◌≡◌, ◌≤◌, ◌^◌, None, Some, Ok, Err, IfOk, MatchOption};
 ghost use Rattle.bridge_words.specs.declared.fault.WordsFault.{WordsFault};
 ghost use Rattle.bridge_words.specs.declared.reading.Unread.TheVariants.{Wrong};
-ghost use Rattle.bridge_words.specs.Values.{value_of, rows_in, guid, proto_at, form_at, number_within, must_be, may_be, is_else};
+ghost use Rattle.bridge_words.specs.Values.{value_of, rows_in, guid, proto_at, form_at, number_within, must_be, may_be, is_else, place_for};
 ghost use Rattle.bridge_words.specs.Values.{slots_in, size_in, proto_in, place_in, number_in, count_in, form_in, token_in, ack_token_in, polls_in};
 ghost use Rattle.bridge_words.specs.Values.{out_token_in, out_channel_in};
+ghost use Rattle.bridge_words.specs.Values.{relp_in, lumberjack_in, hec_in, workers_in, talks_in, forward_in, to_in};
 
 use crate::fault::WordsFault;
 use crate::number::number_within;
@@ -187,14 +188,92 @@ pub(crate) fn polls_in(matches: &ArgMatches<'_>) -> Result<u32, WordsFault>
     }
 }
 
+/// The value of `--workers`, or 4.
+pub(crate) fn workers_in(matches: &ArgMatches<'_>) -> Result<u32, WordsFault>
+    ensures workers { result ≡ workers_in (rows_in matches.now) }
+    ensures range { IfOk result (λ workers. (1 ≤ workers) × (workers ≤ 16)) }
+{
+    match value_of(matches, "workers") {
+        Some(text) => number_within(text, 1, 16).ok_or(WordsFault::Workers),
+        None => Ok(4),
+    }
+}
+
+/// The value of `--talks`, or 67,108,864.
+pub(crate) fn talks_in(matches: &ArgMatches<'_>) -> Result<u32, WordsFault>
+    ensures talks { result ≡ talks_in (rows_in matches.now) }
+    ensures range { IfOk result (λ talks. (1 ≤ talks) × (talks ≤ 2 ^ 26)) }
+{
+    match value_of(matches, "talks") {
+        Some(text) => number_within(text, 1, 67_108_864).ok_or(WordsFault::Talks),
+        None => Ok(67_108_864),
+    }
+}
+
+/// The protocol of `--forward`.
+pub(crate) fn forward_in(matches: &ArgMatches<'_>) -> Result<Option<Proto>, WordsFault>
+    ensures { result ≡ forward_in (rows_in matches.now) }
+{
+    match value_of(matches, "forward") {
+        Some(text) => match proto_at(text) {
+            Some(proto) => Ok(Some(proto)),
+            None => Err(WordsFault::Proto),
+        },
+        None => Ok(None),
+    }
+}
+
+// A place that may stand for this word, copied.
+fn place_for(alloc: Global, matches: &ArgMatches<'_>, id: &str) -> Result<Option<Place>, Unread>
+    ensures place { IfOk result (λ place. place_for id.now (rows_in matches.now) ≡ Ok place) }
+    ensures wrong { (fault : WordsFault) → result ≡ Err (Wrong fault) → place_for id.now (rows_in matches.now) ≡ Err fault }
+{
+    match value_of(matches, id) {
+        Some(text) if text.is_empty() => Err(Unread::Wrong(WordsFault::Place)),
+        Some(text) => Ok(Some(Place::of(alloc, text)?)),
+        None => Ok(None),
+    }
+}
+
 /// PLACE, copied.
 pub(crate) fn place_in(alloc: Global, matches: &ArgMatches<'_>) -> Result<Option<Place>, Unread>
     ensures place { IfOk result (λ place. place_in (rows_in matches.now) ≡ Ok place) }
     ensures wrong { (fault : WordsFault) → result ≡ Err (Wrong fault) → place_in (rows_in matches.now) ≡ Err fault }
 {
-    match value_of(matches, "place") {
-        Some(text) if text.is_empty() => Err(Unread::Wrong(WordsFault::Place)),
-        Some(text) => Ok(Some(Place::of(alloc, text)?)),
-        None => Ok(None),
-    }
+    place_for(alloc, matches, "place")
+}
+
+/// The place of `--relp`, copied.
+pub(crate) fn relp_in(alloc: Global, matches: &ArgMatches<'_>) -> Result<Option<Place>, Unread>
+    ensures place { IfOk result (λ place. relp_in (rows_in matches.now) ≡ Ok place) }
+    ensures wrong { (fault : WordsFault) → result ≡ Err (Wrong fault) → relp_in (rows_in matches.now) ≡ Err fault }
+{
+    place_for(alloc, matches, "relp")
+}
+
+/// The place of `--lumberjack`, copied.
+pub(crate) fn lumberjack_in(
+    alloc: Global,
+    matches: &ArgMatches<'_>,
+) -> Result<Option<Place>, Unread>
+    ensures place { IfOk result (λ place. lumberjack_in (rows_in matches.now) ≡ Ok place) }
+    ensures wrong { (fault : WordsFault) → result ≡ Err (Wrong fault) → lumberjack_in (rows_in matches.now) ≡ Err fault }
+{
+    place_for(alloc, matches, "lumberjack")
+}
+
+/// The place of `--hec`, copied.
+pub(crate) fn hec_in(alloc: Global, matches: &ArgMatches<'_>) -> Result<Option<Place>, Unread>
+    ensures place { IfOk result (λ place. hec_in (rows_in matches.now) ≡ Ok place) }
+    ensures wrong { (fault : WordsFault) → result ≡ Err (Wrong fault) → hec_in (rows_in matches.now) ≡ Err fault }
+{
+    place_for(alloc, matches, "hec")
+}
+
+/// The place of `--to`, copied.
+pub(crate) fn to_in(alloc: Global, matches: &ArgMatches<'_>) -> Result<Option<Place>, Unread>
+    ensures place { IfOk result (λ place. to_in (rows_in matches.now) ≡ Ok place) }
+    ensures wrong { (fault : WordsFault) → result ≡ Err (Wrong fault) → to_in (rows_in matches.now) ≡ Err fault }
+{
+    place_for(alloc, matches, "to")
 }

@@ -35,6 +35,8 @@ fn events_and_their_forms(rt: HostRuntime) -> Result<(), Fail> {
     assert!(rt; words::no_replays(alloc)?);
     assert!(rt; words::drains(alloc)?);
     assert!(rt; words::no_drains(alloc)?);
+    assert!(rt; words::serves(alloc)?);
+    assert!(rt; words::no_serves(alloc)?);
     assert!(rt; words::texts(alloc)?);
     assert!(rt; words::lines(alloc)?);
     Ok(())

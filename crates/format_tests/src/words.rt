@@ -1,9 +1,12 @@
+mod serve;
+
 use bridge_words::{
     Command, ListForm, Need, Note, Place, Receiver, WordsFault, drain_line, entry_line, need_of,
-    note_text, spool_line, wrong_words,
+    note_text, serve_line, spool_line, wrong_words,
 };
 use edge_io::Proto;
 use event_form::{Blob, Entry, Event, Origin, Why};
+pub(crate) use serve::{no_serves, serves};
 use std::alloc::Global;
 use std::test::Fail;
 
@@ -531,7 +534,7 @@ pub(crate) fn no_commands(alloc: Global) -> Result<bool, Fail> {
 }
 
 // What is wrong with words, and the text for it.
-const FAULTS: [(WordsFault, &str); 19] = [
+const FAULTS: [(WordsFault, &str); 24] = [
     (WordsFault::NoCommand, "no command is named"),
     (WordsFault::UnknownWord, "unknown word or option"),
     (WordsFault::MissingWord, "a word is missing"),
@@ -551,6 +554,14 @@ const FAULTS: [(WordsFault, &str); 19] = [
     (WordsFault::Polls, "--polls: 1 to 1000"),
     (WordsFault::NoOutToken, "hec: --out-token is needed"),
     (WordsFault::NoOutChannel, "hec: --out-channel is needed"),
+    (WordsFault::Workers, "--workers: 1 to 16"),
+    (WordsFault::Talks, "--talks: 1 to 67108864"),
+    (
+        WordsFault::NoDoor,
+        "serve: --relp, --lumberjack or --hec is needed",
+    ),
+    (WordsFault::NoTo, "--forward: --to is needed"),
+    (WordsFault::NoForward, "--to: --forward is needed"),
 ];
 
 pub(crate) fn fault_texts() -> bool {
@@ -715,6 +726,14 @@ pub(crate) fn lines(alloc: Global) -> Result<bool, Fail> {
     }
     if drain_line(alloc, 0, 18_446_744_073_709_551_615)?.as_str()
         != "0 confirmed, 18446744073709551615 left\n"
+    {
+        return Ok(false);
+    }
+    if serve_line(alloc, 3, 7, 7, 0)?.as_str() != "3 talks, 7 taken, 7 confirmed, 0 left\n" {
+        return Ok(false);
+    }
+    if serve_line(alloc, 0, 18_446_744_073_709_551_615, 10, 2)?.as_str()
+        != "0 talks, 18446744073709551615 taken, 10 confirmed, 2 left\n"
     {
         return Ok(false);
     }

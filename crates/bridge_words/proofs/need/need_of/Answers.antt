@@ -1,4 +1,4 @@
-use Rattle.std.proofs.Common.{◌≡◌, inl, refl, map, string_bytes}
+use Rattle.std.proofs.Common.{inl, refl, map, string_bytes}
 use Rattle.bridge_words.proofs.Once.{sized}
 use Rattle.bridge_words.proofs.need.need_of.Goals as goal
 

@@ -1,0 +1,118 @@
+//! What the words of `serve` ask for.
+ghost use Rattle.std.specs.Prelude.{◌≡◌, ◌↔◌, IsTrue, Err, Ok, IfOk, codes};
+ghost use Rattle.bridge_words.specs.declared.fault.WordsFault.{WordsFault};
+ghost use Rattle.bridge_words.specs.declared.reading.Unread.TheVariants.{Wrong};
+ghost use Rattle.bridge_words.specs.Values.{rows_in, relay_of};
+ghost use Rattle.bridge_words.specs.Words.{HasDoor, AreDoors, HasRelayPolls, IsNamed, relay_in};
+ghost use Rattle.bridge_words.specs.Wrong.{WrongDoors, WrongServe};
+
+use crate::fault::WordsFault;
+use crate::reading::{Unread, receiver_of};
+use crate::values::{
+    ack_token_in, forward_in, hec_in, lumberjack_in, out_channel_in, out_token_in, polls_in,
+    relp_in, talks_in, to_in, token_in, workers_in,
+};
+use crate::{Command, Place, Relay, Server};
+use clap::ArgMatches;
+use edge_io::Proto;
+use std::alloc::Global;
+
+/// The places at which connections come in.
+#[derive(Drop)]
+struct Doors {
+    relp: Option<Place>,
+    lumberjack: Option<Place>,
+    hec: Option<Place>,
+}
+
+impl Doors {
+    // Whether one of them is given.
+    fn has_one(&self) -> bool
+        ensures { IsTrue result ↔ HasDoor self.now.relp self.now.lumberjack self.now.hec }
+    {
+        self.relp.is_some() || self.lumberjack.is_some() || self.hec.is_some()
+    }
+}
+
+// The places at which connections come in: one at least.
+fn doors_in(alloc: Global, matches: &ArgMatches<'_>) -> Result<Doors, Unread>
+    ensures doors { IfOk result (λ doors. AreDoors doors.relp doors.lumberjack doors.hec (rows_in matches.now)) }
+    ensures wrong { (fault : WordsFault) → result ≡ Err (Wrong fault) → WrongDoors fault (rows_in matches.now) }
+{
+    let doors = Doors {
+        relp: relp_in(alloc, matches)?,
+        lumberjack: lumberjack_in(alloc, matches)?,
+        hec: hec_in(alloc, matches)?,
+    };
+    if !doors.has_one() {
+        return Err(Unread::Wrong(WordsFault::NoDoor));
+    }
+    Ok(doors)
+}
+
+// A protocol to forward by and a place to forward to stand together.
+fn relay_of(
+    proto: Option<Proto>,
+    place: Option<Place>,
+    token: Option<u128>,
+    channel: Option<u128>,
+    polls: u32,
+) -> Result<Option<Relay>, WordsFault>
+    ensures { result ≡ relay_of proto place token channel polls }
+{
+    match (proto, place) {
+        (None, None) => Ok(None),
+        (None, Some(_)) => Err(WordsFault::NoForward),
+        (Some(_), None) => Err(WordsFault::NoTo),
+        (Some(proto), Some(place)) => {
+            let receiver = receiver_of(proto, token, channel, polls)?;
+            Ok(Some(Relay { receiver, place }))
+        },
+    }
+}
+
+// Where a server forwards to.
+fn relay_in(alloc: Global, matches: &ArgMatches<'_>) -> Result<Option<Relay>, Unread>
+    ensures relay { IfOk result (λ relay. relay_in (rows_in matches.now) ≡ Ok relay) }
+    ensures polls { IfOk result HasRelayPolls }
+    ensures wrong { (fault : WordsFault) → result ≡ Err (Wrong fault) → relay_in (rows_in matches.now) ≡ Err fault }
+{
+    let proto = forward_in(matches)?;
+    let place = to_in(alloc, matches)?;
+    let token = out_token_in(matches)?;
+    let channel = out_channel_in(matches)?;
+    let polls = polls_in(matches)?;
+    let relay = relay_of(proto, place, token, channel, polls)?;
+    Ok(relay)
+}
+
+/// `serve [--relp P] [--lumberjack P] [--hec P] [--workers N] [--talks N] [--token G] [--ack-token G]
+/// [--forward PROTO] [--to P] [--out-token G] [--out-channel G] [--polls N]`
+pub(crate) fn serve_in(alloc: Global, matches: &ArgMatches<'_>) -> Result<Command, Unread>
+    ensures command { IfOk result (IsNamed (codes "serve") (rows_in matches.now)) }
+    ensures wrong { (fault : WordsFault) → result ≡ Err (Wrong fault) → WrongServe fault (rows_in matches.now) }
+{
+    let doors = doors_in(alloc, matches)?;
+    let workers = workers_in(matches)?;
+    let talks = talks_in(matches)?;
+    let token = token_in(matches)?;
+    let ack_token = ack_token_in(matches)?;
+    let forward = relay_in(alloc, matches)?;
+    let Doors {
+        relp,
+        lumberjack,
+        hec,
+    } = doors;
+    Ok(Command::Serve {
+        server: Server {
+            relp,
+            lumberjack,
+            hec,
+            workers,
+            talks,
+            token,
+            ack_token,
+            forward,
+        },
+    })
+}
