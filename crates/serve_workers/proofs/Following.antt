@@ -26,6 +26,7 @@ use Rattle.spool_turns.specs.Passes.{Known}
 use Rattle.spool_turns.specs.Ran.{Ran, ran_none, ran_more}
 use Rattle.serve_workers.specs.declared.worker.WorkerEnd.{WorkerEnd}
 use Rattle.serve_workers.specs.declared.worker.WorkerEnd.TheVariants.{Shut, Enough, AcceptFault, NoMemory}
+use Rattle.serve_workers.specs.declared.worker.WorkerReport.{WorkerReport}
 use Rattle.serve_workers.specs.Served.{Served, AtDoor, AreServed, calls_in, how_many, by_disk}
 use Rattle.serve_workers.specs.Works.{first_conn, ServesLink, EndsBy, Stops, Worked}
 use Rattle.serve_workers.specs.Crews.{IsReady}
@@ -96,6 +97,10 @@ late_few Enough late door e = absurd e.1
 late_few AcceptFault late door e = omega (arith, e)
 late_few NoMemory late door e = omega (arith, e)
 
+-- what a worker reports
+abbrev pub report : WorkerEnd → ℕ → WorkerReport
+report end finished = record { end = end; finished = finished }
+
 ends_so : (enough : Type 0) (end : WorkerEnd) (late : ℕ) (door : DoorState) → EndsBy ⊥ door late end → EndsBy enough door late end
 ends_so enough Shut late door e = e
 ends_so enough Enough late door e = absurd e.1
@@ -124,7 +129,7 @@ module _ (start : DeskState → Type 0) (run : ℕ) (rules : Rules) (many first 
   }
 
   -- the worker has ended, before it served as many links as it was to
-  pub works_ends : (talks : ℕ) (new : DoorState) (pass2 : Known) (end : WorkerEnd) → many < talks → Stops rules (first + n) between new (λ calls. Ran start pass1 calls pass2) end → Worked start run rules talks old new pass pass2 end
+  pub works_ends : (talks : ℕ) (new : DoorState) (pass2 : Known) (end : WorkerEnd) → many < talks → Stops rules (first + n) between new (λ calls. Ran start pass1 calls pass2) end → Worked start run rules talks old new pass pass2 (report end many)
   works_ends talks new pass2 end less o =
       let at_door : AtDoor rules (first_conn run pass.number) old new (λ calls. Ran start pass calls pass2) (w.finished ++ o.late) (w.finished ++ []) =
       at_door_then rules (first_conn run pass.number) (first + n) old between new (λ calls. Ran start pass calls pass1) (λ calls. Ran start pass1 calls pass2) (λ calls. Ran start pass calls pass2) w.finished o.late []
@@ -132,6 +137,7 @@ module _ (start : DeskState → Type 0) (run : ℕ) (rules : Rules) (many first 
       record {
         finished = w.finished;
         late = o.late;
+        count = sym w.count;
         at_door = subst (AtDoor rules (first_conn run pass.number) old new (λ calls. Ran start pass calls pass2) (w.finished ++ o.late)) (append-nil w.finished) at_door;
         many = omega (arith, length-append w.finished o.late, w.count, late_few end (length o.late) new o.ends, less);
         ends = ends_so (length w.finished ≡ talks) end (length o.late) new o.ends;
@@ -140,13 +146,14 @@ module _ (start : DeskState → Type 0) (run : ℕ) (rules : Rules) (many first 
       }
 
 -- it served as many links as it was to
-pub works_enough : (start : DeskState → Type 0) (run : ℕ) (rules : Rules) (many talks : ℕ) (old new : DoorState) (pass pass' : Known) → many ≡ talks → Works start run rules many old new pass pass' → Worked start run rules talks old new pass pass' Enough
+pub works_enough : (start : DeskState → Type 0) (run : ℕ) (rules : Rules) (many talks : ℕ) (old new : DoorState) (pass pass' : Known) → many ≡ talks → Works start run rules many old new pass pass' → Worked start run rules talks old new pass pass' (report Enough talks)
 works_enough start run rules many talks old new pass pass' all w =
     let made = λ (calls : List Call). Ran start pass calls pass' in
     let at_door = subst (λ (l : List Served). AtDoor rules (first_conn run pass.number) old new made l w.finished) (sym (append-nil w.finished)) w.at_door in
     record {
       finished = w.finished;
       late = [];
+      count = sym (w.count ∙ all);
       at_door = at_door;
       many = omega (arith, length-append w.finished [], w.count, all);
       ends = (refl, w.count ∙ all);

@@ -8,9 +8,9 @@ use Rattle.edge_io.specs.Door.{DoorState}
 use Rattle.desk_access.specs.Desk.{DeskState}
 use Rattle.conn_serve.specs.declared.rules.Rules.{Rules}
 use Rattle.spool_turns.specs.Passes.{Known, fresh}
-use Rattle.serve_workers.specs.declared.worker.WorkerEnd.{WorkerEnd}
+use Rattle.serve_workers.specs.declared.worker.WorkerReport.{WorkerReport}
 use Rattle.serve_workers.specs.Works.{Worked}
-use Rattle.serve_workers.specs.Crews.{AreNew, HaveWorked}
+use Rattle.serve_workers.specs.Crews.{AreNew, IsAtDesk, IsReady, HaveWorked}
 
 -- one at a place of a list of what a function has of each
 at_map : {X Y : Type 0} (f : X → Y) (xs : List X) (k : ℕ) (y : Y) → slice_get (map f xs) k ≡ Some y → (x : X) × (slice_get xs k ≡ Some x) × (f x ≡ y)
@@ -31,22 +31,32 @@ in_list f xs ys k x y is here there =
     ap f same ∙ found.2
 
 -- What each worker did, where it is known by its place.
-pub have_worked : {X : Type 0} (rules_of : X → Rules) (door_of : X → DoorState) (pass_of : X → Known) (end_of : X → WorkerEnd) (start : DeskState → Type 0) (run talks : ℕ) (xs ys : List X)
-    (rules : List Rules) (doors doors' : List DoorState) (passes passes' : List Known) (ends : List WorkerEnd)
-    → ((k : ℕ) (d : X) → k < length xs → Worked start run (rules_of (get_or xs k d)) talks (door_of (get_or xs k d)) (door_of (get_or ys k d)) (pass_of (get_or xs k d)) (pass_of (get_or ys k d)) (end_of (get_or ys k d)))
-    → map rules_of xs ≡ rules → map door_of xs ≡ doors → map pass_of xs ≡ passes → map door_of ys ≡ doors' → map pass_of ys ≡ passes' → map end_of ys ≡ ends
-    → HaveWorked start run talks rules doors passes doors' passes' ends
-have_worked rules_of door_of pass_of end_of start run talks xs ys rules doors doors' passes passes' ends each r d p d' p' e k by old new pass pass' end by_is old_is pass_is new_is pass'_is end_is =
+pub have_worked : {X : Type 0} (rules_of : X → Rules) (door_of : X → DoorState) (pass_of : X → Known) (report_of : X → WorkerReport) (start : DeskState → Type 0) (run talks : ℕ) (xs ys : List X)
+    (rules : List Rules) (doors doors' : List DoorState) (passes passes' : List Known) (reports : List WorkerReport)
+    → ((k : ℕ) (d : X) → k < length xs → Worked start run (rules_of (get_or xs k d)) talks (door_of (get_or xs k d)) (door_of (get_or ys k d)) (pass_of (get_or xs k d)) (pass_of (get_or ys k d)) (report_of (get_or ys k d)))
+    → map rules_of xs ≡ rules → map door_of xs ≡ doors → map pass_of xs ≡ passes → map door_of ys ≡ doors' → map pass_of ys ≡ passes' → map report_of ys ≡ reports
+    → HaveWorked start run talks rules doors passes doors' passes' reports
+have_worked rules_of door_of pass_of report_of start run talks xs ys rules doors doors' passes passes' ends each r d p d' p' e k by old new pass pass' report by_is old_is pass_is new_is pass'_is report_is =
     let x = at_map rules_of xs k by (ap (λ l. slice_get l k) r ∙ by_is) in
-    let y = at_map end_of ys k end (ap (λ l. slice_get l k) e ∙ end_is) in
+    let y = at_map report_of ys k report (ap (λ l. slice_get l k) e ∙ report_is) in
     let x_at = at_place xs k x.0 x.0 x.1 in
     let y_at = at_place ys k y.0 x.0 y.1 in
     let old_of = in_list door_of xs doors k x.0 old d old_is x.1 in
     let pass_of_is = in_list pass_of xs passes k x.0 pass p pass_is x.1 in
     let new_of = in_list door_of ys doors' k y.0 new d' new_is y.1 in
     let pass'_of = in_list pass_of ys passes' k y.0 pass' p' pass'_is y.1 in
-    subst (λ (t : Rules × DoorState × DoorState × Known × Known × WorkerEnd). Worked start run t.0 talks t.1 t.2 t.3 t.4 t.5)
-    (λ i. ((ap rules_of x_at.1 ∙ x.2) i, (ap door_of x_at.1 ∙ old_of) i, (ap door_of y_at.1 ∙ new_of) i, (ap pass_of x_at.1 ∙ pass_of_is) i, (ap pass_of y_at.1 ∙ pass'_of) i, (ap end_of y_at.1 ∙ y.2) i)) (each k x.0 x_at.0)
+    subst (λ (t : Rules × DoorState × DoorState × Known × Known × WorkerReport). Worked start run t.0 talks t.1 t.2 t.3 t.4 t.5)
+    (λ i. ((ap rules_of x_at.1 ∙ x.2) i, (ap door_of x_at.1 ∙ old_of) i, (ap door_of y_at.1 ∙ new_of) i, (ap pass_of x_at.1 ∙ pass_of_is) i, (ap pass_of y_at.1 ∙ pass'_of) i, (ap report_of y_at.1 ∙ y.2) i)) (each k x.0 x_at.0)
+
+-- ---- the numbers of workers
+
+module _ {X : Type 0} (number_of : X → ℕ) (pass_of : X → Known) where
+  -- those whose passes are new are ready
+  pub all_ready : (number : ℕ) (xs : List X) → All (λ x. IsAtDesk (number_of x) (pass_of x)) xs → AreNew number (map pass_of xs) → All (λ x. IsReady (number_of x) (pass_of x)) xs
+  all_ready number [] at new = All-nil (λ x. IsReady (number_of x) (pass_of x))
+  all_ready number (x ∷ xs) at new =
+      let here = All-head (λ y. IsAtDesk (number_of y) (pass_of y)) x xs at in
+      All-cons (λ y. IsReady (number_of y) (pass_of y)) x xs (here.0, here.1, new.1) (all_ready (number + 1) xs (All-tail (λ y. IsAtDesk (number_of y) (pass_of y)) x xs at) new.2)
 
 -- ---- lists side by side
 
@@ -114,12 +124,21 @@ written_back n ys zs same = take-append-le n ys zs (omega (arith, same)) ∙ tak
 
 -- ---- new passes
 
--- those that a shared desk gives are new
+-- those that a shared desk gives are new,
 pub fresh_new : (number count end cursor : ℕ) → AreNew number (fresh number count end cursor)
 fresh_new number zero end cursor = tt
 fresh_new number (suc count) end cursor = (refl, refl, subst (λ (n : ℕ). AreNew n (fresh (suc number) count end cursor)) (omega arith) (fresh_new (suc number) count end cursor))
 
--- and so are the first ones of such
+-- and they are as many as were asked for
+pub fresh_many : (number count end cursor : ℕ) → length (fresh number count end cursor) ≡ count
+fresh_many number zero end cursor = refl
+fresh_many number (suc count) end cursor = ap suc (fresh_many (suc number) count end cursor)
+
+-- So are the first ones of such, and the last one, which has the number behind theirs.
 pub new_front : (number : ℕ) (passes : List Known) (last : Known) → AreNew number (passes ++ last ∷ []) → AreNew number passes
 new_front number [] last new = tt
 new_front number (pass ∷ passes) last new = (new.0, new.1, new_front (number + 1) passes last new.2)
+
+pub new_last : (number : ℕ) (passes : List Known) (last : Known) → AreNew number (passes ++ last ∷ []) → (last.number ≡ number + length passes) × (last.own ≡ [])
+new_last number [] last new = (omega (arith, new.0), new.1)
+new_last number (pass ∷ passes) last new = let rest = new_last (number + 1) passes last new.2 in (omega (arith, rest.0), rest.1)

@@ -6,7 +6,7 @@ use Rattle.edge_io.specs.Door.{DoorState}
 use Rattle.desk_access.specs.Desk.{DeskState}
 use Rattle.conn_serve.specs.declared.rules.Rules.{Rules}
 use Rattle.spool_turns.specs.Passes.{Known}
-use Rattle.serve_workers.specs.declared.worker.WorkerEnd.{WorkerEnd}
+use Rattle.serve_workers.specs.declared.worker.WorkerReport.{WorkerReport}
 use Rattle.serve_workers.specs.Works.{Worked}
 
 -- new passes, with the numbers from this one on
@@ -14,7 +14,11 @@ abbrev pub AreNew : ℕ → List Known → Type 0
 AreNew number [] = Unit {0}
 AreNew number (pass ∷ passes) = (pass.number ≡ number) × (pass.own ≡ []) × AreNew (number + 1) passes
 
--- a worker of that number with this pass, which is new
+-- a worker of that number has this pass
+abbrev pub IsAtDesk : ℕ → Known → Type 0
+IsAtDesk number pass = (number ≡ pass.number) × (number < 64)
+
+-- and the pass is new
 abbrev pub IsReady : ℕ → Known → Type 0
 IsReady number pass = (number ≡ pass.number) × (number < 64) × (pass.own ≡ [])
 
@@ -22,9 +26,16 @@ IsReady number pass = (number ≡ pass.number) × (number < 64) × (pass.own ≡
 abbrev pub IsRoom : {X : Type 0} → ℕ → Vec X → Type 0
 IsRoom many v = (v.items ≡ []) × (vec_len v ≡ 0) × (many ≤ vec_capacity v)
 
+-- Workers in their order: the rules of each, what its door tells, its pass, and what it reports.
+pub record Roster : Type 0 where
+  pub rules : List Rules
+  pub doors : List DoorState
+  pub passes : List Known
+  pub reports : List WorkerReport
+
 -- Each worker has ended, where all lists are in the workers' order: the rules, the doors and the passes before, the doors and
--- the passes after, and the ends.
-abbrev pub HaveWorked : (DeskState → Type 0) → ℕ → ℕ → List Rules → List DoorState → List Known → List DoorState → List Known → List WorkerEnd → Type 0
-HaveWorked start run talks rules doors passes doors' passes' ends =
-    (k : ℕ) (by : Rules) (old new : DoorState) (pass pass' : Known) (end : WorkerEnd) → slice_get rules k ≡ Some by → slice_get doors k ≡ Some old → slice_get passes k ≡ Some pass
-    → slice_get doors' k ≡ Some new → slice_get passes' k ≡ Some pass' → slice_get ends k ≡ Some end → Worked start run by talks old new pass pass' end
+-- the passes after, and the reports.
+abbrev pub HaveWorked : (DeskState → Type 0) → ℕ → ℕ → List Rules → List DoorState → List Known → List DoorState → List Known → List WorkerReport → Type 0
+HaveWorked start run talks rules doors passes doors' passes' reports =
+    (k : ℕ) (by : Rules) (old new : DoorState) (pass pass' : Known) (report : WorkerReport) → slice_get rules k ≡ Some by → slice_get doors k ≡ Some old → slice_get passes k ≡ Some pass
+    → slice_get doors' k ≡ Some new → slice_get passes' k ≡ Some pass' → slice_get reports k ≡ Some report → Worked start run by talks old new pass pass' report

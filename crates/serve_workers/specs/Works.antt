@@ -10,6 +10,7 @@ use Rattle.spool_turns.specs.Passes.{Known}
 use Rattle.spool_turns.specs.Ran.{Ran}
 use Rattle.serve_workers.specs.declared.worker.WorkerEnd.{WorkerEnd}
 use Rattle.serve_workers.specs.declared.worker.WorkerEnd.TheVariants.{Shut, Enough, AcceptFault, NoMemory}
+use Rattle.serve_workers.specs.declared.worker.WorkerReport.{WorkerReport}
 use Rattle.serve_workers.specs.Served.{Served, AtDoor, calls_in, how_many, by_disk}
 
 -- the number of the first connection of the worker of that number, in that run
@@ -36,14 +37,16 @@ pub record Stops (rules : Rules) (conn : ℕ) (old new : DoorState) (made : List
   pub accept_faults : CountsFaults (end ≡ AcceptFault) old.accept_faults new.accept_faults
 
 -- A worker with this pass, which was new, has ended. Of the links that it accepted it served each to its end, with the
--- connections' numbers in order from its first one on, and gave back the finished ones, at most `talks`. The pass's calls
--- are those of the links, joined. Where no memory was found to give a link back, that link's calls stand after the others'.
-pub record Worked (start : DeskState → Type 0) (run : ℕ) (rules : Rules) (talks : ℕ) (old new : DoorState) (pass pass' : Known) (end : WorkerEnd) : Type 0 where
+-- connections' numbers in order from its first one on, and gave back the finished ones, at most `talks`, whose number it reports. The
+-- pass's calls are those of the links, joined. Where no memory was found to give a link back, that link's calls stand after
+-- the others'.
+pub record Worked (start : DeskState → Type 0) (run : ℕ) (rules : Rules) (talks : ℕ) (old new : DoorState) (pass pass' : Known) (report : WorkerReport) : Type 0 where
   pub finished : List Served
   pub late : List Served
+  pub count : report.finished ≡ length finished
   pub at_door : AtDoor rules (first_conn run pass.number) old new (λ calls. Ran start pass calls pass') (finished ++ late) finished
   pub many : length (finished ++ late) ≤ talks
-  pub ends : EndsBy (length finished ≡ talks) new (length late) end
-  pub accept_faults : CountsFaults (end ≡ AcceptFault) old.accept_faults new.accept_faults
+  pub ends : EndsBy (length finished ≡ talks) new (length late) report.end
+  pub accept_faults : CountsFaults (report.end ≡ AcceptFault) old.accept_faults new.accept_faults
   -- no more connections ended since the disk failed than calls of the pass were answered so
   pub disk_faults : how_many by_disk (finished ++ late) ≤ failures_of (calls_in (finished ++ late))

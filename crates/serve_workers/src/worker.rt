@@ -25,15 +25,24 @@ pub enum WorkerEnd {
     NoMemory,
 }
 
+/// What a worker reports when it has ended.
+#[derive(Clone, Copy, Debug, PartialEq, Eq)]
+pub struct WorkerReport {
+    /// Why it ended.
+    pub end: WorkerEnd,
+    /// How many links it served to their end and gave back.
+    pub finished: u32,
+}
+
 /// A worker: its door, its pass at the shared desk, the rules by which it serves, and its number, which is that of its
-/// pass. Before it has worked, its end is `Enough`.
+/// pass. Before it has worked, its report says nothing.
 #[derive(Drop)]
 pub(crate) struct Worker<'a, P: Door, D: Disk, J: Naming, R: Wait> {
     pub(crate) door: P,
     pub(crate) seated: Seated<'a, D, J, R>,
     pub(crate) rules: Rules,
     pub(crate) number: u32,
-    pub(crate) end: WorkerEnd,
+    pub(crate) report: WorkerReport,
 }
 
 // Accepts the next link of the door, serves it, and gives it back. The error is the end of the worker.
@@ -70,7 +79,7 @@ fn serve_all<P: Door, D: Disk, J: Naming, R: Wait>(
     seated: &mut Seated<'_, D, J, R>,
     first: u64,
     talks: u32,
-) -> WorkerEnd
+) -> WorkerReport
     requires first { first ≡ first_conn J.run seated.old.pass.number }
     requires ready { IsReady seated.old.pass.number seated.old.pass }
     requires talks { talks ≤ 2 ^ 26 }
@@ -79,10 +88,16 @@ fn serve_all<P: Door, D: Disk, J: Naming, R: Wait>(
 {
     for talk in 0..talks {
         if let Err(end) = serve_next(alloc, door, rules, seated, first + u64::from(talk)) {
-            return end;
+            return WorkerReport {
+                end,
+                finished: talk,
+            };
         }
     }
-    WorkerEnd::Enough
+    WorkerReport {
+        end: WorkerEnd::Enough,
+        finished: talks,
+    }
 }
 
 impl<'a, P: Door, D: Disk, J: Naming, R: Wait> Worker<'a, P, D, J, R> {
@@ -92,11 +107,12 @@ impl<'a, P: Door, D: Disk, J: Naming, R: Wait> Worker<'a, P, D, J, R> {
         requires ready { IsReady self.old.number self.old.seated.pass }
         requires talks { talks ≤ 2 ^ 26 }
 
-        ensures { Worked J.start J.run self.old.rules talks (P.told self.old.door) (P.told self.new.door) self.old.seated.pass self.new.seated.pass self.new.end }
+        ensures worked { Worked J.start J.run self.old.rules talks (P.told self.old.door) (P.told self.new.door) self.old.seated.pass self.new.seated.pass self.new.report }
+        ensures number { self.new.number ≡ self.old.number }
     {
         let run = u64::from(self.seated.shared.run());
         let first = (run << 32) + (u64::from(self.number) << 26);
-        self.end = serve_all(
+        self.report = serve_all(
             alloc,
             &mut self.door,
             &self.rules,

@@ -6,11 +6,11 @@ abbrev pub invariant-loop-worker : goal.invariant-loop-worker
 invariant-loop-worker g l = record {
   doors : l.doors.items ≡ map (λ w. w.door) l.yielded;
   passes : l.passes.items ≡ map (λ w. w.seated.pass) l.yielded;
-  ends : l.ends.items ≡ map (λ w. w.end) l.yielded;
+  reports : l.reports.items ≡ map (λ w. w.report) l.yielded;
   doors_len : vec_len l.doors ≡ length l.yielded;
   passes_len : vec_len l.passes ≡ length l.yielded;
-  ends_len : vec_len l.ends ≡ length l.yielded;
+  reports_len : vec_len l.reports ≡ length l.yielded;
   doors_room : vec_len l.fn.workers ≤ vec_capacity l.doors;
   passes_room : vec_len l.fn.workers + 1 ≤ vec_capacity l.passes;
-  ends_room : vec_len l.fn.workers ≤ vec_capacity l.ends;
+  reports_room : vec_len l.fn.workers ≤ vec_capacity l.reports;
 }

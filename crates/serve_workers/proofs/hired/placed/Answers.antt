@@ -4,7 +4,7 @@ use Rattle.std.proofs.lemmas.Iterator.Adapters.{YieldsList-from_vec}
 use Rattle.std.proofs.lemmas.Iterator.Consumers.{YieldsList-turn, YieldsList-end}
 use Rattle.serve_workers.specs.Crews.{IsReady}
 use Rattle.serve_workers.proofs.Placing.{firsts, seconds, zip_few, pushed, ready_pushed, new_at}
-use Rattle.serve_workers.proofs.crew.placed.Goals as goal
+use Rattle.serve_workers.proofs.hired.placed.Goals as goal
 
 pub overflow_add-number : goal.overflow_add-number
 overflow_add-number g c =

@@ -2,7 +2,7 @@ use Rattle.std.proofs.Common.{◌≡◌, ◌≤◌, length, map, vec_len}
 use Rattle.std.specs.Prelude.{All}
 use Rattle.std.specs.Vec.{vec_capacity}
 use Rattle.serve_workers.specs.Crews.{IsReady}
-use Rattle.serve_workers.proofs.crew.placed.Given as goal
+use Rattle.serve_workers.proofs.hired.placed.Given as goal
 
 abbrev pub invariant-loop-post : goal.invariant-loop-post
 invariant-loop-post g l = record {

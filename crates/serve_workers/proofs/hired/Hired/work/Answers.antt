@@ -1,0 +1,27 @@
+use Rattle.std.proofs.Common.{◌≡◌, map, length, sym, ap, ◌∙◌, arith, subst}
+use Rattle.std.specs.Prelude.{All}
+use Rattle.serve_workers.specs.Crews.{AreNew, IsReady}
+use Rattle.serve_workers.proofs.Placing.{have_worked, all_ready, written_back}
+use Rattle.serve_workers.proofs.hired.Hired.work.Goals as goal
+
+pub work_all-requires-clause-ready : goal.work_all-requires-clause-ready
+work_all-requires-clause-ready g c κs within =
+    let new = subst (AreNew 0) (sym (ap (λ r. r.passes) c.self.view_is)) c.requires.new in
+    subst (All (λ w. IsReady w.number w.seated.pass)) (sym c.deref_mut.ensures.value) (all_ready (λ w. w.number) (λ w. w.seated.pass) 0 _ c.self.invariant.0 new)
+
+pub returns-clause-worked : goal.returns-clause-worked
+returns-clause-worked g c =
+    let told = g.P.Door.told in
+    let value = c.deref_mut.ensures.value in
+    let was = c.self.view_is in
+    let xs = c.deref_mut.result.now in
+    let ys = c.work_all.new.workers in
+    let many : c.self.inside.workers.len ≡ length ys = omega (arith, c.work_all.auto.workers, c.deref_mut.ensures.len) in
+    let back = written_back c.self.inside.workers.len ys _ many in
+    have_worked (λ w. w.rules) (λ w. told w.door) (λ w. w.seated.pass) (λ w. w.report) g.J.Naming.start g.J.Naming.run c.args.talks xs ys _ _ _ _ _ _ c.work_all.ensures.worked
+    (ap (map (λ w. w.rules)) value ∙ ap (λ r. r.rules) was)
+    (ap (map (λ w. told w.door)) value ∙ ap (λ r. r.doors) was)
+    (ap (map (λ w. w.seated.pass)) value ∙ ap (λ r. r.passes) was)
+    (ap (map (λ w. told w.door)) (sym back))
+    (ap (map (λ w. w.seated.pass)) (sym back))
+    (ap (map (λ w. w.report)) (sym back))

@@ -1,0 +1,173 @@
+//! Workers that are hired: they have their doors and passes, and all that they leave has its place.
+ghost use Rattle.std.specs.Prelude.{◌≡◌, ℕ, ◌^◌, ◌<◌, ◌≤◌, map, length, All, IfOk, IfErr, vec_len, slice_index_or};
+ghost use Rattle.std.specs.Vec.{vec_capacity};
+ghost use Rattle.serve_workers.specs.Works.{Worked};
+ghost use Rattle.serve_workers.specs.Crews.{AreNew, IsReady, IsRoom, HaveWorked};
+
+use crate::crew::{Crew, NoCrew, Post, Room, dismissed, room_for};
+use crate::worker::{Worker, WorkerEnd, WorkerReport};
+use edge_disk::Disk;
+use edge_io::Door;
+use spool_turns::{Naming, Pass, Seated, Shared};
+use std::alloc::Global;
+use std::marker::Model;
+use std::sync::Wait;
+use std::thread::{Threads, for_each_mut};
+
+/// Workers, each at its door with its pass, and room for what they leave. To a contract they are a `Roster`: the rules, doors,
+/// passes and reports of all, in their order. Before they have worked, the reports say nothing.
+#[derive(Drop)]
+pub struct Hired<'a, P: Door, D: Disk, J: Naming, R: Wait> {
+    workers: Vec<Worker<'a, P, D, J, R>>,
+    crew: Crew<P, J>,
+}
+
+impl<'a, P: Door, D: Disk, J: Naming, R: Wait> Model for Hired<'a, P, D, J, R> {
+    ghost use Rattle.std.specs.Prelude.{◌+◌, map, All, vec_len};
+    ghost use Rattle.serve_workers.specs.Crews.{Roster, IsAtDesk, IsRoom};
+
+    ghost Value = { Roster };
+
+    ghost view = { λ h. record {
+      rules = map (λ (worker : _). worker.rules) h.workers.items;
+      doors = map (λ (worker : _). P.told worker.door) h.workers.items;
+      passes = map (λ (worker : _). worker.seated.pass) h.workers.items;
+      reports = map (λ (worker : _). worker.report) h.workers.items;
+    } };
+
+    ghost invariant = { λ h. All (λ (worker : _). IsAtDesk worker.number worker.seated.pass) h.workers.items
+        × IsRoom (vec_len h.workers) h.crew.doors × IsRoom (vec_len h.workers + 1) h.crew.passes × IsRoom (vec_len h.workers) h.crew.reports };
+}
+
+// The workers, in the order of their passes, none of which has begun.
+fn placed<'a, P: Door + Drop, D: Disk, J: Naming, R: Wait>(
+    rt: &'a R,
+    shared: &'a Shared<D, J>,
+    posts: Vec<Post<P>>,
+    passes: Vec<Pass<J>>,
+    mut workers: Vec<Worker<'a, P, D, J, R>>,
+) -> Vec<Worker<'a, P, D, J, R>>
+    requires room { IsRoom (vec_len posts) workers }
+    requires many { (vec_len passes ≡ vec_len posts) × (vec_len posts ≤ 64) }
+    requires new { AreNew 0 passes.items }
+
+    ensures ready { All (λ (worker : _). IsReady worker.number worker.seated.pass) result.items }
+    ensures doors { map (λ (worker : _). worker.door) result.items ≡ map (λ (post : _). post.door) posts.items }
+    ensures rules { map (λ (worker : _). worker.rules) result.items ≡ map (λ (post : _). post.rules) posts.items }
+    ensures passes { map (λ (worker : _). worker.seated.pass) result.items ≡ passes.items }
+{
+    let mut number = 0;
+    for (post, pass) in posts.into_iter().zip(passes) {
+        workers.push_reserved(Worker {
+            door: post.door,
+            seated: Seated { shared, pass, rt },
+            rules: post.rules,
+            number,
+            report: WorkerReport {
+                end: WorkerEnd::Enough,
+                finished: 0,
+            },
+        });
+        number += 1;
+    }
+    workers
+}
+
+// Has each worker work, in a thread of its own where one can be made.
+fn work_all<
+    'a,
+    P: Door + Send,
+    D: Disk + Drop + Send,
+    J: Naming + Send + Sync,
+    R: Threads + Wait + Sync,
+>(rt: &R, alloc: Global, workers: &mut [Worker<'a, P, D, J, R>], talks: u32)
+where
+    P::L: Send,
+    requires ready { All (λ (worker : _). IsReady worker.number worker.seated.pass) workers.old }
+    requires talks { talks ≤ 2 ^ 26 }
+
+    ensures worked { (k : ℕ) (d : _) → k < length workers.old → Worked J.start J.run (slice_index_or workers.old k d).rules talks
+        (P.told (slice_index_or workers.old k d).door) (P.told (slice_index_or workers.new k d).door)
+        (slice_index_or workers.old k d).seated.pass (slice_index_or workers.new k d).seated.pass (slice_index_or workers.new k d).report }
+    ensures numbers { (k : ℕ) (d : _) → k < length workers.old → (slice_index_or workers.new k d).number ≡ (slice_index_or workers.old k d).number }
+{
+    let threads = workers.len().max(1);
+    for_each_mut(
+        rt,
+        workers,
+        threads,
+        &|_, worker: &mut Worker<'_, P, D, J, R>|
+            requires { IsReady worker.now.number worker.now.seated.pass × (talks ≤ 2 ^ 26) }
+            ensures worked { Worked J.start J.run worker.entry.now.rules talks (P.told worker.entry.now.door) (P.told worker.exit.now.door)
+                worker.entry.now.seated.pass worker.exit.now.seated.pass worker.exit.now.report }
+            ensures number { worker.exit.now.number ≡ worker.entry.now.number }
+        { worker.work(alloc, talks) },
+    );
+}
+
+/// Hires a worker for each of the doors. The passes are new, one for each worker, and have the numbers of the workers, from
+/// 0 on.
+///
+/// All that it takes to give back doors and passes is reserved here, and room for one pass more: so once they are hired, all
+/// come back. The error is want of memory, and then all is given back as it was.
+pub fn hire<'a, P: Door + Drop, D: Disk, J: Naming, R: Wait>(
+    rt: &'a R,
+    alloc: Global,
+    shared: &'a Shared<D, J>,
+    posts: Vec<Post<P>>,
+    passes: Vec<Pass<J>>,
+) -> Result<Hired<'a, P, D, J, R>, NoCrew<P, J>>
+    requires many { (vec_len passes ≡ vec_len posts) × (vec_len posts ≤ 64) }
+    requires new { AreNew 0 passes.items }
+
+    ensures rules { IfOk result (λ hired. hired.rules ≡ map (λ (post : _). post.rules) posts.items) }
+    ensures doors { IfOk result (λ hired. hired.doors ≡ map (λ (post : _). P.told post.door) posts.items) }
+    ensures passes { IfOk result (λ hired. hired.passes ≡ passes.items) }
+    ensures err { IfErr result (λ none. (none.posts ≡ posts) × (none.passes ≡ passes)) }
+{
+    let Ok(room) = room_for(alloc, posts.len()) else {
+        return Err(NoCrew { posts, passes });
+    };
+    let Room { workers, crew } = room;
+    let workers = placed(rt, shared, posts, passes, workers);
+    Ok(Hired { workers, crew })
+}
+
+impl<
+    'a,
+    P: Door + Drop + Send,
+    D: Disk + Drop + Send,
+    J: Naming + Send + Sync,
+    R: Threads + Wait + Sync,
+> Hired<'a, P, D, J, R>
+where
+    P::L: Send,
+{
+    /// Has each worker serve at its door, in a thread of its own where one can be made, until it has ended: as its door is
+    /// shut, after `talks` links, at an accept that fails, or where no memory is found to give a link back. What each did is
+    /// said by `HaveWorked`.
+    pub fn work(&mut self, rt: &R, alloc: Global, talks: u32)
+        requires new { AreNew 0 self.old.passes }
+        requires talks { talks ≤ 2 ^ 26 }
+
+        ensures worked { HaveWorked J.start J.run talks self.old.rules self.old.doors self.old.passes self.new.doors self.new.passes self.new.reports }
+        ensures many { length self.new.passes ≡ length self.old.passes }
+    {
+        work_all(rt, alloc, &mut self.workers, talks);
+    }
+}
+
+impl<'a, P: Door + Drop, D: Disk, J: Naming, R: Wait> Hired<'a, P, D, J, R> {
+    /// Hands back the doors, the passes and the reports, in the order of the workers, with room for one pass more.
+    pub fn dismiss(self) -> Crew<P, J>
+        ensures doors { map (λ (door : _). P.told door) result.doors.items ≡ self.entry.doors }
+        ensures passes { result.passes.items ≡ self.entry.passes }
+        ensures reports { result.reports.items ≡ self.entry.reports }
+        ensures many { (vec_len result.doors ≡ length self.entry.passes) × (vec_len result.passes ≡ length self.entry.passes)
+            × (vec_len result.reports ≡ length self.entry.passes) }
+        ensures room { vec_len result.passes < vec_capacity result.passes }
+    {
+        let Hired { workers, crew } = self;
+        dismissed(workers, crew)
+    }
+}
