@@ -8,18 +8,46 @@ ghost use Rattle.serve_workers.specs.Crews.{AreNew, HaveWorked};
 use desk_access::Desk;
 use edge_disk::Disk;
 use edge_io::Door;
-use serve_workers::{Crew, Post, WorkerEnd, serve_doors};
-use spool_turns::{Naming, Opened};
+use serve_workers::{Crew, NoCrew, Post, WorkerReport, hire};
+use spool_turns::{Naming, Opened, Pass, Shared};
 use std::alloc::Global;
 use std::sync::Wait;
 use std::thread::Threads;
 
-/// What workers leave: the desk, and the door and the end of each, in their order.
+/// What workers leave: the desk, and the door and the report of each, in their order.
 #[derive(Drop)]
 pub struct Served<P: Door, D: Disk> {
     pub desk: Desk<D>,
     pub doors: Vec<P>,
-    pub ends: Vec<WorkerEnd>,
+    pub reports: Vec<WorkerReport>,
+}
+
+// Hires workers, has them work, and dismisses them.
+fn crew_of<
+    P: Door + Drop + Send,
+    D: Disk + Drop + Send,
+    J: Naming + Send + Sync,
+    R: Threads + Wait + Sync,
+>(
+    rt: &R,
+    alloc: Global,
+    shared: &Shared<D, J>,
+    posts: Vec<Post<P>>,
+    passes: Vec<Pass<J>>,
+    talks: u32,
+) -> Result<Crew<P, J>, NoCrew<P, J>>
+where
+    P::L: Send,
+    requires many { (vec_len passes ≡ vec_len posts) × (vec_len posts ≤ 64) }
+    requires new { AreNew 0 passes.items }
+    requires talks { talks ≤ 2 ^ 26 }
+
+    ensures each { IfOk result (λ crew. HaveWorked J.start J.run talks (map (λ (post : _). post.rules) posts.items) (map (λ (post : _). P.told post.door) posts.items)
+        passes.items (map (λ (door : _). P.told door) crew.doors.items) crew.passes.items crew.reports.items) }
+{
+    let mut hired = hire(rt, alloc, shared, posts, passes)?;
+    hired.work(rt, alloc, talks);
+    Ok(hired.dismiss())
 }
 
 /// Has a worker serve at each of the doors, with the passes of a desk that nobody else calls, and closes the desk. One journal
@@ -45,20 +73,20 @@ where
 
     ensures journal { IfOk result (λ served. (log : List Record) × (passes : List Known) × Closes D.tells J.start J.run J.seats J.began log passes (desk_at served.desk)
         × HaveWorked J.start J.run talks (map (λ (post : _). post.rules) posts.items) (map (λ (post : _). P.told post.door) posts.items)
-        opened.passes.items (map (λ (door : _). P.told door) served.doors.items) passes served.ends.items) }
+        opened.passes.items (map (λ (door : _). P.told door) served.doors.items) passes served.reports.items) }
 {
     let Opened { shared, passes } = opened;
-    match serve_doors(rt, alloc, &shared, posts, passes, talks) {
+    match crew_of(rt, alloc, &shared, posts, passes, talks) {
         Ok(crew) => {
             let Crew {
                 doors,
                 passes,
-                ends,
+                reports,
             } = crew;
             Ok(Served {
                 desk: shared.close(passes),
                 doors,
-                ends,
+                reports,
             })
         }
         Err(none) => Err(shared.close(none.passes)),

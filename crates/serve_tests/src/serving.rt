@@ -128,12 +128,18 @@ fn check(rt: &(impl Abort + Threads + Wait + AllocGlobal + Sync), case: &Case) -
     let Served {
         mut desk,
         mut doors,
-        ends,
+        reports,
     } = served(rt, alloc, posts, u32::from(case.talks))?;
     let name = case.name;
-    assert_eq!(rt; ends.as_slice(), case.ends.as_slice(), "{name}");
+    assert_eq!(rt; reports.len(), DOORS.len(), "{name}");
     let entries = desk.spool.pending(0, 1000)?;
     for (worker, many) in case.finished.into_iter().enumerate() {
+        let report = reports.get(worker).ok_or("no report")?;
+        let end = case.ends.get(worker).ok_or("no end")?;
+        assert!(rt;
+            report.end == *end && report.finished as usize == many,
+            "{name}: {worker}"
+        );
         let talks = doors.get(worker).ok_or("no door")?.talks();
         assert!(rt;
             is_served(alloc, worker, many, talks, &entries)?,

@@ -6,7 +6,7 @@ use crate::harness::served;
 use crate::serving::link;
 use conn_serve::Rules;
 use edge_io::{AcceptFault, Door, MemDoor, MemLink, Proto};
-use serve_workers::{Post, WorkerEnd};
+use serve_workers::{Post, WorkerEnd, WorkerReport};
 use std::alloc::{AllocError, Global};
 use std::test::Fail;
 
@@ -67,9 +67,13 @@ fn a_worker_ends_where_no_memory_is_found(rt: HostRuntime) -> Result<(), Fail> {
     let Served {
         desk,
         mut doors,
-        ends,
+        reports,
     } = served(&rt, alloc, posts, 1000)?;
-    assert_eq!(rt; ends.as_slice(), [WorkerEnd::NoMemory].as_slice());
+    let report = WorkerReport {
+        end: WorkerEnd::NoMemory,
+        finished: 0,
+    };
+    assert_eq!(rt; reports.as_slice(), [report].as_slice());
     assert_eq!(rt; desk.spool.end(), 1);
     let Starved { mut door } = doors.pop().ok_or("no door")?;
     let talks = door.talks();

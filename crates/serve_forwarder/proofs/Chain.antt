@@ -1,0 +1,133 @@
+-- Looks one after another: the calls that they made on the desk, the links that the net tells, and its counts of faults.
+use Rattle.std.proofs.Common.{◌≡◌, ◌⊎◌, inl, inr, ◌∙◌, ℕ, ◌≤◌, List, [], ◌∷◌, ◌++◌, length, refl, sym, ap, subst, append_assoc, arith}
+use Rattle.std.specs.Prelude.{Option, Some, None, Result, Err}
+use Rattle.std.specs.List.{AllZip}
+use Rattle.std.specs.Io.KnownBytes.{IsAtEnd}
+use Rattle.std.proofs.lemmas.List.{append-nil}
+use Rattle.edge_io.specs.Net.{HungUp, NetState, HasNetCause}
+use Rattle.edge_io.specs.Told.{Adds}
+use Rattle.edge_io.specs.declared.net_fault.NetFault.{NetFault}
+use Rattle.edge_io.specs.declared.net_fault.NetFault.TheVariants.{Fault, NoMemory}
+use Rattle.spool_log.specs.declared.fault.PendFault.{PendFault}
+use Rattle.spool_log.specs.declared.reading.numbered.Numbered.{Numbered}
+use Rattle.desk_access.specs.Call.{pends}
+use Rattle.desk_access.specs.Desk.{DeskState}
+use Rattle.forward_core.specs.Protocols.{HintsAs}
+use Rattle.forward_core.specs.declared.outward.Outward.{Outward}
+use Rattle.forward_core.specs.declared.sent.Sent.TheVariants.{PeerClosed}
+use Rattle.spool_turns.specs.Passes.{Known}
+use Rattle.spool_turns.specs.Ran.{Ran, ran_none, ran_more}
+use Rattle.serve_forwarder.specs.Sessions.{Session, IsHeld, Tells, TellsSessions}
+use Rattle.serve_forwarder.specs.Looks.{Found, Idle, Unread, Undialed, Held, Look, held_in, sessions_of, calls_in, calls_at, calls_of, IsFound, IsToldBy, IsLook, AreLooks}
+use Rattle.serve_forwarder.specs.Laws.{KeepsCounts}
+
+-- ---- one after another
+
+-- some looks, and then others
+pub looks_then : (start : DeskState → Type 0) (outward : Outward) (place : List ℕ) (looks more : List Look) (a b c : Known) (m n o : NetState)
+    → AreLooks start outward place looks a b m n → AreLooks start outward place more b c n o → AreLooks start outward place (looks ++ more) a c m o
+looks_then start outward place [] more a b c m n o p q = subst (λ (t : Known × NetState). AreLooks start outward place more t.0 c t.1 o) (λ i. (p.0 i, p.1 i)) q
+looks_then start outward place (look ∷ looks) more a b c m n o p q = (p.0, p.1, p.2, looks_then start outward place looks more p.0 b c p.1 n o p.3 q)
+
+-- one look more
+pub look_more : (start : DeskState → Type 0) (outward : Outward) (place : List ℕ) (looks : List Look) (look : Look) (a b c : Known) (m n o : NetState)
+    → AreLooks start outward place looks a b m n → IsLook start outward place look b c n o → AreLooks start outward place (looks ++ look ∷ []) a c m o
+look_more start outward place looks look a b c m n o p q = looks_then start outward place looks (look ∷ []) a b c m n o p (c, o, q, (refl, refl))
+
+-- ---- the calls
+
+held_ran : (start : DeskState → Type 0) (outward : Outward) (one : Session) (pass pass' : Known) → IsHeld start outward one pass pass' → Ran start pass one.calls pass'
+held_ran start outward one pass pass' h =
+    ran_more start pass h.begun pass' [] one.calls (ran_more start pass h.asked.between h.begun [] [] h.asked.cursor_ran h.asked.end_ran) h.made
+
+same_ran : (start : DeskState → Type 0) (pass pass' : Known) → pass' ≡ pass → Ran start pass [] pass'
+same_ran start pass pass' same = subst (Ran start pass []) (sym same) (ran_none start pass)
+
+found_ran : (start : DeskState → Type 0) (outward : Outward) (given : Result (List Numbered) PendFault) (found : Found) (pass pass' : Known) → IsFound start outward given found pass pass' → Ran start pass (calls_in found) pass'
+found_ran start outward given Idle pass pass' f = same_ran start pass pass' f.1
+found_ran start outward given (Unread _) pass pass' f = same_ran start pass pass' f.1
+found_ran start outward given (Undialed _) pass pass' f = same_ran start pass pass' f.1
+found_ran start outward given (Held one) pass pass' f = held_ran start outward one pass pass' f.1
+
+pub look_is_ran : (start : DeskState → Type 0) (outward : Outward) (place : List ℕ) (look : Look) (pass pass' : Known) (net net' : NetState)
+    → IsLook start outward place look pass pass' net net' → Ran start pass (calls_at look) pass'
+look_is_ran start outward place look pass pass' net net' l =
+    ran_more start pass l.asked pass' (pends 0 1 look.given ∷ []) (calls_in look.found) l.asks (found_ran start outward look.given look.found l.asked pass' l.found)
+
+-- the calls of looks lead the pass from the one moment to the other
+pub looks_are_ran : (start : DeskState → Type 0) (outward : Outward) (place : List ℕ) (looks : List Look) (pass pass' : Known) (net net' : NetState)
+    → AreLooks start outward place looks pass pass' net net' → Ran start pass (calls_of looks) pass'
+looks_are_ran start outward place [] pass pass' net net' a = same_ran start pass pass' a.0
+looks_are_ran start outward place (look ∷ looks) pass pass' net net' a =
+    ran_more start pass a.0 pass' (calls_at look) (calls_of looks) (look_is_ran start outward place look pass a.0 net a.1 a.2) (looks_are_ran start outward place looks a.0 pass' a.1 net' a.3)
+
+-- ---- the links
+
+zip_then : {X Y : Type 0} (R : X → Y → Type 0) (xs us : List X) (ys vs : List Y) → AllZip R xs ys → AllZip R us vs → AllZip R (xs ++ us) (ys ++ vs)
+zip_then R [] us [] vs p q = q
+zip_then R [] us (y ∷ ys) vs p q = absurd p
+zip_then R (x ∷ xs) us [] vs p q = absurd p
+zip_then R (x ∷ xs) us (y ∷ ys) vs p q = (p.0, zip_then R xs us ys vs p.1 q)
+
+pub tells_none : (place : List ℕ) (a b : Option (List HungUp)) → b ≡ a → TellsSessions place [] a b
+tells_none place None b same = same
+tells_none place (Some old) b same = ([], tt, same ∙ ap (λ (l : List HungUp). Some l) (sym (append-nil old)))
+
+pub tells_one : (place : List ℕ) (one : Session) (a b : Option (List HungUp)) → Adds a b (Tells place one) → TellsSessions place (one ∷ []) a b
+tells_one place one None b adds = adds
+tells_one place one (Some old) b adds = (adds.0 ∷ [], (adds.1, tt), adds.2)
+
+pub tells_then : (place : List ℕ) (xs ys : List Session) (a b c : Option (List HungUp)) → TellsSessions place xs a b → TellsSessions place ys b c → TellsSessions place (xs ++ ys) a c
+tells_then place xs ys None b c p q = subst (λ (o : Option (List HungUp)). TellsSessions place ys o c) p q
+tells_then place xs ys (Some old) b c p q =
+    let more = subst (λ (o : Option (List HungUp)). TellsSessions place ys o c) p.2 q in
+    (p.0 ++ more.0, zip_then (Tells place) xs ys p.0 more.0 p.1 more.1, more.2 ∙ ap (λ (l : List HungUp). Some l) (append_assoc old p.0 more.0))
+
+found_told : (place : List ℕ) (found : Found) (net net' : NetState) → IsToldBy place found net net' → TellsSessions place (held_in found) net.hung net'.hung
+found_told place Idle net net' t = tells_none place net.hung net'.hung (ap (λ (n : NetState). n.hung) t)
+found_told place (Unread _) net net' t = tells_none place net.hung net'.hung (ap (λ (n : NetState). n.hung) t)
+found_told place (Undialed _) net net' t = tells_none place net.hung net'.hung t.0.hung
+found_told place (Held one) net net' t = tells_one place one net.hung net'.hung t.hung
+
+-- what the net tells more is of the sessions of the looks, in order
+pub looks_are_told : (start : DeskState → Type 0) (outward : Outward) (place : List ℕ) (looks : List Look) (pass pass' : Known) (net net' : NetState)
+    → AreLooks start outward place looks pass pass' net net' → TellsSessions place (sessions_of looks) net.hung net'.hung
+looks_are_told start outward place [] pass pass' net net' a = tells_none place net.hung net'.hung (ap (λ (n : NetState). n.hung) a.1)
+looks_are_told start outward place (look ∷ looks) pass pass' net net' a =
+    tells_then place (held_in look.found) (sessions_of looks) net.hung a.1.hung net'.hung (found_told place look.found net a.1 a.2.told) (looks_are_told start outward place looks a.0 pass' a.1 net' a.3)
+
+-- ---- counts of faults
+
+counts_stay : (net net' : NetState) → net' ≡ net → KeepsCounts net net'
+counts_stay net net' same = subst (KeepsCounts net) (sym same) (record { net_faults = omega arith; reads = omega arith; writes = omega arith })
+
+dial_counts : (fault : NetFault) (before now : ℕ) → HasNetCause {T = Unit {0}} before now (Err fault) → before ≤ now
+dial_counts Fault before now cause = cause.0
+dial_counts NoMemory before now cause = omega (arith, cause)
+
+found_counts : (place : List ℕ) (found : Found) (net net' : NetState) → IsToldBy place found net net' → KeepsCounts net net'
+found_counts place Idle net net' t = counts_stay net net' t
+found_counts place (Unread _) net net' t = counts_stay net net' t
+found_counts place (Undialed why) net net' t = record { net_faults = dial_counts why net.net_faults net'.net_faults t.1; reads = omega (arith, t.0.read_faults); writes = omega (arith, t.0.write_faults) }
+found_counts place (Held one) net net' t = record { net_faults = omega (arith, t.net_faults); reads = t.reads.later; writes = t.writes.later }
+
+-- over looks no count of faults falls
+pub looks_keep_counts : (start : DeskState → Type 0) (outward : Outward) (place : List ℕ) (looks : List Look) (pass pass' : Known) (net net' : NetState)
+    → AreLooks start outward place looks pass pass' net net' → KeepsCounts net net'
+looks_keep_counts start outward place [] pass pass' net net' a = counts_stay net net' a.1
+looks_keep_counts start outward place (look ∷ looks) pass pass' net net' a =
+    let here = found_counts place look.found net a.1 a.2.told in
+    let more = looks_keep_counts start outward place looks a.0 pass' a.1 net' a.3 in
+    record { net_faults = omega (arith, here.net_faults, more.net_faults); reads = omega (arith, here.reads, more.reads); writes = omega (arith, here.writes, more.writes) }
+
+-- ---- ends of input
+
+none_left : (left : Option (List ℕ)) (rest : List ℕ) → left ≡ Some rest → IsAtEnd left → length rest ≡ 0
+none_left left rest is end = ap length (subst IsAtEnd is end)
+
+-- where the peer closed a session, it had said so, or its link has no byte left
+pub closed_is_read_out : (start : DeskState → Type 0) (outward : Outward) (place : List ℕ) (one : Session) (told : HungUp) (pass pass' : Known)
+    → IsHeld start outward one pass pass' → Tells place one told → one.sent ≡ PeerClosed → (told.left ≡ 0) ⊎ HintsAs outward.proto one.bytes
+closed_is_read_out start outward place one told pass pass' held tells closed =
+    let left = tells.left in
+    elim (held.ended.closed closed) [ inl end ↦ inl (left.2 ∙ none_left one.left left.0 left.1 end) | inr hints ↦ inr hints ]

@@ -1,0 +1,3 @@
+mod Asking
+mod Hanging
+pub mod Chain

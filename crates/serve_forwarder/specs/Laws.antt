@@ -1,0 +1,36 @@
+-- What follows of looks one after another.
+use Rattle.std.specs.Prelude.{◌≡◌, ◌⊎◌, ◌≤◌, ℕ, List}
+use Rattle.edge_io.specs.Net.{HungUp, NetState}
+use Rattle.desk_access.specs.Desk.{DeskState}
+use Rattle.forward_core.specs.Protocols.{HintsAs}
+use Rattle.forward_core.specs.declared.outward.Outward.{Outward}
+use Rattle.forward_core.specs.declared.sent.Sent.TheVariants.{PeerClosed}
+use Rattle.spool_turns.specs.Passes.{Known}
+use Rattle.spool_turns.specs.Ran.{Ran}
+use Rattle.serve_forwarder.specs.Sessions.{Session, IsHeld, Tells, TellsSessions}
+use Rattle.serve_forwarder.specs.Looks.{Look, AreLooks, calls_of, sessions_of}
+
+-- the calls of looks lead the pass from the one moment to the other
+abbrev pub LooksCall : (DeskState → Type 0) → Type 0
+LooksCall start = (outward : Outward) (place : List ℕ) (looks : List Look) (pass pass' : Known) (net net' : NetState)
+    → AreLooks start outward place looks pass pass' net net' → Ran start pass (calls_of looks) pass'
+
+-- what the net tells more is of the sessions of the looks
+abbrev pub LooksTell : (DeskState → Type 0) → Type 0
+LooksTell start = (outward : Outward) (place : List ℕ) (looks : List Look) (pass pass' : Known) (net net' : NetState)
+    → AreLooks start outward place looks pass pass' net net' → TellsSessions place (sessions_of looks) net.hung net'.hung
+
+-- no count of faults of the net fell
+pub record KeepsCounts (net net' : NetState) : Type 0 where
+  pub net_faults : net.net_faults ≤ net'.net_faults
+  pub reads : net.read_faults ≤ net'.read_faults
+  pub writes : net.write_faults ≤ net'.write_faults
+
+abbrev pub LooksKeepCounts : (DeskState → Type 0) → Type 0
+LooksKeepCounts start = (outward : Outward) (place : List ℕ) (looks : List Look) (pass pass' : Known) (net net' : NetState)
+    → AreLooks start outward place looks pass pass' net net' → KeepsCounts net net'
+
+-- Where the peer closed a session, it had said that it would, or its link has no byte left.
+abbrev pub ClosedIsReadOut : (DeskState → Type 0) → Type 0
+ClosedIsReadOut start = (outward : Outward) (place : List ℕ) (one : Session) (told : HungUp) (pass pass' : Known)
+    → IsHeld start outward one pass pass' → Tells place one told → one.sent ≡ PeerClosed → (told.left ≡ 0) ⊎ HintsAs outward.proto one.bytes

@@ -1,0 +1,39 @@
+//! Looking again and again.
+ghost use Rattle.std.specs.Prelude.{◌≡◌, ◌+◌, ◌<◌, List};
+ghost use Rattle.serve_forwarder.specs.Looks.{AreLooks, Look};
+
+use crate::Destination;
+use crate::looking::{Outcome, look};
+use edge_disk::Disk;
+use edge_io::Net;
+use forward_core::Sent;
+use spool_turns::{Naming, Seated};
+use std::alloc::Global;
+use std::sync::Wait;
+use std::sync::atomic::{AtomicBool, Ordering};
+
+/// Looks at what is pending until `ended` is set, which others set once they store no more. After a session that drained it looks
+/// again at once; else it pauses first.
+pub fn forward_beside<N: Net, D: Disk, J: Naming, R: Wait>(
+    alloc: Global,
+    destination: &Destination,
+    net: &mut N,
+    seated: &mut Seated<'_, D, J, R>,
+    ended: &AtomicBool,
+)
+    requires confirms { seated.old.pass.number + 1 ≡ J.seats }
+    requires polls { 0 < destination.now.outward.polls }
+
+    ensures { (looks : List Look) × AreLooks J.start destination.now.outward destination.now.place looks seated.old.pass seated.new.pass (N.told net.old) (N.told net.new) }
+{
+    let rt = seated.rt;
+    'looks: for _ in rt.forever() {
+        if ended.load(Ordering::SeqCst) {
+            break;
+        }
+        match look(alloc, destination, net, seated) {
+            Outcome::Held(Sent::Drained) => {}
+            _ => net.pause(),
+        }
+    }
+}

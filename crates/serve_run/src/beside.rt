@@ -1,0 +1,101 @@
+//! Workers, and a forwarder beside them.
+ghost use Rattle.std.specs.Prelude.{◌≡◌, ◌+◌, ◌<◌, ◌^◌, ◌≤◌, List, length, map, vec_len};
+ghost use Rattle.std.specs.Vec.{vec_capacity};
+ghost use Rattle.serve_workers.specs.Crews.{AreNew, HaveWorked};
+ghost use Rattle.serve_forwarder.specs.Looks.{AreLooks, Look};
+
+use crate::working::{Task, work_beside};
+use edge_disk::Disk;
+use edge_io::{Door, Net};
+use serve_forwarder::{Destination, forward_beside};
+use serve_workers::{Crew, Hired};
+use spool_turns::{Naming, Pass, Seated};
+use std::alloc::Global;
+use std::sync::Wait;
+use std::sync::atomic::AtomicBool;
+use std::thread::Threads;
+
+// The forwarder, who forwards until the workers have ended.
+#[derive(Drop)]
+struct Forwarding<'a, N: Net, D: Disk, J: Naming, R: Wait> {
+    alloc: Global,
+    destination: &'a Destination,
+    net: &'a mut N,
+    seated: Seated<'a, D, J, R>,
+    ended: &'a AtomicBool,
+}
+
+impl<'a, N: Net, D: Disk + Drop, J: Naming, R: Wait> Task for Forwarding<'a, N, D, J, R> {
+    type Output = (&'a mut N, Pass<J>);
+
+    ghost can_run = { λ t. (t.seated.pass.number + 1 ≡ J.seats) × (0 < t.destination.now.outward.polls) };
+
+    ghost leaves = { λ t r. (r.0.ghost_name ≡ t.net.ghost_name)
+        × ((looks : List Look) × AreLooks J.start t.destination.now.outward t.destination.now.place looks t.seated.pass r.1 (N.told t.net.now) (N.told r.0.now)) };
+
+    fn run(self) -> (&'a mut N, Pass<J>) {
+        let Forwarding {
+            alloc,
+            destination,
+            net,
+            mut seated,
+            ended,
+        } = self;
+        forward_beside(alloc, destination, &mut *net, &mut seated, ended);
+        let Seated { pass, .. } = seated;
+        (net, pass)
+    }
+}
+
+// Does nothing, but ends what the reference was lent for.
+fn take_back<N>(net: &mut N)
+    ensures { net.new ≡ net.old }
+{}
+
+/// Has the workers work, and forwards beside them until they have ended. The forwarder has a thread of its own; where none can be
+/// made it comes last, when the workers have ended.
+pub(crate) fn work_and_forward<
+    P: Door + Drop + Send,
+    D: Disk + Drop + Send,
+    N: Net + Send,
+    J: Naming + Send + Sync,
+    R: Threads + Wait + Sync,
+>(
+    rt: &R,
+    alloc: Global,
+    talks: u32,
+    destination: &Destination,
+    net: &mut N,
+    seated: Seated<'_, D, J, R>,
+    hired: Hired<'_, P, D, J, R>,
+) -> (Pass<J>, Crew<P, J>)
+where
+    P::L: Send,
+    N::L: Send,
+    N::P: Send,
+    <N::P as Door>::L: Send,
+    requires new { AreNew 0 hired.passes }
+    requires talks { talks ≤ 2 ^ 26 }
+    requires confirms { seated.pass.number + 1 ≡ J.seats }
+    requires polls { 0 < destination.now.outward.polls }
+
+    ensures worked { HaveWorked J.start J.run talks hired.entry.rules hired.entry.doors hired.entry.passes (map (λ (door : _). P.told door) result.1.doors.items)
+        result.1.passes.items result.1.reports.items }
+    ensures many { (vec_len result.1.doors ≡ length hired.entry.passes) × (vec_len result.1.passes ≡ length hired.entry.passes)
+        × (vec_len result.1.reports ≡ length hired.entry.passes) }
+    ensures room { vec_len result.1.passes < vec_capacity result.1.passes }
+    ensures looked { (looks : List Look) × AreLooks J.start destination.now.outward destination.now.place looks seated.entry.pass result.0
+        (N.told net.old) (N.told net.new) }
+{
+    let ended = AtomicBool::new(false);
+    let forwarding = Forwarding {
+        alloc,
+        destination,
+        net,
+        seated,
+        ended: &ended,
+    };
+    let ((net, pass), crew) = work_beside(rt, alloc, talks, forwarding, hired, &ended);
+    take_back(net);
+    (pass, crew)
+}

@@ -1,0 +1,47 @@
+//! The last look, at all that the workers have left.
+ghost use Rattle.std.specs.Prelude.{◌≡◌, ◌+◌, ◌<◌, vec_len};
+ghost use Rattle.std.specs.Vec.{vec_capacity};
+ghost use Rattle.spool_turns.specs.Passes.{Known};
+ghost use Rattle.serve_forwarder.specs.Looks.{IsLook, Look, outcome_of};
+ghost use Rattle.serve_run.specs.Running.{HasMet};
+
+use edge_disk::Disk;
+use edge_io::Net;
+use serve_forwarder::{Destination, Outcome, look};
+use spool_turns::{Naming, Pass, Seated};
+use std::alloc::Global;
+use std::sync::Wait;
+
+// The seated pass has then seen all that the others have seen.
+fn meet_all<D: Disk, J: Naming, R: Wait>(
+    seated: &mut Seated<'_, D, J, R>,
+    others: &mut Vec<Pass<J>>,
+)
+    ensures met { HasMet others.old.items seated.old.pass seated.new.pass }
+    ensures same { (others.new.items ≡ others.old.items) × (vec_len others.new ≡ vec_len others.old) × (vec_capacity others.new ≡ vec_capacity others.old) }
+{
+    for i in 0..others.len() {
+        let shared = seated.shared;
+        shared.meet(&mut seated.pass, &mut others[i]);
+    }
+}
+
+/// Looks once more, when the forwarder has seen all that the workers have seen.
+pub(crate) fn look_again<N: Net, D: Disk, J: Naming, R: Wait>(
+    alloc: Global,
+    destination: &Destination,
+    net: &mut N,
+    forwarder: &mut Seated<'_, D, J, R>,
+    workers: &mut Vec<Pass<J>>,
+) -> Outcome
+    requires confirms { forwarder.old.pass.number + 1 ≡ J.seats }
+    requires polls { 0 < destination.now.outward.polls }
+
+    ensures looked { (met : Known) × (one : Look) × HasMet workers.old.items forwarder.old.pass met
+        × IsLook J.start destination.now.outward destination.now.place one met forwarder.new.pass (N.told net.old) (N.told net.new)
+        × (result ≡ outcome_of one.found) }
+    ensures same { (workers.new.items ≡ workers.old.items) × (vec_len workers.new ≡ vec_len workers.old) × (vec_capacity workers.new ≡ vec_capacity workers.old) }
+{
+    meet_all(forwarder, workers);
+    look(alloc, destination, net, forwarder)
+}

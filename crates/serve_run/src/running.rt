@@ -1,0 +1,251 @@
+//! Serving and forwarding over one desk.
+ghost use Rattle.std.specs.Prelude.{◌≡◌, ◌+◌, ◌<◌, ◌^◌, ◌≤◌, [], length, map, IfOk, IfErr, IfSome, option_copied, vec_len};
+ghost use Rattle.std.specs.Vec.{vec_capacity};
+ghost use Rattle.spool_turns.specs.Replays.{desk_at};
+ghost use Rattle.serve_workers.specs.Crews.{AreNew, HaveWorked};
+ghost use Rattle.serve_run.specs.Running.{Forwarded, HasRun, HasServed, HasNotServed};
+
+use crate::beside::work_and_forward;
+use crate::meeting::look_again;
+use crate::working::work_alone;
+use desk_access::Desk;
+use edge_disk::Disk;
+use edge_io::{Door, Net};
+use serve_forwarder::{Destination, Outcome};
+use serve_workers::{Crew, Hired, NoCrew, Post, WorkerReport, hire};
+use spool_turns::{Naming, Opened, Pass, Seated, Shared};
+use std::alloc::Global;
+use std::sync::Wait;
+use std::thread::Threads;
+
+/// What a run leaves.
+#[derive(Drop)]
+pub struct Served<P: Door, D: Disk> {
+    /// The desk, as one journal left it.
+    pub desk: Desk<D>,
+    /// The doors, in the order of their workers.
+    pub doors: Vec<P>,
+    /// What each worker reports, in the same order.
+    pub reports: Vec<WorkerReport>,
+    /// What the last look came to, where there is a destination.
+    pub last: Option<Outcome>,
+}
+
+/// There was no memory for the workers. No link was accepted and none was dialed.
+#[derive(Drop)]
+pub struct Unserved<P: Door, D: Disk> {
+    /// The desk, with which nothing was done.
+    pub desk: Desk<D>,
+    /// The doors and their rules, as they were given.
+    pub posts: Vec<Post<P>>,
+}
+
+// What the workers leave, and what the last look came to.
+#[derive(Drop)]
+struct Ran<P: Door, J: Naming> {
+    crew: Crew<P, J>,
+    last: Option<Outcome>,
+}
+
+// Has the workers work and the forwarder forward beside them, and then look once more. Hands back the forwarder's pass.
+fn run_beside<
+    P: Door + Drop + Send,
+    D: Disk + Drop + Send,
+    N: Net + Send,
+    J: Naming + Send + Sync,
+    R: Threads + Wait + Sync,
+>(
+    rt: &R,
+    alloc: Global,
+    talks: u32,
+    destination: &Destination,
+    net: &mut N,
+    seated: Seated<'_, D, J, R>,
+    hired: Hired<'_, P, D, J, R>,
+) -> (Ran<P, J>, Pass<J>)
+where
+    P::L: Send,
+    N::L: Send,
+    N::P: Send,
+    <N::P as Door>::L: Send,
+    requires new { AreNew 0 hired.passes }
+    requires talks { talks ≤ 2 ^ 26 }
+    requires confirms { seated.pass.number + 1 ≡ J.seats }
+    requires polls { 0 < destination.now.outward.polls }
+
+    ensures worked { HaveWorked J.start J.run talks hired.entry.rules hired.entry.doors hired.entry.passes (map (λ (door : _). P.told door) result.0.crew.doors.items)
+        result.0.crew.passes.items result.0.crew.reports.items }
+    ensures many { (vec_len result.0.crew.doors ≡ length hired.entry.passes) × (vec_len result.0.crew.passes ≡ length hired.entry.passes)
+        × (vec_len result.0.crew.reports ≡ length hired.entry.passes) }
+    ensures room { vec_len result.0.crew.passes < vec_capacity result.0.crew.passes }
+    ensures forwarded { Forwarded J.start (Some destination.now) result.0.crew.passes.items seated.entry.pass result.1 (N.told net.old) (N.told net.new) result.0.last }
+{
+    let shared = seated.shared;
+    let (pass, mut crew) = work_and_forward(rt, alloc, talks, destination, net, seated, hired);
+    let mut seated = Seated { shared, pass, rt };
+    let last = look_again(alloc, destination, net, &mut seated, &mut crew.passes);
+    let Seated { pass, .. } = seated;
+    let ran = Ran {
+        crew,
+        last: Some(last),
+    };
+    (ran, pass)
+}
+
+// Has the workers work, and forwards where there is a destination.
+fn run_seated<
+    P: Door + Drop + Send,
+    D: Disk + Drop + Send,
+    N: Net + Send,
+    J: Naming + Send + Sync,
+    R: Threads + Wait + Sync,
+>(
+    rt: &R,
+    alloc: Global,
+    talks: u32,
+    destination: Option<&Destination>,
+    net: &mut N,
+    seated: Seated<'_, D, J, R>,
+    hired: Hired<'_, P, D, J, R>,
+) -> (Ran<P, J>, Pass<J>)
+where
+    P::L: Send,
+    N::L: Send,
+    N::P: Send,
+    <N::P as Door>::L: Send,
+    requires new { AreNew 0 hired.passes }
+    requires talks { talks ≤ 2 ^ 26 }
+    requires confirms { (seated.pass.number + 1 ≡ J.seats) × (seated.pass.own ≡ []) }
+    requires polls { IfSome destination (λ d. 0 < d.now.outward.polls) }
+
+    ensures worked { HaveWorked J.start J.run talks hired.entry.rules hired.entry.doors hired.entry.passes (map (λ (door : _). P.told door) result.0.crew.doors.items)
+        result.0.crew.passes.items result.0.crew.reports.items }
+    ensures many { (vec_len result.0.crew.doors ≡ length hired.entry.passes) × (vec_len result.0.crew.passes ≡ length hired.entry.passes)
+        × (vec_len result.0.crew.reports ≡ length hired.entry.passes) }
+    ensures room { vec_len result.0.crew.passes < vec_capacity result.0.crew.passes }
+    ensures forwarded { Forwarded J.start (option_copied destination.entry) result.0.crew.passes.items seated.entry.pass result.1 (N.told net.old)
+        (N.told net.new) result.0.last }
+{
+    match destination {
+        Some(destination) => run_beside(rt, alloc, talks, destination, net, seated, hired),
+        None => {
+            let Seated { pass, .. } = seated;
+            let ran = Ran {
+                crew: work_alone(rt, alloc, talks, hired),
+                last: None,
+            };
+            (ran, pass)
+        }
+    }
+}
+
+// Hires workers with all passes but the last, which is the forwarder's, and runs both. The passes come back in their order.
+fn run<
+    P: Door + Drop + Send,
+    D: Disk + Drop + Send,
+    N: Net + Send,
+    J: Naming + Send + Sync,
+    R: Threads + Wait + Sync,
+>(
+    rt: &R,
+    alloc: Global,
+    shared: &Shared<D, J>,
+    posts: Vec<Post<P>>,
+    passes: Vec<Pass<J>>,
+    talks: u32,
+    destination: Option<&Destination>,
+    net: &mut N,
+) -> Result<Ran<P, J>, NoCrew<P, J>>
+where
+    P::L: Send,
+    N::L: Send,
+    N::P: Send,
+    <N::P as Door>::L: Send,
+    requires many { (vec_len passes ≡ vec_len posts + 1) × (vec_len posts ≤ 64) × (J.seats ≡ vec_len posts + 1) }
+    requires new { AreNew 0 passes.items }
+    requires talks { talks ≤ 2 ^ 26 }
+    requires polls { IfSome destination (λ d. 0 < d.now.outward.polls) }
+
+    ensures many { IfOk result (λ ran. (vec_len ran.crew.doors ≡ vec_len posts) × (vec_len ran.crew.reports ≡ vec_len posts)) }
+    ensures ran { IfOk result (λ ran. HasRun J.start J.run talks (map (λ (post : _). post.rules) posts.items) (map (λ (post : _). P.told post.door) posts.items)
+        (map (λ (door : _). P.told door) ran.crew.doors.items) passes.items ran.crew.passes.items ran.crew.reports.items (option_copied destination.entry)
+        (N.told net.old) (N.told net.new) ran.last) }
+    ensures err { IfErr result (λ none. (none.posts ≡ posts) × (none.passes.items ≡ passes.items) × (net.new ≡ net.old)) }
+{
+    let mut passes = passes;
+    let Some(pass) = passes.pop() else {
+        unreachable!()
+    };
+    let hired = match hire(rt, alloc, shared, posts, passes) {
+        Ok(hired) => hired,
+        Err(NoCrew { posts, mut passes }) => {
+            passes.push_reserved(pass);
+            return Err(NoCrew { posts, passes });
+        }
+    };
+    let seated = Seated { shared, pass, rt };
+    let (mut ran, pass) = run_seated(rt, alloc, talks, destination, net, seated, hired);
+    ran.crew.passes.push_reserved(pass);
+    Ok(ran)
+}
+
+/// Has a worker serve at each of the doors, in a thread of its own where one can be made, and a forwarder beside them where there is a
+/// destination. Each worker ends as its door is shut, after `talks` links, at an accept that fails, or where no memory
+/// is found to give a link back. Once all have ended, the forwarder sees all that they did, and looks once more; then the desk is
+/// closed.
+///
+/// There is one pass for each worker, in the order of the doors, and after them one for the forwarder. The error is want of memory
+/// before the workers begin.
+pub fn serve<
+    P: Door + Drop + Send,
+    D: Disk + Drop + Send,
+    N: Net + Send,
+    J: Naming + Send + Sync,
+    R: Threads + Wait + Sync,
+>(
+    rt: &R,
+    alloc: Global,
+    opened: Opened<D, J>,
+    posts: Vec<Post<P>>,
+    talks: u32,
+    destination: Option<&Destination>,
+    net: &mut N,
+) -> Result<Served<P, D>, Unserved<P, D>>
+where
+    P::L: Send,
+    N::L: Send,
+    N::P: Send,
+    <N::P as Door>::L: Send,
+    requires many { (vec_len opened.passes ≡ vec_len posts + 1) × (vec_len posts ≤ 64) × (J.seats ≡ vec_len posts + 1) }
+    requires new { AreNew 0 opened.passes.items }
+    requires talks { talks ≤ 2 ^ 26 }
+    requires polls { IfSome destination (λ d. 0 < d.now.outward.polls) }
+
+    ensures many { IfOk result (λ served. (vec_len served.doors ≡ vec_len posts) × (vec_len served.reports ≡ vec_len posts)) }
+    ensures served { IfOk result (λ served. HasServed D.tells J.start J.run J.seats J.began talks (map (λ (post : _). post.rules) posts.items)
+        (map (λ (post : _). P.told post.door) posts.items) (map (λ (door : _). P.told door) served.doors.items) served.reports.items
+        (option_copied destination.entry) (N.told net.old) (N.told net.new) served.last (desk_at served.desk)) }
+    ensures err { IfErr result (λ unserved. (unserved.posts ≡ posts) × (net.new ≡ net.old)
+        × HasNotServed D.tells J.start J.run J.seats J.began (desk_at unserved.desk)) }
+{
+    let Opened { shared, passes } = opened;
+    match run(rt, alloc, &shared, posts, passes, talks, destination, net) {
+        Ok(Ran { crew, last }) => {
+            let Crew {
+                doors,
+                passes,
+                reports,
+            } = crew;
+            Ok(Served {
+                desk: shared.close(passes),
+                doors,
+                reports,
+                last,
+            })
+        }
+        Err(NoCrew { posts, passes }) => Err(Unserved {
+            desk: shared.close(passes),
+            posts,
+        }),
+    }
+}

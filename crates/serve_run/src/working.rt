@@ -1,0 +1,104 @@
+//! Workers that work until they have ended, alone or beside a task.
+ghost use Rattle.std.specs.Prelude.{◌≡◌, ◌^◌, ◌<◌, ◌≤◌, length, map, vec_len};
+ghost use Rattle.std.specs.Vec.{vec_capacity};
+ghost use Rattle.serve_workers.specs.Crews.{AreNew, HaveWorked};
+
+use edge_disk::Disk;
+use edge_io::Door;
+use serve_workers::{Crew, Hired};
+use spool_turns::Naming;
+use std::alloc::Global;
+use std::sync::Wait;
+use std::sync::atomic::{AtomicBool, Ordering};
+use std::thread::{Threads, join};
+
+/// What is done once, in a thread of its own. What it leaves is its output, and in it each `&mut` that it was lent.
+pub(crate) trait Task {
+    /// What it leaves.
+    type Output;
+
+    /// It may be done.
+    ghost can_run: { Self → Type 0 };
+
+    /// It left this.
+    ghost leaves: { Self → Self.Output → Type 0 };
+
+    /// Does it.
+    fn run(self) -> Self::Output
+        requires { can_run self }
+        ensures { leaves self result };
+}
+
+/// Has the workers work until they have ended, and dismisses them.
+pub(crate) fn work_alone<
+    P: Door + Drop + Send,
+    D: Disk + Drop + Send,
+    J: Naming + Send + Sync,
+    R: Threads + Wait + Sync,
+>(rt: &R, alloc: Global, talks: u32, hired: Hired<'_, P, D, J, R>) -> Crew<P, J>
+where
+    P::L: Send,
+    requires new { AreNew 0 hired.passes }
+    requires talks { talks ≤ 2 ^ 26 }
+
+    ensures worked { HaveWorked J.start J.run talks hired.entry.rules hired.entry.doors hired.entry.passes (map (λ (door : _). P.told door) result.doors.items)
+        result.passes.items result.reports.items }
+    ensures many { (vec_len result.doors ≡ length hired.entry.passes) × (vec_len result.passes ≡ length hired.entry.passes)
+        × (vec_len result.reports ≡ length hired.entry.passes) }
+    ensures room { vec_len result.passes < vec_capacity result.passes }
+{
+    let mut hired = hired;
+    hired.work(rt, alloc, talks);
+    hired.dismiss()
+}
+
+/// Has the workers work, and the task done beside them, in a thread of its own. Where none can be made the task comes last, when the
+/// workers have ended. `ended` is set once they have.
+pub(crate) fn work_beside<
+    S: Task<Output = A> + Send + Drop,
+    A: Send,
+    P: Door + Drop + Send,
+    D: Disk + Drop + Send,
+    J: Naming + Send + Sync,
+    R: Threads + Wait + Sync,
+>(
+    rt: &R,
+    alloc: Global,
+    talks: u32,
+    task: S,
+    hired: Hired<'_, P, D, J, R>,
+    ended: &AtomicBool,
+) -> (A, Crew<P, J>)
+where
+    P::L: Send,
+    requires task { S.can_run task }
+    requires new { AreNew 0 hired.passes }
+    requires talks { talks ≤ 2 ^ 26 }
+
+    ensures task { S.leaves task result.0 }
+    ensures worked { HaveWorked J.start J.run talks hired.entry.rules hired.entry.doors hired.entry.passes (map (λ (door : _). P.told door) result.1.doors.items)
+        result.1.passes.items result.1.reports.items }
+    ensures many { (vec_len result.1.doors ≡ length hired.entry.passes) × (vec_len result.1.passes ≡ length hired.entry.passes)
+        × (vec_len result.1.reports ≡ length hired.entry.passes) }
+    ensures room { vec_len result.1.passes < vec_capacity result.1.passes }
+{
+    join(
+        rt,
+        move || -> A
+            requires { S.can_run task }
+            ensures { S.leaves task result }
+        { task.run() },
+        move || -> Crew<P, J>
+            requires { AreNew 0 hired.passes × (talks ≤ 2 ^ 26) }
+            ensures worked { HaveWorked J.start J.run talks hired.entry.rules hired.entry.doors hired.entry.passes (map (λ (door : _). P.told door) result.doors.items)
+                result.passes.items result.reports.items }
+            ensures many { (vec_len result.doors ≡ length hired.entry.passes) × (vec_len result.passes ≡ length hired.entry.passes)
+                × (vec_len result.reports ≡ length hired.entry.passes) }
+            ensures room { vec_len result.passes < vec_capacity result.passes }
+        {
+            let crew = work_alone(rt, alloc, talks, hired);
+            ended.store(true, Ordering::SeqCst);
+            crew
+        },
+    )
+}
