@@ -1,0 +1,214 @@
+-- What was acknowledged over a link is durable.
+use Rattle.std.proofs.Common.{◌≡◌, inl, inr, ℕ, ◌+◌, ◌<◌, ◌==◌, arith, Bool, true, false, cond, List, [], ◌∷◌, ◌++◌, length, get_or, Option, refl, sym, ap, ◌∙◌, subst, append_assoc}
+use Rattle.std.specs.Prelude.{Some, Ok, Err}
+use Rattle.std.specs.List.{All, AllZip, Contains}
+use Rattle.std.proofs.lemmas.Bool.{eqb-true}
+use Rattle.std.proofs.lemmas.List.Elements.{All-nil, All-cons, All-head, All-tail, All-contains, Contains-append_left, Contains-append_right}
+use Rattle.event_form.specs.declared.event.Entry.{Entry}
+use Rattle.event_form.specs.declared.talk.Talk.{Talk}
+use Rattle.edge_io.specs.Door.{Talked}
+use Rattle.edge_io.specs.declared.proto.Proto.{Proto}
+use Rattle.edge_io.specs.declared.proto.Proto.TheVariants.{Relp, Lumberjack, Hec}
+use Rattle.edge_disk.specs.Disk.{Moment}
+use Rattle.spool_state.specs.SpoolState.{SpoolState}
+use Rattle.spool_state.specs.Image.{StandsFor}
+use Rattle.desk_access.specs.Call.{Call, takes, asks, Record, own_of, calls_of}
+use Rattle.desk_access.specs.Desk.{DeskState, Goes}
+use Rattle.desk_access.specs.History.{IsDesk, AllKept}
+use Rattle.desk_access.specs.Journal.{calls_then, goes_parts}
+use Rattle.desk_access.specs.Legal.{AddsGroups, IsLegal, Met, IsStoredBy, IsStored}
+use Rattle.desk_access.proofs.Lasting.{kept_parts}
+use Rattle.desk_access.proofs.Told.{told_was_taken}
+use Rattle.hec_session.specs.declared.tokens.Tokens.{Tokens}
+use Rattle.conn_serve.specs.declared.rules.Rules.{Rules}
+use Rattle.conn_serve.specs.Groups.{Group, groups_by, groups_of}
+use Rattle.conn_serve.specs.Acked.{Acknowledges, AreOfFirst}
+use Rattle.conn_serve.specs.HecAcked.{AcknowledgesGroup, TellsTrue, IsOfId}
+use Rattle.conn_serve.specs.Hec.{hec}
+use Rattle.conn_serve.specs.Serves.{CarriedAs}
+use Rattle.conn_serve.specs.Tokens.{tokens_of}
+use Rattle.conn_serve.proofs.Acknowledged.{acked_is_taken}
+use Rattle.conn_serve.proofs.HecAcks.{acknowledged_is_taken, said_lies_whole}
+use Rattle.desk_access.specs.Carried.{Carried}
+use Rattle.serve_workers.specs.Served.{Served, calls_in, IsServed, AreServed, Tells, TellsMore}
+use Rattle.serve_laws.specs.Durable.{IsGroupKept, AreDurable, AckedIsDurable, IsTakenDurably, IsToldTrue, IsToldDurably, AnswersAreDurable, IsLinkDurable, IsTalkDurable}
+use Rattle.serve_laws.proofs.Ids.{id_whole}
+
+-- ---- groups that are kept
+
+-- each group that was taken is kept
+pub groups_kept : (s : SpoolState) (calls : List Call) → AllKept s calls → All (IsGroupKept s) (groups_of calls)
+groups_kept s [] k = All-nil (IsGroupKept s)
+groups_kept s (takes entries (Ok receipt) ∷ calls) k = All-cons (IsGroupKept s) (record { first = receipt.first; entries = entries }) (groups_of calls) k.0 (groups_kept s calls k.1)
+groups_kept s (takes entries (Err fault) ∷ calls) k = groups_kept s calls k.1
+groups_kept s (call ∷ calls) k = groups_kept s calls k.1
+
+first_kept : (s : SpoolState) (groups more : List Group) → All (IsGroupKept s) (groups ++ more) → All (IsGroupKept s) groups
+first_kept s [] more k = All-nil (IsGroupKept s)
+first_kept s (g ∷ groups) more k = All-cons (IsGroupKept s) g groups (All-head (IsGroupKept s) g (groups ++ more) k) (first_kept s groups more (All-tail (IsGroupKept s) g (groups ++ more) k))
+
+-- the calls of one caller are among those of the journal
+own_kept : (s : SpoolState) (number : ℕ) (log : List Record) → AllKept s (calls_of log) → AllKept s (own_of number log)
+own_kept s number [] k = tt
+own_kept s number (one ∷ log) k = by (one.by == number) (own_kept s number log k.1) where
+  by : (b : Bool) → AllKept s (own_of number log) → AllKept s (cond b (one.call ∷ own_of number log) (own_of number log))
+  by true rest = (k.0, rest)
+  by false rest = rest
+
+-- Whatever a crash leaves now stands for a spool that keeps what these calls took.
+abbrev pub KeepsCalls : Moment → List Call → Type 0
+KeepsCalls now calls = (c : List ℕ) → now.image c → (s : SpoolState) × StandsFor s c × AllKept s calls
+
+-- so does one that keeps more
+keeps_some : (now : Moment) (calls some : List Call) → ((s : SpoolState) → AllKept s calls → AllKept s some) → KeepsCalls now calls → KeepsCalls now some
+keeps_some now calls some part keeps = λ c image. let k = keeps c image in (k.0, k.1, part k.0 k.2)
+
+-- one of the groups that were taken
+one_durable : (now : Moment) (calls : List Call) (group : Group) → KeepsCalls now calls → Contains (groups_of calls) group → AreDurable now (group ∷ [])
+one_durable now calls group keeps taken = λ c image.
+    let k = keeps c image in
+    (k.0, k.1, All-cons (IsGroupKept k.0) group [] (All-contains (IsGroupKept k.0) (groups_of calls) group (groups_kept k.0 calls k.2) taken) (All-nil (IsGroupKept k.0)))
+
+-- ---- acknowledged by numbers, and by Success
+
+pub acked_durably : (proto : Proto) (tokens : Tokens) (conn : ℕ) (left : Option (List ℕ)) (b : List ℕ) (calls : List Call) (text : List ℕ) (talk : Talk) (now : Moment) (numbers : List ℕ) → CarriedAs proto tokens conn left b calls text talk
+    → KeepsCalls now calls → Acknowledges proto text numbers → AckedIsDurable calls now numbers
+acked_durably proto tokens conn left b calls text talk now numbers carried keeps says =
+    let taken : AreOfFirst calls numbers = acked_is_taken proto tokens conn left b calls text talk carried numbers says in record {
+      taken = taken;
+      durable = λ c image.
+          let k = keeps c image in
+          (k.0, k.1, first_kept k.0 taken.groups taken.more (subst (All (IsGroupKept k.0)) taken.taken (groups_kept k.0 calls k.2)));
+    }
+
+pub stored_durably : (tokens : Tokens) (conn : ℕ) (left : Option (List ℕ)) (b : List ℕ) (calls : List Call) (text : List ℕ) (talk : Talk) (now : Moment) (carried : Carried (hec tokens conn) left b calls text talk)
+    → KeepsCalls now calls → (group : Group) → AcknowledgesGroup carried group → IsTakenDurably calls now group
+stored_durably tokens conn left b calls text talk now carried keeps group says =
+    let taken = acknowledged_is_taken tokens conn left b calls text talk carried group says in record { taken = taken; durable = one_durable now calls group keeps taken }
+
+-- ---- an id that is told true
+
+-- where a call of a caller stands in the journal
+record Place (number : ℕ) (log : List Record) (call : Call) : Type 0 where
+  before : List Record
+  one : Record
+  after : List Record
+  parts : log ≡ before ++ one ∷ after
+  by : one.by ≡ number
+  is : one.call ≡ call
+
+place_behind : (number : ℕ) (first : Record) (log : List Record) (call : Call) → Place number log call → Place number (first ∷ log) call
+place_behind number first log call p = record { before = first ∷ p.before; one = p.one; after = p.after; parts = ap (λ (l : List Record). first ∷ l) p.parts; by = p.by; is = p.is }
+
+place_of : (number : ℕ) (log : List Record) (first : List Call) (call : Call) (more : List Call) → own_of number log ≡ first ++ call ∷ more → Place number log call
+place_of number [] [] call more is = absurd (cc is)
+place_of number [] (one ∷ first) call more is = absurd (cc is)
+place_of number (one ∷ log) first call more is = by (λ (rest : List Call) (same : own_of number log ≡ rest ++ call ∷ more). place_of number log rest call more same) (one.by == number) refl first is where
+  by : ((rest : List Call) → own_of number log ≡ rest ++ call ∷ more → Place number log call) → (b : Bool) → (one.by == number) ≡ b → (first : List Call)
+      → cond b (one.call ∷ own_of number log) (own_of number log) ≡ first ++ call ∷ more → Place number (one ∷ log) call
+  by behind true same [] is = record { before = []; one = one; after = log; parts = refl; by = eqb-true one.by number same; is = cc is }
+  by behind true same (other ∷ first) is = place_behind number one log call (behind first (cc is))
+  by behind false same first is = place_behind number one log call (behind first is)
+
+-- a take of entries of a unit took a group of it
+here_stored : (call : Call) (id : ℕ) → IsStoredBy id call → (group : Group) × Contains (groups_by call) group × IsOfId id group
+here_stored (takes entries (Ok receipt)) id (some, unit) = let group : Group = record { first = receipt.first; entries = entries } in (group, (0, omega arith, refl), record { some = some; unit = unit })
+here_stored (takes entries (Err fault)) id never = absurd never
+here_stored call id never = absurd never
+
+stored_group : (calls : List Call) (id : ℕ) → IsStored calls id → (group : Group) × Contains (groups_of calls) group × IsOfId id group
+stored_group [] id never = absurd never
+stored_group (call ∷ calls) id (inl here) = let g = here_stored call id here in (g.0, Contains-append_left (groups_by call) (groups_of calls) g.0 g.1, g.2)
+stored_group (call ∷ calls) id (inr there) = let g = stored_group calls id there in (g.0, Contains-append_right (groups_by call) (groups_of calls) g.0 g.1, g.2)
+
+met_first : (run confirming : ℕ) (before log more : List Record) → Met run confirming before (log ++ more) → Met run confirming before log
+met_first run confirming before [] more m = tt
+met_first run confirming before (one ∷ log) more m = (m.0, met_first run confirming (before ++ one ∷ []) log more m.1)
+
+-- of the desk from which the journal went
+module _ (x y : DeskState) (confirming : ℕ) (log : List Record) (rules : IsDesk x) (none : x.ids.held ≡ []) (goes : Goes x log y) (met : Met x.spool.run confirming [] log) (legal : (groups : List (List Entry)) → AddsGroups (calls_of log) groups → IsLegal x.spool.run groups) (now : Moment) (keeps : KeepsCalls now (calls_of log)) where
+  -- an id for which a question of the journal was answered true
+  told_at : (number channel id : ℕ) (before : List Record) (one : Record) (after : List Record) (ids : List ℕ) (known : List Bool) (k : ℕ) → log ≡ before ++ one ∷ after → one.by ≡ number
+      → one.call ≡ asks channel ids known → k < length ids → get_or ids k 0 ≡ id → get_or known k false ≡ true → IsToldDurably log number now channel id
+  told_at number channel id before one after ids known k parts by is short is_id told =
+      let asked : Record = record { by = one.by; call = asks channel ids known; met = one.met; after = one.after } in
+      let same : one ≡ asked = λ i. record { by = one.by; call = is i; met = one.met; after = one.after } in
+      let whole : log ≡ (before ++ one ∷ []) ++ after = parts ∙ sym (append_assoc before (one ∷ []) after) in
+      let first = goes_parts x y (before ++ one ∷ []) after (subst (λ (l : List Record). Goes x l y) whole goes) in
+      let met_before = met_first x.spool.run confirming [] before (one ∷ after) (subst (Met x.spool.run confirming []) parts met) in
+      let found = told_was_taken x first.0 before confirming one.by channel ids known one.met one.after k rules none (subst (λ (r : Record). Goes x (before ++ r ∷ []) first.0) same first.1) met_before short told in
+      let g = stored_group (own_of found.0 before) id (subst (IsStored (own_of found.0 before)) is_id found.1) in
+      record {
+        before = before;
+        question = one;
+        after = after;
+        parts = parts;
+        by = by;
+        told = subst (IsToldTrue channel id) (sym is) (refl, (k, short, is_id, told));
+        taker = found.0;
+        group = g.0;
+        of_id = g.2;
+        taken = g.1;
+        durable = one_durable now (own_of found.0 before) g.0
+            (keeps_some now (calls_of log) (own_of found.0 before)
+            (λ s kept. own_kept s found.0 before (kept_parts s (calls_of before) (calls_of (one ∷ after)) (subst (AllKept s) (ap calls_of parts ∙ calls_then before (one ∷ after)) kept)).0) keeps) g.1;
+        whole = λ large added adds. id_whole x.spool.run found.0 id log before (one ∷ after) g.0 added parts g.1 g.2 large legal adds;
+      }
+
+  -- one for which a reply of a connection was, whose calls are among the caller's
+  told_durably : (number : ℕ) (first behind : List Call) (tokens : Tokens) (conn : ℕ) (left : Option (List ℕ)) (b : List ℕ) (calls : List Call) (text : List ℕ) (talk : Talk) (carried : Carried (hec tokens conn) left b calls text talk)
+      → own_of number log ≡ first ++ (calls ++ behind) → (channel id : ℕ) → TellsTrue carried channel id → IsToldDurably log number now channel id
+  told_durably number first behind tokens conn left b calls text talk carried own channel id (made, said, is_said, (ids, known, closing, k, asked, answered, short, is_id, told)) =
+      let w = said_lies_whole tokens conn left b calls text talk carried made said is_said in
+      let call = asks channel ids known in
+      let parts : own_of number log ≡ (first ++ w.first) ++ call ∷ (w.more ++ behind) =
+      own ∙ ap (λ (l : List Call). first ++ (l ++ behind)) (w.calls_are ∙ ap (λ (l : List Call). w.first ++ (l ++ w.more)) asked)
+      ∙ ap (λ (l : List Call). first ++ l) (append_assoc w.first (call ∷ w.more) behind)
+      ∙ sym (append_assoc first w.first (call ∷ (w.more ++ behind))) in
+      let p = place_of number log (first ++ w.first) call (w.more ++ behind) parts in
+      told_at number channel id p.before p.one p.after ids known k p.parts p.by p.is short is_id told
+
+  -- ---- a link
+
+  answers : (number : ℕ) (first behind : List Call) (proto : Proto) (tokens : Tokens) (conn : ℕ) (left : Option (List ℕ)) (b : List ℕ) (calls : List Call) (text : List ℕ) (talk : Talk) (carried : CarriedAs proto tokens conn left b calls text talk)
+      → own_of number log ≡ first ++ (calls ++ behind) → KeepsCalls now calls → AnswersAreDurable proto tokens conn left b calls text talk carried log number now
+  answers number first behind Relp tokens conn left b calls text talk carried own kept = tt
+  answers number first behind Lumberjack tokens conn left b calls text talk carried own kept = tt
+  answers number first behind Hec tokens conn left b calls text talk carried own kept = record {
+    stored = stored_durably tokens conn left b calls text talk now carried kept;
+    told = told_durably number first behind tokens conn left b calls text talk carried own;
+  }
+
+  link_durable : (number : ℕ) (first behind : List Call) (by : Rules) (one : Served) → IsServed by one → own_of number log ≡ first ++ (one.calls ++ behind) → IsLinkDurable log number now by one
+  link_durable number first behind by one served own =
+      let kept = keeps_some now (calls_of log) one.calls
+      (λ s k. (kept_parts s one.calls behind (kept_parts s first (one.calls ++ behind) (subst (AllKept s) own (own_kept s number log k))).1).0) keeps in
+      record {
+        acked = λ numbers says. acked_durably by.proto (tokens_of by) one.conn one.left one.bytes one.calls one.text one.talk now numbers served kept says;
+        answers = λ carried. answers number first behind by.proto (tokens_of by) one.conn one.left one.bytes one.calls one.text one.talk carried own kept;
+      }
+
+  pub links_durable : (number : ℕ) (before : List Call) (by : Rules) (conn : ℕ) (links : List Served) → AreServed by conn links → own_of number log ≡ before ++ calls_in links → All (IsLinkDurable log number now by) links
+  links_durable number before by conn [] served own = All-nil (IsLinkDurable log number now by)
+  links_durable number before by conn (one ∷ links) served own =
+      All-cons (IsLinkDurable log number now by) one links (link_durable number before (calls_in links) by one served.1 own)
+      (links_durable number (before ++ one.calls) by (conn + 1) links served.2 (own ∙ sym (append_assoc before one.calls (calls_in links))))
+
+-- ---- what a door tells
+
+tells_durable : (log : List Record) (number : ℕ) (now : Moment) (rules : Rules) (links : List Served) (told : List Talked) → AllZip (Tells rules) links told → All (IsLinkDurable log number now rules) links → All (IsTalkDurable log number now rules) told
+tells_durable log number now rules [] [] zip all = All-nil (IsTalkDurable log number now rules)
+tells_durable log number now rules (one ∷ links) (talk ∷ told) zip all =
+    let P = IsLinkDurable log number now rules in
+    let link = All-head P one links all in
+    All-cons (IsTalkDurable log number now rules) talk told
+    (record { one = one; tells = zip.0; link = link; acked = λ numbers says. link.acked numbers (subst (λ (l : List ℕ). Acknowledges rules.proto l numbers) zip.0.written says) })
+    (tells_durable log number now rules links told zip.1 (All-tail P one links all))
+tells_durable log number now rules links told zip all = absurd zip
+
+-- Where a door tells its connections, those that it tells more are durable.
+pub talks_durable : (log : List Record) (number : ℕ) (now : Moment) (rules : Rules) (finished : List Served) (old new : Option (List Talked)) (before : List Talked) → TellsMore rules finished old new → old ≡ Some before
+    → All (IsLinkDurable log number now rules) finished → (more : List Talked) × (new ≡ Some (before ++ more)) × All (IsTalkDurable log number now rules) more
+talks_durable log number now rules finished old new before tells is all =
+    let t = subst (λ (o : Option (List Talked)). TellsMore rules finished o new) is tells in
+    (t.0, t.2, tells_durable log number now rules finished t.0 t.1 all)

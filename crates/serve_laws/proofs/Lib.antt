@@ -1,0 +1,13 @@
+pub mod Parts
+pub mod Contributing
+pub mod Ids
+pub mod Durable
+pub mod Order
+pub mod Counting
+pub mod Behind
+pub mod Drained
+pub mod Leaving
+pub mod Meeting
+pub mod Whole
+pub mod Taken
+pub mod Runs

@@ -1,0 +1,123 @@
+-- What a crash leaves of what a link contributed.
+use Rattle.std.proofs.Common.{◌≡◌, ◌⊎◌, inl, inr, ℕ, zero, suc, ◌+◌, ◌*◌, ◌-◌, ◌^◌, ◌<◌, ◌≤◌, ◌==◌, Bool, true, false, cond, List, [], ◌∷◌, ◌++◌, drop, refl, sym, ap, ◌∙◌, subst, arith, append_assoc}
+use Rattle.std.specs.Prelude.{All, Ok, Err}
+use Rattle.std.proofs.lemmas.List.Elements.{All-nil, All-cons, All-append, All-drop}
+use Rattle.event_form.specs.declared.event.Entry.{Entry}
+use Rattle.spool_state.specs.SpoolState.{SpoolState, base, list}
+use Rattle.spool_log.specs.declared.fault.TakeFault.TheVariants as Take
+use Rattle.desk_access.specs.Call.{Call, takes, Record, calls_of}
+use Rattle.desk_access.specs.Desk.{DeskState}
+use Rattle.desk_access.specs.History.{Adds, AddsAll, Grows, Was, written_by, written_next}
+use Rattle.desk_access.specs.Batch.{IsPlain}
+use Rattle.desk_access.specs.Legal.{AddsGroups, IsLegal, of_conn}
+use Rattle.spool_turns.specs.Whole.{OpensLegal, AreEarlier}
+use Rattle.spool_turns.proofs.Picks.{conn_both, conn_none}
+use Rattle.conn_serve.specs.declared.rules.Rules.{Rules}
+use Rattle.serve_workers.specs.Served.{Served, AreServed}
+use Rattle.serve_workers.specs.Works.{first_conn}
+use Rattle.serve_laws.specs.Contributes.{BeginsInOrder, Contributes, StandsInOrder}
+use Rattle.serve_laws.proofs.Contributing.{in_groups}
+
+conns_from : (rules : Rules) (first : ℕ) (links : List Served) → AreServed rules first links → All (λ (one : Served). first ≤ one.conn) links
+conns_from rules first [] served = All-nil (λ (one : Served). first ≤ one.conn)
+conns_from rules first (one ∷ links) served = All-cons (λ (s : Served). first ≤ s.conn) one links (omega (arith, served.0)) (λ k d lt. omega (arith, conns_from rules (first + 1) links served.2 k d lt))
+
+-- where first entries are gone, so are first ones of the connection
+conn_drop : (conn n : ℕ) (xs : List Entry) → (gone : ℕ) × (of_conn conn (drop n xs) ≡ drop gone (of_conn conn xs))
+conn_drop conn zero xs = (0, refl)
+conn_drop conn (suc n) [] = (0, refl)
+conn_drop conn (suc n) (x ∷ xs) = by (x.conn == conn) (conn_drop conn n xs) where
+  by : (b : Bool) → (gone : ℕ) × (of_conn conn (drop n xs) ≡ drop gone (of_conn conn xs)) → (gone : ℕ) × (of_conn conn (drop n xs) ≡ drop gone (cond b (x ∷ of_conn conn xs) (of_conn conn xs)))
+  by true rest = (suc rest.0, rest.1)
+  by false rest = rest
+
+pub links_in_order : (x : DeskState) (run number : ℕ) (rules : Rules) (log : List Record) (links : List Served) (s : SpoolState) → x.spool.run ≡ run → AreServed rules (first_conn run number) links
+    → ((added : List Entry) → AddsAll (calls_of log) added → All (λ (one : Served). Contributes one (of_conn one.conn added)) links) → Grows x (calls_of log) s → OpensLegal x → All (λ (one : Served). StandsInOrder one (list s)) links
+links_in_order x run number rules log links s of_run served contribute grows opens = λ k d lt.
+    in_order _ (contribute grows.more grows.adds k d lt) (conns_from rules (first_conn run number) links served k d lt)
+  where
+    in_order : (one : Served) → Contributes one (of_conn one.conn grows.more) → first_conn run number ≤ one.conn → StandsInOrder one (list s)
+    in_order one contributes from =
+        let earlier = (opens grows.mended grows.one).1 in
+        let none = conn_none one.conn (list grows.mended) (λ k d lt is. omega (arith, is, from, of_run, earlier.conns k d lt)) in
+        let all : of_conn one.conn (list grows.mended ++ grows.more) ≡ of_conn one.conn grows.more = conn_both one.conn (list grows.mended) grows.more ∙ ap (λ (l : List Entry). l ++ of_conn one.conn grows.more) none in
+        let dropped = conn_drop one.conn (base s - base grows.mended) (list grows.mended ++ grows.more) in
+        record {
+          contributed = of_conn one.conn grows.more;
+          contributes = contributes;
+          gone = dropped.0;
+          are = ap (of_conn one.conn) grows.grown.list_is ∙ dropped.1 ∙ ap (λ (l : List Entry). drop dropped.0 l) all;
+        }
+
+-- ---- at a moment on the way
+
+-- what a call may have written it may have added
+wrote : (call : Call) → Adds call (written_by call)
+wrote (takes group (Ok receipt)) = refl
+wrote (takes group (Err Take.DiskFault)) = inr refl
+wrote call = refl
+
+-- some entries that calls may have added
+some_added : (calls : List Call) → (entries : List Entry) × AddsAll calls entries
+some_added [] = ([], refl)
+some_added (call ∷ calls) = let rest = some_added calls in (written_by call ++ rest.0, (written_by call, rest.0, wrote call, rest.1, refl))
+
+-- the next call's group, or nothing yet, and then some
+next_added : (calls : List Call) (next : List Entry) → (next ≡ []) ⊎ (next ≡ written_next calls) → (more : List Entry) × AddsAll calls (next ++ more)
+next_added calls next (inl none) = let some = some_added calls in (some.0, subst (λ (l : List Entry). AddsAll calls (l ++ some.0)) (sym none) some.1)
+next_added [] next (inr none) = ([], ap (λ (l : List Entry). l ++ []) none)
+next_added (call ∷ calls) next (inr here) =
+    let rest = some_added calls in
+    (rest.0, subst (λ (l : List Entry). AddsAll (call ∷ calls) (l ++ rest.0)) (sym here) (written_by call, rest.0, wrote call, rest.1, refl))
+
+added_then : (calls more : List Call) (xs ys : List Entry) → AddsAll calls xs → AddsAll more ys → AddsAll (calls ++ more) (xs ++ ys)
+added_then [] more xs ys a b = subst (λ (l : List Entry). AddsAll more (l ++ ys)) (sym a) b
+added_then (call ∷ calls) more xs ys (here, rest, added, others, is) b =
+    (here, rest ++ ys, added, added_then calls more rest ys others b, ap (λ (l : List Entry). l ++ ys) is ∙ append_assoc here rest ys)
+
+pub links_were_in_order : (x : DeskState) (run number : ℕ) (rules : Rules) (log : List Record) (links : List Served) (c : List ℕ) → x.spool.run ≡ run → AreServed rules (first_conn run number) links
+    → ((added : List Entry) → AddsAll (calls_of log) added → All (λ (one : Served). Contributes one (of_conn one.conn added)) links) → (w : Was x (calls_of log) c) → OpensLegal x → All (λ (one : Served). BeginsInOrder one (list w.state)) links
+links_were_in_order x run number rules log links c of_run served contribute w opens = λ k d lt.
+    in_order _ (contribute ((w.more ++ w.next) ++ behind.0) whole k d lt) (conns_from rules (first_conn run number) links served k d lt)
+  where
+    behind : (more : List Entry) × AddsAll w.rest (w.next ++ more)
+    behind = next_added w.rest w.next w.whole
+
+    whole : AddsAll (calls_of log) ((w.more ++ w.next) ++ behind.0)
+    whole =
+        subst (λ (l : List Call). AddsAll l ((w.more ++ w.next) ++ behind.0)) (sym w.parts)
+        (subst (AddsAll (w.first ++ w.rest)) (sym (append_assoc w.more w.next behind.0)) (added_then w.first w.rest w.more (w.next ++ behind.0) w.adds behind.1))
+
+    in_order : (one : Served) → Contributes one (of_conn one.conn ((w.more ++ w.next) ++ behind.0)) → first_conn run number ≤ one.conn → BeginsInOrder one (list w.state)
+    in_order one contributes from =
+        let earlier = (opens w.mended w.one).1 in
+        let none = conn_none one.conn (list w.mended) (λ k d lt is. omega (arith, is, from, of_run, earlier.conns k d lt)) in
+        let all : of_conn one.conn (list w.mended ++ (w.more ++ w.next)) ≡ of_conn one.conn (w.more ++ w.next) = conn_both one.conn (list w.mended) (w.more ++ w.next) ∙ ap (λ (l : List Entry). l ++ of_conn one.conn (w.more ++ w.next)) none in
+        let dropped = conn_drop one.conn (base w.state - base w.mended) (list w.mended ++ (w.more ++ w.next)) in
+        record {
+          contributed = of_conn one.conn ((w.more ++ w.next) ++ behind.0);
+          contributes = contributes;
+          begun = of_conn one.conn (w.more ++ w.next);
+          later = of_conn one.conn behind.0;
+          parts = conn_both one.conn (w.more ++ w.next) behind.0;
+          gone = dropped.0;
+          are = ap (of_conn one.conn) w.grown.list_is ∙ dropped.1 ∙ ap (λ (l : List Entry). drop dropped.0 l) all;
+        }
+
+-- The list that is left is of runs up to this one.
+pub earlier_again : (x : DeskState) (run : ℕ) (log : List Record) (s : SpoolState) → x.spool.run ≡ run → ((groups : List (List Entry)) → AddsGroups (calls_of log) groups → IsLegal run groups) → Grows x (calls_of log) s → OpensLegal x → AreEarlier (run + 1) (list s)
+earlier_again x run log s of_run legal grows opens =
+    let earlier = (opens grows.mended grows.one).1 in
+    let g = in_groups (calls_of log) grows.more grows.adds in
+    let more = legal g.0 g.1 in
+    let list_is = grows.grown.list_is in
+    let C : Entry → Type 0 = λ entry. entry.conn < (run + 1) * 2 ^ 32 in
+    let U : Entry → Type 0 = λ entry. IsPlain entry ⊎ (entry.unit < (run + 1) * 2 ^ 32) in
+    record {
+      conns = subst (All C) (sym list_is) (All-drop C (base s - base grows.mended) (list grows.mended ++ grows.more) (All-append C (list grows.mended) grows.more
+          (λ k d lt. omega (arith, of_run, earlier.conns k d lt))
+          (subst (All C) (sym g.2) (λ k d lt. omega (arith, more.conns k d lt)))));
+      units = subst (All U) (sym list_is) (All-drop U (base s - base grows.mended) (list grows.mended ++ grows.more) (All-append U (list grows.mended) grows.more
+          (λ k d lt. elim (earlier.units k d lt) [ inl plain ↦ inl plain | inr id ↦ inr (omega (arith, of_run, id)) ])
+          (subst (All U) (sym g.2) (λ k d lt. elim (more.units k d lt) [ inl plain ↦ inl plain | inr id ↦ inr (omega (arith, id.1)) ]))));
+    }

@@ -1,0 +1,137 @@
+-- The laws, from what a run of the server says and from what a closed journal has.
+use Rattle.std.proofs.Common.{◌≡◌, ℕ, ◌-◌, List, [], ◌∷◌, ◌++◌, length, sym, subst, arith}
+use Rattle.std.specs.Prelude.{All}
+use Rattle.std.proofs.lemmas.List.Elements.{All-head}
+use Rattle.event_form.specs.declared.event.Entry.{Entry}
+use Rattle.edge_disk.specs.Disk.{Moment}
+use Rattle.spool_state.specs.SpoolState.{SpoolState}
+use Rattle.spool_log.specs.Stages.{StandsForOne}
+use Rattle.desk_access.specs.Alone.{AloneView}
+use Rattle.desk_access.specs.Call.{Record, calls_of}
+use Rattle.desk_access.specs.Desk.{DeskState}
+use Rattle.desk_access.specs.Legal.{AddsGroups, IsLegal, Met}
+use Rattle.desk_access.proofs.Nexts.{all_left, all_right}
+use Rattle.spool_turns.specs.Passes.{Stands}
+use Rattle.spool_turns.specs.Replays.{HasNumber}
+use Rattle.serve_workers.specs.Works.{first_conn}
+use Rattle.serve_laws.specs.Parts.{links_of}
+use Rattle.serve_laws.specs.Runs.{ServerRun}
+use Rattle.serve_laws.specs.Laws.{AcknowledgedIsDurable, ConnectionsContribute, DiskFaultsAreCounted, DoorsTellDurable, EndCountsEntries, NothingElseIsAdded, NothingIsLeft, OrderIsKept, OrderWasKept, ReportsCountLinks, WorkersHaveParts}
+use Rattle.serve_laws.specs.Durable.{IsLinkDurable}
+use Rattle.serve_laws.specs.Leaves.{IsDone, LeavesNone}
+use Rattle.serve_laws.proofs.Parts.{AsLong, parts_of}
+use Rattle.serve_laws.proofs.Durable.{links_durable, talks_durable}
+use Rattle.serve_laws.proofs.Contributing.{links_contribute}
+use Rattle.serve_laws.proofs.Order.{links_in_order, links_were_in_order, earlier_again}
+use Rattle.serve_laws.proofs.Counting.{disk_faults_counted, reports_counted}
+use Rattle.serve_laws.proofs.Behind.{HaveRun, have_run, last_new, all_numbers}
+use Rattle.serve_laws.proofs.Whole.{all_of_parts}
+use Rattle.serve_laws.proofs.Taken.{end_rises}
+use Rattle.serve_laws.proofs.Meeting.{number_kept, forwarded_leaves}
+
+module _ (tells : Type 0) (start : DeskState → Type 0) (run seats : ℕ) (began : Moment) (new : AloneView) where
+  -- ---- of a closed journal
+
+  pub acknowledged_is_durable : AcknowledgedIsDurable tells start run seats began new
+  acknowledged_is_durable log passes closes talks number rules old new' report part is x s =
+      let b = closes.replays.begins x s in
+      let p = closes.replays.leads x s in
+      links_durable x p.after (seats - 1) log b.rules b.none_held p.goes (subst (λ (r : ℕ). Met r (seats - 1) [] log) (sym b.of_run) closes.met)
+      (subst (λ (r : ℕ). (groups : List (List Entry)) → AddsGroups (calls_of log) groups → IsLegal r groups) (sym b.of_run) (closes.legal x s)) new.spool.moment
+      (λ c image. let k = closes.kept x s c image in (k.state, k.stands, k.kept)) number [] rules (first_conn run number) (links_of part) is.at_door.served is.at_door.calls
+
+  pub doors_tell_durable : DoorsTellDurable tells start run seats began new
+  doors_tell_durable log passes closes talks number rules old new' report part is x s before told =
+      let P = IsLinkDurable log number new.spool.moment rules in
+      talks_durable log number new.spool.moment rules part.finished old.talks new'.talks before is.at_door.talks told
+      (all_left P part.finished part.late (acknowledged_is_durable log passes closes talks number rules old new' report part is x s))
+
+  pub connections_contribute : ConnectionsContribute tells start run seats began new
+  connections_contribute log passes closes talks number rules old new' report part is small few x s added adds =
+      links_contribute run number rules log (links_of part) added small (omega (arith, is.many, few)) is.at_door.served is.at_door.calls (λ groups a. closes.own x s groups a number) adds
+
+  pub order_is_kept : OrderIsKept tells start run seats began new
+  order_is_kept log passes closes talks number rules old new' report part is small few x s opens c image =
+      let k = closes.kept x s c image in
+      let of_run = (closes.replays.begins x s).of_run in (
+        k.state,
+        k.stands,
+        record {
+          kept = k.kept;
+          each = links_in_order x run number rules log (links_of part) k.state of_run is.at_door.served (connections_contribute log passes closes talks number rules old new' report part is small few x s) k.grows opens;
+          legal = k.legal opens;
+          earlier = earlier_again x run log k.state of_run (closes.legal x s) k.grows opens;
+        },
+      )
+
+  pub order_was_kept : OrderWasKept tells start run seats began new
+  order_was_kept log passes closes talks number rules old new' report part is small few x s opens c since =
+      let w = closes.was x s c since in (
+        w.state,
+        w.stands,
+        links_were_in_order x run number rules log (links_of part) c (closes.replays.begins x s).of_run is.at_door.served (connections_contribute log passes closes talks number rules old new' report part is small few x s) w opens,
+      )
+
+  pub disk_faults_are_counted : DiskFaultsAreCounted tells start run seats began new
+  disk_faults_are_counted log passes closes talks rules doors doors' reports parts are =
+      disk_faults_counted run talks log rules doors doors' reports parts began.faults new.spool.moment.faults are closes.replays.cause
+
+  -- ---- of a run
+
+  module _ (r : ServerRun tells start run seats began new) where
+    long : AsLong (length r.rules) r.doors r.served.workers r.doors' r.served.workers' r.reports
+    long = record { doors_are = r.doors_are; passes_are = r.served.count.0; doors'_are = r.doors'_are; passes'_are = r.served.count.1; reports_are = r.reports_are }
+
+    workers_stand : All (Stands r.served.log) r.served.workers'
+    workers_stand = all_left (Stands r.served.log) r.served.workers' (r.served.forwarder' ∷ []) r.served.closes.pass
+
+    forwarder_stands : Stands r.served.log r.served.forwarder'
+    forwarder_stands = All-head (Stands r.served.log) r.served.forwarder' [] (all_right (Stands r.served.log) r.served.workers' (r.served.forwarder' ∷ []) r.served.closes.pass)
+
+    -- its passes came from new ones
+    passes_ran : HaveRun start 0 r.served.workers'
+    passes_ran = have_run start run r.talks 0 r.rules r.doors r.served.workers r.doors' r.served.workers' (r.served.forwarder ∷ []) r.reports long r.served.fresh r.served.worked
+
+    forwarder_new : r.served.forwarder.own ≡ []
+    forwarder_new = (last_new 0 r.served.workers r.served.forwarder r.served.fresh).1
+
+    last_number : r.served.forwarder'.number ≡ length r.served.workers'
+    last_number =
+        let kept = number_kept start r.destination r.served.workers' r.served.forwarder r.served.forwarder' r.net r.net' r.last r.served.forwarded in
+        omega (arith, kept, (last_new 0 r.served.workers r.served.forwarder r.served.fresh).0, r.served.count.0, r.served.count.1)
+
+    -- and each record is of one of them
+    by_passes : All (λ (one : Record). HasNumber (r.served.workers' ++ r.served.forwarder' ∷ []) one.by) r.served.log
+    by_passes =
+        r.served.closes.by_passes (λ n less. all_numbers start 0 r.served.workers' r.served.forwarder' passes_ran (omega (arith, last_number)) n (omega arith) (omega (arith, less, r.seats_are, r.served.count.1)))
+
+    none_left : IsDone r.last → LeavesNone start r.served.log
+    none_left done x y s goes =
+        forwarded_leaves start x y r.served.log s (r.served.closes.replays.begins x s).rules goes r.served.workers' r.served.forwarder r.served.forwarder' r.net r.net' passes_ran forwarder_new
+        workers_stand forwarder_stands by_passes r.destination r.last r.served.forwarded done
+
+  pub workers_have_parts : WorkersHaveParts tells start run seats began new
+  workers_have_parts r =
+      parts_of start run r.talks r.served.log 0 r.rules r.doors r.served.workers r.doors' r.served.workers' (r.served.forwarder ∷ []) r.reports (long r) r.served.fresh (workers_stand r) r.served.worked
+
+  pub nothing_else_is_added : NothingElseIsAdded tells start run seats began new
+  nothing_else_is_added r parts are added adds =
+      all_of_parts start run r.talks r.served.log r.rules r.doors r.doors' r.reports parts r.served.workers' r.served.forwarder r.served.forwarder' r.destination r.net r.net' r.last added are r.served.count.1
+      (passes_ran r) (forwarder_new r) (forwarder_stands r).1 r.served.forwarded (by_passes r) adds
+
+  pub end_counts_entries : EndCountsEntries tells start run seats began new
+  end_counts_entries r parts are x y s sure goes =
+      end_rises start run r.talks r.served.log r.rules r.doors r.doors' r.reports parts r.served.workers' r.served.forwarder r.served.forwarder' r.destination r.net r.net' r.last x y are r.served.count.1
+      (passes_ran r) (forwarder_new r) (forwarder_stands r).1 r.served.forwarded (by_passes r) (last_number r) (r.served.closes.replays.begins x s).rules sure goes
+
+  pub nothing_is_left : NothingIsLeft tells start run seats began new
+  nothing_is_left r done = (
+    none_left r done,
+    λ x s c image.
+        let p = r.served.closes.replays.leads x s in
+        let none = none_left r done x p.after s p.goes in
+        (p.after.spool, subst (λ (doubt : List SpoolState). StandsForOne p.after.spool doubt c) none.doubt (p.reached.spool.each c image), none.left_is, none.cursor),
+  )
+
+pub reports_count_links : ReportsCountLinks
+reports_count_links run talks number log rules doors doors' reports parts are = reports_counted run talks number log rules doors doors' reports parts are

@@ -1,0 +1,152 @@
+-- All that a run's journal added is of its links.
+use Rattle.std.proofs.Common.{◌≡◌, ◌⊎◌, inl, inr, ℕ, ◌+◌, ◌<◌, ◌≤◌, ◌==◌, Bool, true, false, cond, List, [], ◌∷◌, ◌++◌, length, refl, sym, ap, ◌∙◌, subst, arith, eq-eqb}
+use Rattle.std.specs.Prelude.{All, Option, None, Some, Ok, Err}
+use Rattle.std.proofs.lemmas.Bool.{cases_lt}
+use Rattle.std.proofs.lemmas.List.Elements.{All-nil, All-head, All-tail, Contains-append_left, Contains-append_right}
+use Rattle.event_form.specs.declared.event.Entry.{Entry}
+use Rattle.edge_io.specs.Door.{DoorState}
+use Rattle.edge_io.specs.Net.{NetState}
+use Rattle.desk_access.specs.Call.{Call, takes, pends, marks, Record, own_of, calls_of, taken_by}
+use Rattle.desk_access.specs.Desk.{DeskState}
+use Rattle.desk_access.specs.History.{AddsAll, written_by}
+use Rattle.desk_access.proofs.Added.{AllWritten, written_all, groups_all}
+use Rattle.desk_access.proofs.Taking.{all_of_conn}
+use Rattle.conn_serve.specs.declared.rules.Rules.{Rules}
+use Rattle.conn_serve.specs.Numbering.{IsOfConn, AreOfConn}
+use Rattle.conn_serve.specs.Tokens.{tokens_of}
+use Rattle.conn_serve.proofs.Indexing.{calls_are_of_conn}
+use Rattle.forward_core.specs.Calls.{AreOfSession, next_after}
+use Rattle.forward_core.specs.declared.outward.Outward.{Outward}
+use Rattle.spool_turns.specs.Passes.{Known}
+use Rattle.spool_turns.specs.Replays.{HasNumber}
+use Rattle.serve_workers.specs.declared.worker.WorkerReport.{WorkerReport}
+use Rattle.serve_workers.specs.Served.{Served, AreServed, calls_in}
+use Rattle.serve_forwarder.specs.declared.destination.Destination.{Destination}
+use Rattle.serve_forwarder.specs.declared.looking.Outcome.{Outcome}
+use Rattle.serve_forwarder.specs.Looks.{Idle, Unread, Undialed, Held, Found, Look, calls_at, calls_in as calls_found, calls_of as calls_of_looks, IsFound, IsLook, AreLooks}
+use Rattle.serve_forwarder.proofs.Chain.{look_is_ran, looks_are_ran}
+use Rattle.serve_run.specs.Running.{Forwarded}
+use Rattle.serve_laws.specs.Parts.{Part, links_of, AreParts}
+use Rattle.serve_laws.specs.Contributes.{IsOfLink, IsOfParts}
+use Rattle.serve_laws.proofs.Contributing.{in_groups}
+use Rattle.serve_laws.proofs.Behind.{HaveRun}
+
+-- ---- what calls may have written
+
+written_then : (P : Entry → Type 0) (calls more : List Call) → AllWritten P calls → AllWritten P more → AllWritten P (calls ++ more)
+written_then P [] more a b = b
+written_then P (call ∷ calls) more a b = (a.0, written_then P calls more a.1 b)
+
+written_weaker : (P Q : Entry → Type 0) (calls : List Call) → ((entry : Entry) → P entry → Q entry) → AllWritten P calls → AllWritten Q calls
+written_weaker P Q [] weaker a = tt
+written_weaker P Q (call ∷ calls) weaker a = ((λ k d lt. weaker _ (a.0 k d lt)), written_weaker P Q calls weaker a.1)
+
+-- by a connection's calls
+call_written : (conn index : ℕ) (call : Call) → IsOfConn conn index call → All (λ (entry : Entry). entry.conn ≡ conn) (written_by call)
+call_written conn index (takes group result) of = written_all (λ (entry : Entry). entry.conn ≡ conn) group result (all_of_conn conn index group of)
+call_written conn index call of = All-nil (λ (entry : Entry). entry.conn ≡ conn)
+
+conn_written : (conn index : ℕ) (calls : List Call) → AreOfConn conn index calls → AllWritten (λ (entry : Entry). entry.conn ≡ conn) calls
+conn_written conn index [] of = tt
+conn_written conn index (call ∷ calls) of = (call_written conn index call of.0, conn_written conn (index + length (taken_by call)) calls of.1)
+
+links_written : (rules : Rules) (first : ℕ) (links : List Served) → AreServed rules first links → AllWritten (IsOfLink links) (calls_in links)
+links_written rules first [] served = tt
+links_written rules first (one ∷ links) served =
+    written_then (IsOfLink (one ∷ links)) one.calls (calls_in links)
+    (written_weaker (λ (entry : Entry). entry.conn ≡ one.conn) (IsOfLink (one ∷ links)) one.calls (λ entry same. (one, Contains-append_left (one ∷ []) links one (0, omega arith, refl), sym same))
+    (conn_written one.conn 0 one.calls (calls_are_of_conn rules.proto (tokens_of rules) one.conn one.left one.bytes one.calls one.text one.talk served.1)))
+    (written_weaker (IsOfLink links) (IsOfLink (one ∷ links)) (calls_in links) (λ entry of. (of.0, Contains-append_right (one ∷ []) links of.0 of.1, of.2)) (links_written rules (first + 1) links served.2))
+
+parts_written : (run talks : ℕ) (log : List Record) (number : ℕ) (rules : List Rules) (doors doors' : List DoorState) (reports : List WorkerReport) (parts : List Part) → AreParts run talks log number rules doors doors' reports parts
+    → (n : ℕ) → number ≤ n → n < number + length rules → AllWritten (IsOfParts parts) (own_of n log)
+parts_written run talks log number [] [] [] [] [] are n least most = absurd (omega (arith, least, most))
+parts_written run talks log number (by ∷ rules) (old ∷ doors) (new ∷ doors') (report ∷ reports) (part ∷ parts) (one, are) n least most = elim (cases_lt number n) [
+  | inl later ↦
+      written_weaker (IsOfParts parts) (IsOfParts (part ∷ parts)) (own_of n log) (λ entry of. inr of)
+      (parts_written run talks log (number + 1) rules doors doors' reports parts are n (omega (arith, later)) (omega (arith, most)))
+  | inr here ↦
+      let same : number ≡ n = omega (arith, here, least) in
+      subst (λ (k : ℕ). AllWritten (IsOfParts (part ∷ parts)) (own_of k log)) same
+      (written_weaker (IsOfLink (links_of part)) (IsOfParts (part ∷ parts)) (own_of number log) (λ entry of. inl of)
+      (subst (AllWritten (IsOfLink (links_of part))) (sym one.at_door.calls) (links_written by _ (links_of part) one.at_door.served)))
+]
+parts_written run talks log number rules doors doors' reports parts are n least most = absurd are
+
+-- ---- a forwarder writes nothing
+
+module _ (P : Entry → Type 0) where
+  session_written : (end next : ℕ) (calls : List Call) → AreOfSession end next calls → AllWritten P calls
+  session_written end next [] of = tt
+  session_written end next (pends from most (Ok given) ∷ calls) of = (All-nil P, session_written end (next_after end next given) calls of.3)
+  session_written end next (pends from most (Err fault) ∷ calls) of = (All-nil P, subst (AllWritten P) (sym of.3) tt)
+  session_written end next (marks stretches (Ok done) ∷ calls) of = (All-nil P, session_written end next calls of)
+  session_written end next (marks stretches (Err fault) ∷ calls) of = (All-nil P, subst (AllWritten P) (sym of) tt)
+  session_written end next (call ∷ calls) of = absurd of
+
+  module _ (start : DeskState → Type 0) (outward : Outward) (place : List ℕ) where
+    found_written : (look : Look) (found : Found) (a b : Known) → IsFound start outward look.given found a b → AllWritten P (calls_found found)
+    found_written look Idle a b f = tt
+    found_written look (Unread fault) a b f = tt
+    found_written look (Undialed _) a b f = tt
+    found_written look (Held one) a b f = session_written one.until one.start one.calls f.1.ended.session
+
+    look_written : (look : Look) (a b : Known) (net net' : NetState) → IsLook start outward place look a b net net' → AllWritten P (calls_at look)
+    look_written look a b net net' l = (All-nil P, found_written look look.found l.asked b l.found)
+
+    looks_written : (looks : List Look) (a b : Known) (net net' : NetState) → AreLooks start outward place looks a b net net' → AllWritten P (calls_of_looks looks)
+    looks_written [] a b net net' are = tt
+    looks_written (look ∷ looks) a b net net' (between, net_between, first, rest) =
+        written_then P (calls_at look) (calls_of_looks looks) (look_written look a between net net_between first) (looks_written looks between b net_between net' rest)
+
+  pub forwarder_written : (start : DeskState → Type 0) (destination : Option Destination) (workers : List Known) (pass pass' : Known) (net net' : NetState) (last : Option Outcome) → pass.own ≡ [] → Forwarded start destination workers pass pass' net net' last
+      → AllWritten P pass'.own
+  forwarder_written start None workers pass pass' net net' last new f = subst (AllWritten P) (sym f.1) tt
+  forwarder_written start (Some destination) workers pass pass' net net' last new (outcome, is, f) =
+      let first = looks_are_ran start destination.outward destination.place f.looks pass f.beside net f.net_beside f.looked in
+      let more = look_is_ran start destination.outward destination.place f.look f.met pass' f.net_beside net' f.looked_last in
+      let own : pass'.own ≡ calls_of_looks f.looks ++ calls_at f.look = more.own ∙ ap (λ (l : List Call). l ++ calls_at f.look) (f.has_met.own ∙ first.own ∙ ap (λ (l : List Call). l ++ calls_of_looks f.looks) new) in
+      subst (AllWritten P) (sym own)
+      (written_then P (calls_of_looks f.looks) (calls_at f.look) (looks_written start destination.outward destination.place f.looks pass f.beside net f.net_beside f.looked)
+      (look_written start destination.outward destination.place f.look f.met pass' f.net_beside net' f.looked_last))
+
+  -- ---- a journal
+
+  rest_written : (number : ℕ) (one : Record) (log : List Record) → AllWritten P (own_of number (one ∷ log)) → AllWritten P (own_of number log)
+  rest_written number one log a = by (one.by == number) a where
+    by : (b : Bool) → AllWritten P (cond b (one.call ∷ own_of number log) (own_of number log)) → AllWritten P (own_of number log)
+    by true a = a.1
+    by false a = a
+
+  -- where each record is of one of the passes, what their calls may have written is all
+  journal_written : (passes : List Known) (log : List Record) → All (λ (one : Record). HasNumber passes one.by) log → ((n : ℕ) → HasNumber passes n → AllWritten P (own_of n log)) → AllWritten P (calls_of log)
+  journal_written passes [] each own = tt
+  journal_written passes (one ∷ log) each own =
+      let here = subst (λ (b : Bool). AllWritten P (cond b (one.call ∷ own_of one.by log) (own_of one.by log))) (eq-eqb one.by one.by refl)
+      (own one.by (All-head (λ (r : Record). HasNumber passes r.by) one log each)) in
+      (here.0, journal_written passes log (All-tail (λ (r : Record). HasNumber passes r.by) one log each) (λ n has. rest_written n one log (own n has)))
+
+-- the number of a worker's pass, or that of the last
+pub which_pass : (start : DeskState → Type 0) (number : ℕ) (passes : List Known) (last : Known) (n : ℕ) → HaveRun start number passes → HasNumber (passes ++ last ∷ []) n → ((number ≤ n) × (n < number + length passes)) ⊎ (last.number ≡ n)
+which_pass start number [] last n run (inl is) = inr is
+which_pass start number [] last n run (inr never) = absurd never
+which_pass start number (pass ∷ passes) last n run (inl is) = inl (omega (arith, is, run.0.4.number, run.0.2), omega (arith, is, run.0.4.number, run.0.2))
+which_pass start number (pass ∷ passes) last n run (inr has) = elim (which_pass start (number + 1) passes last n run.1 has) [
+  | inl within ↦ inl (omega (arith, within.0), omega (arith, within.1))
+  | inr is ↦ inr is
+]
+
+pub all_of_parts : (start : DeskState → Type 0) (run talks : ℕ) (log : List Record) (rules : List Rules) (doors doors' : List DoorState) (reports : List WorkerReport) (parts : List Part) (workers' : List Known) (forwarder forwarder' : Known)
+    (destination : Option Destination) (net net' : NetState) (last : Option Outcome) (added : List Entry) → AreParts run talks log 0 rules doors doors' reports parts → length workers' ≡ length rules → HaveRun start 0 workers'
+    → forwarder.own ≡ [] → own_of forwarder'.number log ≡ forwarder'.own → Forwarded start destination workers' forwarder forwarder' net net' last → All (λ (one : Record). HasNumber (workers' ++ forwarder' ∷ []) one.by) log
+    → AddsAll (calls_of log) added → All (IsOfParts parts) added
+all_of_parts start run talks log rules doors doors' reports parts workers' forwarder forwarder' destination net net' last added are many run_all new stands forwarded each adds =
+    let P = IsOfParts parts in
+    let g = in_groups (calls_of log) added adds in
+    let written = journal_written P (workers' ++ forwarder' ∷ []) log each (λ n has. elim (which_pass start 0 workers' forwarder' n run_all has) [
+      | inl within ↦ parts_written run talks log 0 rules doors doors' reports parts are n within.0 (omega (arith, within.1, many))
+      | inr is ↦
+          subst (λ (k : ℕ). AllWritten P (own_of k log)) is
+          (subst (AllWritten P) (sym stands) (forwarder_written P start destination workers' forwarder forwarder' net net' last new forwarded))
+    ]) in
+    subst (All P) (sym g.2) (groups_all P (calls_of log) g.0 g.1 written)

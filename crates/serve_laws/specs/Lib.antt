@@ -1,0 +1,6 @@
+pub mod Parts
+pub mod Durable
+pub mod Contributes
+pub mod Leaves
+pub mod Runs
+pub mod Laws

@@ -1,0 +1,29 @@
+-- A run of the server, as it is told.
+use Rattle.std.specs.Prelude.{◌≡◌, ℕ, ◌+◌, List, length, Option}
+use Rattle.edge_disk.specs.Disk.{Moment}
+use Rattle.edge_io.specs.Door.{DoorState}
+use Rattle.edge_io.specs.Net.{NetState}
+use Rattle.desk_access.specs.Alone.{AloneView}
+use Rattle.desk_access.specs.Desk.{DeskState}
+use Rattle.conn_serve.specs.declared.rules.Rules.{Rules}
+use Rattle.serve_workers.specs.declared.worker.WorkerReport.{WorkerReport}
+use Rattle.serve_forwarder.specs.declared.destination.Destination.{Destination}
+use Rattle.serve_forwarder.specs.declared.looking.Outcome.{Outcome}
+use Rattle.serve_run.specs.Running.{HasServed}
+
+-- What `serve` says of a run over a desk that is then so: there are as many doors and reports as workers, and one pass more.
+pub record ServerRun (tells : Type 0) (start : DeskState → Type 0) (run seats : ℕ) (began : Moment) (new : AloneView) : Type 0 where
+  pub talks : ℕ
+  pub rules : List Rules
+  pub doors : List DoorState
+  pub doors' : List DoorState
+  pub reports : List WorkerReport
+  pub destination : Option Destination
+  pub net : NetState
+  pub net' : NetState
+  pub last : Option Outcome
+  pub served : HasServed tells start run seats began talks rules doors doors' reports destination net net' last new
+  pub doors_are : length doors ≡ length rules
+  pub doors'_are : length doors' ≡ length rules
+  pub reports_are : length reports ≡ length rules
+  pub seats_are : seats ≡ length rules + 1

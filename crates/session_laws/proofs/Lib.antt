@@ -1,0 +1,12 @@
+pub mod Leading
+pub mod Coming
+pub mod Entries
+pub mod Sending
+pub mod Knowing
+pub mod Among
+pub mod Holding
+pub mod Parts
+pub mod Journal
+pub mod Dropping
+pub mod Serving
+pub mod Acknowledged

@@ -1,0 +1,182 @@
+-- A session is a part of a journal, over one whole list.
+use Rattle.std.proofs.Common.{◌≡◌, inl, ℕ, ◌<◌, ◌≤◌, List, [], ◌∷◌, ◌++◌, length, take, Option, refl, sym, ◌∙◌, ap, subst, arith, append_assoc}
+use Rattle.std.specs.Prelude.{All}
+use Rattle.std.proofs.lemmas.List.{length-map, length-take}
+use Rattle.known_numbers.specs.Numbers.{Numbers}
+use Rattle.event_form.specs.Entry.{IsEntry}
+use Rattle.event_form.specs.declared.event.Entry.{Entry}
+use Rattle.edge_io.specs.declared.proto.Proto.{Proto}
+use Rattle.spool_state.specs.SpoolState.{IsSound, SpoolState, base, end, list, numbers_of}
+use Rattle.spool_state.specs.Left.{NumberedEntry, left, left_from, numbered, unknown}
+use Rattle.spool_state.proofs.Lefts.{left_from-base, left_from-cursor}
+use Rattle.spool_log.specs.declared.reading.numbered.Numbered.{Numbered}
+use Rattle.spool_log.specs.Outcome.{given_entries}
+use Rattle.spool_log.specs.Stages.{IsOneOf}
+use Rattle.desk_access.specs.Call.{Call, Record, own_of}
+use Rattle.desk_access.specs.Desk.{DeskState, Goes}
+use Rattle.desk_access.specs.History.{Grown, IsDesk}
+use Rattle.desk_access.specs.Legal.{all_of}
+use Rattle.desk_access.proofs.Growth.{grown_then}
+use Rattle.forward_core.specs.Protocols.{EndsAs, HintsAs}
+use Rattle.forward_core.specs.Session.{Ended}
+use Rattle.forward_core.specs.Settings.{Settings}
+use Rattle.forward_core.specs.declared.sent.Sent.{Sent}
+use Rattle.forward_core.proofs.Rest.{left_rise, one_entry}
+use Rattle.serve_forwarder.specs.Sessions.{Session}
+use Rattle.session_laws.specs.Beside.{EndsAmong, KnowsMarked, MarksAlone}
+use Rattle.session_laws.specs.Led.{Led}
+use Rattle.session_laws.specs.Sessions.{AreSent, IsSent, Reach, reach_of}
+use Rattle.session_laws.proofs.Among.{ends_among, one_standing, way}
+use Rattle.session_laws.proofs.Coming.{Reached, comes}
+use Rattle.session_laws.proofs.Entries.{between, between_all, view_more}
+use Rattle.session_laws.proofs.Holding.{IsOn, alone_parts}
+use Rattle.session_laws.proofs.Knowing.{led_end, led_until, NoMarks, all_then, led_grown, led_marked, led_same, led_sound, led_then}
+use Rattle.session_laws.proofs.Sending.{Like, like_view, unknown_with}
+
+-- ---- parts of a journal
+
+-- Over each whole list of which this is a part, the sessions were held as the records led from the one state to the other.
+pub record Part (settings : Settings) (proto : Proto) (r : SpoolState) (groups : List (List Entry)) (sessions : List Session) (t : SpoolState) : Type 0 where
+  pub sent : (s : SpoolState) (before later whole : List Entry) → IsSound s → IsSound r → Grown s before r → before ++ (all_of groups ++ later) ≡ whole → All IsEntry whole
+      → AreSent settings proto (numbered (base s) (list s ++ whole)) (reach_of r) sessions (reach_of t)
+
+-- from an earlier moment, at which the same was known
+sent_one : (settings : Settings) (proto : Proto) (whole : List NumberedEntry) (a b c : Reach) (one : Session) → b.known ≡ a.known → a.upto ≤ b.upto → IsSent settings proto whole b one c → IsSent settings proto whole a one c
+sent_one settings proto whole a b c one same le sent =
+    let s : IsSent settings proto whole (record { known = a.known; upto = b.upto }) one c = subst (λ (k : Numbers). IsSent settings proto whole (record { known = k; upto = b.upto }) one c) same sent in
+    record { told = s.told; also = s.also; ends = s.ends; some = s.some; knows = s.knows; from_end = omega (arith, s.from_end, le); to_end = s.to_end }
+
+sent_from : (settings : Settings) (proto : Proto) (whole : List NumberedEntry) (a b c : Reach) (ys : List Session) → b.known ≡ a.known → a.upto ≤ b.upto → AreSent settings proto whole b ys c → AreSent settings proto whole a ys c
+sent_from settings proto whole a b c [] same le q = (q.0 ∙ same, omega (arith, le, q.1))
+sent_from settings proto whole a b c (y ∷ ys) same le q = (q.0, sent_one settings proto whole a b q.0 y same le q.1, q.2)
+
+sent_then : (settings : Settings) (proto : Proto) (whole : List NumberedEntry) (a b c : Reach) (xs ys : List Session) → AreSent settings proto whole a xs b → AreSent settings proto whole b ys c → AreSent settings proto whole a (xs ++ ys) c
+sent_then settings proto whole a b c [] ys p q = sent_from settings proto whole a b c ys p.0 p.1 q
+sent_then settings proto whole a b c (x ∷ xs) ys p q = (p.0, p.1, sent_then settings proto whole p.0 b c xs ys p.2 q)
+
+part_then : (settings : Settings) (proto : Proto) (r u t : SpoolState) (xs ys : List Record) (first more : List (List Entry)) (early late : List Session) → Led r xs first u → Part settings proto r first early u → Part settings proto u more late t
+    → Part settings proto r (first ++ more) (early ++ late) t
+part_then settings proto r u t xs ys first more early late led p q = record {
+  sent = λ s before later whole sound_s sound grown all limits.
+      let parts : before ++ (all_of first ++ (all_of more ++ later)) ≡ whole =
+      ap (λ (l : List Entry). before ++ l) (sym (append_assoc (all_of first) (all_of more) later) ∙ ap (λ (l : List Entry). l ++ later) (sym (all_then first more))) ∙ all in
+      sent_then settings proto (numbered (base s) (list s ++ whole)) (reach_of r) (reach_of u) (reach_of t) early late
+      (p.sent s before (all_of more ++ later) whole sound_s sound grown parts limits)
+      (q.sent s (before ++ all_of first) later whole sound_s (led_sound r u xs first sound led) (grown_then s r u before (all_of first) grown (led_grown r u xs first led))
+      (append_assoc before (all_of first) (all_of more ++ later) ∙ parts) limits);
+}
+
+-- the way from a desk to a later state
+pub record From (settings : Settings) (proto : Proto) (w : DeskState) (records : List Record) (sessions : List Session) (t : SpoolState) : Type 0 where
+  pub from : SpoolState
+  pub one : IsOneOf w.spool w.doubt from
+  pub groups : List (List Entry)
+  pub led : Led from records groups t
+  pub part : Part settings proto from groups sessions t
+
+-- where the caller marks nothing nothing is sent
+pub from_quiet : (settings : Settings) (proto : Proto) (number : ℕ) (w z : DeskState) (records : List Record) (t : SpoolState) → IsDesk w → Goes w records z → MarksAlone number records → NoMarks (own_of number records) → IsOneOf z.spool z.doubt t
+    → From settings proto w records [] t
+from_quiet settings proto number w z records t rules goes alone none one =
+    let c = comes w z number 0 0 records t rules goes one (inl (omega arith, omega arith)) in
+    record {
+      from = c.from;
+      one = c.one;
+      groups = c.groups;
+      led = c.led;
+      part = record { sent = λ s before later whole sound_s sound grown all limits. (led_same number c.from t records c.groups c.led alone none, led_end c.from t records c.groups c.led) };
+    }
+
+pub from_then : (settings : Settings) (proto : Proto) (w m : DeskState) (xs ys : List Record) (early late : List Session) (t : SpoolState) (later : From settings proto m ys late t) → From settings proto w xs early later.from → From settings proto w (xs ++ ys) (early ++ late) t
+from_then settings proto w m xs ys early late t later first = record {
+  from = first.from;
+  one = first.one;
+  groups = first.groups ++ later.groups;
+  led = led_then first.from later.from t xs ys first.groups later.groups first.led later.led;
+  part = part_then settings proto first.from later.from t xs ys first.groups later.groups early late first.led first.part later.part;
+}
+
+-- ---- one session
+
+-- a session of these calls, over a whole list
+record SentBy (settings : Settings) (proto : Proto) (whole : List NumberedEntry) (before : Numbers) (start until : ℕ) (sent : Sent) (bytes : List ℕ) (calls : List Call) (text : List ℕ) (after : Numbers) : Type 0 where
+  told : ℕ
+  also : List ℕ
+  ends : EndsAmong settings proto before whole start until sent bytes calls text told also
+  some : 0 < length calls → 0 < length ends.all
+  knows : KnowsMarked before calls after
+
+-- an entry that was left at the cursor is one of those that were to be sent
+some_unsent : (s r : SpoolState) (before later : List Entry) (start until : ℕ) → Like s (numbers_of r) before start r → start ≡ r.cursor → end r ≤ until → 0 < length (left r) → 0 < length (between start until (unknown_with s (numbers_of r) (before ++ later)))
+some_unsent s r before later start until like at le some =
+    let all = list s ++ before in
+    let view : between start until (unknown_with s (numbers_of r) before) ≡ left r =
+    like_view s r (numbers_of r) before start until like
+    ∙ between_all start until start (end r) (left_from r start) (omega arith) le (left_rise r start like.sound)
+    ∙ left_from-cursor r start (omega (arith, at)) in
+    let more = view_more (numbers_of r) (base s) start until all later in
+    let long : length (between start until (unknown_with s (numbers_of r) (before ++ later))) ≡ length (between start until (unknown (numbers_of r) (numbered (base s) (all ++ later)))) =
+    ap (λ (l : List Entry). length (between start until (unknown (numbers_of r) (numbered (base s) l)))) (sym (append_assoc (list s) before later)) in
+    omega (arith, more, long, ap (λ (l : List NumberedEntry). length l) view, some)
+
+sent_by : (settings : Settings) (proto : Proto) (bytes_left : Option (List ℕ)) (number start until : ℕ) (s r t : SpoolState) (before later whole : List Entry) (records : List Record) (groups : List (List Entry)) (led : Led r records groups t)
+    (sent : Sent) (bytes text : List ℕ) → IsSound s → Like s (numbers_of r) before start r → before ++ (all_of groups ++ later) ≡ whole → All IsEntry whole → Reached number until start r records groups t led → MarksAlone number records → r.cursor ≤ start
+    → end r ≤ until → 0 < length (left r) → Ended (EndsAs settings proto) (HintsAs proto) bytes_left until sent start bytes (own_of number records) text
+    → SentBy settings proto (numbered (base s) (list s ++ whole)) (numbers_of r) start until sent bytes (own_of number records) text (numbers_of t)
+sent_by settings proto bytes_left number start until s r t before later whole records groups led sent bytes text first like all limits reached alone from_cursor to_end some ended =
+    let ends = ends_among settings proto bytes_left number start until s r t before later whole records groups led sent bytes text first like.sound like.grown all limits reached alone from_cursor ended in
+    record {
+      told = ended.told;
+      also = ended.also;
+      ends = ends;
+      some = λ made.
+          let n = some_unsent s r before (all_of groups ++ later) start until like (ends.from_cursor made) to_end some in
+          let same = ap (λ (l : List Entry). length (between start until (unknown_with s (numbers_of r) l))) all in
+          let long = ap (λ (l : List NumberedEntry). length l) ends.is_list.are_unsent in
+          omega (arith, n, same, long, length-map ends.all one_entry);
+      knows = led_marked number until start r t records groups like.sound led alone ended.session;
+    }
+
+-- the desk had an entry left
+some_left : (s : SpoolState) (given : List Numbered) → 0 < length given → given_entries given ≡ take 1 (left_from s 0) → 0 < length (left s)
+some_left s given some is =
+    let all = ap (λ (l : List NumberedEntry). length l) (left_from-base s 0 (omega arith)) in
+    omega (arith, some, length-map given one_entry, ap (λ (l : List NumberedEntry). length l) is, length-take 1 (left_from s 0), all)
+
+pub from_held : (settings : Settings) (proto : Proto) (number : ℕ) (one : Session) (given : List Numbered) (w z : DeskState) (records : List Record) (t : SpoolState) → IsDesk w → 0 < length given → IsOn number one given w z records → MarksAlone number records
+    → Ended (EndsAs settings proto) (HintsAs proto) one.left one.until one.sent one.start one.bytes one.calls one.text → IsOneOf z.spool z.doubt t → From settings proto w records (one ∷ []) t
+from_held settings proto number one given w z records t rules some on alone ended stands =
+    let x = on.x in
+    let s' = x.spool in
+    let among = on.among in
+    let v = way x z number one.start one.until one.calls on.rest t among stands in
+    let parts = alone_parts number on.first on.rest (subst (MarksAlone number) on.parts alone) in
+    let quiet = from_quiet settings proto number w x on.first s' rules on.goes parts.0 (subst NoMarks (sym on.asked) ((λ marking. marking), tt)) (one_standing s' x.doubt) in
+    let left_some = some_left s' given some on.read.reads in
+    let session : From settings proto x on.rest (one ∷ []) t = record {
+      from = s';
+      one = one_standing s' x.doubt;
+      groups = v.groups;
+      led = v.led;
+      part = record {
+        sent = λ s before later whole sound_s sound grown all limits.
+            let like : Like s (numbers_of s') before one.start s' = record { sound = sound; grown = grown; kept = λ n is. is; only = λ n ge is. is } in
+            let b : SentBy settings proto (numbered (base s) (list s ++ whole)) (numbers_of s') one.start one.until one.sent one.bytes one.calls one.text (numbers_of t) =
+            subst (λ (those : List Call). Ended (EndsAs settings proto) (HintsAs proto) one.left one.until one.sent one.start one.bytes those one.text
+            → SentBy settings proto (numbered (base s) (list s ++ whole)) (numbers_of s') one.start one.until one.sent one.bytes those one.text (numbers_of t)) among.calls_are
+            (sent_by settings proto one.left number one.start one.until s s' t before later whole on.rest v.groups v.led one.sent one.bytes one.text sound_s like all limits v.reached among.alone among.from_cursor among.to_end left_some) ended in (
+              reach_of t,
+              record {
+                told = b.told;
+                also = b.also;
+                ends = b.ends;
+                some = b.some;
+                knows = b.knows;
+                from_end = among.to_end;
+                to_end = λ made. led_until number one.until one.start s' t on.rest v.groups v.led v.reached (omega (arith, made, ap (λ (l : List Call). length l) among.calls_are));
+              },
+              (refl, omega arith),
+            );
+      };
+    } in
+    subst (λ (l : List Record). From settings proto w l (one ∷ []) t) (sym on.parts) (from_then settings proto w x on.first on.rest [] (one ∷ []) t session quiet)

@@ -1,0 +1,5 @@
+pub mod Led
+pub mod Beside
+pub mod Laws
+pub mod Sessions
+pub mod Run

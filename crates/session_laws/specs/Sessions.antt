@@ -1,0 +1,107 @@
+-- The sessions of a forwarder in the one journal of a desk, one after another.
+use Rattle.std.specs.Prelude.{◌≡◌, ◌⊎◌, ℕ, ◌<◌, ◌≤◌, List, [], ◌∷◌, ◌++◌, length, All}
+use mathlib.Core.List.{IsPrefix}
+use Rattle.known_numbers.specs.Numbers.{IsKnown, Numbers}
+use Rattle.event_form.specs.declared.event.Entry.{Entry}
+use Rattle.edge_io.specs.Net.{NetState}
+use Rattle.edge_io.specs.declared.proto.Proto.{Proto}
+use Rattle.spool_state.specs.SpoolState.{SpoolState, end, numbers_of}
+use Rattle.spool_state.specs.Left.{NumberedEntry, left, unknown}
+use Rattle.spool_log.specs.Stages.{IsOneOf}
+use Rattle.desk_access.specs.Call.{Record, own_of}
+use Rattle.desk_access.specs.Desk.{DeskState, Goes}
+use Rattle.desk_access.specs.History.{IsDesk}
+use Rattle.forward_core.specs.Calls.{IsMarked, number_at}
+use Rattle.forward_core.specs.Protocols.{settings_as}
+use Rattle.forward_core.specs.Settings.{Settings}
+use Rattle.forward_core.specs.Turning.{IsTold}
+use Rattle.forward_core.specs.declared.outward.Outward.{Outward}
+use Rattle.spool_turns.specs.Passes.{Known}
+use Rattle.serve_forwarder.specs.Looks.{AreLooks, IsLook, Look, calls_of, sessions_of}
+use Rattle.serve_forwarder.specs.Sessions.{Session}
+use Rattle.session_laws.specs.Beside.{EndsAmong, KnowsMarked, MarksAlone, history}
+use Rattle.session_laws.specs.Led.{Led}
+
+-- What is known at a moment, and the end of the list then.
+pub record Reach : Type 0 where
+  pub known : Numbers
+  pub upto : ℕ
+
+abbrev pub reach_of : SpoolState → Reach
+reach_of s = record { known = numbers_of s; upto = end s }
+
+-- A session was held over a whole list from one moment to another. It sent what wasn't known, up to an end that isn't below that of the list
+-- at the first moment; and if it made a call, the list had that end at the other one, and that was one entry at least.
+pub record IsSent (settings : Settings) (proto : Proto) (whole : List NumberedEntry) (before : Reach) (one : Session) (after : Reach) : Type 0 where
+  pub told : ℕ
+  pub also : List ℕ
+  pub ends : EndsAmong settings proto before.known whole one.start one.until one.sent one.bytes one.calls one.text told also
+  pub some : 0 < length one.calls → 0 < length ends.all
+  pub knows : KnowsMarked before.known one.calls after.known
+  pub from_end : before.upto ≤ one.until
+  pub to_end : 0 < length one.calls → one.until ≤ after.upto
+
+-- So was each of some sessions, one after another: what the one before left known was known as the next one began.
+abbrev pub AreSent : Settings → Proto → List NumberedEntry → Reach → List Session → Reach → Type 0
+AreSent settings proto whole before [] after = (after.known ≡ before.known) × (before.upto ≤ after.upto)
+AreSent settings proto whole before (one ∷ sessions) after = (between : Reach) × IsSent settings proto whole before one between × AreSent settings proto whole between sessions after
+
+-- A pass that had made no call looked again and again, saw what others had done, and looked once more. The journal has these calls of it
+-- and no others, and nobody else marked or confirmed.
+pub record HasLooked (start : DeskState → Type 0) (outward : Outward) (place : List ℕ) (looks : List Look) (last : Look) (log : List Record) : Type 0 where
+  pub pass : Known
+  pub beside : Known
+  pub met : Known
+  pub pass' : Known
+  pub net : NetState
+  pub net_beside : NetState
+  pub net' : NetState
+  pub fresh : pass.own ≡ []
+  pub looked : AreLooks start outward place looks pass beside net net_beside
+  pub same : (met.number ≡ beside.number) × (met.own ≡ beside.own)
+  pub saw : IsPrefix beside.seen met.seen
+  pub looked_last : IsLook start outward place last met pass' net_beside net'
+  pub stands : IsPrefix pass'.seen log
+  pub own : own_of pass'.number log ≡ pass'.own
+  pub alone : MarksAlone pass'.number log
+
+-- Of a state that may stand after the journal: from one in which the desk may have begun the journal led the spool to it, each record with the
+-- group that it added. Over the whole list that this makes the sessions of all looks were held, one after another, and what is
+-- known now is what they left. What isn't known of the whole list is left.
+pub record SentBeside (outward : Outward) (x : DeskState) (looks : List Look) (log : List Record) (t : SpoolState) : Type 0 where
+  pub begun : SpoolState
+  pub one : IsOneOf x.spool x.doubt begun
+  pub groups : List (List Entry)
+  pub led : Led begun log groups t
+  pub sent : AreSent (settings_as outward) outward.proto (history begun groups) (reach_of begun) (sessions_of looks) (reach_of t)
+  pub left_is : left t ≡ unknown (numbers_of t) (history begun groups)
+
+-- So it is in each journal of a forwarder beside other callers; and the forwarder's calls there are those of its looks.
+abbrev pub SessionsFollow : (DeskState → Type 0) → Type 0
+SessionsFollow start = (outward : Outward) (place : List ℕ) (looks : List Look) (last : Look) (x y : DeskState) (log : List Record) (t : SpoolState)
+    → (looked : HasLooked start outward place looks last log) → start x → IsDesk x → Goes x log y → IsOneOf y.spool y.doubt t
+    → SentBeside outward x (looks ++ last ∷ []) log t × (own_of looked.pass'.number log ≡ calls_of (looks ++ last ∷ []))
+
+-- one of the sessions marked the number, or was refused to mark it
+abbrev pub IsMarkedIn : List Session → ℕ → Type 0
+IsMarkedIn [] n = ⊥
+IsMarkedIn (one ∷ sessions) n = IsMarked one.calls n ⊎ IsMarkedIn sessions n
+
+-- No number is known after sessions but those that were known before them and those that they marked.
+abbrev pub OnlyTheirMarksAreKnown : Type 0
+OnlyTheirMarksAreKnown = (settings : Settings) (proto : Proto) (whole : List NumberedEntry) (before after : Reach) (sessions : List Session) → AreSent settings proto whole before sessions after
+    → (n : ℕ) → IsKnown after.known n → IsKnown before.known n ⊎ IsMarkedIn sessions n
+
+-- The number is that of an entry of a session's list that was told as acknowledged.
+abbrev pub IsToldHere : {settings : Settings} {proto : Proto} {whole : List NumberedEntry} {before after : Reach} {one : Session} → IsSent settings proto whole before one after → ℕ → Type 0
+IsToldHere sent n = (place : ℕ) × (place < length sent.ends.all) × (n ≡ number_at sent.ends.all place) × IsTold sent.told sent.also place
+
+-- It is so of one of some sessions.
+abbrev pub IsToldIn : (settings : Settings) (proto : Proto) (whole : List NumberedEntry) (before : Reach) (sessions : List Session) (after : Reach) → AreSent settings proto whole before sessions after → ℕ → Type 0
+IsToldIn settings proto whole before [] after sent n = ⊥
+IsToldIn settings proto whole before (one ∷ sessions) after sent n = IsToldHere sent.1 n ⊎ IsToldIn settings proto whole sent.0 sessions after sent.2 n
+
+-- An entry of the whole list that is known after sessions was known before them, or one of them was told that it is acknowledged.
+abbrev pub OnlyToldIsKnown : Type 0
+OnlyToldIsKnown = (settings : Settings) (proto : Proto) (whole : List NumberedEntry) (before after : Reach) (sessions : List Session) (sent : AreSent settings proto whole before sessions after)
+    → All (λ e. IsKnown after.known e.number → IsKnown before.known e.number ⊎ IsToldIn settings proto whole before sessions after sent e.number) whole
