@@ -1,0 +1,5 @@
+pub mod Writing
+pub mod Firsts
+pub mod Failures
+pub mod Counting
+pub mod Numbers

@@ -1,0 +1,140 @@
+-- A desk over a spool that was opened for storing.
+use Rattle.std.proofs.Common.{◌≡◌, ◌⊎◌, inl, inr, ℕ, ◌+◌, ◌≤◌, List, [], ◌∷◌, ◌++◌, length, refl, sym, ◌∙◌, ap, subst, arith}
+use Rattle.std.specs.Prelude.{Bool, Option, Result, Ok, Err, IfOk, IfErr}
+use Rattle.edge_disk.specs.Calls.{Calls}
+use Rattle.edge_disk.specs.Disk.{Moment, LeavesOnly}
+use Rattle.edge_disk.proofs.Moments.{weaker}
+use Rattle.spool_state.specs.SpoolState.{SpoolState}
+use Rattle.spool_state.specs.Image.{StandsFor}
+use Rattle.spool_state.proofs.Laws.{one_state}
+use Rattle.spool_log.specs.declared.opening.Opening.TheVariants.{Raise}
+use Rattle.spool_log.specs.Opening.{opened, CanOpen, IsOpening, Opens}
+use Rattle.spool_log.specs.Stages.{StandsForOne}
+use Rattle.spool_log.specs.State.{View, IsIn}
+use Rattle.hec_ids.specs.Table.{Table}
+use Rattle.hec_ids.specs.Rows as Ids
+use Rattle.desk_access.specs.Alone.{AloneView, IsAt}
+use Rattle.desk_access.specs.Call.{Record}
+use Rattle.desk_access.specs.Desk.{DeskState, desk_of, Goes, Stood, StandsWithin}
+use Rattle.spool_turns.specs.Replays.{BeganAt}
+use Rattle.edge_io.specs.Door.{DoorState}
+use Rattle.edge_io.specs.Net.{NetState}
+use Rattle.conn_serve.specs.declared.rules.Rules.{Rules}
+use Rattle.spool_log.specs.declared.memory.Memory.{Memory}
+use Rattle.serve_workers.specs.declared.worker.WorkerReport.{WorkerReport}
+use Rattle.serve_forwarder.specs.declared.destination.Destination.{Destination}
+use Rattle.serve_forwarder.specs.declared.looking.Outcome.{Outcome}
+use Rattle.serve_run.specs.Running.{HasServed, HasNotServed}
+use Rattle.bridge_parts.specs.Opened.{desk_in}
+use Rattle.bridge_serve.specs.Opened.{IsOpenedDesk, opened_at, IsOpenedFrom, IsOpenedOnly, desk_over}
+use Rattle.bridge_serve.specs.Served.{RunsOver}
+
+-- ---- the state in which it was given
+
+-- the state of an opened desk, in which its spool is
+pub record IsDeskIn (device : List ℕ) (v : View) (x : DeskState) : Type 0 where
+  pub state : SpoolState
+  pub stood : StandsFor state device
+  pub could : CanOpen Raise state
+  pub desk : x ≡ desk_in (opened Raise state)
+  pub held : IsIn (opened Raise state) [] v
+
+pub desk_is : (tells : Type 0) (device : List ℕ) (v : View) (x : DeskState) → (tells → (s : SpoolState) × Opens Raise s device v) → IsOpenedDesk tells device x → IsDeskIn device v x
+desk_is tells device v x opens is =
+    let found = opens is.0 in
+    let same : found.0 ≡ is.1 = one_state found.0 is.1 device found.1.stood is.2 in
+    record { state = is.1; stood = is.2; could = is.3; desk = is.4; held = subst (λ (s : SpoolState). IsIn (opened Raise s) [] v) same found.1.reached }
+
+pub opened_desk : (tells : Type 0) (device : List ℕ) (v : View) → (tells → (s : SpoolState) × Opens Raise s device v) → tells → (x : DeskState) × IsOpenedDesk tells device x
+opened_desk tells device v opens told = let found = opens told in (desk_in (opened Raise found.0), (told, found.0, found.1.stood, found.1.left, refl))
+
+-- a desk whose ids are those of the spool's run, none issued
+pub desk_at : (s : SpoolState) (ids : Table) (run : ℕ) (v : AloneView) → ids ≡ Ids.opened run 0 → run ≡ s.run → IsAt (desk_of s [] ids) v → IsAt (desk_in s) v
+desk_at s ids run v none same at = subst (λ (t : Table). IsAt (desk_of s [] t) v) (none ∙ ap (λ (n : ℕ). Ids.opened n 0) same) at
+
+-- ---- the moment of its disk
+
+pub began_at : (tells : Type 0) (old m : Moment) → Calls ⊥ old m → (tells → LeavesOnly (IsOpening Raise old) old m) → BeganAt (opened_at tells old m.clock) m
+began_at tells old m calls any = record {
+  size = sym calls.size;
+  clock = refl;
+  since = λ t c held told. ((λ is. (any told).each c (subst (λ (n : ℕ). m.image_since n c) is held)), (λ le. (any told).before t c le held));
+  faults = sym (calls.quiet (λ never. never));
+}
+
+-- what a crash left since before the opening
+pub any_moment : (tells : Type 0) (old new : Moment) (clock : ℕ) (P : List ℕ → Type 0) → tells → old.clock ≤ clock → LeavesOnly P (opened_at tells old clock) new → LeavesOnly (λ c. IsOpening Raise old c ⊎ P c) old new
+any_moment tells old new clock P told le leaves = record {
+  later = omega (arith, le, leaves.later);
+  each = λ c held. elim (leaves.before old.clock c le held) [ inl since ↦ inl ((since told).0 refl) | inr p ↦ inr p ];
+  now = λ c image. inr (leaves.now c image);
+  before = λ t c early held. elim (leaves.before t c (omega (arith, early, le)) held) [
+    | inl since ↦ elim ((since told).1 early) [ inl was ↦ inl was | inr is ↦ inr (inl is) ]
+    | inr p ↦ inr (inr p)
+  ];
+}
+
+-- ---- where no worker began
+
+pub opened_only : (tells : Type 0) (old : Moment) (v : View) → IsOpenedFrom tells old v → tells → IsOpenedOnly old v.moment
+opened_only tells old v from told =
+    let found = from.opens told in
+    record { state = found.0; stood = found.1.stood; could = found.1.left; images = found.1.reached.each; any_moment = from.any_moment told }
+
+none_stood : (x : DeskState) (c : List ℕ) → Stood x [] c → StandsForOne x.spool x.doubt c
+none_stood x c stood = by stood.first stood.rest stood.parts stood.found stood.goes stood.stands where
+  by : (first rest : List Record) → [] ≡ first ++ rest → (found : DeskState) → Goes x first found → StandsForOne found.spool found.doubt c ⊎ StandsWithin found rest c → StandsForOne x.spool x.doubt c
+  by [] [] parts found goes (inl stands) = subst (λ (d : DeskState). StandsForOne d.spool d.doubt c) goes stands
+  by [] [] parts found goes (inr within) = absurd within
+  by [] (one ∷ rest) parts found goes stands = absurd (cc)
+  by (one ∷ first) rest parts found goes stands = absurd (cc)
+
+-- a desk that was given back, with which nothing was done
+pub given_back : (tells : Type 0) (old : Moment) (v : View) (clock run seats : ℕ) (new : AloneView) → IsOpenedFrom tells old v → (tells → old.clock ≤ clock)
+    → HasNotServed tells (IsOpenedDesk tells old.reads) run seats (opened_at tells old clock) new → tells → IsOpenedOnly old new.spool.moment
+given_back tells old v clock run seats new from le none told =
+    let found = from.opens told in
+    let x = desk_in (opened Raise found.0) in
+    let lead = none.1.replays.leads x (told, found.0, found.1.stood, found.1.left, refl) in
+    let same : lead.after ≡ x = lead.goes in
+    record {
+      state = found.0;
+      stood = found.1.stood;
+      could = found.1.left;
+      images = λ c image. subst (λ (d : DeskState). StandsForOne d.spool d.doubt c) same (lead.reached.spool.each c image);
+      any_moment = weaker (λ c. IsOpening Raise old c ⊎ Stood x [] c) (IsOpening Raise old) old new.spool.moment (any_moment tells old new.spool.moment clock (Stood x []) told (le told) lead.any_moment) (λ c p. elim p [
+        | inl is ↦ is
+        | inr stood ↦ inr (found.0, found.1.stood, inr (none_stood x c stood))
+      ]);
+    }
+
+pub given_calls : (tells : Type 0) (old : Moment) (start : DeskState → Type 0) (clock run seats : ℕ) (new : AloneView) → HasNotServed tells start run seats (opened_at tells old clock) new → Calls ⊥ old new.spool.moment
+given_calls tells old start clock run seats new none = record { size = none.1.replays.size; later = none.1.replays.later; cause = λ never. absurd never; quiet = λ never. none.1.replays.quiet refl }
+
+-- ---- where the server ran
+
+pub runs_over : (tells : Type 0) (old new : Moment) (v : View) (clock run seats talks : ℕ) (rules : List Rules) (doors doors' : List DoorState) (reports : List WorkerReport) (destination : Option Destination) (net net' : NetState) (last : Option Outcome) (memory : Memory) (in_doubt : Bool) (ids : Table)
+    → IsOpenedFrom tells old v → (tells → old.clock ≤ clock) → seats ≡ length doors + 1
+    → HasServed tells (IsOpenedDesk tells old.reads) run seats (opened_at tells old clock) talks rules doors doors' reports destination net net' last (desk_over memory in_doubt new ids)
+    → RunsOver tells old new talks rules doors doors' reports destination net net' last memory in_doubt
+runs_over tells old new v clock run seats talks rules doors doors' reports destination net net' last memory in_doubt ids from le many served =
+    let whole = subst (λ (n : ℕ). HasServed tells (IsOpenedDesk tells old.reads) run n (opened_at tells old clock) talks rules doors doors' reports destination net net' last (desk_over memory in_doubt new ids)) many served in
+    record {
+      run = run;
+      clock = clock;
+      later = le;
+      opened = opened_desk tells old.reads v from.opens;
+      ids = ids;
+      served = whole;
+      any_moment = λ x is. any_moment tells old new clock (Stood x whole.log) is.0 (le is.0) (whole.closes.replays.leads x is).any_moment;
+    }
+
+-- ---- of a result
+
+pub if_ok : {T E : Type 0} (P Q : T → Type 0) (r : Result T E) → ((v : T) → P v → Q v) → IfOk r P → IfOk r Q
+if_ok P Q (Ok v) leads is = leads v is
+if_ok P Q (Err e) leads is = is
+
+pub if_err : {T E : Type 0} (P Q : E → Type 0) (r : Result T E) → ((e : E) → P e → Q e) → IfErr r P → IfErr r Q
+if_err P Q (Ok v) leads is = is
+if_err P Q (Err e) leads is = leads e is

@@ -1,0 +1,5 @@
+pub mod Doors
+pub mod Noted
+pub mod Opened
+pub mod Promised
+pub mod Served

@@ -1,0 +1,51 @@
+-- Why a run ended that served, and the line that it ends with.
+use Rattle.std.specs.Prelude.{◌≡◌, ◌⊎◌, ℕ, Bool, true, false, if◌then◌else◌, List, Option, None, Some}
+use Rattle.std.specs.List.{list_any, sum_by}
+use Rattle.serve_workers.specs.declared.worker.WorkerEnd.{WorkerEnd}
+use Rattle.serve_workers.specs.declared.worker.WorkerEnd.TheVariants as worker
+use Rattle.serve_workers.specs.declared.worker.WorkerReport.{WorkerReport}
+use Rattle.serve_forwarder.specs.declared.looking.Outcome.{Outcome}
+use Rattle.serve_forwarder.specs.declared.looking.Outcome.TheVariants as outcome
+use Rattle.bridge_words.specs.declared.note.Note.{Note}
+use Rattle.bridge_words.specs.declared.note.Note.TheVariants.{Fine, NoMemory, NetFault, WriteFault}
+use Rattle.bridge_parts.specs.Refused.{note_of_pend, note_of_net, note_of_sent}
+use Rattle.bridge_parts.specs.Written.{first_of, PrintsAfter}
+
+-- whether a worker found no memory to give a link back, and whether an accept of it failed
+abbrev pub is_starved : WorkerEnd → Bool
+is_starved worker.NoMemory = true
+is_starved end = false
+
+abbrev pub is_refused : WorkerEnd → Bool
+is_refused worker.AcceptFault = true
+is_refused end = false
+
+-- The note of the workers: want of memory in one of them, or else an accept of one that failed.
+abbrev pub note_of_workers : List WorkerReport → Note
+note_of_workers reports =
+    if list_any (λ report. is_starved report.end) reports then NoMemory else (if list_any (λ report. is_refused report.end) reports then NetFault else Fine)
+
+-- the note of the last look, where there is a place to forward to
+abbrev pub note_of_look : Option Outcome → Note
+note_of_look None = Fine
+note_of_look (Some outcome.Idle) = Fine
+note_of_look (Some (outcome.Unread fault)) = note_of_pend fault
+note_of_look (Some (outcome.Undialed fault)) = note_of_net fault
+note_of_look (Some (outcome.Held sent)) = note_of_sent sent
+
+-- The note of a run before its line: that of the workers, or where they ended well that of the last look.
+abbrev pub note_of_run : List WorkerReport → Option Outcome → Note
+note_of_run reports last = first_of (note_of_workers reports) (note_of_look last)
+
+-- how many connections were served to their end and given back
+abbrev pub talks_of : List WorkerReport → ℕ
+talks_of reports = sum_by (λ report. report.finished) reports
+
+-- The line is printed after a run that ended so, unless no memory was found in it.
+abbrev pub PrintsLast : Note → List ℕ → Note → Option (List ℕ) → Option (List ℕ) → Type 0
+PrintsLast NoMemory line note old new = (note ≡ NoMemory) × (new ≡ old)
+PrintsLast ended line note old new = PrintsAfter ended line note old new
+
+-- the note is that of the run, or of the print of its line
+abbrev pub IsNoteOf : Note → Note → Type 0
+IsNoteOf ended note = (note ≡ ended) ⊎ ((note ≡ WriteFault) ⊎ (note ≡ NoMemory))

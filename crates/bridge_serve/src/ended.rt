@@ -1,0 +1,31 @@
+//! How a server's run ended.
+ghost use Rattle.std.specs.Prelude.{◌≡◌, []};
+
+use bridge_words::Note;
+use std::alloc::Global;
+
+/// How a server's run ended: why, the disk that was handed in, and the doors that served, in the order of their workers.
+#[derive(Drop)]
+pub struct Over<D, P> {
+    /// Why it ended.
+    pub note: Note,
+    /// The disk that was handed in.
+    pub disk: D,
+    /// The doors, each with the connections that were given back to it. There is none where no worker began.
+    pub doors: Vec<P>,
+}
+
+impl<D, P> Over<D, P> {
+    /// A run in which no worker began.
+    pub(crate) fn unserved(alloc: Global, note: Note, disk: D) -> Over<D, P>
+        ensures note { result.note ≡ note }
+        ensures disk { result.disk ≡ disk }
+        ensures doors { result.doors.items ≡ [] }
+    {
+        Over {
+            note,
+            disk,
+            doors: Vec::new(alloc),
+        }
+    }
+}

@@ -1,0 +1,115 @@
+//! A run over an opened spool.
+ghost use Rattle.std.specs.Prelude.{◌≡◌, ◌⊎◌, ◌+◌, ◌<◌, ◌^◌, ◌≤◌, false, map, IfOk, IfErr, IfSome, option_copied, vec_len};
+ghost use Rattle.edge_disk.specs.Calls.{Calls};
+ghost use Rattle.spool_log.specs.State.{view};
+ghost use Rattle.spool_turns.specs.Named.{IsName};
+ghost use Rattle.spool_turns.specs.Replays.{desk_at};
+ghost use Rattle.serve_run.specs.Running.{HasServed, HasNotServed};
+ghost use Rattle.bridge_serve.specs.Opened.{IsOpenedFrom, IsOpenedOnly};
+ghost use Rattle.bridge_serve.specs.Served.{RunsOver};
+
+use desk_access::Desk;
+use edge_disk::Disk;
+use edge_io::{Door, Net};
+use hec_ids::Ids;
+use serve_forwarder::Destination;
+use serve_run::{Served, Unserved};
+use serve_workers::Post;
+use spool_log::Spool;
+use spool_turns::{Naming, NoShare, Unnamed};
+use std::alloc::Global;
+use std::marker::Brand;
+use std::snapshot::Snapshot;
+use std::sync::Wait;
+use std::thread::Threads;
+
+// Runs the server over the desk, under its name. By the disk as it was before the opening a caller says which name that is. The
+// error is want of memory, and gives back the desk.
+fn run_named<
+    D: Disk + Drop + Send,
+    N: Net + Send,
+    J: Naming + Send + Sync,
+    R: Threads + Wait + Sync,
+>(
+    rt: &R,
+    alloc: Global,
+    _before: Snapshot<D>,
+    unnamed: Unnamed<D>,
+    posts: Vec<Post<N::P>>,
+    talks: u32,
+    destination: Option<&Destination>,
+    net: &mut N,
+) -> Result<Served<N::P, D>, Desk<D>>
+where
+    N::P: Drop + Send,
+    <N::P as Door>::L: Send,
+    N::L: Send,
+    requires seats { J.seats ≡ vec_len posts + 1 }
+    requires few { vec_len posts ≤ 64 }
+    requires talks { talks ≤ 2 ^ 26 }
+    requires polls { IfSome destination (λ d. 0 < d.now.outward.polls) }
+    requires name { IsName J.table J.run J.start J.began unnamed }
+
+    ensures many { IfOk result (λ served. (vec_len served.doors ≡ vec_len posts) × (vec_len served.reports ≡ vec_len posts)) }
+    ensures served { IfOk result (λ served. HasServed D.tells J.start J.run J.seats J.began talks (map (λ (post : _). post.rules) posts.items)
+        (map (λ (post : _). N.P.told post.door) posts.items) (map (λ (door : _). N.P.told door) served.doors.items) served.reports.items
+        (option_copied destination.entry) (N.told net.old) (N.told net.new) served.last (desk_at served.desk)) }
+    ensures err { IfErr result (λ desk. (net.new ≡ net.old)
+        × ((desk ≡ unnamed.alone.desk) ⊎ HasNotServed D.tells J.start J.run J.seats J.began (desk_at desk))) }
+{
+    let seats = posts.len() as u32 + 1;
+    let opened = match unnamed.named::<J>(alloc, seats) {
+        Ok(opened) => opened,
+        Err(NoShare { desk }) => return Err(desk),
+    };
+    match serve_run::serve(rt, alloc, opened, posts, talks, destination, net) {
+        Ok(served) => Ok(served),
+        Err(Unserved { desk, .. }) => Err(desk),
+    }
+}
+
+/// Runs the server over a spool that was opened for storing, from a disk as it was `before`. The error is want of memory before a worker
+/// began, and gives back the desk.
+pub(crate) fn run_over<D: Disk + Drop + Send, N: Net + Send, R: Threads + Wait + Sync>(
+    rt: &R,
+    alloc: Global,
+    before: Snapshot<D>,
+    spool: Spool<D>,
+    posts: Vec<Post<N::P>>,
+    talks: u32,
+    destination: Option<&Destination>,
+    net: &mut N,
+) -> Result<Served<N::P, D>, Desk<D>>
+where
+    N::P: Drop + Send,
+    <N::P as Door>::L: Send,
+    N::L: Send,
+    requires opened { IsOpenedFrom D.tells (D.moment before.value) (view spool.memory spool.doubt (D.moment spool.disk)) }
+    requires sure { spool.doubt ≡ false }
+    requires few { vec_len posts ≤ 64 }
+    requires talks { talks ≤ 2 ^ 26 }
+    requires polls { IfSome destination (λ d. 0 < d.now.outward.polls) }
+
+    ensures many { IfOk result (λ served. (vec_len served.doors ≡ vec_len posts) × (vec_len served.reports ≡ vec_len posts)) }
+    ensures over { IfOk result (λ served. RunsOver D.tells (D.moment before.value) (D.moment served.desk.spool.disk) talks
+        (map (λ (post : _). post.rules) posts.items) (map (λ (post : _). N.P.told post.door) posts.items)
+        (map (λ (door : _). N.P.told door) served.doors.items) served.reports.items (option_copied destination.entry) (N.told net.old) (N.told net.new) served.last
+        served.desk.spool.memory served.desk.spool.doubt) }
+    ensures err { IfErr result (λ desk. (net.new ≡ net.old) × Calls ⊥ (D.moment before.value) (D.moment desk.spool.disk)
+        × (D.tells → IsOpenedOnly (D.moment before.value) (D.moment desk.spool.disk))) }
+{
+    let ids = Ids::new(alloc, spool.run(), 0);
+    match Unnamed::new(alloc, Desk { spool, ids }) {
+        Ok(unnamed) => run_named::<D, N, Brand, R>(
+            rt,
+            alloc,
+            before,
+            unnamed,
+            posts,
+            talks,
+            destination,
+            net,
+        ),
+        Err(NoShare { desk }) => Err(desk),
+    }
+}

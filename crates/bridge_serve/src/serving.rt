@@ -1,0 +1,186 @@
+//! The command `serve`.
+ghost use Rattle.std.specs.Prelude.{◌≡◌, ◌≢◌, ◌⊎◌, ℕ, ◌+◌, ◌-◌, ◌^◌, ◌<◌, ◌≤◌, [], false, map, IfSome, vec_len};
+ghost use Rattle.spool_log.specs.Memory.{end_of};
+ghost use Rattle.spool_log.specs.State.{view};
+ghost use Rattle.bridge_words.specs.declared.note.Note.TheVariants.{Usage, WrongLength, WriteFault};
+ghost use Rattle.bridge_words.specs.Lines.{serve_line};
+ghost use Rattle.bridge_words.specs.Words.{HasRelayPolls};
+ghost use Rattle.bridge_parts.specs.Counted.{RoseBy, DiskRoseBy, WroteAfter, WritesOfBoth};
+ghost use Rattle.bridge_parts.specs.Pending.{pending_in};
+ghost use Rattle.bridge_serve.specs.Doors.{destination_of};
+ghost use Rattle.bridge_serve.specs.Noted.{note_of_run, talks_of, PrintsLast};
+ghost use Rattle.bridge_serve.specs.Opened.{IsOpenedFrom};
+ghost use Rattle.bridge_serve.specs.Served.{IsUnserved, IsRunAt, IsServed};
+
+use crate::binding::bind_doors;
+use crate::counting::Numbers;
+use crate::ended::Over;
+use crate::noting::run_note;
+use crate::running::run_over;
+use crate::telling::{Summary, count_talks, print_after};
+use bridge_parts::{net_note, outward_of, recover_note};
+use bridge_words::{Note, Relay, Server};
+use edge_disk::Disk;
+use edge_io::{Door, Net, Sink};
+use serve_forwarder::Destination;
+use serve_run::Served;
+use serve_workers::Post;
+use spool_log::{Opening, Refusal, Spool};
+use std::alloc::Global;
+use std::snapshot::Snapshot;
+use std::sync::Wait;
+use std::thread::Threads;
+
+// Where the words forward to, and how a session speaks there.
+fn destination_of(forward: Option<Relay>) -> Option<Destination>
+    ensures { result ≡ destination_of forward }
+{
+    match forward {
+        Some(Relay { receiver, place }) => Some(Destination {
+            place,
+            outward: outward_of(receiver),
+        }),
+        None => None,
+    }
+}
+
+// Tells what a run came to that began with these numbers.
+fn finish<D: Disk, P: Door + Drop, K: Sink>(
+    alloc: Global,
+    opening: Numbers,
+    served: Served<P, D>,
+    output: &mut K,
+) -> Over<D, P>
+    requires few { vec_len served.reports ≤ 64 }
+
+    ensures disk { result.disk ≡ served.desk.spool.disk }
+    ensures doors { result.doors ≡ served.doors }
+    ensures writes { WroteAfter (note_of_run served.reports.items served.last) result.note (K.write_faults output.old) (K.write_faults output.new) }
+    ensures note { (result.note ≡ note_of_run served.reports.items served.last) ⊎ ((result.note ≡ WriteFault) ⊎ (result.note ≡ Note.NoMemory)) }
+    ensures printed { let taken = end_of served.desk.spool.memory - opening.end in
+        PrintsLast (note_of_run served.reports.items served.last)
+        (serve_line (talks_of served.reports.items) taken (opening.left + taken - pending_in served.desk.spool.memory) (pending_in served.desk.spool.memory))
+        result.note (K.taken output.old) (K.taken output.new) }
+{
+    let Served {
+        desk,
+        doors,
+        reports,
+        last,
+    } = served;
+    let now = Numbers::of(&desk.spool);
+    let summary = Summary {
+        talks: count_talks(&reports),
+        taken: opening.taken(&now),
+        confirmed: opening.confirmed(&now),
+        left: now.left,
+    };
+    let note = print_after(alloc, output, run_note(&reports, last), summary);
+    Over {
+        note,
+        disk: desk.spool.into_disk(),
+        doors,
+    }
+}
+
+// Serves at the doors, over the spool that was opened for storing from a disk as it was `before`.
+fn serve_posts<D: Disk + Drop + Send, K: Sink, N: Net + Send, R: Threads + Wait + Sync>(
+    rt: &R,
+    alloc: Global,
+    before: Snapshot<D>,
+    spool: Spool<D>,
+    posts: Vec<Post<N::P>>,
+    talks: u32,
+    destination: Option<Destination>,
+    output: &mut K,
+    net: &mut N,
+) -> Over<D, N::P>
+where
+    N::P: Drop + Send,
+    <N::P as Door>::L: Send,
+    N::L: Send,
+    requires opened { IsOpenedFrom D.tells (D.moment before.value) (view spool.memory spool.doubt (D.moment spool.disk)) }
+    requires sure { spool.doubt ≡ false }
+    requires few { vec_len posts ≤ 64 }
+    requires talks { talks ≤ 2 ^ 26 }
+    requires polls { IfSome destination (λ d. 0 < d.outward.polls) }
+
+    ensures known { (result.note ≢ Usage) × ((have want : ℕ) → result.note ≢ WrongLength have want) }
+    ensures calls { DiskRoseBy (result.note ≡ Note.DiskFault) (D.moment before.value) (D.moment result.disk) }
+    ensures reads { RoseBy (result.note ≡ Note.ReadFault) (N.told net.old).read_faults (N.told net.new).read_faults }
+    ensures writes { WritesOfBoth result.note (K.write_faults output.old) (K.write_faults output.new) (N.told net.old).write_faults (N.told net.new).write_faults }
+    ensures dials { (N.told net.old).net_faults ≤ (N.told net.new).net_faults }
+    ensures ran { (IsUnserved D.tells (D.moment before.value) (D.moment result.disk) (N.told net.old) (N.told net.new) (K.taken output.old) (K.taken output.new) result.note
+        × (result.doors.items ≡ []))
+        ⊎ IsRunAt talks destination D.tells (D.moment before.value) (D.moment result.disk) (N.told net.old) (N.told net.new)
+        (map (λ (post : _). post.rules) posts.items) (map (λ (post : _). N.P.told post.door) posts.items) (map (λ (door : _). N.P.told door) result.doors.items)
+        (K.taken output.old) (K.taken output.new) result.note }
+{
+    let opening = Numbers::of(&spool);
+    match run_over(
+        rt,
+        alloc,
+        before,
+        spool,
+        posts,
+        talks,
+        destination.as_ref(),
+        net,
+    ) {
+        Ok(served) => finish(alloc, opening, served, output),
+        Err(desk) => Over::unserved(alloc, Note::NoMemory, desk.spool.into_disk()),
+    }
+}
+
+/// Serves many senders at once, over the spool that the device holds, of which the run is raised by one first: workers at the
+/// doors of each place, and a forwarder beside them where there is a place to forward to. Once the workers have ended, what is
+/// left is forwarded once more, and one line tells how many connections were served, and how many entries were taken, confirmed
+/// and left.
+///
+/// The note is that of the first of these that failed: the opening of the device, and then no door is bound and nothing is dialed;
+/// the binding of a door; want of memory in making the desk that the workers share, or in a worker; an accept; the last look at what is
+/// left, its dial or its session; the output. How a single connection ended doesn't change it.
+pub fn serve<D: Disk + Drop + Send, K: Sink, N: Net + Send, R: Threads + Wait + Sync>(
+    rt: &R,
+    alloc: Global,
+    server: Server,
+    disk: D,
+    output: &mut K,
+    net: &mut N,
+) -> Over<D, N::P>
+where
+    N::P: Drop + Send,
+    <N::P as Door>::L: Send,
+    N::L: Send,
+    requires workers { server.workers ≤ 16 }
+    requires talks { server.talks ≤ 2 ^ 26 }
+    requires polls { HasRelayPolls server.forward }
+
+    ensures known { (result.note ≢ Usage) × ((have want : ℕ) → result.note ≢ WrongLength have want) }
+    ensures calls { DiskRoseBy (result.note ≡ Note.DiskFault) (D.moment disk) (D.moment result.disk) }
+    ensures reads { RoseBy (result.note ≡ Note.ReadFault) (N.told net.old).read_faults (N.told net.new).read_faults }
+    ensures writes { WritesOfBoth result.note (K.write_faults output.old) (K.write_faults output.new) (N.told net.old).write_faults (N.told net.new).write_faults }
+    ensures dials { (N.told net.old).net_faults ≤ (N.told net.new).net_faults }
+    ensures served { IsServed server D.tells (D.moment disk) (D.moment result.disk) (N.told net.old) (N.told net.new) (map (λ (door : _). N.P.told door) result.doors.items)
+        (K.taken output.old) (K.taken output.new) result.note }
+{
+    let before = Snapshot::of(&disk);
+    let spool = match Spool::recover(alloc, disk, Opening::Raise) {
+        Ok(spool) => spool,
+        Err(Refusal { fault, disk }) => return Over::unserved(alloc, recover_note(fault), disk),
+    };
+    match bind_doors(alloc, &server, net) {
+        Ok(posts) => serve_posts(
+            rt,
+            alloc,
+            before,
+            spool,
+            posts,
+            server.talks,
+            destination_of(server.forward),
+            output,
+            net,
+        ),
+        Err(fault) => Over::unserved(alloc, net_note(fault), spool.into_disk()),
+    }
+}
