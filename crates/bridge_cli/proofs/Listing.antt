@@ -1,7 +1,7 @@
 -- Words list the entries exactly where their command does.
 use Rattle.std.proofs.Common.{◌≡◌, ◌↔◌, ℕ, List, sym, subst}
 use Rattle.bridge_words.specs.declared.command.Command.{Command}
-use Rattle.bridge_words.specs.declared.command.Command.TheVariants.{Format, List as ListCommand, Replay, Drain, Load}
+use Rattle.bridge_words.specs.declared.command.Command.TheVariants.{Format, List as ListCommand, Replay, Drain, Load, Serve}
 use Rattle.bridge_words.specs.Words.{IsCommand, IsNoCommand}
 use Rattle.bridge_words.proofs.Once.{one_command}
 use Rattle.bridge_cli.specs.Opening.{IsList, AreList}
@@ -12,6 +12,7 @@ lists (Format slots size) words is list = absurd list
 lists (Replay proto token ack_token) words is list = absurd list
 lists (Drain receiver place) words is list = absurd list
 lists (Load proto number count) words is list = absurd list
+lists (Serve server) words is list = absurd list
 
 pub lists_by : (command : Command) (words : List (List ℕ)) → IsCommand command words → IsList command ↔ AreList words
 lists_by command words is = (

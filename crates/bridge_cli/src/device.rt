@@ -2,19 +2,22 @@
 ghost use Rattle.std.specs.Prelude.{◌≡◌, ◌⊎◌, map, string_bytes};
 ghost use Rattle.bridge_words.specs.declared.note.Note.TheVariants.{Usage, NoMemory};
 ghost use Rattle.bridge_words.specs.Words.{IsNoCommand};
-ghost use Rattle.bridge_core.specs.Failed.{TellsReadFault, TellsWriteFault, TellsNetFault};
+ghost use Rattle.bridge_core.specs.Failed.{TellsReadFault, TellsWriteFault, TellsDial};
 
-use crate::opening::{Opening, open_text};
+use crate::opening::{Opening, Showing, open_text};
 use crate::progress::{Progress, Watched};
 use bridge_core::bridge;
 use bridge_words::{Need, Note, need_of};
 use edge_disk::{FileDisk, MemDisk, OpenFault};
-use edge_io::{Net, Sink, Source};
+use edge_io::{Door, Net, Sink, Source};
 use std::io::IsTerminal;
+use std::sync::Wait;
+use std::thread::Threads;
 
 // Runs the words over the file as a disk, where it was opened, and else says why it wasn't. Its reading may be shown.
-fn run_over<S: Source, K: Sink, N: Net>(
+fn run_over<S: Source, K: Sink, N: Net + Send, R: Threads + Wait + Sync>(
     rt: &HostRuntime,
+    threads: &R,
     file: &str,
     words: &[String],
     opened: Result<FileDisk, OpenFault>,
@@ -24,16 +27,18 @@ fn run_over<S: Source, K: Sink, N: Net>(
     net: &mut N,
 ) -> Note
 where
-    N::P: Drop,
+    N::P: Drop + Send,
+    <N::P as Door>::L: Send,
+    N::L: Send,
     ensures usage { result ≡ Usage → IsNoCommand (map string_bytes words.now) }
     ensures reads { TellsReadFault (map string_bytes words.now) result (S.read_faults input.old) (S.read_faults input.new) (N.told net.old) (N.told net.new) }
     ensures writes { TellsWriteFault (map string_bytes words.now) result (K.write_faults output.old) (K.write_faults output.new) (N.told net.old) (N.told net.new) }
-    ensures dials { TellsNetFault result (N.told net.old) (N.told net.new) }
+    ensures dials { TellsDial (map string_bytes words.now) result (N.told net.old) (N.told net.new) }
 {
     match opened {
         Ok(disk) => {
             let disk = Watched::new(disk, Progress::new(rt, is_shown));
-            bridge(rt.alloc(), words, disk, input, output, net).note
+            bridge(threads, rt.alloc(), words, disk, input, output, net).note
         }
         Err(fault) => {
             let why = open_text(fault);
@@ -43,18 +48,23 @@ where
     }
 }
 
-// Whether somebody sees how far a command is: standard error is a terminal, and what the command prints goes elsewhere, or comes
-// at the end.
-fn is_watched(rt: &HostRuntime, opening: Opening) -> bool {
-    rt.stderr().is_terminal() && (opening.is_quiet || !rt.stdout().is_terminal())
+// Whether somebody sees how far a command is: standard error is a terminal, and what the command prints doesn't come between.
+fn is_watched(rt: &HostRuntime, showing: Showing) -> bool {
+    let may_show = match showing {
+        Showing::Always => true,
+        Showing::Apart => !rt.stdout().is_terminal(),
+        Showing::Never => false,
+    };
+    may_show && rt.stderr().is_terminal()
 }
 
-/// Does what the words ask for over the device that they want: `file`, opened or made, or one in memory
-/// without a byte where they want none. A `file` that can't be opened is a fault of the disk, and standard
-/// error says why in a line of its own. `list` shares `file` with others that list it; every other command
-/// has it alone while it runs.
-pub fn run_words<S: Source, K: Sink, N: Net>(
+/// Does what the words ask for, in threads of `threads` where that takes some, over the device that they want: `file`, opened
+/// or made, or one in memory without a byte where they want none. A `file` that can't be opened is a fault of the disk, and
+/// standard error says why in a line of its own. `list` shares `file` with others that list it; every other command has it
+/// alone while it runs.
+pub fn run_words<S: Source, K: Sink, N: Net + Send, R: Threads + Wait + Sync>(
     rt: &HostRuntime,
+    threads: &R,
     file: &str,
     words: &[String],
     input: &mut S,
@@ -62,29 +72,33 @@ pub fn run_words<S: Source, K: Sink, N: Net>(
     net: &mut N,
 ) -> Note
 where
-    N::P: Drop,
+    N::P: Drop + Send,
+    <N::P as Door>::L: Send,
+    N::L: Send,
     ensures usage { result ≡ Usage → IsNoCommand (map string_bytes words.now) }
     ensures no_command { IsNoCommand (map string_bytes words.now) → result ≡ Usage ⊎ result ≡ NoMemory }
     ensures reads { TellsReadFault (map string_bytes words.now) result (S.read_faults input.old) (S.read_faults input.new) (N.told net.old) (N.told net.new) }
     ensures writes { TellsWriteFault (map string_bytes words.now) result (K.write_faults output.old) (K.write_faults output.new) (N.told net.old) (N.told net.new) }
-    ensures dials { TellsNetFault result (N.told net.old) (N.told net.new) }
+    ensures dials { TellsDial (map string_bytes words.now) result (N.told net.old) (N.told net.new) }
 {
     let alloc = rt.alloc();
     match need_of(alloc, words) {
         Ok(Need::Make { len }) => {
             let opened = FileDisk::make_locked(rt, file, len);
-            run_over(rt, file, words, opened, false, input, output, net)
+            run_over(rt, threads, file, words, opened, false, input, output, net)
         }
         Ok(Need::Existing) => {
             let Ok(opening) = Opening::of(alloc, words) else {
                 return Note::NoMemory;
             };
             let opened = FileDisk::open_locked(rt, file, opening.sharing);
-            let is_shown = is_watched(rt, opening);
-            run_over(rt, file, words, opened, is_shown, input, output, net)
+            let is_shown = is_watched(rt, opening.showing);
+            run_over(
+                rt, threads, file, words, opened, is_shown, input, output, net,
+            )
         }
         Ok(Need::NoCommand | Need::Nothing) => match MemDisk::plain(alloc, 0) {
-            Ok(disk) => bridge(alloc, words, disk, input, output, net).note,
+            Ok(disk) => bridge(threads, alloc, words, disk, input, output, net).note,
             Err(_) => Note::NoMemory,
         },
         Err(_) => Note::NoMemory,

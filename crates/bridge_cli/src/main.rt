@@ -23,6 +23,6 @@ fn exit_code(note: Note) -> ExitCode
 }
 
 fn main(rt: HostRuntime) -> ExitCode {
-    let note = program::run(&rt);
+    let note = program::run(&rt, &rt);
     exit_code(note)
 }

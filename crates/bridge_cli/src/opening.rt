@@ -7,13 +7,24 @@ use bridge_words::Command;
 use edge_disk::{OpenFault, Sharing};
 use std::alloc::{AllocError, Global};
 
+/// Where a command shows how far its reading of FILE is. Such a line goes to standard error, where that is a terminal.
+#[derive(Clone, Copy)]
+pub enum Showing {
+    /// Wherever standard output goes: the command writes nothing to it before its end.
+    Always,
+    /// Where standard output is no terminal: the command writes to it meanwhile.
+    Apart,
+    /// Nowhere: nobody waits for the command's end.
+    Never,
+}
+
 /// How the words want a FILE that exists.
 #[derive(Clone, Copy)]
 pub struct Opening {
     /// Whether others may have it too.
     pub sharing: Sharing,
-    /// Whether the output gets nothing before the end.
-    pub is_quiet: bool,
+    /// Where it is shown how far its reading is.
+    pub showing: Showing,
 }
 
 // A command that lists FILE may have it beside others that do; every other one has it alone.
@@ -26,12 +37,21 @@ fn sharing_of(command: &Command) -> Sharing
         Command::Replay { .. } => Sharing::Exclusive,
         Command::Drain { .. } => Sharing::Exclusive,
         Command::Load { .. } => Sharing::Exclusive,
+        Command::Serve { .. } => Sharing::Exclusive,
     }
 }
 
-// Whether the output gets nothing before the command's end.
-fn is_quiet(command: &Command) -> bool {
-    matches!(command, Command::Drain { place: Some(_), .. })
+// A server shows nothing. A command that forwards to a place writes its line at the end, and the others write meanwhile.
+fn showing_of(command: &Command) -> Showing {
+    match command {
+        Command::Serve { .. } => Showing::Never,
+        Command::Drain { place: Some(_), .. } => Showing::Always,
+        Command::Format { .. }
+        | Command::List { .. }
+        | Command::Replay { .. }
+        | Command::Drain { place: None, .. }
+        | Command::Load { .. } => Showing::Apart,
+    }
 }
 
 impl Opening {
@@ -42,11 +62,11 @@ impl Opening {
         match Command::of(alloc, words)? {
             Some(command) => Ok(Opening {
                 sharing: sharing_of(&command),
-                is_quiet: is_quiet(&command),
+                showing: showing_of(&command),
             }),
             None => Ok(Opening {
                 sharing: Sharing::Exclusive,
-                is_quiet: false,
+                showing: Showing::Apart,
             }),
         }
     }

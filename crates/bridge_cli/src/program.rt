@@ -6,6 +6,8 @@ use edge_io::FileIo;
 use edge_net::TcpNet;
 use std::fs::{File, OpenOptions};
 use std::rt::Env;
+use std::sync::Wait;
+use std::thread::Threads;
 use std::{env, io};
 
 /// What the program was called with.
@@ -60,12 +62,17 @@ fn hold_streams(rt: &HostRuntime) -> [io::Result<File>; 3] {
 }
 
 // Does what the program was called with, over standard input, standard output and the sockets of the system.
-fn run_arguments(rt: &HostRuntime, arguments: &Arguments) -> Note {
+fn run_arguments<R: Threads + Wait + Sync>(
+    rt: &HostRuntime,
+    threads: &R,
+    arguments: &Arguments,
+) -> Note {
     let mut input = FileIo::of(rt.reader());
     let mut output = FileIo::of(io::writer(rt));
     let mut net = TcpNet::new(rt.alloc(), rt);
     run_words(
         rt,
+        threads,
         &arguments.file,
         &arguments.words,
         &mut input,
@@ -74,14 +81,15 @@ fn run_arguments(rt: &HostRuntime, arguments: &Arguments) -> Note {
     )
 }
 
-/// Runs the program: what it was called with is FILE and then the words, and its streams are standard input
-/// and output. One that is closed is taken as empty, or as one to which a write fails. Where it doesn't end well, standard error
-/// gets the note's line, and after the usage line another that says what is wrong with the words.
-pub fn run(rt: &HostRuntime) -> Note {
+/// Runs the program, in threads of `threads` where its command takes some: what it was called with is FILE and then the words,
+/// and its streams are standard input and output. One that is closed is taken as empty, or as one to which a write fails.
+/// Where it doesn't end well, standard error gets the note's line, and after the usage line another that says what is wrong with
+/// the words.
+pub fn run<R: Threads + Wait + Sync>(rt: &HostRuntime, threads: &R) -> Note {
     let _held = hold_streams(rt);
     match read_arguments(rt) {
         Ok(arguments) => {
-            let note = run_arguments(rt, &arguments);
+            let note = run_arguments(rt, threads, &arguments);
             print_note(rt, note);
             if note == Note::Usage {
                 print_wrong_words(rt, &arguments.words);

@@ -7,8 +7,7 @@ use Rattle.event_form.specs.declared.event.Entry.{Entry}
 use Rattle.edge_io.specs.declared.proto.Proto.{Proto}
 use Rattle.edge_io.specs.Net.{HungUp, IsHungUp}
 use Rattle.edge_io.specs.Told.{Adds, IsFresh, IsTold, IsToldAs}
-use Rattle.spool_state.specs.SpoolState.{SpoolState, end}
-use Rattle.spool_state.specs.Image.{StandsFor}
+use Rattle.spool_state.specs.SpoolState.{SpoolState, IsSound, end}
 use Rattle.spool_state.specs.Layout.{most_number}
 use Rattle.spool_state.specs.Left.{NumberedEntry, left}
 use Rattle.spool_state.proofs.Laws.{one_state, stands_unbroken}
@@ -16,7 +15,9 @@ use Rattle.spool_log.specs.declared.reading.numbered.Numbered.{Numbered}
 use Rattle.spool_log.specs.Outcome.{given_entries}
 use Rattle.spool_log.specs.Stages.{StandsForOne}
 use Rattle.conn_serve.proofs.Acting.{none_by}
+use Rattle.edge_disk.specs.Disk.{Moment}
 use Rattle.desk_access.specs.Call.{Call, calls_of}
+use Rattle.desk_access.specs.Desk.{DeskState}
 use Rattle.desk_access.specs.Journal.{calls_by}
 use Rattle.forward_core.specs.Calls.{AreGranted, entries_of}
 use Rattle.forward_core.specs.Laws.{EndsOver, IsOnDesk}
@@ -26,6 +27,8 @@ use Rattle.forward_core.specs.Settings.{Settings}
 use Rattle.forward_core.specs.declared.outward.Outward.{Outward}
 use Rattle.forward_core.specs.declared.sent.Sent.{Sent}
 use Rattle.forward_core.specs.declared.sent.Sent.TheVariants as Ending
+use Rattle.forward_core.proofs.AfterLaw.{leaves_rest}
+use Rattle.forward_core.proofs.Counting.{left_count}
 use Rattle.forward_core.proofs.DropLaw.{told_is_gone}
 use Rattle.forward_core.proofs.KnownLaw.{known_after}
 use Rattle.forward_core.proofs.SendsLaw.{sends_left}
@@ -36,14 +39,15 @@ use Rattle.bridge_core.specs.CompleteDrain.{CanDrain, DrainEndsWell, DrainThereE
 use Rattle.bridge_core.specs.Done.{Run}
 use Rattle.bridge_core.specs.Drained.{IsIdle, IsLooked, IsOverSpool, IsSession, IsUnread, PrintsOf}
 use Rattle.bridge_core.specs.Listed.{IsUnreadable}
-use Rattle.bridge_core.specs.Receivers.{outward_of}
-use Rattle.bridge_core.specs.Refused.{note_of_sent}
-use Rattle.bridge_core.specs.Replayed.{Reaches, desk_in}
-use Rattle.bridge_core.specs.Written.{IsWritten}
+use Rattle.bridge_parts.specs.Receivers.{outward_of}
+use Rattle.bridge_parts.specs.Refused.{note_of_sent}
+use Rattle.bridge_parts.specs.Opened.{desk_in}
+use Rattle.bridge_core.specs.Replayed.{Reaches}
+use Rattle.bridge_parts.specs.Written.{IsWritten}
+use Rattle.bridge_core.proofs.Doing.{is_serve}
 use Rattle.bridge_core.proofs.Complete.{not_disk, not_read, not_write, not_dial}
 use Rattle.bridge_core.proofs.CompleteEndings.{kept}
 use Rattle.bridge_core.proofs.CompleteOrdinals.{desk_rules, not_by_desk, pending_count}
-use Rattle.bridge_core.proofs.CompletePending.{pending_few}
 use Rattle.bridge_core.proofs.CompleteSession.{MayBe, session_ending}
 
 -- the entries of a list
@@ -54,10 +58,10 @@ entries_given (one ∷ all) = ap (λ (l : List Entry). one.entry ∷ l) (entries
 -- ---- the peer's bytes
 
 -- the peer had the bytes read and a rest, which is none where the link is at its end
-record Whole (after : Option (List ℕ)) (whole bytes : List ℕ) : Type 0 where
-  rest : List ℕ
-  joined : whole ≡ bytes ++ rest
-  at_end : IsAtEnd after → rest ≡ []
+pub record Whole (after : Option (List ℕ)) (whole bytes : List ℕ) : Type 0 where
+  pub rest : List ℕ
+  pub joined : whole ≡ bytes ++ rest
+  pub at_end : IsAtEnd after → rest ≡ []
 
 whole_input : (before after : Option (List ℕ)) (b bytes : List ℕ) → before ≡ Some b → Consumes before after bytes → Whole after b bytes
 whole_input before after b bytes input consumed =
@@ -112,26 +116,33 @@ Remains Ending.DiskFault = Unit {0}
 Remains Ending.NoMemory = Unit {0}
 Remains sent = ⊥
 
-module _ (settings : Settings) (proto : Proto) (left_after : Option (List ℕ)) (s : SpoolState) (run : Run) (start until : ℕ) (sent : Sent) (bytes : List ℕ) (calls : List Call) (text whole : List ℕ) (stands : StandsFor s run.disk.reads) (room : s.ordinal + pending_count s ≤ most_number)
-    (start_is : start ≡ s.cursor) (until_is : until ≡ end s) (reached : Reaches s run.disk_after calls) (k : Whole left_after whole bytes) (short : length whole < 2 ^ 40)
+-- what is left where all was drained: nothing, and the cursor is at the end
+pub record IsDrained (s : SpoolState) (after : DeskState) : Type 0 where
+  pub none : left after.spool ≡ []
+  pub cursor : after.spool.cursor ≡ end after.spool
+  pub end_is : end after.spool ≡ end s
+  pub sure : after.doubt ≡ []
+
+module _ (settings : Settings) (proto : Proto) (left_after : Option (List ℕ)) (s : SpoolState) (now : Moment) (start until : ℕ) (sent : Sent) (bytes : List ℕ) (calls : List Call) (text whole : List ℕ) (sound : IsSound s) (room : s.ordinal + pending_count s ≤ most_number)
+    (start_is : start ≡ s.cursor) (until_is : until ≡ end s) (reached : Reaches s now calls) (k : Whole left_after whole bytes) (short : length whole < 2 ^ 40)
     (ended : Ended (EndsAs settings proto) (HintsAs proto) left_after until sent start bytes calls text) where
   made : calls_of reached.records ≡ calls
   made = calls_by 0 calls reached.records reached.by
 
   on : IsOnDesk (desk_in s) start until calls reached.records reached.after
-  on = record { rules = desk_rules s stands.sound; sure = refl; start_is = start_is; until_is = until_is; calls_are = made; goes = reached.goes }
+  on = record { rules = desk_rules s sound; sure = refl; start_is = start_is; until_is = until_is; calls_are = made; goes = reached.goes }
 
   over : EndsOver settings proto s sent bytes calls text ended.told ended.also
   over = sends_left settings proto left_after (desk_in s) reached.after reached.records start until sent bytes calls text on ended
 
-  may_be : PeerAcknowledges settings proto (pending s) whole → MayBe sent
+  pub may_be : PeerAcknowledges settings proto (pending s) whole → MayBe sent
   may_be answers =
       let entries : entries_of over.all ≡ pending s = sym (entries_given over.all) ∙ ap (map (λ (one : NumberedEntry). one.entry)) over.is_list.are_left in
       session_ending settings proto (pending s) whole bytes k.rest text ended.told ended.also sent k.joined short answers
       (subst (λ (l : List Entry). EndsAs settings proto l bytes text ended.told ended.also sent) entries over.ends)
       (λ by. elim (ended.closed by) [ inl at ↦ inl (k.at_end at) | inr hints ↦ inr hints ])
 
-  remains : (t : Sent) → sent ≡ t → MayBe t → Remains t
+  pub remains : (t : Sent) → sent ≡ t → MayBe t → Remains t
   remains Ending.Drained is may = tt
   remains Ending.ReadFault is may = tt
   remains Ending.WriteFault is may = tt
@@ -139,20 +150,30 @@ module _ (settings : Settings) (proto : Proto) (left_after : Option (List ℕ)) 
   remains Ending.NoMemory is may = tt
   remains (Ending.NotSpool at) is may =
       let e = subst (λ (t : Sent). Ended (EndsAs settings proto) (HintsAs proto) left_after until t start bytes calls text) is ended in
-      not_by_desk s reached.after reached.records calls until start (Ending.NotSpool at) stands.sound room reached.by reached.goes e.session e.refused tt
+      not_by_desk s reached.after reached.records calls until start (Ending.NotSpool at) sound room reached.by reached.goes e.session e.refused tt
   remains (Ending.Worn ordinal) is may =
       let e = subst (λ (t : Sent). Ended (EndsAs settings proto) (HintsAs proto) left_after until t start bytes calls text) is ended in
-      not_by_desk s reached.after reached.records calls until start (Ending.Worn ordinal) stands.sound room reached.by reached.goes e.session e.refused tt
+      not_by_desk s reached.after reached.records calls until start (Ending.Worn ordinal) sound room reached.by reached.goes e.session e.refused tt
   remains t is may = absurd may
 
   -- after all was drained nothing is left
-  none_left : sent ≡ Ending.Drained → LeavesNothing s run.disk_after
-  none_left is =
+  pub drained : sent ≡ Ending.Drained → IsDrained s reached.after
+  drained is =
       let e = subst (λ (t : Sent). Ended (EndsAs settings proto) (HintsAs proto) left_after until t start bytes calls text) is ended in
       let o = sends_left settings proto left_after (desk_in s) reached.after reached.records start until Ending.Drained bytes calls text on e in
       let gone = told_is_gone settings proto left_after (desk_in s) reached.after reached.records start until Ending.Drained bytes calls text on (λ halt. halt) e o in
-      let sure : reached.after.doubt ≡ [] = (known_after (desk_in s) reached.after reached.records (desk_rules s stands.sound) refl (subst AreGranted (sym made) e.refused) reached.goes).1 in
-      inr (λ c image. (reached.after.spool, subst (λ (l : List SpoolState). StandsForOne reached.after.spool l c) sure (reached.images c image), gone.drained refl))
+      let granted = subst AreGranted (sym made) e.refused in
+      record {
+        none = gone.drained refl;
+        cursor = gone.cursor refl;
+        end_is = (leaves_rest (desk_in s) reached.after reached.records (desk_rules s sound) refl granted reached.goes).end_is;
+        sure = (known_after (desk_in s) reached.after reached.records (desk_rules s sound) refl granted reached.goes).1;
+      }
+
+  none_left : sent ≡ Ending.Drained → LeavesNothing s now
+  none_left is =
+      let all = drained is in
+      inr (λ c image. (reached.after.spool, subst (λ (l : List SpoolState). StandsForOne reached.after.spool l c) all.sure (reached.images c image), all.none))
 
 -- ---- the run
 
@@ -183,10 +204,10 @@ module _ (words : List (List ℕ)) (run : Run) (counts : Counts) (note : Note) (
       let until_is = made.until_is ∙ ap end one in
       let k = input f.bytes f.read f.consumed in
       let settings = settings_as outward in
-      let room : s.ordinal + pending_count s ≤ most_number = omega (arith, can.ordinals, pending_few s can.stands.sound) in (
-        remains settings outward.proto after s run session.start session.until sent f.bytes f.calls f.text b can.stands room start_is until_is reached k short f.ended sent refl
-            (may_be settings outward.proto after s run session.start session.until sent f.bytes f.calls f.text b can.stands room start_is until_is reached k short f.ended answers),
-        none_left settings outward.proto after s run session.start session.until sent f.bytes f.calls f.text b can.stands room start_is until_is reached k short f.ended,
+      let room : s.ordinal + pending_count s ≤ most_number = omega (arith, can.ordinals, left_count s can.stands.sound) in (
+        remains settings outward.proto after s run.disk_after session.start session.until sent f.bytes f.calls f.text b can.stands.sound room start_is until_is reached k short f.ended sent refl
+            (may_be settings outward.proto after s run.disk_after session.start session.until sent f.bytes f.calls f.text b can.stands.sound room start_is until_is reached k short f.ended answers),
+        none_left settings outward.proto after s run.disk_after session.start session.until sent f.bytes f.calls f.text b can.stands.sound room start_is until_is reached k short f.ended,
       )
 
   -- the note of what remains
@@ -233,7 +254,7 @@ drain_there_ends_well run counts proto place words note s is none asks can links
   | inl memory ↦ inl memory
   | inr (inl refused) ↦ unread words run counts note is none s can refused.0
   | inr (inr (ungiven, inl needless)) ↦ by_line words run counts note is none s can _ _ _ needless.line (idle words run counts note is none s can (needless.idle can.told))
-  | inr (inr (ungiven, inr (inl undialed))) ↦ elim undialed.why [ inl fault ↦ absurd (not_dial words run counts note is none fault) | inr wanting ↦ inl wanting ]
+  | inr (inr (ungiven, inr (inl undialed))) ↦ elim undialed.why [ inl fault ↦ absurd (not_dial words run counts note is none (λ serves. let same = is_serve (Drain proto (Some place)) words asks serves in cc) fault) | inr wanting ↦ inl wanting ]
   | inr (inr (ungiven, inr (inr placed))) ↦ elim links [
     | inl nobody ↦ absurd (hung_some run _ nobody placed.hung)
     | inr link ↦

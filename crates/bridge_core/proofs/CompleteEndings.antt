@@ -24,7 +24,8 @@ use Rattle.conn_serve.proofs.Failing.{disk_fault_is_told}
 use Rattle.bridge_words.specs.declared.note.Note.{Note}
 use Rattle.bridge_words.specs.Notes.{note_of_talk}
 use Rattle.bridge_core.specs.CompleteReplay.{AreFirstMoves, Gains, events_of}
-use Rattle.bridge_core.specs.Replayed.{desk_in, Reaches}
+use Rattle.bridge_parts.specs.Opened.{desk_in}
+use Rattle.bridge_core.specs.Replayed.{Reaches}
 use Rattle.bridge_core.proofs.CompleteDesk.{stays_sure, by_parts, adds_taken}
 
 -- ---- endings

@@ -72,6 +72,13 @@ last_stores : (conn index : ℕ) (events : List Staged) (calls : List Call) (tex
 last_stores conn index [] calls text nothing = ap (λ (l : List Call). events_of (taken_of l)) nothing.0
 last_stores conn index (one ∷ events) calls text stores = took_events conn index (one ∷ events) calls stores.0 stores.1
 
+-- Where all was done, the bytes are the frames of the steps and those held, and the calls took all events that they stage: those held
+-- last.
+pub record Took (conn : ℕ) (whole : List ℕ) (calls : List Call) (steps : List (Step LumberFrame)) (held : List LumberFrame) (late : List Call) (part : List ℕ) : Type 0 where
+  pub spelled : AreSpelled (Spells Receiver) (frames_of steps ++ held) whole
+  pub own : events_of (taken_of calls) ≡ map (λ (one : Staged). one.event) (staged (frames_of steps ++ held))
+  pub last : StoresLast conn (count (calls_of steps)) (staged held) late part
+
 -- ---- the connection
 
 closed_never : (fault : TakeFault) → Talk.Closed ≡ talk_of fault → ⊥
@@ -133,23 +140,30 @@ module _ (conn : ℕ) (tokens : Tokens) (s : SpoolState) (now : Moment) (left : 
   lumber_allowed frames ends fits short =
       allowed (lumberjack conn) left b c.steps c.held c.at c.late c.part (not_cut frames ends) (not_faulty frames ends) (omega (arith, short, kept_short left whole b k)) (not_refused frames ends fits) talk c.ending
 
-  stored_at : (t : Talk) → IsDone t → Ending (lumberjack conn) left b c.steps c.held c.at c.late c.part t → (events : List Event) × Stores Lumberjack tokens whole events × Gains s now events
-  stored_at Talk.Ended done ((over, stream, last), late) =
+  took_at : (t : Talk) → IsDone t → Ending (lumberjack conn) left b c.steps c.held c.at c.late c.part t → Took conn whole calls c.steps c.held c.late c.part
+  took_at Talk.Ended done ((over, stream, last), late) =
       let all : whole ≡ b = kept_all left whole b k over in
       let front = front_at (frames_of c.steps ++ c.held) c.at c.front in
       let rest : front.rest ≡ [] = none_by front.rest (omega (arith, last, ap length all, front.ends, ap length front.whole, length-append front.front front.rest)) in
       let text_is : front.front ≡ whole = sym (front.whole ∙ ap (λ (l : List ℕ). front.front ++ l) rest ∙ append-nil front.front) in
-      let events = map (λ (one : Staged). one.event) (staged (frames_of c.steps ++ c.held)) in
-      let own : events_of (taken_of calls) ≡ events =
-      ap (λ (l : List Call). events_of (taken_of l)) c.made ∙ ap events_of (taken_then (calls_of c.steps) c.late) ∙ map-append (λ (e : Entry). e.event) (taken_of (calls_of c.steps)) (taken_of c.late)
-      ∙ ap (λ (l : List Event). l ++ events_of (taken_of c.late)) (moves_store conn [] c.steps c.each)
-      ∙ ap (λ (l : List Event). map (λ (one : Staged). one.event) (staged (frames_of c.steps)) ++ l) (last_stores conn (count (calls_of c.steps)) (staged c.held) c.late c.part late)
-      ∙ sym (map-append (λ (one : Staged). one.event) (staged (frames_of c.steps)) (staged c.held))
-      ∙ ap (map (λ (one : Staged). one.event)) (sym (staged-append (frames_of c.steps) c.held)) in
-      (events, (frames_of c.steps ++ c.held, subst (AreSpelled (Spells Receiver) (frames_of c.steps ++ c.held)) text_is front.spelled, refl), gains s now calls events reached none own)
-  stored_at Talk.Closed done (inl (f, end, front, (batch, (fault, took, is, said)))) = absurd (closed_never fault is)
-  stored_at Talk.Closed done (inr (over, is_over, (some, (fault, took, is, said)))) = absurd (closed_never fault is)
-  stored_at t done e = absurd done
+      record {
+        spelled = subst (AreSpelled (Spells Receiver) (frames_of c.steps ++ c.held)) text_is front.spelled;
+        own = ap (λ (l : List Call). events_of (taken_of l)) c.made ∙ ap events_of (taken_then (calls_of c.steps) c.late) ∙ map-append (λ (e : Entry). e.event) (taken_of (calls_of c.steps)) (taken_of c.late)
+            ∙ ap (λ (l : List Event). l ++ events_of (taken_of c.late)) (moves_store conn [] c.steps c.each)
+            ∙ ap (λ (l : List Event). map (λ (one : Staged). one.event) (staged (frames_of c.steps)) ++ l) (last_stores conn (count (calls_of c.steps)) (staged c.held) c.late c.part late)
+            ∙ sym (map-append (λ (one : Staged). one.event) (staged (frames_of c.steps)) (staged c.held))
+            ∙ ap (map (λ (one : Staged). one.event)) (sym (staged-append (frames_of c.steps) c.held));
+        last = late;
+      }
+  took_at Talk.Closed done (inl (f, end, front, (batch, (fault, took, is, said)))) = absurd (closed_never fault is)
+  took_at Talk.Closed done (inr (over, is_over, (some, (fault, took, is, said)))) = absurd (closed_never fault is)
+  took_at t done e = absurd done
+
+  pub lumber_took : IsDone talk → Took conn whole calls c.steps c.held c.late c.part
+  lumber_took done = took_at talk done c.ending
 
   pub lumber_stored : IsDone talk → (events : List Event) × Stores Lumberjack tokens whole events × Gains s now events
-  lumber_stored done = stored_at talk done c.ending
+  lumber_stored done =
+      let t = lumber_took done in
+      let events = map (λ (one : Staged). one.event) (staged (frames_of c.steps ++ c.held)) in
+      (events, (frames_of c.steps ++ c.held, t.spelled, refl), gains s now calls events reached none t.own)

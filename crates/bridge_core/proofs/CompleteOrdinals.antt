@@ -30,7 +30,7 @@ use Rattle.forward_core.specs.Reading as reading
 use Rattle.forward_core.specs.Session.{EndsRefused, IsRefusedWith}
 use Rattle.forward_core.specs.declared.sent.Sent.{Sent}
 use Rattle.forward_core.specs.declared.sent.Sent.TheVariants as Ending
-use Rattle.bridge_core.specs.Replayed.{desk_in}
+use Rattle.bridge_parts.specs.Opened.{desk_in}
 use Rattle.bridge_core.proofs.CompleteDesk.{by_parts, first_answers, found_is, no_doubt, stays_sure}
 
 -- the desk of a spool that was opened keeps the rules

@@ -152,6 +152,15 @@ moves_store conn before (s ∷ steps) tail more moves after =
           ∙ ap (λ (l : List Event). relp_events act ++ l) rest.own;
     }
 
+-- Where all was done, these steps took the events of the acts of all frames, up to the end of the bytes or to a `close`.
+pub record Took (whole : List ℕ) (calls : List Call) (steps : List (Step Frame)) : Type 0 where
+  pub tail : List Frame
+  pub acts : List RelpAct
+  pub ends : RelpEnds whole (frames_of steps ++ tail)
+  pub are : Steps Unopened (frames_of steps ++ tail) acts
+  pub only : calls ≡ calls_of steps
+  pub own : events_of (taken_of calls) ≡ flat_map relp_events acts
+
 -- ---- the connection
 
 -- at a refusal an event wasn't taken
@@ -216,32 +225,41 @@ module _ (conn : ℕ) (tokens : Tokens) (s : SpoolState) (now : Moment) (left : 
       allowed (relp conn) left b c.steps c.held c.at c.late c.part (not_cut frames ends) (not_faulty frames ends) (omega (arith, short, kept_short left whole b k)) (not_refused fits) talk c.ending
 
   -- the events of the acts, where nothing more was called
-  stored : (tail : List Frame) (more : List RelpAct) → Steps (state_after (frames_of c.steps)) tail more → flat_map relp_events more ≡ [] → c.late ≡ [] → RelpEnds whole (frames_of c.steps ++ tail)
-      → (events : List Event) × Stores Relp tokens whole events × Gains s now events
-  stored tail more later nothing ended ends =
+  took : (tail : List Frame) (more : List RelpAct) → Steps (state_after (frames_of c.steps)) tail more → flat_map relp_events more ≡ [] → c.late ≡ [] → RelpEnds whole (frames_of c.steps ++ tail) → Took whole calls c.steps
+  took tail more later nothing ended ends =
       let are = moves_store conn [] c.steps tail more c.each later in
-      let only : calls ≡ calls_of c.steps = c.made ∙ ap (λ (l : List Call). calls_of c.steps ++ l) ended ∙ append-nil (calls_of c.steps) in
-      let own : events_of (taken_of calls) ≡ flat_map relp_events are.acts =
-      ap (λ (l : List Call). events_of (taken_of l)) only
-      ∙ sym (append-nil (events_of (taken_of (calls_of c.steps))))
-      ∙ ap (λ (l : List Event). events_of (taken_of (calls_of c.steps)) ++ l) (sym nothing)
-      ∙ are.own in
-      (flat_map relp_events are.acts, (frames_of c.steps ++ tail, ends, (are.acts, acts_by_frames (frames_of c.steps ++ tail) are.acts are.are, refl)), gains s now calls (flat_map relp_events are.acts) reached none own)
+      let only : calls ≡ calls_of c.steps = c.made ∙ ap (λ (l : List Call). calls_of c.steps ++ l) ended ∙ append-nil (calls_of c.steps) in record {
+        tail = tail;
+        acts = are.acts;
+        ends = ends;
+        are = are.are;
+        only = only;
+        own = ap (λ (l : List Call). events_of (taken_of l)) only
+            ∙ sym (append-nil (events_of (taken_of (calls_of c.steps))))
+            ∙ ap (λ (l : List Event). events_of (taken_of (calls_of c.steps)) ++ l) (sym nothing)
+            ∙ are.own;
+      }
 
-  stored_at : (t : Talk) → IsDone t → Ending (relp conn) left b c.steps c.held c.at c.late c.part t → (events : List Event) × Stores Relp tokens whole events × Gains s now events
-  stored_at Talk.Ended done ((over, stream, last), nothing) =
+  took_at : (t : Talk) → IsDone t → Ending (relp conn) left b c.steps c.held c.at c.late c.part t → Took whole calls c.steps
+  took_at Talk.Ended done ((over, stream, last), nothing) =
       let all : whole ≡ b = kept_all left whole b k over in
       let front = front_at c.at [] (subst (λ (l : List Frame). IsFront IsSpelling b l c.at) (sym (append-nil (frames_of c.steps ++ c.held))) c.front) in
-      stored [] [] tt refl nothing.0 (c.at, front, inl (last ∙ ap length (sym all)))
-  stored_at Talk.Closed done (inr last) = absurd last.2
-  stored_at Talk.Closed done (inl (f, end, front, (act, answer, (is, ended)))) =
+      took [] [] tt refl nothing.0 (c.at, front, inl (last ∙ ap length (sym all)))
+  took_at Talk.Closed done (inr last) = absurd last.2
+  took_at Talk.Closed done (inl (f, end, front, (act, answer, (is, ended)))) =
       let ends : IsEnd act = subst IsEnd (sym is) tt in
       let over : state_after (frames_of c.steps ++ f ∷ []) ≡ Closed =
       (ends_when_closed (state_after (frames_of c.steps)) f act (state_after (frames_of c.steps ++ f ∷ [])) answer (answer.0, answer.1, state_then (frames_of c.steps) f answer.0 answer.1)).0 ends in
       let closing : closed (frames_of c.steps ++ f ∷ []) ≡ true = closed_by (closed (frames_of c.steps ++ f ∷ [])) (opened (frames_of c.steps ++ f ∷ [])) over in
-      stored (f ∷ []) (act ∷ []) (answer, (state_after (frames_of c.steps ++ f ∷ []), (answer.0, answer.1, state_then (frames_of c.steps) f answer.0 answer.1), tt))
+      took (f ∷ []) (act ∷ []) (answer, (state_after (frames_of c.steps ++ f ∷ []), (answer.0, answer.1, state_then (frames_of c.steps) f answer.0 answer.1), tt))
       (ap (λ (x : RelpAct). flat_map relp_events (x ∷ [])) is) ended (end, front_at end (f ∷ []) front, inr closing)
-  stored_at t done e = absurd done
+  took_at t done e = absurd done
+
+  pub relp_took : IsDone talk → Took whole calls c.steps
+  relp_took done = took_at talk done c.ending
 
   pub relp_stored : IsDone talk → (events : List Event) × Stores Relp tokens whole events × Gains s now events
-  relp_stored done = stored_at talk done c.ending
+  relp_stored done =
+      let t = relp_took done in
+      let frames = frames_of c.steps ++ t.tail in
+      (flat_map relp_events t.acts, (frames, t.ends, (t.acts, acts_by_frames frames t.acts t.are, refl)), gains s now calls (flat_map relp_events t.acts) reached none t.own)

@@ -21,7 +21,7 @@ use Rattle.bridge_words.specs.Notes.{note_of_talk}
 use Rattle.bridge_core.specs.Complete.{Counts, IsRunOf, NoneFailed}
 use Rattle.bridge_core.specs.CompleteReplay.{CanReplay, EndsWhole, Gains, NoneIsRefused, ReplayEndsWell, Stores, TakesAll, conn_in}
 use Rattle.bridge_core.specs.Done.{Run}
-use Rattle.bridge_core.specs.Refused.{note_of_recover}
+use Rattle.bridge_parts.specs.Refused.{note_of_recover}
 use Rattle.bridge_core.specs.Replayed.{IsReplayed, Reaches}
 use Rattle.bridge_core.proofs.Complete.{not_disk, not_read, not_write}
 use Rattle.bridge_core.proofs.CompleteEndings.{IsAllowed, IsDone, Kept, allowed_note, kept, none_failed}

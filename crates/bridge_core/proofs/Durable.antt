@@ -19,7 +19,8 @@ use Rattle.hec_session.specs.declared.tokens.Tokens.{Tokens}
 use Rattle.conn_serve.proofs.Acknowledged.{acked_is_taken}
 use Rattle.conn_serve.proofs.HecAcks.{acknowledged_is_taken, told_is_taken}
 use Rattle.bridge_core.specs.Acknowledged.{IsGroupKept, AckedIsDurable, IsTakenDurably, AnswersAreDurable}
-use Rattle.bridge_core.specs.Replayed.{desk_in, IsStored}
+use Rattle.bridge_parts.specs.Opened.{desk_in}
+use Rattle.bridge_core.specs.Replayed.{IsStored}
 
 -- each group that was taken is kept
 groups_kept : (s : SpoolState) (calls : List Call) → AllKept s calls → All (IsGroupKept s) (groups_of calls)

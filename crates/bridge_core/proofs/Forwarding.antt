@@ -18,7 +18,6 @@ use Rattle.spool_log.proofs.Numbers.{end_known}
 use Rattle.spool_log.specs.State.{View, IsIn}
 use Rattle.desk_access.specs.Call.{Call}
 use Rattle.desk_access.specs.Desk.{Stood}
-use Rattle.forward_core.specs.Forwarded.{Forwards}
 use Rattle.forward_core.specs.Forwarded as sending
 use Rattle.forward_core.specs.Turning.{IsHalt}
 use Rattle.forward_core.specs.declared.outward.Outward.{Outward}
@@ -27,10 +26,12 @@ use Rattle.forward_core.specs.declared.sent.Sent.TheVariants as Ending
 use Rattle.conn_serve.specs.Endings.{CountsFaults}
 use Rattle.bridge_words.specs.declared.note.Note.{Note}
 use Rattle.bridge_core.specs.Failed.{CountsWrites, IsHaltNote}
-use Rattle.bridge_core.specs.Refused.{note_of_sent, note_of_recover}
-use Rattle.bridge_core.specs.Replayed.{desk_in}
+use Rattle.bridge_parts.specs.Refused.{note_of_sent, note_of_recover}
+use Rattle.bridge_parts.specs.Opened.{desk_in}
 use Rattle.bridge_core.specs.Drained.{IsLooked, IsIdle, HasMore, IsUnread, IsSent, IsSession}
 use Rattle.bridge_core.specs.Listed.{IsUnreadable}
+use Rattle.bridge_parts.specs.Pending.{pending_in}
+use Rattle.bridge_parts.proofs.Numbers.{pending_seen}
 use Rattle.bridge_core.specs.Sending.{Sends}
 use Rattle.bridge_core.proofs.Sure.{unreadable, unopened}
 
@@ -78,6 +79,12 @@ sent_note Ending.NoMemory = record { no_usage = λ is. cc; no_length = λ have w
 pub note_as : (note : Note) (sent : Sent) → note ≡ note_of_sent sent → IsSentNote note
 note_as note sent is = subst IsSentNote (sym is) (sent_note sent)
 
+-- nor is that of a line printed after one
+pub no_dial_after : (sent : Sent) (note : Note) → (note ≡ note_of_sent sent) ⊎ ((note ≡ Note.WriteFault) ⊎ (note ≡ Note.NoMemory)) → note ≡ Note.NetFault → ⊥
+no_dial_after sent note (inl is) by = (note_as note sent is).no_dial by
+no_dial_after sent note (inr (inl is)) by = cc
+no_dial_after sent note (inr (inr is)) by = cc
+
 -- ---- faults, by the note
 
 module _ (sent : Sent) (note : Note) (is : note ≡ note_of_sent sent) where
@@ -116,9 +123,9 @@ pub seen : (s : SpoolState) (v : View) → IsIn s [] v → IsSeen s (cursor_of v
 seen s v held = record { cursor_is = held.knows.cursor; last_is = end_known s v.memory.active held.sound held.knows.active; within = held.sound.to_end }
 
 -- What a session did over the spool, it did over the device from which that was opened.
-pub sent_from : (s : SpoolState) (old mid new : Moment) (start until before most cursor last : ℕ) (calls : List Call) → StandsFor s old.reads → IsSeen s before most → before < most → LeavesOnly old.image old mid
-    → Sends s mid new start until calls cursor last → IsSent old new start until calls (cursor - before) (last - cursor)
-sent_from s old mid new start until before most cursor last calls stood sees more first sends = record {
+pub sent_from : (s : SpoolState) (old mid new : Moment) (start until cursor last remaining : ℕ) (v : View) (calls : List Call) → StandsFor s old.reads → IsIn s [] v → IsSeen s cursor last → cursor < last → LeavesOnly old.image old mid
+    → Sends s mid new start until calls remaining → IsSent old new start until calls (pending_in v.memory - remaining) remaining
+sent_from s old mid new start until cursor last remaining v calls stood held sees more first sends = record {
   state = s;
   stood = stood;
   more = omega (arith, sees.cursor_is, sees.last_is, more);
@@ -126,8 +133,8 @@ sent_from s old mid new start until before most cursor last calls stood sees mor
   until_is = sends.until_is;
   reached = sends.keeps.reached;
   any_moment = both old.image (Stood (desk_in s) sends.keeps.reached.records) (λ c. old.image c ⊎ Stood (desk_in s) sends.keeps.reached.records c) old mid new first sends.keeps.any_moment (λ c o. inl o) (λ c o. inr o);
-  confirmed_is = omega (arith, sends.cursor_is, sees.cursor_is);
-  remaining_is = omega (arith, sends.cursor_is, sends.last_is);
+  confirmed_is = omega (arith, sends.remaining_is, pending_seen s [] v held);
+  remaining_is = sends.remaining_is;
 }
 
 -- a session, where the calls made mean something else too

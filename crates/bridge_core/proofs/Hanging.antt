@@ -12,9 +12,9 @@ use Rattle.forward_core.specs.declared.outward.Outward.{Outward}
 use Rattle.forward_core.specs.declared.sent.Sent.{Sent}
 use Rattle.forward_core.specs.declared.sent.Sent.TheVariants as Ending
 use Rattle.bridge_words.specs.declared.note.Note.{Note}
-use Rattle.bridge_core.specs.Failed.{WritesOfBoth}
-use Rattle.bridge_core.specs.Refused.{note_of_sent}
-use Rattle.bridge_core.specs.Sending.{IsSentOver, RoseBy, WroteAfter}
+use Rattle.bridge_parts.specs.Refused.{note_of_sent}
+use Rattle.bridge_core.specs.Sending.{IsSentOver}
+use Rattle.bridge_parts.specs.Counted.{WritesOfBoth, RoseBy, WroteAfter}
 use Rattle.bridge_core.proofs.Forwarding.{sent_by_read, sent_by_write}
 
 -- a link's faults are added, one at least
@@ -47,12 +47,11 @@ link_writes sent note n m before now wrote wrote' counts gains after = record {
 }
 
 -- the list of links is the same after the dial
-pub over_from : (outward : Outward) (old mid new : NetState) (dialed given left written : Option (List ℕ)) (before : ℕ) (taken taken' : Option (List ℕ)) (Made : ℕ → ℕ → ℕ → ℕ → List Call → Type 0) (note : Note) → mid.hung ≡ old.hung
+pub over_from : (outward : Outward) (old mid new : NetState) (dialed given left written : Option (List ℕ)) (before : ℕ) (taken taken' : Option (List ℕ)) (Made : ℕ → ℕ → ℕ → List Call → Type 0) (note : Note) → mid.hung ≡ old.hung
     → IsSentOver outward mid new dialed given left written before taken taken' Made note → IsSentOver outward old new dialed given left written before taken taken' Made note
 over_from outward old mid new dialed given left written before taken taken' Made note same over = record {
   sent = over.sent;
-  cursor = over.cursor;
-  last = over.last;
+  remaining = over.remaining;
   given_after = over.given_after;
   left_after = over.left_after;
   written_after = over.written_after;

@@ -4,8 +4,8 @@ pub mod Given
 pub mod Sure
 pub mod Failing
 pub mod Replays
-pub mod Sessions
 pub mod Forwarding
+pub mod Sessions
 pub mod Over
 pub mod Firsts
 pub mod Hanging
@@ -18,7 +18,13 @@ pub mod CompleteRelp
 pub mod CompleteLumber
 pub mod CompleteHec
 pub mod CompleteReplay
-pub mod CompletePending
 pub mod CompleteOrdinals
 pub mod CompleteSession
 pub mod CompleteDrain
+pub mod LoadRoom
+pub mod LoadRelp
+pub mod LoadFronts
+pub mod LoadLumber
+pub mod LoadLumberPeer
+pub mod LoadRelpPeer
+pub mod LoadWell

@@ -16,7 +16,7 @@ use Rattle.forward_core.specs.declared.sent.Sent.{Sent}
 use Rattle.forward_core.proofs.SendsLaw.{sends_left}
 use Rattle.forward_core.proofs.AfterLaw.{only_marked_known}
 use Rattle.forward_core.proofs.DropLaw.{told_is_gone}
-use Rattle.bridge_core.specs.Replayed.{desk_in}
+use Rattle.bridge_parts.specs.Opened.{desk_in}
 use Rattle.bridge_core.specs.Drained.{IsOverSpool, IsSession, IsSessionOver}
 
 -- a desk of a sound spool, outside doubt, of which no id was issued

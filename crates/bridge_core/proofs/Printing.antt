@@ -1,5 +1,5 @@
 -- Lines of entries, printed one after another.
-use Rattle.std.proofs.Common.{◌≡◌, ℕ, ◌<◌, List, [], ◌∷◌, ◌++◌, Option, length, take, drop, refl, sym, ◌∙◌, ap, subst, arith, append_assoc, length-append, length-drop, take-append-drop}
+use Rattle.std.proofs.Common.{◌≡◌, ℕ, ◌<◌, List, [], ◌∷◌, ◌++◌, Option, length, refl, sym, ◌∙◌, ap, subst, arith, append_assoc, length-append}
 use Rattle.std.specs.Prelude.{All}
 use Rattle.std.specs.Io.KnownBytes.{Appends}
 use Rattle.std.proofs.lemmas.List.{append-nil}
@@ -15,7 +15,7 @@ use Rattle.bridge_words.specs.declared.command.ListForm.TheVariants.{Plain, Text
 use Rattle.bridge_words.specs.declared.note.Note.{Note}
 use Rattle.bridge_words.specs.declared.note.Note.TheVariants.{Fine, NoMemory, WriteFault, DiskFault}
 use Rattle.bridge_words.specs.Lines.{entry_line}
-use Rattle.bridge_core.specs.Written.{WritesFront, IsWritten}
+use Rattle.bridge_parts.specs.Written.{WritesFront, IsWritten}
 use Rattle.bridge_core.specs.Listed.{IsLine, AreLines, ArePrinted}
 
 -- the entry keeps its limits
@@ -43,16 +43,6 @@ lines_then form (one ∷ first) more text next are others =
     (are.0, are.1 ++ next, are.2, lines_then form first more are.1 next are.3 others, ap (λ (l : List ℕ). l ++ next) are.4 ∙ append_assoc are.0 are.1 next)
 
 -- ---- a front of them
-
--- a write that stopped within the text
-pub stopped : (text : List ℕ) (n : ℕ) (old new : Option (List ℕ)) → n < length text → Appends old new (take n text) → (part : WritesFront text old new) × (0 < length part.rest)
-stopped text n old new lt written = (
-  record { front = take n text; rest = drop n text; whole = sym (take-append-drop n text); written = written },
-  omega (arith, length-drop n text),
-)
-
-pub stopped_as : (text piece : List ℕ) (n : ℕ) (old new : Option (List ℕ)) → piece ≡ text → n < length piece → Appends old new (take n piece) → (part : WritesFront text old new) × (0 < length part.rest)
-stopped_as text piece n old new is lt written = subst (λ (t : List ℕ). (part : WritesFront t old new) × (0 < length part.rest)) is (stopped piece n old new lt written)
 
 -- nothing was written yet
 pub unwritten : (text : List ℕ) (taken : Option (List ℕ)) → WritesFront text taken taken

@@ -22,7 +22,8 @@ use Rattle.hec_session.specs.declared.tokens.Tokens.{Tokens}
 use Rattle.bridge_words.specs.declared.note.Note.{Note}
 use Rattle.bridge_words.specs.Notes.{note_of_talk}
 use Rattle.bridge_core.specs.Done.{IsRefusedFirst}
-use Rattle.bridge_core.specs.Replayed.{desk_in, Keeps, IsStored, IsServed}
+use Rattle.bridge_parts.specs.Opened.{desk_in}
+use Rattle.bridge_core.specs.Replayed.{Keeps, IsStored, IsServed}
 
 -- a desk whose ids are those of the spool's run, none issued
 pub desk_at : (s : SpoolState) (ids : Table) (run : ℕ) (v : AloneView) → ids ≡ opened run 0 → run ≡ s.run → IsAt (desk_of s [] ids) v → IsAt (desk_in s) v

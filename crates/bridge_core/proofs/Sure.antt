@@ -24,8 +24,8 @@ use Rattle.conn_serve.proofs.Faults.{counts_none}
 use Rattle.bridge_words.specs.declared.command.ListForm.{ListForm}
 use Rattle.bridge_words.specs.declared.note.Note.{Note}
 use Rattle.bridge_words.specs.declared.note.Note.TheVariants.{Fine}
-use Rattle.bridge_core.specs.Written.{IsWritten}
-use Rattle.bridge_core.specs.Refused.{note_of_pend, note_of_recover}
+use Rattle.bridge_parts.specs.Written.{IsWritten}
+use Rattle.bridge_parts.specs.Refused.{note_of_pend, note_of_recover}
 use Rattle.bridge_core.specs.Listed.{ArePrinted, PrintsPart, IsUnreadable, IsPrintNote, IsListNote}
 use Rattle.bridge_core.proofs.Printing.{IsLimited, some_lines, unwritten, printed_then, printed_cut}
 use Rattle.bridge_core.proofs.Rising.{left_after}

@@ -1,16 +1,18 @@
 -- Where a command has to end well: no call failed, and nothing stands in its way.
 use Rattle.std.specs.Prelude.{◌≡◌, ◌⊎◌, ℕ, List}
 use Rattle.foundation.specs.Faults.{Rose}
+use Rattle.edge_io.specs.declared.proto.Proto.{Proto}
 use Rattle.spool_state.specs.SpoolState.{SpoolState}
 use Rattle.spool_state.specs.Image.{slot_at, StandsFor}
 use Rattle.bridge_words.specs.declared.command.Command.{Command}
-use Rattle.bridge_words.specs.declared.command.Command.TheVariants.{Format, List as ListCommand}
+use Rattle.bridge_words.specs.declared.command.Command.TheVariants.{Format, List as ListCommand, Load}
 use Rattle.bridge_words.specs.declared.command.ListForm.{ListForm}
 use Rattle.bridge_words.specs.declared.note.Note.{Note}
 use Rattle.bridge_words.specs.declared.note.Note.TheVariants.{Fine, NoMemory}
 use Rattle.bridge_words.specs.Words.{IsCommand}
-use Rattle.bridge_core.specs.Failed.{AsksCollector, TellsDiskFault, TellsReadFault, TellsWriteFault, TellsNetFault}
+use Rattle.bridge_core.specs.Failed.{TellsDisk, TellsReadFault, TellsWriteFault, TellsDial}
 use Rattle.bridge_core.specs.Done.{Run, Does}
+use Rattle.bridge_core.specs.Loading.{IsSure}
 
 -- The counts of faults of the input's reads and of the output's writes, before a call and after it.
 pub record Counts : Type 0 where
@@ -22,10 +24,10 @@ pub record Counts : Type 0 where
 -- What the contract of `bridge` says of a call with these words that ended with this note: its clauses of these names. Where no
 -- memory was found for reading the words, the note says so.
 pub record IsRunOf (words : List (List ℕ)) (run : Run) (counts : Counts) (note : Note) : Type 0 where
-  pub calls : TellsDiskFault (AsksCollector words) note run.disk run.disk_after
+  pub calls : TellsDisk words note run.disk run.disk_after
   pub reads : TellsReadFault words note counts.reads counts.reads_after run.net run.net_after
   pub writes : TellsWriteFault words note counts.writes counts.writes_after run.net run.net_after
-  pub dials : TellsNetFault note run.net run.net_after
+  pub dials : TellsDial words note run.net run.net_after
   pub done : (command : Command) → IsCommand command words → (note ≡ NoMemory) ⊎ Does command run note
 
 -- the count of faults didn't rise, and could have: it doesn't stand at the end of its type
@@ -56,3 +58,9 @@ abbrev pub ListEndsWell : Run → Counts → Type 0
 ListEndsWell run counts =
     (form : ListForm) (words : List (List ℕ)) (note : Note) (s : SpoolState) → IsRunOf words run counts note → NoneFailed run counts
     → IsCommand (ListCommand form) words → run.tells → StandsFor s run.disk.reads → EndsWell note
+
+-- And `load` does by RELP and by Lumberjack.
+abbrev pub LoadEndsWell : Run → Counts → Type 0
+LoadEndsWell run counts =
+    (proto : Proto) (number count : ℕ) (words : List (List ℕ)) (note : Note) → IsSure proto → IsRunOf words run counts note → NoneFailed run counts
+    → IsCommand (Load proto number count) words → EndsWell note

@@ -1,5 +1,5 @@
 -- Each command ends well where no call failed and nothing stands in its way.
-use Rattle.bridge_core.specs.Complete.{Counts, FormatEndsWell, ListEndsWell}
+use Rattle.bridge_core.specs.Complete.{Counts, FormatEndsWell, ListEndsWell, LoadEndsWell}
 use Rattle.bridge_core.specs.CompleteDrain.{DrainEndsWell, DrainThereEndsWell}
 use Rattle.bridge_core.specs.CompleteReplay.{ReplayEndsWell}
 use Rattle.bridge_core.specs.Done.{Run}
@@ -8,6 +8,7 @@ use Rattle.bridge_core.specs.Done.{Run}
 pub record EachEndsWell (run : Run) (counts : Counts) : Type 0 where
   pub format : FormatEndsWell run counts
   pub list : ListEndsWell run counts
+  pub load : LoadEndsWell run counts
   pub replay : ReplayEndsWell run counts
   pub drain : DrainEndsWell run counts
   pub drain_there : DrainThereEndsWell run counts

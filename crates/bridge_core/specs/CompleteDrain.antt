@@ -23,7 +23,7 @@ use Rattle.bridge_words.specs.Words.{IsCommand}
 use Rattle.bridge_core.specs.Complete.{Counts, IsRunOf, NoneFailed}
 use Rattle.bridge_core.specs.Done.{Run}
 use Rattle.bridge_words.specs.declared.command.Receiver.{Receiver}
-use Rattle.bridge_core.specs.Receivers.{outward_of}
+use Rattle.bridge_parts.specs.Receivers.{outward_of}
 
 -- Whichever of the peer's frames were taken, as long as not all entries are acknowledged: these aren't all frames of its bytes, and
 -- what comes after them doesn't end the session. So its bytes acknowledge all entries before they end, have a fault or end the

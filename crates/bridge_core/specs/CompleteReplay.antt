@@ -50,7 +50,7 @@ use Rattle.bridge_words.specs.declared.note.Note.TheVariants.{Fine, NoMemory}
 use Rattle.bridge_words.specs.Words.{IsCommand}
 use Rattle.bridge_core.specs.Complete.{Counts, IsRunOf, NoneFailed}
 use Rattle.bridge_core.specs.Done.{Run}
-use Rattle.bridge_core.specs.Replayed.{desk_in}
+use Rattle.bridge_parts.specs.Opened.{desk_in}
 
 -- ---- what is refused nowhere
 

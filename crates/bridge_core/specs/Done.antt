@@ -1,18 +1,21 @@
 -- What the top call does with the words of a command.
 use Rattle.std.specs.Prelude.{◌≡◌, ◌⊎◌, ℕ, List, Option, None, Some}
+use Rattle.edge_io.specs.Door.{DoorState}
 use Rattle.edge_io.specs.Net.{NetState}
 use Rattle.forward_core.specs.declared.outward.Outward.{Outward}
 use Rattle.edge_disk.specs.Disk.{Moment, LeavesOnly}
 use Rattle.spool_log.specs.Making.Format.{IsFormatStep}
 use Rattle.bridge_words.specs.declared.command.Command.{Command}
-use Rattle.bridge_words.specs.declared.command.Command.TheVariants.{Format, List as ListCommand, Replay, Drain, Load}
+use Rattle.bridge_words.specs.declared.command.Command.TheVariants.{Format, List as ListCommand, Replay, Drain, Load, Serve}
 use Rattle.bridge_words.specs.declared.note.Note.{Note}
 use Rattle.bridge_words.specs.declared.note.Note.TheVariants.{Fine, Usage, NoMemory, WrongLength, RunsSpent, Worn}
 use Rattle.bridge_core.specs.Formatted.{IsFormatted}
 use Rattle.bridge_core.specs.Listed.{IsListNote, IsListed}
-use Rattle.bridge_core.specs.Replayed.{IsUnopened, IsReplayed}
-use Rattle.bridge_core.specs.Receivers.{outward_of}
+use Rattle.bridge_parts.specs.Opened.{IsUnopened}
+use Rattle.bridge_core.specs.Replayed.{IsReplayed}
+use Rattle.bridge_parts.specs.Receivers.{outward_of}
 use Rattle.bridge_core.specs.Loading.{LoadIsTold}
+use Rattle.bridge_serve.specs.Served.{IsServed}
 use Rattle.bridge_core.specs.Drained.{IsLooked, IsIdle, IsUnread, IsStreamed, IsNeedless, IsUndialed, IsPlaced}
 
 -- What is told of the disk, the input, the output and the net, before the call and after it.
@@ -31,6 +34,8 @@ pub record Run : Type 1 where
   -- the links that the net hung up
   pub net : NetState
   pub net_after : NetState
+  -- the doors that were bound, as they are after the call
+  pub doors_after : List DoorState
 
 -- nothing was read or written
 pub record IsSilent (run : Run) : Type 0 where
@@ -72,7 +77,7 @@ pub record IsApart (run : Run) : Type 0 where
 -- The device is made an empty spool; or the entries are listed that aren't known as confirmed, and nothing is written to the
 -- device, so that a crash leaves what it could leave before; or the input is served as one connection of a protocol,
 -- by the tokens of the words; or the entries that aren't known as confirmed are forwarded; or a stream is stored and forwarded in
--- memory alone.
+-- memory alone; or many senders are served at doors.
 abbrev pub Does : Command → Run → Note → Type 0
 Does (Format slots size) run note =
     IsFormatted slots size run.tells run.disk run.disk_after run.taken run.taken_after note
@@ -86,6 +91,8 @@ Does (Replay proto token ack_token) run note =
 Does (Drain receiver None) run note = DoesStream (outward_of receiver) run note
 Does (Drain receiver (Some place)) run note = DoesPlace (outward_of receiver) place run note
 Does (Load proto number count) run note = LoadIsTold proto number count note run.taken run.taken_after × IsApart run
+Does (Serve server) run note =
+    IsServed server run.tells run.disk run.disk_after run.net run.net_after run.doors_after run.taken run.taken_after note × IsUngiven run
 
 -- the words or the device were refused, before the input or the output was met
 abbrev pub IsRefusedFirst : Note → Type 0

@@ -1,5 +1,5 @@
 -- What the top call does with the words of `drain`.
-use Rattle.std.specs.Prelude.{◌≡◌, ◌⊎◌, ℕ, ◌-◌, ◌<◌, List, [], Option}
+use Rattle.std.specs.Prelude.{◌≡◌, ◌⊎◌, ℕ, ◌-◌, ◌<◌, List, [], length, Option}
 use Rattle.edge_io.specs.Net.{NetState, IsHungUp}
 use Rattle.edge_io.specs.Told.{IsFresh, IsDialed, Adds}
 use Rattle.edge_disk.specs.Disk.{Moment, LeavesOnly}
@@ -18,12 +18,13 @@ use Rattle.forward_core.specs.Turning.{IsHalt}
 use Rattle.forward_core.specs.Protocols.{EndsAs, HintsAs, settings_as}
 use Rattle.forward_core.specs.declared.outward.Outward.{Outward}
 use Rattle.bridge_words.specs.declared.note.Note.{Note}
-use Rattle.bridge_words.specs.declared.note.Note.TheVariants.{Fine, NoMemory, NetFault}
+use Rattle.bridge_words.specs.declared.note.Note.TheVariants.{NoMemory, NetFault}
 use Rattle.bridge_words.specs.Lines.{drain_line}
 use Rattle.bridge_core.specs.Listed.{IsUnreadable}
-use Rattle.bridge_core.specs.Refused.{note_of_recover, note_of_sent}
-use Rattle.bridge_core.specs.Replayed.{desk_in, Reaches}
-use Rattle.bridge_core.specs.Written.{IsWritten}
+use Rattle.bridge_parts.specs.Refused.{note_of_recover, note_of_sent}
+use Rattle.bridge_parts.specs.Opened.{desk_in}
+use Rattle.bridge_core.specs.Replayed.{Reaches}
+use Rattle.bridge_parts.specs.Written.{IsWritten, PrintsAfter}
 
 -- The device stood for a state of which this is so, and nothing was written to it: a crash leaves what it could leave
 -- before.
@@ -50,9 +51,9 @@ pub record IsUnread (tells : Type 0) (old new : Moment) (note : Note) : Type 0 w
   pub any_moment : tells → LeavesOnly old.image old new
 
 -- The device stood for a state, of which entries were pending, and was opened as it is. The session's entries are those
--- from its cursor to its end, and its calls were made on the spool. The cursor rose by so many numbers, and so many are left
--- above it. Whatever a crash left meanwhile is what it could leave as the call began, or stands for a state on the way of the
--- calls.
+-- from its cursor to its end, and its calls were made on the spool. So many of the entries that were left as the call began are
+-- known as confirmed now, and so many are left. Whatever a crash left meanwhile is what it could leave as the call began, or stands
+-- for a state on the way of the calls.
 pub record IsSent (old new : Moment) (start until : ℕ) (calls : List Call) (confirmed remaining : ℕ) : Type 0 where
   pub state : SpoolState
   pub stood : StandsFor state old.reads
@@ -61,8 +62,8 @@ pub record IsSent (old new : Moment) (start until : ℕ) (calls : List Call) (co
   pub until_is : until ≡ end state
   pub reached : Reaches state new calls
   pub any_moment : LeavesOnly (λ c. old.image c ⊎ Stood (desk_in state) reached.records c) old new
-  pub confirmed_is : confirmed ≡ reached.after.spool.cursor - state.cursor
-  pub remaining_is : remaining ≡ end reached.after.spool - reached.after.spool.cursor
+  pub confirmed_is : confirmed ≡ length (left state) - length (left reached.after.spool)
+  pub remaining_is : remaining ≡ length (left reached.after.spool)
 
 -- One session that speaks so, of the entries from one number on and below another: the bytes read and written, its calls
 -- on the desk and its ending are those that it may have of them.
@@ -102,17 +103,6 @@ pub record IsStreamed (outward : Outward) (tells : Type 0) (old new : Moment) (g
   pub session : IsSessionOver outward tells old new given given' left left' taken taken' confirmed remaining sent
 
 -- ---- with a place
-
--- the note of what ended, or where that was well the note of what came then
-abbrev pub first_of : Note → Note → Note
-first_of Fine then = then
-first_of note then = note
-
--- A line was written after what ended so, as far as the print's own note says. The note that is told is the first one's.
-pub record PrintsAfter (ended : Note) (line : List ℕ) (note : Note) (old new : Option (List ℕ)) : Type 0 where
-  pub print : Note
-  pub written : IsWritten print line old new
-  pub note_is : note ≡ first_of ended print
 
 -- The line is printed after each ending of a session but want of memory.
 abbrev pub PrintsOf : Sent → List ℕ → Note → Option (List ℕ) → Option (List ℕ) → Type 0

@@ -8,10 +8,12 @@ use Rattle.edge_disk.specs.Disk.{Moment}
 use Rattle.edge_disk.specs.Calls.{Calls}
 use Rattle.edge_io.specs.declared.proto.Proto.TheVariants.{Hec}
 use Rattle.bridge_words.specs.declared.command.Receiver.{Receiver}
-use Rattle.bridge_words.specs.declared.command.Command.TheVariants.{Replay, Drain, Load}
+use Rattle.bridge_words.specs.declared.command.Command.TheVariants.{Replay, Drain, Load, Serve}
+use Rattle.bridge_words.specs.declared.command.Server.{Server}
 use Rattle.bridge_words.specs.declared.note.Note.{Note}
-use Rattle.bridge_words.specs.declared.note.Note.TheVariants.{Fine, NotSpool, Worn, NoMemory, ReadFault, WriteFault, DiskFault, NetFault}
+use Rattle.bridge_words.specs.declared.note.Note.TheVariants.{NotSpool, Worn, NoMemory, ReadFault, WriteFault, DiskFault, NetFault}
 use Rattle.bridge_words.specs.Words.{IsCommand}
+use Rattle.bridge_parts.specs.Counted.{DiskRoseBy, WritesOfBoth}
 
 -- the words ask for a replay of the collector's requests
 abbrev pub AsksCollector : List (List ℕ) → Type 0
@@ -36,6 +38,10 @@ AsksDrain words = (receiver : Receiver) × (place : Option (List ℕ)) × IsComm
 abbrev pub AsksLoad : List (List ℕ) → Type 0
 AsksLoad words = (proto : Proto) × (number : ℕ) × (count : ℕ) × IsCommand (Load proto number count) words
 
+-- the words serve many senders
+abbrev pub AsksServe : List (List ℕ) → Type 0
+AsksServe words = (server : Server) × IsCommand (Serve server) words
+
 -- want of memory, or a refusal of the spool: it may have come after a write that failed
 abbrev pub IsHaltNote : Note → Type 0
 IsHaltNote DiskFault = Unit {0}
@@ -56,28 +62,30 @@ pub record ReadsOfLink (note : Note) (before now hung_before hung_now : ℕ) : T
   pub later : hung_before ≤ hung_now
   pub cause : note ≡ ReadFault → Rose 1 hung_before hung_now
 
--- The write that the note tells of was one of a link that was hung up, or of the output. Where all was well, none of the
--- output failed.
-pub record WritesOfBoth (note : Note) (before now hung_before hung_now : ℕ) : Type 0 where
-  pub later : before ≤ now
-  pub hung_later : hung_before ≤ hung_now
-  pub cause : note ≡ WriteFault → Rose 1 before now ⊎ Rose 1 hung_before hung_now
-  pub quiet : note ≡ Fine → now ≡ before
+-- The same of any words, but where many senders are served: there the disk may have failed too where the note tells something else, as a connection's
+-- ending doesn't change it.
+abbrev pub TellsDisk : List (List ℕ) → Note → Moment → Moment → Type 0
+TellsDisk words note old new = TellsDiskFault (AsksCollector words) note old new ⊎ (AsksServe words × DiskRoseBy (note ≡ DiskFault) old new)
 
 -- A read of the input failed exactly where the note says so; where entries are forwarded to a place none of it did, and the
 -- note tells of the link.
 abbrev pub TellsReadFault : List (List ℕ) → Note → ℕ → ℕ → NetState → NetState → Type 0
 TellsReadFault words note before now net net' =
     CountsFaults (note ≡ ReadFault) before now
-    ⊎ (AsksPlace words × ReadsOfLink note before now net.read_faults net'.read_faults)
+    ⊎ ((AsksPlace words ⊎ AsksServe words) × ReadsOfLink note before now net.read_faults net'.read_faults)
 
 -- A write of the output failed exactly where the note says so, but where entries are forwarded.
 abbrev pub TellsWriteFault : List (List ℕ) → Note → ℕ → ℕ → NetState → NetState → Type 0
 TellsWriteFault words note before now net net' =
     CountsFaults (note ≡ WriteFault) before now
     ⊎ ((AsksStream words × CountsWrites note before now)
-    ⊎ (AsksPlace words × WritesOfBoth note before now net.write_faults net'.write_faults))
+    ⊎ ((AsksPlace words ⊎ AsksServe words) × WritesOfBoth note before now net.write_faults net'.write_faults))
 
 -- A dial failed exactly where the note says so.
 abbrev pub TellsNetFault : Note → NetState → NetState → Type 0
 TellsNetFault note net net' = CountsFaults (note ≡ NetFault) net.net_faults net'.net_faults
+
+-- The same of any words, but where many senders are served: there a bind or a dial may have failed where the note tells something else, and the
+-- note may tell of an accept.
+abbrev pub TellsDial : List (List ℕ) → Note → NetState → NetState → Type 0
+TellsDial words note net net' = TellsNetFault note net net' ⊎ (AsksServe words × (net.net_faults ≤ net'.net_faults))

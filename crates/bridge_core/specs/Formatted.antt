@@ -6,7 +6,7 @@ use Rattle.edge_disk.specs.Disk.{Moment}
 use Rattle.bridge_words.specs.declared.note.Note.{Note}
 use Rattle.bridge_words.specs.declared.note.Note.TheVariants.{Fine, WrongLength, NoMemory, WriteFault, DiskFault}
 use Rattle.bridge_words.specs.Lines.{spool_line}
-use Rattle.bridge_core.specs.Written.{IsWritten}
+use Rattle.bridge_parts.specs.Written.{IsWritten}
 
 -- Whatever a crash leaves from now on stands for the empty spool.
 abbrev pub IsEmptied : ℕ → ℕ → Moment → Type 0

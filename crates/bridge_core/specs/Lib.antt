@@ -1,12 +1,9 @@
-pub mod Written
 pub mod Asked
-pub mod Refused
 pub mod Failed
 pub mod Formatted
 pub mod Listed
 pub mod Acknowledged
 pub mod Replayed
-pub mod Receivers
 pub mod Drained
 pub mod Sending
 pub mod Loading

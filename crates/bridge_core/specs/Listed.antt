@@ -12,7 +12,7 @@ use Rattle.bridge_words.specs.declared.note.Note.TheVariants.{Fine, NotSpool, Ru
 use Rattle.bridge_words.specs.declared.command.ListForm.{ListForm}
 use Rattle.bridge_words.specs.declared.command.ListForm.TheVariants.{Plain, Text, JsonObject, HecObject}
 use Rattle.bridge_words.specs.Lines.{entry_line}
-use Rattle.bridge_core.specs.Written.{IsWritten}
+use Rattle.bridge_parts.specs.Written.{IsWritten}
 
 -- the line is the event as that map has it, and LF
 abbrev pub IsMapped : (Event → List ℕ → Type 0) → Event → List ℕ → Type 0

@@ -1,6 +1,7 @@
 -- What the top call does with the words of `load`.
 use Rattle.std.specs.Prelude.{◌≡◌, ◌⊎◌, ℕ, List, Option}
 use Rattle.edge_io.specs.declared.proto.Proto.{Proto}
+use Rattle.edge_io.specs.declared.proto.Proto.TheVariants.{Relp, Lumberjack, Hec}
 use Rattle.load_run.specs.declared.loaded.Loaded.{Loaded}
 use Rattle.load_run.specs.declared.loaded.LoadFault.{LoadFault}
 use Rattle.load_run.specs.declared.loaded.LoadFault.TheVariants as Load
@@ -8,8 +9,8 @@ use Rattle.load_run.specs.Load.{IsLoaded, IsFailed}
 use Rattle.load_run.specs.Line.{load_line}
 use Rattle.bridge_words.specs.declared.note.Note.{Note}
 use Rattle.bridge_words.specs.Notes.{note_of_talk}
-use Rattle.bridge_core.specs.Refused.{note_of_sent}
-use Rattle.bridge_core.specs.Written.{IsWritten}
+use Rattle.bridge_parts.specs.Refused.{note_of_sent}
+use Rattle.bridge_parts.specs.Written.{IsWritten}
 
 -- what is told of a load that came to no numbers
 abbrev pub note_of_load : LoadFault → Note
@@ -17,16 +18,30 @@ note_of_load (Load.Replayed talk) = note_of_talk talk
 note_of_load (Load.Drained sent) = note_of_sent sent
 note_of_load Load.NoMemory = Note.NoMemory
 
+-- by these protocols a load always comes to its numbers, unless no memory is found
+abbrev pub IsSure : Proto → Type 0
+IsSure Relp = Unit {0}
+IsSure Lumberjack = Unit {0}
+IsSure Hec = ⊥
+
+-- all events were taken, and all of them are confirmed
+pub record AllConfirmed (count : ℕ) (loaded : Loaded) : Type 0 where
+  pub events : loaded.events ≡ count
+  pub confirmed : loaded.confirmed ≡ count
+  pub left : loaded.left ≡ 0
+
 -- A load came to numbers, and the line that tells them was written as the note says.
 pub record IsTold (proto : Proto) (number count : ℕ) (taken taken' : Option (List ℕ)) (note : Note) : Type 0 where
   pub loaded : Loaded
   pub loaded_is : IsLoaded proto number count loaded
+  pub all : IsSure proto → AllConfirmed count loaded
   pub line : IsWritten note (load_line loaded) taken taken'
 
 -- It came to none, and nothing was written.
 pub record IsUntold (proto : Proto) (number count : ℕ) (taken taken' : Option (List ℕ)) (note : Note) : Type 0 where
   pub fault : LoadFault
   pub failed : IsFailed proto number count fault
+  pub memory : IsSure proto → fault ≡ Load.NoMemory
   pub note_is : note ≡ note_of_load fault
   pub silent : taken' ≡ taken
 

@@ -1,29 +1,23 @@
 -- What the top call does with the words of `replay`.
-use Rattle.std.specs.Prelude.{◌≡◌, ◌⊎◌, ℕ, ◌+◌, ◌*◌, ◌^◌, List, [], Option}
+use Rattle.std.specs.Prelude.{◌≡◌, ◌⊎◌, ℕ, ◌+◌, ◌*◌, ◌^◌, List, Option}
 use Rattle.event_form.specs.declared.talk.Attended.{Attended}
 use Rattle.edge_io.specs.declared.proto.Proto.{Proto}
 use Rattle.edge_disk.specs.Disk.{Moment, LeavesOnly}
 use Rattle.spool_state.specs.SpoolState.{SpoolState}
 use Rattle.spool_state.specs.Image.{StandsFor}
-use Rattle.spool_log.specs.declared.fault.RecoverFault.{RecoverFault}
 use Rattle.spool_log.specs.declared.opening.Opening.TheVariants.{Raise}
-use Rattle.spool_log.specs.Opening.{opened, CanOpen, IsOpening, IsRefusing, IsRefusedAs}
+use Rattle.spool_log.specs.Opening.{opened, CanOpen, IsOpening}
 use Rattle.spool_log.specs.Stages.{StandsForOne}
-use Rattle.hec_ids.specs.Rows as Ids
 use Rattle.desk_access.specs.Call.{Call, Record, AreBy}
-use Rattle.desk_access.specs.Desk.{DeskState, desk_of, Goes, Stood}
+use Rattle.desk_access.specs.Desk.{DeskState, Goes, Stood}
 use Rattle.desk_access.specs.History.{IsLater, Grows, AllKept}
 use Rattle.conn_serve.specs.Acked.{Acknowledges}
 use Rattle.conn_serve.specs.Serves.{CarriedAs, Serves}
 use Rattle.hec_session.specs.declared.tokens.Tokens.{Tokens}
 use Rattle.bridge_words.specs.declared.note.Note.{Note}
 use Rattle.bridge_words.specs.Notes.{note_of_talk}
-use Rattle.bridge_core.specs.Refused.{note_of_recover}
+use Rattle.bridge_parts.specs.Opened.{desk_in}
 use Rattle.bridge_core.specs.Acknowledged.{AckedIsDurable, AnswersAreDurable}
-
--- the desk of a spool that was opened in this state: nothing is in doubt, and no id of its run was issued
-abbrev pub desk_in : SpoolState → DeskState
-desk_in s = desk_of s [] (Ids.opened s.run 0)
 
 -- What stands after calls on the spool from a state: whatever a crash leaves now stands for a later state of
 -- the same run. Each entry that was taken, so each that was answered, is there at its number or is below the
@@ -64,15 +58,6 @@ pub record IsStored (old new : Moment) (conn : ℕ) (calls : List Call) : Type 0
   pub conn_is : conn ≡ (state.run + 1) * 2 ^ 32
   pub reached : Reaches (opened Raise state) new calls
   pub any_moment : LeavesOnly (λ c. IsOpening Raise old c ⊎ Stood (desk_in (opened Raise state)) reached.records c) old new
-
--- The device was not opened: it breaks a rule, the first one at that place; or its run or its register can't be
--- raised; or a call of the disk failed, or no memory was found. Unless the disk failed, a crash left what it could
--- leave before.
-pub record IsUnopened (tells : Type 0) (old new : Moment) (note : Note) : Type 0 where
-  pub fault : RecoverFault
-  pub note_is : note ≡ note_of_recover fault
-  pub why : tells → IsRefusedAs Raise old.reads fault
-  pub any_moment : tells → LeavesOnly (IsRefusing Raise fault old) old new
 
 -- The input was served by this protocol and these tokens, as one connection of this number: the bytes read are its frames, from
 -- the first one, none skipped; the calls on the spool and the bytes written are those that they ask for; where it

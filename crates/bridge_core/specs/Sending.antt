@@ -1,53 +1,50 @@
 -- What one session does over a spool that was opened.
-use Rattle.std.specs.Prelude.{◌≡◌, ◌⊎◌, ◌<◌, ◌≤◌, ◌-◌, ℕ, List, Option}
-use Rattle.foundation.specs.Faults.{Rose}
+use Rattle.std.specs.Prelude.{◌≡◌, ◌⊎◌, ◌<◌, ◌≤◌, ◌-◌, ℕ, List, length, Option}
 use Rattle.edge_io.specs.Net.{NetState, IsHungUp}
 use Rattle.edge_io.specs.Told.{Adds, IsDialed, IsFresh}
 use Rattle.forward_core.specs.declared.outward.Outward.{Outward}
 use Rattle.forward_core.specs.declared.sent.Sent.{Sent}
 use Rattle.bridge_words.specs.declared.note.Note.{Note}
-use Rattle.bridge_words.specs.declared.note.Note.TheVariants.{Fine, NoMemory, WriteFault, NetFault}
+use Rattle.bridge_words.specs.declared.note.Note.TheVariants.{NoMemory, NetFault}
 use Rattle.bridge_words.specs.Lines.{drain_line}
-use Rattle.bridge_core.specs.Refused.{note_of_sent}
+use Rattle.bridge_parts.specs.Refused.{note_of_sent}
 use Rattle.bridge_core.specs.Drained.{IsSession, PrintsOf}
 use Rattle.edge_disk.specs.Disk.{Moment}
 use Rattle.spool_state.specs.SpoolState.{SpoolState, end}
+use Rattle.spool_state.specs.Left.{left}
 use Rattle.desk_access.specs.Call.{Call}
 use Rattle.bridge_core.specs.Replayed.{Keeps}
-use Rattle.bridge_core.specs.Written.{IsWritten}
+use Rattle.bridge_parts.specs.Written.{IsWritten}
 
 -- The spool stood in a state; the session's entries are those from its cursor to its end, and its calls were made on it. Then
--- the spool has this cursor and this end.
-pub record Sends (s : SpoolState) (old new : Moment) (start until : ℕ) (calls : List Call) (cursor last : ℕ) : Type 0 where
+-- so many entries of the spool are left.
+pub record Sends (s : SpoolState) (old new : Moment) (start until : ℕ) (calls : List Call) (remaining : ℕ) : Type 0 where
   pub start_is : start ≡ s.cursor
   pub until_is : until ≡ end s
   pub keeps : Keeps s old new calls
-  pub cursor_is : cursor ≡ keeps.reached.after.spool.cursor
-  pub last_is : last ≡ end keeps.reached.after.spool
+  pub remaining_is : remaining ≡ length (left keeps.reached.after.spool)
 
 -- one session, of which the note tells the ending
 pub record IsSentOut (outward : Outward) (More : Type 0) (given given' left left' written written' : Option (List ℕ))
-    (Made : ℕ → ℕ → ℕ → ℕ → List Call → Type 0) (note : Note) : Type 0 where
+    (Made : ℕ → ℕ → ℕ → List Call → Type 0) (note : Note) : Type 0 where
   pub more : More
   pub sent : Sent
   pub note_is : note ≡ note_of_sent sent
-  pub cursor : ℕ
-  pub last : ℕ
-  pub session : IsSession outward given given' left left' written written' (λ start until calls. Made start until cursor last calls) sent
+  pub remaining : ℕ
+  pub session : IsSession outward given given' left left' written written' (λ start until calls. Made start until remaining calls) sent
 
--- One session over a link that has told this, which was then hung up, as dialed at its place; and the line, which counts from a
--- cursor before.
+-- One session over a link that has told this, which was then hung up, as dialed at its place; and the line: of so many entries
+-- that were left before, those that aren't left now are confirmed.
 pub record IsSentOver (outward : Outward) (net net' : NetState) (dialed given left written : Option (List ℕ)) (before : ℕ) (taken taken' : Option (List ℕ))
-    (Made : ℕ → ℕ → ℕ → ℕ → List Call → Type 0) (note : Note) : Type 0 where
+    (Made : ℕ → ℕ → ℕ → List Call → Type 0) (note : Note) : Type 0 where
   pub sent : Sent
-  pub cursor : ℕ
-  pub last : ℕ
+  pub remaining : ℕ
   pub given_after : Option (List ℕ)
   pub left_after : Option (List ℕ)
   pub written_after : Option (List ℕ)
-  pub session : IsSession outward given given_after left left_after written written_after (λ start until calls. Made start until cursor last calls) sent
+  pub session : IsSession outward given given_after left left_after written written_after (λ start until calls. Made start until remaining calls) sent
   pub hung : Adds net.hung net'.hung (IsHungUp dialed given_after written_after left_after)
-  pub printed : PrintsOf sent (drain_line (cursor - before) (last - cursor)) note taken taken'
+  pub printed : PrintsOf sent (drain_line (before - remaining) remaining) note taken taken'
 
 -- No session was held: nothing was pending, and a line says so; or the dial failed, and nothing was printed.
 abbrev pub IsNotSent : ℕ → ℕ → Type 0 → NetState → NetState → Option (List ℕ) → Option (List ℕ) → Note → Type 0
@@ -56,9 +53,9 @@ IsNotSent cursor last Same net net' taken taken' note =
     ⊎ ((cursor < last) × Same × ((note ≡ NetFault) ⊎ (note ≡ NoMemory)) × (net'.hung ≡ net.hung) × (taken' ≡ taken))
 
 -- One session over a link that was dialed at the place.
-pub record IsSentThere (outward : Outward) (place : List ℕ) (before until : ℕ) (net net' : NetState) (taken taken' : Option (List ℕ))
-    (Made : ℕ → ℕ → ℕ → ℕ → List Call → Type 0) (note : Note) : Type 0 where
-  pub more : before < until
+pub record IsSentThere (outward : Outward) (place : List ℕ) (More : Type 0) (before : ℕ) (net net' : NetState) (taken taken' : Option (List ℕ))
+    (Made : ℕ → ℕ → ℕ → List Call → Type 0) (note : Note) : Type 0 where
+  pub more : More
   pub dialed : Option (List ℕ)
   pub given : Option (List ℕ)
   pub left_there : Option (List ℕ)
@@ -66,17 +63,3 @@ pub record IsSentThere (outward : Outward) (place : List ℕ) (before until : �
   pub place_is : IsDialed net.hung dialed place
   pub fresh : IsFresh net.hung given written left_there
   pub over : IsSentOver outward net net' dialed given left_there written before taken taken' Made note
-
--- ---- faults
-
--- the count didn't fall, and it rose where such a fault is told
-pub record RoseBy (fault : Type 0) (before now : ℕ) : Type 0 where
-  pub later : before ≤ now
-  pub cause : fault → Rose 1 before now
-
--- A write after what ended so: where the note tells of a write, it was this one, unless the ending tells of one. Where
--- all was well it didn't fail.
-pub record WroteAfter (ended note : Note) (before now : ℕ) : Type 0 where
-  pub later : before ≤ now
-  pub cause : note ≡ WriteFault → (ended ≡ WriteFault) ⊎ Rose 1 before now
-  pub quiet : note ≡ Fine → now ≡ before

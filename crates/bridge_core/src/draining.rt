@@ -10,12 +10,13 @@ ghost use Rattle.forward_core.specs.declared.sent.Sent.TheVariants as Ending;
 ghost use Rattle.conn_serve.specs.Endings.{CountsFaults};
 ghost use Rattle.bridge_words.specs.declared.note.Note.TheVariants.{Usage, WrongLength, ReadFault};
 ghost use Rattle.bridge_core.specs.Drained.{IsLooked, IsIdle, IsUnread, IsSession, IsStreamed};
+ghost use Rattle.bridge_parts.specs.Pending.{pending_in};
 ghost use Rattle.bridge_core.specs.Sending.{Sends, IsSentOut};
 ghost use Rattle.bridge_core.specs.Failed.{CountsWrites};
 
 use crate::ended::Finished;
-use crate::refused::{recover_note, sent_note};
 use crate::sending::{Sending, is_idle, send};
+use bridge_parts::{recover_note, sent_note};
 use bridge_words::Note;
 use edge_disk::Disk;
 use edge_io::{Both, Pause, Sink, Source};
@@ -41,8 +42,7 @@ fn send_both<D: Disk, S: Source, K: Sink, Z: Pause>(
     ensures paused { Z.pause_apart rest.old rest.new }
     ensures session { IsSession outward.now (S.given input.old) (S.given input.new) (S.left input.old) (S.left input.new) (K.taken output.old) (K.taken output.new)
         (λ start until calls. (s : SpoolState) → D.tells → IsIn s [] (view spool.memory spool.doubt (D.moment spool.disk))
-        → Sends s (D.moment spool.disk) (D.moment result.spool.disk) start until calls (cursor_of result.spool.memory)
-        (end_of result.spool.memory)) result.sent }
+        → Sends s (D.moment spool.disk) (D.moment result.spool.disk) start until calls (pending_in result.spool.memory)) result.sent }
 {
     let mut link = Both {
         source: &mut *input,
@@ -73,8 +73,8 @@ fn send_out<D: Disk, S: Source, K: Sink, Z: Pause>(
         × (end_of spool.memory ≤ cursor_of spool.memory))
         ⊎ IsSentOut outward.now (cursor_of spool.memory < end_of spool.memory) (S.given input.old) (S.given input.new) (S.left input.old) (S.left input.new)
         (K.taken output.old) (K.taken output.new)
-        (λ start until cursor last calls. (s : SpoolState) → D.tells → IsIn s [] (view spool.memory spool.doubt (D.moment spool.disk))
-        → Sends s (D.moment spool.disk) (D.moment result.disk) start until calls cursor last) result.note }
+        (λ start until remaining calls. (s : SpoolState) → D.tells → IsIn s [] (view spool.memory spool.doubt (D.moment spool.disk))
+        → Sends s (D.moment spool.disk) (D.moment result.disk) start until calls remaining) result.note }
 {
     if is_idle(&spool) {
         return Finished::of(Note::Fine, spool.into_disk());

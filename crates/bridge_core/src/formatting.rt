@@ -7,7 +7,7 @@ ghost use Rattle.conn_serve.specs.Endings.{CountsFaults};
 ghost use Rattle.bridge_words.specs.declared.note.Note.TheVariants.{Usage, WrongLength, ReadFault, WriteFault, DiskFault};
 ghost use Rattle.bridge_words.specs.Lines.{spool_line};
 ghost use Rattle.bridge_words.specs.Words.{IsSize};
-ghost use Rattle.bridge_core.specs.Written.{IsWritten};
+ghost use Rattle.bridge_parts.specs.Written.{IsWritten};
 ghost use Rattle.bridge_core.specs.Formatted.{IsFormatted};
 ghost use Rattle.bridge_core.specs.Done.{IsRefusedFirst};
 

@@ -1,4 +1,5 @@
 //! What follows from the contract of `bridge` alone. The function does nothing: its contract is the law.
+ghost use Rattle.std.specs.Prelude.{map};
 ghost use Rattle.bridge_core.specs.CompleteCommands.{EachEndsWell};
 
 use edge_disk::Disk;
@@ -6,11 +7,12 @@ use edge_io::{Net, Sink, Source};
 
 /// Each command ends well where no call failed and nothing stands in its way: only want of memory can take the place of that.
 ///
-/// The disk, the input, the output and the net are told before a call of `bridge` and after it, and of that call no more is
+/// The disk, the input, the output, the net and the doors that were bound are told before a call of `bridge` and after it, and of that call no more is
 /// known than its contract says. No count of faults rose in it.
 ///
 /// - `format` ends well on a device of the wanted length.
 /// - `list` does on a device that stands for a spool.
+/// - `load` does by RELP and by Lumberjack.
 /// - `replay` does where a run and an ordinal of the register are left, the input's bytes are fewer than 2^40 and end with a
 ///   frame, or one of their frames closes the connection, and each group and each id that they bring is granted in the state
 ///   to which those before it lead. Then the spool has their events after what it had, and nothing else.
@@ -25,6 +27,7 @@ pub fn each_command_ends_well<D: Disk, S: Source, K: Sink, N: Net>(
     _output_after: &K,
     _net: &N,
     _net_after: &N,
+    _doors_after: &Vec<N::P>,
 )
     ensures { EachEndsWell (record {
       tells = D.tells;
@@ -38,6 +41,7 @@ pub fn each_command_ends_well<D: Disk, S: Source, K: Sink, N: Net>(
       taken_after = K.taken _output_after.now;
       net = N.told _net.now;
       net_after = N.told _net_after.now;
+      doors_after = map (λ (door : _). N.P.told door) _doors_after.now.items;
     }) (record {
       reads = S.read_faults _input.now;
       reads_after = S.read_faults _input_after.now;

@@ -12,8 +12,6 @@ mod lines;
 mod listing;
 mod loading;
 mod placing;
-mod receiver;
-mod refused;
 mod replaying;
 mod sending;
 mod top;

@@ -6,7 +6,7 @@ ghost use Rattle.spool_log.specs.Outcome.{given_entries, AreNumbered};
 ghost use Rattle.conn_serve.specs.Endings.{CountsFaults};
 ghost use Rattle.event_form.specs.Entry.{IsEntry};
 ghost use Rattle.bridge_words.specs.declared.note.Note.TheVariants.{WriteFault, DiskFault};
-ghost use Rattle.bridge_core.specs.Written.{WritesFront};
+ghost use Rattle.bridge_parts.specs.Written.{WritesFront};
 ghost use Rattle.bridge_core.specs.Listed.{IsLine, ArePrinted, IsPrintNote};
 
 use bridge_words::{ListForm, Note, entry_line};

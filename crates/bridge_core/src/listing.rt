@@ -13,7 +13,7 @@ ghost use Rattle.bridge_core.specs.Done.{IsRefusedFirst};
 
 use crate::ended::Finished;
 use crate::lines::print_entries;
-use crate::refused::{pend_note, recover_note};
+use bridge_parts::{pend_note, recover_note};
 use bridge_words::{ListForm, Note};
 use edge_disk::Disk;
 use edge_io::Sink;

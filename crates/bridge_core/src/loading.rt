@@ -3,11 +3,11 @@ ghost use Rattle.std.specs.Prelude.{◌≡◌, ◌≢◌, ◌⊎◌, ◌≤◌};
 ghost use Rattle.conn_serve.specs.Endings.{CountsFaults};
 ghost use Rattle.load_run.specs.Line.{load_line};
 ghost use Rattle.bridge_words.specs.declared.note.Note.TheVariants.{Usage, ReadFault, WriteFault, DiskFault, NetFault};
-ghost use Rattle.bridge_core.specs.Written.{IsWritten};
+ghost use Rattle.bridge_parts.specs.Written.{IsWritten};
 ghost use Rattle.bridge_core.specs.Loading.{note_of_load, LoadIsTold};
 ghost use Rattle.bridge_core.specs.Done.{IsRefusedFirst};
 
-use crate::refused::sent_note;
+use bridge_parts::sent_note;
 use bridge_words::Note;
 use edge_io::{Proto, Sink, write_whole};
 use load_run::{LoadFault, Loaded, load_line};

@@ -8,15 +8,17 @@ ghost use Rattle.conn_serve.specs.Endings.{CountsFaults};
 ghost use Rattle.forward_core.specs.declared.sent.Sent.TheVariants as Ending;
 ghost use Rattle.bridge_words.specs.declared.note.Note.TheVariants.{Usage, WrongLength, WriteFault};
 ghost use Rattle.bridge_words.specs.Lines.{drain_line};
-ghost use Rattle.bridge_core.specs.Written.{IsWritten};
-ghost use Rattle.bridge_core.specs.Refused.{note_of_sent};
-ghost use Rattle.bridge_core.specs.Drained.{first_of, PrintsOf, IsUnread, IsNeedless, IsUndialed, IsPlaced};
-ghost use Rattle.bridge_core.specs.Sending.{Sends, IsNotSent, IsSentOver, IsSentThere, RoseBy, WroteAfter};
-ghost use Rattle.bridge_core.specs.Failed.{TellsNetFault, WritesOfBoth};
+ghost use Rattle.bridge_parts.specs.Written.{IsWritten};
+ghost use Rattle.bridge_parts.specs.Refused.{note_of_sent};
+ghost use Rattle.bridge_core.specs.Drained.{PrintsOf, IsUnread, IsNeedless, IsUndialed, IsPlaced};
+ghost use Rattle.bridge_parts.specs.Pending.{pending_in};
+ghost use Rattle.bridge_core.specs.Sending.{Sends, IsNotSent, IsSentOver, IsSentThere};
+ghost use Rattle.bridge_core.specs.Failed.{TellsNetFault};
+ghost use Rattle.bridge_parts.specs.Counted.{RoseBy, WroteAfter, WritesOfBoth};
 
 use crate::ended::Finished;
-use crate::refused::{net_note, recover_note, sent_note};
 use crate::sending::{Sending, is_idle, send};
+use bridge_parts::{first_of, net_note, pending_count, recover_note, sent_note};
 use bridge_words::{Note, drain_line};
 use edge_disk::Disk;
 use edge_io::{Net, Sink, write_whole};
@@ -36,16 +38,6 @@ fn print_counts<K: Sink>(alloc: Global, output: &mut K, confirmed: u64, left: u6
     match write_whole(output, line.as_bytes()) {
         Ok(()) => Note::Fine,
         Err(_) => Note::WriteFault,
-    }
-}
-
-// The note of what ended first, or where that was well the other.
-fn first_of(ended: Note, then: Note) -> Note
-    ensures { result ≡ first_of ended then }
-{
-    match ended {
-        Note::Fine => then,
-        note => note,
     }
 }
 
@@ -90,17 +82,17 @@ fn send_over<D: Disk, K: Sink, N: Net>(
     ensures writes { WritesOfBoth result.note (K.write_faults output.old) (K.write_faults output.new) (N.told net.old).write_faults
         (N.told net.new).write_faults }
     ensures dials { (result.note ≢ Note.NetFault) × ((N.told net.new).net_faults ≡ (N.told net.old).net_faults) }
-    ensures sent { IsSentOver outward.now (N.told net.old) (N.told net.new) (N.L.dialed link) (N.L.given link) (N.L.left link) (N.L.taken link) (cursor_of spool.memory)
+    ensures sent { IsSentOver outward.now (N.told net.old) (N.told net.new) (N.L.dialed link) (N.L.given link) (N.L.left link) (N.L.taken link) (pending_in spool.memory)
         (K.taken output.old) (K.taken output.new)
-        (λ start until cursor last calls. (s : SpoolState) → D.tells → IsIn s [] (view spool.memory spool.doubt (D.moment spool.disk))
-        → Sends s (D.moment spool.disk) (D.moment result.disk) start until calls cursor last) result.note }
+        (λ start until remaining calls. (s : SpoolState) → D.tells → IsIn s [] (view spool.memory spool.doubt (D.moment spool.disk))
+        → Sends s (D.moment spool.disk) (D.moment result.disk) start until calls remaining) result.note }
 {
     let mut link = link;
-    let before = spool.cursor();
+    let before = pending_count(&spool);
     let Sending { sent, spool } = send(alloc, outward, spool, &mut link, net);
     net.hang_up(link);
-    let confirmed = spool.cursor().saturating_sub(before);
-    let left = spool.end().saturating_sub(spool.cursor());
+    let left = pending_count(&spool);
+    let confirmed = before.saturating_sub(left);
     let note = print_after(alloc, output, sent, confirmed, left);
     Finished::of(note, spool.into_disk())
 }
@@ -125,9 +117,9 @@ fn send_there<D: Disk, K: Sink, N: Net>(
     ensures dials { TellsNetFault result.note (N.told net.old) (N.told net.new) }
     ensures placed { IsNotSent (cursor_of spool.memory) (end_of spool.memory) (result.disk ≡ spool.disk) (N.told net.old) (N.told net.new)
         (K.taken output.old) (K.taken output.new) result.note
-        ⊎ IsSentThere outward.now place.now (cursor_of spool.memory) (end_of spool.memory) (N.told net.old) (N.told net.new) (K.taken output.old) (K.taken output.new)
-        (λ start until cursor last calls. (s : SpoolState) → D.tells → IsIn s [] (view spool.memory spool.doubt (D.moment spool.disk))
-        → Sends s (D.moment spool.disk) (D.moment result.disk) start until calls cursor last) result.note }
+        ⊎ IsSentThere outward.now place.now (cursor_of spool.memory < end_of spool.memory) (pending_in spool.memory) (N.told net.old) (N.told net.new) (K.taken output.old) (K.taken output.new)
+        (λ start until remaining calls. (s : SpoolState) → D.tells → IsIn s [] (view spool.memory spool.doubt (D.moment spool.disk))
+        → Sends s (D.moment spool.disk) (D.moment result.disk) start until calls remaining) result.note }
 {
     if is_idle(&spool) {
         let note = print_counts(alloc, output, 0, 0);
@@ -140,7 +132,7 @@ fn send_there<D: Disk, K: Sink, N: Net>(
 }
 
 /// Forwards the entries that aren't known as confirmed to the place, which is dialed for it, speaking so to the peer there, and
-/// then prints how many were confirmed and how many are left.
+/// then prints how many of them were confirmed and how many are left.
 ///
 /// Where none is pending nothing is dialed, and the line says so. `NetFault` comes where the place was not dialed, and then
 /// nothing is printed. The line is printed after each ending of the session but want of memory; before it the link is

@@ -8,11 +8,12 @@ ghost use Rattle.conn_serve.specs.Endings.{CountsFaults};
 ghost use Rattle.conn_serve.specs.Tokens.{tokens_of};
 ghost use Rattle.bridge_words.specs.declared.note.Note.TheVariants.{Usage, WrongLength, ReadFault, WriteFault};
 ghost use Rattle.bridge_core.specs.Failed.{TellsDiskFault};
-ghost use Rattle.bridge_core.specs.Replayed.{Keeps, IsServed, IsUnopened, IsReplayed};
+ghost use Rattle.bridge_parts.specs.Opened.{IsUnopened};
+ghost use Rattle.bridge_core.specs.Replayed.{Keeps, IsServed, IsReplayed};
 ghost use Rattle.bridge_core.specs.Done.{IsRefusedFirst};
 
 use crate::ended::Finished;
-use crate::refused::recover_note;
+use bridge_parts::recover_note;
 use bridge_words::Note;
 use conn_serve::{Rules, attend};
 use desk_access::{Alone, Desk};

@@ -8,6 +8,7 @@ ghost use Rattle.forward_core.specs.Forwarded.{CountsFaults, CountsWrites};
 ghost use Rattle.forward_core.specs.Turning.{IsHalt};
 ghost use Rattle.forward_core.specs.declared.sent.Sent.TheVariants as Ending;
 ghost use Rattle.bridge_core.specs.Drained.{IsSession};
+ghost use Rattle.bridge_parts.specs.Pending.{pending_in};
 ghost use Rattle.bridge_core.specs.Sending.{Sends};
 
 use desk_access::{Alone, Desk};
@@ -53,8 +54,7 @@ pub(crate) fn send<D: Disk, L: Link, Z: Pause>(
     ensures paused { Z.pause_apart rest.old rest.new }
     ensures session { IsSession outward.now (L.given link.old) (L.given link.new) (L.left link.old) (L.left link.new) (L.taken link.old) (L.taken link.new)
         (λ start until calls. (s : SpoolState) → D.tells → IsIn s [] (view spool.memory spool.doubt (D.moment spool.disk))
-        → Sends s (D.moment spool.disk) (D.moment result.spool.disk) start until calls (cursor_of result.spool.memory)
-        (end_of result.spool.memory)) result.sent }
+        → Sends s (D.moment spool.disk) (D.moment result.spool.disk) start until calls (pending_in result.spool.memory)) result.sent }
 {
     let run = spool.run();
     let ids = Ids::new(alloc, run, 0);

@@ -7,7 +7,9 @@ use crate::{
 };
 use std::alloc::Global;
 use std::process::Abort;
+use std::sync::Wait;
 use std::test::Fail;
+use std::thread::Threads;
 
 // Scripts, and the greatest length of a read: of RELP, of Lumberjack, of the collector, and over disks that fail.
 type Scripts = &'static [(&'static str, usize)];
@@ -57,7 +59,11 @@ const DRAINS: Scripts = &[
     (collectors::COLLECTOR, 8192),
 ];
 
-fn run_scripts(rt: &impl Abort, alloc: Global, scripts: Scripts) -> Result<(), Fail> {
+fn run_scripts<R: Abort + Threads + Wait + Sync>(
+    rt: &R,
+    alloc: Global,
+    scripts: Scripts,
+) -> Result<(), Fail> {
     for (script, piece) in scripts {
         run_script(rt, alloc, script, *piece)?;
     }

@@ -187,6 +187,36 @@ call list
 ends 0
 same
 
+- three events by RELP, of which the second alone is acknowledged, and then the others
+device 20480
+call format 2 4096
+out text 2 slots of 4096 bytes%0a
+ends 0
+call replay relp
+open
+in text 2 syslog 1 a%0a3 syslog 1 b%0a4 syslog 1 c%0a
+out text 2 rsp 6 200 OK%0a3 rsp 6 200 OK%0a4 rsp 6 200 OK%0a
+ends 0
+call drain relp there
+replies text 1 rsp 6 200 OK%0a3 rsp 6 200 OK%0a
+sent text 1 open 59 relp_version=0%0arelp_software=bridge,1,local%0acommands=syslog%0a
+sent text 2 syslog 1 a%0a3 syslog 1 b%0a4 syslog 1 c%0a
+out text 1 confirmed, 2 left%0a
+ends 68 peer closed
+call list
+out text 0 4294967296 0 2 relp 1%0a2 4294967296 2 4 relp 1%0a
+ends 0
+same
+call drain relp there
+replies text 1 rsp 6 200 OK%0a2 rsp 6 200 OK%0a3 rsp 6 200 OK%0a
+sent text 1 open 59 relp_version=0%0arelp_software=bridge,1,local%0acommands=syslog%0a
+sent text 2 syslog 1 a%0a3 syslog 1 c%0a4 close 0%0a
+out text 2 confirmed, 0 left%0a
+ends 0
+call list
+ends 0
+same
+
 - one event by Lumberjack, and a print that fails
 device 20480
 call format 2 4096

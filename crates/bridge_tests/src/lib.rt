@@ -12,10 +12,14 @@ mod devices;
 mod drains;
 #[cfg(test)]
 mod faults;
+// (in every build, since definitions in specs/ speak of its types)
+mod held;
 #[cfg(test)]
 mod lists;
 #[cfg(test)]
 mod marks;
+#[cfg(test)]
+mod meets;
 #[cfg(test)]
 mod parts;
 #[cfg(test)]
@@ -24,6 +28,8 @@ mod play;
 mod requests;
 #[cfg(test)]
 mod script;
+#[cfg(test)]
+mod served;
 #[cfg(test)]
 mod sessions;
 #[cfg(test)]

@@ -5,6 +5,8 @@ use bridge_words::Note;
 use edge_disk::MemDisk;
 use edge_io::{MemNet, MemScript, MemSink, MemSource};
 use std::alloc::{AllocError, Global};
+use std::sync::Wait;
+use std::thread::Threads;
 
 /// What a call over a disk that fails may leave: how many bytes of the output, and what `list` then
 /// prints.
@@ -116,7 +118,12 @@ impl Play {
     }
 
     /// Makes the call over this disk.
-    pub(crate) fn call(&self, alloc: Global, disk: MemDisk) -> Result<Left, AllocError> {
+    pub(crate) fn call<R: Threads + Wait + Sync>(
+        &self,
+        rt: &R,
+        alloc: Global,
+        disk: MemDisk,
+    ) -> Result<Left, AllocError> {
         let input = self.input.to_vec(alloc)?;
         let mut source = MemSource::of(input, self.piece.max(1), self.reads.to_vec(alloc)?);
         let mut sink = MemSink::of(alloc, self.writes.to_vec(alloc)?);
@@ -126,7 +133,15 @@ impl Play {
             note,
             disk,
             doors: _,
-        } = bridge(alloc, &self.words, disk, &mut source, &mut sink, &mut net);
+        } = bridge(
+            rt,
+            alloc,
+            &self.words,
+            disk,
+            &mut source,
+            &mut sink,
+            &mut net,
+        );
         let mut sent = Vec::new(alloc);
         for hung in net.hung() {
             sent.extend_from_slice(&hung.written)?;

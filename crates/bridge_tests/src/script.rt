@@ -7,7 +7,9 @@ use crate::sweeps::{fails_well, stops_well};
 use bridge_words::note_text;
 use std::alloc::Global;
 use std::process::Abort;
+use std::sync::Wait;
 use std::test::Fail;
+use std::thread::Threads;
 
 /// The `open` of a sender of RELP, 61 bytes, and its answer.
 pub(crate) const OPEN: &[u8] = b"1 open 50 relp_version=0\nrelp_software=a,1,b\ncommands=syslog\n";
@@ -104,10 +106,15 @@ fn lay(alloc: Global, play: &mut Play, step: &str, rest: &str) -> Result<Option<
 }
 
 // Makes the call, and answers whether it ends so and writes what is wanted.
-fn end(alloc: Global, play: &mut Play, rest: &str) -> Result<bool, Fail> {
+fn end<R: Threads + Wait + Sync>(
+    rt: &R,
+    alloc: Global,
+    play: &mut Play,
+    rest: &str,
+) -> Result<bool, Fail> {
     let (status, note) = word(rest);
     let status = number(status)?;
-    let left = play.call(alloc, play.sound(alloc)?)?;
+    let left = play.call(rt, alloc, play.sound(alloc)?)?;
     let text = note_text(alloc, &left.note)?;
     let ends = u64::from(left.status) == status && text.bytes() == note.as_bytes();
     let after = left.disk.bytes().to_vec(alloc)?;
@@ -131,18 +138,24 @@ fn numbers(alloc: Global, text: &str) -> Result<Vec<u64>, Fail> {
 }
 
 // Makes the call, or looks at what the last one left.
-fn look(alloc: Global, play: &mut Play, step: &str, rest: &str) -> Result<bool, Fail> {
+fn look<R: Threads + Wait + Sync>(
+    rt: &R,
+    alloc: Global,
+    play: &mut Play,
+    step: &str,
+    rest: &str,
+) -> Result<bool, Fail> {
     if step == "ends" {
-        return end(alloc, play, rest);
+        return end(rt, alloc, play, rest);
     }
     if step == "same" {
         return Ok(play.before == play.device);
     }
     if step == "fails" {
-        return Ok(fails_well(alloc, play, &numbers(alloc, rest)?)?);
+        return Ok(fails_well(rt, alloc, play, &numbers(alloc, rest)?)?);
     }
     if step == "stops" {
-        return Ok(stops_well(alloc, play)?);
+        return Ok(stops_well(rt, alloc, play)?);
     }
     let (first, rest) = word(rest);
     let first = number(first)?;
@@ -156,7 +169,12 @@ fn look(alloc: Global, play: &mut Play, step: &str, rest: &str) -> Result<bool, 
 }
 
 // Does one step, and answers whether all is as it has to be.
-fn follow(alloc: Global, play: &mut Play, line: &str) -> Result<bool, Fail> {
+fn follow<R: Threads + Wait + Sync>(
+    rt: &R,
+    alloc: Global,
+    play: &mut Play,
+    line: &str,
+) -> Result<bool, Fail> {
     let (step, rest) = word(line);
     if step.is_empty() || step == "-" {
         return Ok(true);
@@ -173,7 +191,7 @@ fn follow(alloc: Global, play: &mut Play, line: &str) -> Result<bool, Fail> {
     if let Some(is_right) = lay(alloc, play, step, rest)? {
         return Ok(is_right);
     }
-    look(alloc, play, step, rest)
+    look(rt, alloc, play, step, rest)
 }
 
 /// Follows a script, with reads of at most so many bytes.
@@ -202,8 +220,8 @@ fn follow(alloc: Global, play: &mut Play, line: &str) -> Result<bool, Fail> {
 /// - `fails PLACES`: the call is made with each call of the disk failing once, and the last of
 ///   these leave the outcomes at these places; `stops`: it is made with the machine stopped at each
 ///   call of the disk.
-pub(crate) fn run_script(
-    rt: &impl Abort,
+pub(crate) fn run_script<R: Abort + Threads + Wait + Sync>(
+    rt: &R,
     alloc: Global,
     script: &str,
     piece: usize,
@@ -211,7 +229,7 @@ pub(crate) fn run_script(
     let mut play = Play::new(alloc, piece);
     for line in script.lines() {
         assert!(rt;
-            follow(alloc, &mut play, line)?,
+            follow(rt, alloc, &mut play, line)?,
             "{line} (reads of {piece} bytes)"
         );
     }

@@ -4,6 +4,8 @@ use crate::play::{Left, Outcome, Play};
 use bridge_words::Note;
 use edge_disk::{Crash, MemDisk};
 use std::alloc::{AllocError, Global};
+use std::sync::Wait;
+use std::thread::Threads;
 
 // No outcome that may be.
 const WRONG: u64 = u64::MAX;
@@ -20,10 +22,14 @@ const CRASHES: [Crash; 5] = [
 ];
 
 // What `list` prints of a device; nothing where it doesn't end well.
-fn listed(alloc: Global, device: Vec<u8>) -> Result<Option<Vec<u8>>, AllocError> {
+fn listed<R: Threads + Wait + Sync>(
+    rt: &R,
+    alloc: Global,
+    device: Vec<u8>,
+) -> Result<Option<Vec<u8>>, AllocError> {
     let mut play = Play::new(alloc, 8192);
     play.words.push(String::from_str(alloc, "list")?)?;
-    let left = play.call(alloc, MemDisk::of(device, Vec::new(alloc)))?;
+    let left = play.call(rt, alloc, MemDisk::of(device, Vec::new(alloc)))?;
     if left.note == Note::Fine {
         Ok(Some(left.written))
     } else {
@@ -32,7 +38,12 @@ fn listed(alloc: Global, device: Vec<u8>) -> Result<Option<Vec<u8>>, AllocError>
 }
 
 // Whether the same words, with the input that is kept for it, then write what is wanted over a device.
-fn answers_later(alloc: Global, play: &Play, device: Vec<u8>) -> Result<bool, AllocError> {
+fn answers_later<R: Threads + Wait + Sync>(
+    rt: &R,
+    alloc: Global,
+    play: &Play,
+    device: Vec<u8>,
+) -> Result<bool, AllocError> {
     if play.after.is_empty() {
         return Ok(true);
     }
@@ -41,7 +52,7 @@ fn answers_later(alloc: Global, play: &Play, device: Vec<u8>) -> Result<bool, Al
         later.words.push(String::from_str(alloc, word.as_str())?)?;
     }
     later.input = play.after.to_vec(alloc)?;
-    let left = later.call(alloc, MemDisk::of(device, Vec::new(alloc)))?;
+    let left = later.call(rt, alloc, MemDisk::of(device, Vec::new(alloc)))?;
     Ok(left.note == Note::Fine && left.written == play.answer)
 }
 
@@ -84,7 +95,8 @@ fn is_right(play: &Play, note: Note, written: &[u8], found: u64) -> bool {
 }
 
 // Makes the call over this disk, which then may crash. Answers the note, and the outcome.
-fn outcome_over(
+fn outcome_over<R: Threads + Wait + Sync>(
+    rt: &R,
     alloc: Global,
     play: &Play,
     disk: MemDisk,
@@ -97,12 +109,12 @@ fn outcome_over(
         disk,
         sent: _,
         links: _,
-    } = play.call(alloc, disk)?;
+    } = play.call(rt, alloc, disk)?;
     let device = bytes_after(alloc, disk, crash)?;
-    if !answers_later(alloc, play, device.to_vec(alloc)?)? {
+    if !answers_later(rt, alloc, play, device.to_vec(alloc)?)? {
         return Ok((note, WRONG));
     }
-    let Some(lines) = listed(alloc, device)? else {
+    let Some(lines) = listed(rt, alloc, device)? else {
         return Ok((note, WRONG));
     };
     let found = place_of(play, written.len() as u64, &lines);
@@ -115,11 +127,16 @@ fn outcome_over(
 
 /// Whether each call of the disk, where it fails alone, makes the note and leaves an outcome that
 /// may be, and the last calls leave these.
-pub(crate) fn fails_well(alloc: Global, play: &Play, last: &[u64]) -> Result<bool, AllocError> {
+pub(crate) fn fails_well<R: Threads + Wait + Sync>(
+    rt: &R,
+    alloc: Global,
+    play: &Play,
+    last: &[u64],
+) -> Result<bool, AllocError> {
     let mut seen = Vec::new(alloc);
     for number in 0..CALLS {
         let disk = MemDisk::of(play.device.to_vec(alloc)?, vec![in alloc; number]?);
-        let (note, found) = outcome_over(alloc, play, disk, None)?;
+        let (note, found) = outcome_over(rt, alloc, play, disk, None)?;
         if is_over(play, note) {
             return Ok(found != WRONG && !seen.contains(&WRONG) && seen.ends_with(last));
         }
@@ -133,11 +150,16 @@ pub(crate) fn fails_well(alloc: Global, play: &Play, last: &[u64]) -> Result<boo
 
 // Whether each crash leaves an outcome that may be, where the machine stops after so many calls of
 // the disk; and whether the call then ended well.
-fn stops_after(alloc: Global, play: &Play, calls: u64) -> Result<(bool, bool), AllocError> {
+fn stops_after<R: Threads + Wait + Sync>(
+    rt: &R,
+    alloc: Global,
+    play: &Play,
+    calls: u64,
+) -> Result<(bool, bool), AllocError> {
     let mut is_fine = false;
     for choice in CRASHES {
         let disk = MemDisk::stopped(play.device.to_vec(alloc)?, calls);
-        let (note, found) = outcome_over(alloc, play, disk, Some(choice))?;
+        let (note, found) = outcome_over(rt, alloc, play, disk, Some(choice))?;
         is_fine = is_over(play, note);
         if found == WRONG {
             return Ok((false, is_fine));
@@ -148,9 +170,13 @@ fn stops_after(alloc: Global, play: &Play, calls: u64) -> Result<(bool, bool), A
 
 /// Whether each crash leaves an outcome that may be, where the machine stops at each call of the
 /// disk in turn.
-pub(crate) fn stops_well(alloc: Global, play: &Play) -> Result<bool, AllocError> {
+pub(crate) fn stops_well<R: Threads + Wait + Sync>(
+    rt: &R,
+    alloc: Global,
+    play: &Play,
+) -> Result<bool, AllocError> {
     for calls in 0..CALLS {
-        let (is_well, is_fine) = stops_after(alloc, play, calls)?;
+        let (is_well, is_fine) = stops_after(rt, alloc, play, calls)?;
         if is_fine || !is_well {
             return Ok(is_well);
         }

@@ -3,6 +3,7 @@ use Rattle.edge_disk.specs.Disk.{LeavesOnly}
 use Rattle.spool_log.specs.declared.opening.Opening.TheVariants.{Keep}
 use Rattle.spool_log.specs.Memory.{cursor_of, end_of}
 use Rattle.spool_log.specs.Opening.{IsRefusing}
+use Rattle.bridge_parts.specs.Pending.{pending_in}
 use Rattle.bridge_core.proofs.Sure.{unopened_calls}
 use Rattle.bridge_core.proofs.Forwarding.{looked_idle, seen, sent_from, session_as, unread}
 use Rattle.bridge_core.proofs.Over.{session_over}
@@ -26,11 +27,11 @@ returns-in-Ok-clause-drained g c =
       | inr sent ↦ inr (inr (record {
         sent = sent.sent;
         note_is = sent.note_is;
-        confirmed = sent.cursor - before;
-        remaining = sent.last - sent.cursor;
-        session = session_over c.args.outward.now g.D.Disk.tells old new _ _ _ _ _ _ (sent.cursor - before) (sent.last - sent.cursor) sent.sent (session_as c.args.outward.now _ _ _ _ _ _ _ _ sent.sent (λ start until calls made tells.
+        confirmed = pending_in c.in-Ok.spool.memory - sent.remaining;
+        remaining = sent.remaining;
+        session = session_over c.args.outward.now g.D.Disk.tells old new _ _ _ _ _ _ (pending_in c.in-Ok.spool.memory - sent.remaining) sent.remaining sent.sent (session_as c.args.outward.now _ _ _ _ _ _ _ _ sent.sent (λ start until calls made tells.
             let found = c.in-Ok.ensures.opened tells in
-            sent_from found.0 old mid new start until before most sent.cursor sent.last calls found.1.stood (seen found.0 _ found.1.reached) sent.more (c.in-Ok.ensures.any_moment tells) (made found.0 tells found.1.reached)) sent.session);
+            sent_from found.0 old mid new start until before most sent.remaining _ calls found.1.stood found.1.reached (seen found.0 _ found.1.reached) sent.more (c.in-Ok.ensures.any_moment tells) (made found.0 tells found.1.reached)) sent.session);
       }))
     ]
 

@@ -1,5 +1,6 @@
 use Rattle.std.proofs.Common.{◌∙◌, sym, subst, inr}
 use Rattle.spool_log.specs.Memory.{cursor_of, end_of}
+use Rattle.bridge_parts.specs.Pending.{pending_in}
 use Rattle.bridge_core.specs.Sending.{Sends}
 use Rattle.bridge_core.proofs.Forwarding.{session_as, not_idle}
 use Rattle.bridge_core.proofs.draining.send_out.Goals as goal
@@ -12,8 +13,7 @@ returns-clause-streamed g c =
       more = not_idle c.is_idle.result (end_of c.args.spool.memory) (cursor_of c.args.spool.memory) c.is_idle.ensures c.if-is_idle.false;
       sent = c.send_both-sent.result.sent;
       note_is = c.of-2.ensures.note ∙ c.sent_note.ensures;
-      cursor = cursor_of spool.memory;
-      last = end_of spool.memory;
+      remaining = pending_in spool.memory;
       session = session_as c.args.outward.now _ _ _ _ _ _ _ _ c.send_both-sent.result.sent (λ start until calls made s tells held.
-          subst (λ (d : _). Sends s (g.D.Disk.moment c.args.spool.disk) (g.D.Disk.moment d) start until calls (cursor_of spool.memory) (end_of spool.memory)) disk (made s tells held)) c.send_both-sent.ensures.session;
+          subst (λ (d : _). Sends s (g.D.Disk.moment c.args.spool.disk) (g.D.Disk.moment d) start until calls (pending_in spool.memory)) disk (made s tells held)) c.send_both-sent.ensures.session;
     })

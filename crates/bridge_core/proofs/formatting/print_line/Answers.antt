@@ -1,5 +1,5 @@
 use Rattle.std.proofs.Common.{◌∙◌}
-use Rattle.bridge_core.proofs.Printing.{stopped_as}
+use Rattle.bridge_parts.proofs.Writing.{stopped_as}
 use Rattle.bridge_core.proofs.formatting.print_line.Goals as goal
 
 pub returns-clause-line : goal.returns-clause-line

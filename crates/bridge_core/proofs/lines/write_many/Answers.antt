@@ -1,8 +1,8 @@
 use Rattle.std.proofs.Common.{◌<◌, length}
 use Rattle.edge_io.specs.declared.whole.Stopped.{Stopped}
 use Rattle.conn_serve.proofs.Acting.{err_is}
-use Rattle.bridge_core.specs.Written.{WritesFront}
-use Rattle.bridge_core.proofs.Printing.{stopped_as}
+use Rattle.bridge_parts.specs.Written.{WritesFront}
+use Rattle.bridge_parts.proofs.Writing.{stopped_as}
 use Rattle.bridge_core.proofs.lines.write_many.Goals as goal
 
 pub returns-in_err-write_whole-clause-part : goal.returns-in_err-write_whole-clause-part

@@ -3,6 +3,7 @@ use Rattle.edge_disk.specs.Disk.{LeavesOnly}
 use Rattle.spool_log.specs.declared.opening.Opening.TheVariants.{Keep}
 use Rattle.spool_log.specs.Memory.{cursor_of, end_of}
 use Rattle.spool_log.specs.Opening.{IsRefusing}
+use Rattle.bridge_parts.specs.Pending.{pending_in}
 use Rattle.bridge_core.proofs.Sure.{unopened_calls}
 use Rattle.bridge_core.proofs.Forwarding.{looked_idle, looked_more, seen, sent_from, session_as, unread}
 use Rattle.bridge_core.proofs.Over.{session_over}
@@ -32,8 +33,8 @@ returns-in-Ok-clause-drained g c =
       })))
       | inr sent ↦ inr (inr (inr (record {
         sent = sent.over.sent;
-        confirmed = sent.over.cursor - before;
-        remaining = sent.over.last - sent.over.cursor;
+        confirmed = pending_in c.in-Ok.spool.memory - sent.over.remaining;
+        remaining = sent.over.remaining;
         dialed = sent.dialed;
         given = sent.given;
         given_after = sent.over.given_after;
@@ -43,9 +44,9 @@ returns-in-Ok-clause-drained g c =
         written_after = sent.over.written_after;
         place_is = sent.place_is;
         fresh = sent.fresh;
-        session = session_over c.args.outward.now g.D.Disk.tells old new _ _ _ _ _ _ (sent.over.cursor - before) (sent.over.last - sent.over.cursor) sent.over.sent (session_as c.args.outward.now _ _ _ _ _ _ _ _ sent.over.sent (λ start until calls made tells.
+        session = session_over c.args.outward.now g.D.Disk.tells old new _ _ _ _ _ _ (pending_in c.in-Ok.spool.memory - sent.over.remaining) sent.over.remaining sent.over.sent (session_as c.args.outward.now _ _ _ _ _ _ _ _ sent.over.sent (λ start until calls made tells.
             let found = c.in-Ok.ensures.opened tells in
-            sent_from found.0 old mid new start until before most sent.over.cursor sent.over.last calls found.1.stood (seen found.0 _ found.1.reached) sent.more (c.in-Ok.ensures.any_moment tells) (made found.0 tells found.1.reached)) sent.over.session);
+            sent_from found.0 old mid new start until before most sent.over.remaining _ calls found.1.stood found.1.reached (seen found.0 _ found.1.reached) sent.more (c.in-Ok.ensures.any_moment tells) (made found.0 tells found.1.reached)) sent.over.session);
         hung = sent.over.hung;
         printed = sent.over.printed;
       })))

@@ -1,8 +1,9 @@
 use Rattle.std.proofs.Common.{◌≡◌, ◌∙◌, ap}
 use Rattle.bridge_words.specs.declared.note.Note.{Note}
-use Rattle.bridge_core.specs.Refused.{note_of_sent}
-use Rattle.bridge_core.specs.Drained.{first_of}
-use Rattle.bridge_core.proofs.Firsts.{wrote_after, fine_or_fault, note_of_both, prints_of}
+use Rattle.bridge_parts.specs.Refused.{note_of_sent}
+use Rattle.bridge_parts.specs.Written.{first_of}
+use Rattle.bridge_parts.proofs.Firsts.{wrote_after, fine_or_fault, note_of_both}
+use Rattle.bridge_core.proofs.Firsts.{prints_of}
 use Rattle.bridge_core.proofs.placing.print_after.Goals as goal
 
 pub returns-in_default : goal.returns-in_default

@@ -1,15 +1,22 @@
 use Rattle.std.proofs.Common.{◌≡◌, ◌-◌, ◌∙◌, List, ℕ, sym, ap, subst}
 use Rattle.edge_io.specs.Net.{NetState}
 use Rattle.edge_io.specs.Counts.{Gains}
-use Rattle.spool_log.specs.Memory.{cursor_of, end_of}
 use Rattle.bridge_words.specs.declared.note.Note.{Note}
 use Rattle.bridge_words.specs.Lines.{drain_line}
 use Rattle.bridge_core.specs.Drained.{PrintsOf}
-use Rattle.bridge_core.specs.Failed.{WritesOfBoth}
-use Rattle.bridge_core.specs.Sending.{Sends, RoseBy}
-use Rattle.bridge_core.proofs.Forwarding.{session_as}
+use Rattle.bridge_parts.specs.Pending.{pending_in}
+use Rattle.bridge_core.specs.Sending.{Sends}
+use Rattle.bridge_parts.specs.Counted.{WritesOfBoth, RoseBy}
+use Rattle.bridge_core.proofs.Forwarding.{no_dial_after, session_as}
 use Rattle.bridge_core.proofs.Hanging.{hung_up, link_reads, link_writes}
 use Rattle.bridge_core.proofs.placing.send_over.Goals as goal
+
+pub returns-clause-dials : goal.returns-clause-dials
+returns-clause-dials g c =
+    let same = g.met.N.Net.pauses_keep _ _ c.send-sent.ensures.paused in (
+      λ by. no_dial_after c.send-sent.result.sent c.print_after-note.result c.print_after-note.ensures.note (sym c.of.ensures.note ∙ by),
+      c.hang_up.ensures.quiet ∙ ap (λ (t : NetState). t.net_faults) same,
+    )
 
 pub returns-clause-reads : goal.returns-clause-reads
 returns-clause-reads g c =
@@ -30,22 +37,18 @@ returns-clause-sent g c =
     let disk = sym (c.of.ensures.disk ∙ c.into_disk.ensures) in
     let same = g.met.N.Net.pauses_keep _ _ c.send-sent.ensures.paused in
     let room = g.met.N.Net.pauses_keep_room _ _ c.send-sent.ensures.paused c.requires.room in
-    let first = c.saturating_sub-confirmed.ensures in
-    let second = c.saturating_sub-left.ensures in
-    let cursor = c.cursor.ensures in
-    let again = c.cursor-2.ensures in
-    let before = c.cursor-before.ensures in
-    let last = c.end.ensures.end in
-    let line : drain_line c.saturating_sub-confirmed.result c.saturating_sub-left.result ≡ drain_line (cursor_of spool.memory - cursor_of c.args.spool.memory) (end_of spool.memory - cursor_of spool.memory) = cc in record {
+    let confirmed = c.saturating_sub-confirmed.ensures in
+    let left = c.pending_count-left.ensures in
+    let before = c.pending_count-before.ensures in
+    let line : drain_line c.saturating_sub-confirmed.result c.pending_count-left.result ≡ drain_line (pending_in c.args.spool.memory - pending_in spool.memory) (pending_in spool.memory) = cc in record {
       sent = sent;
-      cursor = cursor_of spool.memory;
-      last = end_of spool.memory;
+      remaining = pending_in spool.memory;
       given_after = _;
       left_after = _;
       written_after = _;
       session = session_as c.args.outward.now _ _ _ _ _ _ _ _ sent (λ start until calls made s tells held.
-          subst (λ (d : _). Sends s (g.D.Disk.moment c.args.spool.disk) (g.D.Disk.moment d) start until calls (cursor_of spool.memory) (end_of spool.memory)) disk (made s tells held)) c.send-sent.ensures.session;
+          subst (λ (d : _). Sends s (g.D.Disk.moment c.args.spool.disk) (g.D.Disk.moment d) start until calls (pending_in spool.memory)) disk (made s tells held)) c.send-sent.ensures.session;
       hung = hung_up _ _ _ _ _ _ _ _ _ (ap (λ (t : NetState). t.hung) same) c.send-sent.ensures.dialed room c.hang_up.ensures.adds;
-      printed = subst (λ (n : Note). PrintsOf sent (drain_line (cursor_of spool.memory - cursor_of c.args.spool.memory) (end_of spool.memory - cursor_of spool.memory)) n (g.K.Sink.taken c.args.output.now) (g.K.Sink.taken c.print_after-note.new.output)) (sym c.of.ensures.note)
+      printed = subst (λ (n : Note). PrintsOf sent (drain_line (pending_in c.args.spool.memory - pending_in spool.memory) (pending_in spool.memory)) n (g.K.Sink.taken c.args.output.now) (g.K.Sink.taken c.print_after-note.new.output)) (sym c.of.ensures.note)
           (subst (λ (l : List ℕ). PrintsOf sent l c.print_after-note.result (g.K.Sink.taken c.args.output.now) (g.K.Sink.taken c.print_after-note.new.output)) line c.print_after-note.ensures.printed);
     }

@@ -1,13 +1,14 @@
 use Rattle.std.proofs.Common.{◌≡◌, ℕ, [], sym, ◌∙◌, ap, subst, arith}
 use Rattle.hec_ids.specs.Rows.{opened}
-use Rattle.spool_log.specs.Memory.{cursor_of, end_of}
 use Rattle.edge_disk.specs.Calls.{Calls}
 use Rattle.desk_access.specs.Alone.{alone_at}
 use Rattle.desk_access.specs.Journal.{ran_then}
 use Rattle.forward_core.specs.declared.sent.Sent.TheVariants as Ending
+use Rattle.bridge_parts.specs.Pending.{pending_in}
 use Rattle.bridge_core.specs.Sending.{Sends}
 use Rattle.bridge_core.proofs.Replays.{desk_at}
-use Rattle.bridge_core.proofs.Sessions.{begun, sends, failed, disk_calls}
+use Rattle.bridge_parts.proofs.Failures.{failed}
+use Rattle.bridge_core.proofs.Sessions.{begun, sends, disk_calls}
 use Rattle.bridge_core.proofs.sending.send.Goals as goal
 
 pub new-access-requires-clause-ids : goal.new-access-requires-clause-ids
@@ -48,8 +49,8 @@ returns-clause-session g c =
         made = λ s told_by held.
             let at = desk_at s c.new-ids.result c.run-run.result _ c.new-ids.ensures (c.run-run.ensures ∙ held.knows.run) (c.new-access.ensures.at s held) in
             let first = begun alone_at tells s c.new-access.result told.2 told.0 told.1 told_by at asked in
-            subst (λ (d : _). Sends s (g.D.Disk.moment d) (g.D.Disk.moment c.into_desk-desk.result.spool.disk) told.0 told.1 session.calls (cursor_of c.into_desk-desk.result.spool.memory) (end_of c.into_desk-desk.result.spool.memory)) before
-            (subst (λ (p : _). Sends s (g.D.Disk.moment c.new-access.result.desk.spool.disk) (g.D.Disk.moment p.disk) told.0 told.1 session.calls (cursor_of p.memory) (end_of p.memory)) (sym after)
+            subst (λ (d : _). Sends s (g.D.Disk.moment d) (g.D.Disk.moment c.into_desk-desk.result.spool.disk) told.0 told.1 session.calls (pending_in c.into_desk-desk.result.spool.memory)) before
+            (subst (λ (p : _). Sends s (g.D.Disk.moment c.new-access.result.desk.spool.disk) (g.D.Disk.moment p.disk) told.0 told.1 session.calls (pending_in p.memory)) (sym after)
             (sends s tells _ _ told.0 told.1 session.calls told_by at first.start_is first.until_is whole));
         ended = session.ended;
       };

@@ -1,8 +1,8 @@
 use Rattle.std.proofs.Common.{◌∙◌, refl, sym, ap, inl, inr, subst, map, string_bytes}
 use Rattle.edge_io.specs.declared.proto.Proto.{Proto}
-use Rattle.bridge_words.specs.declared.command.Command.TheVariants.{Format, List as ListCommand, Replay, Load}
+use Rattle.bridge_words.specs.declared.command.Command.TheVariants.{Format, List as ListCommand, Replay, Load, Serve}
 use Rattle.bridge_words.specs.Words.{IsCommand}
-use Rattle.bridge_core.proofs.Doing.{does_as, is_usage, no_asked, list_not_usage, has_polls, is_load}
+use Rattle.bridge_core.proofs.Doing.{does_as, is_usage, no_asked, list_not_usage, has_polls, is_load, no_load}
 use Rattle.bridge_core.proofs.Failing.{tells_as}
 use Rattle.bridge_core.proofs.top.bridge.Goals as goal
 
@@ -82,9 +82,9 @@ returns-in-Ok-Replay-clause-done g c = rw (c.of-in-Ok-Replay.ensures.disk, c.of-
 
 pub returns-in-Ok-Replay-clause-calls : goal.returns-in-Ok-Replay-clause-calls
 returns-in-Ok-Replay-clause-calls g c =
-    rw (c.of-in-Ok-Replay.ensures.disk, c.of-in-Ok-Replay.ensures.note) (tells_as _ _ _ _ _ (λ is.
+    rw (c.of-in-Ok-Replay.ensures.disk, c.of-in-Ok-Replay.ensures.note) (inl (tells_as _ _ _ _ _ (λ is.
     let words = rw c.in-Ok-Replay.field-0-is at c.in-Ok-Replay.ensures.command in
-    (c.in-Ok-Replay.token, c.in-Ok-Replay.ack_token, subst (λ (proto : Proto). IsCommand (Replay proto c.in-Ok-Replay.token c.in-Ok-Replay.ack_token) (map string_bytes c.args.words.now)) is words)) c.replay-note.ensures.calls)
+    (c.in-Ok-Replay.token, c.in-Ok-Replay.ack_token, subst (λ (proto : Proto). IsCommand (Replay proto c.in-Ok-Replay.token c.in-Ok-Replay.ack_token) (map string_bytes c.args.words.now)) is words)) c.replay-note.ensures.calls))
 
 pub returns-in-Ok-List-clause-done : goal.returns-in-Ok-List-clause-done
 returns-in-Ok-List-clause-done g c = rw (c.of-in-Ok-List.ensures.disk, c.of-in-Ok-List.ensures.note) λ command is.
@@ -124,7 +124,7 @@ pub returns-in-Ok-Drain-default-None-clause-disk_unused : goal.returns-in-Ok-Dra
 returns-in-Ok-Drain-default-None-clause-disk_unused g c = λ loads. let at = c.in-Ok-Drain-default-None.field-0-is in let same = is_load c.in-Ok-Drain-default-None.field-0 _ (c.in-Ok-Drain-default-None.ensures.command) loads in absurd (cc)
 
 pub returns-in-Ok-Drain-default-Some-clause-disk_unused : goal.returns-in-Ok-Drain-default-Some-clause-disk_unused
-returns-in-Ok-Drain-default-Some-clause-disk_unused g c = λ loads. let at = c.in-Ok-Drain-default-Some.field-0-is in let same = is_load c.in-Ok-Drain-default-Some.field-0 _ (c.in-Ok-Drain-default-Some.ensures.command) loads in absurd (cc)
+returns-in-Ok-Drain-default-Some-clause-disk_unused g c = λ loads. absurd (no_load _ _ _ _ _ _ c.in-Ok-Drain-default-Some.field-0-is (is_load c.in-Ok-Drain-default-Some.field-0 _ (c.in-Ok-Drain-default-Some.ensures.command) loads))
 
 pub returns-in-Ok-Format-clause-done : goal.returns-in-Ok-Format-clause-done
 returns-in-Ok-Format-clause-done g c = rw (c.of-in-Ok-Format.ensures.disk, c.of-in-Ok-Format.ensures.note) λ command is.
@@ -156,3 +156,7 @@ format-note-requires g c = (rw c.in-Ok-Format.field-0-is at c.in-Ok-Format.ensur
 
 pub load-note-requires : goal.load-note-requires
 load-note-requires g c = record { few = (rw c.in-Ok-Load.field-0-is at c.in-Ok-Load.ensures.command).asks.few }
+
+pub returns-in-Ok-Serve-clause-done : goal.returns-in-Ok-Serve-clause-done
+returns-in-Ok-Serve-clause-done g c = λ command is.
+    inr (does_as (Serve c.in-Ok-Serve.server) command _ _ _ (rw c.in-Ok-Serve.field-0-is at c.in-Ok-Serve.ensures.command) (c.serve-note.ensures.served, record { given = refl; left = refl }) is)
