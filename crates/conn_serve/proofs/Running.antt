@@ -1,16 +1,20 @@
 -- A connection from its first byte on.
-use Rattle.std.proofs.Common.{◌≡◌, ℕ, ◌+◌, ◌≤◌, ◌^◌, List, [], ◌++◌, Option, length, refl, sym, subst, arith, length-append}
+use Rattle.std.proofs.Common.{◌≡◌, ℕ, ◌+◌, ◌<◌, ◌≤◌, ◌^◌, List, [], ◌++◌, Option, length, refl, sym, subst, arith, length-append}
 use Rattle.std.proofs.lemmas.List.{append-nil}
 use Rattle.edge_io.proofs.Known.{appends_none, appends_then, appends_keeps, consumes_none, consumes_then, consumes_keeps}
 use Rattle.std.specs.Io.KnownBytes.{Appends, Consumes, Keeps}
 use Rattle.event_form.specs.declared.talk.Attended.{Attended}
 use Rattle.event_form.specs.declared.talk.Talk.{Talk}
+use Rattle.lumber_frame.proofs.BytesLaws.{IsBytes-append}
 use Rattle.desk_access.specs.Call.{Call}
 use Rattle.desk_access.specs.Step.{count}
 use Rattle.desk_access.proofs.Moves.{count_then}
-use Rattle.conn_serve.specs.Done.{Done, Leads, LeadsOn, SoFar, Told, told, Turn}
+use Rattle.conn_serve.specs.Done.{AreBytes, Done, Leads, LeadsOn, SoFar, Told, told, Turn}
 use Rattle.conn_serve.specs.Serves.{Serves}
 use Rattle.conn_serve.proofs.Leading.{leads_start}
+
+no_bytes : AreBytes []
+no_bytes i = let few : 0 < 256 = omega arith in few
 
 -- So many bytes were read since the beginning, calls made and a text written; of these this is so.
 pub record Progress (Served : List ℕ → List Call → List ℕ → Type 0) (start now : Told) (ran : List Call → Type 0) (taken total : ℕ) : Type 0 where
@@ -19,6 +23,7 @@ pub record Progress (Served : List ℕ → List Call → List ℕ → Type 0) (s
   pub text : List ℕ
   pub read : Appends start.given now.given bytes
   pub consumed : Consumes start.left now.left bytes
+  pub are_bytes : AreBytes bytes
   pub wrote : Appends start.written now.written text
   pub made : ran calls
   pub counted : taken ≡ count calls
@@ -32,6 +37,7 @@ progress_start Served start ran taken none zero served = record {
   text = [];
   read = appends_none start.given;
   consumed = consumes_none start.left;
+  are_bytes = no_bytes;
   wrote = appends_none start.written;
   made = none;
   counted = zero;
@@ -46,7 +52,7 @@ so_far_of Served start now ran taken total more k number same most p = record { 
 -- the connection has ended so
 pub serves : (Carried : Option (List ℕ) → List ℕ → List Call → List ℕ → Talk → Type 0) (start now : Told) (ran : List Call → Type 0) (taken total : ℕ) (talk : Talk)
     → Progress (λ bytes calls text. Carried now.left bytes calls text talk) start now ran taken total → Serves Carried start.given now.given start.left now.left start.written now.written ran (record { talk = talk; taken = taken })
-serves Carried start now ran taken total talk p = record { bytes = p.bytes; calls = p.calls; text = p.text; read = p.read; consumed = p.consumed; wrote = p.wrote; made = p.made; counted = p.counted; carried = p.served }
+serves Carried start now ran taken total talk p = record { bytes = p.bytes; calls = p.calls; text = p.text; read = p.read; consumed = p.consumed; are_bytes = p.are_bytes; wrote = p.wrote; made = p.made; counted = p.counted; carried = p.served }
 
 -- at its beginning
 pub serves_none : (Carried : Option (List ℕ) → List ℕ → List Call → List ℕ → Talk → Type 0) (now : Told) (ran : List Call → Type 0) (talk : Talk) → ran [] → Carried now.left [] [] [] talk
@@ -62,6 +68,7 @@ turn_unread ran given given' left left' written written' n Served Carried none k
   text = [];
   read = appends_keeps given given given' [] (appends_none given) kept;
   consumed = consumes_keeps left left left' [] (consumes_none left) rest;
+  are_bytes = no_bytes;
   wrote = subst (λ (o : Option (List ℕ)). Appends written o []) (sym same) (appends_none written);
   made = none;
   counted = omega arith;
@@ -70,14 +77,15 @@ turn_unread ran given given' left left' written written' n Served Carried none k
 
 -- a piece was read, and the connection ended in it
 pub turn_halts : (ran : List Call → Type 0) (given given' given'' left left' left'' written written' written'' : Option (List ℕ)) (n n' : ℕ) (piece : List ℕ) (Served : List ℕ → List Call → List ℕ → Type 0) (Carried : Option (List ℕ) → List ℕ → List Call → List ℕ → Type 0)
-    → Appends given given' piece → given'' ≡ given' → Consumes left left' piece → left'' ≡ left' → written' ≡ written → Done ran written' written'' n n' (LeadsOn n piece Served (λ fed calls text. (end : Option (List ℕ)) → Carried end fed calls text))
+    → Appends given given' piece → given'' ≡ given' → Consumes left left' piece → left'' ≡ left' → AreBytes piece → written' ≡ written → Done ran written' written'' n n' (LeadsOn n piece Served (λ fed calls text. (end : Option (List ℕ)) → Carried end fed calls text))
     → Turn ran (told given left written) (told given'' left'' written'') n n' (λ p calls text. LeadsOn n p Served (Carried left'') calls text)
-turn_halts ran given given' given'' left left' left'' written written' written'' n n' piece Served Carried read same_given consumed same_left same_written d = record {
+turn_halts ran given given' given'' left left' left'' written written' written'' n n' piece Served Carried read same_given consumed same_left are_bytes same_written d = record {
   piece = piece;
   calls = d.calls;
   text = d.text;
   read = subst (λ (o : Option (List ℕ)). Appends given o piece) (sym same_given) read;
   consumed = subst (λ (o : Option (List ℕ)). Consumes left o piece) (sym same_left) consumed;
+  are_bytes = are_bytes;
   wrote = subst (λ (o : Option (List ℕ)). Appends o written'' d.text) same_written d.wrote;
   made = d.made;
   counted = d.counted;
@@ -94,6 +102,7 @@ module _ (start now next : Told) (first second both : List Call → Type 0) (joi
     text = p.text ++ t.text;
     read = appends_then start.given now.given next.given p.bytes t.piece p.read t.read;
     consumed = consumes_then start.left now.left next.left p.bytes t.piece p.consumed t.consumed;
+    are_bytes = IsBytes-append p.bytes t.piece p.are_bytes t.are_bytes;
     wrote = appends_then start.written now.written next.written p.text t.text p.wrote t.wrote;
     made = join p.calls t.calls p.made t.made;
     counted = omega (arith, p.counted, t.counted, count_then p.calls t.calls);
@@ -111,6 +120,7 @@ module _ (start now next : Told) (first second both : List Call → Type 0) (joi
     text = p.text ++ t.text;
     read = appends_then start.given now.given next.given p.bytes t.piece p.read t.read;
     consumed = consumes_then start.left now.left next.left p.bytes t.piece p.consumed t.consumed;
+    are_bytes = IsBytes-append p.bytes t.piece p.are_bytes t.are_bytes;
     wrote = appends_then start.written now.written next.written p.text t.text p.wrote t.wrote;
     made = join p.calls t.calls p.made t.made;
     counted = omega (arith, p.counted, t.counted, count_then p.calls t.calls);
@@ -129,6 +139,7 @@ serves_close start given given' left left' written written' first second both ta
   text = p.text ++ d.text;
   read = subst (λ (o : Option (List ℕ)). Appends start.given o p.bytes) (sym given_is) p.read;
   consumed = subst (λ (o : Option (List ℕ)). Consumes start.left o p.bytes) (sym left_is) p.consumed;
+  are_bytes = p.are_bytes;
   wrote = appends_then start.written written written' p.text d.text p.wrote d.wrote;
   made = join p.calls d.calls p.made d.made;
   counted = omega (arith, p.counted, d.counted, count_then p.calls d.calls);

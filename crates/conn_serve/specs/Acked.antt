@@ -30,9 +30,12 @@ successes (f ∷ fs) = if is_success f then f.txnr ∷ successes fs else success
 -- The whole frames at the front of the text acknowledge these numbers, in order.
 abbrev pub Acknowledges : Proto → List ℕ → List ℕ → Type 0
 -- the transaction numbers to which an answer says 200 OK
-Acknowledges Relp text numbers = (answers : List Frame) × (front : List ℕ) × (rest : List ℕ) × AreSpelled IsSpelling answers front × (text ≡ front ++ rest) × (numbers ≡ successes answers)
+Acknowledges Relp text numbers =
+    (answers : List Frame) × (front : List ℕ) × (rest : List ℕ) × AreSpelled IsSpelling answers front × (text ≡ front ++ rest)
+    × (numbers ≡ successes answers)
 -- the sequence numbers of A frames
-Acknowledges Lumberjack text numbers = (front : List ℕ) × (rest : List ℕ) × AreSpelled (Spells Sender) (map (λ seq. Ack seq) numbers) front × (text ≡ front ++ rest)
+Acknowledges Lumberjack text numbers =
+    (front : List ℕ) × (rest : List ℕ) × AreSpelled (Spells Sender) (map (λ seq. Ack seq) numbers) front × (text ≡ front ++ rest)
 -- the collector's replies name no groups by a number of theirs
 Acknowledges Hec text numbers = ⊥
 
@@ -46,7 +49,9 @@ pub record AreOfFirst (calls : List Call) (numbers : List ℕ) : Type 0 where
 
 -- Whatever numbers the text of a connection acknowledges, they are those of the first groups that were taken.
 abbrev pub AckedIsTaken : Type 0
-AckedIsTaken = (proto : Proto) (tokens : Tokens) (conn : ℕ) (left : Option (List ℕ)) (b : List ℕ) (calls : List Call) (text : List ℕ) (talk : Talk) → CarriedAs proto tokens conn left b calls text talk
+AckedIsTaken =
+    (proto : Proto) (tokens : Tokens) (conn : ℕ) (left : Option (List ℕ)) (b : List ℕ) (calls : List Call) (text : List ℕ) (talk : Talk)
+    → CarriedAs proto tokens conn left b calls text talk
     → (numbers : List ℕ) → Acknowledges proto text numbers → AreOfFirst calls numbers
 
 -- acknowledgments of Lumberjack for these numbers, one after another
@@ -56,5 +61,7 @@ acks_of numbers = flat_map (λ seq. ack_text seq) numbers
 -- The text of a Lumberjack connection is the acknowledgments of the groups that were taken, in order, one each, but the
 -- last one perhaps in part or not at all.
 abbrev pub AcksAreOfGroups : Type 0
-AcksAreOfGroups = (conn : ℕ) (left : Option (List ℕ)) (b : List ℕ) (calls : List Call) (text : List ℕ) (talk : Talk) → Carried (lumberjack conn) left b calls text talk
+AcksAreOfGroups =
+    (conn : ℕ) (left : Option (List ℕ)) (b : List ℕ) (calls : List Call) (text : List ℕ) (talk : Talk)
+    → Carried (lumberjack conn) left b calls text talk
     → (behind : List ℕ) × All HasEntries (groups_of calls) × (text ++ behind ≡ acks_of (units (groups_of calls)))

@@ -16,5 +16,7 @@ pub record TellsFailures (proto : Proto) (failures : ℕ) (talk : Talk) : Type 0
 
 -- Whatever a connection has carried, its ending says that.
 abbrev pub DiskFaultIsTold : Type 0
-DiskFaultIsTold = (proto : Proto) (tokens : Tokens) (conn : ℕ) (left : Option (List ℕ)) (b : List ℕ) (calls : List Call) (text : List ℕ) (talk : Talk) → CarriedAs proto tokens conn left b calls text talk
+DiskFaultIsTold =
+    (proto : Proto) (tokens : Tokens) (conn : ℕ) (left : Option (List ℕ)) (b : List ℕ) (calls : List Call) (text : List ℕ) (talk : Talk)
+    → CarriedAs proto tokens conn left b calls text talk
     → TellsFailures proto (failures_of calls) talk

@@ -1,5 +1,5 @@
 -- What was done between two moments of a connection.
-use Rattle.std.specs.Prelude.{◌≡◌, ℕ, ◌+◌, ◌≤◌, ◌^◌, List, ◌++◌, length, Option}
+use Rattle.std.specs.Prelude.{◌≡◌, ℕ, ◌+◌, ◌<◌, ◌≤◌, ◌^◌, List, ◌++◌, length, slice_index, Option}
 use Rattle.std.specs.Io.KnownBytes.{Appends, Consumes}
 use Rattle.event_form.specs.declared.talk.Talk.{Talk}
 use Rattle.desk_access.specs.Call.{Call}
@@ -18,12 +18,15 @@ pub record Done (ran : List Call → Type 0) (written written' : Option (List �
 -- Where the first was so of the bytes read and of all calls and text before, which stored that many
 -- entries, the other is so of them now.
 abbrev pub Leads : ℕ → (List ℕ → List Call → List ℕ → Type 0) → (List ℕ → List Call → List ℕ → Type 0) → List Call → List ℕ → Type 0
-Leads before From To calls text = (fed : List ℕ) (called : List Call) (said : List ℕ) → before ≡ count called → From fed called said → To fed (called ++ calls) (said ++ text)
+Leads before From To calls text =
+    (fed : List ℕ) (called : List Call) (said : List ℕ) → before ≡ count called → From fed called said → To fed (called ++ calls) (said ++ text)
 
 -- Where the first was so of the bytes read and of all calls and text before, which stored that many
 -- entries, the other is so of them now, with a piece more.
 abbrev pub LeadsOn : ℕ → List ℕ → (List ℕ → List Call → List ℕ → Type 0) → (List ℕ → List Call → List ℕ → Type 0) → List Call → List ℕ → Type 0
-LeadsOn before piece From To calls text = (fed : List ℕ) (called : List Call) (said : List ℕ) → before ≡ count called → From fed called said → To (fed ++ piece) (called ++ calls) (said ++ text)
+LeadsOn before piece From To calls text =
+    (fed : List ℕ) (called : List Call) (said : List ℕ) → before ≡ count called → From fed called said
+    → To (fed ++ piece) (called ++ calls) (said ++ text)
 
 -- So far some bytes were served, of which that many entries were taken. With that many bytes more they are no more
 -- than a connection may have.
@@ -44,6 +47,10 @@ pub record Told : Type 0 where
 abbrev pub told : Option (List ℕ) → Option (List ℕ) → Option (List ℕ) → Told
 told given left written = record { given = given; left = left; written = written }
 
+-- each of these numbers is a byte
+abbrev pub AreBytes : List ℕ → Type 0
+AreBytes b = (i : ℕ) → slice_index b i < 256
+
 -- A piece was read, calls were made on the desk, a text was written, and the entries taken were counted. Of the
 -- piece, the calls and the text this is so.
 pub record Turn (ran : List Call → Type 0) (was now : Told) (before after : ℕ) (Is : List ℕ → List Call → List ℕ → Type 0) : Type 0 where
@@ -52,6 +59,7 @@ pub record Turn (ran : List Call → Type 0) (was now : Told) (before after : �
   pub text : List ℕ
   pub read : Appends was.given now.given piece
   pub consumed : Consumes was.left now.left piece
+  pub are_bytes : AreBytes piece
   pub wrote : Appends was.written now.written text
   pub made : ran calls
   pub counted : after ≡ before + count calls

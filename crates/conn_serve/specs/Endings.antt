@@ -16,4 +16,5 @@ pub record CountsFaults (fault : Type 0) (before now : ℕ) : Type 0 where
 -- want of a read, or because it has read as much as it may.
 pub record MayEnd (Served : List ℕ → List Call → List ℕ → Type 0) (Carried : Option (List ℕ) → List ℕ → List Call → List ℕ → Talk → Type 0) : Type 0 where
   pub read_fault : (left : Option (List ℕ)) (fed : List ℕ) (calls : List Call) (text : List ℕ) → Served fed calls text → Carried left fed calls text ReadFault
-  pub too_much : (left : Option (List ℕ)) (fed : List ℕ) (calls : List Call) (text : List ℕ) → Served fed calls text → length fed ≡ 2 ^ 40 → Carried left fed calls text (TooMuch (2 ^ 40))
+  pub too_much : (left : Option (List ℕ)) (fed : List ℕ) (calls : List Call) (text : List ℕ) → Served fed calls text → length fed ≡ 2 ^ 40
+      → Carried left fed calls text (TooMuch (2 ^ 40))

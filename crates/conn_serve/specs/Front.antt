@@ -18,4 +18,5 @@ IsWholeBy format b frames at = (rest : List ℕ) × format.IsWhole b frames at r
 
 -- the bytes have this fault after these frames; a fault of the format has a place and a reason
 abbrev pub IsFaultyBy : {F E : Type 0} → Format F E → (E → ℕ) → (E → Why) → List ℕ → List F → ℕ → Why → Type 0
-IsFaultyBy {F} {E} format place_of why_of b frames place why = (at : ℕ) × (rest : List ℕ) × (fault : E) × format.IsFaulty b frames at rest fault × (place ≡ place_of fault) × (why ≡ why_of fault)
+IsFaultyBy {F} {E} format place_of why_of b frames place why =
+    (at : ℕ) × (rest : List ℕ) × (fault : E) × format.IsFaulty b frames at rest fault × (place ≡ place_of fault) × (why ≡ why_of fault)

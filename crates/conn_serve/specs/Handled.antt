@@ -18,7 +18,8 @@ GivesNext format Spells room old None new = IsIdle room old × (new ≡ old)
 GivesNext format Spells room old (Some f) new = Gives format Spells old f new
 
 -- the window has read these frames, but for those that wait, and met this fault
-pub record ReadBy {F E : Type 0} (format : Format F E) (Spells : F → List ℕ → Type 0) (window : Window E) (fault : Option E) (b : List ℕ) (frames : List F) : Type 0 where
+pub record ReadBy {F E : Type 0} (format : Format F E) (Spells : F → List ℕ → Type 0) (window : Window E) (fault : Option E) (b : List ℕ)
+    (frames : List F) : Type 0 where
   pub reads : Reads format Spells b frames window
   pub told : fault ≡ window.fault
 
@@ -34,14 +35,16 @@ pub record Handled {F : Type 0} (p : Protocol F) (frames : List F) (calls : List
 
 -- Of these bytes all whole frames were served but those that wait. Reads says which frames the bytes are without
 -- those, and Handles what was done for them.
-pub record Served {F : Type 0} (Handles : List F → List Call → List ℕ → Type 0) (Reads : List ℕ → List F → Type 0) (b : List ℕ) (calls : List Call) (text : List ℕ) : Type 0 where
+pub record Served {F : Type 0} (Handles : List F → List Call → List ℕ → Type 0) (Reads : List ℕ → List F → Type 0) (b : List ℕ) (calls : List Call)
+    (text : List ℕ) : Type 0 where
   pub frames : List F
   pub handled : Handles frames calls text
   pub reads : Reads b frames
 
 -- These bytes were served, the input is over, and would end the connection so: what is to be done for that is still
 -- to be done. `left` is what the input has left, where it says so.
-pub record Closing {F : Type 0} (p : Protocol F) (Handles : List F → List Call → List ℕ → Type 0) (left : Option (List ℕ)) (over : Talk) (b : List ℕ) (calls : List Call) (text : List ℕ) : Type 0 where
+pub record Closing {F : Type 0} (p : Protocol F) (Handles : List F → List Call → List ℕ → Type 0) (left : Option (List ℕ)) (over : Talk) (b : List ℕ)
+    (calls : List Call) (text : List ℕ) : Type 0 where
   pub frames : List F
   pub handled : Handles frames calls text
   pub at : ℕ

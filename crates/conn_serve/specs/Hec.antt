@@ -88,20 +88,27 @@ IsDone conn index (Say say) closing calls text = (code : HecCode) × (say ≡ sa
 IsDone conn index (StoreThenSay events) closing calls text =
     (receipt : Receipt) × (calls ≡ takes_all conn index 0 events.items (Ok receipt) ∷ []) × (text ≡ success None closing)
 IsDone conn index (SayThenStore channel events) closing calls text =
-    (id : ℕ) × (receipt : Receipt) × (unsettled : Bool) × (calls ≡ issues channel (Ok id) ∷ takes_all conn index id events.items (Ok receipt) ∷ settles channel id unsettled ∷ []) × (text ≡ success (Some id) closing)
-IsDone conn index (Ask channel ids) closing calls text = (known : List Bool) × (calls ≡ asks channel ids.items known ∷ []) × (text ≡ answers ids.items known closing)
+    (id : ℕ) × (receipt : Receipt) × (unsettled : Bool)
+    × (calls ≡ issues channel (Ok id) ∷ takes_all conn index id events.items (Ok receipt) ∷ settles channel id unsettled ∷ [])
+    × (text ≡ success (Some id) closing)
+IsDone conn index (Ask channel ids) closing calls text =
+    (known : List Bool) × (calls ≡ asks channel ids.items known ∷ []) × (text ≡ answers ids.items known closing)
 
 -- the spool or the table of ids refused it before anything was said: this is said then, and the connection ends so
 abbrev pub IsRefused : ℕ → ℕ → HecAct → List Call → List ℕ → Talk → Type 0
 IsRefused conn index (Say say) calls text talk = ⊥
-IsRefused conn index (StoreThenSay events) calls text talk = (fault : TakeFault) × (calls ≡ takes_all conn index 0 events.items (Err fault) ∷ []) × (text ≡ refusal fault) × (talk ≡ talk_of fault)
-IsRefused conn index (SayThenStore channel events) calls text talk = (fault : IssueFault) × (calls ≡ issues channel (Err fault) ∷ []) × (text ≡ unissued fault) × (talk ≡ talk_of_issue fault)
+IsRefused conn index (StoreThenSay events) calls text talk =
+    (fault : TakeFault) × (calls ≡ takes_all conn index 0 events.items (Err fault) ∷ []) × (text ≡ refusal fault) × (talk ≡ talk_of fault)
+IsRefused conn index (SayThenStore channel events) calls text talk =
+    (fault : IssueFault) × (calls ≡ issues channel (Err fault) ∷ []) × (text ≡ unissued fault) × (talk ≡ talk_of_issue fault)
 IsRefused conn index (Ask channel ids) calls text talk = ⊥
 
 -- the id was said and its events were not taken: the id is forgotten, and nothing more is said
 abbrev pub IsUnstored : ℕ → ℕ → HecAct → Bool → List Call → List ℕ → Talk → Type 0
 IsUnstored conn index (SayThenStore channel events) closing calls text talk =
-    (id : ℕ) × (fault : TakeFault) × (held : Bool) × (calls ≡ issues channel (Ok id) ∷ takes_all conn index id events.items (Err fault) ∷ forgets channel id held ∷ []) × (text ≡ success (Some id) closing) × (talk ≡ talk_of fault)
+    (id : ℕ) × (fault : TakeFault) × (held : Bool)
+    × (calls ≡ issues channel (Ok id) ∷ takes_all conn index id events.items (Err fault) ∷ forgets channel id held ∷ [])
+    × (text ≡ success (Some id) closing) × (talk ≡ talk_of fault)
 IsUnstored conn index act closing calls text talk = ⊥
 
 -- the id was issued, and is forgotten before its events are taken
@@ -120,7 +127,8 @@ IsStarved (Ask channel ids) calls = (known : List Bool) × (calls ≡ asks chann
 -- and its events aren't taken.
 abbrev pub IsDue : ℕ → ℕ → HecAct → Bool → List Call → List ℕ → Type 0
 IsDue conn index (SayThenStore channel events) closing calls text =
-    ((id : ℕ) × IsForgotten channel id calls × (text ≡ success (Some id) closing)) ⊎ ((talk : Talk) × IsRefused conn index (SayThenStore channel events) calls text talk)
+    ((id : ℕ) × IsForgotten channel id calls × (text ≡ success (Some id) closing))
+    ⊎ ((talk : Talk) × IsRefused conn index (SayThenStore channel events) calls text talk)
 IsDue conn index act closing calls text = IsDone conn index act closing calls text ⊎ ((talk : Talk) × IsRefused conn index act calls text talk)
 
 -- a part of the text, not all

@@ -17,7 +17,8 @@ use Rattle.conn_serve.specs.Hec.{hec, success, answers}
 
 -- These calls were made for an item, and this text, which lies whole in that of the connection, was said for it: as a
 -- step of the connection, or for the request that closed it.
-abbrev pub IsSaid : {p : Protocol HttpItem} {left : Option (List ℕ)} {b : List ℕ} {calls : List Call} {text : List ℕ} {talk : Talk} → Carried p left b calls text talk → List Call → List ℕ → Type 0
+abbrev pub IsSaid : {p : Protocol HttpItem} {left : Option (List ℕ)} {b : List ℕ} {calls : List Call} {text : List ℕ} {talk : Talk}
+    → Carried p left b calls text talk → List Call → List ℕ → Type 0
 IsSaid {talk = talk} carried made said =
     ((s : Step HttpItem) × Contains carried.steps s × (made ≡ s.calls) × (said ≡ s.text))
     ⊎ ((talk ≡ Closed) × (made ≡ carried.late) × (said ≡ carried.part))
@@ -33,11 +34,13 @@ SaysSettled made said channel id =
     × (k < length ids) × (get_or ids k 0 ≡ id) × (get_or known k false ≡ true)
 
 -- A reply that acknowledges this group lies whole in the text of the connection.
-abbrev pub AcknowledgesGroup : {p : Protocol HttpItem} {left : Option (List ℕ)} {b : List ℕ} {calls : List Call} {text : List ℕ} {talk : Talk} → Carried p left b calls text talk → Group → Type 0
+abbrev pub AcknowledgesGroup : {p : Protocol HttpItem} {left : Option (List ℕ)} {b : List ℕ} {calls : List Call} {text : List ℕ} {talk : Talk}
+    → Carried p left b calls text talk → Group → Type 0
 AcknowledgesGroup carried group = (made : List Call) × (said : List ℕ) × IsSaid carried made said × SaysStored made said group
 
 -- A reply that tells this id of the channel true does.
-abbrev pub TellsTrue : {p : Protocol HttpItem} {left : Option (List ℕ)} {b : List ℕ} {calls : List Call} {text : List ℕ} {talk : Talk} → Carried p left b calls text talk → ℕ → ℕ → Type 0
+abbrev pub TellsTrue : {p : Protocol HttpItem} {left : Option (List ℕ)} {b : List ℕ} {calls : List Call} {text : List ℕ} {talk : Talk}
+    → Carried p left b calls text talk → ℕ → ℕ → Type 0
 TellsTrue carried channel id = (made : List Call) × (said : List ℕ) × IsSaid carried made said × SaysSettled made said channel id
 
 -- The calls lie together in those of the connection, and the text in its text.
@@ -53,17 +56,23 @@ pub record LiesWhole (calls made : List Call) (text said : List ℕ) : Type 0 wh
 
 -- What is said for an item lies whole in the text, and the calls for it lie together in the calls.
 abbrev pub SaidLiesWhole : Type 0
-SaidLiesWhole = (tokens : Tokens) (conn : ℕ) (left : Option (List ℕ)) (b : List ℕ) (calls : List Call) (text : List ℕ) (talk : Talk) (carried : Carried (hec tokens conn) left b calls text talk)
+SaidLiesWhole =
+    (tokens : Tokens) (conn : ℕ) (left : Option (List ℕ)) (b : List ℕ) (calls : List Call) (text : List ℕ) (talk : Talk)
+    (carried : Carried (hec tokens conn) left b calls text talk)
     → (made : List Call) (said : List ℕ) → IsSaid carried made said → LiesWhole calls made text said
 
 -- A group that is acknowledged without an id was taken.
 abbrev pub AcknowledgedIsTaken : Type 0
-AcknowledgedIsTaken = (tokens : Tokens) (conn : ℕ) (left : Option (List ℕ)) (b : List ℕ) (calls : List Call) (text : List ℕ) (talk : Talk) (carried : Carried (hec tokens conn) left b calls text talk)
+AcknowledgedIsTaken =
+    (tokens : Tokens) (conn : ℕ) (left : Option (List ℕ)) (b : List ℕ) (calls : List Call) (text : List ℕ) (talk : Talk)
+    (carried : Carried (hec tokens conn) left b calls text talk)
     → (group : Group) → AcknowledgesGroup carried group → Contains (groups_of calls) group
 
 -- Each id is settled after its entries were taken.
 abbrev pub SettledIsStored : Type 0
-SettledIsStored = (tokens : Tokens) (conn : ℕ) (left : Option (List ℕ)) (b : List ℕ) (calls : List Call) (text : List ℕ) (talk : Talk) → Carried (hec tokens conn) left b calls text talk → AllSettleStored [] calls
+SettledIsStored =
+    (tokens : Tokens) (conn : ℕ) (left : Option (List ℕ)) (b : List ℕ) (calls : List Call) (text : List ℕ) (talk : Talk)
+    → Carried (hec tokens conn) left b calls text talk → AllSettleStored [] calls
 
 -- a group of entries that have this id as their unit
 pub record IsOfId (id : ℕ) (group : Group) : Type 0 where
@@ -73,6 +82,8 @@ pub record IsOfId (id : ℕ) (group : Group) : Type 0 where
 -- Where the connection is the only caller of a desk, whose table held no id as it began: an id that is told true is that
 -- of a group that was taken.
 abbrev pub ToldIsTaken : Type 0
-ToldIsTaken = (tokens : Tokens) (conn : ℕ) (left : Option (List ℕ)) (b : List ℕ) (calls : List Call) (text : List ℕ) (talk : Talk) (carried : Carried (hec tokens conn) left b calls text talk)
+ToldIsTaken =
+    (tokens : Tokens) (conn : ℕ) (left : Option (List ℕ)) (b : List ℕ) (calls : List Call) (text : List ℕ) (talk : Talk)
+    (carried : Carried (hec tokens conn) left b calls text talk)
     → (x z : DeskState) (number : ℕ) (records : List Record) → x.ids.held ≡ [] → Goes x records z → AreBy number calls records
     → (channel id : ℕ) → TellsTrue carried channel id → (group : Group) × Contains (groups_of calls) group × IsOfId id group

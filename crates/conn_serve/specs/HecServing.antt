@@ -88,7 +88,8 @@ code_of Malformed = InvalidFormat
 -- an id that was issued was said, its events were taken, and it was settled
 abbrev pub StoresUnder : ℕ → ℕ → ℕ → ℕ → List Event → Bool → List Call → List ℕ → Type 0
 StoresUnder conn index channel id events closing calls text =
-    (receipt : Receipt) × (unsettled : Bool) × (calls ≡ takes_all conn index id events (Ok receipt) ∷ settles channel id unsettled ∷ []) × (text ≡ success (Some id) closing)
+    (receipt : Receipt) × (unsettled : Bool) × (calls ≡ takes_all conn index id events (Ok receipt) ∷ settles channel id unsettled ∷ [])
+    × (text ≡ success (Some id) closing)
 
 -- it wasn't said, for want of memory or because its reply was cut short; or it was said, and its events weren't taken
 abbrev pub FailsUnder : ℕ → ℕ → ℕ → List Event → Bool → Talk → List Call → List ℕ → Type 0

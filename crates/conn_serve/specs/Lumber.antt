@@ -31,7 +31,9 @@ StoresGroup group seq calls text = (receipt : Receipt) × (calls ≡ takes group
 -- the connection ends at that: the group was taken and its acknowledgment wasn't wholly written, or it
 -- wasn't taken, and nothing was written
 abbrev pub EndsAtGroup : List Entry → ℕ → List Call → List ℕ → Talk → Type 0
-EndsAtGroup group seq late part WriteFault = (receipt : Receipt) × (k : ℕ) × (late ≡ takes group (Ok receipt) ∷ []) × (k < length (ack_text seq)) × (part ≡ take k (ack_text seq)) × (seq < 2 ^ 32)
+EndsAtGroup group seq late part WriteFault =
+    (receipt : Receipt) × (k : ℕ) × (late ≡ takes group (Ok receipt) ∷ []) × (k < length (ack_text seq)) × (part ≡ take k (ack_text seq))
+    × (seq < 2 ^ 32)
 EndsAtGroup group seq late part talk = (fault : TakeFault) × (late ≡ takes group (Err fault) ∷ []) × (talk ≡ talk_of fault) × (part ≡ [])
 
 -- what is staged is stored as one batch, and acknowledged with the sequence number of its last frame
@@ -56,7 +58,8 @@ lumberjack conn = record {
   IsFaulty = IsFaultyBy receiver (λ e. e.at) (λ e. why_of e.why);
   IsMove = λ before s. IsBatch (frames_of before) s.frames × StoresBatch conn (count (calls_of before)) (staged s.frames) s.calls s.text;
   AreHeld = λ before held. EndsNowhere (frames_of before) held;
-  Stops = λ before held f late part talk. IsBatch (frames_of before) (held ++ f ∷ []) × EndsAtBatch conn (count (calls_of before)) (staged (held ++ f ∷ [])) late part talk;
+  Stops = λ before held f late part talk. IsBatch (frames_of before) (held ++ f ∷ [])
+      × EndsAtBatch conn (count (calls_of before)) (staged (held ++ f ∷ [])) late part talk;
   IsLastMove = λ before held over. StoresLast conn (count (calls_of before)) (staged held);
   StopsLast = λ before held over late part talk. (0 < length (staged held)) × EndsAtBatch conn (count (calls_of before)) (staged held) late part talk;
 }

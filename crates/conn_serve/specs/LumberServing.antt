@@ -43,4 +43,5 @@ pub record Handles (conn : ℕ) (core : Core) (entries : List Entry) (last : ℕ
 abbrev pub HaltsAtFrame : ℕ → Core → List Entry → ℕ → ℕ → LumberFrame → Talk → List Call → List ℕ → Type 0
 HaltsAtFrame conn core entries last taken f talk late part =
     (IsNothing late part × (talk ≡ NoMemory))
-    ⊎ ((frames : List LumberFrame) (called : List Call) (said : List ℕ) → taken ≡ count called → (h : Handles conn core entries last frames called said) → (lumberjack conn).Stops h.handled.steps h.handled.held f late part talk)
+    ⊎ ((frames : List LumberFrame) (called : List Call) (said : List ℕ) → taken ≡ count called
+    → (h : Handles conn core entries last frames called said) → (lumberjack conn).Stops h.handled.steps h.handled.held f late part talk)

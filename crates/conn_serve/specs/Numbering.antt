@@ -19,5 +19,7 @@ AreOfConn conn index (call ∷ calls) = IsOfConn conn index call × AreOfConn co
 
 -- Whatever a connection has carried, its calls take entries of its number alone, with indexes from 0 on.
 abbrev pub CallsAreOfConn : Type 0
-CallsAreOfConn = (proto : Proto) (tokens : Tokens) (conn : ℕ) (left : Option (List ℕ)) (b : List ℕ) (calls : List Call) (text : List ℕ) (talk : Talk) → CarriedAs proto tokens conn left b calls text talk
+CallsAreOfConn =
+    (proto : Proto) (tokens : Tokens) (conn : ℕ) (left : Option (List ℕ)) (b : List ℕ) (calls : List Call) (text : List ℕ) (talk : Talk)
+    → CarriedAs proto tokens conn left b calls text talk
     → AreOfConn conn 0 calls

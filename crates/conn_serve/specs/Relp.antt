@@ -64,13 +64,15 @@ last_text DiskFault = []
 
 -- the event was not taken, and the connection ends so
 abbrev pub IsRefused : ℕ → ℕ → RelpAct → List Call → List ℕ → Talk → Type 0
-IsRefused conn index (Store event txnr) late part talk = (fault : TakeFault) × (late ≡ one_take conn index txnr event (Err fault)) × (talk ≡ talk_of fault) × (part ≡ last_text fault)
+IsRefused conn index (Store event txnr) late part talk =
+    (fault : TakeFault) × (late ≡ one_take conn index txnr event (Err fault)) × (talk ≡ talk_of fault) × (part ≡ last_text fault)
 IsRefused conn index (Say answer) late part talk = ⊥
 IsRefused conn index (End answer) late part talk = ⊥
 
 -- the event wasn't taken for want of memory, or it was refused and no memory was found for the hint
 abbrev pub IsStarved : ℕ → ℕ → RelpAct → List Call → Type 0
-IsStarved conn index (Store event txnr) late = (fault : TakeFault) × (IsRefusal fault ⊎ (fault ≡ NoMemory)) × (late ≡ one_take conn index txnr event (Err fault))
+IsStarved conn index (Store event txnr) late =
+    (fault : TakeFault) × (IsRefusal fault ⊎ (fault ≡ NoMemory)) × (late ≡ one_take conn index txnr event (Err fault))
 IsStarved conn index (Say answer) late = ⊥
 IsStarved conn index (End answer) late = ⊥
 

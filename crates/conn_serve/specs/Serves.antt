@@ -10,6 +10,7 @@ use Rattle.desk_access.specs.Call.{Call}
 use Rattle.desk_access.specs.Step.{count}
 use Rattle.desk_access.specs.Carried.{Carried}
 use Rattle.conn_serve.specs.declared.rules.Rules.{Rules}
+use Rattle.conn_serve.specs.Done.{AreBytes}
 use Rattle.conn_serve.specs.Relp.{relp}
 use Rattle.conn_serve.specs.Lumber.{lumberjack}
 use Rattle.conn_serve.specs.Hec.{hec}
@@ -25,15 +26,17 @@ CarriedAs Hec tokens conn left b calls text talk = Carried (hec tokens conn) lef
 abbrev pub CarriedBy : Rules → ℕ → Option (List ℕ) → List ℕ → List Call → List ℕ → Talk → Type 0
 CarriedBy rules = CarriedAs rules.proto (tokens_of rules)
 
--- Some bytes were read, calls made on the desk and a text written, and of these this was carried: of what is left
--- of the input too, so that an ending at its end says that it was read to there. The entries that were taken are
--- counted.
-pub record Serves (Is : Option (List ℕ) → List ℕ → List Call → List ℕ → Talk → Type 0) (given given' left left' written written' : Option (List ℕ)) (ran : List Call → Type 0) (attended : Attended) : Type 0 where
+-- Some bytes were read, each a number below 256, calls made on the desk and a text written, and of these this was
+-- carried: of what is left of the input too, so that an ending at its end says that it was read to there. The entries
+-- that were taken are counted.
+pub record Serves (Is : Option (List ℕ) → List ℕ → List Call → List ℕ → Talk → Type 0) (given given' left left' written written' : Option (List ℕ))
+    (ran : List Call → Type 0) (attended : Attended) : Type 0 where
   pub bytes : List ℕ
   pub calls : List Call
   pub text : List ℕ
   pub read : Appends given given' bytes
   pub consumed : Consumes left left' bytes
+  pub are_bytes : AreBytes bytes
   pub wrote : Appends written written' text
   pub made : ran calls
   pub counted : attended.taken ≡ count calls

@@ -2,7 +2,7 @@
 ghost use Rattle.std.specs.Prelude.{◌≡◌, ◌⊎◌, ◌+◌, ◌<◌, ◌≤◌, ◌^◌, ℕ, List, Option, length, IfOk, IfErr, OnOk, IsErrOf};
 ghost use Rattle.std.specs.Io.KnownBytes.{IsAtEnd};
 ghost use Rattle.desk_access.specs.Endings.{IsAtMove};
-ghost use Rattle.conn_serve.specs.Done.{Done, LeadsOn, SoFar, Turn, told};
+ghost use Rattle.conn_serve.specs.Done.{AreBytes, Done, LeadsOn, SoFar, Turn, told};
 ghost use Rattle.conn_serve.specs.Endings.{CountsFaults, MayEnd};
 
 use crate::connection::Connection;
@@ -16,7 +16,8 @@ use std::alloc::Global;
 pub const PIECE: usize = 8192;
 
 /// Takes in a piece that was read, to its end: feeds as much of it as there is room for and serves the
-/// frames that are whole by then, in turn. The error is the ending of the connection.
+/// frames that are whole by then, in turn. The error is the ending of the connection. That each number of
+/// the piece is below 256, which its type says, is a clause for the caller.
 pub fn take_in<L: Link, A: Access, S: Session>(
     alloc: Global,
     link: &mut L,
@@ -36,6 +37,7 @@ pub fn take_in<L: Link, A: Access, S: Session>(
     ensures halts { IfErr result (λ talk. Done (λ calls. A.ran access.old calls access.new) (L.taken link.old) (L.taken link.new)
         connection.old.taken connection.new.taken (LeadsOn connection.old.taken piece.now (S.served connection.old.number session.old)
         (λ fed calls text. (left : Option (List ℕ)) → S.carried (S.tokens session.old) connection.old.number left fed calls text talk))) }
+    ensures bytes { AreBytes piece.now }
     ensures only { IfErr result IsAtMove }
     ensures idle { OnOk result (S.idle session.new) }
     ensures extent { OnOk result (S.extent session.new ≤ S.extent session.old + length piece.now) }

@@ -22,8 +22,8 @@ use std::alloc::Global;
 /// How many bytes a connection may have.
 const LIMIT: u64 = 1 << 40;
 
-// Where no frame waits, and the last read brought that many bytes: how the connection is to end if its input
-// is over, by a fault of the bytes or because nothing came.
+// Whether the input is over, where no frame waits and the last read brought `len` bytes: by a fault of the bytes,
+// or because there were none. The answer is how the connection would end; None: it goes on.
 fn over<S: Session>(session: &S, len: usize) -> Option<Talk>
     requires idle { S.idle session.now }
 
@@ -39,8 +39,8 @@ fn over<S: Session>(session: &S, len: usize) -> Option<Talk>
     if len == 0 { Some(session.end()) } else { None }
 }
 
-// Where the input is over, and would end the connection so: does what is to be done for that, and answers
-// how the connection ends.
+// The input is over, and would end the connection with `over`. Does what is still to be done for that, as a last
+// batch or a reply, and answers how the connection ends: so, or by what failed in this.
 fn close<L: Link, A: Access, S: Session>(
     link: &mut L,
     access: &mut A,
@@ -54,7 +54,8 @@ fn close<L: Link, A: Access, S: Session>(
 
     ensures closes { Done (λ calls. A.ran access.old calls access.new) (L.taken link.old) (L.taken link.new)
         connection.old.taken connection.new.taken (λ calls text. (left : Option (List ℕ)) → Leads connection.old.taken
-        (S.closing connection.old.number session.old left over) (λ fed called said. S.carried (S.tokens session.old) connection.old.number left fed called said result) calls text) }
+        (S.closing connection.old.number session.old left over)
+        (λ fed called said. S.carried (S.tokens session.old) connection.old.number left fed called said result) calls text) }
     ensures unread { result ≢ Talk.ReadFault }
     ensures writes { CountsFaults (result ≡ Talk.WriteFault) (L.write_faults link.old) (L.write_faults link.new) }
     ensures same { L.same link.old link.new }
@@ -105,8 +106,10 @@ fn run<L: Link, A: Access, S: Session>(
 }
 
 /// Serves one connection to its end, by the protocol of the rules. It reads pieces of at most 8,192 bytes
-/// and does what the protocol's table says for each whole frame, one after another. `conn` is the connection's number in the spool; its entries are counted from 0. Each text is
-/// written as one piece.
+/// and does what the protocol's table says for each whole frame, one after another. `conn` is the
+/// connection's number in the spool; its entries are counted from 0. Each text is written as one piece.
+/// `carried` says which bytes were read, each a number below 256, which calls were made on the desk, which
+/// bytes were written, and how many entries were taken.
 ///
 /// - RELP, as rsyslog's RELP specification, version 0, has it: a `syslog` is taken into the spool as one
 ///   group of one entry, and answered once it is durable. The unit of an entry is its frame's transaction

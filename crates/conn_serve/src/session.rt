@@ -21,15 +21,16 @@ pub trait Session {
     /// The tokens of the collector by which it judges requests. Other protocols have none.
     ghost tokens: { Self → Tokens };
 
-    /// On the connection of this number, of these bytes all whole frames but those that wait were
-    /// served, by these calls and this text.
+    /// On the connection of this number these bytes were read, and all their whole frames were served but those
+    /// that wait: by these calls on the desk and this text written.
     ghost served: { ℕ → Self → List ℕ → List Call → List ℕ → Type 0 };
 
-    /// By these tokens a connection of this number, of whose input that is left, and that ends so, has carried this.
+    /// A connection of this number, judged by these tokens, has that left of its input, read these bytes, made these
+    /// calls on the desk, wrote this text and ended so, as the protocol has it.
     ghost carried: { Tokens → ℕ → Option (List ℕ) → List ℕ → List Call → List ℕ → Talk → Type 0 };
 
-    /// These bytes were served so, the input is over, with that left of it, and would end the connection
-    /// so: what is to be done for that is still to be done.
+    /// The bytes read were served by these calls and this text, and the input is over, with that left of it. The
+    /// connection would end so; what is to be done for that, as a last batch or a reply, is still to be done.
     ghost closing: { ℕ → Self → Option (List ℕ) → Talk → List ℕ → List Call → List ℕ → Type 0 };
 
     /// No frame waits, and there is room for more bytes.
@@ -38,7 +39,7 @@ pub trait Session {
     /// It is idle, and the bytes have no fault.
     ghost settled: { Self → Type 0 };
 
-    /// How many bytes it was fed, or fewer.
+    /// A count of bytes, which is never more than those that it was fed.
     ghost extent: { Self → ℕ };
 
     /// Adds as much of the next bytes as there is room for, at least one of them if there are any, and
@@ -96,8 +97,8 @@ pub trait Session {
             → served number self.now fed calls text → closing number self.now left result fed calls text }
         ensures only { IsAtEndOfInput result };
 
-    /// Where the input is over, and would end the connection so: does what is to be done for that. The
-    /// error is the ending of the connection in place of it.
+    /// The input is over, and would end the connection with `over`: does what is still to be done for that, as a
+    /// last batch or a reply. The error is the ending of the connection in place of it.
     fn finish<L: Link, A: Access>(
         &mut self,
         link: &mut L,
@@ -110,10 +111,12 @@ pub trait Session {
 
         ensures goes { OnOk result (Done (λ calls. A.ran access.old calls access.new) (L.taken link.old) (L.taken link.new)
             connection.old.taken connection.new.taken (λ calls text. (left : Option (List ℕ)) → Leads connection.old.taken
-            (closing connection.old.number self.old left over) (λ fed called said. carried (tokens self.old) connection.old.number left fed called said over) calls text)) }
+            (closing connection.old.number self.old left over)
+            (λ fed called said. carried (tokens self.old) connection.old.number left fed called said over) calls text)) }
         ensures halts { IfErr result (λ talk. Done (λ calls. A.ran access.old calls access.new) (L.taken link.old) (L.taken link.new)
             connection.old.taken connection.new.taken (λ calls text. (left : Option (List ℕ)) → Leads connection.old.taken
-            (closing connection.old.number self.old left over) (λ fed called said. carried (tokens self.old) connection.old.number left fed called said talk) calls text)) }
+            (closing connection.old.number self.old left over)
+            (λ fed called said. carried (tokens self.old) connection.old.number left fed called said talk) calls text)) }
         ensures only { IfErr result IsAtMove }
         ensures writes { CountsFaults (IsErrOf result Talk.WriteFault) (L.write_faults link.old) (L.write_faults link.new) }
         ensures same { L.same link.old link.new }

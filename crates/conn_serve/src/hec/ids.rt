@@ -42,7 +42,8 @@ fn take_and_settle<A: Access>(
     requires may { A.may_take access.old connection.old.number connection.old.taken }
     requires issued { A.may_use access.old id }
 
-    ensures stored { OnOk result ((receipt : Receipt) × (unsettled : Bool) × A.ran access.old (takes entries.now (Ok receipt) ∷ settles channel id unsettled ∷ []) access.new) }
+    ensures stored { OnOk result ((receipt : Receipt) × (unsettled : Bool)
+        × A.ran access.old (takes entries.now (Ok receipt) ∷ settles channel id unsettled ∷ []) access.new) }
     ensures refused { IfErr result (λ talk. (fault : Fault) × (talk ≡ talk_of fault) × A.ran access.old (takes entries.now (Err fault) ∷ []) access.new) }
     ensures only { IfErr result IsAtMove }
     ensures unwritten { IfErr result (λ talk. talk ≢ WriteFault) }

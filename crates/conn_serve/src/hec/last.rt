@@ -33,13 +33,28 @@ impl LastReply {
     {
         match self {
             LastReply::Busy => {
-                b"HTTP/1.1 503 Service Unavailable\r\nContent-Type: application/json\r\nContent-Length: 34\r\nConnection: close\r\n\r\n{\"text\":\"Server is busy\",\"code\":9}"
+                b"HTTP/1.1 503 Service Unavailable\r\n\
+                Content-Type: application/json\r\n\
+                Content-Length: 34\r\n\
+                Connection: close\r\n\
+                \r\n\
+                {\"text\":\"Server is busy\",\"code\":9}"
             }
             LastReply::Failed => {
-                b"HTTP/1.1 500 Internal Server Error\r\nContent-Type: application/json\r\nContent-Length: 41\r\nConnection: close\r\n\r\n{\"text\":\"Internal server error\",\"code\":8}"
+                b"HTTP/1.1 500 Internal Server Error\r\n\
+                Content-Type: application/json\r\n\
+                Content-Length: 41\r\n\
+                Connection: close\r\n\
+                \r\n\
+                {\"text\":\"Internal server error\",\"code\":8}"
             }
             LastReply::Malformed => {
-                b"HTTP/1.1 400 Bad Request\r\nContent-Type: application/json\r\nContent-Length: 39\r\nConnection: close\r\n\r\n{\"text\":\"Invalid data format\",\"code\":6}"
+                b"HTTP/1.1 400 Bad Request\r\n\
+                Content-Type: application/json\r\n\
+                Content-Length: 39\r\n\
+                Connection: close\r\n\
+                \r\n\
+                {\"text\":\"Invalid data format\",\"code\":6}"
             }
         }
     }

@@ -114,16 +114,19 @@ pub fn serve_frame<L: Link, A: Access>(
     lent: LumberRef<'_>,
 ) -> Result<(), Talk>
     requires frame { IsFrameFor Receiver (frame_lent lent) }
-    requires so_far { SoFar (λ fed called said. (frames : List LumberFrame) × Handles connection.old.number core.old staged.old.entries.items staged.old.last frames called said) connection.old.taken 0 }
+    requires so_far { SoFar (λ fed called said. (frames : List LumberFrame)
+        × Handles connection.old.number core.old staged.old.entries.items staged.old.last frames called said) connection.old.taken 0 }
     requires early { connection.old.taken + length staged.old.entries.items < 2 ^ 62 }
     requires may { A.may_take access.old connection.old.number connection.old.taken }
 
     ensures goes { OnOk result (Done (λ calls. A.ran access.old calls access.new) (L.taken link.old) (L.taken link.new)
         connection.old.taken connection.new.taken (λ calls text. (frames : List LumberFrame) → Leads connection.old.taken
         (λ fed called said. Handles connection.old.number core.old staged.old.entries.items staged.old.last frames called said)
-        (λ fed called said. Handles connection.old.number core.new staged.new.entries.items staged.new.last (frames ++ frame_lent lent.entry ∷ []) called said) calls text)) }
+        (λ fed called said. Handles connection.old.number core.new staged.new.entries.items staged.new.last
+        (frames ++ frame_lent lent.entry ∷ []) called said) calls text)) }
     ensures halts { IfErr result (λ talk. Done (λ calls. A.ran access.old calls access.new) (L.taken link.old) (L.taken link.new)
-        connection.old.taken connection.new.taken (HaltsAtFrame connection.old.number core.old staged.old.entries.items staged.old.last connection.old.taken (frame_lent lent.entry) talk)) }
+        connection.old.taken connection.new.taken (HaltsAtFrame connection.old.number core.old staged.old.entries.items staged.old.last
+        connection.old.taken (frame_lent lent.entry) talk)) }
     ensures only { IfErr result IsAtMove }
     ensures number { connection.new.number ≡ connection.old.number }
     ensures may { OnOk result (A.may_take access.new connection.old.number connection.new.taken) }

@@ -47,7 +47,8 @@ fn serve_next<L: Link, A: Access>(
     core: &mut LumberCore,
     staged: &mut Staged,
 ) -> Result<bool, Talk>
-    requires so_far { SoFar (λ fed called said. (frames : List LumberFrame) × Handles connection.old.number core.old staged.old.entries.items staged.old.last frames called said) connection.old.taken 0 }
+    requires so_far { SoFar (λ fed called said. (frames : List LumberFrame)
+        × Handles connection.old.number core.old staged.old.entries.items staged.old.last frames called said) connection.old.taken 0 }
     requires early { connection.old.taken + length staged.old.entries.items < 2 ^ 62 }
     requires may { A.may_take access.old connection.old.number connection.old.taken }
 

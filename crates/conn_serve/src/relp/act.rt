@@ -75,9 +75,11 @@ fn store<L: Link, A: Access>(
     requires may { A.may_take access.old connection.old.number connection.old.taken }
 
     ensures goes { OnOk result (Done (λ calls. A.ran access.old calls access.new) (L.taken link.old) (L.taken link.new)
-        connection.old.taken connection.new.taken (Carries connection.old.number connection.old.taken (Store (record { origin = Relp; text = text.now }) txnr))) }
+        connection.old.taken connection.new.taken (Carries connection.old.number connection.old.taken
+        (Store (record { origin = Relp; text = text.now }) txnr))) }
     ensures halts { IfErr result (λ talk. Done (λ calls. A.ran access.old calls access.new) (L.taken link.old) (L.taken link.new)
-        connection.old.taken connection.new.taken (HaltsAtAct connection.old.number connection.old.taken (Store (record { origin = Relp; text = text.now }) txnr) talk)) }
+        connection.old.taken connection.new.taken (HaltsAtAct connection.old.number connection.old.taken
+        (Store (record { origin = Relp; text = text.now }) txnr) talk)) }
     ensures only { IfErr result IsAtMove }
     ensures number { connection.new.number ≡ connection.old.number }
     ensures may { OnOk result (A.may_take access.new connection.old.number connection.new.taken) }

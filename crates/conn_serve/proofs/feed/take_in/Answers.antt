@@ -104,3 +104,9 @@ returns-clause-goes g c =
 
 pub returns-clause-writes : goal.returns-clause-writes
 returns-clause-writes g c = counts_none _ _ _ (λ is. cc) c.loop-fed.invariant.writes
+
+pub returns-in_err-serve-clause-bytes : goal.returns-in_err-serve-clause-bytes
+returns-in_err-serve-clause-bytes g c = λ i. (c.type_inv.piece i).fits
+
+pub returns-clause-bytes : goal.returns-clause-bytes
+returns-clause-bytes g c = λ i. (c.type_inv.piece i).fits
