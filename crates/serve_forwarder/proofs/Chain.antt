@@ -1,4 +1,4 @@
--- Looks one after another: the calls that they made on the desk, the links that the net tells, and its counts of faults.
+-- Looks one after another: the calls that they made on the desk, the links that the net reports, and its counts of faults.
 use Rattle.std.proofs.Common.{◌≡◌, ◌⊎◌, inl, inr, ◌∙◌, ℕ, ◌≤◌, List, [], ◌∷◌, ◌++◌, length, refl, sym, ap, subst, append_assoc, arith}
 use Rattle.std.specs.Prelude.{Option, Some, None, Result, Err}
 use Rattle.std.specs.List.{AllZip}
@@ -17,8 +17,8 @@ use Rattle.forward_core.specs.declared.outward.Outward.{Outward}
 use Rattle.forward_core.specs.declared.sent.Sent.TheVariants.{PeerClosed}
 use Rattle.spool_turns.specs.Passes.{Known}
 use Rattle.spool_turns.specs.Ran.{Ran, ran_none, ran_more}
-use Rattle.serve_forwarder.specs.Sessions.{Session, IsHeld, Tells, TellsSessions}
-use Rattle.serve_forwarder.specs.Looks.{Found, Idle, Unread, Undialed, Held, Look, held_in, sessions_of, calls_in, calls_at, calls_of, IsFound, IsToldBy, IsLook, AreLooks}
+use Rattle.serve_forwarder.specs.Sessions.{Session, IsHeld, TellsSession, TellsSessions}
+use Rattle.serve_forwarder.specs.Looks.{Found, Idle, Unread, Undialed, Held, Look, held_in, sessions_of, calls_found, calls_at, calls_of, IsFound, IsToldBy, IsLook, AreLooks}
 use Rattle.serve_forwarder.specs.Laws.{KeepsCounts}
 
 -- ---- one after another
@@ -43,7 +43,7 @@ held_ran start outward one pass pass' h =
 same_ran : (start : DeskState → Type 0) (pass pass' : Known) → pass' ≡ pass → Ran start pass [] pass'
 same_ran start pass pass' same = subst (Ran start pass []) (sym same) (ran_none start pass)
 
-found_ran : (start : DeskState → Type 0) (outward : Outward) (given : Result (List Numbered) PendFault) (found : Found) (pass pass' : Known) → IsFound start outward given found pass pass' → Ran start pass (calls_in found) pass'
+found_ran : (start : DeskState → Type 0) (outward : Outward) (given : Result (List Numbered) PendFault) (found : Found) (pass pass' : Known) → IsFound start outward given found pass pass' → Ran start pass (calls_found found) pass'
 found_ran start outward given Idle pass pass' f = same_ran start pass pass' f.1
 found_ran start outward given (Unread _) pass pass' f = same_ran start pass pass' f.1
 found_ran start outward given (Undialed _) pass pass' f = same_ran start pass pass' f.1
@@ -52,7 +52,7 @@ found_ran start outward given (Held one) pass pass' f = held_ran start outward o
 pub look_is_ran : (start : DeskState → Type 0) (outward : Outward) (place : List ℕ) (look : Look) (pass pass' : Known) (net net' : NetState)
     → IsLook start outward place look pass pass' net net' → Ran start pass (calls_at look) pass'
 look_is_ran start outward place look pass pass' net net' l =
-    ran_more start pass l.asked pass' (pends 0 1 look.given ∷ []) (calls_in look.found) l.asks (found_ran start outward look.given look.found l.asked pass' l.found)
+    ran_more start pass l.asked pass' (pends 0 1 look.given ∷ []) (calls_found look.found) l.asks (found_ran start outward look.given look.found l.asked pass' l.found)
 
 -- the calls of looks lead the pass from the one moment to the other
 pub looks_are_ran : (start : DeskState → Type 0) (outward : Outward) (place : List ℕ) (looks : List Look) (pass pass' : Known) (net net' : NetState)
@@ -73,7 +73,7 @@ pub tells_none : (place : List ℕ) (a b : Option (List HungUp)) → b ≡ a →
 tells_none place None b same = same
 tells_none place (Some old) b same = ([], tt, same ∙ ap (λ (l : List HungUp). Some l) (sym (append-nil old)))
 
-pub tells_one : (place : List ℕ) (one : Session) (a b : Option (List HungUp)) → Adds a b (Tells place one) → TellsSessions place (one ∷ []) a b
+pub tells_one : (place : List ℕ) (one : Session) (a b : Option (List HungUp)) → Adds a b (TellsSession place one) → TellsSessions place (one ∷ []) a b
 tells_one place one None b adds = adds
 tells_one place one (Some old) b adds = (adds.0 ∷ [], (adds.1, tt), adds.2)
 
@@ -81,7 +81,7 @@ pub tells_then : (place : List ℕ) (xs ys : List Session) (a b c : Option (List
 tells_then place xs ys None b c p q = subst (λ (o : Option (List HungUp)). TellsSessions place ys o c) p q
 tells_then place xs ys (Some old) b c p q =
     let more = subst (λ (o : Option (List HungUp)). TellsSessions place ys o c) p.2 q in
-    (p.0 ++ more.0, zip_then (Tells place) xs ys p.0 more.0 p.1 more.1, more.2 ∙ ap (λ (l : List HungUp). Some l) (append_assoc old p.0 more.0))
+    (p.0 ++ more.0, zip_then (TellsSession place) xs ys p.0 more.0 p.1 more.1, more.2 ∙ ap (λ (l : List HungUp). Some l) (append_assoc old p.0 more.0))
 
 found_told : (place : List ℕ) (found : Found) (net net' : NetState) → IsToldBy place found net net' → TellsSessions place (held_in found) net.hung net'.hung
 found_told place Idle net net' t = tells_none place net.hung net'.hung (ap (λ (n : NetState). n.hung) t)
@@ -89,7 +89,7 @@ found_told place (Unread _) net net' t = tells_none place net.hung net'.hung (ap
 found_told place (Undialed _) net net' t = tells_none place net.hung net'.hung t.0.hung
 found_told place (Held one) net net' t = tells_one place one net.hung net'.hung t.hung
 
--- what the net tells more is of the sessions of the looks, in order
+-- what the net reports more is the links of the sessions of the looks, in order
 pub looks_are_told : (start : DeskState → Type 0) (outward : Outward) (place : List ℕ) (looks : List Look) (pass pass' : Known) (net net' : NetState)
     → AreLooks start outward place looks pass pass' net net' → TellsSessions place (sessions_of looks) net.hung net'.hung
 looks_are_told start outward place [] pass pass' net net' a = tells_none place net.hung net'.hung (ap (λ (n : NetState). n.hung) a.1)
@@ -127,7 +127,7 @@ none_left left rest is end = ap length (subst IsAtEnd is end)
 
 -- where the peer closed a session, it had said so, or its link has no byte left
 pub closed_is_read_out : (start : DeskState → Type 0) (outward : Outward) (place : List ℕ) (one : Session) (told : HungUp) (pass pass' : Known)
-    → IsHeld start outward one pass pass' → Tells place one told → one.sent ≡ PeerClosed → (told.left ≡ 0) ⊎ HintsAs outward.proto one.bytes
+    → IsHeld start outward one pass pass' → TellsSession place one told → one.sent ≡ PeerClosed → (told.left ≡ 0) ⊎ HintsAs outward.proto one.bytes
 closed_is_read_out start outward place one told pass pass' held tells closed =
     let left = tells.left in
     elim (held.ended.closed closed) [ inl end ↦ inl (left.2 ∙ none_left one.left left.0 left.1 end) | inr hints ↦ inr hints ]

@@ -11,7 +11,7 @@ use Rattle.forward_core.specs.Forwarded.{CountsFaults, CountsWrites}
 use Rattle.forward_core.specs.Turning.{IsHalt}
 use Rattle.forward_core.specs.declared.sent.Sent.{Sent}
 use Rattle.forward_core.specs.declared.sent.Sent.TheVariants.{ReadFault, WriteFault}
-use Rattle.serve_forwarder.specs.Sessions.{Session, Tells, RoseBy, HangsUp}
+use Rattle.serve_forwarder.specs.Sessions.{Session, TellsSession, RoseBy, HangsUp}
 
 -- ---- the bytes
 
@@ -26,23 +26,23 @@ still_told None left' bytes told c = absurd told
 still_told (Some xs) None bytes told c = absurd c
 still_told (Some xs) (Some ys) bytes told c = (ys, refl)
 
--- ---- what is told
+-- ---- what is reported
 
 -- the list has one more, since there was room for it
 added : (HasRoom : Type 0) (old mid new : Option (List HungUp)) (Is : HungUp → Type 0) → mid ≡ old → HasRoom → AddsHung HasRoom mid new Is → Adds old new Is
 added HasRoom old mid new Is same room (inl adds) = subst (λ (o : Option (List HungUp)). Adds o new Is) same adds
 added HasRoom old mid new Is same room (inr none) = absurd (none.0 room)
 
--- the link that is told is that of the session
+-- the link that is reported is that of the session
 tells_session : (place : List ℕ) (one : Session) (old new : Option (List HungUp)) (dialed given given' left taken taken' : Option (List ℕ))
     → IsDialed old dialed place → IsFresh old given taken left → Appends given given' one.bytes → Consumes left one.left one.bytes → Appends taken taken' one.text
-    → Adds old new (IsHungUp dialed given' taken' one.left) → Adds old new (Tells place one)
+    → Adds old new (IsHungUp dialed given' taken' one.left) → Adds old new (TellsSession place one)
 tells_session place one None new dialed given given' left taken taken' there fresh read consumed wrote adds = adds
 tells_session place one (Some list) new dialed given given' left taken taken' there fresh read consumed wrote adds =
     let link = adds.0 in
     let told = adds.1 in
     let rest = still_told left one.left one.bytes fresh.2 consumed in
-    let here : Tells place one link = record {
+    let here : TellsSession place one link = record {
       place_is = sym (subst (λ (o : Option (List ℕ)). IsToldAs o link.place) there told.place);
       read = all_of given given' one.bytes link.read fresh.0 read told.read;
       written = all_of taken taken' one.text link.written fresh.1 wrote told.written;

@@ -7,15 +7,15 @@ use Rattle.forward_core.specs.declared.outward.Outward.{Outward}
 use Rattle.forward_core.specs.declared.sent.Sent.TheVariants.{PeerClosed}
 use Rattle.spool_turns.specs.Passes.{Known}
 use Rattle.spool_turns.specs.Ran.{Ran}
-use Rattle.serve_forwarder.specs.Sessions.{Session, IsHeld, Tells, TellsSessions}
+use Rattle.serve_forwarder.specs.Sessions.{Session, IsHeld, TellsSession, TellsSessions}
 use Rattle.serve_forwarder.specs.Looks.{Look, AreLooks, calls_of, sessions_of}
 
--- the calls of looks lead the pass from the one moment to the other
+-- the calls of looks, joined, lead the pass from the one moment to the other
 abbrev pub LooksCall : (DeskState → Type 0) → Type 0
 LooksCall start = (outward : Outward) (place : List ℕ) (looks : List Look) (pass pass' : Known) (net net' : NetState)
     → AreLooks start outward place looks pass pass' net net' → Ran start pass (calls_of looks) pass'
 
--- what the net tells more is of the sessions of the looks
+-- what the net reports more is the links of the sessions of the looks
 abbrev pub LooksTell : (DeskState → Type 0) → Type 0
 LooksTell start = (outward : Outward) (place : List ℕ) (looks : List Look) (pass pass' : Known) (net net' : NetState)
     → AreLooks start outward place looks pass pass' net net' → TellsSessions place (sessions_of looks) net.hung net'.hung
@@ -30,7 +30,7 @@ abbrev pub LooksKeepCounts : (DeskState → Type 0) → Type 0
 LooksKeepCounts start = (outward : Outward) (place : List ℕ) (looks : List Look) (pass pass' : Known) (net net' : NetState)
     → AreLooks start outward place looks pass pass' net net' → KeepsCounts net net'
 
--- Where the peer closed a session, it had said that it would, or its link has no byte left.
+-- Where a session ended as the peer closed it, the peer's bytes say so, or no byte of its link is left unread.
 abbrev pub ClosedIsReadOut : (DeskState → Type 0) → Type 0
 ClosedIsReadOut start = (outward : Outward) (place : List ℕ) (one : Session) (told : HungUp) (pass pass' : Known)
-    → IsHeld start outward one pass pass' → Tells place one told → one.sent ≡ PeerClosed → (told.left ≡ 0) ⊎ HintsAs outward.proto one.bytes
+    → IsHeld start outward one pass pass' → TellsSession place one told → one.sent ≡ PeerClosed → (told.left ≡ 0) ⊎ HintsAs outward.proto one.bytes

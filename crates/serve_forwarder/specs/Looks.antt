@@ -14,25 +14,26 @@ use Rattle.serve_forwarder.specs.declared.looking.Outcome.{Outcome}
 use Rattle.serve_forwarder.specs.declared.looking.Outcome.TheVariants as outcome
 use Rattle.serve_forwarder.specs.Sessions.{Session, IsHeld, HangsUp}
 
--- What came of a look: nothing was pending; the desk didn't say; the place was not dialed; or a session was held.
+-- What came of a look: nothing was pending; the desk refused to say; the dial of the place failed; or this session was held.
 pub data Found : Type 0 where
   Idle : Found
   Unread : PendFault → Found
   Undialed : NetFault → Found
   Held : Session → Found
 
+-- what `look` answers then
 abbrev pub outcome_of : Found → Outcome
 outcome_of Idle = outcome.Idle
 outcome_of (Unread fault) = outcome.Unread fault
 outcome_of (Undialed fault) = outcome.Undialed fault
 outcome_of (Held one) = outcome.Held one.sent
 
--- A look: the answer to whether an entry is pending, and what came of it.
+-- A look: what the desk answered as it was asked for one pending entry, and what came of it.
 pub record Look : Type 0 where
   pub given : Result (List Numbered) PendFault
   pub found : Found
 
--- the sessions of looks, in order
+-- the session that was held, if any, and those of looks in order
 abbrev pub held_in : Found → List Session
 held_in (Held one) = one ∷ []
 held_in found = []
@@ -40,35 +41,36 @@ held_in found = []
 abbrev pub sessions_of : List Look → List Session
 sessions_of looks = flat_map (λ look. held_in look.found) looks
 
--- the calls on the desk of a look, and of all looks in order
-abbrev pub calls_in : Found → List Call
-calls_in (Held one) = one.calls
-calls_in found = []
+-- the calls on the desk: those of the session, if one was held; the question and then those, of a look; and those of looks in order
+abbrev pub calls_found : Found → List Call
+calls_found (Held one) = one.calls
+calls_found found = []
 
 abbrev pub calls_at : Look → List Call
-calls_at look = pends 0 1 look.given ∷ calls_in look.found
+calls_at look = pends 0 1 look.given ∷ calls_found look.found
 
 abbrev pub calls_of : List Look → List Call
 calls_of looks = flat_map calls_at looks
 
--- by that answer an entry is pending
+-- the answer gives an entry that is pending
 abbrev pub IsPending : Result (List Numbered) PendFault → Type 0
 IsPending (Ok []) = ⊥
 IsPending (Ok (one ∷ given)) = Unit {0}
 IsPending (Err fault) = ⊥
 
--- By the answer this came of it, and led the pass from one moment to another. A session is held where an entry is pending.
+-- By the desk's answer this came of a look, and led the pass from one moment to another. The place is dialed, and a session held, only
+-- where an entry is pending.
 abbrev pub IsFound : (DeskState → Type 0) → Outward → Result (List Numbered) PendFault → Found → Known → Known → Type 0
 IsFound start outward given Idle pass pass' = (given ≡ Ok []) × (pass' ≡ pass)
 IsFound start outward given (Unread fault) pass pass' = (given ≡ Err fault) × (pass' ≡ pass)
 IsFound start outward given (Undialed _) pass pass' = IsPending given × (pass' ≡ pass)
 IsFound start outward given (Held one) pass pass' = IsPending given × IsHeld start outward one pass pass'
 
--- a dial failed: no link is told, and the count of the net's own faults rose, unless there was no memory
+-- A dial failed: no link is added to those hung up, and the count of binds and dials that failed rose, unless memory was wanting.
 abbrev pub FailsDial : NetFault → NetState → NetState → Type 0
 FailsDial fault net net' = SameHung net net' × HasNetCause {T = Unit {0}} net.net_faults net'.net_faults (Err fault)
 
--- What the net tells of it: nothing where nothing was dialed, and of a session its link.
+-- What the net reports more after a look: nothing where nothing was dialed, and of a session its link.
 abbrev pub IsToldBy : List ℕ → Found → NetState → NetState → Type 0
 IsToldBy place Idle net net' = net' ≡ net
 IsToldBy place (Unread fault) net net' = net' ≡ net

@@ -16,8 +16,8 @@ use Rattle.forward_core.specs.declared.sent.Sent.TheVariants.{ReadFault, WriteFa
 use Rattle.spool_turns.specs.Passes.{Known}
 use Rattle.spool_turns.specs.Ran.{Ran}
 
--- A session: its entries are those from one number on and below another; the bytes read, the calls made on the desk, the
--- text written, what the link's input has left where it says so, and the ending.
+-- A session: it was to send the entries with numbers from `start` on and below `until`. The bytes read, the calls made on the desk,
+-- the text written, the bytes that the link's input has left unread, where it says so, and the ending.
 pub record Session : Type 0 where
   pub start : ℕ
   pub until : ℕ
@@ -29,8 +29,8 @@ pub record Session : Type 0 where
 
 -- ---- on the desk
 
--- A caller of a desk held the session, which led it from one moment to another: it asked for the cursor and the end, and of the
--- entries between them the bytes, the calls and the text are those that the ending may have.
+-- A caller of a desk held the session, which led it from one moment to another. It asked for the cursor and the end, which are where
+-- the session starts and ends. For the entries between them the protocol allows these bytes, calls and text with this ending.
 pub record IsHeldBy {A : Type 0} (ran : A → List Call → A → Type 0) (cursor_known end_known : A → ℕ) (seen : A → DeskState → List Record → Type 0)
     (outward : Outward) (one : Session) (old new : A) : Type 0 where
   pub begun : A
@@ -38,36 +38,39 @@ pub record IsHeldBy {A : Type 0} (ran : A → List Call → A → Type 0) (curso
   pub made : ran begun one.calls new
   pub ended : Ended (EndsAs (settings_as outward) outward.proto) (HintsAs outward.proto) one.left one.until one.sent one.start one.bytes one.calls one.text
 
--- what a pass has seen of a desk that was given in one of these states
+-- a pass has seen this of a desk: that it was given in this state, one of those in which it may have been, and the journal since
 abbrev pub Saw : (DeskState → Type 0) → Known → DeskState → List Record → Type 0
 Saw start pass x journal = start x × IsDesk x × (journal ≡ pass.seen)
 
--- a pass of such a desk held the session
+-- the caller that has the pass held the session
 abbrev pub IsHeld : (DeskState → Type 0) → Outward → Session → Known → Known → Type 0
 IsHeld start outward one pass pass' = IsHeldBy (Ran start) (λ known. known.cursor_known) (λ known. known.end_known) (Saw start) outward one pass pass'
 
 -- ---- on the net
 
--- What a net tells of a link that was hung up is what was held over it, at the place that was dialed.
-pub record Tells (place : List ℕ) (one : Session) (told : HungUp) : Type 0 where
+-- What a net reports of a link that was hung up is the place that was dialed and what the session over it was: the bytes read and
+-- written, and how many are left unread.
+pub record TellsSession (place : List ℕ) (one : Session) (told : HungUp) : Type 0 where
   pub place_is : told.place ≡ place
   pub read : told.read ≡ one.bytes
   pub written : told.written ≡ one.text
   pub left : (rest : List ℕ) × (one.left ≡ Some rest) × (told.left ≡ length rest)
 
--- the list that a net tells, where it tells one, has the links of these sessions more at its end, in order
+-- The list of links hung up, where the net keeps one, has the links of these sessions more at its end, in order. One over sockets
+-- keeps none.
 abbrev pub TellsSessions : List ℕ → List Session → Option (List HungUp) → Option (List HungUp) → Type 0
 TellsSessions place sessions None new = new ≡ None
-TellsSessions place sessions (Some old) new = (more : List HungUp) × AllZip (Tells place) sessions more × (new ≡ Some (old ++ more))
+TellsSessions place sessions (Some old) new = (more : List HungUp) × AllZip (TellsSession place) sessions more × (new ≡ Some (old ++ more))
 
--- The count of a net's reads or writes that failed doesn't fall, and it rose where such a fault is the ending.
+-- The count of a net's reads or writes that failed doesn't fall, and it rose where the session ended at such a fault.
 pub record RoseBy (fault : Type 0) (before now : ℕ) : Type 0 where
   pub later : before ≤ now
   pub cause : fault → Rose 1 before now
 
--- The link of a session was dialed at the place and is hung up. Its faults are added to the net's counts.
+-- The link of a session was dialed at the place and is hung up. Its reads and writes that failed are added to the net's counts, and
+-- the count of binds and dials that failed stays.
 pub record HangsUp (place : List ℕ) (one : Session) (net net' : NetState) : Type 0 where
-  pub hung : Adds net.hung net'.hung (Tells place one)
+  pub hung : Adds net.hung net'.hung (TellsSession place one)
   pub reads : RoseBy (one.sent ≡ ReadFault) net.read_faults net'.read_faults
   pub writes : RoseBy (one.sent ≡ WriteFault) net.write_faults net'.write_faults
   pub net_faults : net'.net_faults ≡ net.net_faults

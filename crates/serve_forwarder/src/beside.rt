@@ -1,4 +1,4 @@
-//! Looking again and again.
+//! Looking again and again, beside those who store.
 ghost use Rattle.std.specs.Prelude.{◌≡◌, ◌+◌, ◌<◌, List};
 ghost use Rattle.serve_forwarder.specs.Looks.{AreLooks, Look};
 
@@ -12,8 +12,11 @@ use std::alloc::Global;
 use std::sync::Wait;
 use std::sync::atomic::{AtomicBool, Ordering};
 
-/// Looks at what is pending until `ended` is set, which others set once they store no more. After a session that drained it looks
-/// again at once; else it pauses first.
+/// Looks at what is pending, by [`look`], again and again until `ended` is set, which others set once they store no more. The flag is
+/// read before each look, so that a session that has begun is held to its end.
+///
+/// After a session that ended as `Drained` (all entries up to its end were sent, and the peer acknowledged them) it looks again at
+/// once. After any other outcome, as where nothing is pending, it pauses first, for as long as `net` says.
 pub fn forward_beside<N: Net, D: Disk, J: Naming, R: Wait>(
     alloc: Global,
     destination: &Destination,
@@ -24,7 +27,8 @@ pub fn forward_beside<N: Net, D: Disk, J: Naming, R: Wait>(
     requires confirms { seated.old.pass.number + 1 ≡ J.seats }
     requires polls { 0 < destination.now.outward.polls }
 
-    ensures { (looks : List Look) × AreLooks J.start destination.now.outward destination.now.place looks seated.old.pass seated.new.pass (N.told net.old) (N.told net.new) }
+    ensures { (looks : List Look) × AreLooks J.start destination.now.outward destination.now.place looks seated.old.pass seated.new.pass
+        (N.told net.old) (N.told net.new) }
 {
     let rt = seated.rt;
     'looks: for _ in rt.forever() {

@@ -3,22 +3,25 @@ ghost use Rattle.serve_forwarder.specs.Laws.{ClosedIsReadOut, LooksCall, LooksKe
 
 use spool_turns::Naming;
 
-/// The calls that looks made on the desk, one look's after another, lead its pass from its first moment to its last.
+/// The calls that looks made on the desk, one look's after another's, are all that their pass made from the first moment of these
+/// looks to the last.
 pub fn looks_are_of_their_calls<J: Naming>()
     ensures { LooksCall J.start }
 {}
 
-/// Where a net tells of the links that were hung up, those that looks added are of their sessions, in order.
+/// Where a net keeps a list of the links that were hung up, looks add to it one link for each of their sessions, in order, with the
+/// bytes that were read and written in the session.
 pub fn looks_tell_their_sessions<J: Naming>()
     ensures { LooksTell J.start }
 {}
 
-/// Over looks no count of faults of the net falls. So a fault that one of them met is still counted at the end.
+/// Over looks no count of faults of the net falls. So a fault that one of them met is still counted after the last.
 pub fn looks_keep_counts<J: Naming>()
     ensures { LooksKeepCounts J.start }
 {}
 
-/// Where a session ended as the peer closed it, the peer had said so, or its link was read to its end: no byte of it is left.
+/// Where a session ended as `PeerClosed`, the bytes read have a frame by which the peer says that it closes the session, as a peer of
+/// RELP can (`serverclose`), or the peer's bytes were read to their end: the net reports that no byte of the link is left unread.
 pub fn closed_links_are_read_out<J: Naming>()
     ensures { ClosedIsReadOut J.start }
 {}

@@ -1,8 +1,8 @@
-//! The forwarder of a server: what the shared desk holds goes on, in order, to one place, beside those who store.
+//! The forwarder of a server: it sends what the shared desk holds on to one place, in order, while others store there.
 //!
-//! [`look`] asks the desk whether an entry is pending; where one is it dials the place, holds one session over the link and
-//! hangs it up. [`forward_beside`] looks again and again until it is told to end. What was done is said by `IsLook`: each call on the
-//! desk, and each link that the net tells, is that of a look, in order.
+//! [`look`] asks the desk whether an entry is pending, that is one that isn't known as confirmed. Where one is, it dials the place,
+//! holds one session over the link, and hangs it up. [`forward_beside`] looks again and again until a flag is set. `IsLook` says what
+//! was done: each call of the forwarder on the desk, and each link that the net reports, is that of a look, in order.
 #![tactic(auto)]
 
 mod beside;

@@ -13,20 +13,20 @@ use spool_turns::{Naming, Seated};
 use std::alloc::Global;
 use std::sync::Wait;
 
-/// What a look came to.
+/// What came of a look.
 #[derive(Clone, Copy, PartialEq, Eq, Debug)]
 pub enum Outcome {
-    /// Nothing is pending. Nothing was dialed.
+    /// No entry is pending. Nothing was dialed.
     Idle,
-    /// The desk didn't say whether anything is pending. Nothing was dialed.
+    /// The desk couldn't say whether an entry is pending, for this reason. Nothing was dialed.
     Unread(PendFault),
-    /// The place was not dialed.
+    /// An entry is pending, but the dial of the place failed, or no memory was found for it.
     Undialed(NetFault),
-    /// A session was held, and ended so.
+    /// An entry was pending. A session was held with the peer, and ended so.
     Held(Sent),
 }
 
-// Dials the place, holds one session over the link, and hangs it up. The error is that of the dial.
+// Dials the place, holds one session over the link, and hangs it up. The error is that of the dial, and then no call was made.
 fn hold<N: Net, A: Access>(
     alloc: Global,
     destination: &Destination,
@@ -49,11 +49,16 @@ fn hold<N: Net, A: Access>(
     Ok(sent)
 }
 
-/// Asks the desk for one entry that isn't known as confirmed, which mends a doubt. Where there is one, dials the place,
-/// holds one session over the link from the desk's cursor to its end, and hangs it up.
+/// Asks the desk for one pending entry, that is one that isn't known as confirmed. Where there is one, it dials the place, holds one
+/// session over the link, which sends from the desk's cursor up to its end, and hangs the link up. It waits until the session has
+/// ended.
 ///
-/// The pass is the one that may confirm, which has the greatest number. `polls` of the destination, above 0, says how often the
-/// collector is asked after a request. At an outcome other than `Held` no call but the question was made on the desk.
+/// The pass is the one that may confirm, which has the greatest number. `polls` of the destination, above 0, is how often at most a
+/// collector is asked whether a request is acknowledged.
+///
+/// Where the desk is in doubt, as after a call of the disk that failed, the question first finds out what the disk holds. `Unread`
+/// comes where the desk refuses the question, `Undialed` where the dial fails or finds no memory. At each outcome but `Held` the
+/// question was the only call on the desk.
 pub fn look<N: Net, D: Disk, J: Naming, R: Wait>(
     alloc: Global,
     destination: &Destination,

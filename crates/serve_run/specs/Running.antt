@@ -16,15 +16,17 @@ use Rattle.serve_forwarder.specs.declared.destination.Destination.{Destination}
 use Rattle.serve_forwarder.specs.declared.looking.Outcome.{Outcome}
 use Rattle.serve_forwarder.specs.Looks.{Look, IsLook, AreLooks, outcome_of}
 
--- A pass has seen what it had seen and what the others have seen. It made no call.
+-- A pass has seen what it had seen before and what these others have seen. It made no call for that.
 pub record HasMet (others : List Known) (pass pass' : Known) : Type 0 where
   pub number : pass'.number ≡ pass.number
   pub own : pass'.own ≡ pass.own
   pub seen : IsPrefix pass.seen pass'.seen
   pub each : All (λ (other : Known). IsPrefix other.seen pass'.seen) others
 
--- The forwarder looked beside the workers. When they had ended, and it had seen all that they had seen, it looked once more.
-pub record HasForwarded (start : DeskState → Type 0) (destination : Destination) (workers : List Known) (pass pass' : Known) (net net' : NetState) (last : Outcome) : Type 0 where
+-- The forwarder looked beside the workers, again and again. Once they had ended, and it had seen all that they had seen, it looked
+-- once more, and `last` came of that.
+pub record HasForwarded (start : DeskState → Type 0) (destination : Destination) (workers : List Known) (pass pass' : Known)
+    (net net' : NetState) (last : Outcome) : Type 0 where
   pub looks : List Look
   pub beside : Known
   pub net_beside : NetState
@@ -35,12 +37,13 @@ pub record HasForwarded (start : DeskState → Type 0) (destination : Destinatio
   pub looked_last : IsLook start destination.outward destination.place look met pass' net_beside net'
   pub last_is : last ≡ outcome_of look.found
 
--- With no destination it did nothing.
+-- So it is where there is a destination. Where there is none it made no call, and the net is as it was.
 abbrev pub Forwarded : (DeskState → Type 0) → Option Destination → List Known → Known → Known → NetState → NetState → Option Outcome → Type 0
 Forwarded start None workers pass pass' net net' last = (pass'.number ≡ pass.number) × (pass'.own ≡ []) × (net' ≡ net) × (last ≡ None)
-Forwarded start (Some destination) workers pass pass' net net' last = (outcome : Outcome) × (last ≡ Some outcome) × HasForwarded start destination workers pass pass' net net' outcome
+Forwarded start (Some destination) workers pass pass' net net' last =
+    (outcome : Outcome) × (last ≡ Some outcome) × HasForwarded start destination workers pass pass' net net' outcome
 
--- What the workers and the forwarder did, whose pass stands behind theirs. All lists are in the order of the workers.
+-- What the workers and the forwarder did. All lists are in the order of the workers; the forwarder's pass comes after theirs.
 pub record HasRun (start : DeskState → Type 0) (run talks : ℕ) (rules : List Rules) (doors doors' : List DoorState) (passes passes' : List Known)
     (reports : List WorkerReport) (destination : Option Destination) (net net' : NetState) (last : Option Outcome) : Type 0 where
   pub workers : List Known
@@ -53,10 +56,12 @@ pub record HasRun (start : DeskState → Type 0) (run talks : ℕ) (rules : List
   pub worked : HaveWorked start run talks rules doors workers doors' workers' reports
   pub forwarded : Forwarded start destination workers' forwarder forwarder' net net' last
 
--- One journal left the desk. Of it the part of each worker is that of the links served at its door, and that of the forwarder, whose pass
--- has the greatest number, is that of its looks. All lists are in the order of the workers.
-pub record HasServed (tells : Type 0) (start : DeskState → Type 0) (run seats : ℕ) (began : Moment) (talks : ℕ) (rules : List Rules) (doors doors' : List DoorState)
-    (reports : List WorkerReport) (destination : Option Destination) (net net' : NetState) (last : Option Outcome) (new : AloneView) : Type 0 where
+-- One journal of all calls led to the desk that comes back. Each worker's part of it is the calls of the links that it served at its
+-- door. The part of the forwarder, whose pass has the greatest number, is the calls of its looks. All lists are in the order of the
+-- workers.
+pub record HasServed (tells : Type 0) (start : DeskState → Type 0) (run seats : ℕ) (began : Moment) (talks : ℕ) (rules : List Rules)
+    (doors doors' : List DoorState) (reports : List WorkerReport) (destination : Option Destination) (net net' : NetState)
+    (last : Option Outcome) (new : AloneView) : Type 0 where
   pub log : List Record
   pub workers : List Known
   pub workers' : List Known
@@ -68,6 +73,6 @@ pub record HasServed (tells : Type 0) (start : DeskState → Type 0) (run seats 
   pub worked : HaveWorked start run talks rules doors workers doors' workers' reports
   pub forwarded : Forwarded start destination workers' forwarder forwarder' net net' last
 
--- No call was made.
+-- No call was made on the desk.
 abbrev pub HasNotServed : Type 0 → (DeskState → Type 0) → ℕ → ℕ → Moment → AloneView → Type 0
 HasNotServed tells start run seats began new = (passes : List Known) × Closes tells start run seats began [] passes new

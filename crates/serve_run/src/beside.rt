@@ -15,7 +15,7 @@ use std::sync::Wait;
 use std::sync::atomic::AtomicBool;
 use std::thread::Threads;
 
-// The forwarder, who forwards until the workers have ended.
+// The forwarder as a task: it looks until the workers have ended, and hands back the net that it was lent, and its pass.
 #[derive(Drop)]
 struct Forwarding<'a, N: Net, D: Disk, J: Naming, R: Wait> {
     alloc: Global,
@@ -31,7 +31,8 @@ impl<'a, N: Net, D: Disk + Drop, J: Naming, R: Wait> Task for Forwarding<'a, N, 
     ghost can_run = { λ t. (t.seated.pass.number + 1 ≡ J.seats) × (0 < t.destination.now.outward.polls) };
 
     ghost leaves = { λ t r. (r.0.ghost_name ≡ t.net.ghost_name)
-        × ((looks : List Look) × AreLooks J.start t.destination.now.outward t.destination.now.place looks t.seated.pass r.1 (N.told t.net.now) (N.told r.0.now)) };
+        × ((looks : List Look) × AreLooks J.start t.destination.now.outward t.destination.now.place looks t.seated.pass r.1
+        (N.told t.net.now) (N.told r.0.now)) };
 
     fn run(self) -> (&'a mut N, Pass<J>) {
         let Forwarding {
@@ -47,13 +48,15 @@ impl<'a, N: Net, D: Disk + Drop, J: Naming, R: Wait> Task for Forwarding<'a, N, 
     }
 }
 
-// Does nothing, but ends what the reference was lent for.
+// Does nothing: it is called to end the loan of the net.
 fn take_back<N>(net: &mut N)
     ensures { net.new ≡ net.old }
 {}
 
-/// Has the workers work, and forwards beside them until they have ended. The forwarder has a thread of its own; where none can be
-/// made it comes last, when the workers have ended.
+/// Has the workers work, and forwards beside them until they have ended. It answers the forwarder's pass and what the workers leave.
+///
+/// The forwarder has a thread of its own. Where none can be made it comes last, once the workers have ended, and leaves all to the
+/// last look.
 pub(crate) fn work_and_forward<
     P: Door + Drop + Send,
     D: Disk + Drop + Send,
@@ -79,8 +82,8 @@ where
     requires confirms { seated.pass.number + 1 ≡ J.seats }
     requires polls { 0 < destination.now.outward.polls }
 
-    ensures worked { HaveWorked J.start J.run talks hired.entry.rules hired.entry.doors hired.entry.passes (map (λ (door : _). P.told door) result.1.doors.items)
-        result.1.passes.items result.1.reports.items }
+    ensures worked { HaveWorked J.start J.run talks hired.entry.rules hired.entry.doors hired.entry.passes
+        (map (λ (door : _). P.told door) result.1.doors.items) result.1.passes.items result.1.reports.items }
     ensures many { (vec_len result.1.doors ≡ length hired.entry.passes) × (vec_len result.1.passes ≡ length hired.entry.passes)
         × (vec_len result.1.reports ≡ length hired.entry.passes) }
     ensures room { vec_len result.1.passes < vec_capacity result.1.passes }

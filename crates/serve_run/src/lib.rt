@@ -1,8 +1,9 @@
-//! A run of the server over one desk: workers at doors and a forwarder beside them share the desk, until the workers have ended;
-//! then what is left is forwarded once more, and the desk is closed.
+//! A run of the server over one desk. Workers at their doors store what comes in, and a forwarder beside them sends it on. Once the
+//! workers have ended, what is left is forwarded once more, and the desk is closed.
 //!
-//! [`serve`] does all of it. Its contract, `HasServed`, says that one journal of all calls left the desk, of which each worker's part
-//! is that of the links that its door tells, and the forwarder's is that of its looks and sessions.
+//! [`serve`] does all of it. Its contract, `HasServed`, says that one journal of all calls led to the desk that comes back: each
+//! worker's part of it is the calls of the links that it served, and the forwarder's part is the calls of its looks and their
+//! sessions.
 #![tactic(auto)]
 
 mod beside;

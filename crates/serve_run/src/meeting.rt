@@ -12,13 +12,14 @@ use spool_turns::{Naming, Pass, Seated};
 use std::alloc::Global;
 use std::sync::Wait;
 
-// The seated pass has then seen all that the others have seen.
+// Shows the seated pass all that the others have seen. The others stay as they are, and no call is made.
 fn meet_all<D: Disk, J: Naming, R: Wait>(
     seated: &mut Seated<'_, D, J, R>,
     others: &mut Vec<Pass<J>>,
 )
     ensures met { HasMet others.old.items seated.old.pass seated.new.pass }
-    ensures same { (others.new.items ≡ others.old.items) × (vec_len others.new ≡ vec_len others.old) × (vec_capacity others.new ≡ vec_capacity others.old) }
+    ensures same { (others.new.items ≡ others.old.items) × (vec_len others.new ≡ vec_len others.old)
+        × (vec_capacity others.new ≡ vec_capacity others.old) }
 {
     for i in 0..others.len() {
         let shared = seated.shared;
@@ -26,7 +27,8 @@ fn meet_all<D: Disk, J: Naming, R: Wait>(
     }
 }
 
-/// Looks once more, when the forwarder has seen all that the workers have seen.
+/// Looks once more, after the forwarder's pass was shown all that the workers' passes have seen, and answers what came of it. The
+/// workers' passes stay as they are.
 pub(crate) fn look_again<N: Net, D: Disk, J: Naming, R: Wait>(
     alloc: Global,
     destination: &Destination,
@@ -40,7 +42,8 @@ pub(crate) fn look_again<N: Net, D: Disk, J: Naming, R: Wait>(
     ensures looked { (met : Known) × (one : Look) × HasMet workers.old.items forwarder.old.pass met
         × IsLook J.start destination.now.outward destination.now.place one met forwarder.new.pass (N.told net.old) (N.told net.new)
         × (result ≡ outcome_of one.found) }
-    ensures same { (workers.new.items ≡ workers.old.items) × (vec_len workers.new ≡ vec_len workers.old) × (vec_capacity workers.new ≡ vec_capacity workers.old) }
+    ensures same { (workers.new.items ≡ workers.old.items) × (vec_len workers.new ≡ vec_len workers.old)
+        × (vec_capacity workers.new ≡ vec_capacity workers.old) }
 {
     meet_all(forwarder, workers);
     look(alloc, destination, net, forwarder)

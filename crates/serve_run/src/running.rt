@@ -1,4 +1,4 @@
-//! Serving and forwarding over one desk.
+//! Serving and forwarding over one desk, from the opened desk to the closed one.
 ghost use Rattle.std.specs.Prelude.{◌≡◌, ◌+◌, ◌<◌, ◌^◌, ◌≤◌, [], length, map, IfOk, IfErr, IfSome, option_copied, vec_len};
 ghost use Rattle.std.specs.Vec.{vec_capacity};
 ghost use Rattle.spool_turns.specs.Replays.{desk_at};
@@ -21,33 +21,33 @@ use std::thread::Threads;
 /// What a run leaves.
 #[derive(Drop)]
 pub struct Served<P: Door, D: Disk> {
-    /// The desk, as one journal left it.
+    /// The desk, as the one journal of all calls left it.
     pub desk: Desk<D>,
-    /// The doors, in the order of their workers.
+    /// The doors, in the order in which they were given.
     pub doors: Vec<P>,
-    /// What each worker reports, in the same order.
+    /// Why the worker of each door ended, and how many links it finished, in the same order.
     pub reports: Vec<WorkerReport>,
-    /// What the last look came to, where there is a destination.
+    /// What came of the last look; `None` where there is no destination.
     pub last: Option<Outcome>,
 }
 
-/// There was no memory for the workers. No link was accepted and none was dialed.
+/// No memory was found for the workers. No link was accepted, and none was dialed.
 #[derive(Drop)]
 pub struct Unserved<P: Door, D: Disk> {
-    /// The desk, with which nothing was done.
+    /// The desk, on which no call was made.
     pub desk: Desk<D>,
     /// The doors and their rules, as they were given.
     pub posts: Vec<Post<P>>,
 }
 
-// What the workers leave, and what the last look came to.
+// What the workers leave, and what came of the last look, if there was one.
 #[derive(Drop)]
-struct Ran<P: Door, J: Naming> {
+struct CrewAndLook<P: Door, J: Naming> {
     crew: Crew<P, J>,
     last: Option<Outcome>,
 }
 
-// Has the workers work and the forwarder forward beside them, and then look once more. Hands back the forwarder's pass.
+// Has the workers work and the forwarder forward beside them, and then look once more. The forwarder's pass comes back beside that.
 fn run_beside<
     P: Door + Drop + Send,
     D: Disk + Drop + Send,
@@ -62,7 +62,7 @@ fn run_beside<
     net: &mut N,
     seated: Seated<'_, D, J, R>,
     hired: Hired<'_, P, D, J, R>,
-) -> (Ran<P, J>, Pass<J>)
+) -> (CrewAndLook<P, J>, Pass<J>)
 where
     P::L: Send,
     N::L: Send,
@@ -73,26 +73,27 @@ where
     requires confirms { seated.pass.number + 1 ≡ J.seats }
     requires polls { 0 < destination.now.outward.polls }
 
-    ensures worked { HaveWorked J.start J.run talks hired.entry.rules hired.entry.doors hired.entry.passes (map (λ (door : _). P.told door) result.0.crew.doors.items)
-        result.0.crew.passes.items result.0.crew.reports.items }
+    ensures worked { HaveWorked J.start J.run talks hired.entry.rules hired.entry.doors hired.entry.passes
+        (map (λ (door : _). P.told door) result.0.crew.doors.items) result.0.crew.passes.items result.0.crew.reports.items }
     ensures many { (vec_len result.0.crew.doors ≡ length hired.entry.passes) × (vec_len result.0.crew.passes ≡ length hired.entry.passes)
         × (vec_len result.0.crew.reports ≡ length hired.entry.passes) }
     ensures room { vec_len result.0.crew.passes < vec_capacity result.0.crew.passes }
-    ensures forwarded { Forwarded J.start (Some destination.now) result.0.crew.passes.items seated.entry.pass result.1 (N.told net.old) (N.told net.new) result.0.last }
+    ensures forwarded { Forwarded J.start (Some destination.now) result.0.crew.passes.items seated.entry.pass result.1
+        (N.told net.old) (N.told net.new) result.0.last }
 {
     let shared = seated.shared;
     let (pass, mut crew) = work_and_forward(rt, alloc, talks, destination, net, seated, hired);
     let mut seated = Seated { shared, pass, rt };
     let last = look_again(alloc, destination, net, &mut seated, &mut crew.passes);
     let Seated { pass, .. } = seated;
-    let ran = Ran {
+    let ran = CrewAndLook {
         crew,
         last: Some(last),
     };
     (ran, pass)
 }
 
-// Has the workers work, and forwards where there is a destination.
+// Has the workers work, and forwards where there is a destination. The forwarder's pass comes back beside what that leaves.
 fn run_seated<
     P: Door + Drop + Send,
     D: Disk + Drop + Send,
@@ -107,7 +108,7 @@ fn run_seated<
     net: &mut N,
     seated: Seated<'_, D, J, R>,
     hired: Hired<'_, P, D, J, R>,
-) -> (Ran<P, J>, Pass<J>)
+) -> (CrewAndLook<P, J>, Pass<J>)
 where
     P::L: Send,
     N::L: Send,
@@ -118,19 +119,19 @@ where
     requires confirms { (seated.pass.number + 1 ≡ J.seats) × (seated.pass.own ≡ []) }
     requires polls { IfSome destination (λ d. 0 < d.now.outward.polls) }
 
-    ensures worked { HaveWorked J.start J.run talks hired.entry.rules hired.entry.doors hired.entry.passes (map (λ (door : _). P.told door) result.0.crew.doors.items)
-        result.0.crew.passes.items result.0.crew.reports.items }
+    ensures worked { HaveWorked J.start J.run talks hired.entry.rules hired.entry.doors hired.entry.passes
+        (map (λ (door : _). P.told door) result.0.crew.doors.items) result.0.crew.passes.items result.0.crew.reports.items }
     ensures many { (vec_len result.0.crew.doors ≡ length hired.entry.passes) × (vec_len result.0.crew.passes ≡ length hired.entry.passes)
         × (vec_len result.0.crew.reports ≡ length hired.entry.passes) }
     ensures room { vec_len result.0.crew.passes < vec_capacity result.0.crew.passes }
-    ensures forwarded { Forwarded J.start (option_copied destination.entry) result.0.crew.passes.items seated.entry.pass result.1 (N.told net.old)
-        (N.told net.new) result.0.last }
+    ensures forwarded { Forwarded J.start (option_copied destination.entry) result.0.crew.passes.items seated.entry.pass result.1
+        (N.told net.old) (N.told net.new) result.0.last }
 {
     match destination {
         Some(destination) => run_beside(rt, alloc, talks, destination, net, seated, hired),
         None => {
             let Seated { pass, .. } = seated;
-            let ran = Ran {
+            let ran = CrewAndLook {
                 crew: work_alone(rt, alloc, talks, hired),
                 last: None,
             };
@@ -139,7 +140,8 @@ where
     }
 }
 
-// Hires workers with all passes but the last, which is the forwarder's, and runs both. The passes come back in their order.
+// Hires workers with all passes but the last, which is the forwarder's, and runs both. The passes come back in their order. The error
+// is want of memory before a worker began, and gives back all that was given.
 fn run<
     P: Door + Drop + Send,
     D: Disk + Drop + Send,
@@ -155,7 +157,7 @@ fn run<
     talks: u32,
     destination: Option<&Destination>,
     net: &mut N,
-) -> Result<Ran<P, J>, NoCrew<P, J>>
+) -> Result<CrewAndLook<P, J>, NoCrew<P, J>>
 where
     P::L: Send,
     N::L: Send,
@@ -189,13 +191,22 @@ where
     Ok(ran)
 }
 
-/// Has a worker serve at each of the doors, in a thread of its own where one can be made, and a forwarder beside them where there is a
-/// destination. Each worker ends as its door is shut, after `talks` links, at an accept that fails, or where no memory
-/// is found to give a link back. Once all have ended, the forwarder sees all that they did, and looks once more; then the desk is
-/// closed.
+/// Serves the links of all doors and stores what they bring. Where there is a destination, a forwarder sends it on meanwhile. Once all
+/// workers have ended the forwarder looks once more at what is left, and the desk is closed.
 ///
-/// There is one pass for each worker, in the order of the doors, and after them one for the forwarder. The error is want of memory
-/// before the workers begin.
+/// Each door has a worker, in a thread of its own where one can be made, that serves the door's links one after another. A worker ends
+///
+/// - once its door is shut for good, that is when an accept answers that no link waits there; a listening socket is never shut;
+/// - once it has served `talks` links, which are at most 2^26;
+/// - at an accept that fails, which the door counts;
+/// - where no memory is found to give a link back.
+///
+/// Its report says which of these it was, and how many links it gave back. Before the last look the forwarder is shown all that the
+/// workers did; `last` says what came of that look.
+///
+/// `opened` has one pass for each worker, in the order of the doors, of which there are at most 64, and after them one for the
+/// forwarder. None of them has made a call. `polls` of the destination is above 0. The error is want of memory before a worker began:
+/// it gives back the posts as they were and the desk, on which no call was made.
 pub fn serve<
     P: Door + Drop + Send,
     D: Disk + Drop + Send,
@@ -230,7 +241,7 @@ where
 {
     let Opened { shared, passes } = opened;
     match run(rt, alloc, &shared, posts, passes, talks, destination, net) {
-        Ok(Ran { crew, last }) => {
+        Ok(CrewAndLook { crew, last }) => {
             let Crew {
                 doors,
                 passes,

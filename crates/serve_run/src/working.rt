@@ -12,24 +12,25 @@ use std::sync::Wait;
 use std::sync::atomic::{AtomicBool, Ordering};
 use std::thread::{Threads, join};
 
-/// What is done once, in a thread of its own. What it leaves is its output, and in it each `&mut` that it was lent.
+/// Something that is done once, in a thread of its own. Each `&mut` that it was lent comes back in its output, since a join says
+/// nothing of what was written through a reference.
 pub(crate) trait Task {
-    /// What it leaves.
+    /// What it hands back.
     type Output;
 
-    /// It may be done.
+    /// What has to hold for it to be done.
     ghost can_run: { Self → Type 0 };
 
-    /// It left this.
+    /// What it has done, by what it was and its output.
     ghost leaves: { Self → Self.Output → Type 0 };
 
-    /// Does it.
+    /// Does it, to its end.
     fn run(self) -> Self::Output
         requires { can_run self }
         ensures { leaves self result };
 }
 
-/// Has the workers work until they have ended, and dismisses them.
+/// Has the workers work until all have ended, and dismisses them. It answers what they leave.
 pub(crate) fn work_alone<
     P: Door + Drop + Send,
     D: Disk + Drop + Send,
@@ -41,8 +42,8 @@ where
     requires new { AreNew 0 hired.passes }
     requires talks { talks ≤ 2 ^ 26 }
 
-    ensures worked { HaveWorked J.start J.run talks hired.entry.rules hired.entry.doors hired.entry.passes (map (λ (door : _). P.told door) result.doors.items)
-        result.passes.items result.reports.items }
+    ensures worked { HaveWorked J.start J.run talks hired.entry.rules hired.entry.doors hired.entry.passes
+        (map (λ (door : _). P.told door) result.doors.items) result.passes.items result.reports.items }
     ensures many { (vec_len result.doors ≡ length hired.entry.passes) × (vec_len result.passes ≡ length hired.entry.passes)
         × (vec_len result.reports ≡ length hired.entry.passes) }
     ensures room { vec_len result.passes < vec_capacity result.passes }
@@ -52,8 +53,9 @@ where
     hired.dismiss()
 }
 
-/// Has the workers work, and the task done beside them, in a thread of its own. Where none can be made the task comes last, when the
-/// workers have ended. `ended` is set once they have.
+/// Has the workers work, and the task done beside them in a thread of its own. Where no thread can be made the task comes last, once
+/// the workers have ended. `ended` is set once they have, so that the task may watch it. It answers the task's output and what the
+/// workers leave.
 pub(crate) fn work_beside<
     S: Task<Output = A> + Send + Drop,
     A: Send,
@@ -76,8 +78,8 @@ where
     requires talks { talks ≤ 2 ^ 26 }
 
     ensures task { S.leaves task result.0 }
-    ensures worked { HaveWorked J.start J.run talks hired.entry.rules hired.entry.doors hired.entry.passes (map (λ (door : _). P.told door) result.1.doors.items)
-        result.1.passes.items result.1.reports.items }
+    ensures worked { HaveWorked J.start J.run talks hired.entry.rules hired.entry.doors hired.entry.passes
+        (map (λ (door : _). P.told door) result.1.doors.items) result.1.passes.items result.1.reports.items }
     ensures many { (vec_len result.1.doors ≡ length hired.entry.passes) × (vec_len result.1.passes ≡ length hired.entry.passes)
         × (vec_len result.1.reports ≡ length hired.entry.passes) }
     ensures room { vec_len result.1.passes < vec_capacity result.1.passes }
@@ -90,8 +92,8 @@ where
         { task.run() },
         move || -> Crew<P, J>
             requires { AreNew 0 hired.passes × (talks ≤ 2 ^ 26) }
-            ensures worked { HaveWorked J.start J.run talks hired.entry.rules hired.entry.doors hired.entry.passes (map (λ (door : _). P.told door) result.doors.items)
-                result.passes.items result.reports.items }
+            ensures worked { HaveWorked J.start J.run talks hired.entry.rules hired.entry.doors hired.entry.passes
+                (map (λ (door : _). P.told door) result.doors.items) result.passes.items result.reports.items }
             ensures many { (vec_len result.doors ≡ length hired.entry.passes) × (vec_len result.passes ≡ length hired.entry.passes)
                 × (vec_len result.reports ≡ length hired.entry.passes) }
             ensures room { vec_len result.passes < vec_capacity result.passes }

@@ -1,4 +1,4 @@
--- A link that was accepted and served, and what its door tells of it.
+-- A link that was accepted and served, and what its door reports of it.
 use Rattle.std.proofs.Common.{◌≡◌, ℕ, ◌+◌, ◌≤◌, ◌∙◌, arith, List, [], ◌∷◌, length, refl, sym, ap, subst}
 use Rattle.std.proofs.lemmas.Grind.{common_steps}
 use Rattle.std.specs.Prelude.{Option, Some, None}
@@ -61,7 +61,7 @@ none_left left rest is end = ap length (subst IsAtEnd is end)
 abbrev pub link_of : ℕ → Option (List ℕ) → List Call → List ℕ → List ℕ → Talk → Served
 link_of conn left calls bytes text talk = record { conn = conn; calls = calls; bytes = bytes; left = left; text = text; talk = talk }
 
--- ---- what is told
+-- ---- what is reported
 
 tells_told : (rules : Rules) (conn status : ℕ) (talks talks' : Option (List Talked)) (given given' left left' taken taken' : Option (List ℕ)) (made : List Call → Type 0) (attended : Attended)
     → IsFresh talks given taken left → (s : Serves (CarriedBy rules conn) given given' left left' taken taken' made attended) → status ≡ status_of (note_of_talk attended.talk)
@@ -82,7 +82,7 @@ tells_told rules conn status (Some list) talks' given given' left left' taken ta
     } in
     (one ∷ [], (here, tt), adds.2)
 
--- what the door tells once it was given the link back
+-- what the door reports once it was given the link back
 pub tells_one : (rules : Rules) (conn status : ℕ) (old between new : DoorState) (given given' left left' taken taken' : Option (List ℕ)) (made : List Call → Type 0) (attended : Attended)
     → IsFresh old.talks given taken left → SameTalks old between → (s : Serves (CarriedBy rules conn) given given' left left' taken taken' made attended) → status ≡ status_of (note_of_talk attended.talk)
     → Adds between.talks new.talks (IsTalk rules.proto conn status given' taken' left') → TellsMore rules (link_of conn left' s.calls s.bytes s.text attended.talk ∷ []) old.talks new.talks
@@ -113,7 +113,7 @@ rises_one (Some n) b c same more = subst (λ (o : Option ℕ). RisesBy 1 o b) (s
 
 -- ---- one link
 
--- It was accepted and served, and its door was given it back. What is told of that is known apart.
+-- It was accepted and served, and its door was given it back. What is reported of that is known apart.
 pub link_at_door : (rules : Rules) (conn : ℕ) (old between new : DoorState) (given given' left left' taken taken' : Option (List ℕ)) (made : List Call → Type 0) (attended : Attended) (before now before' now' : ℕ) (told : List Served)
     → TakesLink old between → SameTalks old between → (s : Serves (CarriedBy rules conn) given given' left left' taken taken' made attended)
     → CountsFaults (attended.talk ≡ ReadFault) before now → CountsFaults (attended.talk ≡ WriteFault) before' now' → Gains now between.read_faults new.read_faults → Gains now' between.write_faults new.write_faults → SameDoor between new

@@ -106,7 +106,7 @@ new_at number (x ∷ xs) [] k d new lt = absurd (omega (arith, lt))
 new_at number (x ∷ xs) (pass ∷ passes) zero d new lt = (omega (arith, new.0), new.1)
 new_at number (x ∷ xs) (pass ∷ passes) (suc k) d new lt = let rest = new_at (number + 1) xs passes k d new.2 (omega (arith, lt)) in (omega (arith, rest.0), rest.1)
 
--- ---- what a function has of each, told by another
+-- ---- what a function has of each, by another function
 
 map_of : {X Y Z : Type 0} (f : X → Y) (h : Y → Z) (xs : List X) → map h (map f xs) ≡ map (λ x. h (f x)) xs
 map_of f h [] = refl
@@ -134,7 +134,7 @@ pub fresh_many : (number count end cursor : ℕ) → length (fresh number count 
 fresh_many number zero end cursor = refl
 fresh_many number (suc count) end cursor = ap suc (fresh_many (suc number) count end cursor)
 
--- So are the first ones of such, and the last one, which has the number behind theirs.
+-- So are the first ones of such, and the last one, which has the number after theirs.
 pub new_front : (number : ℕ) (passes : List Known) (last : Known) → AreNew number (passes ++ last ∷ []) → AreNew number passes
 new_front number [] last new = tt
 new_front number (pass ∷ passes) last new = (new.0, new.1, new_front (number + 1) passes last new.2)

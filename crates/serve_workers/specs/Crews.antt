@@ -9,33 +9,35 @@ use Rattle.spool_turns.specs.Passes.{Known}
 use Rattle.serve_workers.specs.declared.worker.WorkerReport.{WorkerReport}
 use Rattle.serve_workers.specs.Works.{Worked}
 
--- new passes, with the numbers from this one on
+-- passes that have made no call, numbered from this number on
 abbrev pub AreNew : ℕ → List Known → Type 0
 AreNew number [] = Unit {0}
 AreNew number (pass ∷ passes) = (pass.number ≡ number) × (pass.own ≡ []) × AreNew (number + 1) passes
 
--- a worker of that number has this pass
+-- the worker of that number, which is below 64, has this pass, whose number is the same
 abbrev pub IsAtDesk : ℕ → Known → Type 0
 IsAtDesk number pass = (number ≡ pass.number) × (number < 64)
 
--- and the pass is new
+-- so it has, and the pass has made no call
 abbrev pub IsReady : ℕ → Known → Type 0
 IsReady number pass = (number ≡ pass.number) × (number < 64) × (pass.own ≡ [])
 
--- an empty list with room for so many
+-- an empty list with room for so many items
 abbrev pub IsRoom : {X : Type 0} → ℕ → Vec X → Type 0
 IsRoom many v = (v.items ≡ []) × (vec_len v ≡ 0) × (many ≤ vec_capacity v)
 
--- Workers in their order: the rules of each, what its door tells, its pass, and what it reports.
+-- Workers in their order: the rules of each, what its door reports, what its pass knows, and its own report.
 pub record Roster : Type 0 where
   pub rules : List Rules
   pub doors : List DoorState
   pub passes : List Known
   pub reports : List WorkerReport
 
--- Each worker has ended, where all lists are in the workers' order: the rules, the doors and the passes before, the doors and
--- the passes after, and the reports.
+-- Each worker has ended, and did what `Worked` says. All lists are in the workers' order: the rules, the doors and the passes as they
+-- were before, the doors and the passes as they are after, and the reports.
 abbrev pub HaveWorked : (DeskState → Type 0) → ℕ → ℕ → List Rules → List DoorState → List Known → List DoorState → List Known → List WorkerReport → Type 0
 HaveWorked start run talks rules doors passes doors' passes' reports =
-    (k : ℕ) (by : Rules) (old new : DoorState) (pass pass' : Known) (report : WorkerReport) → slice_get rules k ≡ Some by → slice_get doors k ≡ Some old → slice_get passes k ≡ Some pass
-    → slice_get doors' k ≡ Some new → slice_get passes' k ≡ Some pass' → slice_get reports k ≡ Some report → Worked start run by talks old new pass pass' report
+    (k : ℕ) (by : Rules) (old new : DoorState) (pass pass' : Known) (report : WorkerReport)
+    → slice_get rules k ≡ Some by → slice_get doors k ≡ Some old → slice_get passes k ≡ Some pass
+    → slice_get doors' k ≡ Some new → slice_get passes' k ≡ Some pass' → slice_get reports k ≡ Some report
+    → Worked start run by talks old new pass pass' report

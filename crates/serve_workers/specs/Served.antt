@@ -1,4 +1,4 @@
--- Links that were served at a door, and what the door tells of them.
+-- Links that were served at a door, and what the door reports of them.
 use Rattle.std.specs.Prelude.{◌≡◌, ℕ, ◌+◌, List, [], ◌∷◌, ◌++◌, length, Option, Some, None}
 use Rattle.std.specs.List.{AllZip, flat_map, sum_by}
 use Rattle.foundation.specs.Faults.{Rose}
@@ -11,8 +11,8 @@ use Rattle.conn_serve.specs.declared.rules.Rules.{Rules}
 use Rattle.conn_serve.specs.Serves.{CarriedBy}
 use Rattle.bridge_words.specs.Notes.{status_of, note_of_talk}
 
--- A link that was served: the number of its connection, its calls on the desk, the bytes read, what its input has left
--- where it says so, the text written, and the ending.
+-- A link that was served: the number of its connection, the calls made for it on the desk, the bytes read, the bytes that its input
+-- has left unread, where it says so, the text written, and the ending.
 pub record Served : Type 0 where
   pub conn : ℕ
   pub calls : List Call
@@ -21,20 +21,21 @@ pub record Served : Type 0 where
   pub text : List ℕ
   pub talk : Talk
 
--- the calls of all links, in order
+-- the calls of these links, joined in their order
 abbrev pub calls_in : List Served → List Call
 calls_in served = flat_map (λ one. one.calls) served
 
--- the link was served by these rules
+-- The link was served by these rules: by the protocol's table these calls, this text and this ending go with the bytes read.
 abbrev pub IsServed : Rules → Served → Type 0
 IsServed rules one = CarriedBy rules one.conn one.left one.bytes one.calls one.text one.talk
 
--- so were all, and their connections have the numbers from this one on
+-- so were these links, one after another, and their connections are numbered from this number on
 abbrev pub AreServed : Rules → ℕ → List Served → Type 0
 AreServed rules conn [] = Unit {0}
 AreServed rules conn (one ∷ more) = (one.conn ≡ conn) × IsServed rules one × AreServed rules (conn + 1) more
 
--- What a door tells of a link that was given back is what was served. Where its input was read to its end, no byte is left.
+-- What a door reports of a link that was given back is what was served: the protocol, the number, the bytes read and written, the
+-- status of its ending, and how many bytes are left unread. Where its input was read to its end, none is.
 pub record Tells (rules : Rules) (one : Served) (told : Talked) : Type 0 where
   pub proto : told.proto ≡ rules.proto
   pub conn : told.conn ≡ one.conn
@@ -44,17 +45,17 @@ pub record Tells (rules : Rules) (one : Served) (told : Talked) : Type 0 where
   pub left : (rest : List ℕ) × (one.left ≡ Some rest) × (told.left ≡ length rest)
   pub at_end : IsAtEndOfInput one.talk → told.left ≡ 0
 
--- the list that a door tells, where it tells one, has these links more at its end, in order
+-- The list of links given back, where the door keeps one, has these links more at its end, in order. A door over a socket keeps none.
 abbrev pub TellsMore : Rules → List Served → Option (List Talked) → Option (List Talked) → Type 0
 TellsMore rules served None new = new ≡ None
 TellsMore rules served (Some old) new = (more : List Talked) × AllZip (Tells rules) served more × (new ≡ Some (old ++ more))
 
--- the number that is told, where one is, rose by so many
+-- the count, where the door keeps it, rose by n
 abbrev pub RisesBy : ℕ → Option ℕ → Option ℕ → Type 0
 RisesBy n None new = new ≡ None
 RisesBy n (Some old) new = new ≡ Some (old + n)
 
--- one where a connection ended at a read that failed, at a write that failed, or since the disk failed
+-- 1 for a connection that ended at a read that failed, and 0 for each other; so for writes that failed, and for calls of the disk
 abbrev pub by_read : Talk → ℕ
 by_read ReadFault = 1
 by_read talk = 0
@@ -71,8 +72,9 @@ by_disk talk = 0
 abbrev pub how_many : (Talk → ℕ) → List Served → ℕ
 how_many so served = sum_by (λ one. so one.talk) served
 
--- What was done at a door: these links were accepted, one after another, and each was served to its end by the rules,
--- with the numbers from `first` on. Those that are told were given back. The calls made are those of the links.
+-- What was done at a door: `links` were accepted, one after another, and each was served to its end by the rules, as connections
+-- numbered from `first` on. `told` were given back, and the door reports them. The calls made are those of the links. As many links
+-- wait fewer, and the counts of reads and of writes that failed rose by at least as many as ended a link.
 pub record AtDoor (rules : Rules) (first : ℕ) (old new : DoorState) (made : List Call → Type 0) (links told : List Served) : Type 0 where
   pub calls : made (calls_in links)
   pub served : AreServed rules first links

@@ -11,27 +11,27 @@ use spool_turns::{Naming, Pass, Seated};
 use std::alloc::{AllocError, Global};
 use std::sync::Wait;
 
-/// Where a worker serves.
+/// Where one worker serves, and how.
 #[derive(Drop)]
 pub struct Post<P: Door> {
     /// The door at which its links come in.
     pub door: P,
-    /// The rules by which it serves them.
+    /// The rules by which it serves each of them: the protocol, and the tokens of the collector.
     pub rules: Rules,
 }
 
-/// What workers leave, in their order.
+/// What workers leave. Each list has one item for each worker, in their order.
 #[derive(Drop)]
 pub struct Crew<P: Door, J: Naming> {
-    /// The door of each.
+    /// The doors, to which the links that were finished are given back.
     pub doors: Vec<P>,
-    /// The pass of each.
+    /// The passes, which have seen all calls that their workers made.
     pub passes: Vec<Pass<J>>,
-    /// What each reports.
+    /// Why each worker ended, and how many links it finished.
     pub reports: Vec<WorkerReport>,
 }
 
-/// There was no memory for the workers. None of them has begun, and all is given back.
+/// The error of [`crate::hire`]: no memory was found for the workers. None of them has begun, and all is given back.
 #[derive(Drop)]
 pub struct NoCrew<P: Door, J: Naming> {
     /// The doors and their rules, as they were given.
@@ -40,14 +40,14 @@ pub struct NoCrew<P: Door, J: Naming> {
     pub passes: Vec<Pass<J>>,
 }
 
-/// Room for so many workers and for what they leave, and for one pass more.
+/// Empty lists with room for a number of workers and for what they leave, and for one pass more.
 #[derive(Drop)]
 pub(crate) struct Room<'a, P: Door, D: Disk, J: Naming, R: Wait> {
     pub(crate) workers: Vec<Worker<'a, P, D, J, R>>,
     pub(crate) crew: Crew<P, J>,
 }
 
-/// Reserves room for so many workers.
+/// Reserves room for `many` workers, at most 64, and for what they leave, with one pass more. The error is want of memory.
 pub(crate) fn room_for<'a, P: Door + Drop, D: Disk, J: Naming, R: Wait>(
     alloc: Global,
     many: usize,
@@ -67,7 +67,7 @@ pub(crate) fn room_for<'a, P: Door + Drop, D: Disk, J: Naming, R: Wait>(
     })
 }
 
-/// What the workers leave, where there is room for it.
+/// Moves what the workers leave into the lists of `crew`, which are empty and have room for it and for one pass more.
 pub(crate) fn dismissed<P: Door + Drop, D: Disk, J: Naming, R: Wait>(
     workers: Vec<Worker<'_, P, D, J, R>>,
     crew: Crew<P, J>,

@@ -1,4 +1,4 @@
-//! Workers that are hired: they have their doors and passes, and all that they leave has its place.
+//! Workers that are hired: they have their doors and passes, and room is reserved for all that they leave.
 ghost use Rattle.std.specs.Prelude.{◌≡◌, ℕ, ◌^◌, ◌<◌, ◌≤◌, map, length, All, IfOk, IfErr, vec_len, slice_index_or};
 ghost use Rattle.std.specs.Vec.{vec_capacity};
 ghost use Rattle.serve_workers.specs.Works.{Worked};
@@ -14,8 +14,8 @@ use std::marker::Model;
 use std::sync::Wait;
 use std::thread::{Threads, for_each_mut};
 
-/// Workers, each at its door with its pass, and room for what they leave. To a contract they are a `Roster`: the rules, doors,
-/// passes and reports of all, in their order. Before they have worked, the reports say nothing.
+/// Workers, each at its door with its pass, and room for what they leave. A contract sees them as a `Roster`: the rules, doors, passes
+/// and reports of all, in their order. Before [`Hired::work`] the reports mean nothing.
 #[derive(Drop)]
 pub struct Hired<'a, P: Door, D: Disk, J: Naming, R: Wait> {
     workers: Vec<Worker<'a, P, D, J, R>>,
@@ -39,7 +39,7 @@ impl<'a, P: Door, D: Disk, J: Naming, R: Wait> Model for Hired<'a, P, D, J, R> {
         × IsRoom (vec_len h.workers) h.crew.doors × IsRoom (vec_len h.workers + 1) h.crew.passes × IsRoom (vec_len h.workers) h.crew.reports };
 }
 
-// The workers, in the order of their passes, none of which has begun.
+// Makes the workers in the room for them: each has the post and the pass at its place, and that place as its number. None has begun.
 fn placed<'a, P: Door + Drop, D: Disk, J: Naming, R: Wait>(
     rt: &'a R,
     shared: &'a Shared<D, J>,
@@ -73,7 +73,7 @@ fn placed<'a, P: Door + Drop, D: Disk, J: Naming, R: Wait>(
     workers
 }
 
-// Has each worker work, in a thread of its own where one can be made.
+// Has each worker serve until it ends, in a thread of its own where one can be made.
 fn work_all<
     'a,
     P: Door + Send,
@@ -105,11 +105,11 @@ where
     );
 }
 
-/// Hires a worker for each of the doors. The passes are new, one for each worker, and have the numbers of the workers, from
-/// 0 on.
+/// Hires a worker for each of the posts, at most 64, and gives it the pass at the same place. There are as many passes as posts; they
+/// have made no call and are numbered from 0 on, and each worker has the number of its pass.
 ///
-/// All that it takes to give back doors and passes is reserved here, and room for one pass more: so once they are hired, all
-/// come back. The error is want of memory, and then all is given back as it was.
+/// All memory that it takes to give back doors, passes and reports is reserved here, and room for one pass more: so once workers are
+/// hired, [`Hired::dismiss`] gives all of them back. The error is want of memory, and gives back posts and passes as they were.
 pub fn hire<'a, P: Door + Drop, D: Disk, J: Naming, R: Wait>(
     rt: &'a R,
     alloc: Global,
@@ -143,9 +143,12 @@ impl<
 where
     P::L: Send,
 {
-    /// Has each worker serve at its door, in a thread of its own where one can be made, until it has ended: as its door is
-    /// shut, after `talks` links, at an accept that fails, or where no memory is found to give a link back. What each did is
-    /// said by `HaveWorked`.
+    /// Has each worker serve the links of its door, one after another, in a thread of its own where one can be made. It returns once
+    /// all have ended. `HaveWorked` says what each did.
+    ///
+    /// A worker ends once its door is shut for good and no link waits there (a listening socket is never shut), once it has served
+    /// `talks` links, which are at most 2^26, at an accept that fails, or where no memory is found to give a link back. Its report
+    /// says which of these it was.
     pub fn work(&mut self, rt: &R, alloc: Global, talks: u32)
         requires new { AreNew 0 self.old.passes }
         requires talks { talks ≤ 2 ^ 26 }
@@ -158,7 +161,8 @@ where
 }
 
 impl<'a, P: Door + Drop, D: Disk, J: Naming, R: Wait> Hired<'a, P, D, J, R> {
-    /// Hands back the doors, the passes and the reports, in the order of the workers, with room for one pass more.
+    /// Hands back the doors, the passes and the reports, each in the order of the workers. The list of passes has room for one more,
+    /// as that of a forwarder. Nothing is allocated.
     pub fn dismiss(self) -> Crew<P, J>
         ensures doors { map (λ (door : _). P.told door) result.doors.items ≡ self.entry.doors }
         ensures passes { result.passes.items ≡ self.entry.passes }

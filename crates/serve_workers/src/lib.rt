@@ -1,11 +1,13 @@
-//! The workers of a server. Each owns a door, and has a pass of the shared desk: it accepts a link, serves it to its end
-//! by the rules of its place, gives it back, and goes on with the next.
+//! The workers of a server. Each owns a door, where connections come in, and has a pass of the desk that all share: it accepts a
+//! link, serves it to its end by the rules of its place, gives it back to the door, and goes on with the next.
 //!
-//! [`hire`] gives doors and passes to workers and reserves what they need, [`Hired::work`] runs them, each in a thread of its
-//! own where one can be made, and [`Hired::dismiss`] hands back their doors, their passes and what each reports, in their
-//! order. What a worker did is said by `Worked`: the links that its door tells are those that were served, one after
-//! another, and the calls of its pass are theirs, joined. The desk is closed by the caller, with these passes and any
-//! other, as that of a forwarder beside the workers.
+//! [`hire`] gives doors and passes to workers and reserves the memory that they need. [`Hired::work`] runs them, each in a thread of
+//! its own where one can be made, and returns once all have ended. [`Hired::dismiss`] hands back their doors, their passes and what
+//! each reports, in their order.
+//!
+//! `Worked` says what a worker did: the links that its door reports are those that it served, one after another, and the calls of its
+//! pass are the calls made for these links, joined. The caller closes the desk, with these passes and any other one, as that of a
+//! forwarder beside the workers.
 #![tactic(auto)]
 
 mod crew;

@@ -15,13 +15,14 @@ use std::sync::Wait;
 /// Why a worker ended.
 #[derive(Clone, Copy, Debug, PartialEq, Eq)]
 pub enum WorkerEnd {
-    /// Its door is shut.
+    /// Its door is shut for good, and no link waits there.
     Shut,
-    /// It served as many links as it was to.
+    /// It served as many links as it was to, and gave all of them back.
     Enough,
-    /// An accept failed.
+    /// An accept failed, which the door has counted.
     AcceptFault,
-    /// There was no memory to give a link back.
+    /// No memory was found to give a link back. That link was served to its end, but its door doesn't report it, and it isn't counted
+    /// as finished.
     NoMemory,
 }
 
@@ -34,8 +35,8 @@ pub struct WorkerReport {
     pub finished: u32,
 }
 
-/// A worker: its door, its pass at the shared desk, the rules by which it serves, and its number, which is that of its
-/// pass. Before it has worked, its report says nothing.
+/// A worker: its door, its pass at the shared desk, the rules by which it serves, and its number, which is that of its pass. Before it
+/// has worked, its report means nothing.
 #[derive(Drop)]
 pub(crate) struct Worker<'a, P: Door, D: Disk, J: Naming, R: Wait> {
     pub(crate) door: P,
@@ -45,7 +46,8 @@ pub(crate) struct Worker<'a, P: Door, D: Disk, J: Naming, R: Wait> {
     pub(crate) report: WorkerReport,
 }
 
-// Accepts the next link of the door, serves it, and gives it back. The error is the end of the worker.
+// Accepts the next link of the door, serves it to its end as the connection of this number, and gives it back. The error says why no
+// link was given back, and the worker ends so.
 fn serve_next<P: Door, A: Access>(
     alloc: Global,
     door: &mut P,
@@ -71,7 +73,8 @@ fn serve_next<P: Door, A: Access>(
     }
 }
 
-// Serves links of the door one after another, with the connections' numbers from `first` on: `talks` of them at most.
+// Serves links of the door one after another, at most `talks` of them, as connections numbered from `first` on. It ends at the first
+// link that is not accepted or not given back.
 fn serve_all<P: Door, D: Disk, J: Naming, R: Wait>(
     alloc: Global,
     door: &mut P,
@@ -101,13 +104,14 @@ fn serve_all<P: Door, D: Disk, J: Naming, R: Wait>(
 }
 
 impl<'a, P: Door, D: Disk, J: Naming, R: Wait> Worker<'a, P, D, J, R> {
-    /// Serves the links of its door until the door is shut, after `talks` links, at an accept that fails, or where no
-    /// memory is found to give a link back.
+    /// Serves the links of its door, one after another, and notes in its report why it ended: the door is shut for good, `talks` links
+    /// were served, an accept failed, or no memory was found to give a link back.
     pub(crate) fn work(&mut self, alloc: Global, talks: u32)
         requires ready { IsReady self.old.number self.old.seated.pass }
         requires talks { talks ≤ 2 ^ 26 }
 
-        ensures worked { Worked J.start J.run self.old.rules talks (P.told self.old.door) (P.told self.new.door) self.old.seated.pass self.new.seated.pass self.new.report }
+        ensures worked { Worked J.start J.run self.old.rules talks (P.told self.old.door) (P.told self.new.door) self.old.seated.pass
+            self.new.seated.pass self.new.report }
         ensures number { self.new.number ≡ self.old.number }
     {
         let run = u64::from(self.seated.shared.run());
