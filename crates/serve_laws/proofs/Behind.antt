@@ -1,4 +1,4 @@
--- What a journal has behind what passes have seen.
+-- What a journal has after what passes have seen.
 use Rattle.std.proofs.Common.{◌≡◌, ◌≢◌, ◌⊎◌, inl, inr, ℕ, suc, ◌+◌, ◌<◌, ◌≤◌, ◌==◌, Bool, true, false, cond, List, [], ◌∷◌, ◌++◌, length, length-append, refl, sym, ap, ◌∙◌, arith, append_assoc, eq-eqb}
 use Rattle.std.specs.Prelude.{All}
 use Rattle.std.proofs.lemmas.Bool.{cases_lt, eqb-false}
@@ -36,7 +36,7 @@ have_run start run talks number (by ∷ rules) (old ∷ doors) (pass ∷ passes)
 have_run start run talks number rules doors passes doors' passes' more reports long fresh worked =
     absurd (omega (arith, long.doors_are, long.passes_are, long.doors'_are, long.passes'_are, long.reports_are))
 
--- the pass behind new ones
+-- the pass after new ones
 pub last_new : (number : ℕ) (passes : List Known) (last : Known) → AreNew number (passes ++ last ∷ []) → (last.number ≡ number + length passes) × (last.own ≡ [])
 last_new number [] last new = (omega (arith, new.0), new.1)
 last_new number (pass ∷ passes) last new = let rest = last_new (number + 1) passes last new.2 in (omega (arith, rest.0), rest.1)
@@ -52,7 +52,7 @@ all_numbers start number (pass ∷ passes) last run is n least most = elim (eith
   either : (a b : ℕ) → a ≤ b → (a ≡ b) ⊎ (a + 1 ≤ b)
   either a b le = elim (cases_lt a b) [ inl later ↦ inr (omega (arith, later)) | inr here ↦ inl (omega (arith, here, le)) ]
 
--- ---- behind what a pass has seen
+-- ---- after what a pass has seen
 
 pub no_length : {A : Type 0} (xs : List A) → length xs ≡ 0 → xs ≡ []
 no_length [] is = refl
@@ -78,7 +78,7 @@ no_second : (xs ys : List Call) → xs ++ ys ≡ [] → ys ≡ []
 no_second [] ys is = is
 no_second (x ∷ xs) ys is = absurd (cc is)
 
--- So behind a journal that begins with what it has seen there is none.
+-- So after a journal that begins with what it has seen there is none.
 pub sees_own_by : (start : DeskState → Type 0) (log seen rest : List Record) (pass pass' : Known) (calls : List Call) → pass.own ≡ [] → Ran start pass calls pass' → Stands log pass' → IsPrefix pass'.seen seen → seen ++ rest ≡ log → own_of pass'.number rest ≡ []
 sees_own_by start log seen rest pass pass' calls new ran stands first parts =
     let n = pass'.number in

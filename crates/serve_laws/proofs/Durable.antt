@@ -64,7 +64,7 @@ keeps_some : (now : Moment) (calls some : List Call) → ((s : SpoolState) → A
 keeps_some now calls some part keeps = λ c image. let k = keeps c image in (k.0, k.1, part k.0 k.2)
 
 -- one of the groups that were taken
-one_durable : (now : Moment) (calls : List Call) (group : Group) → KeepsCalls now calls → Contains (groups_of calls) group → AreDurable now (group ∷ [])
+pub one_durable : (now : Moment) (calls : List Call) (group : Group) → KeepsCalls now calls → Contains (groups_of calls) group → AreDurable now (group ∷ [])
 one_durable now calls group keeps taken = λ c image.
     let k = keeps c image in
     (k.0, k.1, All-cons (IsGroupKept k.0) group [] (All-contains (IsGroupKept k.0) (groups_of calls) group (groups_kept k.0 calls k.2) taken) (All-nil (IsGroupKept k.0)))
@@ -86,7 +86,7 @@ pub stored_durably : (tokens : Tokens) (conn : ℕ) (left : Option (List ℕ)) (
 stored_durably tokens conn left b calls text talk now carried keeps group says =
     let taken = acknowledged_is_taken tokens conn left b calls text talk carried group says in record { taken = taken; durable = one_durable now calls group keeps taken }
 
--- ---- an id that is told true
+-- ---- an id for which true was answered
 
 -- where a call of a caller stands in the journal
 record Place (number : ℕ) (log : List Record) (call : Call) : Type 0 where
@@ -126,7 +126,10 @@ met_first run confirming before [] more m = tt
 met_first run confirming before (one ∷ log) more m = (m.0, met_first run confirming (before ++ one ∷ []) log more m.1)
 
 -- of the desk from which the journal went
-module _ (x y : DeskState) (confirming : ℕ) (log : List Record) (rules : IsDesk x) (none : x.ids.held ≡ []) (goes : Goes x log y) (met : Met x.spool.run confirming [] log) (legal : (groups : List (List Entry)) → AddsGroups (calls_of log) groups → IsLegal x.spool.run groups) (now : Moment) (keeps : KeepsCalls now (calls_of log)) where
+module _ (x y : DeskState) (confirming : ℕ) (log : List Record) (rules : IsDesk x) (none : x.ids.held ≡ [])
+    (goes : Goes x log y) (met : Met x.spool.run confirming [] log)
+    (legal : (groups : List (List Entry)) → AddsGroups (calls_of log) groups → IsLegal x.spool.run groups)
+    (now : Moment) (keeps : KeepsCalls now (calls_of log)) where
   -- an id for which a question of the journal was answered true
   told_at : (number channel id : ℕ) (before : List Record) (one : Record) (after : List Record) (ids : List ℕ) (known : List Bool) (k : ℕ) → log ≡ before ++ one ∷ after → one.by ≡ number
       → one.call ≡ asks channel ids known → k < length ids → get_or ids k 0 ≡ id → get_or known k false ≡ true → IsToldDurably log number now channel id
@@ -184,6 +187,7 @@ module _ (x y : DeskState) (confirming : ℕ) (log : List Record) (rules : IsDes
       let kept = keeps_some now (calls_of log) one.calls
       (λ s k. (kept_parts s one.calls behind (kept_parts s first (one.calls ++ behind) (subst (AllKept s) own (own_kept s number log k))).1).0) keeps in
       record {
+        served = served;
         acked = λ numbers says. acked_durably by.proto (tokens_of by) one.conn one.left one.bytes one.calls one.text one.talk now numbers served kept says;
         answers = λ carried. answers number first behind by.proto (tokens_of by) one.conn one.left one.bytes one.calls one.text one.talk carried own kept;
       }
@@ -194,7 +198,7 @@ module _ (x y : DeskState) (confirming : ℕ) (log : List Record) (rules : IsDes
       All-cons (IsLinkDurable log number now by) one links (link_durable number before (calls_in links) by one served.1 own)
       (links_durable number (before ++ one.calls) by (conn + 1) links served.2 (own ∙ sym (append_assoc before one.calls (calls_in links))))
 
--- ---- what a door tells
+-- ---- what a door reports
 
 tells_durable : (log : List Record) (number : ℕ) (now : Moment) (rules : Rules) (links : List Served) (told : List Talked) → AllZip (Tells rules) links told → All (IsLinkDurable log number now rules) links → All (IsTalkDurable log number now rules) told
 tells_durable log number now rules [] [] zip all = All-nil (IsTalkDurable log number now rules)
@@ -206,7 +210,7 @@ tells_durable log number now rules (one ∷ links) (talk ∷ told) zip all =
     (tells_durable log number now rules links told zip.1 (All-tail P one links all))
 tells_durable log number now rules links told zip all = absurd zip
 
--- Where a door tells its connections, those that it tells more are durable.
+-- Where a door reports its connections, those that it reports more are durable.
 pub talks_durable : (log : List Record) (number : ℕ) (now : Moment) (rules : Rules) (finished : List Served) (old new : Option (List Talked)) (before : List Talked) → TellsMore rules finished old new → old ≡ Some before
     → All (IsLinkDurable log number now rules) finished → (more : List Talked) × (new ≡ Some (before ++ more)) × All (IsTalkDurable log number now rules) more
 talks_durable log number now rules finished old new before tells is all =

@@ -11,3 +11,4 @@ pub mod Meeting
 pub mod Whole
 pub mod Taken
 pub mod Runs
+pub mod Last

@@ -58,10 +58,10 @@ number_kept start (Some destination) workers pass pass' net net' last (outcome, 
     (look_is_ran start destination.outward destination.place f.look f.met pass' f.net_beside net' f.looked_last).number ∙ f.has_met.number
     ∙ (looks_are_ran start destination.outward destination.place f.looks pass f.beside net f.net_beside f.looked).number
 
-module _ (start : DeskState → Type 0) (x y : DeskState) (log : List Record) (s : start x) (rules : IsDesk x) (goes : Goes x log y) (workers' : List Known) (forwarder forwarder' : Known) (net net' : NetState)
+module _ (start : DeskState → Type 0) (log : List Record) (workers' : List Known) (forwarder forwarder' : Known) (net net' : NetState)
     (run : HaveRun start 0 workers') (new : forwarder.own ≡ []) (stand : All (Stands log) workers') (stands : Stands log forwarder') (each : All (λ (one : Record). HasNumber (workers' ++ forwarder' ∷ []) one.by) log) where
-  -- all records behind what the forwarder had seen when it had met the workers are its own
-  behind_met : (destination : Destination) (outcome : Outcome) (f : HasForwarded start destination workers' forwarder forwarder' net net' outcome) (rest : List Record) → f.met.seen ++ rest ≡ log → All (λ (one : Record). one.by ≡ f.met.number) rest
+  -- all records after what the forwarder had seen when it had met the workers are its own
+  pub behind_met : (destination : Destination) (outcome : Outcome) (f : HasForwarded start destination workers' forwarder forwarder' net net' outcome) (rest : List Record) → f.met.seen ++ rest ≡ log → All (λ (one : Record). one.by ≡ f.met.number) rest
   behind_met destination outcome f rest parts =
       let H : Record → Type 0 = λ one. HasNumber (workers' ++ forwarder' ∷ []) one.by in
       let more = look_is_ran start destination.outward destination.place f.look f.met forwarder' f.net_beside net' f.looked_last in
@@ -69,7 +69,7 @@ module _ (start : DeskState → Type 0) (x y : DeskState) (log : List Record) (s
       (only_last workers' forwarder' rest (all_right H f.met.seen rest (subst (All H) (sym parts) each)) (workers_silent start log f.met.seen rest 0 workers' run stand f.has_met.each parts))
 
   -- and the journal ends with the last that it has seen
-  sees_all : (destination : Destination) (outcome : Outcome) (f : HasForwarded start destination workers' forwarder forwarder' net net' outcome) → forwarder'.seen ≡ log
+  pub sees_all : (destination : Destination) (outcome : Outcome) (f : HasForwarded start destination workers' forwarder forwarder' net net' outcome) → forwarder'.seen ≡ log
   sees_all destination outcome f =
       let more = look_is_ran start destination.outward destination.place f.look f.met forwarder' f.net_beside net' f.looked_last in
       let first = looks_are_ran start destination.outward destination.place f.looks forwarder f.beside net f.net_beside f.looked in
@@ -81,8 +81,8 @@ module _ (start : DeskState → Type 0) (x y : DeskState) (log : List Record) (s
       let gone : rest ≡ [] = no_calls rest (all_own f.met.number rest mine ∙ ap (λ (n : ℕ). own_of n rest) (sym more.number) ∙ none) in
       sym (append-nil forwarder'.seen) ∙ ap (λ (l : List Record). forwarder'.seen ++ l) (sym gone) ∙ parts
 
-  pub forwarded_leaves : (destination : Option Destination) (last : Option Outcome) → Forwarded start destination workers' forwarder forwarder' net net' last → IsDone last → HasNoneLeft y
-  forwarded_leaves None last f done = absurd (subst IsDone f.3 done)
-  forwarded_leaves (Some destination) last (outcome, is, f) done =
+  pub forwarded_leaves : (x y : DeskState) → start x → IsDesk x → Goes x log y → (destination : Option Destination) (last : Option Outcome) → Forwarded start destination workers' forwarder forwarder' net net' last → IsDone last → HasNoneLeft y
+  forwarded_leaves x y s rules goes None last f done = absurd (subst IsDone f.3 done)
+  forwarded_leaves x y s rules goes (Some destination) last (outcome, is, f) done =
       last_look_leaves start destination.outward destination.place x y log f.look f.met forwarder' f.net_beside net' s rules goes (sees_all destination outcome f) (behind_met destination outcome f) f.looked_last
       (subst IsDone (is ∙ ap (λ (o : Outcome). Some o) f.last_is) done)

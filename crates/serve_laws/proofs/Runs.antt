@@ -82,33 +82,33 @@ module _ (tells : Type 0) (start : DeskState → Type 0) (run seats : ℕ) (bega
     long : AsLong (length r.rules) r.doors r.served.workers r.doors' r.served.workers' r.reports
     long = record { doors_are = r.doors_are; passes_are = r.served.count.0; doors'_are = r.doors'_are; passes'_are = r.served.count.1; reports_are = r.reports_are }
 
-    workers_stand : All (Stands r.served.log) r.served.workers'
+    pub workers_stand : All (Stands r.served.log) r.served.workers'
     workers_stand = all_left (Stands r.served.log) r.served.workers' (r.served.forwarder' ∷ []) r.served.closes.pass
 
-    forwarder_stands : Stands r.served.log r.served.forwarder'
+    pub forwarder_stands : Stands r.served.log r.served.forwarder'
     forwarder_stands = All-head (Stands r.served.log) r.served.forwarder' [] (all_right (Stands r.served.log) r.served.workers' (r.served.forwarder' ∷ []) r.served.closes.pass)
 
     -- its passes came from new ones
-    passes_ran : HaveRun start 0 r.served.workers'
+    pub passes_ran : HaveRun start 0 r.served.workers'
     passes_ran = have_run start run r.talks 0 r.rules r.doors r.served.workers r.doors' r.served.workers' (r.served.forwarder ∷ []) r.reports long r.served.fresh r.served.worked
 
-    forwarder_new : r.served.forwarder.own ≡ []
+    pub forwarder_new : r.served.forwarder.own ≡ []
     forwarder_new = (last_new 0 r.served.workers r.served.forwarder r.served.fresh).1
 
-    last_number : r.served.forwarder'.number ≡ length r.served.workers'
+    pub last_number : r.served.forwarder'.number ≡ length r.served.workers'
     last_number =
         let kept = number_kept start r.destination r.served.workers' r.served.forwarder r.served.forwarder' r.net r.net' r.last r.served.forwarded in
         omega (arith, kept, (last_new 0 r.served.workers r.served.forwarder r.served.fresh).0, r.served.count.0, r.served.count.1)
 
     -- and each record is of one of them
-    by_passes : All (λ (one : Record). HasNumber (r.served.workers' ++ r.served.forwarder' ∷ []) one.by) r.served.log
+    pub by_passes : All (λ (one : Record). HasNumber (r.served.workers' ++ r.served.forwarder' ∷ []) one.by) r.served.log
     by_passes =
         r.served.closes.by_passes (λ n less. all_numbers start 0 r.served.workers' r.served.forwarder' passes_ran (omega (arith, last_number)) n (omega arith) (omega (arith, less, r.seats_are, r.served.count.1)))
 
     none_left : IsDone r.last → LeavesNone start r.served.log
     none_left done x y s goes =
-        forwarded_leaves start x y r.served.log s (r.served.closes.replays.begins x s).rules goes r.served.workers' r.served.forwarder r.served.forwarder' r.net r.net' passes_ran forwarder_new
-        workers_stand forwarder_stands by_passes r.destination r.last r.served.forwarded done
+        forwarded_leaves start r.served.log r.served.workers' r.served.forwarder r.served.forwarder' r.net r.net' passes_ran forwarder_new workers_stand forwarder_stands by_passes
+        x y s (r.served.closes.replays.begins x s).rules goes r.destination r.last r.served.forwarded done
 
   pub workers_have_parts : WorkersHaveParts tells start run seats began new
   workers_have_parts r =

@@ -72,7 +72,7 @@ taken_from-all many (one ∷ log) all =
     let P : Record → Type 0 = λ r. r.by < many in
     taken_from-one many 0 one log (omega arith) (omega (arith, All-head P one log all)) ∙ ap (λ (n : ℕ). length (taken_by one.call) + n) (taken_from-all many log (All-tail P one log all)) ∙ sym (count_cons one.call (calls_of log))
 
--- ---- of the parts, and of the forwarder behind them
+-- ---- of the parts, and of the forwarder after them
 
 parts_taken : (run talks : ℕ) (log : List Record) (number : ℕ) (rules : List Rules) (doors doors' : List DoorState) (reports : List WorkerReport) (parts : List Part) → AreParts run talks log number rules doors doors' reports parts
     → taken_from (suc (length parts)) number log ≡ taken_over parts + count (own_of (number + length parts) log)
@@ -121,7 +121,7 @@ added_count (call ∷ calls) more (here, rest, added, others, is) =
           (omega (arith, all, none, behind.0, count_cons call calls), λ quiet. absurd (omega (arith, failed, quiet)))
     ]
 
-first_one : (s : SpoolState) (doubt : List SpoolState) → IsOneOf s doubt s
+pub first_one : (s : SpoolState) (doubt : List SpoolState) → IsOneOf s doubt s
 first_one s [] = refl
 first_one s (stage ∷ stages) = inl refl
 

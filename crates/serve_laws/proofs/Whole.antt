@@ -23,7 +23,7 @@ use Rattle.serve_workers.specs.declared.worker.WorkerReport.{WorkerReport}
 use Rattle.serve_workers.specs.Served.{Served, AreServed, calls_in}
 use Rattle.serve_forwarder.specs.declared.destination.Destination.{Destination}
 use Rattle.serve_forwarder.specs.declared.looking.Outcome.{Outcome}
-use Rattle.serve_forwarder.specs.Looks.{Idle, Unread, Undialed, Held, Found, Look, calls_at, calls_in as calls_found, calls_of as calls_of_looks, IsFound, IsLook, AreLooks}
+use Rattle.serve_forwarder.specs.Looks.{Idle, Unread, Undialed, Held, Found, Look, calls_at, calls_found, calls_of as calls_of_looks, IsFound, IsLook, AreLooks}
 use Rattle.serve_forwarder.proofs.Chain.{look_is_ran, looks_are_ran}
 use Rattle.serve_run.specs.Running.{Forwarded}
 use Rattle.serve_laws.specs.Parts.{Part, links_of, AreParts}
@@ -76,7 +76,7 @@ parts_written run talks log number rules doors doors' reports parts are n least 
 -- ---- a forwarder writes nothing
 
 module _ (P : Entry → Type 0) where
-  session_written : (end next : ℕ) (calls : List Call) → AreOfSession end next calls → AllWritten P calls
+  pub session_written : (end next : ℕ) (calls : List Call) → AreOfSession end next calls → AllWritten P calls
   session_written end next [] of = tt
   session_written end next (pends from most (Ok given) ∷ calls) of = (All-nil P, session_written end (next_after end next given) calls of.3)
   session_written end next (pends from most (Err fault) ∷ calls) of = (All-nil P, subst (AllWritten P) (sym of.3) tt)

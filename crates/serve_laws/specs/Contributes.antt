@@ -15,9 +15,9 @@ use Rattle.spool_turns.specs.Whole.{AreLegal, AreEarlier}
 use Rattle.serve_workers.specs.Served.{Served, calls_in}
 use Rattle.serve_laws.specs.Parts.{Part, links_of}
 
--- These entries, all that were added of the link's connection, are those that its calls took, in order; and behind them
--- perhaps one group more, whole, of a take that was answered that the disk failed. Their indexes are 0, 1, 2 and so on. There
--- is no such group where the link ended otherwise than since the disk failed, or since a reply that was to say so was cut short.
+-- These entries, all that were added of the link's connection, are those that its calls took, in order, and after them perhaps one
+-- group more, whole, of a take that was answered that the disk failed. Their indexes are 0, 1, 2 and so on. There is no such group
+-- where the link ended otherwise than because the disk failed, or because the reply that was to say so was cut short.
 pub record Contributes (one : Served) (entries : List Entry) : Type 0 where
   pub last : List Entry
   pub are : entries ≡ taken_of one.calls ++ last
@@ -25,14 +25,14 @@ pub record Contributes (one : Served) (entries : List Entry) : Type 0 where
   pub indexes : AreNext one.conn 0 entries
   pub quiet : (one.talk ≡ Ending.DiskFault → ⊥) → (one.talk ≡ Ending.WriteFault → ⊥) → last ≡ []
 
--- In this list the entries of the link's connection are what it contributed, in order, but for first ones that are gone.
+-- The entries of the link's connection in this list are those that it contributed, in order, but for first ones that are gone.
 pub record StandsInOrder (one : Served) (entries : List Entry) : Type 0 where
   pub contributed : List Entry
   pub contributes : Contributes one contributed
   pub gone : ℕ
   pub are : of_conn one.conn entries ≡ drop gone contributed
 
--- The same of a beginning of what it contributed: the rest isn't there yet.
+-- They are a beginning of those that it contributed, in order, but for first ones that are gone: the rest isn't there yet.
 pub record BeginsInOrder (one : Served) (entries : List Entry) : Type 0 where
   pub contributed : List Entry
   pub contributes : Contributes one contributed
@@ -54,7 +54,7 @@ pub record KeepsOrder (run : ℕ) (log : List Record) (links : List Served) (s :
 abbrev pub IsOfLink : List Served → Entry → Type 0
 IsOfLink links entry = (one : Served) × Contains links one × (one.conn ≡ entry.conn)
 
--- of one of these parts
+-- the entry is of the connection of a link of one of these parts
 abbrev pub IsOfParts : List Part → Entry → Type 0
 IsOfParts [] entry = ⊥
 IsOfParts (part ∷ parts) entry = IsOfLink (links_of part) entry ⊎ IsOfParts parts entry

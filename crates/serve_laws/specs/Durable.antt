@@ -32,8 +32,8 @@ IsGroupKept s group = AreKept s group.first group.entries
 abbrev pub AreDurable : Moment → List Group → Type 0
 AreDurable m groups = (c : List ℕ) → m.image c → (s : SpoolState) × StandsFor s c × All (IsGroupKept s) groups
 
--- The numbers that were acknowledged are those of the first groups that the calls took, one each, in order; and these
--- groups are durable.
+-- The numbers that were acknowledged are those of the first groups that the calls took, one for each, in order; and these groups are
+-- durable.
 pub record AckedIsDurable (calls : List Call) (now : Moment) (numbers : List ℕ) : Type 0 where
   pub taken : AreOfFirst calls numbers
   pub durable : AreDurable now taken.groups
@@ -43,13 +43,13 @@ pub record IsTakenDurably (calls : List Call) (now : Moment) (group : Group) : T
   pub taken : Contains (groups_of calls) group
   pub durable : AreDurable now (group ∷ [])
 
--- the call is a question of the channel that was answered true for the id
+-- the call asks about ids of the channel, and was answered true for this one
 abbrev pub IsToldTrue : ℕ → ℕ → Call → Type 0
 IsToldTrue channel id (asks asking ids known) = (asking ≡ channel) × ((k : ℕ) × (k < length ids) × (get_or ids k 0 ≡ id) × (get_or known k false ≡ true))
 IsToldTrue channel id call = ⊥
 
--- The caller of that number was told the id true. Before that question some caller, itself or another, had taken the
--- id's group, and it is durable. It is all that the journal added of the id, where ids are numbers from 2^32 on.
+-- The caller of that number asked about the id and was answered true. Before that question some caller, itself or another, had taken
+-- the id's group, and it is durable. Where the id is a number from 2^32 on, that group is all that the journal added with the id.
 pub record IsToldDurably (log : List Record) (number : ℕ) (now : Moment) (channel id : ℕ) : Type 0 where
   pub before : List Record
   pub question : Record
@@ -64,24 +64,29 @@ pub record IsToldDurably (log : List Record) (number : ℕ) (now : Moment) (chan
   pub durable : AreDurable now (group ∷ [])
   pub whole : 2 ^ 32 ≤ id → (added : List Entry) → AddsAll (calls_of log) added → of_unit id added ≡ group.entries
 
--- What a collector's replies acknowledged: the group of a Success without an id was taken by the connection and is durable; and
--- so is, for each id that an answer told true, the id's group, which some caller took.
-pub record RepliesAreDurable {p : Protocol HttpItem} {left : Option (List ℕ)} {b : List ℕ} {calls : List Call} {text : List ℕ} {talk : Talk} (carried : Carried p left b calls text talk) (log : List Record) (number : ℕ) (now : Moment) : Type 0 where
+-- What a collector's replies acknowledged is durable: the group of a Success without an id, which the connection's calls took, and the
+-- group of each id for which an answer said true, which some caller took.
+pub record RepliesAreDurable {p : Protocol HttpItem} {left : Option (List ℕ)} {b : List ℕ} {calls : List Call} {text : List ℕ} {talk : Talk}
+    (carried : Carried p left b calls text talk) (log : List Record) (number : ℕ) (now : Moment) : Type 0 where
   pub stored : (group : Group) → AcknowledgesGroup carried group → IsTakenDurably calls now group
   pub told : (channel id : ℕ) → TellsTrue carried channel id → IsToldDurably log number now channel id
 
--- the same by the protocol; the others acknowledge by numbers
-abbrev pub AnswersAreDurable : (proto : Proto) (tokens : Tokens) (conn : ℕ) (left : Option (List ℕ)) (b : List ℕ) (calls : List Call) (text : List ℕ) (talk : Talk) → CarriedAs proto tokens conn left b calls text talk → List Record → ℕ → Moment → Type 0
+-- so it is by the collector's protocol; the others acknowledge by numbers alone
+abbrev pub AnswersAreDurable : (proto : Proto) (tokens : Tokens) (conn : ℕ) (left : Option (List ℕ)) (b : List ℕ) (calls : List Call)
+    (text : List ℕ) (talk : Talk) → CarriedAs proto tokens conn left b calls text talk → List Record → ℕ → Moment → Type 0
 AnswersAreDurable Relp tokens conn left b calls text talk carried log number now = Unit {0}
 AnswersAreDurable Lumberjack tokens conn left b calls text talk carried log number now = Unit {0}
 AnswersAreDurable Hec tokens conn left b calls text talk carried log number now = RepliesAreDurable carried log number now
 
--- Of a link that the caller of that number served: whatever its text acknowledges, by whole frames or by replies, is durable.
+-- The caller of that number served the link by the rules, and whatever the link's text acknowledges is durable: by numbers in whole
+-- frames, or by replies.
 pub record IsLinkDurable (log : List Record) (number : ℕ) (now : Moment) (rules : Rules) (one : Served) : Type 0 where
+  pub served : IsServed rules one
   pub acked : (numbers : List ℕ) → Acknowledges rules.proto one.text numbers → AckedIsDurable one.calls now numbers
-  pub answers : (served : IsServed rules one) → AnswersAreDurable rules.proto (tokens_of rules) one.conn one.left one.bytes one.calls one.text one.talk served log number now
+  pub answers : (served : IsServed rules one)
+      → AnswersAreDurable rules.proto (tokens_of rules) one.conn one.left one.bytes one.calls one.text one.talk served log number now
 
--- The same of a connection that a door tells, by what was written to it.
+-- So it is of a connection that a door reports, by what was written to it.
 pub record IsTalkDurable (log : List Record) (number : ℕ) (now : Moment) (rules : Rules) (told : Talked) : Type 0 where
   pub one : Served
   pub tells : Tells rules one told

@@ -26,7 +26,7 @@ use Rattle.serve_laws.specs.Leaves.{IsDone, LeavesNone, NoneIsLeftOn}
 
 -- ---- of a run
 
--- It has a part for each worker.
+-- A run has a part for each worker.
 abbrev pub WorkersHaveParts : Type 0 → (DeskState → Type 0) → ℕ → ℕ → Moment → AloneView → Type 0
 WorkersHaveParts tells start run seats began new =
     (r : ServerRun tells start run seats began new) → (parts : List Part) × AreParts run r.talks r.served.log 0 r.rules r.doors r.doors' r.reports parts
@@ -37,16 +37,18 @@ NothingElseIsAdded tells start run seats began new =
     (r : ServerRun tells start run seats began new) (parts : List Part) → AreParts run r.talks r.served.log 0 r.rules r.doors r.doors' r.reports parts
     → (added : List Entry) → AddsAll (calls_of r.served.log) added → All (IsOfParts parts) added
 
--- The end of the spool rises by as many entries as its links took.
+-- The end of the spool rises by as many as entries were taken from its links, where no call was answered that the disk failed, and
+-- else by no fewer.
 abbrev pub EndCountsEntries : Type 0 → (DeskState → Type 0) → ℕ → ℕ → Moment → AloneView → Type 0
 EndCountsEntries tells start run seats began new =
     (r : ServerRun tells start run seats began new) (parts : List Part) → AreParts run r.talks r.served.log 0 r.rules r.doors r.doors' r.reports parts
     → (x y : DeskState) → start x → x.doubt ≡ [] → Goes x r.served.log y → EndRises x y (failures_of (calls_of r.served.log)) (taken_over parts)
 
--- Where its last look found nothing, or held a session that drained, nothing is left.
+-- Where its last look found nothing pending, or held a session that ended as `Drained`, nothing is left.
 abbrev pub NothingIsLeft : Type 0 → (DeskState → Type 0) → ℕ → ℕ → Moment → AloneView → Type 0
 NothingIsLeft tells start run seats began new =
-    (r : ServerRun tells start run seats began new) → IsDone r.last → LeavesNone start r.served.log × ((x : DeskState) → start x → NoneIsLeftOn new.spool.moment)
+    (r : ServerRun tells start run seats began new) → IsDone r.last
+    → LeavesNone start r.served.log × ((x : DeskState) → start x → NoneIsLeftOn new.spool.moment)
 
 -- ---- of a part of a closed journal
 
@@ -57,7 +59,7 @@ AcknowledgedIsDurable tells start run seats began new =
     → (talks number : ℕ) (rules : Rules) (old new' : DoorState) (report : WorkerReport) (part : Part) → IsPart run talks log number rules old new' report part
     → (x : DeskState) → start x → All (IsLinkDurable log number new.spool.moment rules) (links_of part)
 
--- So it is over each connection that its door tells, by what was written to it.
+-- So it is of each connection that its door reports, by what was written to it.
 abbrev pub DoorsTellDurable : Type 0 → (DeskState → Type 0) → ℕ → ℕ → Moment → AloneView → Type 0
 DoorsTellDurable tells start run seats began new =
     (log : List Record) (passes : List Known) → Closes tells start run seats began log passes new
@@ -95,14 +97,15 @@ OrderWasKept tells start run seats began new =
 
 -- ---- of all parts
 
--- At most as many links ended since the disk failed as the count of the disk's faults rose.
+-- The count of the disk's faults rose by at least as many as links ended because the disk failed.
 abbrev pub DiskFaultsAreCounted : Type 0 → (DeskState → Type 0) → ℕ → ℕ → Moment → AloneView → Type 0
 DiskFaultsAreCounted tells start run seats began new =
     (log : List Record) (passes : List Known) → Closes tells start run seats began log passes new
-    → (talks : ℕ) (rules : List Rules) (doors doors' : List DoorState) (reports : List WorkerReport) (parts : List Part) → AreParts run talks log 0 rules doors doors' reports parts
+    → (talks : ℕ) (rules : List Rules) (doors doors' : List DoorState) (reports : List WorkerReport) (parts : List Part)
+    → AreParts run talks log 0 rules doors doors' reports parts
     → Rose (sum_by (λ part. how_many by_disk (links_of part)) parts) began.faults new.spool.moment.faults
 
--- As many links are finished as the workers report.
+-- As many links were given back as the workers report in all.
 abbrev pub ReportsCountLinks : Type 0
 ReportsCountLinks =
     (run talks number : ℕ) (log : List Record) (rules : List Rules) (doors doors' : List DoorState) (reports : List WorkerReport) (parts : List Part)

@@ -4,3 +4,4 @@ pub mod Contributes
 pub mod Leaves
 pub mod Runs
 pub mod Laws
+pub mod Last

@@ -1,4 +1,4 @@
--- A run of the server, as it is told.
+-- A run of the server, as its contract describes it.
 use Rattle.std.specs.Prelude.{◌≡◌, ℕ, ◌+◌, List, length, Option}
 use Rattle.edge_disk.specs.Disk.{Moment}
 use Rattle.edge_io.specs.Door.{DoorState}
@@ -11,7 +11,8 @@ use Rattle.serve_forwarder.specs.declared.destination.Destination.{Destination}
 use Rattle.serve_forwarder.specs.declared.looking.Outcome.{Outcome}
 use Rattle.serve_run.specs.Running.{HasServed}
 
--- What `serve` says of a run over a desk that is then so: there are as many doors and reports as workers, and one pass more.
+-- What `serve` says of a run that left the desk so. There is one door and one report for each worker, in the order of the rules, and
+-- one pass more than that, the forwarder's.
 pub record ServerRun (tells : Type 0) (start : DeskState → Type 0) (run seats : ℕ) (began : Moment) (new : AloneView) : Type 0 where
   pub talks : ℕ
   pub rules : List Rules

@@ -1,4 +1,4 @@
--- What is known after sessions was told to one of them as acknowledged.
+-- What is known after sessions was reported as acknowledged in one of them.
 use Rattle.std.proofs.Common.{◌≡◌, ◌⊎◌, inl, inr, ℕ, zero, suc, ◌<◌, ◌≤◌, Bool, true, List, [], ◌∷◌, length, take, get_or, refl, sym, ◌∙◌, ap, subst, arith}
 use Rattle.std.specs.Prelude.{◌&&◌, All, filter, nat_le, nat_lt, not}
 use Rattle.std.proofs.lemmas.Bool.{and_from, cases_Bool, cases_lt, cond-false, cond-true, le-leb, lt-ltb}

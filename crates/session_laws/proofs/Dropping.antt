@@ -1,4 +1,4 @@
--- What a session that was not halted told as acknowledged is known after it.
+-- What was reported as acknowledged in a session that was not halted is known after it.
 use Rattle.std.proofs.Common.{◌≡◌, inl, inr, ℕ, ◌+◌, ◌<◌, ◌≤◌, Bool, true, false, List, [], ◌∷◌, ◌++◌, length, take, drop, get_or, refl, sym, ◌∙◌, ap, subst, arith, take-append-drop}
 use Rattle.std.specs.Prelude.{◌&&◌, All, filter, nat_le, nat_lt, not}
 use Rattle.std.proofs.lemmas.Bool.{and_from, both_ways, cases_Bool, cases_lt, cond-false, cond-true, le-leb, lt-ltb}
@@ -81,7 +81,7 @@ module _ (known after : Numbers) (whole : List NumberedEntry) (start until : ℕ
   unknown_all = subst (All (λ (e : NumberedEntry). IsKnown known e.number → ⊥)) (sym listed)
       (All-filter (λ e. is_within start until e.number) (λ (e : NumberedEntry). IsKnown known e.number → ⊥) (unknown known whole) (unknown_numbers known whole))
 
-  -- of the others none is known that was not told
+  -- of the others none is known that was not reported
   others_unknown : (k : ℕ) (d : NumberedEntry) → k < length (given_entries (drop told all)) → ((place : ℕ) → IsTold told also place → place < told) → IsKnown after (get_or (given_entries (drop told all)) k d).number → ⊥
   others_unknown k d lt only is =
       let place : ℕ = told + k in
@@ -100,7 +100,7 @@ module _ (known after : Numbers) (whole : List NumberedEntry) (start until : ℕ
   others_left : ((place : ℕ) → IsTold told also place → place < told) → unknown after (unsent known whole start until) ≡ given_entries (drop told all)
   others_left only = split ∙ filter_all (λ e. not (is_known after e.number)) (given_entries (drop told all)) (λ k d lt. ap not (unknown_from after _ (others_unknown k d lt only)))
 
-  -- where all are told none is left
+  -- where all are reported none is left
   none_left : told ≡ length (entries_of all) → unknown after (unsent known whole start until) ≡ []
   none_left is = split ∙ ap (λ (l : List Numbered). unknown after (given_entries l)) (drop_all told all (omega (arith, is, length-map all (λ (one : Numbered). one.entry))))
 

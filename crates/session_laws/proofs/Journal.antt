@@ -23,7 +23,7 @@ use Rattle.forward_core.specs.Settings.{Settings}
 use Rattle.forward_core.specs.declared.outward.Outward.{Outward}
 use Rattle.spool_turns.specs.Passes.{Known, known}
 use Rattle.spool_turns.specs.Ran.{Ran}
-use Rattle.serve_forwarder.specs.Looks.{AreLooks, Found, Held, Idle, Undialed, Unread, IsFound, IsLook, IsPending, Look, calls_at, calls_in, calls_of, held_in, sessions_of}
+use Rattle.serve_forwarder.specs.Looks.{AreLooks, Found, Held, Idle, Undialed, Unread, IsFound, IsLook, IsPending, Look, calls_at, calls_found, calls_of, held_in, sessions_of}
 use Rattle.serve_forwarder.specs.Sessions.{IsHeld, Session}
 use Rattle.session_laws.specs.Beside.{MarksAlone, history}
 use Rattle.session_laws.specs.Led.{Led}
@@ -116,7 +116,7 @@ steps_asked settings proto start given pass asked pass' asks same =
     subst (λ (k : Known). Steps settings proto start pass k [] (pends 0 1 given ∷ [])) (sym same) (steps_ran settings proto start pass asked (pends 0 1 given ∷ []) asks ((λ marking. marking), tt))
 
 steps_found : (start : DeskState → Type 0) (outward : Outward) (given : Result (List Numbered) PendFault) (found : Found) (pass asked pass' : Known) → Ran start pass (pends 0 1 given ∷ []) asked → IsFound start outward given found asked pass'
-    → Steps (settings_as outward) outward.proto start pass pass' (held_in found) (pends 0 1 given ∷ calls_in found)
+    → Steps (settings_as outward) outward.proto start pass pass' (held_in found) (pends 0 1 given ∷ calls_found found)
 steps_found start outward given Idle pass asked pass' asks f = steps_asked (settings_as outward) outward.proto start given pass asked pass' asks f.1
 steps_found start outward given (Unread why) pass asked pass' asks f = steps_asked (settings_as outward) outward.proto start given pass asked pass' asks f.1
 steps_found start outward given (Undialed why) pass asked pass' asks f = steps_asked (settings_as outward) outward.proto start given pass asked pass' asks f.1
@@ -156,8 +156,13 @@ none_beside n o a b c d xs ys is first last =
     let four = ap len (own_then n ((o ++ a) ++ b) c) in
     let three = ap len (own_then n (o ++ a) b) in
     let two = ap len (own_then n o a) in
+    let of_whole = length-append (own_of n (((o ++ a) ++ b) ++ c)) (own_of n d) in
+    let of_four = length-append (own_of n ((o ++ a) ++ b)) (own_of n c) in
+    let of_three = length-append (own_of n (o ++ a)) (own_of n b) in
+    let of_two = length-append (own_of n o) (own_of n a) in
+    let of_calls = length-append xs ys in
     let sum : length (own_of n o) + length (own_of n b) + length (own_of n d) ≡ 0 =
-    omega (arith, whole, four, three, two, length-append (own_of n (((o ++ a) ++ b) ++ c)) (own_of n d), length-append (own_of n ((o ++ a) ++ b)) (own_of n c), length-append (own_of n (o ++ a)) (own_of n b), length-append (own_of n o) (own_of n a), length-append xs ys, ap len is, ap len first, ap len last) in
+    omega (arith, whole, four, three, two, of_whole, of_four, of_three, of_two, of_calls, ap len is, ap len first, ap len last) in
     (no_calls (own_of n o) (omega (arith, sum)), no_calls (own_of n b) (omega (arith, sum)), no_calls (own_of n d) (omega (arith, sum)))
 
 pub sessions_follow : (start : DeskState → Type 0) (outward : Outward) (place : List ℕ) (looks : List Look) (last : Look) (x y : DeskState) (log : List Record) (t : SpoolState)

@@ -16,9 +16,9 @@ use Rattle.forward_core.specs.declared.sent.Sent.{Sent}
 use Rattle.session_laws.specs.Beside.{DropsAmong, EndsAmong, IsAmong, KnowsMarked, history}
 use Rattle.session_laws.specs.Led.{Led}
 
--- Of a state that may stand after the records: they led the spool to it, each with the group that it added; of the whole list that
--- this makes the session sent what wasn't known at its start; and just what it marked is known besides. What isn't known of the whole
--- list is left.
+-- This is said of a state t in which the spool may be after the records. They led it there, each with the group that it added. Of the
+-- whole list that this makes the session sent what wasn't known at its start, and beside that just what it marked is known. What isn't
+-- known of the whole list is left.
 pub record SentAmong (settings : Settings) (proto : Proto) (s : SpoolState) (start until : ℕ) (sent : Sent) (bytes : List ℕ) (calls : List Call) (text : List ℕ)
     (told : ℕ) (also : List ℕ) (records : List Record) (t : SpoolState) : Type 0 where
   pub groups : List (List Entry)
@@ -35,8 +35,9 @@ SendsAmongOthers = (settings : Settings) (proto : Proto) (bytes_left : Option (L
     → (ended : Ended (EndsAs settings proto) (HintsAs proto) bytes_left until sent start bytes calls text)
     → SentAmong settings proto x.spool start until sent bytes calls text ended.told ended.also records t
 
--- What a session that was not halted told as acknowledged is known after it.
+-- What was reported as acknowledged in a session that was not halted is known after it.
 abbrev pub ToldIsKnown : Type 0
-ToldIsKnown = (settings : Settings) (proto : Proto) (known after : Numbers) (whole : List NumberedEntry) (start until : ℕ) (sent : Sent) (bytes : List ℕ) (calls : List Call) (text : List ℕ) (told : ℕ) (also : List ℕ)
+ToldIsKnown = (settings : Settings) (proto : Proto) (known after : Numbers) (whole : List NumberedEntry) (start until : ℕ) (sent : Sent)
+    (bytes : List ℕ) (calls : List Call) (text : List ℕ) (told : ℕ) (also : List ℕ)
     → (ends : EndsAmong settings proto known whole start until sent bytes calls text told also) → KnowsMarked known calls after → (IsHalt sent → ⊥)
     → DropsAmong known after whole start until ends.all told also sent

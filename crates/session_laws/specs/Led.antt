@@ -12,23 +12,23 @@ use Rattle.spool_log.specs.Outcome.{given_entries}
 use Rattle.desk_access.specs.Call.{Call, Record, confirms, marks, pends}
 use Rattle.desk_access.specs.History.{Adds, Grown}
 
--- the stretches became known in the state; those of a mark that was refused became known, or none did
+-- The numbers of these stretches became known. Where the mark was refused, all of them became known, or none did.
 abbrev pub MarksIn : SpoolState → List Stretch → Result Unit ConfirmFault → SpoolState → Type 0
 MarksIn s stretches (Ok done) t = numbers_of t ≡ marked (numbers_of s) stretches
 MarksIn s stretches (Err fault) t = (numbers_of t ≡ numbers_of s) ⊎ (numbers_of t ≡ marked (numbers_of s) stretches)
 
--- a mark or a confirm made numbers known, and all other calls none
+-- a mark or a confirm made its numbers known, and each other call none
 abbrev pub KnowsBy : SpoolState → Call → SpoolState → Type 0
 KnowsBy s (marks stretches result) t = MarksIn s stretches result t
 KnowsBy s (confirms upto result) t = MarksIn s (all_below upto) result t
 KnowsBy s call t = numbers_of t ≡ numbers_of s
 
--- a reading gave the first entries from its number on that weren't known in the state
+-- a reading gave the first entries, from its number on, that weren't known in the state, as many as it asked for at most
 abbrev pub ReadsIn : SpoolState → Call → Type 0
 ReadsIn s (pends from most (Ok given)) = given_entries given ≡ take most (left_from s from)
 ReadsIn s call = Unit {0}
 
--- The call led the spool from the one state to the other, and these entries came to its list.
+-- The call led the spool from the one state to the other, and added this group to its list, which is empty where it added none.
 pub record Did (s : SpoolState) (call : Call) (group : List Entry) (t : SpoolState) : Type 0 where
   pub sound : IsSound t
   pub entries : All IsEntry group
@@ -37,7 +37,7 @@ pub record Did (s : SpoolState) (call : Call) (group : List Entry) (t : SpoolSta
   pub knows : KnowsBy s call t
   pub read : ReadsIn s call
 
--- The records led it there, one after another, and each added its group, of which some are empty.
+-- The records led it there, one after another, and each added its group of these.
 abbrev pub Led : SpoolState → List Record → List (List Entry) → SpoolState → Type 0
 Led s [] [] t = t ≡ s
 Led s [] (group ∷ groups) t = ⊥

@@ -17,11 +17,12 @@ use Rattle.serve_run.specs.Running.{HasServed}
 use Rattle.session_laws.specs.Beside.{MarksAlone}
 use Rattle.session_laws.specs.Sessions.{SentBeside}
 
--- In a run of the server that forwards, the sessions of all looks were held one after another over the one whole list. The forwarder's calls
--- are those of its looks, and nobody else marked or confirmed: the marks of the journal are those of its sessions.
+-- In a run of the server that forwards, the sessions of all looks were held one after another over the one whole list. The forwarder's
+-- calls are those of its looks, and nobody else marked or confirmed: the marks of the journal are those of its sessions.
 abbrev pub SessionsOfRun : Type 0 → (DeskState → Type 0) → ℕ → ℕ → Moment → AloneView → Type 0
 SessionsOfRun tells start run seats began new =
-    (talks : ℕ) (rules : List Rules) (doors doors' : List DoorState) (reports : List WorkerReport) (destination : Destination) (net net' : NetState) (last : Option Outcome)
+    (talks : ℕ) (rules : List Rules) (doors doors' : List DoorState) (reports : List WorkerReport) (destination : Destination)
+    (net net' : NetState) (last : Option Outcome)
     (run_of : HasServed tells start run seats began talks rules doors doors' reports (Some destination) net net' last new) → seats ≡ length rules + 1
     → (x y : DeskState) (t : SpoolState) → start x → Goes x run_of.log y → IsOneOf y.spool y.doubt t
     → let looks = run_of.forwarded.2.looks ++ run_of.forwarded.2.look ∷ [] in

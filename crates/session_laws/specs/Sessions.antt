@@ -22,16 +22,18 @@ use Rattle.serve_forwarder.specs.Sessions.{Session}
 use Rattle.session_laws.specs.Beside.{EndsAmong, KnowsMarked, MarksAlone, history}
 use Rattle.session_laws.specs.Led.{Led}
 
--- What is known at a moment, and the end of the list then.
+-- What is known at a moment, and the end of the list then, which is the number after its last entry.
 pub record Reach : Type 0 where
   pub known : Numbers
   pub upto : ℕ
 
+-- those of a spool
 abbrev pub reach_of : SpoolState → Reach
 reach_of s = record { known = numbers_of s; upto = end s }
 
--- A session was held over a whole list from one moment to another. It sent what wasn't known, up to an end that isn't below that of the list
--- at the first moment; and if it made a call, the list had that end at the other one, and that was one entry at least.
+-- A session was held over a whole list from one moment to another. It sent what wasn't known, up to an end of its own, which isn't
+-- below the list's end at the first moment. If it made a call, it was to send one entry at least, and at the other moment the list's
+-- end isn't below its own.
 pub record IsSent (settings : Settings) (proto : Proto) (whole : List NumberedEntry) (before : Reach) (one : Session) (after : Reach) : Type 0 where
   pub told : ℕ
   pub also : List ℕ
@@ -41,13 +43,14 @@ pub record IsSent (settings : Settings) (proto : Proto) (whole : List NumberedEn
   pub from_end : before.upto ≤ one.until
   pub to_end : 0 < length one.calls → one.until ≤ after.upto
 
--- So was each of some sessions, one after another: what the one before left known was known as the next one began.
+-- So were these sessions, one after another: what is known after one of them is what was known as the next one began.
 abbrev pub AreSent : Settings → Proto → List NumberedEntry → Reach → List Session → Reach → Type 0
 AreSent settings proto whole before [] after = (after.known ≡ before.known) × (before.upto ≤ after.upto)
-AreSent settings proto whole before (one ∷ sessions) after = (between : Reach) × IsSent settings proto whole before one between × AreSent settings proto whole between sessions after
+AreSent settings proto whole before (one ∷ sessions) after =
+    (between : Reach) × IsSent settings proto whole before one between × AreSent settings proto whole between sessions after
 
--- A pass that had made no call looked again and again, saw what others had done, and looked once more. The journal has these calls of it
--- and no others, and nobody else marked or confirmed.
+-- A forwarder whose pass had made no call looked again and again, was shown what others had seen, and looked once more. The journal
+-- has these calls of it and no others, and nobody else marked or confirmed.
 pub record HasLooked (start : DeskState → Type 0) (outward : Outward) (place : List ℕ) (looks : List Look) (last : Look) (log : List Record) : Type 0 where
   pub pass : Known
   pub beside : Known
@@ -65,9 +68,9 @@ pub record HasLooked (start : DeskState → Type 0) (outward : Outward) (place :
   pub own : own_of pass'.number log ≡ pass'.own
   pub alone : MarksAlone pass'.number log
 
--- Of a state that may stand after the journal: from one in which the desk may have begun the journal led the spool to it, each record with the
--- group that it added. Over the whole list that this makes the sessions of all looks were held, one after another, and what is
--- known now is what they left. What isn't known of the whole list is left.
+-- This is said of a state t in which the spool may be after the journal. From one in which it may have begun the journal led it
+-- there, each record with the group that it added. Over the whole list that this makes the sessions of all looks were held, one after
+-- another, and what is known now is what the last one left known. What isn't known of the whole list is left.
 pub record SentBeside (outward : Outward) (x : DeskState) (looks : List Look) (log : List Record) (t : SpoolState) : Type 0 where
   pub begun : SpoolState
   pub one : IsOneOf x.spool x.doubt begun
@@ -87,21 +90,25 @@ abbrev pub IsMarkedIn : List Session → ℕ → Type 0
 IsMarkedIn [] n = ⊥
 IsMarkedIn (one ∷ sessions) n = IsMarked one.calls n ⊎ IsMarkedIn sessions n
 
--- No number is known after sessions but those that were known before them and those that they marked.
+-- No number is known after sessions but those that were known before them and those that they marked or were refused to mark.
 abbrev pub OnlyTheirMarksAreKnown : Type 0
-OnlyTheirMarksAreKnown = (settings : Settings) (proto : Proto) (whole : List NumberedEntry) (before after : Reach) (sessions : List Session) → AreSent settings proto whole before sessions after
+OnlyTheirMarksAreKnown = (settings : Settings) (proto : Proto) (whole : List NumberedEntry) (before after : Reach) (sessions : List Session)
+    → AreSent settings proto whole before sessions after
     → (n : ℕ) → IsKnown after.known n → IsKnown before.known n ⊎ IsMarkedIn sessions n
 
--- The number is that of an entry of a session's list that was told as acknowledged.
-abbrev pub IsToldHere : {settings : Settings} {proto : Proto} {whole : List NumberedEntry} {before after : Reach} {one : Session} → IsSent settings proto whole before one after → ℕ → Type 0
+-- The number is that of an entry of the session's list that was reported as acknowledged.
+abbrev pub IsToldHere : {settings : Settings} {proto : Proto} {whole : List NumberedEntry} {before after : Reach} {one : Session}
+    → IsSent settings proto whole before one after → ℕ → Type 0
 IsToldHere sent n = (place : ℕ) × (place < length sent.ends.all) × (n ≡ number_at sent.ends.all place) × IsTold sent.told sent.also place
 
--- It is so of one of some sessions.
-abbrev pub IsToldIn : (settings : Settings) (proto : Proto) (whole : List NumberedEntry) (before : Reach) (sessions : List Session) (after : Reach) → AreSent settings proto whole before sessions after → ℕ → Type 0
+-- It is so of one of these sessions.
+abbrev pub IsToldIn : (settings : Settings) (proto : Proto) (whole : List NumberedEntry) (before : Reach) (sessions : List Session)
+    (after : Reach) → AreSent settings proto whole before sessions after → ℕ → Type 0
 IsToldIn settings proto whole before [] after sent n = ⊥
 IsToldIn settings proto whole before (one ∷ sessions) after sent n = IsToldHere sent.1 n ⊎ IsToldIn settings proto whole sent.0 sessions after sent.2 n
 
--- An entry of the whole list that is known after sessions was known before them, or one of them was told that it is acknowledged.
+-- An entry of the whole list that is known after sessions was known before them, or was reported as acknowledged in one of them.
 abbrev pub OnlyToldIsKnown : Type 0
-OnlyToldIsKnown = (settings : Settings) (proto : Proto) (whole : List NumberedEntry) (before after : Reach) (sessions : List Session) (sent : AreSent settings proto whole before sessions after)
+OnlyToldIsKnown = (settings : Settings) (proto : Proto) (whole : List NumberedEntry) (before after : Reach) (sessions : List Session)
+    (sent : AreSent settings proto whole before sessions after)
     → All (λ e. IsKnown after.known e.number → IsKnown before.known e.number ⊎ IsToldIn settings proto whole before sessions after sent e.number) whole
