@@ -13,7 +13,8 @@ none_after : (before : List Call) (last : Call) → before ++ last ∷ [] ≡ []
 none_after [] last is = cc
 none_after (call ∷ before) last is = cc
 
-refused_failures : (sent : Sent) (call : Call) → IsRefusedWith sent call → (sent ≡ Ending.DiskFault → failures_in call ≡ 1) × ((sent ≡ Ending.DiskFault → ⊥) → failures_in call ≡ 0)
+refused_failures : (sent : Sent) (call : Call) → IsRefusedWith sent call
+    → (sent ≡ Ending.DiskFault → failures_in call ≡ 1) × ((sent ≡ Ending.DiskFault → ⊥) → failures_in call ≡ 0)
 refused_failures sent (pends from most (Err Pend.DiskFault)) is = ((λ by. refl), (λ other. absurd (other is)))
 refused_failures sent (pends from most (Err (Pend.NotSpool at))) is = ((λ by. absurd (cc)), (λ other. refl))
 refused_failures sent (pends from most (Err Pend.NoMemory)) is = ((λ by. absurd (cc)), (λ other. refl))
@@ -23,15 +24,17 @@ refused_failures sent (marks stretches (Err (Confirm.Worn ordinal))) is = ((λ b
 refused_failures sent (marks stretches (Err Confirm.NoMemory)) is = ((λ by. absurd (cc)), (λ other. refl))
 refused_failures sent call is = absurd is
 
-session_failures : (until next : ℕ) (before : List Call) (last : Call) → AreOfSession until next (before ++ last ∷ []) → failures_of (before ++ last ∷ []) ≡ failures_in last
+session_failures : (until next : ℕ) (before : List Call) (last : Call) → AreOfSession until next (before ++ last ∷ [])
+    → failures_of (before ++ last ∷ []) ≡ failures_in last
 session_failures until next [] last are = omega arith
-session_failures until next (pends from most (Ok given) ∷ before) last are = omega (arith, session_failures until (next_after until next given) before last are.3)
+session_failures until next (pends from most (Ok given) ∷ before) last are =
+    omega (arith, session_failures until (next_after until next given) before last are.3)
 session_failures until next (pends from most (Err fault) ∷ before) last are = absurd (none_after before last are.3)
 session_failures until next (marks stretches (Ok done) ∷ before) last are = omega (arith, session_failures until next before last are)
 session_failures until next (marks stretches (Err fault) ∷ before) last are = absurd (none_after before last are)
 session_failures until next (call ∷ before) last are = absurd are
 
-granted_failures : (calls : List Call) → AreGranted calls → failures_of calls ≡ 0
+pub granted_failures : (calls : List Call) → AreGranted calls → failures_of calls ≡ 0
 granted_failures [] are = refl
 granted_failures (pends from most (Ok given) ∷ calls) are = omega (arith, granted_failures calls are)
 granted_failures (marks stretches (Ok done) ∷ calls) are = omega (arith, granted_failures calls are)
@@ -44,7 +47,8 @@ Failed sent calls = (sent ≡ Ending.DiskFault → failures_of calls ≡ 1) × (
 by_refused : (sent : Sent) (until next : ℕ) (calls : List Call) → AreOfSession until next calls → EndsRefused sent calls → Failed sent calls
 by_refused sent until next calls are ends =
     let last = refused_failures sent ends.last ends.refused in
-    let count : failures_of calls ≡ failures_in ends.last = ap failures_of ends.are ∙ session_failures until next ends.before ends.last (subst (AreOfSession until next) ends.are are) in
+    let count : failures_of calls ≡ failures_in ends.last = ap failures_of ends.are ∙ session_failures until next ends.before ends.last
+    (subst (AreOfSession until next) ends.are are) in
     ((λ by. count ∙ last.0 by), (λ other. count ∙ last.1 other))
 
 by_granted : (sent : Sent) (calls : List Call) → (sent ≡ Ending.DiskFault → ⊥) → AreGranted calls → Failed sent calls

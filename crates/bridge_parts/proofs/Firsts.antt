@@ -18,7 +18,8 @@ first_fine Note.Fine print is = is
 first_fine ended print is = absurd (cc)
 
 -- the print's faults, by the note of both
-pub wrote_after : (ended print note : Note) (before now : ℕ) → note ≡ first_of ended print → (print ≡ Note.Fine → print ≡ Note.WriteFault → ⊥) → CountsFaults (print ≡ Note.WriteFault) before now → WroteAfter ended note before now
+pub wrote_after : (ended print note : Note) (before now : ℕ) → note ≡ first_of ended print → (print ≡ Note.Fine → print ≡ Note.WriteFault → ⊥)
+    → CountsFaults (print ≡ Note.WriteFault) before now → WroteAfter ended note before now
 wrote_after ended print note before now is apart counts = record {
   later = counts.later;
   cause = λ by. elim (first_write ended print (sym is ∙ by)) [ inl first ↦ inl first | inr printed ↦ inr (counts.cause printed) ];
@@ -33,7 +34,8 @@ first_of_fine Note.Fine = refl
 first_of_fine ended = refl
 
 -- the note is that of what ended, or the print's own
-pub note_of_both : (ended print note : Note) → note ≡ first_of ended print → (print ≡ Note.Fine) ⊎ ((print ≡ Note.WriteFault) ⊎ (print ≡ Note.NoMemory)) → (note ≡ ended) ⊎ ((note ≡ Note.WriteFault) ⊎ (note ≡ Note.NoMemory))
+pub note_of_both : (ended print note : Note) → note ≡ first_of ended print
+    → (print ≡ Note.Fine) ⊎ ((print ≡ Note.WriteFault) ⊎ (print ≡ Note.NoMemory)) → (note ≡ ended) ⊎ ((note ≡ Note.WriteFault) ⊎ (note ≡ Note.NoMemory))
 note_of_both ended print note is (inl fine) = inl (is ∙ ap (first_of ended) fine ∙ first_of_fine ended)
 note_of_both ended print note is (inr failed) = elim (first_is ended print) [
   | inl first ↦ inl (is ∙ first)

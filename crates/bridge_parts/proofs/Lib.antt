@@ -1,5 +1,6 @@
 pub mod Writing
 pub mod Firsts
 pub mod Failures
-pub mod Counting
 pub mod Numbers
+pub mod Endings
+pub mod Desks

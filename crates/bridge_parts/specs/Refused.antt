@@ -23,12 +23,12 @@ note_of_pend (Pend.NotSpool at) = Note.NotSpool at
 note_of_pend Pend.DiskFault = Note.DiskFault
 note_of_pend Pend.NoMemory = Note.NoMemory
 
--- and for a place that was not dialed
+-- and for a place that was not dialed or bound
 abbrev pub note_of_net : NetFault → Note
 note_of_net Net.Fault = Note.NetFault
 note_of_net Net.NoMemory = Note.NoMemory
 
--- what is told of a session that forwarded entries and ended so
+-- and for a session that forwarded entries and ended so
 abbrev pub note_of_sent : Sent → Note
 note_of_sent Sending.Drained = Note.Fine
 note_of_sent (Sending.Refused unit code) = Note.Refused unit code

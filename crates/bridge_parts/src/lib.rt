@@ -1,5 +1,7 @@
-//! What several commands share: how refusals of the layers below are told as notes, how a session speaks to the receiver of the
-//! words, what a device is that was not opened, and how much of a text was written.
+//! What several commands share: refusals of the layers below and endings of a session as notes, the settings of a session with the
+//! receiver that the words name, how many entries are pending, and which of two notes is reported.
+//!
+//! `specs/` says besides what a device is that was not opened, how much of a text was written, and which counts of faults rose.
 #![tactic(auto)]
 
 mod pending;

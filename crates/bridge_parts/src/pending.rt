@@ -5,7 +5,8 @@ ghost use Rattle.bridge_parts.specs.Pending.{pending_in};
 use edge_disk::Disk;
 use spool_log::Spool;
 
-/// How many entries are pending: those whose numbers aren't known as confirmed. In doubt they are as before the call that failed.
+/// How many entries are pending: those whose numbers aren't known as confirmed. While the spool is in doubt, it is the number before
+/// the call that failed.
 pub fn pending_count<D: Disk>(spool: &Spool<D>) -> u64
     ensures { result ≡ pending_in spool.now.memory }
 {

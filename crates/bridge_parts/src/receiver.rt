@@ -1,4 +1,4 @@
-//! How a session speaks to the receiver that the words name.
+//! The settings of a session with the receiver that the words name.
 ghost use Rattle.std.specs.Prelude.{◌≡◌};
 ghost use Rattle.bridge_parts.specs.Receivers.{plain, collector, outward_of};
 
@@ -6,7 +6,7 @@ use bridge_words::Receiver;
 use edge_io::Proto;
 use forward_core::Outward;
 
-// A protocol that has no token, no channel and no polls.
+// By a protocol that has no token and no channel, and asks for nothing again.
 fn plain(proto: Proto) -> Outward
     ensures { result ≡ plain proto }
 {
@@ -18,7 +18,7 @@ fn plain(proto: Proto) -> Outward
     }
 }
 
-// The collector, with this token and on this channel, asked at most as often.
+// With the collector, by this token and on this channel. It is asked `polls` times at most whether a request is acknowledged.
 fn collector(token: u128, channel: u128, polls: u32) -> Outward
     ensures { result ≡ collector token channel polls }
 {
@@ -30,7 +30,8 @@ fn collector(token: u128, channel: u128, polls: u32) -> Outward
     }
 }
 
-/// How a session speaks to the receiver that the words name.
+/// The settings of a session with the receiver that the words name: its protocol, and for the collector the token, the channel and how
+/// often it is asked at most.
 pub fn outward_of(receiver: Receiver) -> Outward
     ensures { result ≡ outward_of receiver }
 {

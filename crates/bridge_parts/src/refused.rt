@@ -1,4 +1,4 @@
-//! Refusals of the spool and of the net, and endings of a session, as notes.
+//! Refusals of the spool and of the net, and endings of a session, as notes: each as the note of its name, with its numbers.
 ghost use Rattle.std.specs.Prelude.{◌≡◌};
 ghost use Rattle.bridge_parts.specs.Refused.{note_of_recover, note_of_pend, note_of_net, note_of_sent};
 
@@ -7,7 +7,8 @@ use edge_io::NetFault;
 use forward_core::Sent;
 use spool_log::{PendFault, RecoverFault};
 
-/// The note for a device that was not opened.
+/// The note for a device that was not opened: it is no spool, it was opened or its register was written as often as it can be, a call
+/// of the disk failed, or no memory was found.
 pub fn recover_note(fault: RecoverFault) -> Note
     ensures { result ≡ note_of_recover fault }
 {
@@ -20,7 +21,7 @@ pub fn recover_note(fault: RecoverFault) -> Note
     }
 }
 
-/// The note for entries that were not read.
+/// The note for pending entries that were not read from an open spool.
 pub fn pend_note(fault: PendFault) -> Note
     ensures { result ≡ note_of_pend fault }
 {
@@ -31,7 +32,7 @@ pub fn pend_note(fault: PendFault) -> Note
     }
 }
 
-/// The note for a place that was not dialed.
+/// The note for a place that was not dialed or bound: `NetFault`, or `NoMemory`.
 pub fn net_note(fault: NetFault) -> Note
     ensures { result ≡ note_of_net fault }
 {
@@ -41,7 +42,7 @@ pub fn net_note(fault: NetFault) -> Note
     }
 }
 
-/// The note for a session that forwarded entries and ended so.
+/// The note for a session that forwarded entries and ended so: `Fine` where the peer acknowledged all that was to be sent.
 pub fn sent_note(sent: Sent) -> Note
     ensures { result ≡ note_of_sent sent }
 {

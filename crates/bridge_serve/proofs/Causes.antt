@@ -13,6 +13,8 @@ use Rattle.desk_access.specs.Call.{Record, own_of, calls_of, failures_in, failur
 use Rattle.desk_access.specs.Desk.{DeskState}
 use Rattle.desk_access.specs.Journal.{failures_then}
 use Rattle.conn_serve.specs.declared.rules.Rules.{Rules}
+use Rattle.conn_serve.specs.Endings.{CountsFaults}
+use Rattle.conn_serve.proofs.Faults.{counts_none}
 use Rattle.forward_core.specs.declared.outward.Outward.{Outward}
 use Rattle.forward_core.specs.declared.sent.Sent.{Sent}
 use Rattle.forward_core.specs.declared.sent.Sent.TheVariants as Ending
@@ -28,56 +30,14 @@ use Rattle.serve_run.specs.Running.{Forwarded, HasForwarded}
 use Rattle.bridge_words.specs.declared.note.Note.{Note}
 use Rattle.bridge_parts.specs.Refused.{note_of_net, note_of_sent}
 use Rattle.bridge_parts.specs.Written.{first_of}
+use Rattle.bridge_parts.proofs.Endings.{sent_by_disk, sent_by_read, sent_by_write}
 use Rattle.bridge_parts.proofs.Failures.{failed}
 use Rattle.bridge_serve.specs.Doors.{SomeRose}
 use Rattle.bridge_serve.specs.Noted.{is_starved, is_refused, note_of_workers, note_of_look, note_of_run}
 
 -- ---- notes
 
--- what a session or a refusal is told as, backwards
-pub sent_read : (sent : Sent) → note_of_sent sent ≡ Note.ReadFault → sent ≡ Ending.ReadFault
-sent_read Ending.ReadFault is = refl
-sent_read Ending.Drained is = absurd (cc)
-sent_read (Ending.Refused unit code) is = absurd (cc)
-sent_read Ending.PeerClosed is = absurd (cc)
-sent_read (Ending.PeerFault at why) is = absurd (cc)
-sent_read (Ending.Unconfirmed asked) is = absurd (cc)
-sent_read (Ending.TooMuch at) is = absurd (cc)
-sent_read Ending.WriteFault is = absurd (cc)
-sent_read Ending.DiskFault is = absurd (cc)
-sent_read (Ending.NotSpool at) is = absurd (cc)
-sent_read (Ending.Worn ordinal) is = absurd (cc)
-sent_read Ending.NoMemory is = absurd (cc)
-
-pub sent_write : (sent : Sent) → note_of_sent sent ≡ Note.WriteFault → sent ≡ Ending.WriteFault
-sent_write Ending.WriteFault is = refl
-sent_write Ending.Drained is = absurd (cc)
-sent_write (Ending.Refused unit code) is = absurd (cc)
-sent_write Ending.PeerClosed is = absurd (cc)
-sent_write (Ending.PeerFault at why) is = absurd (cc)
-sent_write (Ending.Unconfirmed asked) is = absurd (cc)
-sent_write (Ending.TooMuch at) is = absurd (cc)
-sent_write Ending.ReadFault is = absurd (cc)
-sent_write Ending.DiskFault is = absurd (cc)
-sent_write (Ending.NotSpool at) is = absurd (cc)
-sent_write (Ending.Worn ordinal) is = absurd (cc)
-sent_write Ending.NoMemory is = absurd (cc)
-
-pub sent_disk : (sent : Sent) → note_of_sent sent ≡ Note.DiskFault → sent ≡ Ending.DiskFault
-sent_disk Ending.DiskFault is = refl
-sent_disk Ending.Drained is = absurd (cc)
-sent_disk (Ending.Refused unit code) is = absurd (cc)
-sent_disk Ending.PeerClosed is = absurd (cc)
-sent_disk (Ending.PeerFault at why) is = absurd (cc)
-sent_disk (Ending.Unconfirmed asked) is = absurd (cc)
-sent_disk (Ending.TooMuch at) is = absurd (cc)
-sent_disk Ending.ReadFault is = absurd (cc)
-sent_disk Ending.WriteFault is = absurd (cc)
-sent_disk (Ending.NotSpool at) is = absurd (cc)
-sent_disk (Ending.Worn ordinal) is = absurd (cc)
-sent_disk Ending.NoMemory is = absurd (cc)
-
--- notes that are told of no run
+-- notes that no run has
 abbrev pub IsTold : Note → Type 0
 IsTold Note.Usage = ⊥
 IsTold (Note.WrongLength have want) = ⊥
@@ -164,7 +124,8 @@ looks_later start outward place [] pass pass' net net' are = later_same net net'
 looks_later start outward place (look ∷ looks) pass pass' net net' are =
     later_then net are.1 net' (told_later place look.found net are.1 are.2.told) (looks_later start outward place looks are.0 pass' are.1 net' are.3)
 
-pub forwarded_later : (start : DeskState → Type 0) (destination : Option Destination) (workers : List Known) (pass pass' : Known) (net net' : NetState) (last : Option Outcome) → Forwarded start destination workers pass pass' net net' last → IsLater net net'
+pub forwarded_later : (start : DeskState → Type 0) (destination : Option Destination) (workers : List Known) (pass pass' : Known)
+    (net net' : NetState) (last : Option Outcome) → Forwarded start destination workers pass pass' net net' last → IsLater net net'
 forwarded_later start None workers pass pass' net net' last none = later_same net net' none.2
 forwarded_later start (Some d) workers pass pass' net net' last (outcome, is, has) =
     later_then net has.net_beside net' (looks_later start d.outward d.place has.looks pass has.beside net has.net_beside has.looked) (told_later d.place has.look.found has.net_beside net' has.looked_last.told)
@@ -185,7 +146,7 @@ found_read place (Unread (Pend.NotSpool at)) net net' told is = absurd (cc)
 found_read place (Unread Pend.NoMemory) net net' told is = absurd (cc)
 found_read place (Undialed Net.Fault) net net' told is = absurd (cc)
 found_read place (Undialed Net.NoMemory) net net' told is = absurd (cc)
-found_read place (Held one) net net' hangs is = hangs.reads.cause (sent_read one.sent is)
+found_read place (Held one) net net' hangs is = hangs.reads.cause (sent_by_read one.sent is)
 
 found_write : (place : List ℕ) (found : Found) (net net' : NetState) → IsToldBy place found net net' → note_of_look (Some (outcome_of found)) ≡ Note.WriteFault → Rose 1 net.write_faults net'.write_faults
 found_write place Idle net net' told is = absurd (cc)
@@ -194,7 +155,7 @@ found_write place (Unread (Pend.NotSpool at)) net net' told is = absurd (cc)
 found_write place (Unread Pend.NoMemory) net net' told is = absurd (cc)
 found_write place (Undialed Net.Fault) net net' told is = absurd (cc)
 found_write place (Undialed Net.NoMemory) net net' told is = absurd (cc)
-found_write place (Held one) net net' hangs is = hangs.writes.cause (sent_write one.sent is)
+found_write place (Held one) net net' hangs is = hangs.writes.cause (sent_by_write one.sent is)
 
 sent_net : (sent : Sent) → note_of_sent sent ≡ Note.NetFault → ⊥
 sent_net Ending.Drained is = cc
@@ -220,7 +181,8 @@ found_dial place (Undialed Net.NoMemory) net net' told is = absurd (cc)
 found_dial place (Held one) net net' hangs is = absurd (sent_net one.sent is)
 
 -- a call was answered that the disk failed
-found_disk : (start : DeskState → Type 0) (outward : Outward) (place : List ℕ) (look : Look) (pass pass' : Known) (net net' : NetState) → IsLook start outward place look pass pass' net net' → note_of_look (Some (outcome_of look.found)) ≡ Note.DiskFault → 1 ≤ failures_of pass'.own
+found_disk : (start : DeskState → Type 0) (outward : Outward) (place : List ℕ) (look : Look) (pass pass' : Known) (net net' : NetState)
+    → IsLook start outward place look pass pass' net net' → note_of_look (Some (outcome_of look.found)) ≡ Note.DiskFault → 1 ≤ failures_of pass'.own
 found_disk start outward place look pass pass' net net' is disk = by look.found disk is.found where
   here : failures_of is.asked.own ≡ failures_of pass.own + failures_of (pends 0 1 look.given ∷ [])
   here = ap failures_of is.asks.own ∙ failures_then pass.own (pends 0 1 look.given ∷ [])
@@ -234,7 +196,7 @@ found_disk start outward place look pass pass' net net' is disk = by look.found 
   by (Undialed Net.Fault) disk has = absurd (cc)
   by (Undialed Net.NoMemory) disk has = absurd (cc)
   by (Held one) disk (pending, held) =
-      let many = (failed one.sent one.until one.start one.calls held.ended.session held.ended.refused).0 (sent_disk one.sent disk) in
+      let many = (failed one.sent one.until one.start one.calls held.ended.session held.ended.refused).0 (sent_by_disk one.sent disk) in
       omega (arith, many, ap failures_of held.made.own, failures_then held.begun.own one.calls)
 
 -- ---- a caller's part of the journal
@@ -264,7 +226,8 @@ refused_is worker.Enough is = absurd (cc)
 refused_is worker.NoMemory is = absurd (cc)
 
 -- one of them was refused an accept
-some_refused : (reports : List WorkerReport) → list_any (λ report. is_refused report.end) reports ≡ true → (k : ℕ) × (report : WorkerReport) × (k < length reports) × (slice_get reports k ≡ Some report) × (report.end ≡ worker.AcceptFault)
+some_refused : (reports : List WorkerReport) → list_any (λ report. is_refused report.end) reports ≡ true
+    → (k : ℕ) × (report : WorkerReport) × (k < length reports) × (slice_get reports k ≡ Some report) × (report.end ≡ worker.AcceptFault)
 some_refused [] is = absurd (cc)
 some_refused (report ∷ reports) is = by (is_refused report.end) refl is (λ rest. some_refused reports rest) where
   by : (b : Bool) → is_refused report.end ≡ b → (b || list_any (λ report. is_refused report.end) reports) ≡ true
@@ -283,7 +246,8 @@ workers_refused reports = by (list_any (λ (report : WorkerReport). is_starved r
 
 -- and then the count of its door rose
 pub door_rose : (start : DeskState → Type 0) (run talks : ℕ) (rules : List Rules) (doors : List DoorState) (passes : List Known) (doors' : List DoorState) (passes' : List Known) (reports : List WorkerReport)
-    → HaveWorked start run talks rules doors passes doors' passes' reports → length rules ≡ length reports → length doors ≡ length reports → length passes ≡ length reports → length doors' ≡ length reports → length passes' ≡ length reports
+    → HaveWorked start run talks rules doors passes doors' passes' reports → length rules ≡ length reports → length doors ≡ length reports
+    → length passes ≡ length reports → length doors' ≡ length reports → length passes' ≡ length reports
     → note_of_workers reports ≡ Note.NetFault → SomeRose doors doors'
 door_rose start run talks rules doors passes doors' passes' reports worked r d p d' p' is =
     let found = some_refused reports (workers_refused reports is) in
@@ -297,7 +261,8 @@ door_rose start run talks rules doors passes doors' passes' reports worked r d p
 
 -- ---- the whole
 
-module _ (start : DeskState → Type 0) (destination : Option Destination) (workers : List Known) (pass pass' : Known) (net net' : NetState) (last : Option Outcome) (has : Forwarded start destination workers pass pass' net net' last) where
+module _ (start : DeskState → Type 0) (destination : Option Destination) (workers : List Known) (pass pass' : Known) (net net' : NetState)
+    (last : Option Outcome) (has : Forwarded start destination workers pass pass' net net' last) where
   by_last : (P : Option Outcome → Type 0) → P None → ((d : Destination) (outcome : Outcome) → last ≡ Some outcome → HasForwarded start d workers pass pass' net net' outcome → P (Some outcome)) → P last
   by_last P none some = elim destination as (λ d. Forwarded start d workers pass pass' net net' last → P last) [
     | None ↦ λ h. subst P (sym h.3) none
@@ -333,6 +298,8 @@ module _ (start : DeskState → Type 0) (destination : Option Destination) (work
 pub net_same : (net net' : NetState) → net'.net_faults ≡ net.net_faults → SameHung net net' → net' ≡ net
 net_same net net' faults same = λ i. record { hung = same.hung i; net_faults = faults i; read_faults = same.read_faults i; write_faults = same.write_faults i }
 
-pub net_refused : (T : Type 0) (fault : NetFault) (note : Note) (before now : ℕ) → note ≡ note_of_net fault → HasNetCause {T = T} before now (Err fault) → ((note ≡ Note.NoMemory) ⊎ ((note ≡ Note.NetFault) × Rose 1 before now)) × (before ≤ now)
-net_refused T Net.Fault note before now is cause = (inr (is, cause.1), cause.0)
-net_refused T Net.NoMemory note before now is cause = (inl is, omega (arith, cause))
+-- one that was refused is counted, unless no memory was found
+pub net_refused : (T : Type 0) (fault : NetFault) (note : Note) (before now : ℕ) → note ≡ note_of_net fault → HasNetCause {T = T} before now (Err fault)
+    → ((note ≡ Note.NoMemory) ⊎ ((note ≡ Note.NetFault) × Rose 1 before now)) × CountsFaults (note ≡ Note.NetFault) before now
+net_refused T Net.Fault note before now is failed = (inr (is, failed.1), record { later = failed.0; cause = λ by. failed.1; quiet = λ other. absurd (other is) })
+net_refused T Net.NoMemory note before now is none = (inl is, counts_none (note ≡ Note.NetFault) before now (λ by. let e = sym is ∙ by in cc) none)

@@ -1,4 +1,4 @@
--- Doors that are put behind others.
+-- Doors that are added after others.
 use Rattle.std.proofs.Common.{◌≡◌, ℕ, ◌*◌, ◌≤◌, List, [], ◌∷◌, ◌++◌, length, map, refl, sym, ◌∙◌, ap, subst, arith, append_assoc, length-append}
 use Rattle.std.specs.Prelude.{All, Option, None, Some}
 use Rattle.std.proofs.lemmas.List.{append-nil, length-map, map-append}
@@ -10,10 +10,12 @@ use Rattle.conn_serve.specs.declared.rules.Rules.{Rules}
 use Rattle.bridge_words.specs.declared.command.Server.{Server}
 use Rattle.bridge_serve.specs.Doors.{rules_of, AreAt, AddsDoors, AreBound}
 
--- one more behind what a list has of each
-pub push_map : {X Y Z : Type 0} (f : Y → Z) (h : X → Z) (ys ys' : List Y) (init : List Z) (xs : List X) (x : X) (y : Y) → ys' ≡ ys ++ y ∷ [] → map f ys ≡ init ++ map h xs → f y ≡ h x → map f ys' ≡ init ++ map h (xs ++ x ∷ [])
+-- one more after what a list has of each
+pub push_map : {X Y Z : Type 0} (f : Y → Z) (h : X → Z) (ys ys' : List Y) (init : List Z) (xs : List X) (x : X) (y : Y) → ys' ≡ ys ++ y ∷ []
+    → map f ys ≡ init ++ map h xs → f y ≡ h x → map f ys' ≡ init ++ map h (xs ++ x ∷ [])
 push_map {X} {Y} {Z} f h ys ys' init xs x y is had same =
-    ap (map f) is ∙ map-append f ys (y ∷ []) ∙ ap (λ (l : List Z). l ++ f y ∷ []) had ∙ append_assoc init (map h xs) (f y ∷ []) ∙ ap (λ (z : Z). init ++ (map h xs ++ z ∷ [])) same ∙ ap (λ (l : List Z). init ++ l) (sym (map-append h xs (x ∷ [])))
+    ap (map f) is ∙ map-append f ys (y ∷ []) ∙ ap (λ (l : List Z). l ++ f y ∷ []) had ∙ append_assoc init (map h xs) (f y ∷ [])
+    ∙ ap (λ (z : Z). init ++ (map h xs ++ z ∷ [])) same ∙ ap (λ (l : List Z). init ++ l) (sym (map-append h xs (x ∷ [])))
 
 -- the same of each, of what is so for each
 pub all_map : {X Y : Type 0} (f : X → Y) (P : Y → Type 0) (xs : List X) → All (λ x. P (f x)) xs → All P (map f xs)
@@ -25,12 +27,15 @@ twice f z [] = refl
 twice {X} {Y} {Z} f z (x ∷ xs) = ap (λ (l : List Z). z ∷ l) (twice f z xs)
 
 -- doors that were bound at a place
-pub adds_bound : {X : Type 0} (told : X → DoorState) (server : Server) (proto : Proto) (at : Option (List ℕ)) (place : List ℕ) (made : List X) (doors doors' : List DoorState) (rules rules' : List Rules)
-    → at ≡ Some place → length made ≡ server.workers → All (λ door. IsNewDoor place (told door)) made → doors' ≡ doors ++ map told made → rules' ≡ rules ++ map (λ door. rules_of server proto) made
+pub adds_bound : {X : Type 0} (told : X → DoorState) (server : Server) (proto : Proto) (at : Option (List ℕ)) (place : List ℕ) (made : List X)
+    (doors doors' : List DoorState) (rules rules' : List Rules)
+    → at ≡ Some place → length made ≡ server.workers → All (λ door. IsNewDoor place (told door)) made → doors' ≡ doors ++ map told made
+    → rules' ≡ rules ++ map (λ door. rules_of server proto) made
     → AddsDoors server proto at doors doors' rules rules'
 adds_bound told server proto at place made doors doors' rules rules' some count new doors_are rules_are = record {
   made = map told made;
-  made_at = subst (λ (at : Option (List ℕ)). AreAt server.workers at (map told made)) (sym some) (length-map made told ∙ count, all_map told (IsNewDoor place) made new);
+  made_at = subst (λ (at : Option (List ℕ)). AreAt server.workers at (map told made)) (sym some)
+      (length-map made told ∙ count, all_map told (IsNewDoor place) made new);
   doors_are = doors_are;
   rules_are = rules_are ∙ ap (λ (l : List Rules). rules ++ l) (twice told (rules_of server proto) made);
 }
@@ -38,13 +43,16 @@ adds_bound told server proto at place made doors doors' rules rules' some count 
 pub adds_none : (server : Server) (proto : Proto) (doors : List DoorState) (rules : List Rules) → AddsDoors server proto None doors doors rules rules
 adds_none server proto doors rules = record { made = []; made_at = refl; doors_are = sym (append-nil doors); rules_are = sym (append-nil rules) }
 
-pub adds_default : (server : Server) (proto : Proto) (place : Option (List ℕ)) (doors : List DoorState) (rules : List Rules) → ((x : List ℕ) → place ≡ Some x → ⊥) → AddsDoors server proto place doors doors rules rules
+pub adds_default : (server : Server) (proto : Proto) (place : Option (List ℕ)) (doors : List DoorState) (rules : List Rules)
+    → ((x : List ℕ) → place ≡ Some x → ⊥) → AddsDoors server proto place doors doors rules rules
 adds_default server proto None doors rules none = adds_none server proto doors rules
 adds_default server proto (Some x) doors rules none = absurd (none x refl)
 
 -- ---- at all places
 
-pub all_bound : (server : Server) (one two three : List DoorState) (rules rules' rules'' : List Rules) → AddsDoors server Relp server.relp [] one [] rules → AddsDoors server Lumberjack server.lumberjack one two rules rules' → AddsDoors server Hec server.hec two three rules' rules'' → AreBound server three rules''
+pub all_bound : (server : Server) (one two three : List DoorState) (rules rules' rules'' : List Rules)
+    → AddsDoors server Relp server.relp [] one [] rules → AddsDoors server Lumberjack server.lumberjack one two rules rules'
+    → AddsDoors server Hec server.hec two three rules' rules'' → AreBound server three rules''
 all_bound server one two three rules rules' rules'' a b c = record {
   relp = a.made;
   lumberjack = b.made;
@@ -52,8 +60,10 @@ all_bound server one two three rules rules' rules'' a b c = record {
   relp_at = a.made_at;
   lumberjack_at = b.made_at;
   hec_at = c.made_at;
-  doors_are = c.doors_are ∙ ap (λ (l : List DoorState). l ++ c.made) (b.doors_are ∙ ap (λ (l : List DoorState). l ++ b.made) a.doors_are) ∙ append_assoc a.made b.made c.made;
-  rules_are = c.rules_are ∙ ap (λ (l : List Rules). l ++ map (λ door. rules_of server Hec) c.made) (b.rules_are ∙ ap (λ (l : List Rules). l ++ map (λ door. rules_of server Lumberjack) b.made) a.rules_are)
+  doors_are = c.doors_are ∙ ap (λ (l : List DoorState). l ++ c.made) (b.doors_are ∙ ap (λ (l : List DoorState). l ++ b.made) a.doors_are)
+      ∙ append_assoc a.made b.made c.made;
+  rules_are = c.rules_are ∙ ap (λ (l : List Rules). l ++ map (λ door. rules_of server Hec) c.made)
+      (b.rules_are ∙ ap (λ (l : List Rules). l ++ map (λ door. rules_of server Lumberjack) b.made) a.rules_are)
       ∙ append_assoc (map (λ door. rules_of server Relp) a.made) (map (λ door. rules_of server Lumberjack) b.made) (map (λ door. rules_of server Hec) c.made);
 }
 

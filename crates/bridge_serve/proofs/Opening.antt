@@ -1,5 +1,5 @@
 -- A desk over a spool that was opened for storing.
-use Rattle.std.proofs.Common.{◌≡◌, ◌⊎◌, inl, inr, ℕ, ◌+◌, ◌≤◌, List, [], ◌∷◌, ◌++◌, length, refl, sym, ◌∙◌, ap, subst, arith}
+use Rattle.std.proofs.Common.{◌≡◌, ◌⊎◌, inl, inr, ℕ, ◌+◌, ◌≤◌, List, [], ◌∷◌, ◌++◌, length, refl, sym, subst, arith}
 use Rattle.std.specs.Prelude.{Bool, Option, Result, Ok, Err, IfOk, IfErr}
 use Rattle.edge_disk.specs.Calls.{Calls}
 use Rattle.edge_disk.specs.Disk.{Moment, LeavesOnly}
@@ -12,10 +12,9 @@ use Rattle.spool_log.specs.Opening.{opened, CanOpen, IsOpening, Opens}
 use Rattle.spool_log.specs.Stages.{StandsForOne}
 use Rattle.spool_log.specs.State.{View, IsIn}
 use Rattle.hec_ids.specs.Table.{Table}
-use Rattle.hec_ids.specs.Rows as Ids
-use Rattle.desk_access.specs.Alone.{AloneView, IsAt}
+use Rattle.desk_access.specs.Alone.{AloneView}
 use Rattle.desk_access.specs.Call.{Record}
-use Rattle.desk_access.specs.Desk.{DeskState, desk_of, Goes, Stood, StandsWithin}
+use Rattle.desk_access.specs.Desk.{DeskState, Goes, Stood, StandsWithin}
 use Rattle.spool_turns.specs.Replays.{BeganAt}
 use Rattle.edge_io.specs.Door.{DoorState}
 use Rattle.edge_io.specs.Net.{NetState}
@@ -39,18 +38,16 @@ pub record IsDeskIn (device : List ℕ) (v : View) (x : DeskState) : Type 0 wher
   pub desk : x ≡ desk_in (opened Raise state)
   pub held : IsIn (opened Raise state) [] v
 
-pub desk_is : (tells : Type 0) (device : List ℕ) (v : View) (x : DeskState) → (tells → (s : SpoolState) × Opens Raise s device v) → IsOpenedDesk tells device x → IsDeskIn device v x
+pub desk_is : (tells : Type 0) (device : List ℕ) (v : View) (x : DeskState) → (tells → (s : SpoolState) × Opens Raise s device v)
+    → IsOpenedDesk tells device x → IsDeskIn device v x
 desk_is tells device v x opens is =
     let found = opens is.0 in
     let same : found.0 ≡ is.1 = one_state found.0 is.1 device found.1.stood is.2 in
     record { state = is.1; stood = is.2; could = is.3; desk = is.4; held = subst (λ (s : SpoolState). IsIn (opened Raise s) [] v) same found.1.reached }
 
-pub opened_desk : (tells : Type 0) (device : List ℕ) (v : View) → (tells → (s : SpoolState) × Opens Raise s device v) → tells → (x : DeskState) × IsOpenedDesk tells device x
+pub opened_desk : (tells : Type 0) (device : List ℕ) (v : View) → (tells → (s : SpoolState) × Opens Raise s device v) → tells
+    → (x : DeskState) × IsOpenedDesk tells device x
 opened_desk tells device v opens told = let found = opens told in (desk_in (opened Raise found.0), (told, found.0, found.1.stood, found.1.left, refl))
-
--- a desk whose ids are those of the spool's run, none issued
-pub desk_at : (s : SpoolState) (ids : Table) (run : ℕ) (v : AloneView) → ids ≡ Ids.opened run 0 → run ≡ s.run → IsAt (desk_of s [] ids) v → IsAt (desk_in s) v
-desk_at s ids run v none same at = subst (λ (t : Table). IsAt (desk_of s [] t) v) (none ∙ ap (λ (n : ℕ). Ids.opened n 0) same) at
 
 -- ---- the moment of its disk
 
@@ -63,7 +60,8 @@ began_at tells old m calls any = record {
 }
 
 -- what a crash left since before the opening
-pub any_moment : (tells : Type 0) (old new : Moment) (clock : ℕ) (P : List ℕ → Type 0) → tells → old.clock ≤ clock → LeavesOnly P (opened_at tells old clock) new → LeavesOnly (λ c. IsOpening Raise old c ⊎ P c) old new
+pub any_moment : (tells : Type 0) (old new : Moment) (clock : ℕ) (P : List ℕ → Type 0) → tells → old.clock ≤ clock
+    → LeavesOnly P (opened_at tells old clock) new → LeavesOnly (λ c. IsOpening Raise old c ⊎ P c) old new
 any_moment tells old new clock P told le leaves = record {
   later = omega (arith, le, leaves.later);
   each = λ c held. elim (leaves.before old.clock c le held) [ inl since ↦ inl ((since told).0 refl) | inr p ↦ inr p ];
@@ -83,7 +81,8 @@ opened_only tells old v from told =
 
 none_stood : (x : DeskState) (c : List ℕ) → Stood x [] c → StandsForOne x.spool x.doubt c
 none_stood x c stood = by stood.first stood.rest stood.parts stood.found stood.goes stood.stands where
-  by : (first rest : List Record) → [] ≡ first ++ rest → (found : DeskState) → Goes x first found → StandsForOne found.spool found.doubt c ⊎ StandsWithin found rest c → StandsForOne x.spool x.doubt c
+  by : (first rest : List Record) → [] ≡ first ++ rest → (found : DeskState) → Goes x first found
+      → StandsForOne found.spool found.doubt c ⊎ StandsWithin found rest c → StandsForOne x.spool x.doubt c
   by [] [] parts found goes (inl stands) = subst (λ (d : DeskState). StandsForOne d.spool d.doubt c) goes stands
   by [] [] parts found goes (inr within) = absurd within
   by [] (one ∷ rest) parts found goes stands = absurd (cc)
@@ -102,23 +101,30 @@ given_back tells old v clock run seats new from le none told =
       stood = found.1.stood;
       could = found.1.left;
       images = λ c image. subst (λ (d : DeskState). StandsForOne d.spool d.doubt c) same (lead.reached.spool.each c image);
-      any_moment = weaker (λ c. IsOpening Raise old c ⊎ Stood x [] c) (IsOpening Raise old) old new.spool.moment (any_moment tells old new.spool.moment clock (Stood x []) told (le told) lead.any_moment) (λ c p. elim p [
-        | inl is ↦ is
-        | inr stood ↦ inr (found.0, found.1.stood, inr (none_stood x c stood))
-      ]);
+      any_moment = weaker (λ c. IsOpening Raise old c ⊎ Stood x [] c) (IsOpening Raise old) old new.spool.moment
+          (any_moment tells old new.spool.moment clock (Stood x []) told (le told) lead.any_moment) (λ c p. elim p [
+            | inl is ↦ is
+            | inr stood ↦ inr (found.0, found.1.stood, inr (none_stood x c stood))
+          ]);
     }
 
-pub given_calls : (tells : Type 0) (old : Moment) (start : DeskState → Type 0) (clock run seats : ℕ) (new : AloneView) → HasNotServed tells start run seats (opened_at tells old clock) new → Calls ⊥ old new.spool.moment
-given_calls tells old start clock run seats new none = record { size = none.1.replays.size; later = none.1.replays.later; cause = λ never. absurd never; quiet = λ never. none.1.replays.quiet refl }
+pub given_calls : (tells : Type 0) (old : Moment) (start : DeskState → Type 0) (clock run seats : ℕ) (new : AloneView)
+    → HasNotServed tells start run seats (opened_at tells old clock) new → Calls ⊥ old new.spool.moment
+given_calls tells old start clock run seats new none =
+    record { size = none.1.replays.size; later = none.1.replays.later; cause = λ never. absurd never; quiet = λ never. none.1.replays.quiet refl }
 
 -- ---- where the server ran
 
-pub runs_over : (tells : Type 0) (old new : Moment) (v : View) (clock run seats talks : ℕ) (rules : List Rules) (doors doors' : List DoorState) (reports : List WorkerReport) (destination : Option Destination) (net net' : NetState) (last : Option Outcome) (memory : Memory) (in_doubt : Bool) (ids : Table)
+pub runs_over : (tells : Type 0) (old new : Moment) (v : View) (clock run seats talks : ℕ) (rules : List Rules) (doors doors' : List DoorState)
+    (reports : List WorkerReport) (destination : Option Destination) (net net' : NetState) (last : Option Outcome) (memory : Memory) (in_doubt : Bool)
+    (ids : Table)
     → IsOpenedFrom tells old v → (tells → old.clock ≤ clock) → seats ≡ length doors + 1
-    → HasServed tells (IsOpenedDesk tells old.reads) run seats (opened_at tells old clock) talks rules doors doors' reports destination net net' last (desk_over memory in_doubt new ids)
+    → HasServed tells (IsOpenedDesk tells old.reads) run seats (opened_at tells old clock) talks rules doors doors' reports destination net net' last
+    (desk_over memory in_doubt new ids)
     → RunsOver tells old new talks rules doors doors' reports destination net net' last memory in_doubt
 runs_over tells old new v clock run seats talks rules doors doors' reports destination net net' last memory in_doubt ids from le many served =
-    let whole = subst (λ (n : ℕ). HasServed tells (IsOpenedDesk tells old.reads) run n (opened_at tells old clock) talks rules doors doors' reports destination net net' last (desk_over memory in_doubt new ids)) many served in
+    let whole = subst (λ (n : ℕ). HasServed tells (IsOpenedDesk tells old.reads) run n (opened_at tells old clock) talks rules doors doors' reports
+    destination net net' last (desk_over memory in_doubt new ids)) many served in
     record {
       run = run;
       clock = clock;

@@ -30,6 +30,7 @@ use Rattle.serve_run.specs.Running.{Forwarded, HasServed}
 use Rattle.serve_laws.specs.Parts.{Part, IsPart, AreParts}
 use Rattle.serve_laws.specs.Runs.{ServerRun}
 use Rattle.serve_laws.specs.Leaves.{IsDone}
+use Rattle.serve_laws.proofs.Last.{last_look_is_last}
 use Rattle.serve_laws.proofs.Runs.{acknowledged_is_durable, connections_contribute, disk_faults_are_counted, doors_tell_durable, end_counts_entries, nothing_else_is_added, nothing_is_left, order_is_kept, order_was_kept, reports_count_links, workers_have_parts}
 use Rattle.session_laws.specs.Beside.{history}
 use Rattle.session_laws.specs.Sessions.{reach_of}
@@ -40,8 +41,10 @@ use Rattle.session_laws.proofs.Knowing.{NoMarks, led_same}
 use Rattle.session_laws.proofs.Serving.{sessions_of_run}
 use Rattle.bridge_words.specs.declared.note.Note.{Note}
 use Rattle.bridge_parts.specs.Refused.{note_of_sent}
-use Rattle.bridge_serve.specs.Noted.{note_of_look}
+use Rattle.bridge_serve.specs.Noted.{note_of_look, note_of_workers}
 use Rattle.bridge_serve.specs.Promised.{EachPart, HasSent, KnowsOnlyTold, Promises, looks_of}
+use Rattle.bridge_serve.proofs.Looks.{hangs_up, read_out, tells_last}
+use Rattle.bridge_serve.proofs.Finishing.{served_out}
 
 -- ---- parts
 
@@ -93,7 +96,8 @@ standing s (stage ∷ stages) c (inr later) = let t = standing stage stages c la
 
 -- ---- the sessions
 
-module _ (tells : Type 0) (start : DeskState → Type 0) (run seats : ℕ) (began : Moment) (new : AloneView) (talks : ℕ) (rules : List Rules) (doors doors' : List DoorState) (reports : List WorkerReport) (many : seats ≡ length rules + 1)
+module _ (tells : Type 0) (start : DeskState → Type 0) (run seats : ℕ) (began : Moment) (new : AloneView) (talks : ℕ) (rules : List Rules)
+    (doors doors' : List DoorState) (reports : List WorkerReport) (many : seats ≡ length rules + 1)
     (sure : (x : DeskState) → start x → x.doubt ≡ []) where
   -- a forwarder with no place to forward to made no call
   silent : (net net' : NetState) (last : Option Outcome) (r : HasServed tells start run seats began talks rules doors doors' reports None net net' last new) → own_of (seats - 1) r.log ≡ []
@@ -106,7 +110,9 @@ module _ (tells : Type 0) (start : DeskState → Type 0) (run seats : ℕ) (bega
   one_begun x s could one = subst (λ (doubt : List SpoolState). IsOneOf x.spool doubt s) (sure x could) one
 
   -- what one state after the journal has of the sessions, and what the journal has of the forwarder
-  sent : (destination : Option Destination) (net net' : NetState) (last : Option Outcome) (r : HasServed tells start run seats began talks rules doors doors' reports destination net net' last new) (x y : DeskState) (t : SpoolState) → start x → Goes x r.log y → IsOneOf y.spool y.doubt t
+  sent : (destination : Option Destination) (net net' : NetState) (last : Option Outcome)
+      (r : HasServed tells start run seats began talks rules doors doors' reports destination net net' last new) (x y : DeskState) (t : SpoolState)
+      → start x → Goes x r.log y → IsOneOf y.spool y.doubt t
       → HasSent destination (looks_of r) x r.log t
   sent None net net' last r x y t could goes one =
       let way = comes x y (seats - 1) 0 0 r.log t (r.closes.replays.begins x could).rules goes one (inl (omega arith, omega arith)) in
@@ -122,7 +128,9 @@ module _ (tells : Type 0) (start : DeskState → Type 0) (run seats : ℕ) (bega
       ]
 
   -- its calls are those of its looks
-  own_looks : (destination : Option Destination) (net net' : NetState) (last : Option Outcome) (r : HasServed tells start run seats began talks rules doors doors' reports destination net net' last new) (x y : DeskState) (t : SpoolState) → start x → Goes x r.log y → IsOneOf y.spool y.doubt t
+  own_looks : (destination : Option Destination) (net net' : NetState) (last : Option Outcome)
+      (r : HasServed tells start run seats began talks rules doors doors' reports destination net net' last new) (x y : DeskState) (t : SpoolState)
+      → start x → Goes x r.log y → IsOneOf y.spool y.doubt t
       → own_of (seats - 1) r.log ≡ calls_of (looks_of r)
   own_looks None net net' last r x y t could goes one = silent net net' last r
   own_looks (Some destination) net net' last r x y t could goes one = (sessions_of_run tells start run seats began new talks rules doors doors' reports destination net net' last r many x y t could goes one).1
@@ -142,8 +150,8 @@ module _ (tells : Type 0) (start : DeskState → Type 0) (run seats : ℕ) (bega
       let one = standing lead.after.spool lead.after.doubt c (lead.reached.spool.each c image) in
       (one.0, one.1, sent tells start run seats began new r.talks r.rules r.doors r.doors' r.reports r.seats_are sure r.destination r.net r.net' r.last r.served x lead.after one.0 is lead.goes one.2)
 
-  pub promises : (note : Note) → (note ≡ Note.Fine → note_of_look r.last ≡ Note.Fine) → Promises r.served note
-  promises note fine =
+  pub promises : (note : Note) → (note ≡ Note.Fine → note_of_look r.last ≡ Note.Fine) → (note_of_workers r.reports ≡ Note.NoMemory → note ≡ Note.NoMemory) → Promises r.served note
+  promises note fine starved =
       let log = r.served.log in
       let closes = r.served.closes in
       let whole = workers_have_parts tells start run seats began new r in
@@ -154,6 +162,8 @@ module _ (tells : Type 0) (start : DeskState → Type 0) (run seats : ℕ) (bega
         parts = parts;
         are_parts = whole.1;
         finished = reports_count_links run r.talks 0 log r.rules r.doors r.doors' r.reports parts whole.1;
+        each_door = served_out run r.talks log r.rules r.doors r.doors' r.reports parts whole.1;
+        starved = starved;
         acknowledged = λ x is. each _ (λ n by old new' report part one small. acknowledged_is_durable tells start run seats began new log _ closes r.talks n by old new' report part one x is);
         told = λ x is. each _ (λ n by old new' report part one small. doors_tell_durable tells start run seats began new log _ closes r.talks n by old new' report part one x is);
         grows = λ x is c image. let kept = closes.kept x is c image in (kept.state, kept.stands, kept.grows);
@@ -166,8 +176,12 @@ module _ (tells : Type 0) (start : DeskState → Type 0) (run seats : ℕ) (bega
         nothing_is_left_at_fine = λ is some. (none (fine_done start r.destination r.served.workers' r.served.forwarder r.served.forwarder' r.net r.net' r.last r.served.forwarded some (fine is))).1;
         looks = λ x is.
             let lead = closes.replays.leads x is in
-            own_looks tells start run seats began new r.talks r.rules r.doors r.doors' r.reports r.seats_are sure r.destination r.net r.net' r.last r.served x lead.after lead.after.spool is lead.goes (first_one lead.after.spool lead.after.doubt);
+            own_looks tells start run seats began new r.talks r.rules r.doors r.doors' r.reports r.seats_are sure r.destination r.net r.net' r.last
+            r.served x lead.after lead.after.spool is lead.goes (first_one lead.after.spool lead.after.doubt);
         marks_alone = met_alone run (seats - 1) [] log closes.met;
+        hung = hangs_up start r.served.workers' r.served.forwarder r.served.forwarder' r.net r.net' r.last r.destination r.served.forwarded;
+        read_out = read_out start r.served.workers' r.served.forwarder r.served.forwarder' r.net r.net' r.last r.destination r.served.forwarded;
+        last_look = tells_last start r.served.workers' r.served.forwarder r.served.forwarder' r.net r.net' r.last (seats - 1) log r.destination r.served.forwarded (last_look_is_last tells start run seats began new r);
         sessions = found;
         known = λ x is c image.
             let state = found x is c image in

@@ -24,19 +24,23 @@ use Rattle.bridge_words.specs.Lines.{serve_line}
 use Rattle.bridge_parts.specs.Opened.{desk_in}
 use Rattle.bridge_parts.specs.Counted.{RoseBy, DiskRoseBy, WroteAfter, WritesOfBoth}
 use Rattle.bridge_parts.specs.Pending.{pending_in}
+use Rattle.bridge_parts.specs.Written.{first_of}
 use Rattle.bridge_parts.proofs.Numbers.{end_seen, pending_seen}
 use Rattle.bridge_serve.specs.Doors.{SomeRose}
 use Rattle.bridge_serve.specs.Noted.{IsNoteOf, note_of_workers, note_of_look, note_of_run, talks_of, PrintsLast}
 use Rattle.bridge_serve.specs.Opened.{IsOpenedDesk, IsOpenedFrom}
 use Rattle.bridge_serve.specs.Served.{RunsOver, IsRunAt}
 use Rattle.bridge_serve.proofs.Opening.{desk_is}
+use Rattle.bridge_serve.proofs.Lines.{memory_last}
 use Rattle.bridge_serve.proofs.Promises.{promises}
 use Rattle.bridge_serve.proofs.Causes.{IsTold, not_usage, not_length, workers_tell, not_workers, forwarded_later, run_told, last_read, last_write, last_dial, last_disk, own_failures, last_of_all, door_rose}
 
 none_in_doubt : (x : DeskState) (s : SpoolState) → x ≡ desk_in (opened Raise s) → x.doubt ≡ []
 none_in_doubt x s is = ap (λ (d : DeskState). d.doubt) is
 
-module _ (tells : Type 0) (old new : Moment) (talks : ℕ) (rules : List Rules) (doors doors' : List DoorState) (reports : List WorkerReport) (destination : Option Destination) (net net' : NetState) (last : Option Outcome) (memory : Memory) (in_doubt : Bool) (over : RunsOver tells old new talks rules doors doors' reports destination net net' last memory in_doubt)
+module _ (tells : Type 0) (old new : Moment) (talks : ℕ) (rules : List Rules) (doors doors' : List DoorState) (reports : List WorkerReport)
+    (destination : Option Destination) (net net' : NetState) (last : Option Outcome) (memory : Memory) (in_doubt : Bool)
+    (over : RunsOver tells old new talks rules doors doors' reports destination net net' last memory in_doubt)
     (note : Note) (is : IsNoteOf (note_of_run reports last) note) where
   told : IsTold note
   told = elim is [
@@ -88,32 +92,39 @@ module _ (tells : Type 0) (old new : Moment) (talks : ℕ) (rules : List Rules) 
     later = wrote.later;
     hung_later = (forwarded_later _ destination _ _ _ net net' last over.served.forwarded).writes;
     cause = λ by. elim (wrote.cause by) [
-      | inl ended ↦ inr (last_write _ destination _ _ _ net net' last over.served.forwarded (elim (not_workers (note_of_workers reports) (note_of_look last) (workers_tell reports)) [
-        | inl memory ↦ absurd (let e = sym ended ∙ memory in cc)
-        | inr (inl net) ↦ absurd (let e = sym ended ∙ net.0 in cc)
-        | inr (inr look) ↦ sym look ∙ ended
-      ]))
+      | inl ended ↦ inr (last_write _ destination _ _ _ net net' last over.served.forwarded
+          (elim (not_workers (note_of_workers reports) (note_of_look last) (workers_tell reports)) [
+            | inl memory ↦ absurd (let e = sym ended ∙ memory in cc)
+            | inr (inl net) ↦ absurd (let e = sym ended ∙ net.0 in cc)
+            | inr (inr look) ↦ sym look ∙ ended
+          ]))
       | inr print ↦ inl print
     ];
     quiet = wrote.quiet;
   }
 
-  pub dial_cause : length rules ≡ length reports → length doors ≡ length reports → length doors' ≡ length reports → note ≡ Note.NetFault → Rose 1 net.net_faults net'.net_faults ⊎ SomeRose doors doors'
+  pub dial_cause : length rules ≡ length reports → length doors ≡ length reports → length doors' ≡ length reports → note ≡ Note.NetFault
+      → Rose 1 net.net_faults net'.net_faults ⊎ SomeRose doors doors'
   dial_cause r d d' by = elim is [
     | inl same ↦ elim (not_workers (note_of_workers reports) (note_of_look last) (workers_tell reports)) [
       | inl memory ↦ absurd (let e = sym by ∙ same ∙ memory in cc)
-      | inr (inl net) ↦ inr (door_rose _ _ talks rules doors _ doors' _ reports over.served.worked r d (over.served.count.0 ∙ r) d' (over.served.count.1 ∙ r) net.1)
+      | inr (inl net) ↦ inr (door_rose _ _ talks rules doors _ doors' _ reports over.served.worked r d (over.served.count.0 ∙ r) d'
+          (over.served.count.1 ∙ r) net.1)
       | inr (inr look) ↦ inl (last_dial _ destination _ _ _ net net' last over.served.forwarded (sym look ∙ sym same ∙ by))
     ]
     | inr (inl print) ↦ absurd (let e = sym by ∙ print in cc)
     | inr (inr print) ↦ absurd (let e = sym by ∙ print in cc)
   ]
 
-  pub ran_at : (v : View) (last_end opening_left : ℕ) (taken taken' : Option (List ℕ)) → IsOpenedFrom tells old v → last_end ≡ end_of v.memory → opening_left ≡ pending_in v.memory → length rules ≡ length reports → length doors ≡ length reports → length doors' ≡ length reports
+  pub ran_at : (v : View) (last_end opening_left writes writes' : ℕ) (taken taken' : Option (List ℕ)) → IsOpenedFrom tells old v
+      → last_end ≡ end_of v.memory → opening_left ≡ pending_in v.memory → length rules ≡ length reports → length doors ≡ length reports
+      → length doors' ≡ length reports
       → length rules ≤ 64 → talks ≤ 2 ^ 26
-      → PrintsLast (note_of_run reports last) (serve_line (talks_of reports) (end_of memory - last_end) (opening_left + (end_of memory - last_end) - pending_in memory) (pending_in memory)) note taken taken'
-      → IsRunAt talks destination tells old new net net' rules doors doors' taken taken' note
-  ran_at v last_end opening_left taken taken' from end_is left_is r d d' few most printed = record {
+      → PrintsLast (note_of_run reports last)
+      (serve_line (talks_of reports) (end_of memory - last_end) (opening_left + (end_of memory - last_end) - pending_in memory) (pending_in memory))
+      note writes writes' taken taken'
+      → IsRunAt talks destination tells old new net net' rules doors doors' writes writes' taken taken' note
+  ran_at v last_end opening_left writes writes' taken taken' from end_is left_is r d d' few most printed = record {
     reports = reports;
     last = last;
     note_is = is;
@@ -121,8 +132,25 @@ module _ (tells : Type 0) (old new : Moment) (talks : ℕ) (rules : List Rules) 
     in_doubt = in_doubt;
     over = over;
     promises = promises tells (IsOpenedDesk tells old.reads) over.run (length doors + 1) _ _
-        (record { talks = talks; rules = rules; doors = doors; doors' = doors'; reports = reports; destination = destination; net = net; net' = net'; last = last; served = over.served; doors_are = d ∙ sym r; doors'_are = d' ∙ sym r; reports_are = sym r; seats_are = omega (arith, d, r) })
-        few most (λ x is. none_in_doubt x is.1 is.4) note (of_look Note.Fine (λ e. cc) (λ e. cc) (λ e. cc));
+        (record {
+          talks = talks;
+          rules = rules;
+          doors = doors;
+          doors' = doors';
+          reports = reports;
+          destination = destination;
+          net = net;
+          net' = net';
+          last = last;
+          served = over.served;
+          doors_are = d ∙ sym r;
+          doors'_are = d' ∙ sym r;
+          reports_are = sym r;
+          seats_are = omega (arith, d, r);
+        })
+        few most (λ x is. none_in_doubt x is.1 is.4) note (of_look Note.Fine (λ e. cc) (λ e. cc) (λ e. cc))
+        (λ starved. memory_last (note_of_run reports last) _ note writes writes' taken taken'
+        (ap (λ (n : Note). first_of n (note_of_look last)) starved) printed);
     stored = end_of memory - last_end;
     confirmed = opening_left + (end_of memory - last_end) - pending_in memory;
     remaining = pending_in memory;

@@ -19,7 +19,8 @@ abbrev pub AreAt : ℕ → Option (List ℕ) → List DoorState → Type 0
 AreAt workers None doors = doors ≡ []
 AreAt workers (Some place) doors = (length doors ≡ workers) × All (IsNewDoor place) doors
 
--- The doors that were bound, with the rules of each: those at the place of RELP, then those at Lumberjack's, then those at the collector's.
+-- The doors that were bound, with the rules of each: those at the place of RELP, then those at Lumberjack's, then those at the
+-- collector's.
 pub record AreBound (server : Server) (doors : List DoorState) (rules : List Rules) : Type 0 where
   pub relp : List DoorState
   pub lumberjack : List DoorState
@@ -28,9 +29,10 @@ pub record AreBound (server : Server) (doors : List DoorState) (rules : List Rul
   pub lumberjack_at : AreAt server.workers server.lumberjack lumberjack
   pub hec_at : AreAt server.workers server.hec hec
   pub doors_are : doors ≡ relp ++ (lumberjack ++ hec)
-  pub rules_are : rules ≡ map (λ door. rules_of server Relp) relp ++ (map (λ door. rules_of server Lumberjack) lumberjack ++ map (λ door. rules_of server Hec) hec)
+  pub rules_are : rules ≡ map (λ door. rules_of server Relp) relp
+      ++ (map (λ door. rules_of server Lumberjack) lumberjack ++ map (λ door. rules_of server Hec) hec)
 
--- Doors at one place were put behind others, with the rules of each.
+-- Doors at one place were added after others, with the rules of each.
 pub record AddsDoors (server : Server) (proto : Proto) (place : Option (List ℕ)) (doors doors' : List DoorState) (rules rules' : List Rules) : Type 0 where
   pub made : List DoorState
   pub made_at : AreAt server.workers place made
@@ -41,10 +43,13 @@ pub record AddsDoors (server : Server) (proto : Proto) (place : Option (List ℕ
 abbrev pub destination_at : Relay → Destination
 destination_at relay = record { place = relay.place; outward = outward_of relay.receiver }
 
+-- the same where the words may name no such place
 abbrev pub destination_of : Option Relay → Option Destination
 destination_of None = None
 destination_of (Some relay) = Some (destination_at relay)
 
 -- at one of the doors the count of its accepts that failed rose
 abbrev pub SomeRose : List DoorState → List DoorState → Type 0
-SomeRose doors doors' = (k : ℕ) × (old : DoorState) × (new : DoorState) × (slice_get doors k ≡ Some old) × (slice_get doors' k ≡ Some new) × Rose 1 old.accept_faults new.accept_faults
+SomeRose doors doors' =
+    (k : ℕ) × (old : DoorState) × (new : DoorState) × (slice_get doors k ≡ Some old) × (slice_get doors' k ≡ Some new)
+    × Rose 1 old.accept_faults new.accept_faults

@@ -6,6 +6,7 @@ use Rattle.serve_workers.specs.declared.worker.WorkerEnd.TheVariants as worker
 use Rattle.serve_workers.specs.declared.worker.WorkerReport.{WorkerReport}
 use Rattle.serve_forwarder.specs.declared.looking.Outcome.{Outcome}
 use Rattle.serve_forwarder.specs.declared.looking.Outcome.TheVariants as outcome
+use Rattle.conn_serve.specs.Endings.{CountsFaults}
 use Rattle.bridge_words.specs.declared.note.Note.{Note}
 use Rattle.bridge_words.specs.declared.note.Note.TheVariants.{Fine, NoMemory, NetFault, WriteFault}
 use Rattle.bridge_parts.specs.Refused.{note_of_pend, note_of_net, note_of_sent}
@@ -20,12 +21,13 @@ abbrev pub is_refused : WorkerEnd → Bool
 is_refused worker.AcceptFault = true
 is_refused end = false
 
--- The note of the workers: want of memory in one of them, or else an accept of one that failed.
+-- The note of the workers: want of memory in one of them, or else an accept of one that failed, or else that all is well.
 abbrev pub note_of_workers : List WorkerReport → Note
 note_of_workers reports =
     if list_any (λ report. is_starved report.end) reports then NoMemory else (if list_any (λ report. is_refused report.end) reports then NetFault else Fine)
 
--- the note of the last look, where there is a place to forward to
+-- The note of the last look: `Fine` where nothing was pending, its session was acknowledged to the end, or there is no place to forward
+-- to; else what failed.
 abbrev pub note_of_look : Option Outcome → Note
 note_of_look None = Fine
 note_of_look (Some outcome.Idle) = Fine
@@ -41,10 +43,12 @@ note_of_run reports last = first_of (note_of_workers reports) (note_of_look last
 abbrev pub talks_of : List WorkerReport → ℕ
 talks_of reports = sum_by (λ report. report.finished) reports
 
--- The line is printed after a run that ended so, unless no memory was found in it.
-abbrev pub PrintsLast : Note → List ℕ → Note → Option (List ℕ) → Option (List ℕ) → Type 0
-PrintsLast NoMemory line note old new = (note ≡ NoMemory) × (new ≡ old)
-PrintsLast ended line note old new = PrintsAfter ended line note old new
+-- The line is printed after a run that ended so, unless no memory was found in it: whole; or cut, where a write of it failed; or not at
+-- all, where no memory was found for it. The output's count of writes that failed rose where a write of the line failed, and nowhere
+-- else.
+abbrev pub PrintsLast : Note → List ℕ → Note → (writes writes' : ℕ) → Option (List ℕ) → Option (List ℕ) → Type 0
+PrintsLast NoMemory line note writes writes' old new = (note ≡ NoMemory) × (writes' ≡ writes) × (new ≡ old)
+PrintsLast ended line note writes writes' old new = (prints : PrintsAfter ended line note old new) × CountsFaults (prints.print ≡ WriteFault) writes writes'
 
 -- the note is that of the run, or of the print of its line
 abbrev pub IsNoteOf : Note → Note → Type 0

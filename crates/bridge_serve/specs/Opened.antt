@@ -22,12 +22,19 @@ IsOpenedDesk tells device x = tells × (s : SpoolState) × StandsFor s device ×
 abbrev pub IsSince : Type 0 → Moment → ℕ → List ℕ → Type 0
 IsSince tells old t c = tells → (t ≡ old.clock → IsOpening Raise old c) × (t ≤ old.clock → old.image_since t c ⊎ IsOpening Raise old c)
 
--- What is told of the disk as the desk was given, by what was told before the opening: no call failed meanwhile.
+-- What the disk tells as the desk was given, by what it told before the opening: no call failed meanwhile.
 abbrev pub opened_at : Type 0 → Moment → ℕ → Moment
-opened_at tells old clock = record { size = old.size; reads = old.reads; image = IsOpening Raise old; clock = clock; image_since = IsSince tells old; faults = old.faults }
+opened_at tells old clock = record {
+  size = old.size;
+  reads = old.reads;
+  image = IsOpening Raise old;
+  clock = clock;
+  image_since = IsSince tells old;
+  faults = old.faults;
+}
 
--- The spool stands as it does once it was opened, from a disk that told this before: no call failed, and whatever a crash left meanwhile is
--- what it could leave as the opening began, or stands for the state with the run raised or not.
+-- The spool stands as it does once it was opened, from a disk that told this before: no call failed, and whatever a crash left
+-- meanwhile is what it could leave as the opening began, or stands for the state with the run raised or not.
 pub record IsOpenedFrom (tells : Type 0) (old : Moment) (spool : View) : Type 0 where
   pub calls : Calls ⊥ old spool.moment
   pub opens : tells → (s : SpoolState) × Opens Raise s old.reads spool
@@ -37,8 +44,8 @@ pub record IsOpenedFrom (tells : Type 0) (old : Moment) (spool : View) : Type 0 
 abbrev pub desk_over : Memory → Bool → Moment → Table → AloneView
 desk_over memory in_doubt moment ids = alone_view (view memory in_doubt moment) ids None 0 0
 
--- The device was opened for storing, and nothing was done with the spool: whatever a crash leaves now stands for the state with the run
--- raised.
+-- The device was opened for storing, and nothing was done with the spool: whatever a crash leaves now stands for the state with the
+-- run raised.
 pub record IsOpenedOnly (old new : Moment) : Type 0 where
   pub state : SpoolState
   pub stood : StandsFor state old.reads

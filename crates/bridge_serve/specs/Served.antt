@@ -6,6 +6,7 @@ use Rattle.edge_disk.specs.Disk.{Moment, LeavesOnly}
 use Rattle.edge_io.specs.Door.{DoorState}
 use Rattle.edge_io.specs.Net.{NetState, SameHung}
 use Rattle.conn_serve.specs.declared.rules.Rules.{Rules}
+use Rattle.conn_serve.specs.Endings.{CountsFaults}
 use Rattle.spool_state.specs.SpoolState.{SpoolState, end}
 use Rattle.spool_state.specs.Left.{left}
 use Rattle.spool_log.specs.declared.memory.Memory.{Memory}
@@ -27,19 +28,19 @@ use Rattle.bridge_serve.specs.Noted.{IsNoteOf, note_of_run, talks_of, PrintsLast
 use Rattle.bridge_serve.specs.Opened.{IsOpenedDesk, opened_at, desk_over, IsOpenedOnly}
 use Rattle.bridge_serve.specs.Promised.{Promises}
 
--- No worker began: a place was not bound, and the net's count of faults rose, or no memory was found. Nothing was taken, no link was
--- hung up, and nothing was printed.
+-- No worker began: a place was not bound, or no memory was found. The net's count of faults rose where a bind failed, and nowhere else.
+-- Nothing was taken, no link was hung up, and nothing was printed.
 pub record IsUnserved (tells : Type 0) (old new : Moment) (net net' : NetState) (taken taken' : Option (List ℕ)) (note : Note) : Type 0 where
   pub why : (note ≡ NoMemory) ⊎ ((note ≡ NetFault) × Rose 1 net.net_faults net'.net_faults)
   pub opened : tells → IsOpenedOnly old new
   pub calls : Calls ⊥ old new
   pub hung : SameHung net net'
-  pub net_faults : net.net_faults ≤ net'.net_faults
+  pub binds : CountsFaults (note ≡ NetFault) net.net_faults net'.net_faults
   pub silent : taken' ≡ taken
 
 -- The workers served at the doors, and the forwarder beside them, over a spool that was opened for storing: one journal of all their
--- calls led the desk from the state in which the device was opened to where it is. Whatever a crash left meanwhile is what it could leave as the
--- opening began, or stands for the opened state with its run raised or not, or for one on the way of the journal.
+-- calls led the desk from the state in which the device was opened to where it is. Whatever a crash left meanwhile is what it could
+-- leave as the opening began, or stands for the opened state with its run raised or not, or for one on the way of the journal.
 pub record RunsOver (tells : Type 0) (old new : Moment) (talks : ℕ) (rules : List Rules) (doors doors' : List DoorState) (reports : List WorkerReport)
     (destination : Option Destination) (net net' : NetState) (last : Option Outcome) (memory : Memory) (in_doubt : Bool) : Type 0 where
   pub run : ℕ
@@ -47,8 +48,8 @@ pub record RunsOver (tells : Type 0) (old new : Moment) (talks : ℕ) (rules : L
   pub later : tells → old.clock ≤ clock
   pub opened : tells → (x : DeskState) × IsOpenedDesk tells old.reads x
   pub ids : Table
-  pub served : HasServed tells (IsOpenedDesk tells old.reads) run (length doors + 1) (opened_at tells old clock) talks rules doors doors' reports destination net net' last
-      (desk_over memory in_doubt new ids)
+  pub served : HasServed tells (IsOpenedDesk tells old.reads) run (length doors + 1) (opened_at tells old clock) talks rules doors doors'
+      reports destination net net' last (desk_over memory in_doubt new ids)
   pub any_moment : (x : DeskState) → IsOpenedDesk tells old.reads x → LeavesOnly (λ c. IsOpening Raise old c ⊎ Stood x served.log c) old new
 
 -- What was done between two states, in numbers: entries that were taken, entries left before or taken that aren't left, and entries
@@ -60,8 +61,8 @@ pub record Counts (before after : SpoolState) (stored confirmed remaining : ℕ)
 
 -- The server ran over the spool, at these doors. At the end the line tells the numbers of the journal, and how many connections
 -- were given back. The note is that of the workers, or of the last look, or of the print: of the first that didn't end well.
-pub record IsRunAt (talks : ℕ) (destination : Option Destination) (tells : Type 0) (old new : Moment) (net net' : NetState) (rules : List Rules) (doors doors' : List DoorState)
-    (taken taken' : Option (List ℕ)) (note : Note) : Type 0 where
+pub record IsRunAt (talks : ℕ) (destination : Option Destination) (tells : Type 0) (old new : Moment) (net net' : NetState)
+    (rules : List Rules) (doors doors' : List DoorState) (writes writes' : ℕ) (taken taken' : Option (List ℕ)) (note : Note) : Type 0 where
   pub reports : List WorkerReport
   pub last : Option Outcome
   -- How single connections ended doesn't change the note.
@@ -74,21 +75,26 @@ pub record IsRunAt (talks : ℕ) (destination : Option Destination) (tells : Typ
   pub stored : ℕ
   pub confirmed : ℕ
   pub remaining : ℕ
-  pub numbers : (x : DeskState) (is : IsOpenedDesk tells old.reads x) → Counts x.spool (over.served.closes.replays.leads x is).after.spool stored confirmed remaining
-  pub printed : PrintsLast (note_of_run reports last) (serve_line (talks_of reports) stored confirmed remaining) note taken taken'
-  -- a net fault is told only where the net's own count rose, or that of a door
+  pub numbers : (x : DeskState) (is : IsOpenedDesk tells old.reads x)
+      → Counts x.spool (over.served.closes.replays.leads x is).after.spool stored confirmed remaining
+  pub printed : PrintsLast (note_of_run reports last) (serve_line (talks_of reports) stored confirmed remaining) note writes writes' taken taken'
+  -- the note reports a net fault only where the net's own count rose, or that of a door
   pub cause : note ≡ NetFault → Rose 1 net.net_faults net'.net_faults ⊎ SomeRose doors doors'
 
 -- The doors of the words were bound, and the server ran there.
-pub record IsRun (server : Server) (tells : Type 0) (old new : Moment) (net net' : NetState) (doors' : List DoorState) (taken taken' : Option (List ℕ)) (note : Note) : Type 0 where
+pub record IsRun (server : Server) (tells : Type 0) (old new : Moment) (net net' : NetState) (doors' : List DoorState) (writes writes' : ℕ)
+    (taken taken' : Option (List ℕ)) (note : Note) : Type 0 where
   pub doors : List DoorState
   pub rules : List Rules
   pub bound : AreBound server doors rules
-  pub ran : IsRunAt server.talks (destination_of server.forward) tells old new net net' rules doors doors' taken taken' note
+  pub ran : IsRunAt server.talks (destination_of server.forward) tells old new net net' rules doors doors' writes writes' taken taken' note
 
--- What was done: the device was not opened, and then no door was bound and nothing was dialed; or no worker began; or the server ran.
-abbrev pub IsServed : Server → Type 0 → Moment → Moment → NetState → NetState → List DoorState → Option (List ℕ) → Option (List ℕ) → Note → Type 0
-IsServed server tells old new net net' doors' taken taken' note =
-    (IsUnopened tells old new note × (net' ≡ net) × (doors' ≡ []) × (taken' ≡ taken))
+-- What was done: the device was not opened, and then no door was bound and nothing was dialed; or no worker began; or the server
+-- ran. `Same` says that the net is the very net that was given: no place was bound at it, and none was dialed. `writes writes'` are
+-- the output's counts of writes that failed.
+abbrev pub IsServed : (Same : Type 0) → Server → (tells : Type 0) → Moment → Moment → NetState → NetState → List DoorState
+    → (writes writes' : ℕ) → Option (List ℕ) → Option (List ℕ) → Note → Type 0
+IsServed Same server tells old new net net' doors' writes writes' taken taken' note =
+    (IsUnopened tells old new note × Same × (net' ≡ net) × (doors' ≡ []) × (taken' ≡ taken))
     ⊎ ((IsUnserved tells old new net net' taken taken' note × (doors' ≡ []))
-    ⊎ IsRun server tells old new net net' doors' taken taken' note)
+    ⊎ IsRun server tells old new net net' doors' writes writes' taken taken' note)

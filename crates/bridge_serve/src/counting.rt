@@ -7,17 +7,19 @@ use bridge_parts::pending_count;
 use edge_disk::Disk;
 use spool_log::Spool;
 
-/// How many numbers a spool has given out, and how many entries it has that aren't known as confirmed.
+/// Two numbers of a spool. Those of two moments give what was taken and confirmed in between.
 #[derive(Clone, Copy, Debug, PartialEq, Eq)]
 pub(crate) struct Numbers {
+    /// The number that the next entry gets. The first entry has 0.
     pub(crate) end: u64,
+    /// How many entries aren't known as confirmed.
     pub(crate) left: u64,
     ghost few: { left ≤ end },
     ghost limit: { end ≤ 2 ^ 63 },
 }
 
 impl Numbers {
-    /// Those of a spool. In doubt they are as before the call that failed.
+    /// The numbers of the spool. While it is in doubt, they are those before the call that failed.
     pub(crate) fn of<D: Disk>(spool: &Spool<D>) -> Numbers
         ensures end { result.end ≡ end_of spool.now.memory }
         ensures left { result.left ≡ pending_in spool.now.memory }
@@ -28,14 +30,15 @@ impl Numbers {
         }
     }
 
-    /// How many entries were taken since these numbers.
+    /// How many entries were taken between these numbers and the later ones.
     pub(crate) fn taken(&self, now: &Numbers) -> u64
         ensures { result ≡ now.now.end - self.now.end }
     {
         now.end.saturating_sub(self.end)
     }
 
-    /// How many entries that were left then, or were taken since, aren't left now.
+    /// How many entries became known as confirmed between these numbers and the later ones: of those that were left or were taken
+    /// since, so many aren't left now.
     pub(crate) fn confirmed(&self, now: &Numbers) -> u64
         ensures { result ≡ self.now.left + (now.now.end - self.now.end) - now.now.left }
     {

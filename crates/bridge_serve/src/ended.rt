@@ -4,19 +4,20 @@ ghost use Rattle.std.specs.Prelude.{◌≡◌, []};
 use bridge_words::Note;
 use std::alloc::Global;
 
-/// How a server's run ended: why, the disk that was handed in, and the doors that served, in the order of their workers.
+/// How a server's run ended: why, the disk that was handed in, and the doors that served.
 #[derive(Drop)]
 pub struct Over<D, P> {
-    /// Why it ended.
+    /// Why it ended. It gives the program's exit status.
     pub note: Note,
-    /// The disk that was handed in.
+    /// The disk that was handed in, with the spool as the run left it.
     pub disk: D,
-    /// The doors, each with the connections that were given back to it. There is none where no worker began.
+    /// The doors in the order of their workers, each with the connections that were given back to it. There is none where no worker
+    /// began.
     pub doors: Vec<P>,
 }
 
 impl<D, P> Over<D, P> {
-    /// A run in which no worker began.
+    /// A run in which no worker began, and so no door comes back.
     pub(crate) fn unserved(alloc: Global, note: Note, disk: D) -> Over<D, P>
         ensures note { result.note ≡ note }
         ensures disk { result.disk ≡ disk }

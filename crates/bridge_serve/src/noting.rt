@@ -1,4 +1,4 @@
-//! Why a run ended that served.
+//! The note of a run of the server, by what its workers report and what came of the last look of its forwarder.
 ghost use Rattle.std.specs.Prelude.{◌≡◌};
 ghost use Rattle.std.specs.List.{list_any};
 ghost use Rattle.bridge_serve.specs.Noted.{is_starved, is_refused, note_of_workers, note_of_look, note_of_run};
@@ -28,7 +28,7 @@ fn is_refused(end: WorkerEnd) -> bool
     }
 }
 
-// Whether one of the workers found none.
+// Whether one of the workers found no memory to give a link back.
 fn some_starved(reports: &[WorkerReport]) -> bool
     ensures { result ≡ list_any (λ (report : _). is_starved report.end) reports.now }
 {
@@ -42,7 +42,7 @@ fn some_refused(reports: &[WorkerReport]) -> bool
     reports.iter().any(|report| is_refused(report.end))
 }
 
-// The note of the workers: want of memory in one of them, or else an accept of one that failed.
+// The note of the workers: want of memory in one of them, or else an accept of one that failed, or else that all is well.
 fn workers_note(reports: &[WorkerReport]) -> Note
     ensures { result ≡ note_of_workers reports.now }
 {
@@ -55,7 +55,8 @@ fn workers_note(reports: &[WorkerReport]) -> Note
     }
 }
 
-// The note of the last look, where there is a place to forward to.
+// The note of the last look: why the desk was not read, why the place was not dialed, or how the session ended. All is well where
+// nothing was pending, or where there is no place to forward to.
 fn look_note(last: Option<Outcome>) -> Note
     ensures { result ≡ note_of_look last }
 {
@@ -67,7 +68,8 @@ fn look_note(last: Option<Outcome>) -> Note
     }
 }
 
-/// The note of a run before its line is printed: that of the workers, or where they ended well that of the last look.
+/// The note of a run before its line is printed: that of the workers, or where that is `Fine` that of the last look, which is `None`
+/// where there is no place to forward to. How single connections ended doesn't change it.
 pub(crate) fn run_note(reports: &[WorkerReport], last: Option<Outcome>) -> Note
     ensures { result ≡ note_of_run reports.now last }
 {

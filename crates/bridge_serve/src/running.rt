@@ -1,4 +1,4 @@
-//! A run over an opened spool.
+//! A run of the server over a spool that was opened for storing.
 ghost use Rattle.std.specs.Prelude.{◌≡◌, ◌⊎◌, ◌+◌, ◌<◌, ◌^◌, ◌≤◌, false, map, IfOk, IfErr, IfSome, option_copied, vec_len};
 ghost use Rattle.edge_disk.specs.Calls.{Calls};
 ghost use Rattle.spool_log.specs.State.{view};
@@ -23,8 +23,9 @@ use std::snapshot::Snapshot;
 use std::sync::Wait;
 use std::thread::Threads;
 
-// Runs the server over the desk, under its name. By the disk as it was before the opening a caller says which name that is. The
-// error is want of memory, and gives back the desk.
+// Runs the server over a desk that has a name, by which the passes of workers and forwarder are passes of this desk and no other. The
+// disk as it was before the opening stands in the proof alone, which says by it which name that is. The error is want of memory before
+// a worker began, and gives back the desk.
 fn run_named<
     D: Disk + Drop + Send,
     N: Net + Send,
@@ -68,8 +69,11 @@ where
     }
 }
 
-/// Runs the server over a spool that was opened for storing, from a disk as it was `before`. The error is want of memory before a worker
-/// began, and gives back the desk.
+/// Runs the server over a spool that was opened for storing, from a disk as it was `before`: a worker at each of the doors, which ends
+/// after `talks` connections at the latest, and a forwarder beside them where there is a destination. The result has the desk, the
+/// doors, what the workers report, and what came of the forwarder's last look.
+///
+/// The error is want of memory before a worker began, and gives back the desk.
 pub(crate) fn run_over<D: Disk + Drop + Send, N: Net + Send, R: Threads + Wait + Sync>(
     rt: &R,
     alloc: Global,
@@ -93,8 +97,8 @@ where
     ensures many { IfOk result (λ served. (vec_len served.doors ≡ vec_len posts) × (vec_len served.reports ≡ vec_len posts)) }
     ensures over { IfOk result (λ served. RunsOver D.tells (D.moment before.value) (D.moment served.desk.spool.disk) talks
         (map (λ (post : _). post.rules) posts.items) (map (λ (post : _). N.P.told post.door) posts.items)
-        (map (λ (door : _). N.P.told door) served.doors.items) served.reports.items (option_copied destination.entry) (N.told net.old) (N.told net.new) served.last
-        served.desk.spool.memory served.desk.spool.doubt) }
+        (map (λ (door : _). N.P.told door) served.doors.items) served.reports.items (option_copied destination.entry)
+        (N.told net.old) (N.told net.new) served.last served.desk.spool.memory served.desk.spool.doubt) }
     ensures err { IfErr result (λ desk. (net.new ≡ net.old) × Calls ⊥ (D.moment before.value) (D.moment desk.spool.disk)
         × (D.tells → IsOpenedOnly (D.moment before.value) (D.moment desk.spool.disk))) }
 {

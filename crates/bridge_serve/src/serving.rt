@@ -31,7 +31,7 @@ use std::snapshot::Snapshot;
 use std::sync::Wait;
 use std::thread::Threads;
 
-// Where the words forward to, and how a session speaks there.
+// The place that the words forward to, if they name one, and how a session speaks to its peer there.
 fn destination_of(forward: Option<Relay>) -> Option<Destination>
     ensures { result ≡ destination_of forward }
 {
@@ -44,7 +44,7 @@ fn destination_of(forward: Option<Relay>) -> Option<Destination>
     }
 }
 
-// Tells what a run came to that began with these numbers.
+// Prints the line of a run that began with these numbers of the spool, and hands on the disk and the doors that came back.
 fn finish<D: Disk, P: Door + Drop, K: Sink>(
     alloc: Global,
     opening: Numbers,
@@ -60,7 +60,7 @@ fn finish<D: Disk, P: Door + Drop, K: Sink>(
     ensures printed { let taken = end_of served.desk.spool.memory - opening.end in
         PrintsLast (note_of_run served.reports.items served.last)
         (serve_line (talks_of served.reports.items) taken (opening.left + taken - pending_in served.desk.spool.memory) (pending_in served.desk.spool.memory))
-        result.note (K.taken output.old) (K.taken output.new) }
+        result.note (K.write_faults output.old) (K.write_faults output.new) (K.taken output.old) (K.taken output.new) }
 {
     let Served {
         desk,
@@ -83,7 +83,8 @@ fn finish<D: Disk, P: Door + Drop, K: Sink>(
     }
 }
 
-// Serves at the doors, over the spool that was opened for storing from a disk as it was `before`.
+// Serves at the doors, over the spool that was opened for storing from a disk as it was `before`, and prints the line. Where no memory
+// was found before a worker began, the note is `NoMemory`, and no door comes back.
 fn serve_posts<D: Disk + Drop + Send, K: Sink, N: Net + Send, R: Threads + Wait + Sync>(
     rt: &R,
     alloc: Global,
@@ -108,13 +109,15 @@ where
     ensures known { (result.note ≢ Usage) × ((have want : ℕ) → result.note ≢ WrongLength have want) }
     ensures calls { DiskRoseBy (result.note ≡ Note.DiskFault) (D.moment before.value) (D.moment result.disk) }
     ensures reads { RoseBy (result.note ≡ Note.ReadFault) (N.told net.old).read_faults (N.told net.new).read_faults }
-    ensures writes { WritesOfBoth result.note (K.write_faults output.old) (K.write_faults output.new) (N.told net.old).write_faults (N.told net.new).write_faults }
+    ensures writes { WritesOfBoth result.note (K.write_faults output.old) (K.write_faults output.new) (N.told net.old).write_faults
+        (N.told net.new).write_faults }
     ensures dials { (N.told net.old).net_faults ≤ (N.told net.new).net_faults }
-    ensures ran { (IsUnserved D.tells (D.moment before.value) (D.moment result.disk) (N.told net.old) (N.told net.new) (K.taken output.old) (K.taken output.new) result.note
-        × (result.doors.items ≡ []))
+    ensures ran { (IsUnserved D.tells (D.moment before.value) (D.moment result.disk) (N.told net.old) (N.told net.new)
+        (K.taken output.old) (K.taken output.new) result.note × (result.doors.items ≡ []))
         ⊎ IsRunAt talks destination D.tells (D.moment before.value) (D.moment result.disk) (N.told net.old) (N.told net.new)
-        (map (λ (post : _). post.rules) posts.items) (map (λ (post : _). N.P.told post.door) posts.items) (map (λ (door : _). N.P.told door) result.doors.items)
-        (K.taken output.old) (K.taken output.new) result.note }
+        (map (λ (post : _). post.rules) posts.items) (map (λ (post : _). N.P.told post.door) posts.items)
+        (map (λ (door : _). N.P.told door) result.doors.items)
+        (K.write_faults output.old) (K.write_faults output.new) (K.taken output.old) (K.taken output.new) result.note }
 {
     let opening = Numbers::of(&spool);
     match run_over(
@@ -132,14 +135,21 @@ where
     }
 }
 
-/// Serves many senders at once, over the spool that the device holds, of which the run is raised by one first: workers at the
-/// doors of each place, and a forwarder beside them where there is a place to forward to. Once the workers have ended, what is
-/// left is forwarded once more, and one line tells how many connections were served, and how many entries were taken, confirmed
-/// and left.
+/// Serves many senders at once, over the spool that the device holds, of which the run is raised by one first: at each place of the
+/// words as many workers as they say, each at a door of its own, and a forwarder beside them where there is a place to forward to.
+/// Once the workers have ended, what is left is forwarded once more, and one line reports how many connections were served, and how
+/// many entries were stored, confirmed and left.
 ///
-/// The note is that of the first of these that failed: the opening of the device, and then no door is bound and nothing is dialed;
-/// the binding of a door; want of memory in making the desk that the workers share, or in a worker; an accept; the last look at what is
-/// left, its dial or its session; the output. How a single connection ended doesn't change it.
+/// The note is that of the first of these that failed:
+///
+/// - the opening of the device, and then no door is bound and nothing is dialed;
+/// - the binding of a door (`NetFault`), or want of memory for it or for the desk that the workers share: no worker began, and nothing
+///   is printed;
+/// - a worker that found no memory (`NoMemory`), or an accept (`NetFault`);
+/// - the last look at what is left: its read of the desk, its dial (`NetFault`) or its session;
+/// - the line, for which no memory was found (`NoMemory`), or a write of it (`WriteFault`).
+///
+/// Where no memory was found in the run no line is printed. How a single connection ended doesn't change the note.
 pub fn serve<D: Disk + Drop + Send, K: Sink, N: Net + Send, R: Threads + Wait + Sync>(
     rt: &R,
     alloc: Global,
@@ -159,9 +169,11 @@ where
     ensures known { (result.note ≢ Usage) × ((have want : ℕ) → result.note ≢ WrongLength have want) }
     ensures calls { DiskRoseBy (result.note ≡ Note.DiskFault) (D.moment disk) (D.moment result.disk) }
     ensures reads { RoseBy (result.note ≡ Note.ReadFault) (N.told net.old).read_faults (N.told net.new).read_faults }
-    ensures writes { WritesOfBoth result.note (K.write_faults output.old) (K.write_faults output.new) (N.told net.old).write_faults (N.told net.new).write_faults }
+    ensures writes { WritesOfBoth result.note (K.write_faults output.old) (K.write_faults output.new) (N.told net.old).write_faults
+        (N.told net.new).write_faults }
     ensures dials { (N.told net.old).net_faults ≤ (N.told net.new).net_faults }
-    ensures served { IsServed server D.tells (D.moment disk) (D.moment result.disk) (N.told net.old) (N.told net.new) (map (λ (door : _). N.P.told door) result.doors.items)
+    ensures served { IsServed (net.new ≡ net.old) server D.tells (D.moment disk) (D.moment result.disk) (N.told net.old) (N.told net.new)
+        (map (λ (door : _). N.P.told door) result.doors.items) (K.write_faults output.old) (K.write_faults output.new)
         (K.taken output.old) (K.taken output.new) result.note }
 {
     let before = Snapshot::of(&disk);

@@ -4,7 +4,7 @@ ghost use Rattle.conn_serve.specs.Endings.{CountsFaults};
 ghost use Rattle.bridge_words.specs.declared.note.Note.TheVariants.{WriteFault};
 ghost use Rattle.bridge_words.specs.Lines.{serve_line};
 ghost use Rattle.bridge_parts.specs.Counted.{WroteAfter};
-ghost use Rattle.bridge_parts.specs.Written.{IsWritten};
+ghost use Rattle.bridge_parts.specs.Written.{IsPrinted};
 ghost use Rattle.bridge_serve.specs.Noted.{talks_of, PrintsLast};
 
 use bridge_parts::first_of;
@@ -13,16 +13,16 @@ use edge_io::{Sink, write_whole};
 use serve_workers::WorkerReport;
 use std::alloc::Global;
 
-/// What a run came to, in numbers.
+/// What a run came to, in the numbers of its line.
 #[derive(Clone, Copy, Debug, PartialEq, Eq)]
 pub(crate) struct Summary {
-    /// The connections that were served to their end and given back.
+    /// How many connections were served to their end and given back.
     pub(crate) talks: u64,
-    /// The entries that were stored.
+    /// How many entries were stored.
     pub(crate) taken: u64,
-    /// The entries that became known as confirmed.
+    /// How many entries became known as confirmed.
     pub(crate) confirmed: u64,
-    /// The entries that aren't known as confirmed.
+    /// How many entries aren't known as confirmed.
     pub(crate) left: u64,
 }
 
@@ -38,11 +38,11 @@ pub(crate) fn count_talks(reports: &[WorkerReport]) -> u64
     talks
 }
 
-// Prints the line.
+// Prints the line. The note is `WriteFault` where a write of it failed, `NoMemory` where none was found to make it, and else `Fine`.
 fn print_summary<K: Sink>(alloc: Global, output: &mut K, summary: Summary) -> Note
     ensures writes { CountsFaults (result ≡ WriteFault) (K.write_faults output.old) (K.write_faults output.new) }
     ensures undisturbed { (result ≡ Note.Fine) ⊎ ((result ≡ WriteFault) ⊎ (result ≡ Note.NoMemory)) }
-    ensures line { IsWritten result (serve_line summary.talks summary.taken summary.confirmed summary.left) (K.taken output.old) (K.taken output.new) }
+    ensures line { IsPrinted result (serve_line summary.talks summary.taken summary.confirmed summary.left) (K.taken output.old) (K.taken output.new) }
 {
     let Ok(line) = serve_line(
         alloc,
@@ -59,8 +59,8 @@ fn print_summary<K: Sink>(alloc: Global, output: &mut K, summary: Summary) -> No
     }
 }
 
-/// Prints the line after a run that ended so, unless no memory was found in it. The note is that of the run, or where that was well
-/// of the print.
+/// Prints the line after a run that ended with this note, unless the note is `NoMemory`: then nothing is printed. The result is the
+/// run's note, or where that is `Fine` the print's: `Fine`, `WriteFault` or `NoMemory`.
 pub(crate) fn print_after<K: Sink>(
     alloc: Global,
     output: &mut K,
@@ -69,7 +69,8 @@ pub(crate) fn print_after<K: Sink>(
 ) -> Note
     ensures writes { WroteAfter ended result (K.write_faults output.old) (K.write_faults output.new) }
     ensures note { (result ≡ ended) ⊎ ((result ≡ WriteFault) ⊎ (result ≡ Note.NoMemory)) }
-    ensures printed { PrintsLast ended (serve_line summary.talks summary.taken summary.confirmed summary.left) result (K.taken output.old) (K.taken output.new) }
+    ensures printed { PrintsLast ended (serve_line summary.talks summary.taken summary.confirmed summary.left) result
+        (K.write_faults output.old) (K.write_faults output.new) (K.taken output.old) (K.taken output.new) }
 {
     match ended {
         Note::NoMemory => Note::NoMemory,

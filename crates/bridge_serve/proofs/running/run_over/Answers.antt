@@ -6,7 +6,8 @@ use Rattle.spool_log.specs.declared.opening.Opening.TheVariants.{Raise}
 use Rattle.spool_log.specs.Opening.{opened, IsOpening}
 use Rattle.desk_access.specs.Alone.{alone_at, IsAt}
 use Rattle.bridge_serve.specs.Opened.{IsOpenedOnly}
-use Rattle.bridge_serve.proofs.Opening.{desk_is, desk_at, began_at, opened_only, given_back, given_calls, runs_over, if_ok, if_err}
+use Rattle.bridge_parts.proofs.Desks.{desk_at}
+use Rattle.bridge_serve.proofs.Opening.{desk_is, began_at, opened_only, given_back, given_calls, runs_over, if_ok, if_err}
 use Rattle.bridge_serve.proofs.running.run_over.Goals as goal
 
 pub run_named-requires-clause-name : goal.run_named-requires-clause-name
@@ -16,8 +17,12 @@ run_named-requires-clause-name g c κs within =
       table_is = refl;
       run_is = refl;
       start_is = λ x is.
-          let d = desk_is g.D.Disk.tells _ _ x c.requires.opened.opens is in
-          (is.0, subst (λ (y : _). IsAt y (alone_at c.in-Ok.unnamed.alone)) (sym d.desk) (desk_at (opened Raise d.state) c.new-ids.result c.run.result _ c.new-ids.ensures (c.run.ensures ∙ d.held.knows.run) (c.in-Ok.ensures.at (opened Raise d.state) is.0 d.held)));
+          let d = desk_is g.D.Disk.tells _ _ x c.requires.opened.opens is in (
+            is.0,
+            subst (λ (y : _). IsAt y (alone_at c.in-Ok.unnamed.alone)) (sym d.desk)
+                (desk_at (opened Raise d.state) c.new-ids.result c.run.result _ c.new-ids.ensures (c.run.ensures ∙ d.held.knows.run)
+                (c.in-Ok.ensures.at (opened Raise d.state) is.0 d.held)),
+          );
       began_is = began_at g.D.Disk.tells old _ (subst (λ (d : _). Calls ⊥ old (g.D.Disk.moment d.spool.disk)) (sym desk) c.requires.opened.calls)
           (λ told. subst (λ (d : _). LeavesOnly (IsOpening Raise old) old (g.D.Disk.moment d.spool.disk)) (sym desk) (c.requires.opened.any_moment told));
     }
@@ -25,24 +30,33 @@ run_named-requires-clause-name g c κs within =
 pub returns-in-Ok-clause-over : goal.returns-in-Ok-clause-over
 returns-in-Ok-clause-over g c =
     let old = g.D.Disk.moment c.args.before.value in
-    let later = λ (told : g.D.Disk.tells). subst (λ (d : _). old.clock ≤ (g.D.Disk.moment d.spool.disk).clock) (sym c.in-Ok.ensures.desk) (c.requires.opened.any_moment told).later in
-    if_ok _ _ c.run_named.result (λ served is. runs_over g.D.Disk.tells old _ _ _ _ _ _ _ _ _ _ _ _ _ _ _ _ _ c.requires.opened later (omega (arith, c.args.posts.ok.0, length-map c.args.posts.items (λ (post : _). g.N.P.Door.told post.door))) is) c.run_named.ensures.served
+    let later = λ (told : g.D.Disk.tells). subst (λ (d : _). old.clock ≤ (g.D.Disk.moment d.spool.disk).clock) (sym c.in-Ok.ensures.desk)
+    (c.requires.opened.any_moment told).later in
+    if_ok _ _ c.run_named.result (λ served is. runs_over g.D.Disk.tells old _ _ _ _ _ _ _ _ _ _ _ _ _ _ _ _ _ c.requires.opened later
+    (omega (arith, c.args.posts.ok.0, length-map c.args.posts.items (λ (post : _). g.N.P.Door.told post.door))) is) c.run_named.ensures.served
 
 pub returns-in-Ok-clause-err : goal.returns-in-Ok-clause-err
 returns-in-Ok-clause-err g c =
     let old = g.D.Disk.moment c.args.before.value in
     let tells = g.D.Disk.tells in
     let from = c.requires.opened in
-    let later = λ (told : g.D.Disk.tells). subst (λ (d : _). old.clock ≤ (g.D.Disk.moment d.spool.disk).clock) (sym c.in-Ok.ensures.desk) (from.any_moment told).later in
+    let later = λ (told : g.D.Disk.tells). subst (λ (d : _). old.clock ≤ (g.D.Disk.moment d.spool.disk).clock) (sym c.in-Ok.ensures.desk)
+    (from.any_moment told).later in
     if_err _ _ c.run_named.result (λ desk is. elim is.1 [
       | inl same ↦
-          let whole = same ∙ c.in-Ok.ensures.desk in
-          (is.0, subst (λ (d : _). Calls ⊥ old (g.D.Disk.moment d.spool.disk)) (sym whole) from.calls, λ told. subst (λ (d : _). IsOpenedOnly old (g.D.Disk.moment d.spool.disk)) (sym whole) (opened_only tells old _ from told))
+          let whole = same ∙ c.in-Ok.ensures.desk in (
+            is.0,
+            subst (λ (d : _). Calls ⊥ old (g.D.Disk.moment d.spool.disk)) (sym whole) from.calls,
+            λ told. subst (λ (d : _). IsOpenedOnly old (g.D.Disk.moment d.spool.disk)) (sym whole) (opened_only tells old _ from told),
+          )
       | inr none ↦ (is.0, given_calls tells old _ _ _ _ _ none, given_back tells old _ _ _ _ _ from later none)
     ]) c.run_named.ensures.err
 
 pub returns-in-Err-clause-err : goal.returns-in-Err-clause-err
 returns-in-Err-clause-err g c =
     let old = g.D.Disk.moment c.args.before.value in
-    let whole = c.in-Err.ensures.err in
-    (refl, subst (λ (d : _). Calls ⊥ old (g.D.Disk.moment d.spool.disk)) (sym whole) c.requires.opened.calls, λ told. subst (λ (d : _). IsOpenedOnly old (g.D.Disk.moment d.spool.disk)) (sym whole) (opened_only g.D.Disk.tells old _ c.requires.opened told))
+    let whole = c.in-Err.ensures.err in (
+      refl,
+      subst (λ (d : _). Calls ⊥ old (g.D.Disk.moment d.spool.disk)) (sym whole) c.requires.opened.calls,
+      λ told. subst (λ (d : _). IsOpenedOnly old (g.D.Disk.moment d.spool.disk)) (sym whole) (opened_only g.D.Disk.tells old _ c.requires.opened told),
+    )

@@ -19,12 +19,17 @@ returns-in-Err-clause-served g c =
         any_moment = λ tells. rw disk (c.in-Err.ensures.any_moment tells);
       },
       refl,
+      refl,
       ap (map (λ (door : _). g.N.P.Door.told door)) c.unserved.ensures.doors,
       refl,
     )
 
 pub serve_posts-requires-clause-opened : goal.serve_posts-requires-clause-opened
-serve_posts-requires-clause-opened g c κs within = rw c.of-before.ensures (record { calls = c.in-Ok.ensures.calls; opens = λ tells. c.in-Ok.ensures.opened tells; any_moment = λ tells. c.in-Ok.ensures.any_moment tells })
+serve_posts-requires-clause-opened g c κs within = rw c.of-before.ensures (record {
+  calls = c.in-Ok.ensures.calls;
+  opens = λ tells. c.in-Ok.ensures.opened tells;
+  any_moment = λ tells. c.in-Ok.ensures.any_moment tells;
+})
 
 pub returns-in-Ok-bind_doors-clause-served : goal.returns-in-Ok-bind_doors-clause-served
 returns-in-Ok-bind_doors-clause-served g c =
@@ -38,15 +43,21 @@ returns-in-Ok-bind_doors-clause-served g c =
 pub returns-in-Err-bind_doors-clause-served : goal.returns-in-Err-bind_doors-clause-served
 returns-in-Err-bind_doors-clause-served g c =
     let disk = c.unserved-in-Err-bind_doors.ensures.disk ∙ c.into_disk.ensures in
-    let why = net_refused (Unit {0}) c.in-Err-bind_doors.fault _ _ _ (c.unserved-in-Err-bind_doors.ensures.note ∙ c.net_note.ensures) c.in-Err-bind_doors.ensures.cause in
-    let from : IsOpenedFrom g.D.Disk.tells (g.D.Disk.moment c.args.disk) (view c.in-Ok.spool.memory c.in-Ok.spool.doubt (g.D.Disk.moment c.in-Ok.spool.disk)) = record { calls = c.in-Ok.ensures.calls; opens = λ tells. c.in-Ok.ensures.opened tells; any_moment = λ tells. c.in-Ok.ensures.any_moment tells } in
+    let why = net_refused (Unit {0}) c.in-Err-bind_doors.fault _ _ _ (c.unserved-in-Err-bind_doors.ensures.note ∙ c.net_note.ensures)
+    c.in-Err-bind_doors.ensures.cause in
+    let from : IsOpenedFrom g.D.Disk.tells (g.D.Disk.moment c.args.disk)
+    (view c.in-Ok.spool.memory c.in-Ok.spool.doubt (g.D.Disk.moment c.in-Ok.spool.disk)) = record {
+      calls = c.in-Ok.ensures.calls;
+      opens = λ tells. c.in-Ok.ensures.opened tells;
+      any_moment = λ tells. c.in-Ok.ensures.any_moment tells;
+    } in
     inr (inl (
       record {
         why = why.0;
         opened = λ tells. rw disk (opened_only g.D.Disk.tells _ _ from tells);
         calls = rw disk c.in-Ok.ensures.calls;
         hung = c.in-Err-bind_doors.ensures.rest;
-        net_faults = why.1;
+        binds = why.1;
         silent = refl;
       },
       ap (map (λ (door : _). g.N.P.Door.told door)) c.unserved-in-Err-bind_doors.ensures.doors,

@@ -1,5 +1,7 @@
 use Rattle.std.proofs.Common.{◌≡◌, ◌≤◌, ◌∙◌, inl, inr, length, map, refl, sym, ap, subst, arith}
 use Rattle.std.proofs.lemmas.List.{length-map}
+use Rattle.conn_serve.proofs.Faults.{counts_none}
+use Rattle.bridge_words.specs.declared.note.Note.{Note}
 use Rattle.bridge_parts.specs.Counted.{DiskRoseBy}
 use Rattle.bridge_serve.proofs.Ran.{known, disk_rose, read_rose, dials, writes_rose, ran_at}
 use Rattle.bridge_serve.proofs.serving.serve_posts.Goals as goal
@@ -26,12 +28,17 @@ returns-in-Ok-clause-ran g c =
     let posts = c.args.posts in
     let served = c.in-Ok.served in
     let many = c.in-Ok.ensures.many in
-    let rules : length (map (λ (post : _). post.rules) posts.items) ≡ length served.reports.items = omega (arith, length-map posts.items (λ (post : _). post.rules), many.1, posts.ok.0, served.reports.ok.0) in
-    let doors : length (map (λ (post : _). g.N.P.Door.told post.door) posts.items) ≡ length served.reports.items = omega (arith, length-map posts.items (λ (post : _). g.N.P.Door.told post.door), many.1, posts.ok.0, served.reports.ok.0) in
-    let doors' : length (map (λ (door : _). g.N.P.Door.told door) served.doors.items) ≡ length served.reports.items = omega (arith, length-map served.doors.items (λ (door : _). g.N.P.Door.told door), many.0, many.1, served.doors.ok.0, served.reports.ok.0) in
-    let few : length (map (λ (post : _). post.rules) posts.items) ≤ 64 = omega (arith, length-map posts.items (λ (post : _). post.rules), posts.ok.0, c.requires.few) in
+    let rules : length (map (λ (post : _). post.rules) posts.items) ≡ length served.reports.items =
+    omega (arith, length-map posts.items (λ (post : _). post.rules), many.1, posts.ok.0, served.reports.ok.0) in
+    let doors : length (map (λ (post : _). g.N.P.Door.told post.door) posts.items) ≡ length served.reports.items =
+    omega (arith, length-map posts.items (λ (post : _). g.N.P.Door.told post.door), many.1, posts.ok.0, served.reports.ok.0) in
+    let doors' : length (map (λ (door : _). g.N.P.Door.told door) served.doors.items) ≡ length served.reports.items =
+    omega (arith, length-map served.doors.items (λ (door : _). g.N.P.Door.told door), many.0, many.1, served.doors.ok.0, served.reports.ok.0) in
+    let few : length (map (λ (post : _). post.rules) posts.items) ≤ 64 =
+    omega (arith, length-map posts.items (λ (post : _). post.rules), posts.ok.0, c.requires.few) in
     let over = rw c.as_ref.ensures.value at c.in-Ok.ensures.over in
-    let ran = ran_at _ _ _ _ _ _ _ _ _ _ _ _ _ _ over _ c.finish.ensures.note _ c.of-opening.result.end c.of-opening.result.left _ _ c.requires.opened c.of-opening.ensures.end c.of-opening.ensures.left rules doors doors' few c.requires.talks c.finish.ensures.printed in
+    let ran = ran_at _ _ _ _ _ _ _ _ _ _ _ _ _ _ over _ c.finish.ensures.note _ c.of-opening.result.end c.of-opening.result.left _ _ _ _
+    c.requires.opened c.of-opening.ensures.end c.of-opening.ensures.left rules doors doors' few c.requires.talks c.finish.ensures.printed in
     inr (rw (c.finish.ensures.disk, c.finish.ensures.doors) ran)
 
 pub returns-clause-ran : goal.returns-clause-ran
@@ -43,8 +50,13 @@ returns-clause-ran g c =
         why = inl c.unserved.ensures.note;
         opened = rw disk c.in-Err.ensures.err.2;
         calls = rw disk c.in-Err.ensures.err.1;
-        hung = record { hung = ap (λ (n : _). n.hung) told; read_faults = ap (λ (n : _). n.read_faults) told; write_faults = ap (λ (n : _). n.write_faults) told };
-        net_faults = omega (arith, ap (λ (n : _). n.net_faults) told);
+        hung = record {
+          hung = ap (λ (n : _). n.hung) told;
+          read_faults = ap (λ (n : _). n.read_faults) told;
+          write_faults = ap (λ (n : _). n.write_faults) told;
+        };
+        binds = counts_none (c.unserved.result.note ≡ Note.NetFault) _ _ (λ by. let e = sym c.unserved.ensures.note ∙ by in cc)
+            (ap (λ (n : _). n.net_faults) told);
         silent = refl;
       },
       c.unserved.ensures.doors,

@@ -8,5 +8,5 @@ returns-in_default g c =
     let is = c.first_of.ensures in record {
       writes = wrote_after c.args.ended print c.first_of.result _ _ is (fine_or_fault print) c.print_summary.ensures.writes;
       note = note_of_both c.args.ended print c.first_of.result is c.print_summary.ensures.undisturbed;
-      printed = prints_last c.args.ended _ c.first_of.result _ _ c.in_default.not-NoMemory (record { print = print; written = c.print_summary.ensures.line; note_is = is });
+      printed = prints_last c.args.ended _ c.first_of.result _ _ _ _ c.in_default.not-NoMemory (record { print = print; written = c.print_summary.ensures.line; note_is = is }) c.print_summary.ensures.writes;
     }
