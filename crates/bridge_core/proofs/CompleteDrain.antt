@@ -34,16 +34,17 @@ use Rattle.forward_core.proofs.KnownLaw.{known_after}
 use Rattle.forward_core.proofs.SendsLaw.{sends_left}
 use Rattle.bridge_words.specs.declared.command.Command.TheVariants.{Drain}
 use Rattle.bridge_words.specs.declared.note.Note.{Note}
-use Rattle.bridge_core.specs.Complete.{Counts, IsRunOf, NoneFailed}
+use Rattle.bridge_core.specs.Complete.{NoneFailed}
 use Rattle.bridge_core.specs.CompleteDrain.{CanDrain, DrainEndsWell, DrainThereEndsWell, DrainsAll, HungUpNone, LeavesNothing, PeerAcknowledges, PeerHad, pending}
 use Rattle.bridge_core.specs.Done.{Run}
+use Rattle.bridge_core.specs.RunOf.{IsRunOf}
 use Rattle.bridge_core.specs.Drained.{IsIdle, IsLooked, IsOverSpool, IsSession, IsUnread, PrintsOf}
 use Rattle.bridge_core.specs.Listed.{IsUnreadable}
 use Rattle.bridge_parts.specs.Receivers.{outward_of}
 use Rattle.bridge_parts.specs.Refused.{note_of_sent}
 use Rattle.bridge_parts.specs.Opened.{desk_in}
 use Rattle.bridge_core.specs.Replayed.{Reaches}
-use Rattle.bridge_parts.specs.Written.{IsWritten}
+use Rattle.bridge_parts.specs.Written.{IsPrinted}
 use Rattle.bridge_core.proofs.Doing.{is_serve}
 use Rattle.bridge_core.proofs.Complete.{not_disk, not_read, not_write, not_dial}
 use Rattle.bridge_core.proofs.CompleteEndings.{kept}
@@ -123,7 +124,8 @@ pub record IsDrained (s : SpoolState) (after : DeskState) : Type 0 where
   pub end_is : end after.spool ≡ end s
   pub sure : after.doubt ≡ []
 
-module _ (settings : Settings) (proto : Proto) (left_after : Option (List ℕ)) (s : SpoolState) (now : Moment) (start until : ℕ) (sent : Sent) (bytes : List ℕ) (calls : List Call) (text whole : List ℕ) (sound : IsSound s) (room : s.ordinal + pending_count s ≤ most_number)
+module _ (settings : Settings) (proto : Proto) (left_after : Option (List ℕ)) (s : SpoolState) (now : Moment) (start until : ℕ) (sent : Sent)
+    (bytes : List ℕ) (calls : List Call) (text whole : List ℕ) (sound : IsSound s) (room : s.ordinal + pending_count s ≤ most_number)
     (start_is : start ≡ s.cursor) (until_is : until ≡ end s) (reached : Reaches s now calls) (k : Whole left_after whole bytes) (short : length whole < 2 ^ 40)
     (ended : Ended (EndsAs settings proto) (HintsAs proto) left_after until sent start bytes calls text) where
   made : calls_of reached.records ≡ calls
@@ -177,14 +179,14 @@ module _ (settings : Settings) (proto : Proto) (left_after : Option (List ℕ)) 
 
 -- ---- the run
 
-module _ (words : List (List ℕ)) (run : Run) (counts : Counts) (note : Note) (is : IsRunOf words run counts note) (none : NoneFailed run counts) (s : SpoolState) (can : CanDrain run s) where
+module _ (words : List (List ℕ)) (run : Run) (note : Note) (is : IsRunOf words run note) (none : NoneFailed run) (s : SpoolState) (can : CanDrain run s) where
   -- the device isn't refused
   unread : IsUnread run.tells run.disk run.disk_after note → DrainsAll run s note
   unread refused = by_note note refl (refused.why can.told)
     where
       by_note : (n : Note) → note ≡ n → IsUnreadable run.disk.reads n → DrainsAll run s note
       by_note (Note.NotSpool at) same breaks = absurd (stands_unbroken s run.disk.reads can.stands at breaks)
-      by_note Note.DiskFault same why = absurd (not_disk words run counts note is none same)
+      by_note Note.DiskFault same why = absurd (not_disk words run note is none same)
       by_note Note.NoMemory same why = inl same
       by_note n same never = absurd never
 
@@ -193,8 +195,10 @@ module _ (words : List (List ℕ)) (run : Run) (counts : Counts) (note : Note) (
   idle looked = inl (subst (λ (t : SpoolState). left t ≡ []) (one_state looked.state s run.disk.reads looked.stood can.stands) looked.is.1)
 
   -- one session: what remains of its endings, and what is left where all was drained
-  session_remains : (outward : Outward) (given given' before after written written' : Option (List ℕ)) (confirmed remaining : ℕ) (sent : Sent) (b : List ℕ) → IsSession outward given given' before after written written' (IsOverSpool run.tells run.disk run.disk_after confirmed remaining) sent
-      → ((bytes : List ℕ) → Appends given given' bytes → Consumes before after bytes → Whole after b bytes) → length b < 2 ^ 40 → PeerAcknowledges (settings_as outward) outward.proto (pending s) b → Remains sent × (sent ≡ Ending.Drained → LeavesNothing s run.disk_after)
+  session_remains : (outward : Outward) (given given' before after written written' : Option (List ℕ)) (confirmed remaining : ℕ) (sent : Sent)
+      (b : List ℕ) → IsSession outward given given' before after written written' (IsOverSpool run.tells run.disk run.disk_after confirmed remaining) sent
+      → ((bytes : List ℕ) → Appends given given' bytes → Consumes before after bytes → Whole after b bytes) → length b < 2 ^ 40
+      → PeerAcknowledges (settings_as outward) outward.proto (pending s) b → Remains sent × (sent ≡ Ending.Drained → LeavesNothing s run.disk_after)
   session_remains outward given given' before after written written' confirmed remaining sent b session input short answers =
       let f = session.forwards in
       let made = f.made can.told in
@@ -213,53 +217,58 @@ module _ (words : List (List ℕ)) (run : Run) (counts : Counts) (note : Note) (
   -- the note of what remains
   by_sent : (sent : Sent) → note ≡ note_of_sent sent → Remains sent × (sent ≡ Ending.Drained → LeavesNothing s run.disk_after) → DrainsAll run s note
   by_sent Ending.Drained same r = inr (same, r.1 refl)
-  by_sent Ending.ReadFault same r = absurd (not_read words run counts note is none same)
-  by_sent Ending.WriteFault same r = absurd (not_write words run counts note is none same)
-  by_sent Ending.DiskFault same r = absurd (not_disk words run counts note is none same)
+  by_sent Ending.ReadFault same r = absurd (not_read words run note is none same)
+  by_sent Ending.WriteFault same r = absurd (not_write words run note is none same)
+  by_sent Ending.DiskFault same r = absurd (not_disk words run note is none same)
   by_sent Ending.NoMemory same r = inl same
   by_sent sent same r = absurd r.0
 
   -- a line was written as the note says
-  by_line : (line : List ℕ) (old new : Option (List ℕ)) → IsWritten note line old new → LeavesNothing s run.disk_after → DrainsAll run s note
+  by_line : (line : List ℕ) (old new : Option (List ℕ)) → IsPrinted note line old new → LeavesNothing s run.disk_after → DrainsAll run s note
   by_line line old new written nothing = by_note note refl written
     where
-      by_note : (n : Note) → note ≡ n → IsWritten n line old new → DrainsAll run s note
+      by_note : (n : Note) → note ≡ n → IsPrinted n line old new → DrainsAll run s note
       by_note Note.Fine same w = inr (same, nothing)
-      by_note Note.WriteFault same w = absurd (not_write words run counts note is none same)
-      by_note Note.DiskFault same w = absurd (not_disk words run counts note is none same)
+      by_note Note.WriteFault same w = absurd (not_write words run note is none same)
       by_note Note.NoMemory same w = inl same
       by_note n same never = absurd never
 
   -- the session's note, and where that was well the print's
-  by_print : (line : List ℕ) (old new : Option (List ℕ)) (sent : Sent) → PrintsOf sent line note old new → Remains sent × (sent ≡ Ending.Drained → LeavesNothing s run.disk_after) → DrainsAll run s note
-  by_print line old new Ending.Drained printed r = by_line line old new (subst (λ (n : Note). IsWritten n line old new) (sym printed.note_is) printed.written) (r.1 refl)
-  by_print line old new Ending.NoMemory printed r = inl printed.0
-  by_print line old new Ending.ReadFault printed r = absurd (not_read words run counts note is none printed.note_is)
-  by_print line old new Ending.WriteFault printed r = absurd (not_write words run counts note is none printed.note_is)
-  by_print line old new Ending.DiskFault printed r = absurd (not_disk words run counts note is none printed.note_is)
-  by_print line old new sent printed r = absurd r.0
+  by_print : (line : List ℕ) (before now : ℕ) (old new : Option (List ℕ)) (sent : Sent) → PrintsOf sent line note before now old new → Remains sent × (sent ≡ Ending.Drained → LeavesNothing s run.disk_after) → DrainsAll run s note
+  by_print line before now old new Ending.Drained printed r = by_line line old new (subst (λ (n : Note). IsPrinted n line old new) (sym printed.0.note_is) printed.0.written) (r.1 refl)
+  by_print line before now old new Ending.NoMemory printed r = inl printed.0
+  by_print line before now old new Ending.ReadFault printed r = absurd (not_read words run note is none printed.0.note_is)
+  by_print line before now old new Ending.WriteFault printed r = absurd (not_write words run note is none printed.0.note_is)
+  by_print line before now old new Ending.DiskFault printed r = absurd (not_disk words run note is none printed.0.note_is)
+  by_print line before now old new sent printed r = absurd r.0
 
-pub drain_ends_well : (run : Run) (counts : Counts) → DrainEndsWell run counts
-drain_ends_well run counts proto words note s b is none asks can input short answers = elim (is.done (Drain proto None) asks) [
-  | inl memory ↦ inl memory
-  | inr (inl refused) ↦ unread words run counts note is none s can refused.0
-  | inr (inr (inl nothing)) ↦ inr (nothing.1, idle words run counts note is none s can (nothing.0 can.told))
-  | inr (inr (inr streamed)) ↦ by_sent words run counts note is none s can streamed.sent streamed.note_is
-      (session_remains words run counts note is none s can (outward_of proto) run.given run.given_after run.left run.left_after run.taken run.taken_after streamed.confirmed streamed.remaining streamed.sent b streamed.session.session
+pub drain_ends_well : (run : Run) → DrainEndsWell run
+drain_ends_well run proto words note s b is none asks can input short answers = elim (is.done (Drain proto None) asks) [
+  | inl undone ↦ inl undone.0
+  | inr (inl refused) ↦ unread words run note is none s can refused.0
+  | inr (inr (inl nothing)) ↦ inr (nothing.1, idle words run note is none s can (nothing.0 can.told))
+  | inr (inr (inr streamed)) ↦ by_sent words run note is none s can streamed.sent streamed.note_is
+      (session_remains words run note is none s can (outward_of proto) run.given run.given_after run.left run.left_after run.taken run.taken_after streamed.confirmed streamed.remaining streamed.sent b streamed.session.session
       (λ bytes read consumed. whole_input run.left run.left_after b bytes input consumed) short answers)
 ]
 
-pub drain_there_ends_well : (run : Run) (counts : Counts) → DrainThereEndsWell run counts
-drain_there_ends_well run counts proto place words note s is none asks can links = elim (is.done (Drain proto (Some place)) asks) [
-  | inl memory ↦ inl memory
-  | inr (inl refused) ↦ unread words run counts note is none s can refused.0
-  | inr (inr (ungiven, inl needless)) ↦ by_line words run counts note is none s can _ _ _ needless.line (idle words run counts note is none s can (needless.idle can.told))
-  | inr (inr (ungiven, inr (inl undialed))) ↦ elim undialed.why [ inl fault ↦ absurd (not_dial words run counts note is none (λ serves. let same = is_serve (Drain proto (Some place)) words asks serves in cc) fault) | inr wanting ↦ inl wanting ]
+pub drain_there_ends_well : (run : Run) → DrainThereEndsWell run
+drain_there_ends_well run proto place words note s is none asks can links = elim (is.done (Drain proto (Some place)) asks) [
+  | inl undone ↦ inl undone.0
+  | inr (inl refused) ↦ unread words run note is none s can refused.0
+  | inr (inr (ungiven, inl needless)) ↦ by_line words run note is none s can _ _ _ needless.line (idle words run note is none s can (needless.idle can.told))
+  | inr (inr (ungiven, inr (inl undialed))) ↦ elim undialed.why [
+    | inl fault ↦
+        absurd (not_dial words run note is none (λ serves. let same = is_serve (Drain proto (Some place)) words asks serves in cc) fault)
+    | inr wanting ↦ inl wanting
+  ]
   | inr (inr (ungiven, inr (inr placed))) ↦ elim links [
     | inl nobody ↦ absurd (hung_some run _ nobody placed.hung)
     | inr link ↦
-        by_print words run counts note is none s can _ _ _ placed.sent placed.printed
-        (session_remains words run counts note is none s can (outward_of proto) placed.given placed.given_after placed.left_there placed.left_after placed.written placed.written_after placed.confirmed placed.remaining placed.sent link.0 placed.session.session
-        (λ bytes read consumed. whole_link run link.0 link.1 placed.dialed placed.given placed.given_after placed.left_there placed.left_after placed.written placed.written_after bytes placed.fresh placed.hung read consumed) link.2 link.3)
+        by_print words run note is none s can _ _ _ _ _ placed.sent placed.printed
+        (session_remains words run note is none s can (outward_of proto) placed.given placed.given_after placed.left_there placed.left_after
+        placed.written placed.written_after placed.confirmed placed.remaining placed.sent link.0 placed.session.session
+        (λ bytes read consumed. whole_link run link.0 link.1 placed.dialed placed.given placed.given_after placed.left_there placed.left_after
+        placed.written placed.written_after bytes placed.fresh placed.hung read consumed) link.2 link.3)
   ]
 ]

@@ -47,7 +47,8 @@ use Rattle.bridge_core.proofs.CompleteEndings.{IsDone, IsAllowed, IsRefusing, Af
 -- ---- requests at the front of bytes
 
 -- they are the first of all requests
-front_first : (rs ss : List HttpRequest) (x y rest last : List ℕ) → AreSpelled IsRequest rs x → AreSpelled IsRequest ss y → HasNoFrame IsRequest last → x ++ rest ≡ y ++ last → (more : List HttpRequest) × (ss ≡ rs ++ more) × (length x ≤ length y)
+front_first : (rs ss : List HttpRequest) (x y rest last : List ℕ) → AreSpelled IsRequest rs x → AreSpelled IsRequest ss y → HasNoFrame IsRequest last
+    → x ++ rest ≡ y ++ last → (more : List HttpRequest) × (ss ≡ rs ++ more) × (length x ≤ length y)
 front_first [] ss x y rest last a b none e = (ss, refl, omega (arith, ap length a))
 front_first (r ∷ rs) [] x y rest last (u, v, is, f, more) b none e =
     absurd (none r u (v ++ rest) is (ap (λ (w : List ℕ). w ++ last) (sym b) ∙ sym e ∙ ap (λ (w : List ℕ). w ++ rest) f ∙ append_assoc u v rest))
@@ -58,7 +59,8 @@ front_first (r ∷ rs) (s ∷ ss) x y rest last (u, v, is, f, more) (z, w, also,
     (t.0, (λ i. sym q.0 i ∷ t.1 i), omega (arith, ap length f, ap length g, length-append u v, length-append z w, long, t.2))
 
 -- what was told of them is the first of what was told of all
-first_told : (b : List ℕ) (items before : List HttpItem) (at end : ℕ) (last : List ℕ) → (t : AreTold b items at) → AreRequests b before end last → HasNoFrame IsRequest last → (more : List HttpItem) × (before ≡ t.before ++ more) × (at ≤ end)
+first_told : (b : List ℕ) (items before : List HttpItem) (at end : ℕ) (last : List ℕ) → (t : AreTold b items at) → AreRequests b before end last
+    → HasNoFrame IsRequest last → (more : List HttpItem) × (before ≡ t.before ++ more) × (at ≤ end)
 first_told b items before at end last t a none =
     let q = front_first t.requests.requests a.requests t.requests.front a.front t.rest last t.requests.spelled a.spelled none (sym t.requests.whole ∙ a.whole) in (
       flat_map items_of q.0,
@@ -93,7 +95,7 @@ faulty_more b more items at place why f = record {
 }
 
 -- what was told stays told, whatever follows
-told_more : (b : List ℕ) (items : List HttpItem) (at : ℕ) (piece : List ℕ) → AreTold b items at → AreTold (b ++ piece) items at
+pub told_more : (b : List ℕ) (items : List HttpItem) (at : ℕ) (piece : List ℕ) → AreTold b items at → AreTold (b ++ piece) items at
 told_more b items at piece t = record {
   before = t.before;
   rest = t.rest ++ piece;
@@ -167,7 +169,9 @@ moves_store tokens conn before (s ∷ steps) tail more moves stores =
     let here = one moves.0.0 moves.0.2 rest in record {
       events = here.0 ++ rest.events;
       are = subst (λ (l : List HttpItem). HecStores tokens ((l ++ frames_of steps) ++ tail) (here.0 ++ rest.events)) (sym moves.0.1) here.2;
-      own = ap (λ (l : List Event). l ++ more) (ap events_of (taken_then s.calls (calls_of steps)) ∙ map-append (λ (e : Entry). e.event) (taken_of s.calls) (taken_of (calls_of steps)) ∙ ap (λ (l : List Event). l ++ events_of (taken_of (calls_of steps))) here.1)
+      own = ap (λ (l : List Event). l ++ more) (ap events_of (taken_then s.calls (calls_of steps))
+          ∙ map-append (λ (e : Entry). e.event) (taken_of s.calls) (taken_of (calls_of steps))
+          ∙ ap (λ (l : List Event). l ++ events_of (taken_of (calls_of steps))) here.1)
           ∙ append_assoc here.0 (events_of (taken_of (calls_of steps))) more ∙ ap (λ (l : List Event). here.0 ++ l) rest.own;
     }
   where
@@ -179,7 +183,8 @@ moves_store tokens conn before (s ∷ steps) tail more moves stores =
 -- ---- the connection
 
 -- at a refusal the spool or the table of ids said no
-refused_at : (conn index : ℕ) (act : HecAct) (closing : Bool) (late : List Call) (part : List ℕ) (t : Talk) → IsRefusing t → EndsAtAct conn index act closing late part t → IsRefused conn index act late part t ⊎ IsUnstored conn index act closing late part t
+refused_at : (conn index : ℕ) (act : HecAct) (closing : Bool) (late : List Call) (part : List ℕ) (t : Talk) → IsRefusing t
+    → EndsAtAct conn index act closing late part t → IsRefused conn index act late part t ⊎ IsUnstored conn index act closing late part t
 refused_at conn index act closing late part Talk.Closed is e = absurd is
 refused_at conn index act closing late part Talk.WriteFault is e = absurd is
 refused_at conn index act closing late part Talk.NoMemory is e = absurd is
@@ -205,7 +210,9 @@ module _ (conn : ℕ) (tokens : Tokens) (s : SpoolState) (now : Moment) (left : 
       (told_more b (frames_of c.steps ++ more) end k.more (subst (λ (l : List HttpItem). AreTold b (l ++ more) end) all_items told))
 
   -- none of the requests that are whole in some bytes closes, where these are the items served
-  not_closing : (bytes : List ℕ) (items before told : List HttpItem) (at end : ℕ) (last : List ℕ) → AreTold bytes items at → AreRequests bytes before end last → HasNoFrame IsRequest last → frames_of c.steps ++ c.held ≡ before ++ told → HasClosing items → ⊥
+  not_closing : (bytes : List ℕ) (items before told : List HttpItem) (at end : ℕ) (last : List ℕ)
+      → AreTold bytes items at → AreRequests bytes before end last → HasNoFrame IsRequest last → frames_of c.steps ++ c.held ≡ before ++ told
+      → HasClosing items → ⊥
   not_closing bytes items before told at end last t a no_frame are (r, there, closing) =
       let more = first_told bytes items before at end last t a no_frame in
       let whole_one = closing_whole bytes items at r t there in
@@ -278,7 +285,8 @@ module _ (conn : ℕ) (tokens : Tokens) (s : SpoolState) (now : Moment) (left : 
       allowed (hec tokens conn) left b c.steps c.held c.at c.late c.part (not_cut items ends) (not_faulty items ends) (omega (arith, short, kept_short left whole b k)) (not_refused fits) talk c.ending
 
   -- the events of the items, and of what was called last
-  stored : (tail : List HttpItem) (more : List Event) → HecStores tokens tail more → events_of (taken_of c.late) ≡ more → HecEnds whole (frames_of c.steps ++ tail) → (events : List Event) × Stores Hec tokens whole events × Gains s now events
+  stored : (tail : List HttpItem) (more : List Event) → HecStores tokens tail more → events_of (taken_of c.late) ≡ more
+      → HecEnds whole (frames_of c.steps ++ tail) → (events : List Event) × Stores Hec tokens whole events × Gains s now events
   stored tail more stores late ends =
       let are = moves_store tokens conn [] c.steps tail more c.each stores in
       let own : events_of (taken_of calls) ≡ are.events =

@@ -128,7 +128,9 @@ module _ (conn : ℕ) (tokens : Tokens) (s : SpoolState) (now : Moment) (left : 
   not_refused frames ends fits t refusing (inl (f, end, front, (batch, stops))) =
       let there = subst (λ (l : List LumberFrame). IsFront (Spells Receiver) b l end) (append_assoc (frames_of c.steps) c.held (f ∷ [])) front in
       at_group t refusing (c.held ++ f ∷ []) _ (fits c.steps after.desk (c.held ++ f ∷ []) end after.course (front_at (frames_of c.steps ++ (c.held ++ f ∷ [])) end there) (inl batch)) stops
-  not_refused frames ends fits t refusing (inr (over, is_over, (some, stops))) = at_group t refusing c.held _ (fits c.steps after.desk c.held c.at after.course (front_at (frames_of c.steps ++ c.held) c.at c.front) (inr (c.kept, at_end over is_over, some))) stops
+  not_refused frames ends fits t refusing (inr (over, is_over, (some, stops))) =
+      at_group t refusing c.held _ (fits c.steps after.desk c.held c.at after.course (front_at (frames_of c.steps ++ c.held) c.at c.front)
+      (inr (c.kept, at_end over is_over, some))) stops
     where
       at_end : (o : Talk) → IsOver (lumberjack conn) left b (frames_of c.steps ++ c.held) c.at o → c.at ≡ length whole
       at_end Talk.Ended (at_left, stream, last) = last ∙ ap length (sym (kept_all left whole b k at_left))

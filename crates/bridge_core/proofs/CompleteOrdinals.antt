@@ -31,6 +31,7 @@ use Rattle.forward_core.specs.Session.{EndsRefused, IsRefusedWith}
 use Rattle.forward_core.specs.declared.sent.Sent.{Sent}
 use Rattle.forward_core.specs.declared.sent.Sent.TheVariants as Ending
 use Rattle.bridge_parts.specs.Opened.{desk_in}
+use Rattle.bridge_parts.proofs.Failures.{granted_failures}
 use Rattle.bridge_core.proofs.CompleteDesk.{by_parts, first_answers, found_is, no_doubt, stays_sure}
 
 -- the desk of a spool that was opened keeps the rules
@@ -101,18 +102,12 @@ granted_first (pends from most (Ok given)) calls granted = (tt, granted)
 granted_first (marks stretches (Ok done)) calls granted = (tt, granted)
 granted_first call calls granted = absurd granted
 
-granted_sure : (calls : List Call) → AreGranted calls → failures_of calls ≡ 0
-granted_sure [] granted = refl
-granted_sure (pends from most (Ok given) ∷ calls) granted = omega (arith, granted_sure calls granted)
-granted_sure (marks stretches (Ok done) ∷ calls) granted = omega (arith, granted_sure calls granted)
-granted_sure (call ∷ calls) granted = absurd granted
-
 goes_pays : (x y : DeskState) (records : List Record) → x.doubt ≡ [] → AreGranted (calls_of records) → Goes x records y → Pays x.spool y.spool
 goes_pays x y [] sure granted goes = subst (λ (d : DeskState). Pays x.spool d.spool) (sym goes) (pays_self x.spool)
 goes_pays x y (one ∷ records) sure granted goes =
     let first = granted_first one.call (calls_of records) granted in
     let here = one_pays x goes.0 one.call one.met sure first.0 goes.1.answers in
-    let now : goes.0.doubt ≡ [] = stays_sure x goes.0 (one ∷ []) sure (granted_sure (one.call ∷ []) first.0) (goes.0, goes.1, refl) in
+    let now : goes.0.doubt ≡ [] = stays_sure x goes.0 (one ∷ []) sure (granted_failures (one.call ∷ []) first.0) (goes.0, goes.1, refl) in
     pays_then x.spool goes.0.spool y.spool here (goes_pays goes.0 y records now first.1 goes.2)
 
 -- calls before the last one were granted
@@ -146,7 +141,8 @@ by_mark m stretches Confirm.DiskFault why is = absurd is
 by_mark m stretches Confirm.NoMemory why is = absurd why
 
 -- where a number is new, not all ordinals are used
-left_ordinal : (s m : SpoolState) (stretches : List Stretch) → IsSound m → Pays s m → s.ordinal ≤ most_number → s.ordinal + pending_count s ≤ most_number → All (EndsBy (end m)) stretches → (IsNothingNew m stretches → ⊥) → m.ordinal < most_number
+left_ordinal : (s m : SpoolState) (stretches : List Stretch) → IsSound m → Pays s m → s.ordinal ≤ most_number
+    → s.ordinal + pending_count s ≤ most_number → All (EndsBy (end m)) stretches → (IsNothingNew m stretches → ⊥) → m.ordinal < most_number
 left_ordinal s m stretches sound pays low room ends new = elim (marked_rises (numbers_of m) stretches sound.known) [
   | inl same ↦ absurd (new same)
   | inr rises ↦
@@ -167,7 +163,8 @@ refused_call s m y (marks stretches (Err fault)) met sent sound sure pays low ro
 refused_call s m y last met sent sound sure pays low room answers refused is = refused
 
 -- so a session of a spool with ordinals for all that is pending doesn't end by the desk but where the disk fails
-pub not_by_desk : (s : SpoolState) (y : DeskState) (records : List Record) (calls : List Call) (until next : ℕ) (sent : Sent) → IsSound s → s.ordinal + pending_count s ≤ most_number → AreBy 0 calls records → Goes (desk_in s) records y
+pub not_by_desk : (s : SpoolState) (y : DeskState) (records : List Record) (calls : List Call) (until next : ℕ) (sent : Sent) → IsSound s
+    → s.ordinal + pending_count s ≤ most_number → AreBy 0 calls records → Goes (desk_in s) records y
     → AreOfSession until next calls → EndsRefused sent calls → IsByDesk sent → ⊥
 not_by_desk s y records calls until next sent sound room by goes are ends is =
     let parts = by_parts ends.before (ends.last ∷ []) records (subst (λ (l : List Call). AreBy 0 l records) ends.are by) in
@@ -175,7 +172,7 @@ not_by_desk s y records calls until next sent sound room by goes are ends is =
     let granted = session_granted until next ends.before ends.last (subst (AreOfSession until next) ends.are are) in
     let made = calls_by 0 ends.before parts.before parts.by_before in
     let granted_records = subst AreGranted (sym made) granted in
-    let sure : two.0.doubt ≡ [] = stays_sure (desk_in s) two.0 parts.before refl (ap failures_of made ∙ granted_sure ends.before granted) two.1 in
+    let sure : two.0.doubt ≡ [] = stays_sure (desk_in s) two.0 parts.before refl (ap failures_of made ∙ granted_failures ends.before granted) two.1 in
     let rules = goes_later (desk_in s) two.0 parts.before (desk_rules s sound) two.1 in
     let first = first_answers two.0 y ends.last [] (ends.last ∷ []) parts.after refl parts.by_after two.2 in
     refused_call s two.0 first.found ends.last first.met sent rules.0.sound sure (goes_pays (desk_in s) two.0 parts.before refl granted_records two.1) sound.ordinal room first.answers ends.refused is

@@ -67,7 +67,8 @@ front_of_stream b frames fs at end rest front stream = elim (some relp_machine l
 ]
 
 -- also of those before a fault
-front_of_fault : (b : List ℕ) (frames fs : List Frame) (at end : ℕ) (rest : List ℕ) (place : ℕ) (why : RelpWhy) → IsFront IsSpelling b frames at → IsFaulty IsSpelling IsReason b fs end rest place why → (more : List Frame) × (fs ≡ frames ++ more)
+front_of_fault : (b : List ℕ) (frames fs : List Frame) (at end : ℕ) (rest : List ℕ) (place : ℕ) (why : RelpWhy)
+    → IsFront IsSpelling b frames at → IsFaulty IsSpelling IsReason b fs end rest place why → (more : List Frame) × (fs ≡ frames ++ more)
 front_of_fault b frames fs at end rest place why front fault = elim (some relp_machine live reason_of front.rest) [
   | inl i ↦
       let there = stream_behind relp_machine frames i.0 front.front front.rest i.2 i.1 front.spelled i.3 in
@@ -128,7 +129,8 @@ record MovesStore (before steps : List (Step Frame)) (tail : List Frame) (more :
   are : Steps (state_after (frames_of before)) (frames_of steps ++ tail) acts
   own : events_of (taken_of (calls_of steps)) ++ flat_map relp_events more ≡ flat_map relp_events acts
 
-moves_store : (conn : ℕ) (before steps : List (Step Frame)) (tail : List Frame) (more : List RelpAct) → AreMoves (relp conn) before steps → Steps (state_after (frames_of (before ++ steps))) tail more → MovesStore before steps tail more
+moves_store : (conn : ℕ) (before steps : List (Step Frame)) (tail : List Frame) (more : List RelpAct) → AreMoves (relp conn) before steps
+    → Steps (state_after (frames_of (before ++ steps))) tail more → MovesStore before steps tail more
 moves_store conn before [] tail more moves after = record {
   acts = more;
   are = subst (λ (l : List (Step Frame)). Steps (state_after (frames_of l)) tail more) (append-nil before) after;

@@ -18,9 +18,10 @@ use Rattle.conn_serve.specs.Serves.{CarriedAs}
 use Rattle.bridge_words.specs.declared.command.Command.TheVariants.{Replay}
 use Rattle.bridge_words.specs.declared.note.Note.{Note}
 use Rattle.bridge_words.specs.Notes.{note_of_talk}
-use Rattle.bridge_core.specs.Complete.{Counts, IsRunOf, NoneFailed}
+use Rattle.bridge_core.specs.Complete.{NoneFailed}
 use Rattle.bridge_core.specs.CompleteReplay.{CanReplay, EndsWhole, Gains, NoneIsRefused, ReplayEndsWell, Stores, TakesAll, conn_in}
 use Rattle.bridge_core.specs.Done.{Run}
+use Rattle.bridge_core.specs.RunOf.{IsRunOf}
 use Rattle.bridge_parts.specs.Refused.{note_of_recover}
 use Rattle.bridge_core.specs.Replayed.{IsReplayed, Reaches}
 use Rattle.bridge_core.proofs.Complete.{not_disk, not_read, not_write}
@@ -31,13 +32,15 @@ use Rattle.bridge_core.proofs.CompleteRelp.{relp_allowed, relp_stored}
 
 -- ---- by the protocol
 
-carried_allowed : (proto : Proto) (tokens : Tokens) (conn : ℕ) (s : SpoolState) (run : Run) (left : Option (List ℕ)) (whole b : List ℕ) (calls : List Call) (text : List ℕ) (talk : Talk) → CarriedAs proto tokens conn left b calls text talk
+carried_allowed : (proto : Proto) (tokens : Tokens) (conn : ℕ) (s : SpoolState) (run : Run) (left : Option (List ℕ)) (whole b : List ℕ)
+    (calls : List Call) (text : List ℕ) (talk : Talk) → CarriedAs proto tokens conn left b calls text talk
     → Reaches s run.disk_after calls → Kept left whole b → failures_of calls ≡ 0 → EndsWhole proto whole → NoneIsRefused proto tokens conn s whole → length whole < 2 ^ 40 → IsAllowed talk
 carried_allowed Relp tokens conn s run left whole b calls text talk c reached k none ends fits short = relp_allowed conn tokens s run.disk_after left whole b calls text talk c reached k none ends.0 ends.1 fits short
 carried_allowed Lumberjack tokens conn s run left whole b calls text talk c reached k none ends fits short = lumber_allowed conn tokens s run.disk_after left whole b calls text talk c reached k none ends.0 ends.1 fits short
 carried_allowed Hec tokens conn s run left whole b calls text talk c reached k none ends fits short = hec_allowed conn tokens s run.disk_after left whole b calls text talk c reached k none ends.0 ends.1 fits short
 
-carried_stored : (proto : Proto) (tokens : Tokens) (conn : ℕ) (s : SpoolState) (run : Run) (left : Option (List ℕ)) (whole b : List ℕ) (calls : List Call) (text : List ℕ) (talk : Talk) → CarriedAs proto tokens conn left b calls text talk
+carried_stored : (proto : Proto) (tokens : Tokens) (conn : ℕ) (s : SpoolState) (run : Run) (left : Option (List ℕ)) (whole b : List ℕ)
+    (calls : List Call) (text : List ℕ) (talk : Talk) → CarriedAs proto tokens conn left b calls text talk
     → Reaches s run.disk_after calls → Kept left whole b → failures_of calls ≡ 0 → IsDone talk → (events : List Event) × Stores proto tokens whole events × Gains s run.disk_after events
 carried_stored Relp tokens conn s run left whole b calls text talk c reached k none done = relp_stored conn tokens s run.disk_after left whole b calls text talk c reached k none done
 carried_stored Lumberjack tokens conn s run left whole b calls text talk c reached k none done = lumber_stored conn tokens s run.disk_after left whole b calls text talk c reached k none done
@@ -45,7 +48,7 @@ carried_stored Hec tokens conn s run left whole b calls text talk c reached k no
 
 -- ---- the run
 
-module _ (proto : Proto) (token ack_token : Option ℕ) (words : List (List ℕ)) (run : Run) (counts : Counts) (note : Note) (is : IsRunOf words run counts note) (none : NoneFailed run counts) (s : SpoolState) (b : List ℕ) (can : CanReplay run s b) where
+module _ (proto : Proto) (token ack_token : Option ℕ) (words : List (List ℕ)) (run : Run) (note : Note) (is : IsRunOf words run note) (none : NoneFailed run) (s : SpoolState) (b : List ℕ) (can : CanReplay run s b) where
   -- the device isn't refused
   by_fault : (fault : RecoverFault) → note ≡ note_of_recover fault → IsRefusedAs Raise run.disk.reads fault → note ≡ Note.NoMemory
   by_fault (Recover.NotSpool at) same breaks = absurd (stands_unbroken s run.disk.reads can.stands at breaks)
@@ -55,7 +58,7 @@ module _ (proto : Proto) (token ack_token : Option ℕ) (words : List (List ℕ)
   by_fault (Recover.Worn ordinal) same (t, stands, worn) =
       let one : t.ordinal ≡ s.ordinal = ap (λ (x : SpoolState). x.ordinal) (one_state t s run.disk.reads stands can.stands) in
       absurd (omega (arith, worn.3, one, can.ordinals))
-  by_fault Recover.DiskFault same why = absurd (not_disk words run counts note is none same)
+  by_fault Recover.DiskFault same why = absurd (not_disk words run note is none same)
   by_fault Recover.NoMemory same why = same
 
   -- a connection over the spool that the device stood for
@@ -73,16 +76,16 @@ module _ (proto : Proto) (token ack_token : Option ℕ) (words : List (List ℕ)
       let carried = subst (λ (n : ℕ). CarriedAs proto tokens n run.left_after serves.bytes serves.calls serves.text talk) conn serves.carried in
       let k = kept run.left_after b serves.bytes (subst (λ (l : Option (List ℕ)). Consumes l run.left_after serves.bytes) can.input serves.consumed) in
       let no_call = none_failed proto tokens (conn_in s) run.left_after serves.bytes serves.calls serves.text talk carried
-      (λ by. not_disk words run counts note is none (served.note_is ∙ ap note_of_talk by)) (λ by. not_write words run counts note is none (served.note_is ∙ ap note_of_talk by)) in
+      (λ by. not_disk words run note is none (served.note_is ∙ ap note_of_talk by)) (λ by. not_write words run note is none (served.note_is ∙ ap note_of_talk by)) in
       let allows = carried_allowed proto tokens (conn_in s) (opened Raise s) run run.left_after b serves.bytes serves.calls serves.text talk carried reached k no_call ends fits can.short in
-      elim (allowed_note talk note served.note_is allows (not_disk words run counts note is none) (not_read words run counts note is none) (not_write words run counts note is none)) [
+      elim (allowed_note talk note served.note_is allows (not_disk words run note is none) (not_read words run note is none) (not_write words run note is none)) [
         | inl wanting ↦ inl wanting
         | inr fine ↦ inr (fine.0, carried_stored proto tokens (conn_in s) (opened Raise s) run run.left_after b serves.bytes serves.calls serves.text talk carried reached k no_call fine.1)
       ]
 
-pub replay_ends_well : (run : Run) (counts : Counts) → ReplayEndsWell run counts
-replay_ends_well run counts proto token ack_token words note s b is none asks can ends fits = elim (is.done (Replay proto token ack_token) asks) [
-  | inl memory ↦ inl memory
-  | inr (inl unopened) ↦ inl (by_fault proto token ack_token words run counts note is none s b can unopened.0.fault unopened.0.note_is (unopened.0.why can.told))
-  | inr (inr replayed) ↦ serves_all proto token ack_token words run counts note is none s b can replayed ends fits
+pub replay_ends_well : (run : Run) → ReplayEndsWell run
+replay_ends_well run proto token ack_token words note s b is none asks can ends fits = elim (is.done (Replay proto token ack_token) asks) [
+  | inl undone ↦ inl undone.0
+  | inr (inl unopened) ↦ inl (by_fault proto token ack_token words run note is none s b can unopened.0.fault unopened.0.note_is (unopened.0.why can.told))
+  | inr (inr replayed) ↦ serves_all proto token ack_token words run note is none s b can replayed ends fits
 ]

@@ -53,8 +53,10 @@ record ReadsMore {F P : Type 0} (o : Outlet F P) : Type 0 where
   front : (b more : List ℕ) (frames : List F) → o.IsFront b frames → o.IsFront (b ++ more) frames
   stops : (n : ℕ) (b more : List ℕ) (frames : List F) (p : P) (sent : Sent) → o.Stops n b frames p sent → o.Stops n (b ++ more) frames p sent
 
-module _ {F P : Type 0} (o : Outlet F P) (reads : ReadsMore o) (entries : List Entry) (whole b rest : List ℕ) (joined : whole ≡ b ++ rest) (out : List ℕ) (told : ℕ) (also : List ℕ) (answers : AcknowledgesAll o entries whole) (short : length whole < 2 ^ 40) where
-  unfinished : (frames : List F) (p : P) → o.Takes (length entries) o.start frames p → o.IsFront b frames → IsOpen o entries p out told also → (o.IsWhole whole frames → ⊥) × ((sent : Sent) → o.Stops (length entries) whole frames p sent → ⊥)
+module _ {F P : Type 0} (o : Outlet F P) (reads : ReadsMore o) (entries : List Entry) (whole b rest : List ℕ) (joined : whole ≡ b ++ rest)
+    (out : List ℕ) (told : ℕ) (also : List ℕ) (answers : AcknowledgesAll o entries whole) (short : length whole < 2 ^ 40) where
+  unfinished : (frames : List F) (p : P) → o.Takes (length entries) o.start frames p → o.IsFront b frames → IsOpen o entries p out told also
+      → (o.IsWhole whole frames → ⊥) × ((sent : Sent) → o.Stops (length entries) whole frames p sent → ⊥)
   unfinished frames p takes begins open_so = answers frames p takes (subst (λ (l : List ℕ). o.IsFront l frames) (sym joined) (reads.front b rest frames begins)) (omega (arith, open_so.2, open_so.1.front))
 
   not_stopped : (frames : List F) (p : P) → o.Takes (length entries) o.start frames p → o.IsFront b frames → IsOpen o entries p out told also → (sent : Sent) → o.Stops (length entries) b frames p sent → ⊥

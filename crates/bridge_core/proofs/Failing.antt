@@ -40,7 +40,8 @@ module _ (talk : Talk) (note : Note) (is : note ≡ note_of_talk talk) where
   not_by_note other by = other (talk_by_disk talk (sym is ∙ by))
 
   -- some calls of the only caller of a desk, of which so many were answered that the disk failed
-  tells_disk : (proto : Proto) (calls : List Call) (tells : Type 0) (old new : AloneView) → TellsFailures proto (failures_of calls) talk → Ran tells old calls new → TellsDiskFault (proto ≡ Hec) note old.spool.moment new.spool.moment
+  tells_disk : (proto : Proto) (calls : List Call) (tells : Type 0) (old new : AloneView) → TellsFailures proto (failures_of calls) talk
+      → Ran tells old calls new → TellsDiskFault (proto ≡ Hec) note old.spool.moment new.spool.moment
   tells_disk proto calls tells old new told ran =
       let own = ap failures_of (calls_by 0 calls ran.records ran.by) in
       let rose : (n : ℕ) → failures_of calls ≡ n → Rose n old.spool.moment.faults new.spool.moment.faults = λ n many. subst (λ (k : ℕ). Rose k old.spool.moment.faults new.spool.moment.faults) (own ∙ many) ran.runs.cause in

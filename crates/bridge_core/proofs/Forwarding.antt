@@ -31,23 +31,12 @@ use Rattle.bridge_parts.specs.Opened.{desk_in}
 use Rattle.bridge_core.specs.Drained.{IsLooked, IsIdle, HasMore, IsUnread, IsSent, IsSession}
 use Rattle.bridge_core.specs.Listed.{IsUnreadable}
 use Rattle.bridge_parts.specs.Pending.{pending_in}
+use Rattle.bridge_parts.proofs.Endings.{sent_by_disk, sent_by_read, sent_by_write}
 use Rattle.bridge_parts.proofs.Numbers.{pending_seen}
 use Rattle.bridge_core.specs.Sending.{Sends}
 use Rattle.bridge_core.proofs.Sure.{unreadable, unopened}
 
 -- ---- the note of an ending
-
-pub sent_by_disk : (sent : Sent) → note_of_sent sent ≡ Note.DiskFault → sent ≡ Ending.DiskFault
-sent_by_disk Ending.DiskFault is = refl
-sent_by_disk sent is = absurd (cc)
-
-pub sent_by_read : (sent : Sent) → note_of_sent sent ≡ Note.ReadFault → sent ≡ Ending.ReadFault
-sent_by_read Ending.ReadFault is = refl
-sent_by_read sent is = absurd (cc)
-
-pub sent_by_write : (sent : Sent) → note_of_sent sent ≡ Note.WriteFault → sent ≡ Ending.WriteFault
-sent_by_write Ending.WriteFault is = refl
-sent_by_write sent is = absurd (cc)
 
 halt_note : (sent : Sent) → IsHalt sent → IsHaltNote (note_of_sent sent)
 halt_note Ending.DiskFault is = tt
@@ -123,7 +112,8 @@ pub seen : (s : SpoolState) (v : View) → IsIn s [] v → IsSeen s (cursor_of v
 seen s v held = record { cursor_is = held.knows.cursor; last_is = end_known s v.memory.active held.sound held.knows.active; within = held.sound.to_end }
 
 -- What a session did over the spool, it did over the device from which that was opened.
-pub sent_from : (s : SpoolState) (old mid new : Moment) (start until cursor last remaining : ℕ) (v : View) (calls : List Call) → StandsFor s old.reads → IsIn s [] v → IsSeen s cursor last → cursor < last → LeavesOnly old.image old mid
+pub sent_from : (s : SpoolState) (old mid new : Moment) (start until cursor last remaining : ℕ) (v : View) (calls : List Call) → StandsFor s old.reads
+    → IsIn s [] v → IsSeen s cursor last → cursor < last → LeavesOnly old.image old mid
     → Sends s mid new start until calls remaining → IsSent old new start until calls (pending_in v.memory - remaining) remaining
 sent_from s old mid new start until cursor last remaining v calls stood held sees more first sends = record {
   state = s;
@@ -138,7 +128,8 @@ sent_from s old mid new start until cursor last remaining v calls stood held see
 }
 
 -- a session, where the calls made mean something else too
-pub session_as : (outward : Outward) (given given' left_there left' written written' : Option (List ℕ)) (Made Also : ℕ → ℕ → List Call → Type 0) (sent : Sent) → ((start until : ℕ) (calls : List Call) → Made start until calls → Also start until calls)
+pub session_as : (outward : Outward) (given given' left_there left' written written' : Option (List ℕ)) (Made Also : ℕ → ℕ → List Call → Type 0)
+    (sent : Sent) → ((start until : ℕ) (calls : List Call) → Made start until calls → Also start until calls)
     → IsSession outward given given' left_there left' written written' Made sent → IsSession outward given given' left_there left' written written' Also sent
 session_as outward given given' left_there left' written written' Made Also sent also session = record {
   start = session.start;
@@ -163,7 +154,8 @@ pub looked_more : (s : SpoolState) (old new : Moment) (cursor last : ℕ) → St
 looked_more s old new cursor last stood left_only sees more = record { state = s; stood = stood; is = omega (arith, sees.cursor_is, sees.last_is, more); any_moment = left_only }
 
 -- a device that was not opened to be read
-pub unread : (tells : Type 0) (old new : Moment) (fault : RecoverFault) (note : Note) → note ≡ note_of_recover fault → (tells → IsRefusedAs Keep old.reads fault) → (tells → LeavesOnly (IsRefusing Keep fault old) old new) → IsUnread tells old new note
+pub unread : (tells : Type 0) (old new : Moment) (fault : RecoverFault) (note : Note) → note ≡ note_of_recover fault
+    → (tells → IsRefusedAs Keep old.reads fault) → (tells → LeavesOnly (IsRefusing Keep fault old) old new) → IsUnread tells old new note
 unread tells old new fault note is why left_only = record {
   fault = fault;
   note_is = is;

@@ -45,7 +45,9 @@ pub given_parts : (given : List Numbered) (i : ℕ) → given_entries given ≡ 
 given_parts given i = ap given_entries (sym (take-append-drop i given)) ∙ map-append entry_of (take i given) (drop i given)
 
 pub given_limits_after : (from end : ℕ) (given : List Numbered) (i : ℕ) → AreNumbered from end given → All IsLimited (given_entries (drop i given))
-given_limits_after from end given i are = All-same IsLimited (given_entries (drop i given)) (drop i (given_entries given)) (sym (drop-map entry_of i given)) (All-drop IsLimited i (given_entries given) (given_limits from end given are))
+given_limits_after from end given i are =
+    All-same IsLimited (given_entries (drop i given)) (drop i (given_entries given)) (sym (drop-map entry_of i given))
+    (All-drop IsLimited i (given_entries given) (given_limits from end given are))
   where
     drop-map : (f : Numbered → NumberedEntry) (n : ℕ) (xs : List Numbered) → drop n (map f xs) ≡ map f (drop n xs)
     drop-map f zero xs = refl

@@ -15,7 +15,7 @@ use Rattle.bridge_words.specs.declared.note.Note.{Note}
 use Rattle.bridge_parts.specs.Refused.{note_of_sent}
 use Rattle.bridge_core.specs.Sending.{IsSentOver}
 use Rattle.bridge_parts.specs.Counted.{WritesOfBoth, RoseBy, WroteAfter}
-use Rattle.bridge_core.proofs.Forwarding.{sent_by_read, sent_by_write}
+use Rattle.bridge_parts.proofs.Endings.{sent_by_read, sent_by_write}
 
 -- a link's faults are added, one at least
 gained : (n m before now : ℕ) → Gains n before now → Rose 1 m n → Rose 1 before now
@@ -38,7 +38,8 @@ module _ (sent : Sent) (note : Note) (is : (note ≡ note_of_sent sent) ⊎ ((no
     ];
   }
 
-pub link_writes : (sent : Sent) (note : Note) (n m before now wrote wrote' : ℕ) → sending.CountsWrites (sent ≡ Ending.WriteFault) (IsHalt sent) m n → Gains n before now → WroteAfter (note_of_sent sent) note wrote wrote' → WritesOfBoth note wrote wrote' before now
+pub link_writes : (sent : Sent) (note : Note) (n m before now wrote wrote' : ℕ) → sending.CountsWrites (sent ≡ Ending.WriteFault) (IsHalt sent) m n
+    → Gains n before now → WroteAfter (note_of_sent sent) note wrote wrote' → WritesOfBoth note wrote wrote' before now
 link_writes sent note n m before now wrote wrote' counts gains after = record {
   later = after.later;
   hung_later = gains.later;
@@ -47,9 +48,10 @@ link_writes sent note n m before now wrote wrote' counts gains after = record {
 }
 
 -- the list of links is the same after the dial
-pub over_from : (outward : Outward) (old mid new : NetState) (dialed given left written : Option (List ℕ)) (before : ℕ) (taken taken' : Option (List ℕ)) (Made : ℕ → ℕ → ℕ → List Call → Type 0) (note : Note) → mid.hung ≡ old.hung
-    → IsSentOver outward mid new dialed given left written before taken taken' Made note → IsSentOver outward old new dialed given left written before taken taken' Made note
-over_from outward old mid new dialed given left written before taken taken' Made note same over = record {
+pub over_from : (outward : Outward) (old mid new : NetState) (dialed given left written : Option (List ℕ)) (before writes writes' : ℕ)
+    (taken taken' : Option (List ℕ)) (Made : ℕ → ℕ → ℕ → List Call → Type 0) (note : Note) → mid.hung ≡ old.hung
+    → IsSentOver outward mid new dialed given left written before writes writes' taken taken' Made note → IsSentOver outward old new dialed given left written before writes writes' taken taken' Made note
+over_from outward old mid new dialed given left written before writes writes' taken taken' Made note same over = record {
   sent = over.sent;
   remaining = over.remaining;
   given_after = over.given_after;

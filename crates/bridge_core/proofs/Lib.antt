@@ -11,6 +11,8 @@ pub mod Firsts
 pub mod Hanging
 pub mod Durable
 pub mod Doing
+pub mod Running
+pub mod Headline
 pub mod Complete
 pub mod CompleteDesk
 pub mod CompleteEndings
@@ -27,4 +29,17 @@ pub mod LoadFronts
 pub mod LoadLumber
 pub mod LoadLumberPeer
 pub mod LoadRelpPeer
+pub mod LoadHecText
+pub mod LoadHecObject
+pub mod LoadHecHead
+pub mod LoadHecRequest
+pub mod LoadHecItems
+pub mod LoadHec
+pub mod LoadHecReply
+pub mod LoadHecReplies
+pub mod LoadHecKnown
+pub mod LoadHecLight
+pub mod LoadHecPeer
+pub mod LoadPending
+pub mod LoadSure
 pub mod LoadWell

@@ -70,7 +70,8 @@ some_spelled (Pairs seq text) x s = omega (arith, ap length s.1.1)
 some_spelled (Json seq text) x s = omega (arith, ap length s.1.1)
 some_spelled (Ack seq) x s = absurd s.0
 
-pub first_frames : (b : List ℕ) (all frames : List LumberFrame) (at : ℕ) → AreSpelled (Spells Receiver) all b → (front : IsFront (Spells Receiver) b frames at) → (more : List LumberFrame) × (all ≡ frames ++ more) × AreSpelled (Spells Receiver) more front.rest
+pub first_frames : (b : List ℕ) (all frames : List LumberFrame) (at : ℕ) → AreSpelled (Spells Receiver) all b
+    → (front : IsFront (Spells Receiver) b frames at) → (more : List LumberFrame) × (all ≡ frames ++ more) × AreSpelled (Spells Receiver) more front.rest
 first_frames b all frames at spelled front =
     strip (Spells Receiver) (λ f g x y a b i j e. spells_once f g x y a b i.1 j.1 e) some_spelled frames all front.front front.rest front.spelled (subst (AreSpelled (Spells Receiver) all) front.whole spelled)
 

@@ -2,7 +2,7 @@
 use Rattle.std.proofs.Common.{◌≡◌, inl, inr, ℕ, suc, ◌+◌, ◌*◌, ◌<◌, ◌≤◌, ◌^◌, Bool, true, false, ◌||◌, List, [], ◌∷◌, ◌++◌, length, flat_map, refl, sym, ◌∙◌, ap, subst, arith, append_assoc, length-append}
 use Rattle.std.specs.Prelude.{codes}
 use Rattle.std.proofs.lemmas.Bool.{or_parts}
-use Rattle.std.proofs.lemmas.List.{append-nil}
+use Rattle.std.proofs.lemmas.List.{append-nil, nil_from_length}
 use Rattle.std.proofs.lemmas.List.Elements.{All-cons, All-nil}
 use Rattle.event_form.specs.Entry.{entry_text}
 use Rattle.event_form.specs.declared.event.Entry.{Entry}
@@ -185,7 +185,8 @@ one_small conn index state f event txnr low answer =
     record {
       some = omega arith;
       few = omega arith;
-      each = All-cons (λ (e : Entry). length (entry_text e) ≤ 200) (entry_of conn index txnr event) [] (omega (arith, low, text, length-entry_text (entry_of conn index txnr event))) (All-nil (λ (e : Entry). length (entry_text e) ≤ 200));
+      each = All-cons (λ (e : Entry). length (entry_text e) ≤ 200) (entry_of conn index txnr event) []
+          (omega (arith, low, text, length-entry_text (entry_of conn index txnr event))) (All-nil (λ (e : Entry). length (entry_text e) ≤ 200));
     }
 
 -- the calls of moves took small groups, no more than one for each frame
@@ -209,7 +210,15 @@ moves_few conn before (s ∷ steps) moves low =
     let rest = moves_few conn (before ++ s ∷ []) steps moves.1 parts.1 in
     record {
       small = small_then s.calls (calls_of steps) here.small rest.small;
-      few = omega (arith, here.few, rest.few, ap (λ (l : List Entry). length l) (taken_then s.calls (calls_of steps)), length-append (taken_of s.calls) (taken_of (calls_of steps)), ap (λ (l : List Frame). length l) move.1, length-append s.frames (frames_of steps));
+      few = omega (
+        arith,
+        here.few,
+        rest.few,
+        ap (λ (l : List Entry). length l) (taken_then s.calls (calls_of steps)),
+        length-append (taken_of s.calls) (taken_of (calls_of steps)),
+        ap (λ (l : List Frame). length l) move.1,
+        length-append s.frames (frames_of steps),
+      );
     }
 
 -- the calls of the steps of a front of the stream
@@ -266,14 +275,10 @@ pub ends_are : (texts : List (List ℕ)) (frames : List Frame) → length texts 
 ends_are texts frames few short (at, front, ends) =
     let strip = first_frames (relp_stream texts) (all_frames texts) frames at (all_spelled texts few short) front in
     let none : strip.0 ≡ [] = elim ends [
-      | inl last ↦ none_spelled strip.0 front.rest strip.2 (rest_none front.rest (omega (arith, last, front.ends, ap length front.whole, length-append front.front front.rest)))
+      | inl last ↦ none_spelled strip.0 front.rest strip.2 (nil_from_length front.rest (omega (arith, last, front.ends, ap length front.whole, length-append front.front front.rest)))
       | inr closing ↦ whole_frames texts frames strip.0 strip.1 closing
     ] in
     sym (strip.1 ∙ ap (λ (l : List Frame). frames ++ l) none ∙ append-nil frames)
-  where
-    rest_none : (rest : List ℕ) → length rest ≡ 0 → rest ≡ []
-    rest_none [] is = refl
-    rest_none (c ∷ rest) is = absurd (omega (arith, is))
 
 -- the acts of the frames from an open session on
 asked : (state : State) (f : Frame) (r : Request) (act : RelpAct) → Asks f r → IsAnswer state f act → act ≡ act_of state r f

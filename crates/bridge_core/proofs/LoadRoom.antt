@@ -182,7 +182,9 @@ module _ (s : SpoolState) (taken group : List Entry) (p : Packed s taken) (small
 
   pub took_packed : Packed (last_of s (group_stages s group)) (taken ++ group)
   took_packed = elim (cases_Bool (nat_le (need_of group) (room s))) [
-    | inl fits ↦ subst (λ (l : List SpoolState). Packed (last_of s l) (taken ++ group)) (sym (cond-true (nat_le (need_of group) (room s)) (added s group ∷ []) (closed_stages (lowest_closed s s.slots) s group) fits)) (added_packed s taken group p small)
+    | inl fits ↦ subst (λ (l : List SpoolState). Packed (last_of s l) (taken ++ group))
+        (sym (cond-true (nat_le (need_of group) (room s)) (added s group ∷ []) (closed_stages (lowest_closed s s.slots) s group) fits))
+        (added_packed s taken group p small)
     | inr full ↦ subst (λ (l : List SpoolState). Packed (last_of s l) (taken ++ group)) (sym (cond-false (nat_le (need_of group) (room s)) (added s group ∷ []) (closed_stages (lowest_closed s s.slots) s group) full))
         (by_closed (leb-false (need_of group) (room s) full) (lowest_closed s s.slots) refl)
   ]

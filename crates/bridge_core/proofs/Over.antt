@@ -1,13 +1,9 @@
 -- A session over the spool that the device stood for sends the entries that weren't known there.
-use Rattle.std.proofs.Common.{ℕ, List, refl, sym, ◌∙◌, subst, arith}
+use Rattle.std.proofs.Common.{ℕ, List, refl, sym, subst}
 use Rattle.std.specs.Prelude.{Option}
-use Rattle.std.proofs.lemmas.List.Elements.{All-nil}
 use Rattle.edge_disk.specs.Disk.{Moment}
-use Rattle.spool_state.specs.SpoolState.{SpoolState, IsSound}
-use Rattle.hec_ids.proofs.CallLaws.{opened_is_sound}
 use Rattle.desk_access.specs.Call.{Call}
 use Rattle.desk_access.specs.Journal.{calls_by}
-use Rattle.desk_access.specs.History.{IsDesk}
 use Rattle.forward_core.specs.Calls.{AreOfSession}
 use Rattle.forward_core.specs.Laws.{IsOnDesk, KnowsMarked}
 use Rattle.forward_core.specs.Protocols.{settings_as}
@@ -18,19 +14,11 @@ use Rattle.forward_core.proofs.AfterLaw.{only_marked_known}
 use Rattle.forward_core.proofs.DropLaw.{told_is_gone}
 use Rattle.bridge_parts.specs.Opened.{desk_in}
 use Rattle.bridge_core.specs.Drained.{IsOverSpool, IsSession, IsSessionOver}
-
--- a desk of a sound spool, outside doubt, of which no id was issued
-desk_rules : (s : SpoolState) → IsSound s → IsDesk (desk_in s)
-desk_rules s sound = record {
-  sound = sound;
-  later = All-nil _;
-  told = λ m n is other same. is ∙ sym other;
-  ids = opened_is_sound s.run 0 (omega (arith, sound.run)) (omega arith);
-  run = refl;
-}
+use Rattle.bridge_core.proofs.CompleteOrdinals.{desk_rules}
 
 pub session_over : (outward : Outward) (tells : Type 0) (old new : Moment) (given given' left_there left' written written' : Option (List ℕ)) (confirmed remaining : ℕ) (sent : Sent)
-    → IsSession outward given given' left_there left' written written' (IsOverSpool tells old new confirmed remaining) sent → IsSessionOver outward tells old new given given' left_there left' written written' confirmed remaining sent
+    → IsSession outward given given' left_there left' written written' (IsOverSpool tells old new confirmed remaining) sent
+    → IsSessionOver outward tells old new given given' left_there left' written written' confirmed remaining sent
 session_over outward tells old new given given' left_there left' written written' confirmed remaining sent session = record {
   session = session;
   entries = λ told.
@@ -45,7 +33,8 @@ session_over outward tells old new given given' left_there left' written written
       record {
         ends = ends;
         marks = λ t one. subst (λ (calls : List Call). KnowsMarked is.state calls t) made
-            (only_marked_known x reached.after reached.records session.start session.until t rules refl (subst (λ (calls : List Call). AreOfSession session.until session.start calls) (sym made) forwards.ended.session) reached.goes one);
+            (only_marked_known x reached.after reached.records session.start session.until t rules refl
+            (subst (λ (calls : List Call). AreOfSession session.until session.start calls) (sym made) forwards.ended.session) reached.goes one);
         drops = λ other. told_is_gone (settings_as outward) outward.proto left' x reached.after reached.records session.start session.until sent forwards.bytes forwards.calls forwards.text on other forwards.ended ends;
       };
 }

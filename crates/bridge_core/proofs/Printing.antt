@@ -1,5 +1,5 @@
 -- Lines of entries, printed one after another.
-use Rattle.std.proofs.Common.{◌≡◌, ℕ, ◌<◌, List, [], ◌∷◌, ◌++◌, Option, length, refl, sym, ◌∙◌, ap, subst, arith, append_assoc, length-append}
+use Rattle.std.proofs.Common.{◌≡◌, ◌⊎◌, inl, inr, ℕ, List, [], ◌∷◌, ◌++◌, Option, refl, sym, ◌∙◌, ap, subst, arith, append_assoc, length-append}
 use Rattle.std.specs.Prelude.{All}
 use Rattle.std.specs.Io.KnownBytes.{Appends}
 use Rattle.std.proofs.lemmas.List.{append-nil}
@@ -15,8 +15,8 @@ use Rattle.bridge_words.specs.declared.command.ListForm.TheVariants.{Plain, Text
 use Rattle.bridge_words.specs.declared.note.Note.{Note}
 use Rattle.bridge_words.specs.declared.note.Note.TheVariants.{Fine, NoMemory, WriteFault, DiskFault}
 use Rattle.bridge_words.specs.Lines.{entry_line}
-use Rattle.bridge_parts.specs.Written.{WritesFront, IsWritten}
-use Rattle.bridge_core.specs.Listed.{IsLine, AreLines, ArePrinted}
+use Rattle.bridge_parts.specs.Written.{WritesFront, IsCut}
+use Rattle.bridge_core.specs.Listed.{IsLine, AreLines, PrintsFirst, ArePrinted}
 
 -- the entry keeps its limits
 abbrev pub IsLimited : NumberedEntry → Type 0
@@ -44,10 +44,6 @@ lines_then form (one ∷ first) more text next are others =
 
 -- ---- a front of them
 
--- nothing was written yet
-pub unwritten : (text : List ℕ) (taken : Option (List ℕ)) → WritesFront text taken taken
-unwritten text taken = record { front = []; rest = text; whole = refl; written = appends_none taken }
-
 -- after a whole text
 abbrev front_then : (text next : List ℕ) (old mid new : Option (List ℕ)) → Appends old mid text → WritesFront next mid new → WritesFront (text ++ next) old new
 front_then text next old mid new before w = record {
@@ -66,74 +62,104 @@ front_more text next old new w = record {
   written = w.written;
 }
 
+-- ---- the lines of the first of them
+
+-- nothing was written yet
+abbrev pub none_first : (form : ListForm) (entries : List NumberedEntry) (taken : Option (List ℕ)) → PrintsFirst form entries taken taken
+none_first form entries taken = record { first = []; rest = entries; parts = refl; text = []; lines = refl; written = appends_none taken }
+
+-- after all lines of others
+abbrev first_then : (form : ListForm) (first more : List NumberedEntry) (text : List ℕ) (old mid new : Option (List ℕ))
+    → AreLines form first text → Appends old mid text → PrintsFirst form more mid new → PrintsFirst form (first ++ more) old new
+first_then form first more text old mid new are before p = record {
+  first = first ++ p.first;
+  rest = p.rest;
+  parts = ap (λ (l : List NumberedEntry). first ++ l) p.parts ∙ sym (append_assoc first p.first p.rest);
+  text = text ++ p.text;
+  lines = lines_then form first p.first text p.text are p.lines;
+  written = appends_then old mid new text p.text before p.written;
+}
+
+-- before others
+abbrev first_more : (form : ListForm) (entries more : List NumberedEntry) (old new : Option (List ℕ)) → PrintsFirst form entries old new → PrintsFirst form (entries ++ more) old new
+first_more form entries more old new p = record {
+  first = p.first;
+  rest = p.rest ++ more;
+  parts = ap (λ (l : List NumberedEntry). l ++ more) p.parts ∙ append_assoc p.first p.rest more;
+  text = p.text;
+  lines = p.lines;
+  written = p.written;
+}
+
 -- ---- as the note says
 
-written_then : (note : Note) (text next : List ℕ) (old mid new : Option (List ℕ)) → Appends old mid text → IsWritten note next mid new → IsWritten note (text ++ next) old new
-written_then Fine text next old mid new before w = appends_then old mid new text next before w
-written_then WriteFault text next old mid new before w = (front_then text next old mid new before w.0, w.1)
-written_then DiskFault text next old mid new before w = front_then text next old mid new before w
-written_then NoMemory text next old mid new before w = front_then text next old mid new before w
-written_then note text next old mid new before w = absurd w
-
 -- entries that were printed, and then more
-pub printed_then : (form : ListForm) (first more : List NumberedEntry) (note : Note) (old mid new : Option (List ℕ)) → ArePrinted form first Fine old mid → ArePrinted form more note mid new → ArePrinted form (first ++ more) note old new
-printed_then form first more note old mid new p q = (p.0 ++ q.0, lines_then form first more p.0 q.0 p.1 q.1, written_then note p.0 q.0 old mid new p.2 q.2)
+pub printed_then : (form : ListForm) (first more : List NumberedEntry) (note : Note) (old mid new : Option (List ℕ))
+    → ArePrinted form first Fine old mid → ArePrinted form more note mid new → ArePrinted form (first ++ more) note old new
+printed_then form first more Fine old mid new p q = (p.0 ++ q.0, lines_then form first more p.0 q.0 p.1 q.1, appends_then old mid new p.0 q.0 p.2 q.2)
+printed_then form first more WriteFault old mid new p q =
+    (p.0 ++ q.0, lines_then form first more p.0 q.0 p.1 q.1, (front_then p.0 q.0 old mid new p.2 q.2.0, q.2.1))
+printed_then form first more DiskFault old mid new p q = first_then form first more p.0 old mid new p.1 p.2 q
+printed_then form first more NoMemory old mid new p q = first_then form first more p.0 old mid new p.1 p.2 q
+printed_then form first more note old mid new p q = absurd q
 
 pub printed_none : (form : ListForm) (taken : Option (List ℕ)) → ArePrinted form [] Fine taken taken
 printed_none form taken = ([], refl, appends_none taken)
 
-written_cut : (note : Note) (text next : List ℕ) (old new : Option (List ℕ)) → (note ≡ Fine → ⊥) → IsWritten note text old new → IsWritten note (text ++ next) old new
-written_cut Fine text next old new never w = absurd (never refl)
-written_cut WriteFault text next old new never w = (front_more text next old new w.0, omega (arith, w.1, length-append w.0.rest next))
-written_cut DiskFault text next old new never w = front_more text next old new w
-written_cut NoMemory text next old new never w = front_more text next old new w
-written_cut note text next old new never w = absurd w
+text_cut : (text next : List ℕ) (old new : Option (List ℕ)) → IsCut text old new → IsCut (text ++ next) old new
+text_cut text next old new w = (front_more text next old new w.0, omega (arith, w.1, length-append w.0.rest next))
 
 -- the first of some entries were not all printed, and so the entries were not
-pub printed_cut : (form : ListForm) (first more : List NumberedEntry) (note : Note) (old new : Option (List ℕ)) → (note ≡ Fine → ⊥) → All IsLimited more → ArePrinted form first note old new → ArePrinted form (first ++ more) note old new
-printed_cut form first more note old new never limits p =
+pub printed_cut : (form : ListForm) (first more : List NumberedEntry) (note : Note) (old new : Option (List ℕ)) → (note ≡ Fine → ⊥)
+    → All IsLimited more → ArePrinted form first note old new → ArePrinted form (first ++ more) note old new
+printed_cut form first more Fine old new never limits p = absurd (never refl)
+printed_cut form first more WriteFault old new never limits p =
     let rest = some_lines form more limits in
-    (p.0 ++ rest.0, lines_then form first more p.0 rest.0 p.1 rest.1, written_cut note p.0 rest.0 old new never p.2)
+    (p.0 ++ rest.0, lines_then form first more p.0 rest.0 p.1 rest.1, text_cut p.0 rest.0 old new p.2)
+printed_cut form first more DiskFault old new never limits p = first_more form first more old new p
+printed_cut form first more NoMemory old new never limits p = first_more form first more old new p
+printed_cut form first more note old new never limits p = absurd p
 
 -- ---- lines gathered, and written now and then
 
--- The lines of these entries are made: a front of them was written, and these are left.
+-- The lines of these entries are made: those of the first ones were written, and those of the others are left.
 pub record Gathered (form : ListForm) (entries : List NumberedEntry) (old new : Option (List ℕ)) (left : List ℕ) : Type 0 where
-  pub front : List ℕ
-  pub written : Appends old new front
-  pub lines : AreLines form entries (front ++ left)
+  pub printed : PrintsFirst form entries old new
+  pub waiting : AreLines form printed.rest left
 
 pub gathered_none : (form : ListForm) (taken : Option (List ℕ)) (left : List ℕ) → left ≡ [] → Gathered form [] taken taken left
-gathered_none form taken left none = record { front = []; written = appends_none taken; lines = none }
+gathered_none form taken left none = record { printed = none_first form [] taken; waiting = none }
+
+-- the lines of all
+all_lines : (form : ListForm) (entries : List NumberedEntry) (old new : Option (List ℕ)) (left : List ℕ) (g : Gathered form entries old new left) → AreLines form entries (g.printed.text ++ left)
+all_lines form entries old new left g = subst (λ (l : List NumberedEntry). AreLines form l (g.printed.text ++ left)) (sym g.printed.parts)
+    (lines_then form g.printed.first g.printed.rest g.printed.text left g.printed.lines g.waiting)
 
 -- a line more
 pub gathered_line : (form : ListForm) (entries : List NumberedEntry) (one : NumberedEntry) (old new : Option (List ℕ)) (line left after : List ℕ) → IsLine form one.number one.entry line → after ≡ left ++ line
     → Gathered form entries old new left → Gathered form (entries ++ one ∷ []) old new after
 gathered_line form entries one old new line left after is after_is g = record {
-  front = g.front;
-  written = g.written;
-  lines = subst (AreLines form (entries ++ one ∷ [])) (append_assoc g.front left line ∙ ap (λ (l : List ℕ). g.front ++ l) (sym after_is))
-      (lines_then form entries (one ∷ []) (g.front ++ left) line g.lines (line, [], is, refl, sym (append-nil line)));
-}
-
--- a write
-pub gathered_written : (form : ListForm) (entries : List NumberedEntry) (old mid new : Option (List ℕ)) (left after : List ℕ) → (front : List ℕ) × Appends mid new front × (left ≡ front ++ after)
-    → Gathered form entries old mid left → Gathered form entries old new after
-gathered_written form entries old mid new left after w g = record {
-  front = g.front ++ w.0;
-  written = appends_then old mid new g.front w.0 g.written w.1;
-  lines = subst (AreLines form entries) (ap (λ (l : List ℕ). g.front ++ l) w.2 ∙ sym (append_assoc g.front w.0 after)) g.lines;
+  printed = first_more form entries (one ∷ []) old new g.printed;
+  waiting = subst (AreLines form (g.printed.rest ++ one ∷ [])) (sym after_is) (lines_then form g.printed.rest (one ∷ []) left line g.waiting (line, [], is, refl, sym (append-nil line)));
 }
 
 -- what is left was written too
 pub gathered_all : (form : ListForm) (entries : List NumberedEntry) (old mid new : Option (List ℕ)) (left : List ℕ) → Appends mid new left → Gathered form entries old mid left → ArePrinted form entries Fine old new
-gathered_all form entries old mid new left w g = (g.front ++ left, g.lines, appends_then old mid new g.front left g.written w)
+gathered_all form entries old mid new left w g = (g.printed.text ++ left, all_lines form entries old mid left g, appends_then old mid new g.printed.text left g.printed.written w)
+
+-- it was, and nothing is left then; or it stays
+pub gathered_written : (form : ListForm) (entries : List NumberedEntry) (old mid new : Option (List ℕ)) (left after : List ℕ)
+    → ((new ≡ mid) × (after ≡ left)) ⊎ (Appends mid new left × (after ≡ [])) → Gathered form entries old mid left → Gathered form entries old new after
+gathered_written form entries old mid new left after (inl stays) g =
+    subst (λ (t : Option (List ℕ)). Gathered form entries old t after) (sym stays.0) (subst (λ (l : List ℕ). Gathered form entries old mid l) (sym stays.1) g)
+gathered_written form entries old mid new left after (inr all) g =
+    let whole = gathered_all form entries old mid new left all.0 g in
+    record { printed = record { first = entries; rest = []; parts = sym (append-nil entries); text = whole.0; lines = whole.1; written = whole.2 }; waiting = all.1 }
 
 -- or not all of it
-pub gathered_cut : (form : ListForm) (entries : List NumberedEntry) (old mid new : Option (List ℕ)) (left : List ℕ) → (part : WritesFront left mid new) × (0 < length part.rest) → Gathered form entries old mid left
-    → ArePrinted form entries WriteFault old new
-gathered_cut form entries old mid new left w g = (g.front ++ left, g.lines, (front_then g.front left old mid new g.written w.0, w.1))
+pub gathered_cut : (form : ListForm) (entries : List NumberedEntry) (old mid new : Option (List ℕ)) (left : List ℕ) → IsCut left mid new → Gathered form entries old mid left → ArePrinted form entries WriteFault old new
+gathered_cut form entries old mid new left w g = (g.printed.text ++ left, all_lines form entries old mid left g, (front_then g.printed.text left old mid new g.printed.written w.0, w.1))
 
 -- or nothing more
 pub gathered_only : (form : ListForm) (entries : List NumberedEntry) (old new : Option (List ℕ)) (left : List ℕ) → Gathered form entries old new left → ArePrinted form entries NoMemory old new
-gathered_only form entries old new left g = (g.front ++ left, g.lines, front_then g.front left old new new g.written (unwritten left new))
+gathered_only form entries old new left g = g.printed

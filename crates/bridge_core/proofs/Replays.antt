@@ -1,5 +1,5 @@
 -- A connection served over a spool with one caller.
-use Rattle.std.proofs.Common.{◌≡◌, ◌⊎◌, inl, inr, ℕ, ◌*◌, ◌^◌, List, [], sym, ◌∙◌, ap, subst}
+use Rattle.std.proofs.Common.{◌≡◌, ◌⊎◌, inl, inr, ℕ, ◌*◌, ◌^◌, List, sym, ◌∙◌, ap, subst}
 use Rattle.std.specs.Prelude.{Option}
 use Rattle.event_form.specs.declared.talk.Talk.{Talk}
 use Rattle.edge_io.specs.declared.proto.Proto.{Proto}
@@ -10,10 +10,8 @@ use Rattle.spool_log.specs.declared.opening.Opening.TheVariants.{Raise}
 use Rattle.spool_log.specs.Memory.{run_of}
 use Rattle.spool_log.specs.State.{View}
 use Rattle.spool_log.specs.Opening.{opened as opened_by, IsOpening, Opens}
-use Rattle.hec_ids.specs.Table.{Table}
-use Rattle.hec_ids.specs.Rows.{opened}
 use Rattle.desk_access.specs.Call.{Call}
-use Rattle.desk_access.specs.Desk.{desk_of, Stood}
+use Rattle.desk_access.specs.Desk.{Stood}
 use Rattle.desk_access.specs.History.{AllKept, Grows}
 use Rattle.desk_access.specs.Alone.{AloneView, IsAt, Ran}
 use Rattle.desk_access.specs.Journal.{calls_by}
@@ -24,10 +22,6 @@ use Rattle.bridge_words.specs.Notes.{note_of_talk}
 use Rattle.bridge_core.specs.Done.{IsRefusedFirst}
 use Rattle.bridge_parts.specs.Opened.{desk_in}
 use Rattle.bridge_core.specs.Replayed.{Keeps, IsStored, IsServed}
-
--- a desk whose ids are those of the spool's run, none issued
-pub desk_at : (s : SpoolState) (ids : Table) (run : ℕ) (v : AloneView) → ids ≡ opened run 0 → run ≡ s.run → IsAt (desk_of s [] ids) v → IsAt (desk_in s) v
-desk_at s ids run v none same at = subst (λ (t : Table). IsAt (desk_of s [] t) v) (none ∙ ap (λ (n : ℕ). opened n 0) same) at
 
 -- what calls of a desk with one caller lead to, and that memory knows it
 pub record KeepsTo (s : SpoolState) (old new : AloneView) (calls : List Call) : Type 0 where
@@ -70,6 +64,7 @@ served_as proto tokens conn given given' left left' taken taken' Made Also note 
     text = served.serves.text;
     read = served.serves.read;
     consumed = served.serves.consumed;
+    are_bytes = served.serves.are_bytes;
     wrote = served.serves.wrote;
     made = also served.serves.calls served.serves.made;
     counted = served.serves.counted;
@@ -78,7 +73,8 @@ served_as proto tokens conn given given' left left' taken taken' Made Also note 
 }
 
 -- a spool that was opened from a device, and then served
-pub stored_from : (s : SpoolState) (m mid new : Moment) (calls : List Call) (run : ℕ) (v : View) → v.moment ≡ mid → run_of v.memory ≡ run → LeavesOnly (IsOpening Raise m) m mid → Opens Raise s m.reads v → Keeps (opened_by Raise s) mid new calls → IsStored m new (run * 2 ^ 32) calls
+pub stored_from : (s : SpoolState) (m mid new : Moment) (calls : List Call) (run : ℕ) (v : View) → v.moment ≡ mid → run_of v.memory ≡ run
+    → LeavesOnly (IsOpening Raise m) m mid → Opens Raise s m.reads v → Keeps (opened_by Raise s) mid new calls → IsStored m new (run * 2 ^ 32) calls
 stored_from s m mid new calls run v now is first opens keeps = record {
   state = s;
   stood = opens.stood;

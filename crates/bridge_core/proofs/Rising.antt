@@ -1,16 +1,16 @@
 -- Entries whose numbers rise, and those of them from a number on.
 use Rattle.std.proofs.Common.{◌≡◌, ℕ, ◌+◌, ◌<◌, ◌≤◌, List, [], ◌∷◌, ◌++◌, refl, sym, ◌∙◌, ap, subst, arith}
 use Rattle.std.specs.Prelude.{Bool, true, false, cond, All, nat_le}
-use Rattle.std.specs.List.{filter, flat_map}
+use Rattle.std.specs.List.{filter}
 use Rattle.std.specs.Prelude.{not}
 use Rattle.std.proofs.lemmas.Bool.{le-leb, lt-leb, leb-false}
-use Rattle.std.proofs.lemmas.List.Elements.{All-nil, All-cons, All-append, All-head, All-tail, All-filter, filter-append}
+use Rattle.std.proofs.lemmas.List.Elements.{All-nil, All-cons, All-head, All-tail, All-filter, filter-append}
 use Rattle.event_form.specs.declared.event.Entry.{Entry}
 use Rattle.event_form.specs.Entry.{IsEntry}
-use Rattle.spool_state.specs.Segment.{IsGroup, entries_of}
-use Rattle.spool_state.specs.SpoolState.{OpenSlot, SpoolState, IsOpenSlot, IsSound, entries_in, list, base, numbers_of}
+use Rattle.spool_state.specs.SpoolState.{SpoolState, IsSound, list, base, numbers_of}
 use Rattle.spool_state.specs.Left.{NumberedEntry, numbered, is_known, left, left_from}
 use Rattle.spool_state.proofs.Unknown.{filter_all, filter_none}
+use Rattle.forward_core.proofs.Rest.{list_limits}
 use Rattle.bridge_core.proofs.Printing.{IsLimited}
 
 -- the numbers rise from this one on
@@ -78,13 +78,15 @@ off_later from next n le off = lt-leb next n (omega (arith, le, leb-false from n
 pub from_twice : (from next : ℕ) (xs : List NumberedEntry) → from ≤ next → filter (λ e. nat_le next e.number) (filter (λ e. nat_le from e.number) xs) ≡ filter (λ e. nat_le next e.number) xs
 from_twice from next [] le = refl
 from_twice from next (x ∷ xs) le =
-    kept (λ e. nat_le from e.number) (λ e. nat_le next e.number) x (filter (λ e. nat_le from e.number) xs) (filter (λ e. nat_le next e.number) xs) (nat_le from x.number) (off_later from next x.number le) (from_twice from next xs le)
+    kept (λ e. nat_le from e.number) (λ e. nat_le next e.number) x (filter (λ e. nat_le from e.number) xs) (filter (λ e. nat_le next e.number) xs)
+    (nat_le from x.number) (off_later from next x.number le) (from_twice from next xs le)
 
 -- ---- of a spool
 
 pub left_rises : (s : SpoolState) (from : ℕ) → Rises 0 (left_from s from)
 left_rises s from =
-    rises_less (base s) 0 _ (omega arith) (rises_filter (λ e. nat_le from e.number) (base s) (left s) (rises_filter (λ e. not (is_known (numbers_of s) e.number)) (base s) (numbered (base s) (list s)) (rises_numbered (base s) (list s))))
+    rises_less (base s) 0 _ (omega arith) (rises_filter (λ e. nat_le from e.number) (base s) (left s)
+    (rises_filter (λ e. not (is_known (numbers_of s) e.number)) (base s) (numbered (base s) (list s)) (rises_numbered (base s) (list s))))
 
 -- after the first of those that are left from a number on, the others are left
 pub left_after : (s : SpoolState) (from next : ℕ) (given more : List NumberedEntry) → left_from s from ≡ given ++ more → after_last 0 given ≡ next → from ≤ next → left_from s next ≡ more
@@ -99,17 +101,6 @@ left_after s from next given more is after le =
     ∙ filter_all (λ (e : NumberedEntry). nat_le next e.number) more above
 
 -- ---- they keep their limits
-
-groups_limits : (groups : List (List Entry)) → All IsGroup groups → All IsEntry (flat_map (λ group. group) groups)
-groups_limits [] all = All-nil IsEntry
-groups_limits (g ∷ groups) all = All-append IsEntry g (flat_map (λ group. group) groups) (All-head IsGroup g groups all).entries (groups_limits groups (All-tail IsGroup g groups all))
-
-slots_limits : (n : ℕ) (slots : List OpenSlot) → All (IsOpenSlot n) slots → All IsEntry (entries_in slots)
-slots_limits n [] all = All-nil IsEntry
-slots_limits n (slot ∷ slots) all = All-append IsEntry (entries_of slot.segment) (entries_in slots) (groups_limits slot.segment.groups (All-head (IsOpenSlot n) slot slots all).groups) (slots_limits n slots (All-tail (IsOpenSlot n) slot slots all))
-
-list_limits : (s : SpoolState) → IsSound s → All IsEntry (list s)
-list_limits s sound = All-append IsEntry (entries_in s.older) (entries_of s.active.segment) (slots_limits s.slots s.older sound.older) (groups_limits s.active.segment.groups sound.active.groups)
 
 numbered_limits : (first : ℕ) (es : List Entry) → All IsEntry es → All IsLimited (numbered first es)
 numbered_limits first [] all = All-nil IsLimited

@@ -24,10 +24,9 @@ use Rattle.conn_serve.proofs.Faults.{counts_none}
 use Rattle.bridge_words.specs.declared.command.ListForm.{ListForm}
 use Rattle.bridge_words.specs.declared.note.Note.{Note}
 use Rattle.bridge_words.specs.declared.note.Note.TheVariants.{Fine}
-use Rattle.bridge_parts.specs.Written.{IsWritten}
 use Rattle.bridge_parts.specs.Refused.{note_of_pend, note_of_recover}
 use Rattle.bridge_core.specs.Listed.{ArePrinted, PrintsPart, IsUnreadable, IsPrintNote, IsListNote}
-use Rattle.bridge_core.proofs.Printing.{IsLimited, some_lines, unwritten, printed_then, printed_cut}
+use Rattle.bridge_core.proofs.Printing.{IsLimited, none_first, printed_then, printed_cut}
 use Rattle.bridge_core.proofs.Rising.{left_after}
 use Rattle.bridge_core.proofs.Given.{given_last}
 
@@ -43,12 +42,6 @@ sure_pends s from most result old new held (inr goes) =
     let here : Reads goes.0 from most result old new =
     record { pends = goes.1; reached = goes.2.reached; any_moment = weaker _ old.moment.image old.moment new.moment goes.2.any_moment (λ c o. elim o [ inl image ↦ image | inr midway ↦ absurd midway ]) } in
     subst (λ (t : SpoolState). Reads t from most result old new) goes.2.one here
-
--- a fault of reading: nothing was written
-pub unread : (fault : PendFault) (text : List ℕ) (taken : Option (List ℕ)) → IsNotBroken fault → IsWritten (note_of_pend fault) text taken taken
-unread (Pend.NotSpool at) text taken is = absurd is
-unread Pend.DiskFault text taken is = unwritten text taken
-unread Pend.NoMemory text taken is = unwritten text taken
 
 pub unread_print : (fault : PendFault) → IsPrintNote (note_of_pend fault)
 unread_print (Pend.NotSpool at) = tt
@@ -83,7 +76,8 @@ module _ (form : ListForm) (s : SpoolState) (number most : ℕ) (given : List Nu
   -- it was not printed whole
   pub part_cut : (note : Note) → All IsLimited (left_from s number) → (note ≡ Fine → ⊥) → ArePrinted form (given_entries given) note old new → ArePrinted form (left_from s number) note old new
   part_cut note limits never printed =
-      subst (λ (l : List NumberedEntry). ArePrinted form l note old new) (sym parts) (printed_cut form (given_entries given) (drop most (left_from s number)) note old new never (All-drop IsLimited most (left_from s number) limits) printed)
+      subst (λ (l : List NumberedEntry). ArePrinted form l note old new) (sym parts)
+      (printed_cut form (given_entries given) (drop most (left_from s number)) note old new never (All-drop IsLimited most (left_from s number) limits) printed)
 
 -- none was given
 pub none_given : (given xs : List Numbered) → xs ≡ given → length xs ≤ 0 → given ≡ []
@@ -104,9 +98,11 @@ module _ (form : ListForm) (s : SpoolState) (old mid new : Option (List ℕ)) wh
   parts_end number note p q =
       subst (λ (l : List NumberedEntry). ArePrinted form l note old new) (sym p.parts ∙ left_from-cursor s 0 (omega arith)) (printed_then form p.first (left_from s number) note old mid new p.printed q)
 
--- it was not read
-pub part_unread : (form : ListForm) (entries : List NumberedEntry) (fault : PendFault) (taken : Option (List ℕ)) → All IsLimited entries → IsNotBroken fault → ArePrinted form entries (note_of_pend fault) taken taken
-part_unread form entries fault taken limits is = let text = some_lines form entries limits in (text.0, text.1, unread fault text.0 taken is)
+-- it was not read, and nothing was written
+pub part_unread : (form : ListForm) (entries : List NumberedEntry) (fault : PendFault) (taken : Option (List ℕ)) → IsNotBroken fault → ArePrinted form entries (note_of_pend fault) taken taken
+part_unread form entries (Pend.NotSpool at) taken is = absurd is
+part_unread form entries Pend.DiskFault taken is = none_first form entries taken
+part_unread form entries Pend.NoMemory taken is = none_first form entries taken
 
 -- ---- a device that is not opened
 

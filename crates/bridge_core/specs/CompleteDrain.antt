@@ -20,8 +20,9 @@ use Rattle.bridge_words.specs.declared.command.Command.TheVariants.{Drain}
 use Rattle.bridge_words.specs.declared.note.Note.{Note}
 use Rattle.bridge_words.specs.declared.note.Note.TheVariants.{Fine, NoMemory}
 use Rattle.bridge_words.specs.Words.{IsCommand}
-use Rattle.bridge_core.specs.Complete.{Counts, IsRunOf, NoneFailed}
+use Rattle.bridge_core.specs.Complete.{NoneFailed}
 use Rattle.bridge_core.specs.Done.{Run}
+use Rattle.bridge_core.specs.RunOf.{IsRunOf}
 use Rattle.bridge_words.specs.declared.command.Receiver.{Receiver}
 use Rattle.bridge_parts.specs.Receivers.{outward_of}
 
@@ -58,11 +59,12 @@ abbrev pub DrainsAll : Run → SpoolState → Note → Type 0
 DrainsAll run s note = (note ≡ NoMemory) ⊎ ((note ≡ Fine) × LeavesNothing s run.disk_after)
 
 -- Where no call failed, `drain` over the input and the output ends well if the input's bytes acknowledge all that is pending.
-abbrev pub DrainEndsWell : Run → Counts → Type 0
-DrainEndsWell run counts =
+abbrev pub DrainEndsWell : Run → Type 0
+DrainEndsWell run =
     (receiver : Receiver) (words : List (List ℕ)) (note : Note) (s : SpoolState) (b : List ℕ)
-    → IsRunOf words run counts note → NoneFailed run counts → IsCommand (Drain receiver None) words → CanDrain run s
-    → run.left ≡ Some b → length b < 2 ^ 40 → PeerAcknowledges (settings_as (outward_of receiver)) (outward_of receiver).proto (pending s) b → DrainsAll run s note
+    → IsRunOf words run note → NoneFailed run → IsCommand (Drain receiver None) words → CanDrain run s
+    → run.left ≡ Some b → length b < 2 ^ 40
+    → PeerAcknowledges (settings_as (outward_of receiver)) (outward_of receiver).proto (pending s) b → DrainsAll run s note
 
 -- The call hung up one link. Its peer had these bytes: those that the link gave, and then as many as it had left.
 pub record PeerHad (run : Run) (b : List ℕ) : Type 0 where
@@ -84,8 +86,8 @@ LinkAcknowledges settings proto entries run =
     HungUpNone run ⊎ ((b : List ℕ) × PeerHad run b × (length b < 2 ^ 40) × PeerAcknowledges settings proto entries b)
 
 -- And with a place it does if those of the link's peer do.
-abbrev pub DrainThereEndsWell : Run → Counts → Type 0
-DrainThereEndsWell run counts =
+abbrev pub DrainThereEndsWell : Run → Type 0
+DrainThereEndsWell run =
     (receiver : Receiver) (place : List ℕ) (words : List (List ℕ)) (note : Note) (s : SpoolState)
-    → IsRunOf words run counts note → NoneFailed run counts → IsCommand (Drain receiver (Some place)) words → CanDrain run s
+    → IsRunOf words run note → NoneFailed run → IsCommand (Drain receiver (Some place)) words → CanDrain run s
     → LinkAcknowledges (settings_as (outward_of receiver)) (outward_of receiver).proto (pending s) run → DrainsAll run s note

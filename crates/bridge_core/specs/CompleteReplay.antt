@@ -48,8 +48,9 @@ use Rattle.bridge_words.specs.declared.command.Command.TheVariants.{Replay}
 use Rattle.bridge_words.specs.declared.note.Note.{Note}
 use Rattle.bridge_words.specs.declared.note.Note.TheVariants.{Fine, NoMemory}
 use Rattle.bridge_words.specs.Words.{IsCommand}
-use Rattle.bridge_core.specs.Complete.{Counts, IsRunOf, NoneFailed}
+use Rattle.bridge_core.specs.Complete.{NoneFailed}
 use Rattle.bridge_core.specs.Done.{Run}
+use Rattle.bridge_core.specs.RunOf.{IsRunOf}
 use Rattle.bridge_parts.specs.Opened.{desk_in}
 
 -- ---- what is refused nowhere
@@ -190,9 +191,9 @@ TakesAll proto tokens run s b note =
     (note ≡ NoMemory) ⊎ ((note ≡ Fine) × ((events : List Event) × Stores proto tokens b events × Gains (opened Raise s) run.disk_after events))
 
 -- Where no call failed, `replay` ends well if the bytes end with a frame, and no group and no id is refused that they bring.
-abbrev pub ReplayEndsWell : Run → Counts → Type 0
-ReplayEndsWell run counts =
+abbrev pub ReplayEndsWell : Run → Type 0
+ReplayEndsWell run =
     (proto : Proto) (token ack_token : Option ℕ) (words : List (List ℕ)) (note : Note) (s : SpoolState) (b : List ℕ)
     → let tokens : Tokens = record { token = token; ack_token = ack_token } in
-    IsRunOf words run counts note → NoneFailed run counts → IsCommand (Replay proto token ack_token) words → CanReplay run s b
+    IsRunOf words run note → NoneFailed run → IsCommand (Replay proto token ack_token) words → CanReplay run s b
     → EndsWhole proto b → NoneIsRefused proto tokens (conn_in s) (opened Raise s) b → TakesAll proto tokens run s b note

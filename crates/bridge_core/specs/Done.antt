@@ -1,5 +1,5 @@
 -- What the top call does with the words of a command.
-use Rattle.std.specs.Prelude.{◌≡◌, ◌⊎◌, ℕ, List, Option, None, Some}
+use Rattle.std.specs.Prelude.{◌≡◌, ◌⊎◌, ℕ, List, [], Option, None, Some}
 use Rattle.edge_io.specs.Door.{DoorState}
 use Rattle.edge_io.specs.Net.{NetState}
 use Rattle.forward_core.specs.declared.outward.Outward.{Outward}
@@ -18,7 +18,7 @@ use Rattle.bridge_core.specs.Loading.{LoadIsTold}
 use Rattle.bridge_serve.specs.Served.{IsServed}
 use Rattle.bridge_core.specs.Drained.{IsLooked, IsIdle, IsUnread, IsStreamed, IsNeedless, IsUndialed, IsPlaced}
 
--- What is told of the disk, the input, the output and the net, before the call and after it.
+-- What the disk, the input, the output and the net tell, before the call and after it.
 pub record Run : Type 1 where
   -- the disk tells what it reads
   pub tells : Type 0
@@ -31,11 +31,21 @@ pub record Run : Type 1 where
   pub left_after : Option (List ℕ)
   pub taken : Option (List ℕ)
   pub taken_after : Option (List ℕ)
-  -- the links that the net hung up
+  -- how many reads of the input failed, and how many writes of the output
+  pub reads : ℕ
+  pub reads_after : ℕ
+  pub writes : ℕ
+  pub writes_after : ℕ
+  -- the links that the net hung up, with the counts of their faults, and its count of binds and dials that failed
   pub net : NetState
   pub net_after : NetState
   -- the doors that were bound, as they are after the call
   pub doors_after : List DoorState
+  -- the disk, the input, the output and the net are the very ones that were given: of the net, that no place was bound or dialed
+  pub disk_same : Type 0
+  pub input_same : Type 0
+  pub output_same : Type 0
+  pub net_same : Type 0
 
 -- nothing was read or written
 pub record IsSilent (run : Run) : Type 0 where
@@ -43,7 +53,7 @@ pub record IsSilent (run : Run) : Type 0 where
   pub left : run.left_after ≡ run.left
   pub taken : run.taken_after ≡ run.taken
 
--- nothing was given by the input
+-- nothing was read from the input
 pub record IsUngiven (run : Run) : Type 0 where
   pub given : run.given_after ≡ run.given
   pub left : run.left_after ≡ run.left
@@ -61,16 +71,29 @@ DoesStream outward run note =
 abbrev pub DoesPlace : Outward → List ℕ → Run → Note → Type 0
 DoesPlace outward place run note =
     (IsUnread run.tells run.disk run.disk_after note × IsSilent run × (run.net_after ≡ run.net))
-    ⊎ (IsUngiven run × (IsNeedless run.tells run.disk run.disk_after run.net run.net_after run.taken run.taken_after note
+    ⊎ (IsUngiven run × (IsNeedless run.tells run.disk run.disk_after run.net run.net_after run.writes run.writes_after
+    run.taken run.taken_after note
     ⊎ (IsUndialed run.tells run.disk run.disk_after run.net run.net_after run.taken run.taken_after note
-    ⊎ IsPlaced outward place run.tells run.disk run.disk_after run.net run.net_after run.taken run.taken_after note)))
+    ⊎ IsPlaced outward place run.tells run.disk run.disk_after run.net run.net_after run.writes run.writes_after
+    run.taken run.taken_after note)))
 
--- No memory was found for reading the words, and all stayed the same.
-abbrev pub IsUndone : Type 0 → Note → Type 0
-IsUndone Same note = (note ≡ NoMemory) × Same
+-- Nothing was done.
+pub record IsUntouched (run : Run) : Type 0 where
+  pub disk : run.disk_same
+  pub input : run.input_same
+  pub output : run.output_same
+  pub net : run.net_same
+  pub silent : IsSilent run
+  pub undialed : run.net_after ≡ run.net
+  pub doors : run.doors_after ≡ []
 
--- nothing was given by the input, and the net tells nothing new
+-- No memory was found for reading the words, and nothing was done.
+abbrev pub IsUndone : Run → Note → Type 0
+IsUndone run note = (note ≡ NoMemory) × IsUntouched run
+
+-- the disk is the one that was given, nothing was read from the input, and the net tells nothing new
 pub record IsApart (run : Run) : Type 0 where
+  pub disk : run.disk_same
   pub ungiven : IsUngiven run
   pub net : run.net_after ≡ run.net
 
@@ -87,12 +110,14 @@ Does (ListCommand form) run note =
     × (run.tells → IsListed form run.disk.reads run.taken run.taken_after note × LeavesOnly run.disk.image run.disk run.disk_after)
 Does (Replay proto token ack_token) run note =
     (IsUnopened run.tells run.disk run.disk_after note × IsSilent run)
-    ⊎ IsReplayed proto (record { token = token; ack_token = ack_token }) run.tells run.disk run.disk_after run.given run.given_after run.left run.left_after run.taken run.taken_after note
+    ⊎ IsReplayed proto (record { token = token; ack_token = ack_token }) run.tells run.disk run.disk_after run.given run.given_after
+    run.left run.left_after run.taken run.taken_after note
 Does (Drain receiver None) run note = DoesStream (outward_of receiver) run note
 Does (Drain receiver (Some place)) run note = DoesPlace (outward_of receiver) place run note
 Does (Load proto number count) run note = LoadIsTold proto number count note run.taken run.taken_after × IsApart run
 Does (Serve server) run note =
-    IsServed server run.tells run.disk run.disk_after run.net run.net_after run.doors_after run.taken run.taken_after note × IsUngiven run
+    IsServed run.net_same server run.tells run.disk run.disk_after run.net run.net_after run.doors_after run.writes run.writes_after
+    run.taken run.taken_after note × IsUngiven run
 
 -- the words or the device were refused, before the input or the output was met
 abbrev pub IsRefusedFirst : Note → Type 0

@@ -1,5 +1,6 @@
 -- What the top call does with the words of `drain`.
 use Rattle.std.specs.Prelude.{◌≡◌, ◌⊎◌, ℕ, ◌-◌, ◌<◌, List, [], length, Option}
+use Rattle.conn_serve.specs.Endings.{CountsFaults}
 use Rattle.edge_io.specs.Net.{NetState, IsHungUp}
 use Rattle.edge_io.specs.Told.{IsFresh, IsDialed, Adds}
 use Rattle.edge_disk.specs.Disk.{Moment, LeavesOnly}
@@ -18,13 +19,13 @@ use Rattle.forward_core.specs.Turning.{IsHalt}
 use Rattle.forward_core.specs.Protocols.{EndsAs, HintsAs, settings_as}
 use Rattle.forward_core.specs.declared.outward.Outward.{Outward}
 use Rattle.bridge_words.specs.declared.note.Note.{Note}
-use Rattle.bridge_words.specs.declared.note.Note.TheVariants.{NoMemory, NetFault}
+use Rattle.bridge_words.specs.declared.note.Note.TheVariants.{NoMemory, NetFault, WriteFault}
 use Rattle.bridge_words.specs.Lines.{drain_line}
 use Rattle.bridge_core.specs.Listed.{IsUnreadable}
 use Rattle.bridge_parts.specs.Refused.{note_of_recover, note_of_sent}
 use Rattle.bridge_parts.specs.Opened.{desk_in}
 use Rattle.bridge_core.specs.Replayed.{Reaches}
-use Rattle.bridge_parts.specs.Written.{IsWritten, PrintsAfter}
+use Rattle.bridge_parts.specs.Written.{IsPrinted, PrintsAfter}
 
 -- The device stood for a state of which this is so, and nothing was written to it: a crash leaves what it could leave
 -- before.
@@ -71,7 +72,8 @@ pub record IsSession (outward : Outward) (given given' left left' written writte
     (sent : Sent) : Type 0 where
   pub start : ℕ
   pub until : ℕ
-  pub forwards : Forwards (EndsAs (settings_as outward) outward.proto) (HintsAs outward.proto) given given' left left' written written' (Made start until) start until sent
+  pub forwards : Forwards (EndsAs (settings_as outward) outward.proto) (HintsAs outward.proto) given given' left left' written written'
+      (Made start until) start until sent
 
 -- and that was done over the spool that the device stood for
 abbrev pub IsOverSpool : Type 0 → Moment → Moment → ℕ → ℕ → ℕ → ℕ → List Call → Type 0
@@ -95,7 +97,8 @@ pub record IsSessionOver (outward : Outward) (tells : Type 0) (old new : Moment)
       forwards.ended.also
 
 -- One session over the input and the output. The note is that of its ending.
-pub record IsStreamed (outward : Outward) (tells : Type 0) (old new : Moment) (given given' left left' taken taken' : Option (List ℕ)) (note : Note) : Type 0 where
+pub record IsStreamed (outward : Outward) (tells : Type 0) (old new : Moment) (given given' left left' taken taken' : Option (List ℕ))
+    (note : Note) : Type 0 where
   pub sent : Sent
   pub note_is : note ≡ note_of_sent sent
   pub confirmed : ℕ
@@ -104,15 +107,17 @@ pub record IsStreamed (outward : Outward) (tells : Type 0) (old new : Moment) (g
 
 -- ---- with a place
 
--- The line is printed after each ending of a session but want of memory.
-abbrev pub PrintsOf : Sent → List ℕ → Note → Option (List ℕ) → Option (List ℕ) → Type 0
-PrintsOf Sending.NoMemory line note old new = (note ≡ NoMemory) × (new ≡ old)
-PrintsOf sent line note old new = PrintsAfter (note_of_sent sent) line note old new
+-- The line is printed after each ending of a session but want of memory: whole; or cut, where a write of it failed; or not at all,
+-- where no memory was found for it. The output's count of writes that failed rose where a write of the line failed, and nowhere else.
+abbrev pub PrintsOf : Sent → List ℕ → Note → (writes writes' : ℕ) → Option (List ℕ) → Option (List ℕ) → Type 0
+PrintsOf Sending.NoMemory line note writes writes' old new = (note ≡ NoMemory) × (writes' ≡ writes) × (new ≡ old)
+PrintsOf sent line note writes writes' old new =
+    (prints : PrintsAfter (note_of_sent sent) line note old new) × CountsFaults (prints.print ≡ WriteFault) writes writes'
 
 -- The place was dialed, one session was held over the new link, the link was hung up, and the line was printed. What is told
 -- of the link that was hung up is the place at which it was dialed, and the bytes of the session.
-pub record IsPlaced (outward : Outward) (place : List ℕ) (tells : Type 0) (old new : Moment) (net net' : NetState) (taken taken' : Option (List ℕ))
-    (note : Note) : Type 0 where
+pub record IsPlaced (outward : Outward) (place : List ℕ) (tells : Type 0) (old new : Moment) (net net' : NetState) (writes writes' : ℕ)
+    (taken taken' : Option (List ℕ)) (note : Note) : Type 0 where
   pub sent : Sent
   pub confirmed : ℕ
   pub remaining : ℕ
@@ -127,7 +132,7 @@ pub record IsPlaced (outward : Outward) (place : List ℕ) (tells : Type 0) (old
   pub fresh : IsFresh net.hung given written left_there
   pub session : IsSessionOver outward tells old new given given_after left_there left_after written written_after confirmed remaining sent
   pub hung : Adds net.hung net'.hung (IsHungUp dialed given_after written_after left_after)
-  pub printed : PrintsOf sent (drain_line confirmed remaining) note taken taken'
+  pub printed : PrintsOf sent (drain_line confirmed remaining) note writes writes' taken taken'
 
 -- The dial failed: nothing was printed, and nothing was done to the device.
 pub record IsUndialed (tells : Type 0) (old new : Moment) (net net' : NetState) (taken taken' : Option (List ℕ)) (note : Note) : Type 0 where
@@ -136,8 +141,11 @@ pub record IsUndialed (tells : Type 0) (old new : Moment) (net net' : NetState) 
   pub hung : net'.hung ≡ net.hung
   pub silent : taken' ≡ taken
 
--- Nothing was pending: nothing was dialed, and a line says so.
-pub record IsNeedless (tells : Type 0) (old new : Moment) (net net' : NetState) (taken taken' : Option (List ℕ)) (note : Note) : Type 0 where
+-- Nothing was pending: nothing was dialed, and a line says so. The output's count of writes that failed rose where a write of it
+-- failed, and nowhere else.
+pub record IsNeedless (tells : Type 0) (old new : Moment) (net net' : NetState) (writes writes' : ℕ)
+    (taken taken' : Option (List ℕ)) (note : Note) : Type 0 where
   pub idle : tells → IsLooked IsIdle old new
   pub undialed : net' ≡ net
-  pub line : IsWritten note (drain_line 0 0) taken taken'
+  pub line : IsPrinted note (drain_line 0 0) taken taken'
+  pub wrote : CountsFaults (note ≡ WriteFault) writes writes'

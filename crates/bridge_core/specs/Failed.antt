@@ -56,25 +56,25 @@ pub record CountsWrites (note : Note) (before now : ℕ) : Type 0 where
   pub cause : note ≡ WriteFault → Rose 1 before now
   pub quiet : (note ≡ WriteFault → ⊥) → (IsHaltNote note → ⊥) → now ≡ before
 
--- Where entries are forwarded to a place: the read that the note tells of was one of a link that was hung up.
+-- Where entries are forwarded to a place: the failed read that the note reports was one of a link that was hung up.
 pub record ReadsOfLink (note : Note) (before now hung_before hung_now : ℕ) : Type 0 where
   pub none : now ≡ before
   pub later : hung_before ≤ hung_now
   pub cause : note ≡ ReadFault → Rose 1 hung_before hung_now
 
--- The same of any words, but where many senders are served: there the disk may have failed too where the note tells something else, as a connection's
--- ending doesn't change it.
+-- The same of any words, but where many senders are served: there the disk may have failed too where the note says something else, as
+-- a connection's ending doesn't change it.
 abbrev pub TellsDisk : List (List ℕ) → Note → Moment → Moment → Type 0
 TellsDisk words note old new = TellsDiskFault (AsksCollector words) note old new ⊎ (AsksServe words × DiskRoseBy (note ≡ DiskFault) old new)
 
--- A read of the input failed exactly where the note says so; where entries are forwarded to a place none of it did, and the
--- note tells of the link.
+-- A read of the input failed exactly where the note says so; where entries are forwarded to a place, or many senders are served, none
+-- of it did, and the note reports a read of a link.
 abbrev pub TellsReadFault : List (List ℕ) → Note → ℕ → ℕ → NetState → NetState → Type 0
 TellsReadFault words note before now net net' =
     CountsFaults (note ≡ ReadFault) before now
     ⊎ ((AsksPlace words ⊎ AsksServe words) × ReadsOfLink note before now net.read_faults net'.read_faults)
 
--- A write of the output failed exactly where the note says so, but where entries are forwarded.
+-- A write of the output failed exactly where the note says so, but where entries are forwarded or many senders are served.
 abbrev pub TellsWriteFault : List (List ℕ) → Note → ℕ → ℕ → NetState → NetState → Type 0
 TellsWriteFault words note before now net net' =
     CountsFaults (note ≡ WriteFault) before now
@@ -85,7 +85,7 @@ TellsWriteFault words note before now net net' =
 abbrev pub TellsNetFault : Note → NetState → NetState → Type 0
 TellsNetFault note net net' = CountsFaults (note ≡ NetFault) net.net_faults net'.net_faults
 
--- The same of any words, but where many senders are served: there a bind or a dial may have failed where the note tells something else, and the
--- note may tell of an accept.
+-- The same of any words, but where many senders are served: there a bind or a dial may have failed where the note says something
+-- else, and the note may report an accept.
 abbrev pub TellsDial : List (List ℕ) → Note → NetState → NetState → Type 0
 TellsDial words note net net' = TellsNetFault note net net' ⊎ (AsksServe words × (net.net_faults ≤ net'.net_faults))

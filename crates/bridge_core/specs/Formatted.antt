@@ -6,19 +6,19 @@ use Rattle.edge_disk.specs.Disk.{Moment}
 use Rattle.bridge_words.specs.declared.note.Note.{Note}
 use Rattle.bridge_words.specs.declared.note.Note.TheVariants.{Fine, WrongLength, NoMemory, WriteFault, DiskFault}
 use Rattle.bridge_words.specs.Lines.{spool_line}
-use Rattle.bridge_parts.specs.Written.{IsWritten}
+use Rattle.bridge_parts.specs.Written.{IsPrinted}
 
 -- Whatever a crash leaves from now on stands for the empty spool.
 abbrev pub IsEmptied : ℕ → ℕ → Moment → Type 0
 IsEmptied slots size m = (c : List ℕ) → m.image c → StandsFor (empty_state slots size) c
 
--- the spool was made, and the line written as the note says
+-- the spool was made, and the line printed as the note says
 pub record IsMade (slots size : ℕ) (tells : Type 0) (before after : Moment) (old new : Option (List ℕ)) (note : Note) : Type 0 where
   pub length : before.size ≡ slot_at size slots
   pub empty : tells → IsEmptied slots size after
-  pub line : IsWritten note (spool_line slots size) old new
+  pub line : IsPrinted note (spool_line slots size) old new
 
--- The device has another length, and both are told; or a call of the disk failed; or the spool was made.
+-- The device has another length, and the note has both; or a call of the disk failed; or the spool was made.
 -- Where it was not, nothing was written.
 abbrev pub IsFormatted : ℕ → ℕ → Type 0 → Moment → Moment → Option (List ℕ) → Option (List ℕ) → Note → Type 0
 IsFormatted slots size tells before after old new Fine = IsMade slots size tells before after old new Fine

@@ -8,6 +8,8 @@ pub mod Drained
 pub mod Sending
 pub mod Loading
 pub mod Done
+pub mod RunOf
+pub mod Headline
 pub mod Complete
 pub mod CompleteReplay
 pub mod CompleteDrain

@@ -1,5 +1,6 @@
 -- What the top call does with the words of `list`.
 use Rattle.std.specs.Prelude.{◌≡◌, ◌⊎◌, ℕ, List, [], ◌∷◌, ◌++◌, Option}
+use Rattle.std.specs.Io.KnownBytes.{Appends}
 use Rattle.event_form.specs.declared.event.Event.{Event}
 use Rattle.event_form.specs.declared.event.Entry.{Entry}
 use Rattle.event_map.specs.Maps.{IsText, IsJsonObject, IsHecObject}
@@ -12,7 +13,7 @@ use Rattle.bridge_words.specs.declared.note.Note.TheVariants.{Fine, NotSpool, Ru
 use Rattle.bridge_words.specs.declared.command.ListForm.{ListForm}
 use Rattle.bridge_words.specs.declared.command.ListForm.TheVariants.{Plain, Text, JsonObject, HecObject}
 use Rattle.bridge_words.specs.Lines.{entry_line}
-use Rattle.bridge_parts.specs.Written.{IsWritten}
+use Rattle.bridge_parts.specs.Written.{IsCut}
 
 -- the line is the event as that map has it, and LF
 abbrev pub IsMapped : (Event → List ℕ → Type 0) → Event → List ℕ → Type 0
@@ -30,9 +31,23 @@ abbrev pub AreLines : ListForm → List NumberedEntry → List ℕ → Type 0
 AreLines form [] text = text ≡ []
 AreLines form (one ∷ more) text = (line : List ℕ) × (rest : List ℕ) × IsLine form one.number one.entry line × AreLines form more rest × (text ≡ line ++ rest)
 
--- of the lines of these entries so much was written as the note says
+-- the lines of the first of these entries were written, each whole, and nothing else
+pub record PrintsFirst (form : ListForm) (entries : List NumberedEntry) (old new : Option (List ℕ)) : Type 0 where
+  pub first : List NumberedEntry
+  pub rest : List NumberedEntry
+  pub parts : entries ≡ first ++ rest
+  pub text : List ℕ
+  pub lines : AreLines form first text
+  pub written : Appends old new text
+
+-- The lines of these entries were written: all of them where all was done; not all, and the last one perhaps in part, where a write
+-- failed; and those of the first ones, each whole, where a call of the disk failed or no memory was found.
 abbrev pub ArePrinted : ListForm → List NumberedEntry → Note → Option (List ℕ) → Option (List ℕ) → Type 0
-ArePrinted form entries note old new = (text : List ℕ) × AreLines form entries text × IsWritten note text old new
+ArePrinted form entries Fine old new = (text : List ℕ) × AreLines form entries text × Appends old new text
+ArePrinted form entries WriteFault old new = (text : List ℕ) × AreLines form entries text × IsCut text old new
+ArePrinted form entries DiskFault old new = PrintsFirst form entries old new
+ArePrinted form entries NoMemory old new = PrintsFirst form entries old new
+ArePrinted form entries note old new = ⊥
 
 -- why a device is not opened to be read: it breaks a rule, the first one at that place; or the disk failed, or no memory was found
 abbrev pub IsUnreadable : List ℕ → Note → Type 0

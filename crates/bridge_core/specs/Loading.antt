@@ -1,28 +1,21 @@
 -- What the top call does with the words of `load`.
 use Rattle.std.specs.Prelude.{◌≡◌, ◌⊎◌, ℕ, List, Option}
 use Rattle.edge_io.specs.declared.proto.Proto.{Proto}
-use Rattle.edge_io.specs.declared.proto.Proto.TheVariants.{Relp, Lumberjack, Hec}
 use Rattle.load_run.specs.declared.loaded.Loaded.{Loaded}
 use Rattle.load_run.specs.declared.loaded.LoadFault.{LoadFault}
 use Rattle.load_run.specs.declared.loaded.LoadFault.TheVariants as Load
-use Rattle.load_run.specs.Load.{IsLoaded, IsFailed}
+use Rattle.load_run.specs.Load.{IsLoaded}
 use Rattle.load_run.specs.Line.{load_line}
 use Rattle.bridge_words.specs.declared.note.Note.{Note}
 use Rattle.bridge_words.specs.Notes.{note_of_talk}
 use Rattle.bridge_parts.specs.Refused.{note_of_sent}
-use Rattle.bridge_parts.specs.Written.{IsWritten}
+use Rattle.bridge_parts.specs.Written.{IsPrinted}
 
--- what is told of a load that came to no numbers
+-- the note of a load that came to no numbers
 abbrev pub note_of_load : LoadFault → Note
 note_of_load (Load.Replayed talk) = note_of_talk talk
 note_of_load (Load.Drained sent) = note_of_sent sent
 note_of_load Load.NoMemory = Note.NoMemory
-
--- by these protocols a load always comes to its numbers, unless no memory is found
-abbrev pub IsSure : Proto → Type 0
-IsSure Relp = Unit {0}
-IsSure Lumberjack = Unit {0}
-IsSure Hec = ⊥
 
 -- all events were taken, and all of them are confirmed
 pub record AllConfirmed (count : ℕ) (loaded : Loaded) : Type 0 where
@@ -30,20 +23,18 @@ pub record AllConfirmed (count : ℕ) (loaded : Loaded) : Type 0 where
   pub confirmed : loaded.confirmed ≡ count
   pub left : loaded.left ≡ 0
 
--- A load came to numbers, and the line that tells them was written as the note says.
+-- A load came to numbers, by which all is confirmed, and the line that tells them was printed as the note says.
 pub record IsTold (proto : Proto) (number count : ℕ) (taken taken' : Option (List ℕ)) (note : Note) : Type 0 where
   pub loaded : Loaded
   pub loaded_is : IsLoaded proto number count loaded
-  pub all : IsSure proto → AllConfirmed count loaded
-  pub line : IsWritten note (load_line loaded) taken taken'
+  pub all : AllConfirmed count loaded
+  pub line : IsPrinted note (load_line loaded) taken taken'
 
--- It came to none, and nothing was written.
-pub record IsUntold (proto : Proto) (number count : ℕ) (taken taken' : Option (List ℕ)) (note : Note) : Type 0 where
-  pub fault : LoadFault
-  pub failed : IsFailed proto number count fault
-  pub memory : IsSure proto → fault ≡ Load.NoMemory
-  pub note_is : note ≡ note_of_load fault
+-- It came to none, since no memory was found, and nothing was written.
+pub record IsUntold (taken taken' : Option (List ℕ)) (note : Note) : Type 0 where
+  pub memory : note ≡ Note.NoMemory
   pub silent : taken' ≡ taken
 
+-- the one or the other
 abbrev pub LoadIsTold : Proto → ℕ → ℕ → Note → Option (List ℕ) → Option (List ℕ) → Type 0
-LoadIsTold proto number count note taken taken' = IsTold proto number count taken taken' note ⊎ IsUntold proto number count taken taken' note
+LoadIsTold proto number count note taken taken' = IsTold proto number count taken taken' note ⊎ IsUntold taken taken' note

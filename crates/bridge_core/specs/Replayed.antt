@@ -17,7 +17,8 @@ use Rattle.hec_session.specs.declared.tokens.Tokens.{Tokens}
 use Rattle.bridge_words.specs.declared.note.Note.{Note}
 use Rattle.bridge_words.specs.Notes.{note_of_talk}
 use Rattle.bridge_parts.specs.Opened.{desk_in}
-use Rattle.bridge_core.specs.Acknowledged.{AckedIsDurable, AnswersAreDurable}
+use Rattle.serve_laws.specs.Durable.{AckedIsDurable}
+use Rattle.bridge_core.specs.Acknowledged.{AnswersAreDurable}
 
 -- What stands after calls on the spool from a state: whatever a crash leaves now stands for a later state of
 -- the same run. Each entry that was taken, so each that was answered, is there at its number or is below the
@@ -62,15 +63,18 @@ pub record IsStored (old new : Moment) (conn : ℕ) (calls : List Call) : Type 0
 -- The input was served by this protocol and these tokens, as one connection of this number: the bytes read are its frames, from
 -- the first one, none skipped; the calls on the spool and the bytes written are those that they ask for; where it
 -- ended with the input, the input was read to its end; and the note is that of the connection's ending.
-pub record IsServed (proto : Proto) (tokens : Tokens) (conn : ℕ) (given given' left left' taken taken' : Option (List ℕ)) (Made : List Call → Type 0) (note : Note) : Type 0 where
+pub record IsServed (proto : Proto) (tokens : Tokens) (conn : ℕ) (given given' left left' taken taken' : Option (List ℕ))
+    (Made : List Call → Type 0) (note : Note) : Type 0 where
   pub attended : Attended
   pub note_is : note ≡ note_of_talk attended.talk
   pub serves : Serves (CarriedAs proto tokens conn) given given' left left' taken taken' Made attended
 
 -- And that was done over the spool that the device stood for. Whatever the text that was written acknowledges is durable:
 -- by RELP and Lumberjack the numbers in it, and by the collector its replies.
-pub record IsReplayed (proto : Proto) (tokens : Tokens) (tells : Type 0) (old new : Moment) (given given' left left' taken taken' : Option (List ℕ)) (note : Note) : Type 0 where
+pub record IsReplayed (proto : Proto) (tokens : Tokens) (tells : Type 0) (old new : Moment)
+    (given given' left left' taken taken' : Option (List ℕ)) (note : Note) : Type 0 where
   pub conn : ℕ
   pub served : IsServed proto tokens conn given given' left left' taken taken' (λ calls. tells → IsStored old new conn calls) note
   pub acknowledged : (numbers : List ℕ) → tells → Acknowledges proto served.serves.text numbers → AckedIsDurable served.serves.calls new numbers
-  pub answered : tells → AnswersAreDurable proto tokens conn left' served.serves.bytes served.serves.calls served.serves.text served.attended.talk served.serves.carried new
+  pub answered : tells → AnswersAreDurable proto tokens conn left' served.serves.bytes served.serves.calls served.serves.text
+      served.attended.talk served.serves.carried new

@@ -15,7 +15,7 @@ pub(crate) enum Unasked {
     NoMemory,
 }
 
-/// The command for which the words ask.
+/// The command for which the words ask. The error says that they are none, or that no memory was found for reading them.
 pub(crate) fn asked_of(alloc: Global, words: &[String]) -> Result<Command, Unasked>
     ensures command { IfOk result (λ command. IsCommand command (map string_bytes words.now)) }
     ensures why { IfErr result (λ why. IsUnasked why (map string_bytes words.now)) }

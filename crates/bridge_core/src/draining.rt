@@ -19,7 +19,7 @@ use crate::sending::{Sending, is_idle, send};
 use bridge_parts::{recover_note, sent_note};
 use bridge_words::Note;
 use edge_disk::Disk;
-use edge_io::{Both, Pause, Sink, Source};
+use edge_io::{Both, Net, Pause, Sink, Source};
 use forward_core::Outward;
 use spool_log::{Opening, Refusal, Spool};
 use std::alloc::Global;
@@ -40,7 +40,8 @@ fn send_both<D: Disk, S: Source, K: Sink, Z: Pause>(
     ensures reads { sending.CountsFaults (result.sent ≡ Ending.ReadFault) (S.read_faults input.old) (S.read_faults input.new) }
     ensures writes { sending.CountsWrites (result.sent ≡ Ending.WriteFault) (IsHalt result.sent) (K.write_faults output.old) (K.write_faults output.new) }
     ensures paused { Z.pause_apart rest.old rest.new }
-    ensures session { IsSession outward.now (S.given input.old) (S.given input.new) (S.left input.old) (S.left input.new) (K.taken output.old) (K.taken output.new)
+    ensures session { IsSession outward.now (S.given input.old) (S.given input.new) (S.left input.old) (S.left input.new)
+        (K.taken output.old) (K.taken output.new)
         (λ start until calls. (s : SpoolState) → D.tells → IsIn s [] (view spool.memory spool.doubt (D.moment spool.disk))
         → Sends s (D.moment spool.disk) (D.moment result.spool.disk) start until calls (pending_in result.spool.memory)) result.sent }
 {
@@ -83,18 +84,18 @@ fn send_out<D: Disk, S: Source, K: Sink, Z: Pause>(
     Finished::of(sent_note(sent), spool.into_disk())
 }
 
-/// Forwards the entries that aren't known as confirmed, speaking so to the peer: what is sent is written to the output, and
-/// the peer's replies are read from the input. `rest` waits where the protocol asks again after a while.
+/// Forwards the entries that aren't known as confirmed by these settings: what is sent is written to the output, and the peer's
+/// replies are read from the input. The net only waits, where the protocol asks again after a while.
 ///
-/// Where none is pending nothing is read or written. `NotSpool` comes where the device breaks a rule of the layout,
-/// with the place of the first one, and then nothing is read or written. Else the note is that of the session's ending.
-pub(crate) fn drain_out<D: Disk, S: Source, K: Sink, Z: Pause>(
+/// Where none is pending nothing is read or written, and the note is `Fine`. `NotSpool` comes where the device breaks a rule of the
+/// layout, with the offset of the first one, and then nothing is read or written. Else the note is that of the session's ending.
+pub(crate) fn drain_out<D: Disk, S: Source, K: Sink, N: Net>(
     alloc: Global,
     outward: &Outward,
     disk: D,
     input: &mut S,
     output: &mut K,
-    rest: &mut Z,
+    net: &mut N,
 ) -> Finished<D>
     requires polls { 0 < outward.now.polls }
 
@@ -103,7 +104,7 @@ pub(crate) fn drain_out<D: Disk, S: Source, K: Sink, Z: Pause>(
     ensures reads { CountsFaults (result.note ≡ ReadFault) (S.read_faults input.old) (S.read_faults input.new) }
     ensures writes { CountsWrites result.note (K.write_faults output.old) (K.write_faults output.new) }
     ensures dials { result.note ≢ Note.NetFault }
-    ensures paused { Z.pause_apart rest.old rest.new }
+    ensures told { N.told net.new ≡ N.told net.old }
     ensures drained { (IsUnread D.tells (D.moment disk) (D.moment result.disk) result.note × (input.new ≡ input.old) × (output.new ≡ output.old))
         ⊎ (((D.tells → IsLooked IsIdle (D.moment disk) (D.moment result.disk)) × (result.note ≡ Note.Fine) × (input.new ≡ input.old)
         × (output.new ≡ output.old))
@@ -111,7 +112,7 @@ pub(crate) fn drain_out<D: Disk, S: Source, K: Sink, Z: Pause>(
         (K.taken output.old) (K.taken output.new) result.note) }
 {
     match Spool::recover(alloc, disk, Opening::Keep) {
-        Ok(spool) => send_out(alloc, outward, spool, input, output, rest),
+        Ok(spool) => send_out(alloc, outward, spool, input, output, net),
         Err(Refusal { fault, disk }) => Finished::of(recover_note(fault), disk),
     }
 }

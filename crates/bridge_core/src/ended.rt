@@ -5,13 +5,16 @@ ghost use Rattle.bridge_words.specs.Notes.{status_of};
 use bridge_words::Note;
 use std::alloc::Global;
 
-/// How a run ended: the exit status of the program, why it ended, the disk that was handed in, and the doors that
-/// were bound, each with the connections that were given back to it. No command of today binds one.
+/// How a run ended, and what it hands back.
 #[derive(Drop)]
 pub struct Ended<D, P> {
+    /// The exit status of the program, by the note: 0 where all was done.
     pub status: u8,
+    /// Why it ended.
     pub note: Note,
+    /// The disk that was handed in.
     pub disk: D,
+    /// The doors that were bound, each with the connections that were given back to it. `serve` alone binds any.
     pub doors: Vec<P>,
 }
 
@@ -32,7 +35,7 @@ impl<D, P> Ended<D, P> {
     }
 }
 
-/// How a command ended, and the disk that was handed in.
+/// How a command ended that binds no door, and the disk that was handed in.
 #[derive(Drop, Debug)]
 pub(crate) struct Finished<D> {
     pub(crate) note: Note,

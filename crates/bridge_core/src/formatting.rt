@@ -7,7 +7,7 @@ ghost use Rattle.conn_serve.specs.Endings.{CountsFaults};
 ghost use Rattle.bridge_words.specs.declared.note.Note.TheVariants.{Usage, WrongLength, ReadFault, WriteFault, DiskFault};
 ghost use Rattle.bridge_words.specs.Lines.{spool_line};
 ghost use Rattle.bridge_words.specs.Words.{IsSize};
-ghost use Rattle.bridge_parts.specs.Written.{IsWritten};
+ghost use Rattle.bridge_parts.specs.Written.{IsPrinted};
 ghost use Rattle.bridge_core.specs.Formatted.{IsFormatted};
 ghost use Rattle.bridge_core.specs.Done.{IsRefusedFirst};
 
@@ -21,7 +21,7 @@ use std::alloc::Global;
 fn print_line<K: Sink>(alloc: Global, output: &mut K, slots: u32, size: u64) -> Note
     ensures writes { CountsFaults (result ≡ WriteFault) (K.write_faults output.old) (K.write_faults output.new) }
     ensures undisturbed { result ≢ DiskFault }
-    ensures line { IsWritten result (spool_line slots size) (K.taken output.old) (K.taken output.new) }
+    ensures line { IsPrinted result (spool_line slots size) (K.taken output.old) (K.taken output.new) }
 {
     let Ok(line) = spool_line(alloc, slots, size) else {
         return Note::NoMemory;
@@ -37,7 +37,7 @@ fn print_line<K: Sink>(alloc: Global, output: &mut K, slots: u32, size: u64) -> 
 /// `WrongLength` comes exactly where the device hasn't the length of such a spool, and then nothing is
 /// changed. `DiskFault` and `WriteFault` come only where a call of the disk or a write failed in this call.
 /// A crash leaves what could stand there before, no spool, or the empty one.
-pub fn format<D: Disk, K: Sink>(
+pub(crate) fn format<D: Disk, K: Sink>(
     alloc: Global,
     disk: &mut D,
     output: &mut K,
@@ -48,7 +48,7 @@ pub fn format<D: Disk, K: Sink>(
 
     ensures calls { Calls (result ≡ DiskFault) (D.moment disk.old) (D.moment disk.new) }
     ensures writes { CountsFaults (result ≡ WriteFault) (K.write_faults output.old) (K.write_faults output.new) }
-    ensures known { (result ≢ Usage) × (result ≢ ReadFault) }
+    ensures known { (result ≢ Usage) × (result ≢ ReadFault) × (result ≢ Note.NetFault) }
     ensures unchanged { (have want : ℕ) → result ≡ WrongLength have want → disk.new ≡ disk.old }
     ensures unused { IsRefusedFirst result → output.new ≡ output.old }
     ensures formatted { IsFormatted slots size D.tells (D.moment disk.old) (D.moment disk.new) (K.taken output.old) (K.taken output.new) result }

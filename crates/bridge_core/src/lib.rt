@@ -1,6 +1,6 @@
 //! bridge: takes log events by RELP, by Lumberjack and by Splunk's HTTP Event Collector, keeps them in a spool on a device of a fixed
-//! length, and forwards them. The one contract is that of `bridge`, the top call: what it makes, lists, stores, answers and
-//! sends for its words.
+//! length, and forwards them. The one contract is that of [`bridge`], the top call: what it makes, lists, stores, answers and sends
+//! for its words. [`each_command_ends_well`] is a law over that contract alone.
 #![tactic(auto)]
 
 mod asked;

@@ -1,12 +1,12 @@
 //! The lines of entries: made in the form that is wanted, and written.
-ghost use Rattle.std.specs.Prelude.{◌≡◌, ◌≢◌, ℕ, ◌<◌, List, [], ◌∷◌, ◌++◌, length, IfOk, IfErr, OnOk};
+ghost use Rattle.std.specs.Prelude.{◌≡◌, ◌≢◌, ◌⊎◌, ℕ, List, [], ◌∷◌, ◌++◌, IfOk, IfErr, OnOk};
 ghost use Rattle.std.specs.Io.KnownBytes.{Appends};
 ghost use Rattle.foundation.specs.Faults.{HasCause};
 ghost use Rattle.spool_log.specs.Outcome.{given_entries, AreNumbered};
 ghost use Rattle.conn_serve.specs.Endings.{CountsFaults};
 ghost use Rattle.event_form.specs.Entry.{IsEntry};
 ghost use Rattle.bridge_words.specs.declared.note.Note.TheVariants.{WriteFault, DiskFault};
-ghost use Rattle.bridge_parts.specs.Written.{WritesFront};
+ghost use Rattle.bridge_parts.specs.Written.{IsCut};
 ghost use Rattle.bridge_core.specs.Listed.{IsLine, ArePrinted, IsPrintNote};
 
 use bridge_words::{ListForm, Note, entry_line};
@@ -16,7 +16,7 @@ use event_map::{as_hec_object, as_json_object, as_text};
 use spool_log::Numbered;
 use std::alloc::{AllocError, Global};
 
-/// From how many bytes on lines are written, and no more lines are made before.
+/// Lines are held until they have so many bytes, and are written then.
 const PIECE: usize = 65_536;
 
 // The bytes and LF.
@@ -57,11 +57,12 @@ fn add_line(
     Ok(())
 }
 
-// Writes the lines where they are many, and then none is left.
+// Writes the lines where they are many, all of them, and then none is left.
 fn write_many<K: Sink>(output: &mut K, lines: &mut Vec<u8>) -> Result<(), Stopped>
     ensures cause { HasCause (K.write_faults output.old) (K.write_faults output.new) result }
-    ensures done { OnOk result ((front : List ℕ) × Appends (K.taken output.old) (K.taken output.new) front × (lines.old.items ≡ front ++ lines.new.items)) }
-    ensures part { IfErr result (λ _. (part : WritesFront lines.old.items (K.taken output.old) (K.taken output.new)) × (0 < length part.rest)) }
+    ensures done { OnOk result (((K.taken output.new ≡ K.taken output.old) × (lines.new.items ≡ lines.old.items))
+        ⊎ (Appends (K.taken output.old) (K.taken output.new) lines.old.items × (lines.new.items ≡ []))) }
+    ensures part { IfErr result (λ _. IsCut lines.old.items (K.taken output.old) (K.taken output.new)) }
 {
     if lines.len() < PIECE {
         return Ok(());
@@ -73,7 +74,7 @@ fn write_many<K: Sink>(output: &mut K, lines: &mut Vec<u8>) -> Result<(), Stoppe
 
 /// Writes the lines of the entries. Of the lines fewer than 65,536 bytes and one line are held at a time.
 /// `WriteFault` comes only where a write failed, and then not all was written; `NoMemory` where no memory was
-/// found for a line.
+/// found for a line, and then the lines of the first entries were written, each whole.
 pub(crate) fn print_entries<K: Sink>(
     alloc: Global,
     output: &mut K,

@@ -41,10 +41,12 @@ fn print_part<D: Disk, K: Sink>(
     ensures writes { CountsFaults (IsErrOf result Note.WriteFault) (K.write_faults output.old) (K.write_faults output.new) }
     ensures printed { (s : SpoolState) → D.tells → IsIn s [] (view spool.old.memory spool.old.doubt (D.moment spool.old.disk))
         → MatchResult result
-        (λ next. MatchOption next (ArePrinted form (left_from s number) Fine (K.taken output.old) (K.taken output.new)) (λ n. PrintsPart form s number n (K.taken output.old) (K.taken output.new)))
+        (λ next. MatchOption next (ArePrinted form (left_from s number) Fine (K.taken output.old) (K.taken output.new))
+        (λ n. PrintsPart form s number n (K.taken output.old) (K.taken output.new)))
         (λ note. ArePrinted form (left_from s number) note (K.taken output.old) (K.taken output.new)) }
     ensures kept { (s : SpoolState) → D.tells → IsIn s [] (view spool.old.memory spool.old.doubt (D.moment spool.old.disk))
-        → IsIn s [] (view spool.new.memory spool.new.doubt (D.moment spool.new.disk)) × LeavesOnly (D.moment spool.old.disk).image (D.moment spool.old.disk) (D.moment spool.new.disk) }
+        → IsIn s [] (view spool.new.memory spool.new.doubt (D.moment spool.new.disk))
+        × LeavesOnly (D.moment spool.old.disk).image (D.moment spool.old.disk) (D.moment spool.new.disk) }
 {
     let entries = match spool.pending(number, PART) {
         Ok(entries) => entries,
@@ -90,11 +92,17 @@ fn print_left<D: Disk, K: Sink>(
 /// window of 262,144 bytes by which they are read, and of their lines those that aren't written yet: fewer
 /// than 65,536 bytes, and one line.
 ///
-/// `NotSpool` comes exactly where the device breaks a rule of the layout, with the place of the first one,
+/// `NotSpool` comes exactly where the device breaks a rule of the layout, with the offset of the first one,
 /// and then nothing is written. `DiskFault` and `WriteFault` come only where a call of the disk or a write
-/// failed in this call; then the first lines are written, the last one perhaps in part. Nothing is written to
-/// the device: whatever a crash leaves of it is what it could leave before.
-pub fn list<D: Disk, K: Sink>(alloc: Global, disk: D, output: &mut K, form: ListForm) -> Finished<D>
+/// failed in this call. Where a write failed the first lines are written, the last one perhaps in part; where a
+/// call of the disk failed or no memory was found, the first lines, each whole. Nothing is written to the device:
+/// whatever a crash leaves of it is what it could leave before.
+pub(crate) fn list<D: Disk, K: Sink>(
+    alloc: Global,
+    disk: D,
+    output: &mut K,
+    form: ListForm,
+) -> Finished<D>
     ensures known { IsListNote result.note }
     ensures unused { IsRefusedFirst result.note → output.new ≡ output.old }
     ensures calls { Calls (result.note ≡ Note.DiskFault) (D.moment disk) (D.moment result.disk) }

@@ -3,7 +3,7 @@ ghost use Rattle.std.specs.Prelude.{◌≡◌, ◌≢◌, ◌⊎◌, ◌≤◌};
 ghost use Rattle.conn_serve.specs.Endings.{CountsFaults};
 ghost use Rattle.load_run.specs.Line.{load_line};
 ghost use Rattle.bridge_words.specs.declared.note.Note.TheVariants.{Usage, ReadFault, WriteFault, DiskFault, NetFault};
-ghost use Rattle.bridge_parts.specs.Written.{IsWritten};
+ghost use Rattle.bridge_parts.specs.Written.{IsPrinted};
 ghost use Rattle.bridge_core.specs.Loading.{note_of_load, LoadIsTold};
 ghost use Rattle.bridge_core.specs.Done.{IsRefusedFirst};
 
@@ -13,7 +13,7 @@ use edge_io::{Proto, Sink, write_whole};
 use load_run::{LoadFault, Loaded, load_line};
 use std::alloc::Global;
 
-// The note for a load that came to no numbers.
+// The note for a load that came to no numbers: that of its replay or of its drain, or want of memory.
 fn load_note(fault: LoadFault) -> Note
     ensures { result ≡ note_of_load fault }
 {
@@ -28,7 +28,7 @@ fn load_note(fault: LoadFault) -> Note
 fn print_loaded<K: Sink>(alloc: Global, output: &mut K, loaded: &Loaded) -> Note
     ensures writes { CountsFaults (result ≡ WriteFault) (K.write_faults output.old) (K.write_faults output.new) }
     ensures undisturbed { (result ≡ Note.Fine) ⊎ ((result ≡ WriteFault) ⊎ (result ≡ Note.NoMemory)) }
-    ensures line { IsWritten result (load_line loaded.now) (K.taken output.old) (K.taken output.new) }
+    ensures line { IsPrinted result (load_line loaded.now) (K.taken output.old) (K.taken output.new) }
 {
     let Ok(line) = load_line(alloc, loaded) else {
         return Note::NoMemory;
@@ -39,8 +39,10 @@ fn print_loaded<K: Sink>(alloc: Global, output: &mut K, loaded: &Loaded) -> Note
     }
 }
 
-/// Makes a stream of `count` events after this number, stores it by the protocol in a new spool in memory, forwards that to a peer
-/// in memory that confirms all, and prints the line that tells how much it was.
+/// Makes the stream of `count` events of this number, stores it by the protocol in a new spool in memory, forwards that to a peer in
+/// memory that confirms all, and prints the line that says how much it was. By each protocol it comes to its numbers unless no memory
+/// is found: all events were stored and are confirmed, and none is left. The note is `Fine`, `WriteFault` where a write of the line
+/// failed, or `NoMemory`.
 pub(crate) fn load<K: Sink>(
     alloc: Global,
     proto: Proto,

@@ -8,7 +8,7 @@ ghost use Rattle.conn_serve.specs.Endings.{CountsFaults};
 ghost use Rattle.forward_core.specs.declared.sent.Sent.TheVariants as Ending;
 ghost use Rattle.bridge_words.specs.declared.note.Note.TheVariants.{Usage, WrongLength, WriteFault};
 ghost use Rattle.bridge_words.specs.Lines.{drain_line};
-ghost use Rattle.bridge_parts.specs.Written.{IsWritten};
+ghost use Rattle.bridge_parts.specs.Written.{IsPrinted};
 ghost use Rattle.bridge_parts.specs.Refused.{note_of_sent};
 ghost use Rattle.bridge_core.specs.Drained.{PrintsOf, IsUnread, IsNeedless, IsUndialed, IsPlaced};
 ghost use Rattle.bridge_parts.specs.Pending.{pending_in};
@@ -30,7 +30,7 @@ use std::alloc::Global;
 fn print_counts<K: Sink>(alloc: Global, output: &mut K, confirmed: u64, left: u64) -> Note
     ensures writes { CountsFaults (result ≡ WriteFault) (K.write_faults output.old) (K.write_faults output.new) }
     ensures undisturbed { (result ≡ Note.Fine) ⊎ ((result ≡ WriteFault) ⊎ (result ≡ Note.NoMemory)) }
-    ensures line { IsWritten result (drain_line confirmed left) (K.taken output.old) (K.taken output.new) }
+    ensures line { IsPrinted result (drain_line confirmed left) (K.taken output.old) (K.taken output.new) }
 {
     let Ok(line) = drain_line(alloc, confirmed, left) else {
         return Note::NoMemory;
@@ -41,8 +41,8 @@ fn print_counts<K: Sink>(alloc: Global, output: &mut K, confirmed: u64, left: u6
     }
 }
 
-// Prints the line after a session that ended so, unless no memory was found for it. The note is that of the session, or
-// where that was well of the print.
+// Prints the line after a session that ended so, unless no memory was found in it. The note is the session's, or where that is `Fine`
+// the print's: `Fine`, `WriteFault` or `NoMemory`.
 fn print_after<K: Sink>(
     alloc: Global,
     output: &mut K,
@@ -52,7 +52,8 @@ fn print_after<K: Sink>(
 ) -> Note
     ensures writes { WroteAfter (note_of_sent sent) result (K.write_faults output.old) (K.write_faults output.new) }
     ensures note { (result ≡ note_of_sent sent) ⊎ ((result ≡ WriteFault) ⊎ (result ≡ Note.NoMemory)) }
-    ensures printed { PrintsOf sent (drain_line confirmed left) result (K.taken output.old) (K.taken output.new) }
+    ensures printed { PrintsOf sent (drain_line confirmed left) result (K.write_faults output.old) (K.write_faults output.new)
+        (K.taken output.old) (K.taken output.new) }
 {
     match sent {
         Sent::NoMemory => Note::NoMemory,
@@ -82,8 +83,8 @@ fn send_over<D: Disk, K: Sink, N: Net>(
     ensures writes { WritesOfBoth result.note (K.write_faults output.old) (K.write_faults output.new) (N.told net.old).write_faults
         (N.told net.new).write_faults }
     ensures dials { (result.note ≢ Note.NetFault) × ((N.told net.new).net_faults ≡ (N.told net.old).net_faults) }
-    ensures sent { IsSentOver outward.now (N.told net.old) (N.told net.new) (N.L.dialed link) (N.L.given link) (N.L.left link) (N.L.taken link) (pending_in spool.memory)
-        (K.taken output.old) (K.taken output.new)
+    ensures sent { IsSentOver outward.now (N.told net.old) (N.told net.new) (N.L.dialed link) (N.L.given link) (N.L.left link) (N.L.taken link)
+        (pending_in spool.memory) (K.write_faults output.old) (K.write_faults output.new) (K.taken output.old) (K.taken output.new)
         (λ start until remaining calls. (s : SpoolState) → D.tells → IsIn s [] (view spool.memory spool.doubt (D.moment spool.disk))
         → Sends s (D.moment spool.disk) (D.moment result.disk) start until calls remaining) result.note }
 {
@@ -116,8 +117,9 @@ fn send_there<D: Disk, K: Sink, N: Net>(
         (N.told net.new).write_faults }
     ensures dials { TellsNetFault result.note (N.told net.old) (N.told net.new) }
     ensures placed { IsNotSent (cursor_of spool.memory) (end_of spool.memory) (result.disk ≡ spool.disk) (N.told net.old) (N.told net.new)
-        (K.taken output.old) (K.taken output.new) result.note
-        ⊎ IsSentThere outward.now place.now (cursor_of spool.memory < end_of spool.memory) (pending_in spool.memory) (N.told net.old) (N.told net.new) (K.taken output.old) (K.taken output.new)
+        (K.write_faults output.old) (K.write_faults output.new) (K.taken output.old) (K.taken output.new) result.note
+        ⊎ IsSentThere outward.now place.now (cursor_of spool.memory < end_of spool.memory) (pending_in spool.memory)
+        (N.told net.old) (N.told net.new) (K.write_faults output.old) (K.write_faults output.new) (K.taken output.old) (K.taken output.new)
         (λ start until remaining calls. (s : SpoolState) → D.tells → IsIn s [] (view spool.memory spool.doubt (D.moment spool.disk))
         → Sends s (D.moment spool.disk) (D.moment result.disk) start until calls remaining) result.note }
 {
@@ -131,12 +133,13 @@ fn send_there<D: Disk, K: Sink, N: Net>(
     }
 }
 
-/// Forwards the entries that aren't known as confirmed to the place, which is dialed for it, speaking so to the peer there, and
-/// then prints how many of them were confirmed and how many are left.
+/// Forwards the entries that aren't known as confirmed to the place, which is dialed for it, by these settings, and then prints how
+/// many of them were confirmed and how many are left.
 ///
-/// Where none is pending nothing is dialed, and the line says so. `NetFault` comes where the place was not dialed, and then
-/// nothing is printed. The line is printed after each ending of the session but want of memory; before it the link is
-/// hung up. The note is that of the session's ending, or where that was well of the print.
+/// Where the device is refused nothing is dialed or printed, as for `drain` over the streams. Where no entry is pending nothing is
+/// dialed, and the line says so. `NetFault` comes where a dial failed, and then nothing is printed. The line is printed after each
+/// ending of the session but want of memory; before it the link is hung up. The note is that of the session's ending, or where that is
+/// `Fine` that of the print.
 pub(crate) fn drain_to<D: Disk, K: Sink, N: Net>(
     alloc: Global,
     outward: &Outward,
@@ -154,10 +157,11 @@ pub(crate) fn drain_to<D: Disk, K: Sink, N: Net>(
         (N.told net.new).write_faults }
     ensures dials { TellsNetFault result.note (N.told net.old) (N.told net.new) }
     ensures drained { (IsUnread D.tells (D.moment disk) (D.moment result.disk) result.note × (output.new ≡ output.old) × (net.new ≡ net.old))
-        ⊎ (IsNeedless D.tells (D.moment disk) (D.moment result.disk) (N.told net.old) (N.told net.new) (K.taken output.old) (K.taken output.new) result.note
+        ⊎ (IsNeedless D.tells (D.moment disk) (D.moment result.disk) (N.told net.old) (N.told net.new)
+        (K.write_faults output.old) (K.write_faults output.new) (K.taken output.old) (K.taken output.new) result.note
         ⊎ (IsUndialed D.tells (D.moment disk) (D.moment result.disk) (N.told net.old) (N.told net.new) (K.taken output.old) (K.taken output.new) result.note
-        ⊎ IsPlaced outward.now place.now D.tells (D.moment disk) (D.moment result.disk) (N.told net.old) (N.told net.new) (K.taken output.old)
-        (K.taken output.new) result.note)) }
+        ⊎ IsPlaced outward.now place.now D.tells (D.moment disk) (D.moment result.disk) (N.told net.old) (N.told net.new)
+        (K.write_faults output.old) (K.write_faults output.new) (K.taken output.old) (K.taken output.new) result.note)) }
 {
     match Spool::recover(alloc, disk, Opening::Keep) {
         Ok(spool) => send_there(alloc, outward, place, spool, output, net),

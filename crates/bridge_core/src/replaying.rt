@@ -23,11 +23,11 @@ use hec_ids::Ids;
 use spool_log::{Opening, Refusal, Spool};
 use std::alloc::Global;
 
-/// How many numbers the connections of a run have.
+/// How many connections a run has numbers for.
 const CONNECTIONS: u64 = 1 << 32;
 
-/// Serves the link by these rules, as the first connection of the spool's run.
-pub(crate) fn serve_link<D: Disk, L: Link>(
+// Serves the link by these rules, as the first connection of the spool's run.
+fn serve_link<D: Disk, L: Link>(
     alloc: Global,
     rules: Rules,
     spool: Spool<D>,
@@ -40,8 +40,10 @@ pub(crate) fn serve_link<D: Disk, L: Link>(
     ensures reads { CountsFaults (result.note ≡ ReadFault) (L.read_faults link.old) (L.read_faults link.new) }
     ensures writes { CountsFaults (result.note ≡ WriteFault) (L.write_faults link.old) (L.write_faults link.new) }
     ensures same { L.same link.old link.new }
-    ensures served { IsServed rules.proto (tokens_of rules) (run_of spool.memory * 2 ^ 32) (L.given link.old) (L.given link.new) (L.left link.old) (L.left link.new) (L.taken link.old) (L.taken link.new)
-        (λ calls. (s : SpoolState) → D.tells → IsIn s [] (view spool.memory spool.doubt (D.moment spool.disk)) → Keeps s (D.moment spool.disk) (D.moment result.disk) calls) result.note }
+    ensures served { IsServed rules.proto (tokens_of rules) (run_of spool.memory * 2 ^ 32)
+        (L.given link.old) (L.given link.new) (L.left link.old) (L.left link.new) (L.taken link.old) (L.taken link.new)
+        (λ calls. (s : SpoolState) → D.tells → IsIn s [] (view spool.memory spool.doubt (D.moment spool.disk))
+        → Keeps s (D.moment spool.disk) (D.moment result.disk) calls) result.note }
 {
     let run = spool.run();
     let conn = u64::from(run) * CONNECTIONS;
@@ -66,8 +68,10 @@ fn serve_input<D: Disk, S: Source, K: Sink>(
     ensures calls { TellsDiskFault (rules.proto ≡ Proto.Hec) result.note (D.moment spool.disk) (D.moment result.disk) }
     ensures reads { CountsFaults (result.note ≡ ReadFault) (S.read_faults input.old) (S.read_faults input.new) }
     ensures writes { CountsFaults (result.note ≡ WriteFault) (K.write_faults output.old) (K.write_faults output.new) }
-    ensures served { IsServed rules.proto (tokens_of rules) (run_of spool.memory * 2 ^ 32) (S.given input.old) (S.given input.new) (S.left input.old) (S.left input.new) (K.taken output.old) (K.taken output.new)
-        (λ calls. (s : SpoolState) → D.tells → IsIn s [] (view spool.memory spool.doubt (D.moment spool.disk)) → Keeps s (D.moment spool.disk) (D.moment result.disk) calls) result.note }
+    ensures served { IsServed rules.proto (tokens_of rules) (run_of spool.memory * 2 ^ 32)
+        (S.given input.old) (S.given input.new) (S.left input.old) (S.left input.new) (K.taken output.old) (K.taken output.new)
+        (λ calls. (s : SpoolState) → D.tells → IsIn s [] (view spool.memory spool.doubt (D.moment spool.disk))
+        → Keeps s (D.moment spool.disk) (D.moment result.disk) calls) result.note }
 {
     let mut link = Both {
         source: &mut *input,
@@ -80,10 +84,10 @@ fn serve_input<D: Disk, S: Source, K: Sink>(
 /// holds, of which the run is raised by one first. The connection has the number run * 2^32.
 ///
 /// Where the device can't be opened nothing is read or written: `NotSpool` comes exactly where it breaks a
-/// rule of the layout, with the place of the first one; then `RunsSpent` exactly where the run is 2,097,151;
+/// rule of the layout, with the offset of the first one; then `RunsSpent` exactly where the run is 2,097,151;
 /// then `Worn` exactly where the register was written 2^63 times. Else the note is that of the connection's
 /// ending.
-pub fn replay<D: Disk, S: Source, K: Sink>(
+pub(crate) fn replay<D: Disk, S: Source, K: Sink>(
     alloc: Global,
     rules: Rules,
     disk: D,
@@ -96,7 +100,8 @@ pub fn replay<D: Disk, S: Source, K: Sink>(
     ensures writes { CountsFaults (result.note ≡ WriteFault) (K.write_faults output.old) (K.write_faults output.new) }
     ensures unused { IsRefusedFirst result.note → (input.new ≡ input.old) × (output.new ≡ output.old) }
     ensures replayed { (IsUnopened D.tells (D.moment disk) (D.moment result.disk) result.note × (input.new ≡ input.old) × (output.new ≡ output.old))
-        ⊎ IsReplayed rules.proto (tokens_of rules) D.tells (D.moment disk) (D.moment result.disk) (S.given input.old) (S.given input.new) (S.left input.old) (S.left input.new) (K.taken output.old) (K.taken output.new) result.note }
+        ⊎ IsReplayed rules.proto (tokens_of rules) D.tells (D.moment disk) (D.moment result.disk)
+        (S.given input.old) (S.given input.new) (S.left input.old) (S.left input.new) (K.taken output.old) (K.taken output.new) result.note }
 {
     match Spool::recover(alloc, disk, Opening::Raise) {
         Ok(spool) => serve_input(alloc, rules, spool, input, output),

@@ -33,8 +33,8 @@ pub(crate) fn is_idle<D: Disk>(spool: &Spool<D>) -> bool
     spool.end() <= spool.cursor()
 }
 
-/// Forwards the entries from the spool's cursor to its end, speaking so to the peer of the link, and marks those that it
-/// acknowledges.
+/// Holds one session over the link: forwards the entries that aren't known as confirmed, from the spool's cursor to its end, by these
+/// settings, and marks those that the peer acknowledges. `rest` is the net, which waits where the protocol asks again after a while.
 pub(crate) fn send<D: Disk, L: Link, Z: Pause>(
     alloc: Global,
     outward: &Outward,

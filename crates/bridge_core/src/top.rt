@@ -1,13 +1,14 @@
-//! The top call.
+//! The top call: the words say which command it is, and one function does each.
 ghost use Rattle.std.specs.Prelude.{◌≡◌, ◌⊎◌, ℕ, [], Option, map, string_bytes};
 ghost use Rattle.edge_io.specs.declared.proto.Proto.{Proto};
-ghost use Rattle.bridge_words.specs.declared.command.Command.{Command};
 ghost use Rattle.bridge_words.specs.declared.command.Command.TheVariants.{Replay};
 ghost use Rattle.bridge_words.specs.declared.note.Note.TheVariants.{Usage, NoMemory, WrongLength};
 ghost use Rattle.bridge_words.specs.Notes.{status_of};
 ghost use Rattle.bridge_words.specs.Words.{IsCommand, IsNoCommand};
-ghost use Rattle.bridge_core.specs.Failed.{AsksStream, AsksPlace, AsksDrain, AsksLoad, AsksServe, TellsDisk, TellsReadFault, TellsWriteFault, TellsDial};
-ghost use Rattle.bridge_core.specs.Done.{Does, IsUndone, IsRefusedFirst};
+ghost use Rattle.bridge_core.specs.Failed.{AsksStream, AsksPlace, AsksDrain, AsksLoad, AsksServe};
+ghost use Rattle.bridge_core.specs.Done.{IsRefusedFirst};
+ghost use Rattle.bridge_core.specs.RunOf.{run_of, IsRunOf};
+ghost use Rattle.bridge_core.specs.Headline.{KeepsAcknowledged};
 
 use crate::asked::{Unasked, asked_of};
 use crate::draining::drain_out;
@@ -29,22 +30,35 @@ use std::thread::Threads;
 
 /// Does all that the program does with these words, over this disk, input, output and net.
 ///
-/// `format SLOTS SIZE` makes the device an empty spool, and prints a line. `list` prints a line for each
-/// entry whose number isn't known as confirmed, and with `--as` its event in that form. `replay relp` serves the input as one
-/// connection by RELP, version 0, `replay lumberjack` by Lumberjack, version 2, and `replay hec` by Splunk's HTTP Event
-/// Collector, with the tokens of `--token` and `--ack-token`: what is stored is durable before it is acknowledged, and
-/// an entry that was acknowledged stands in the spool whatever a crash leaves from then on. `drain relp`, `drain lumberjack` and
-/// `drain hec` forward the entries whose numbers aren't known as confirmed over the input and the output, and with a place
-/// over a link that the net dials: the numbers that the peer acknowledges become known, and no others. `load` makes a stream,
-/// stores and forwards it in memory alone, and prints a line. `serve` serves many senders at once, at doors that the net binds, and
-/// forwards meanwhile what they store, where the words name a place.
+/// - `format SLOTS SIZE` makes the device an empty spool, and prints a line.
+/// - `list` prints a line for each entry whose number isn't known as confirmed, and with `--as` its event in that form.
+/// - `replay relp` serves the input as one connection by RELP, version 0, `replay lumberjack` by Lumberjack, version 2, and
+///   `replay hec` by Splunk's HTTP Event Collector, with the tokens of `--token` and `--ack-token`. What is stored is durable before it
+///   is acknowledged, and an entry that was acknowledged stands in the spool whatever a crash leaves from then on.
+/// - `drain relp`, `drain lumberjack` and `drain hec` forward the entries whose numbers aren't known as confirmed over the input and
+///   the output, and with a place over a link that the net dials. The numbers that the peer acknowledges become known, and no others.
+/// - `load` makes a stream, stores and forwards it in memory alone, and prints a line.
+/// - `serve` serves many senders at once, at doors that the net binds, and forwards meanwhile what they store, where the words name a
+///   place.
 ///
-/// `Usage` comes only where the words are no command. Where they are none, the note is `Usage`, or `NoMemory` where no memory was
-/// found for reading them, and nothing is done. `ReadFault`,
-/// `WriteFault` and `DiskFault` come only where a read of the input, a write of the output or a call of
-/// the disk failed in this call; where another note comes, none of its kind failed, but for the disk where a reply of the
-/// collector that says so was cut short. `NoMemory` says that no memory was found. All other notes are told at
-/// the functions that do the commands.
+/// The result has the note that says why the run ended, and the exit status, which is the note's:
+///
+/// - `Usage` comes only where the words are no command. Where they are no command, the note is `Usage`, or `NoMemory` where no memory
+///   was found for reading them, and nothing is done.
+/// - `ReadFault`, `WriteFault` and `DiskFault` come only where a read of the input or of a link, a write of the output or of a link,
+///   or a call of the disk failed in this call, and `NetFault` where a bind, a dial or an accept did. Where another note comes, no
+///   read of the input, no write of the output and no call of the disk failed, with these exceptions: the disk failed, and the
+///   collector's reply that says so was cut short; `drain` ended for the disk, the spool or want of memory after a write that failed;
+///   a write of the line of `drain` with a place, or of `serve`, failed after an ending that the note reports instead; and calls may
+///   fail in a run of `serve` without ending it, whose note is that of the first failure that ends it.
+/// - `NoMemory` says that no memory was found.
+/// - All other notes are explained at the functions that do the commands.
+///
+/// The promise to senders is the clause `acknowledged`. The clause `run` has all the rest, by command. That each connection
+/// contributes exactly its protocol's events up to the first fault, in order, is for `replay` `IsReplayed.served` (`carried`) with
+/// `IsStored.reached` (`each`, `grows`), and for `serve` `Promises.are_parts` with `contributes`, `nothing_else`, `order` and
+/// `order_was`. That only what a peer acknowledged becomes known is for `drain` `IsSessionOver.entries`, and for `serve`
+/// `Promises.sessions` with `known`.
 pub fn bridge<D: Disk + Drop + Send, S: Source, K: Sink, N: Net + Send, R: Threads + Wait + Sync>(
     rt: &R,
     alloc: Global,
@@ -63,8 +77,6 @@ where
     // The words, and what is left alone.
     ensures usage { result.note ≡ Usage → IsNoCommand (map string_bytes words.now) }
     ensures no_command { IsNoCommand (map string_bytes words.now) → (result.note ≡ Usage) ⊎ (result.note ≡ NoMemory) }
-    ensures unchanged { IsNoCommand (map string_bytes words.now)
-        → (result.disk ≡ disk) × (input.new ≡ input.old) × (output.new ≡ output.old) × (net.new ≡ net.old) }
     ensures wrong_length { (have want : ℕ) → result.note ≡ WrongLength have want → result.disk ≡ disk }
     ensures disk_unused { AsksLoad (map string_bytes words.now) → result.disk ≡ disk }
     ensures doors { (AsksServe (map string_bytes words.now) → ⊥) → result.doors.items ≡ [] }
@@ -75,35 +87,16 @@ where
     ensures net_unused { (AsksDrain (map string_bytes words.now) → ⊥) → (AsksServe (map string_bytes words.now) → ⊥) → net.new ≡ net.old }
     ensures net_undialed { (AsksPlace (map string_bytes words.now) → ⊥) → (AsksServe (map string_bytes words.now) → ⊥) → N.told net.new ≡ N.told net.old }
 
-    // What failed: a call of the disk, a read of the input, a write of the output or a dial exactly where the note says so. Of
-    // the disk's calls there is one exception: a reply of the collector that says so and was cut short. Of the reads and
-    // writes there are those of `drain`: with a place they are the link's, and then the output's; and a write that failed
-    // before the disk did is told as the disk's. Where many senders are served, the disk, the net and its links may have failed
-    // where the note tells something else.
-    ensures calls { TellsDisk (map string_bytes words.now) result.note (D.moment disk) (D.moment result.disk) }
-    ensures reads { TellsReadFault (map string_bytes words.now) result.note (S.read_faults input.old) (S.read_faults input.new) (N.told net.old)
-        (N.told net.new) }
-    ensures writes { TellsWriteFault (map string_bytes words.now) result.note (K.write_faults output.old) (K.write_faults output.new) (N.told net.old)
-        (N.told net.new) }
-    ensures dials { TellsDial (map string_bytes words.now) result.note (N.told net.old) (N.told net.new) }
+    // What was done, and what failed meanwhile.
+    ensures run { IsRunOf (map string_bytes words.now)
+        (run_of D.tells D.moment S.given S.left S.read_faults K.taken K.write_faults N.told N.P.told
+        disk result.disk input.old input.new output.old output.new net.old net.new result.doors.items)
+        result.note }
 
-    // What was done: nothing, where no memory was found for reading the words, and else what the command says.
-    ensures done { (command : Command) → IsCommand command (map string_bytes words.now)
-        → IsUndone ((result.disk ≡ disk) × (input.new ≡ input.old) × (output.new ≡ output.old) × (net.new ≡ net.old)) result.note
-        ⊎ Does command (record {
-          tells = D.tells;
-          disk = D.moment disk;
-          disk_after = D.moment result.disk;
-          given = S.given input.old;
-          given_after = S.given input.new;
-          left = S.left input.old;
-          left_after = S.left input.new;
-          taken = K.taken output.old;
-          taken_after = K.taken output.new;
-          net = N.told net.old;
-          net_after = N.told net.new;
-          doors_after = map (λ (door : _). N.P.told door) result.doors.items;
-        }) result.note }
+    // What was acknowledged to a sender is not lost, whatever the note.
+    ensures acknowledged { KeepsAcknowledged (map string_bytes words.now)
+        (run_of D.tells D.moment S.given S.left S.read_faults K.taken K.write_faults N.told N.P.told
+        disk result.disk input.old input.new output.old output.new net.old net.new result.doors.items) }
 {
     let mut disk = disk;
     match asked_of(alloc, words) {

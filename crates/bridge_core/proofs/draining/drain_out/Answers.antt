@@ -29,9 +29,11 @@ returns-in-Ok-clause-drained g c =
         note_is = sent.note_is;
         confirmed = pending_in c.in-Ok.spool.memory - sent.remaining;
         remaining = sent.remaining;
-        session = session_over c.args.outward.now g.D.Disk.tells old new _ _ _ _ _ _ (pending_in c.in-Ok.spool.memory - sent.remaining) sent.remaining sent.sent (session_as c.args.outward.now _ _ _ _ _ _ _ _ sent.sent (λ start until calls made tells.
+        session = session_over c.args.outward.now g.D.Disk.tells old new _ _ _ _ _ _ (pending_in c.in-Ok.spool.memory - sent.remaining) sent.remaining
+            sent.sent (session_as c.args.outward.now _ _ _ _ _ _ _ _ sent.sent (λ start until calls made tells.
             let found = c.in-Ok.ensures.opened tells in
-            sent_from found.0 old mid new start until before most sent.remaining _ calls found.1.stood found.1.reached (seen found.0 _ found.1.reached) sent.more (c.in-Ok.ensures.any_moment tells) (made found.0 tells found.1.reached)) sent.session);
+            sent_from found.0 old mid new start until before most sent.remaining _ calls found.1.stood found.1.reached
+            (seen found.0 _ found.1.reached) sent.more (c.in-Ok.ensures.any_moment tells) (made found.0 tells found.1.reached)) sent.session);
       }))
     ]
 
@@ -48,3 +50,6 @@ returns-in-Err-clause-drained g c =
       refl,
       refl,
     )
+
+pub returns-in-Ok-clause-told : goal.returns-in-Ok-clause-told
+returns-in-Ok-clause-told g c = g.met.N.Net.pauses_keep _ _ c.send_out.ensures.paused

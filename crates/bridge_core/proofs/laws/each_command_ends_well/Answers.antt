@@ -4,4 +4,4 @@ use Rattle.bridge_core.proofs.CompleteReplay.{replay_ends_well}
 use Rattle.bridge_core.proofs.laws.each_command_ends_well.Goals as goal
 
 pub returns : goal.returns
-returns g c = record { format = format_ends_well _ _; list = list_ends_well _ _; load = load_ends_well _ _; replay = replay_ends_well _ _; drain = drain_ends_well _ _; drain_there = drain_there_ends_well _ _ }
+returns g c = record { format = format_ends_well _; list = list_ends_well _; load = load_ends_well _; replay = replay_ends_well _; drain = drain_ends_well _; drain_there = drain_there_ends_well _ }

@@ -4,7 +4,7 @@ use Rattle.event_form.specs.Entry.{IsEntry}
 use Rattle.spool_log.specs.declared.reading.numbered.Numbered.{Numbered}
 use Rattle.bridge_words.specs.declared.note.Note.TheVariants.{WriteFault, NoMemory}
 use Rattle.bridge_parts.proofs.Writing.{stopped_as}
-use Rattle.bridge_core.proofs.Printing.{gathered_written, gathered_all, gathered_cut, gathered_only}
+use Rattle.bridge_core.proofs.Printing.{gathered_none, gathered_written, gathered_all, gathered_cut, gathered_only}
 use Rattle.bridge_core.proofs.Given.{each_given, printed_first, printed_whole, gathered_one}
 use Rattle.bridge_core.proofs.lines.print_entries.Goals as goal
 
@@ -13,6 +13,9 @@ add_line-requires g c =
     let one = c.one-item.result in
     let limits = c.requires.limits in
     subst IsEntry (ap (λ (x : Numbered). x.entry) (sym c.one-item.is)) (each_given limits.0 limits.1 c.args.entries.now limits.2 c.loop-one.one-index one c.loop-one-test.true).limits
+
+pub loop-one-init : goal.loop-one-init
+loop-one-init g c = record { writes = refl; gathered = gathered_none c.args.form _ _ c.new-lines.ensures.items }
 
 pub returns-in_default-clause-printed : goal.returns-in_default-clause-printed
 returns-in_default-clause-printed g c =
@@ -48,4 +51,6 @@ pub returns-clause-printed : goal.returns-clause-printed
 returns-clause-printed g c =
     let limits = c.requires.limits in
     printed_first c.args.form c.args.entries.now c.loop-one.one-index _ _ WriteFault limits.0 limits.1 limits.2 (λ is. absurd (cc))
-    (gathered_cut c.args.form _ _ _ _ c.loop-one.lines.items (stopped_as c.loop-one.lines.items c.deref.result.now c.in-Err.field-0.sent _ _ c.deref.ensures.value c.in-Err.ensures.part.0 c.in-Err.ensures.part.1) c.loop-one.invariant.gathered)
+    (gathered_cut c.args.form _ _ _ _ c.loop-one.lines.items
+    (stopped_as c.loop-one.lines.items c.deref.result.now c.in-Err.field-0.sent _ _ c.deref.ensures.value c.in-Err.ensures.part.0
+    c.in-Err.ensures.part.1) c.loop-one.invariant.gathered)

@@ -18,7 +18,7 @@ returns-in-Err-clause-printed g c = λ s tells held.
     let read = sure_pends s c.args.number 256 _ _ _ held (c.in-Err.ensures.pends s [] tells held) in
     let taken = g.K.Sink.taken c.args.output.now in
     let entries = left_from s c.args.number in
-    subst (λ (note : Note). ArePrinted c.args.form entries note taken taken) (sym c.pend_note.ensures) (part_unread c.args.form entries c.in-Err.fault taken (left_limits s c.args.number held.sound) read.pends)
+    subst (λ (note : Note). ArePrinted c.args.form entries note taken taken) (sym c.pend_note.ensures) (part_unread c.args.form entries c.in-Err.fault taken read.pends)
 
 pub returns-in-Err-clause-kept : goal.returns-in-Err-clause-kept
 returns-in-Err-clause-kept g c = λ s tells held.

@@ -1,5 +1,7 @@
-use Rattle.std.proofs.Common.{inl, inr, refl}
-use Rattle.bridge_core.proofs.LoadWell.{all_confirmed, can_load, only_memory}
+use Rattle.std.proofs.Common.{inl, inr, refl, ◌∙◌, ap}
+use Rattle.bridge_core.specs.Loading.{note_of_load}
+use Rattle.bridge_core.proofs.LoadSure.{all_confirmed, only_memory}
+use Rattle.bridge_core.proofs.LoadWell.{can_load}
 use Rattle.bridge_core.proofs.loading.load.Goals as goal
 
 pub returns-in-Ok-clause-told : goal.returns-in-Ok-clause-told
@@ -8,7 +10,7 @@ returns-in-Ok-clause-told g c =
     inl (record {
       loaded = c.in-Ok.loaded;
       loaded_is = c.in-Ok.ensures.loaded;
-      all = λ sure. all_confirmed c.args.proto c.args.number c.args.count few (can_load c.args.proto c.args.number c.args.count few sure) c.in-Ok.loaded c.in-Ok.ensures.loaded;
+      all = all_confirmed c.args.proto c.args.number c.args.count few (can_load c.args.proto c.args.number c.args.count few) c.in-Ok.loaded c.in-Ok.ensures.loaded;
       line = c.print_loaded.ensures.line;
     })
 
@@ -16,9 +18,6 @@ pub returns-in-Err-clause-told : goal.returns-in-Err-clause-told
 returns-in-Err-clause-told g c =
     let few = c.requires.few in
     inr (record {
-      fault = c.in-Err.fault;
-      failed = c.in-Err.ensures.failed;
-      memory = λ sure. only_memory c.args.proto c.args.number c.args.count few (can_load c.args.proto c.args.number c.args.count few sure) c.in-Err.fault c.in-Err.ensures.failed;
-      note_is = c.load_note.ensures;
+      memory = c.load_note.ensures ∙ ap note_of_load (only_memory c.args.proto c.args.number c.args.count few (can_load c.args.proto c.args.number c.args.count few) c.in-Err.fault c.in-Err.ensures.failed);
       silent = refl;
     })

@@ -22,6 +22,7 @@ returns-in-Ok-clause-drained g c =
             looked_idle found.0 old new before most found.1.stood (subst (λ (d : _). LeavesOnly old.image old (g.D.Disk.moment d)) (sym none.1) (c.in-Ok.ensures.any_moment tells)) (seen found.0 _ found.1.reached) none.0;
         undialed = none.2;
         line = none.3;
+        wrote = none.4;
       }))
       | inl (inr none) ↦ inr (inr (inl (record {
         why = none.2;
@@ -44,9 +45,11 @@ returns-in-Ok-clause-drained g c =
         written_after = sent.over.written_after;
         place_is = sent.place_is;
         fresh = sent.fresh;
-        session = session_over c.args.outward.now g.D.Disk.tells old new _ _ _ _ _ _ (pending_in c.in-Ok.spool.memory - sent.over.remaining) sent.over.remaining sent.over.sent (session_as c.args.outward.now _ _ _ _ _ _ _ _ sent.over.sent (λ start until calls made tells.
+        session = session_over c.args.outward.now g.D.Disk.tells old new _ _ _ _ _ _ (pending_in c.in-Ok.spool.memory - sent.over.remaining)
+            sent.over.remaining sent.over.sent (session_as c.args.outward.now _ _ _ _ _ _ _ _ sent.over.sent (λ start until calls made tells.
             let found = c.in-Ok.ensures.opened tells in
-            sent_from found.0 old mid new start until before most sent.over.remaining _ calls found.1.stood found.1.reached (seen found.0 _ found.1.reached) sent.more (c.in-Ok.ensures.any_moment tells) (made found.0 tells found.1.reached)) sent.over.session);
+            sent_from found.0 old mid new start until before most sent.over.remaining _ calls found.1.stood found.1.reached
+            (seen found.0 _ found.1.reached) sent.more (c.in-Ok.ensures.any_moment tells) (made found.0 tells found.1.reached)) sent.over.session);
         hung = sent.over.hung;
         printed = sent.over.printed;
       })))

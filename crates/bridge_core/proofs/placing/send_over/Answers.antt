@@ -21,14 +21,20 @@ returns-clause-dials g c =
 pub returns-clause-reads : goal.returns-clause-reads
 returns-clause-reads g c =
     let same = g.met.N.Net.pauses_keep _ _ c.send-sent.ensures.paused in
-    subst (λ (n : Note). RoseBy (n ≡ Note.ReadFault) (g.N.Net.told c.args.net.now).read_faults (g.N.Net.told c.hang_up.new.self).read_faults) (sym c.of.ensures.note)
-    (link_reads c.send-sent.result.sent c.print_after-note.result c.print_after-note.ensures.note _ _ _ _ c.send-sent.ensures.reads (subst (λ (t : NetState). Gains (g.N.L.Source.read_faults c.send-sent.new.link) t.read_faults (g.N.Net.told c.hang_up.new.self).read_faults) same c.hang_up.ensures.reads))
+    subst (λ (n : Note). RoseBy (n ≡ Note.ReadFault) (g.N.Net.told c.args.net.now).read_faults (g.N.Net.told c.hang_up.new.self).read_faults)
+    (sym c.of.ensures.note)
+    (link_reads c.send-sent.result.sent c.print_after-note.result c.print_after-note.ensures.note _ _ _ _ c.send-sent.ensures.reads
+    (subst (λ (t : NetState). Gains (g.N.L.Source.read_faults c.send-sent.new.link) t.read_faults (g.N.Net.told c.hang_up.new.self).read_faults)
+    same c.hang_up.ensures.reads))
 
 pub returns-clause-writes : goal.returns-clause-writes
 returns-clause-writes g c =
     let same = g.met.N.Net.pauses_keep _ _ c.send-sent.ensures.paused in
-    subst (λ (n : Note). WritesOfBoth n (g.K.Sink.write_faults c.args.output.now) (g.K.Sink.write_faults c.print_after-note.new.output) (g.N.Net.told c.args.net.now).write_faults (g.N.Net.told c.hang_up.new.self).write_faults) (sym c.of.ensures.note)
-    (link_writes c.send-sent.result.sent c.print_after-note.result _ _ _ _ _ _ c.send-sent.ensures.writes (subst (λ (t : NetState). Gains (g.N.L.Sink.write_faults c.send-sent.new.link) t.write_faults (g.N.Net.told c.hang_up.new.self).write_faults) same c.hang_up.ensures.writes) c.print_after-note.ensures.writes)
+    subst (λ (n : Note). WritesOfBoth n (g.K.Sink.write_faults c.args.output.now) (g.K.Sink.write_faults c.print_after-note.new.output)
+    (g.N.Net.told c.args.net.now).write_faults (g.N.Net.told c.hang_up.new.self).write_faults) (sym c.of.ensures.note)
+    (link_writes c.send-sent.result.sent c.print_after-note.result _ _ _ _ _ _ c.send-sent.ensures.writes
+    (subst (λ (t : NetState). Gains (g.N.L.Sink.write_faults c.send-sent.new.link) t.write_faults (g.N.Net.told c.hang_up.new.self).write_faults)
+    same c.hang_up.ensures.writes) c.print_after-note.ensures.writes)
 
 pub returns-clause-sent : goal.returns-clause-sent
 returns-clause-sent g c =
@@ -40,15 +46,21 @@ returns-clause-sent g c =
     let confirmed = c.saturating_sub-confirmed.ensures in
     let left = c.pending_count-left.ensures in
     let before = c.pending_count-before.ensures in
-    let line : drain_line c.saturating_sub-confirmed.result c.pending_count-left.result ≡ drain_line (pending_in c.args.spool.memory - pending_in spool.memory) (pending_in spool.memory) = cc in record {
+    let line : drain_line c.saturating_sub-confirmed.result c.pending_count-left.result
+    ≡ drain_line (pending_in c.args.spool.memory - pending_in spool.memory) (pending_in spool.memory) = cc in record {
       sent = sent;
       remaining = pending_in spool.memory;
       given_after = _;
       left_after = _;
       written_after = _;
       session = session_as c.args.outward.now _ _ _ _ _ _ _ _ sent (λ start until calls made s tells held.
-          subst (λ (d : _). Sends s (g.D.Disk.moment c.args.spool.disk) (g.D.Disk.moment d) start until calls (pending_in spool.memory)) disk (made s tells held)) c.send-sent.ensures.session;
+          subst (λ (d : _). Sends s (g.D.Disk.moment c.args.spool.disk) (g.D.Disk.moment d) start until calls (pending_in spool.memory))
+          disk (made s tells held)) c.send-sent.ensures.session;
       hung = hung_up _ _ _ _ _ _ _ _ _ (ap (λ (t : NetState). t.hung) same) c.send-sent.ensures.dialed room c.hang_up.ensures.adds;
-      printed = subst (λ (n : Note). PrintsOf sent (drain_line (pending_in c.args.spool.memory - pending_in spool.memory) (pending_in spool.memory)) n (g.K.Sink.taken c.args.output.now) (g.K.Sink.taken c.print_after-note.new.output)) (sym c.of.ensures.note)
-          (subst (λ (l : List ℕ). PrintsOf sent l c.print_after-note.result (g.K.Sink.taken c.args.output.now) (g.K.Sink.taken c.print_after-note.new.output)) line c.print_after-note.ensures.printed);
+      printed = subst (λ (n : Note). PrintsOf sent (drain_line (pending_in c.args.spool.memory - pending_in spool.memory) (pending_in spool.memory)) n
+          (g.K.Sink.write_faults c.args.output.now) (g.K.Sink.write_faults c.print_after-note.new.output) (g.K.Sink.taken c.args.output.now)
+          (g.K.Sink.taken c.print_after-note.new.output)) (sym c.of.ensures.note)
+          (subst (λ (l : List ℕ). PrintsOf sent l c.print_after-note.result (g.K.Sink.write_faults c.args.output.now)
+          (g.K.Sink.write_faults c.print_after-note.new.output) (g.K.Sink.taken c.args.output.now) (g.K.Sink.taken c.print_after-note.new.output))
+          line c.print_after-note.ensures.printed);
     }

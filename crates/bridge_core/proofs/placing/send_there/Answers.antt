@@ -13,5 +13,5 @@ returns-in-Ok-clause-placed g c = inr (record {
   written = _;
   place_is = c.in-Ok.ensures.place;
   fresh = c.in-Ok.ensures.fresh;
-  over = over_from c.args.outward.now _ _ _ _ _ _ _ _ _ _ _ _ c.in-Ok.ensures.rest.hung c.send_over.ensures.sent;
+  over = over_from c.args.outward.now _ _ _ _ _ _ _ _ _ _ _ _ _ _ c.in-Ok.ensures.rest.hung c.send_over.ensures.sent;
 })

@@ -25,7 +25,8 @@ returns-in-Ok-clause-replayed g c =
     inr (record {
       conn = run * 2 ^ 32;
       served = served;
-      acknowledged = λ numbers tells says. acked_is_durable c.args.rules.proto (tokens_of c.args.rules) (run * 2 ^ 32) _ serves.bytes serves.calls serves.text served.attended.talk old new numbers serves.carried (serves.made tells) says;
+      acknowledged = λ numbers tells says. acked_is_durable c.args.rules.proto (tokens_of c.args.rules) (run * 2 ^ 32) _ serves.bytes serves.calls
+          serves.text served.attended.talk old new numbers serves.carried (serves.made tells) says;
       answered = λ tells. answers_are_durable c.args.rules.proto (tokens_of c.args.rules) (run * 2 ^ 32) _ serves.bytes serves.calls serves.text served.attended.talk old new serves.carried (serves.made tells);
     })
 

@@ -8,7 +8,8 @@ use Rattle.conn_serve.proofs.Faults.{counts_as}
 use Rattle.bridge_core.specs.Failed.{TellsDiskFault}
 use Rattle.bridge_core.specs.Replayed.{Keeps}
 use Rattle.bridge_core.proofs.Failing.{disk_calls, talk_by_read, talk_by_write}
-use Rattle.bridge_core.proofs.Replays.{desk_at, ran_keeps, no_ending}
+use Rattle.bridge_parts.proofs.Desks.{desk_at}
+use Rattle.bridge_core.proofs.Replays.{ran_keeps, no_ending}
 use Rattle.bridge_core.proofs.replaying.serve_link.Goals as goal
 
 pub new-access-requires-clause-ids : goal.new-access-requires-clause-ids
@@ -51,6 +52,7 @@ returns-clause-served g c =
         text = run.text;
         read = run.read;
         consumed = run.consumed;
+        are_bytes = run.are_bytes;
         wrote = run.wrote;
         made = λ s tells held.
             let at = desk_at s c.new-ids.result c.run-run.result _ c.new-ids.ensures (c.run-run.ensures ∙ held.knows.run) (c.new-access.ensures.at s held) in
@@ -58,6 +60,7 @@ returns-clause-served g c =
             (subst (λ (d : _). Keeps s (g.D.Disk.moment c.new-access.result.desk.spool.disk) (g.D.Disk.moment d) run.calls) (sym after)
             (ran_keeps s _ _ _ run.calls tells at run.made));
         counted = run.counted;
-        carried = subst (λ (n : ℕ). CarriedAs c.args.rules.proto (tokens_of c.args.rules) n (g.L.Source.left c.attend-attended.new.link) run.bytes run.calls run.text c.attend-attended.result.talk) (number ∙ ap (λ (n : ℕ). n * 2 ^ 32) c.run-run.ensures) run.carried;
+        carried = subst (λ (n : ℕ). CarriedAs c.args.rules.proto (tokens_of c.args.rules) n (g.L.Source.left c.attend-attended.new.link) run.bytes
+            run.calls run.text c.attend-attended.result.talk) (number ∙ ap (λ (n : ℕ). n * 2 ^ 32) c.run-run.ensures) run.carried;
       };
     }

@@ -6,7 +6,7 @@ use Rattle.desk_access.specs.Journal.{ran_then}
 use Rattle.forward_core.specs.declared.sent.Sent.TheVariants as Ending
 use Rattle.bridge_parts.specs.Pending.{pending_in}
 use Rattle.bridge_core.specs.Sending.{Sends}
-use Rattle.bridge_core.proofs.Replays.{desk_at}
+use Rattle.bridge_parts.proofs.Desks.{desk_at}
 use Rattle.bridge_parts.proofs.Failures.{failed}
 use Rattle.bridge_core.proofs.Sessions.{begun, sends, disk_calls}
 use Rattle.bridge_core.proofs.sending.send.Goals as goal
