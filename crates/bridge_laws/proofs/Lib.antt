@@ -1,1 +1,9 @@
 pub mod ServeEnds
+pub mod LegalParts
+pub mod InOrder
+pub mod OnlyCaller
+pub mod ReplayCalls
+pub mod LumberCalls
+pub mod KeepsOrder
+pub mod OrderOfCommands
+pub mod Lifetime

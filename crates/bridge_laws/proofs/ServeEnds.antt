@@ -20,14 +20,15 @@ use Rattle.bridge_parts.specs.Refused.{note_of_recover}
 use Rattle.bridge_parts.specs.Written.{first_of}
 use Rattle.bridge_serve.specs.Noted.{note_of_look, note_of_run, note_of_workers}
 use Rattle.bridge_serve.proofs.Causes.{workers_tell}
-use Rattle.bridge_core.specs.Complete.{Counts, IsRunOf, NoneFailed, EndsWell}
-use Rattle.bridge_core.specs.Done.{Run, Does}
+use Rattle.bridge_core.specs.Complete.{NoneFailed, EndsWell}
+use Rattle.bridge_core.specs.Done.{Run, IsUndone, Does}
+use Rattle.bridge_core.specs.RunOf.{IsRunOf}
 use Rattle.bridge_core.proofs.Complete.{not_disk, not_read, not_write}
 use Rattle.bridge_laws.specs.ServeEnds.{Ran, IsStopped, GoesWell, IsUnhindered, ServeEndsWell}
 
 -- ---- the call
 
-module _ (server : Server) (words : List (List ℕ)) (run : Run) (counts : Counts) (note : Note) (is : IsRunOf words run counts note) (none : NoneFailed run counts) where
+module _ (server : Server) (words : List (List ℕ)) (run : Run) (note : Note) (is : IsRunOf words run note) (none : NoneFailed run) where
   -- a device that can be opened is refused for want of memory alone
   unopened_well : (s : SpoolState) → StandsFor s run.disk.reads → CanOpen Raise s → (fault : RecoverFault) → note ≡ note_of_recover fault → IsRefusedAs Raise run.disk.reads fault → EndsWell note
   unopened_well s stands can (Recover.NotSpool at) same breaks = absurd (stands_unbroken s run.disk.reads stands at breaks)
@@ -37,7 +38,7 @@ module _ (server : Server) (words : List (List ℕ)) (run : Run) (counts : Count
   unopened_well s stands can (Recover.Worn ordinal) same (t, is_in, worn) =
       let one : t.ordinal ≡ s.ordinal = ap (λ (x : SpoolState). x.ordinal) (one_state t s run.disk.reads is_in stands) in
       absurd (omega (arith, worn.3, one, can.1))
-  unopened_well s stands can Recover.DiskFault same why = absurd (not_disk words run counts note is none same)
+  unopened_well s stands can Recover.DiskFault same why = absurd (not_disk words run note is none same)
   unopened_well s stands can Recover.NoMemory same why = inr same
 
   -- a run that went well tells no net fault
@@ -49,7 +50,7 @@ module _ (server : Server) (words : List (List ℕ)) (run : Run) (counts : Count
   by_last None on net same = inl same
   by_last (Some outcome.Idle) on net same = inl same
   by_last (Some (outcome.Unread (Pend.NotSpool at))) on net same = absurd (on tt)
-  by_last (Some (outcome.Unread Pend.DiskFault)) on net same = absurd (not_disk words run counts note is none same)
+  by_last (Some (outcome.Unread Pend.DiskFault)) on net same = absurd (not_disk words run note is none same)
   by_last (Some (outcome.Unread Pend.NoMemory)) on net same = inr same
   by_last (Some (outcome.Undialed Net.Fault)) on net same = absurd (net same)
   by_last (Some (outcome.Undialed Net.NoMemory)) on net same = inr same
@@ -59,9 +60,9 @@ module _ (server : Server) (words : List (List ℕ)) (run : Run) (counts : Count
   by_last (Some (outcome.Held (Ending.PeerFault at why))) on net same = absurd (on tt)
   by_last (Some (outcome.Held (Ending.Unconfirmed asked))) on net same = absurd (on tt)
   by_last (Some (outcome.Held (Ending.TooMuch at))) on net same = absurd (on tt)
-  by_last (Some (outcome.Held Ending.ReadFault)) on net same = absurd (not_read words run counts note is none same)
-  by_last (Some (outcome.Held Ending.WriteFault)) on net same = absurd (not_write words run counts note is none same)
-  by_last (Some (outcome.Held Ending.DiskFault)) on net same = absurd (not_disk words run counts note is none same)
+  by_last (Some (outcome.Held Ending.ReadFault)) on net same = absurd (not_read words run note is none same)
+  by_last (Some (outcome.Held Ending.WriteFault)) on net same = absurd (not_write words run note is none same)
+  by_last (Some (outcome.Held Ending.DiskFault)) on net same = absurd (not_disk words run note is none same)
   by_last (Some (outcome.Held (Ending.NotSpool at))) on net same = absurd (on tt)
   by_last (Some (outcome.Held (Ending.Worn ordinal))) on net same = absurd (on tt)
   by_last (Some (outcome.Held Ending.NoMemory)) on net same = inr same
@@ -80,15 +81,15 @@ module _ (server : Server) (words : List (List ℕ)) (run : Run) (counts : Count
   ran_well : (ran : Ran server run note) → GoesWell server run note ran → EndsWell note
   ran_well ran well = elim ran.ran.note_is [
     | inl same ↦ ended_well ran well same
-    | inr (inl cut) ↦ absurd (not_write words run counts note is none cut)
+    | inr (inl cut) ↦ absurd (not_write words run note is none cut)
     | inr (inr memory) ↦ inr memory
   ]
 
-  by_done : (s : SpoolState) → run.tells → StandsFor s run.disk.reads → CanOpen Raise s → (done : (note ≡ Note.NoMemory) ⊎ Does (Serve server) run note) → IsUnhindered server run note done → EndsWell note
-  by_done s tells stands can (inl memory) well = inr memory
+  by_done : (s : SpoolState) → run.tells → StandsFor s run.disk.reads → CanOpen Raise s → (done : IsUndone run note ⊎ Does (Serve server) run note) → IsUnhindered server run note done → EndsWell note
+  by_done s tells stands can (inl undone) well = inr undone.0
   by_done s tells stands can (inr (inl unopened, ungiven)) well = unopened_well s stands can unopened.0.fault unopened.0.note_is (unopened.0.why tells)
   by_done s tells stands can (inr (inr (inl unserved), ungiven)) well = elim unserved.0.why [ inl memory ↦ inr memory | inr unbound ↦ absurd (none.dials unbound.1) ]
   by_done s tells stands can (inr (inr (inr ran), ungiven)) well = ran_well ran well
 
-pub serve_ends_well : (run : Run) (counts : Counts) → ServeEndsWell run counts
-serve_ends_well run counts server words note s is none asks tells stands can well = by_done server words run counts note is none s tells stands can (is.done (Serve server) asks) well
+pub serve_ends_well : (run : Run) → ServeEndsWell run
+serve_ends_well run server words note s is none asks tells stands can well = by_done server words run note is none s tells stands can (is.done (Serve server) asks) well

@@ -1,1 +1,4 @@
 pub mod ServeEnds
+pub mod InOrder
+pub mod KeepsOrder
+pub mod Lifetime

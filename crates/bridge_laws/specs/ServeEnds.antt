@@ -1,5 +1,5 @@
 -- Where `serve` has to end well: no call failed, and nothing stands in its way.
-use Rattle.std.specs.Prelude.{◌≡◌, ◌⊎◌, ℕ, List, Option, Some}
+use Rattle.std.specs.Prelude.{◌⊎◌, ℕ, List, Option, Some}
 use mathlib.Core.Logic.{inl, inr}
 use Rattle.spool_state.specs.SpoolState.{SpoolState}
 use Rattle.spool_state.specs.Image.{StandsFor}
@@ -12,19 +12,20 @@ use Rattle.serve_forwarder.specs.declared.looking.Outcome.TheVariants.{Unread, H
 use Rattle.bridge_words.specs.declared.command.Command.TheVariants.{Serve}
 use Rattle.bridge_words.specs.declared.command.Server.{Server}
 use Rattle.bridge_words.specs.declared.note.Note.{Note}
-use Rattle.bridge_words.specs.declared.note.Note.TheVariants.{NoMemory}
 use Rattle.bridge_words.specs.Words.{IsCommand}
 use Rattle.bridge_serve.specs.Doors.{SomeRose}
 use Rattle.bridge_serve.specs.Served.{IsRun}
-use Rattle.bridge_core.specs.Complete.{Counts, IsRunOf, NoneFailed, EndsWell}
-use Rattle.bridge_core.specs.Done.{Run, Does}
+use Rattle.bridge_core.specs.Complete.{NoneFailed, EndsWell}
+use Rattle.bridge_core.specs.Done.{Run, IsUndone, Does}
+use Rattle.bridge_core.specs.RunOf.{IsRunOf}
 
 -- The server ran for these words, as its contract tells.
 abbrev pub Ran : Server → Run → Note → Type 0
-Ran server run note = IsRun server run.tells run.disk run.disk_after run.net run.net_after run.doors_after run.taken run.taken_after note
+Ran server run note =
+    IsRun server run.tells run.disk run.disk_after run.net run.net_after run.doors_after run.writes run.writes_after run.taken run.taken_after note
 
--- What stopped the last look at what is pending, where that was neither a call that failed nor want of memory: what the peer answered, or
--- the state of the spool.
+-- What stopped the last look at what is pending, where that was neither a call that failed nor want of memory: what the peer
+-- answered, or the state of the spool.
 abbrev pub IsStopped : Option Outcome → Type 0
 IsStopped (Some (Unread (unread.NotSpool at))) = Unit {0}
 IsStopped (Some (Held (sent.Refused unit code))) = Unit {0}
@@ -42,16 +43,16 @@ pub record GoesWell (server : Server) (run : Run) (note : Note) (ran : Ran serve
   pub last : IsStopped ran.ran.last → ⊥
 
 -- What the contract tells of the call, where it tells of a run, went well.
-abbrev pub IsUnhindered : (server : Server) (run : Run) (note : Note) → (note ≡ NoMemory) ⊎ Does (Serve server) run note → Type 0
-IsUnhindered server run note (inl memory) = Unit {0}
+abbrev pub IsUnhindered : (server : Server) (run : Run) (note : Note) → IsUndone run note ⊎ Does (Serve server) run note → Type 0
+IsUnhindered server run note (inl undone) = Unit {0}
 IsUnhindered server run note (inr (inl unopened, ungiven)) = Unit {0}
 IsUnhindered server run note (inr (inr (inl unserved), ungiven)) = Unit {0}
 IsUnhindered server run note (inr (inr (inr ran), ungiven)) = GoesWell server run note ran
 
 -- Where no call failed, `serve` ends well on a device that stands for a spool which can be opened for storing, if what it then
 -- did went well.
-abbrev pub ServeEndsWell : Run → Counts → Type 0
-ServeEndsWell run counts =
-    (server : Server) (words : List (List ℕ)) (note : Note) (s : SpoolState) (is : IsRunOf words run counts note) → NoneFailed run counts
+abbrev pub ServeEndsWell : Run → Type 0
+ServeEndsWell run =
+    (server : Server) (words : List (List ℕ)) (note : Note) (s : SpoolState) (is : IsRunOf words run note) → NoneFailed run
     → (asks : IsCommand (Serve server) words) → run.tells → StandsFor s run.disk.reads → CanOpen Raise s
     → IsUnhindered server run note (is.done (Serve server) asks) → EndsWell note

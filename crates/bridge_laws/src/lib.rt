@@ -1,8 +1,14 @@
-//! What follows for `serve` from the contract of `bridge_core::bridge` alone: when the server has to end well.
+//! What follows from the contract of `bridge_core::bridge` alone: when `serve` has to end well, and that each command keeps
+//! the order of a spool's entries.
 //!
-//! The function does nothing: its contract is the law.
+//! The functions do nothing: each has a law as its contract.
 #![tactic(auto)]
 
 mod laws;
+mod order;
 
 pub use laws::serve_ends_well;
+pub use order::{
+    desk_opens_legal, each_command_keeps_order, empty_is_in_order, opening_keeps_order,
+    order_holds_from_format,
+};

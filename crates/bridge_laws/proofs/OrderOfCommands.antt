@@ -1,0 +1,161 @@
+-- Each command keeps the order of a spool's entries.
+use Rattle.std.proofs.Common.{◌≡◌, ◌⊎◌, inl, inr, ℕ, ◌+◌, ◌*◌, ◌^◌, List, [], refl, sym, subst, arith}
+use Rattle.std.specs.Prelude.{Option, None, Some}
+use Rattle.edge_disk.specs.Disk.{Moment, IsLawful, LeavesOnly}
+use Rattle.edge_disk.proofs.Moments.{weaker}
+use Rattle.spool_state.specs.SpoolState.{SpoolState}
+use Rattle.spool_state.specs.Image.{StandsFor}
+use Rattle.spool_state.specs.Empty.{empty_state}
+use Rattle.spool_state.proofs.Laws.{one_state, stands_unbroken}
+use Rattle.spool_log.specs.Making.Format.{IsFormatStep}
+use Rattle.edge_io.specs.declared.proto.Proto.{Proto}
+use Rattle.edge_io.specs.declared.proto.Proto.TheVariants.{Relp, Lumberjack, Hec}
+use Rattle.event_form.specs.declared.talk.Talk.{Talk}
+use Rattle.hec_session.specs.declared.tokens.Tokens.{Tokens}
+use Rattle.desk_access.specs.Batch.{Belongs}
+use Rattle.desk_access.specs.Call.{Call}
+use Rattle.conn_serve.specs.Done.{AreBytes}
+use Rattle.conn_serve.specs.Serves.{CarriedAs}
+use Rattle.spool_turns.specs.Replays.{MayMake}
+use Rattle.forward_core.specs.declared.outward.Outward.{Outward}
+use Rattle.bridge_words.specs.declared.command.Command.{Command}
+use Rattle.bridge_words.specs.declared.command.Command.TheVariants.{Format, List as ListCommand, Replay, Drain, Load, Serve}
+use Rattle.bridge_words.specs.declared.command.Server.{Server}
+use Rattle.bridge_words.specs.declared.note.Note.{Note}
+use Rattle.bridge_words.specs.Words.{IsCommand, IsNoCommand, IsSomeCommand}
+use Rattle.bridge_words.proofs.Once.{one_command}
+use Rattle.bridge_parts.specs.Receivers.{outward_of}
+use Rattle.bridge_core.specs.Done.{Run, Does, DoesStream, DoesPlace, IsUndone}
+use Rattle.bridge_core.specs.RunOf.{IsRunOf}
+use Rattle.bridge_core.specs.Formatted.{IsFormatted}
+use Rattle.bridge_core.specs.Replayed.{IsReplayed}
+use Rattle.bridge_serve.specs.Served.{IsServed}
+use Rattle.bridge_laws.specs.InOrder.{IsInOrder, HoldsInOrder, HoldsNoDisorder, DeskOpensLegal}
+use Rattle.bridge_laws.specs.KeepsOrder.{AsksFormat, EachCommandKeepsOrder, Keeps}
+use Rattle.bridge_laws.proofs.InOrder.{empty_is_in_order, opens_legal}
+use Rattle.bridge_laws.proofs.KeepsOrder.{unwritten, unopened, opened_only, served, stored, looked, unread, session}
+use Rattle.bridge_laws.proofs.ReplayCalls.{relp_may, hec_may}
+use Rattle.bridge_laws.proofs.LumberCalls.{lumber_may}
+
+-- ---- what bytes hold
+
+pub holds_some : (s : SpoolState) (c : List ℕ) → StandsFor s c → IsInOrder s → HoldsInOrder c
+holds_some s c stands is = (s, stands, is)
+
+pub some_held : (s : SpoolState) (c : List ℕ) → StandsFor s c → HoldsInOrder c → IsInOrder s
+some_held s c stands has = subst IsInOrder (one_state has.0 s c has.1 stands) has.2
+
+pub holds_none : (s : SpoolState) (c : List ℕ) → StandsFor s c → IsInOrder s → HoldsNoDisorder c
+holds_none s c stands is t other = subst IsInOrder (one_state s t c stands other) is
+
+pub none_held : (s : SpoolState) (c : List ℕ) → StandsFor s c → HoldsNoDisorder c → IsInOrder s
+none_held s c stands has = has s stands
+
+-- ---- the desk that is opened
+
+pub desk_opens_legal : (tells : Type 0) (m : Moment) → (tells → IsLawful m) → DeskOpensLegal tells m
+desk_opens_legal tells m lawful order x is = opens_legal is.1 (order m.reads (lawful is.0).reads_image is.1 is.2) x is.4
+
+-- ---- the commands
+
+while_formatted : (slots size : ℕ) (m : Moment) → ((c : List ℕ) → m.image c → HoldsNoDisorder c) → (c : List ℕ) → IsFormatStep slots size m c → HoldsNoDisorder c
+while_formatted slots size m before c (inl image) = before c image
+while_formatted slots size m before c (inr (inl no_name)) = λ s stands. absurd (stands_unbroken s c stands 0 (inl (refl, (λ named. no_name named.name))))
+while_formatted slots size m before c (inr (inr made)) = holds_none (empty_state slots size) c made (empty_is_in_order slots size)
+
+-- the connection of a replay is the first of its run
+first_conn : (run conn : ℕ) → conn ≡ run * 2 ^ 32 → Belongs run 0 conn
+first_conn run conn is = record { few = omega arith; from = omega (arith, is); below = omega (arith, is) }
+
+replay_may : (proto : Proto) (tokens : Tokens) (run conn : ℕ) (left : Option (List ℕ)) (b : List ℕ) (calls : List Call) (text : List ℕ) (talk : Talk) → AreBytes b → Belongs run 0 conn → CarriedAs proto tokens conn left b calls text talk
+    → MayMake run 0 0 [] calls
+replay_may Relp tokens run conn left b calls text talk bytes belongs c = relp_may run conn left b calls text talk belongs c
+replay_may Lumberjack tokens run conn left b calls text talk bytes belongs c = lumber_may run conn left b calls text talk bytes belongs c
+replay_may Hec tokens run conn left b calls text talk bytes belongs c = hec_may tokens run conn left b calls text talk belongs c
+
+module _ (run : Run) (told : run.tells) (lawful : IsLawful run.disk) (P : List ℕ → Type 0) (holds : (s : SpoolState) (c : List ℕ) → StandsFor s c → IsInOrder s → P c) (held : (s : SpoolState) (c : List ℕ) → StandsFor s c → P c → IsInOrder s)
+    (before : (c : List ℕ) → run.disk.image c → P c) where
+  by_stream : (outward : Outward) (note : Note) → DoesStream outward run note → LeavesOnly P run.disk run.disk_after
+  by_stream outward note (inl done) = unread P holds held run.disk run.disk_after lawful before run.tells note done.0 told
+  by_stream outward note (inr (inl done)) = looked P holds held run.disk run.disk_after lawful before _ (done.0 told)
+  by_stream outward note (inr (inr done)) = session P holds held run.disk run.disk_after lawful before outward run.tells _ _ _ _ _ _ done.confirmed done.remaining done.sent done.session told
+
+  by_place : (outward : Outward) (place : List ℕ) (note : Note) → DoesPlace outward place run note → LeavesOnly P run.disk run.disk_after
+  by_place outward place note (inl done) = unread P holds held run.disk run.disk_after lawful before run.tells note done.0 told
+  by_place outward place note (inr (_, inl done)) = looked P holds held run.disk run.disk_after lawful before _ (done.idle told)
+  by_place outward place note (inr (_, inr (inl done))) = looked P holds held run.disk run.disk_after lawful before _ (done.pending told)
+  by_place outward place note (inr (_, inr (inr done))) = session P holds held run.disk run.disk_after lawful before outward run.tells _ _ _ _ _ _ done.confirmed done.remaining done.sent done.session told
+
+  by_serve : (server : Server) (note : Note) → IsServed run.net_same server run.tells run.disk run.disk_after run.net run.net_after run.doors_after run.writes run.writes_after run.taken run.taken_after note → LeavesOnly P run.disk run.disk_after
+  by_serve server note (inl done) = unopened P holds held run.disk run.disk_after lawful before run.tells note done.0 told
+  by_serve server note (inr (inl done)) = opened_only P holds held run.disk run.disk_after lawful before (done.0.opened told)
+  by_serve server note (inr (inr done)) = served P holds held run.disk run.disk_after lawful before run.tells _ _ _ _ _ _ _ _ _ _ _ done.ran.over told
+
+  by_replay : (proto : Proto) (tokens : Tokens) (note : Note) → IsReplayed proto tokens run.tells run.disk run.disk_after run.given run.given_after run.left run.left_after run.taken run.taken_after note
+      → LeavesOnly P run.disk run.disk_after
+  by_replay proto tokens note done =
+      let serves = done.served.serves in
+      let is = serves.made told in
+      stored P holds held run.disk run.disk_after lawful before done.conn serves.calls is (replay_may proto tokens (is.state.run + 1) done.conn run.left_after serves.bytes serves.calls serves.text _ serves.are_bytes (first_conn (is.state.run + 1) done.conn is.conn_is) serves.carried)
+
+  module _ (same : run.disk_same → LeavesOnly run.disk.image run.disk run.disk_after) (words : List (List ℕ)) (note : Note) (whole : IsRunOf words run note) where
+    as_before : run.disk_same → LeavesOnly P run.disk run.disk_after
+    as_before is = unwritten P holds held run.disk run.disk_after lawful before (same is)
+
+    by_command : (command : Command) → IsCommand command words → (AsksFormat words → ⊥) → IsUndone run note ⊎ Does command run note → LeavesOnly P run.disk run.disk_after
+    by_command command asks never (inl undone) = as_before undone.1.disk
+    by_command (Format slots size) asks never (inr does) = absurd (never (slots, size, asks))
+    by_command (ListCommand form) asks never (inr does) = unwritten P holds held run.disk run.disk_after lawful before (does.1 told).1
+    by_command (Replay proto token ack_token) asks never (inr (inl unopen)) = unopened P holds held run.disk run.disk_after lawful before run.tells note unopen.0 told
+    by_command (Replay proto token ack_token) asks never (inr (inr replayed)) = by_replay proto _ note replayed
+    by_command (Drain receiver None) asks never (inr does) = by_stream (outward_of receiver) note does
+    by_command (Drain receiver (Some place)) asks never (inr does) = by_place (outward_of receiver) place note does
+    by_command (Load proto number count) asks never (inr does) = as_before does.1.disk
+    by_command (Serve server) asks never (inr does) = by_serve server note does.0
+
+-- ---- all of them
+
+abbrev is_format : Command → Type 0
+is_format (Format slots size) = Unit {0}
+is_format command = ⊥
+
+-- words of another command don't ask for `format`
+not_format : (command : Command) (words : List (List ℕ)) → (is_format command → ⊥) → IsCommand command words → AsksFormat words → ⊥
+not_format command words other asks (slots, size, is) = other (subst is_format (sym (one_command command (Format slots size) words asks is)) tt)
+
+module _ (run : Run) (lawful : run.tells → IsLawful run.disk) (same : run.tells → run.disk_same → LeavesOnly run.disk.image run.disk run.disk_after)
+    (words : List (List ℕ)) (note : Note) (whole : IsRunOf words run note) (told : run.tells) where
+  -- `format` is the one call during which a crash may leave no spool
+  none_by : IsSomeCommand words ⊎ (IsNoCommand words ⊎ IsUndone run note) → Keeps HoldsNoDisorder run.disk run.disk_after
+  none_by (inr (inr undone)) before = unwritten HoldsNoDisorder holds_none none_held run.disk run.disk_after (lawful told) before (same told undone.1.disk)
+  none_by (inr (inl none)) before = unwritten HoldsNoDisorder holds_none none_held run.disk run.disk_after (lawful told) before (same told (whole.unchanged none).disk)
+  none_by (inl (command, asks)) before = by command asks (whole.done command asks) where
+    by : (c : Command) → IsCommand c words → IsUndone run note ⊎ Does c run note → LeavesOnly HoldsNoDisorder run.disk run.disk_after
+    by c is (inl undone) = unwritten HoldsNoDisorder holds_none none_held run.disk run.disk_after (lawful told) before (same told undone.1.disk)
+    by (Format slots size) is (inr does) = weaker (IsFormatStep slots size run.disk) HoldsNoDisorder run.disk run.disk_after (does.1 told) (while_formatted slots size run.disk before)
+    by c is (inr does) = by_command run told (lawful told) HoldsNoDisorder holds_none none_held before (same told) words note whole c is (not_format c words (λ never. never) is) (inr does)
+
+  some_by : IsSomeCommand words ⊎ (IsNoCommand words ⊎ IsUndone run note) → (AsksFormat words → ⊥) → Keeps HoldsInOrder run.disk run.disk_after
+  some_by (inr (inr undone)) never before = unwritten HoldsInOrder holds_some some_held run.disk run.disk_after (lawful told) before (same told undone.1.disk)
+  some_by (inr (inl none)) never before = unwritten HoldsInOrder holds_some some_held run.disk run.disk_after (lawful told) before (same told (whole.unchanged none).disk)
+  some_by (inl (command, asks)) never before =
+      by_command run told (lawful told) HoldsInOrder holds_some some_held before (same told) words note whole command asks never (whole.done command asks)
+
+  -- `format` that ended well
+  formatted : (slots size : ℕ) (n : Note) → n ≡ Note.Fine → IsFormatted slots size run.tells run.disk run.disk_after run.taken run.taken_after n → (c : List ℕ) → run.disk_after.image c → HoldsInOrder c
+  formatted slots size n fine is c image =
+      let made = subst (IsFormatted slots size run.tells run.disk run.disk_after run.taken run.taken_after) fine is in
+      (empty_state slots size, made.empty told c image, empty_is_in_order slots size)
+
+  made_by : AsksFormat words → note ≡ Note.Fine → (c : List ℕ) → run.disk_after.image c → HoldsInOrder c
+  made_by (slots, size, asks) fine c image = elim (whole.done (Format slots size) asks) [
+    | inl undone ↦ absurd (cc (fine, undone.0))
+    | inr does ↦ formatted slots size note fine does.0 c image
+  ]
+
+pub each_command_keeps_order : (run : Run) → (run.tells → IsLawful run.disk) → (run.tells → run.disk_same → LeavesOnly run.disk.image run.disk run.disk_after) → EachCommandKeepsOrder run
+each_command_keeps_order run lawful same words note whole told = record {
+  none = none_by run lawful same words note whole told whole.which;
+  some = some_by run lawful same words note whole told whole.which;
+  made = made_by run lawful same words note whole told;
+}

@@ -1,0 +1,12 @@
+use Rattle.std.proofs.Common.{sym, subst}
+use Rattle.edge_disk.specs.Disk.{LeavesOnly}
+use Rattle.edge_disk.proofs.Moments.{started}
+use Rattle.bridge_laws.proofs.OrderOfCommands.{each_command_keeps_order}
+use Rattle.bridge_laws.proofs.order.each_command_keeps_order.Goals as goal
+
+pub returns : goal.returns
+returns g c =
+    let disk = c.args._disk.now in
+    let moment = g.D.Disk.moment in
+    each_command_keeps_order _ (g.met.D.Disk.lawful disk) (λ told same.
+    subst (λ d. LeavesOnly (moment disk).image (moment disk) (moment d)) (sym same) (started (moment disk).image (moment disk) (g.met.D.Disk.lawful disk told) (λ image is. is)))

@@ -1,0 +1,31 @@
+-- What each command leaves of the order of a spool's entries.
+use Rattle.std.specs.Prelude.{◌≡◌, ℕ, List}
+use Rattle.edge_disk.specs.Disk.{Moment, LeavesOnly}
+use Rattle.bridge_words.specs.declared.command.Command.TheVariants.{Format}
+use Rattle.bridge_words.specs.declared.note.Note.{Note}
+use Rattle.bridge_words.specs.declared.note.Note.TheVariants.{Fine}
+use Rattle.bridge_words.specs.Words.{IsCommand}
+use Rattle.bridge_core.specs.Done.{Run}
+use Rattle.bridge_core.specs.RunOf.{IsRunOf}
+use Rattle.bridge_laws.specs.InOrder.{HoldsInOrder, HoldsNoDisorder}
+
+-- Where whatever a crash could leave before the call was so, it is so of whatever one leaves after the call or within it.
+abbrev pub Keeps : (List ℕ → Type 0) → Moment → Moment → Type 0
+Keeps P old new = ((c : List ℕ) → old.image c → P c) → LeavesOnly P old new
+
+-- the words make the device an empty spool
+abbrev pub AsksFormat : List (List ℕ) → Type 0
+AsksFormat words = (slots : ℕ) × (size : ℕ) × IsCommand (Format slots size) words
+
+-- What a call leaves of the order of a spool's entries.
+pub record KeepsOrder (words : List (List ℕ)) (run : Run) (note : Note) : Type 0 where
+  -- A crash leaves no spool that is out of order.
+  pub none : Keeps HoldsNoDisorder run.disk run.disk_after
+  -- It leaves a spool in order where it left one before, but for `format`, during which a crash may leave no spool.
+  pub some : (AsksFormat words → ⊥) → Keeps HoldsInOrder run.disk run.disk_after
+  -- `format` that ended well leaves a spool in order, whatever the device had.
+  pub made : AsksFormat words → note ≡ Fine → (c : List ℕ) → run.disk_after.image c → HoldsInOrder c
+
+-- Each call keeps the order, whatever its words and its note are.
+abbrev pub EachCommandKeepsOrder : Run → Type 0
+EachCommandKeepsOrder run = (words : List (List ℕ)) (note : Note) → IsRunOf words run note → run.tells → KeepsOrder words run note

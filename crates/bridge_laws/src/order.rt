@@ -1,0 +1,62 @@
+//! What follows for the order of a spool's entries, from the contract of `bridge` alone. The functions do nothing: each has a law
+//! as its contract.
+ghost use Rattle.bridge_core.specs.RunOf.{run_of};
+ghost use Rattle.bridge_laws.specs.InOrder.{DeskOpensLegal, EmptyIsInOrder, OpeningKeepsOrder};
+ghost use Rattle.bridge_laws.specs.KeepsOrder.{EachCommandKeepsOrder};
+ghost use Rattle.bridge_laws.specs.Lifetime.{OrderHolds};
+
+use edge_disk::Disk;
+use edge_io::{Net, Sink, Source};
+
+/// The spool that `format` makes is in order.
+pub fn empty_is_in_order()
+    ensures { EmptyIsInOrder }
+{}
+
+/// A spool in order is in order once it was opened, for storing or to be read.
+pub fn opening_keeps_order()
+    ensures { OpeningKeepsOrder }
+{}
+
+/// Where a crash leaves no spool of the device that is out of order, the desk that is opened for storing over it begins with a legal
+/// list of entries of earlier runs. So what a run of `serve` promises of the order of each connection's entries needs no premise.
+pub fn desk_opens_legal<D: Disk>(_disk: &D)
+    ensures { DeskOpensLegal D.tells (D.moment _disk.now) }
+{}
+
+/// Each call of `bridge` keeps the order of a spool's entries: of each connection's, whose indexes rise by one, and of each
+/// id's, which stand together. Where a crash before the call could leave no spool that is out of order, none leaves one after
+/// the call or within it. `format` makes a spool in order of any device.
+///
+/// The arguments are the disk, the input, the output and the net before the call and after it, and the doors that were bound in
+/// it. Of the call no more is known than its contract says.
+pub fn each_command_keeps_order<D: Disk, S: Source, K: Sink, N: Net>(
+    _disk: &D,
+    _disk_after: &D,
+    _input: &S,
+    _input_after: &S,
+    _output: &K,
+    _output_after: &K,
+    _net: &N,
+    _net_after: &N,
+    _doors_after: &Vec<N::P>,
+)
+    ensures { EachCommandKeepsOrder (run_of D.tells D.moment S.given S.left S.read_faults K.taken K.write_faults N.told N.P.told
+        _disk.now _disk_after.now _input.now _input_after.now _output.now _output_after.now _net.now _net_after.now _doors_after.now.items) }
+{}
+
+/// From a call of `format` that ended well on, a crash leaves no spool of the device that is out of order, where `bridge` alone writes
+/// to it: after any calls of `bridge`, one after another, and any crashes between them and within them. Where none of them is a
+/// `format`, it leaves a spool in order.
+///
+/// After a crash the device has something that the crash could leave. Each call has an input, an output, a net and doors of its
+/// own, and no more is known of it than the contract of `bridge` says.
+pub fn order_holds_from_format<D: Disk, S: Source, K: Sink, N: Net>(
+    _disk: &D,
+    _input: &S,
+    _output: &K,
+    _net: &N,
+    _doors: &Vec<N::P>,
+)
+    ensures { OrderHolds D.moment (run_of D.tells D.moment S.given S.left S.read_faults K.taken K.write_faults N.told N.P.told) }
+{}
