@@ -2,8 +2,8 @@
 use Rattle.std.specs.Prelude.{None}
 use Rattle.edge_io.specs.Door.{DoorState}
 use Rattle.edge_io.specs.Net.{NetState}
-use Rattle.bridge_tests.specs.declared.held.HeldDoor.{HeldDoor}
-use Rattle.bridge_tests.specs.declared.held.HeldNet.{HeldNet}
+use Rattle.bridge_tests.specs.declared.held_net.HeldDoor.{HeldDoor}
+use Rattle.bridge_tests.specs.declared.held_net.HeldNet.{HeldNet}
 
 abbrev pub door_state : HeldDoor → DoorState
 door_state door = record {

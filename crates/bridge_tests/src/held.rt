@@ -1,13 +1,8 @@
-//! Links that hold back what they give until other links were written an answer; and doors and a net that give such links.
-ghost use Rattle.std.specs.Prelude.{◌≡◌, ◌≤◌, None, IfOk, length, All};
-ghost use Rattle.edge_io.specs.Door.{IsNewDoor};
-ghost use Rattle.bridge_tests.specs.Held.{door_state};
+//! Links that hold back what they give until other links were written an answer.
+ghost use Rattle.std.specs.Prelude.{◌≡◌, ◌≤◌, None, length};
 
-use edge_io::{
-    AcceptFault, Door, Link, Net, NetFault, Object, Pause, Proto, ReadFault, Sink, Source,
-    WriteFault,
-};
-use std::alloc::{AllocError, Global};
+use edge_io::{Link, Object, ReadFault, Sink, Source, WriteFault};
+use std::alloc::Global;
 use std::sync::atomic::{AtomicBool, Ordering};
 
 /// How often a link looks whether it may go on. Then its read fails.
@@ -38,9 +33,9 @@ pub(crate) struct Held<'a> {
     /// How many parts were given whole, and how many bytes of the next one were.
     at: usize,
     given: usize,
-    written: Vec<u8>,
-    read_faults: u64,
-    write_faults: u64,
+    pub(crate) written: Vec<u8>,
+    pub(crate) read_faults: u64,
+    pub(crate) write_faults: u64,
 }
 
 // Whether all of these marks are set.
@@ -75,7 +70,8 @@ fn give(bytes: &[u8], at: usize, buf: &mut [u8]) -> usize
 }
 
 impl<'a> Held<'a> {
-    fn by(alloc: Global, plan: &'static Plan, marks: &'a [AtomicBool]) -> Held<'a> {
+    /// A link by this plan, of which nothing was given and to which nothing was written.
+    pub(crate) fn by(alloc: Global, plan: &'static Plan, marks: &'a [AtomicBool]) -> Held<'a> {
         Held {
             plan,
             marks,
@@ -162,199 +158,7 @@ impl Link for Held<'_> {
     ghost writes_keep = { λ x y same. (Prim.cc, Prim.cc, same, Prim.cc) };
 }
 
-/// A link that was served: the status of its ending, and what was written to it.
-#[derive(Drop)]
-pub(crate) struct Talked {
-    pub(crate) status: u8,
-    pub(crate) written: Vec<u8>,
-}
-
-/// A door at which one link comes in, or none.
-#[derive(Drop)]
-pub(crate) struct HeldDoor<'a> {
-    link: Option<Held<'a>>,
-    /// The link that was given back.
-    pub(crate) talked: Option<Talked>,
-    pub(crate) read_faults: u64,
-    pub(crate) write_faults: u64,
-}
-
-impl<'a> Door for HeldDoor<'a> {
-    type L = Held<'a>;
-
-    ghost told = { λ door. door_state door };
-
-    fn accept(&mut self) -> Result<Option<Held<'a>>, AcceptFault> {
-        Ok(self.link.take())
-    }
-
-    fn give_back(
-        &mut self,
-        link: Held<'a>,
-        _: Proto,
-        _: u64,
-        status: u8,
-    ) -> Result<(), AllocError> {
-        self.read_faults = self.read_faults.saturating_add(link.read_faults);
-        self.write_faults = self.write_faults.saturating_add(link.write_faults);
-        self.talked = Some(Talked {
-            status,
-            written: link.written,
-        });
-        Ok(())
-    }
-}
-
-/// A net that gives links by plans: the doors of a place have those of the place, one each, in order, and each dial of a place gives
-/// one by the first plan there.
-#[derive(Drop)]
-pub(crate) struct HeldNet<'a> {
-    alloc: Global,
-    plans: &'static [Plan],
-    marks: &'a [AtomicBool],
-    faults: u64,
-    pub(crate) read_faults: u64,
-    pub(crate) write_faults: u64,
-    /// What was written to the links that were hung up, one after another.
-    pub(crate) sent: Vec<u8>,
-}
-
-impl<'a> HeldNet<'a> {
-    /// A net by these plans, whose answers these marks tell.
-    pub(crate) fn new(
-        alloc: Global,
-        plans: &'static [Plan],
-        marks: &'a [AtomicBool],
-    ) -> HeldNet<'a> {
-        HeldNet {
-            alloc,
-            plans,
-            marks,
-            faults: 0,
-            read_faults: 0,
-            write_faults: 0,
-            sent: Vec::new(alloc),
-        }
-    }
-}
-
-impl Object for HeldNet<'_> {
-    ghost same = { λ _ _. Unit {0} };
-
-    ghost same_refl = { λ _. tt };
-
-    ghost same_trans = { λ _ _ _ _ _. tt };
-}
-
-impl Pause for HeldNet<'_> {
-    ghost use Rattle.bridge_tests.specs.Held.{net_state};
-
-    ghost pause_apart = { λ x y. net_state y ≡ net_state x };
-
-    fn pause(&mut self) {}
-
-    ghost pause_refl = { λ _. Prim.cc };
-
-    ghost pause_trans = { λ x y z p q. Prim.cc };
-}
-
-// The plan of this number among those of the place.
-fn plan_of(plans: &'static [Plan], place: &str, number: usize) -> Option<&'static Plan> {
-    let mut before = 0_usize;
-    for plan in plans {
-        if plan.place == place {
-            if before == number {
-                return Some(plan);
-            }
-            before = before.saturating_add(1);
-        }
-    }
-    None
-}
-
-// The door of this number at the place.
-fn door<'a>(
-    alloc: Global,
-    plans: &'static [Plan],
-    marks: &'a [AtomicBool],
-    place: &str,
-    number: usize,
-) -> HeldDoor<'a>
-    ensures { IsNewDoor place.now (door_state result) }
-{
-    let link = match plan_of(plans, place, number) {
-        Some(plan) => Some(Held::by(alloc, plan, marks)),
-        None => None,
-    };
-    HeldDoor {
-        link,
-        talked: None,
-        read_faults: 0,
-        write_faults: 0,
-    }
-}
-
-// So many doors at the place.
-fn doors_at<'a>(
-    alloc: Global,
-    plans: &'static [Plan],
-    marks: &'a [AtomicBool],
-    place: &str,
-    count: usize,
-) -> Result<Vec<HeldDoor<'a>>, AllocError>
-    ensures count { IfOk result (λ made. length made.items ≡ count) }
-    ensures fresh { IfOk result (λ made. All (λ door. IsNewDoor place.now (door_state door)) made.items) }
-{
-    let mut made = Vec::with_capacity(alloc, count)?;
-    'doors: while made.len() < count {
-        let number = made.len();
-        made.push_reserved(door(alloc, plans, marks, place, number));
-    }
-    Ok(made)
-}
-
-impl<'a> Net for HeldNet<'a> {
-    ghost use Rattle.bridge_tests.specs.Held.{net_state};
-
-    type L = Held<'a>;
-
-    type P = HeldDoor<'a>;
-
-    ghost told = { λ net. net_state net };
-
-    ghost has_room = { λ _. Unit {0} };
-
-    fn bind(&mut self, place: &str, doors: u32) -> Result<Vec<HeldDoor<'a>>, NetFault> {
-        match doors_at(self.alloc, self.plans, self.marks, place, doors as usize) {
-            Ok(made) => Ok(made),
-            Err(_) => Err(NetFault::NoMemory),
-        }
-    }
-
-    fn dial(&mut self, place: &str) -> Result<Held<'a>, NetFault> {
-        match plan_of(self.plans, place, 0) {
-            Some(plan) => Ok(Held::by(self.alloc, plan, self.marks)),
-            None => {
-                self.faults = self.faults.saturating_add(1);
-                Err(NetFault::Fault)
-            }
-        }
-    }
-
-    fn hang_up(&mut self, link: Held<'a>) {
-        self.read_faults = self.read_faults.saturating_add(link.read_faults);
-        self.write_faults = self.write_faults.saturating_add(link.write_faults);
-        let _ = self.sent.extend_from_slice(&link.written);
-    }
-
-    ghost pauses_keep = { λ x y same. same };
-
-    ghost pauses_keep_room = { λ x y same room. room };
-}
-
-// Links and doors may be moved to another thread: each impl below owes the proof.
-trait Movable: Send {}
+/// Links and doors may be moved to another thread: each impl owes the proof.
+pub(crate) trait Movable: Send {}
 
 impl Movable for Held<'_> {}
-
-impl Movable for HeldDoor<'_> {}

@@ -11,9 +11,12 @@ mod devices;
 #[cfg(test)]
 mod drains;
 #[cfg(test)]
+mod failing;
+#[cfg(test)]
 mod faults;
-// (in every build, since definitions in specs/ speak of its types)
+// (both in every build, since definitions in specs/ speak of their types)
 mod held;
+mod held_net;
 #[cfg(test)]
 mod lists;
 #[cfg(test)]
@@ -22,6 +25,8 @@ mod marks;
 mod meets;
 #[cfg(test)]
 mod parts;
+#[cfg(test)]
+mod places;
 #[cfg(test)]
 mod play;
 #[cfg(test)]
@@ -34,6 +39,8 @@ mod served;
 mod sessions;
 #[cfg(test)]
 mod slots;
+#[cfg(test)]
+mod spools;
 #[cfg(test)]
 mod sweeps;
 #[cfg(test)]

@@ -1,7 +1,8 @@
 //! Talks that can only end where others are served beside them, and a talk that can only end where its event is forwarded beside it.
-use crate::held::{HeldDoor, HeldNet, Part, Plan, Talked};
+use crate::held::{Part, Plan};
+use crate::held_net::{HeldDoor, HeldNet, Talked};
 use crate::script::{OPEN, OPENED};
-use crate::served::{formatted, words_of};
+use crate::spools::{formatted, words_of};
 use bridge_core::{Ended, bridge};
 use bridge_words::Note;
 use edge_io::{MemSink, MemSource};

@@ -1,222 +1,16 @@
 //! `serve` over doors in memory: what it prints, and what each call that fails leaves.
-ghost use Rattle.std.specs.Prelude.{IfOk};
-ghost use Rattle.edge_io.specs.MemDoor.{IsUntouched};
-
-use crate::script::{OPEN, OPENED};
+use crate::failing::{Failing, Object, calls_of, net};
+use crate::places::{EVENTS, PLACES, Place, WORDS};
+use crate::spools::{formatted, listed, nothing, words_of};
 use bridge_core::{Ended, bridge};
 use bridge_words::Note;
 use edge_disk::MemDisk;
-use edge_io::{MemDoor, MemLink, MemNet, MemPlace, MemScript, MemSink, MemSource};
+use edge_io::{MemDoor, MemSink};
 use std::alloc::{AllocError, Global};
 use std::process::Abort;
 use std::sync::Wait;
 use std::test::Fail;
 use std::thread::Threads;
-
-/// The words of a text, with a space between them.
-pub(crate) fn words_of(alloc: Global, text: &str) -> Result<Vec<String>, AllocError> {
-    let mut words = Vec::new(alloc);
-    for word in text.split(' ') {
-        words.push(String::from_str(alloc, word)?)?;
-    }
-    Ok(words)
-}
-
-// A source that gives nothing.
-fn nothing(alloc: Global) -> MemSource {
-    MemSource::of(Vec::new(alloc), 1, Vec::new(alloc))
-}
-
-/// A disk with an empty spool.
-pub(crate) fn formatted<R: Threads + Wait + Sync>(
-    rt: &R,
-    alloc: Global,
-) -> Result<MemDisk, AllocError> {
-    let disk = MemDisk::of(vec![in alloc; 0; 20_480]?, Vec::new(alloc));
-    let mut net = MemNet::of(alloc, Vec::new(alloc), Vec::new(alloc), Vec::new(alloc));
-    let mut output = MemSink::of(alloc, Vec::new(alloc));
-    let words = words_of(alloc, "format 2 4096")?;
-    let Ended { disk, .. } = bridge(
-        rt,
-        alloc,
-        &words,
-        disk,
-        &mut nothing(alloc),
-        &mut output,
-        &mut net,
-    );
-    Ok(disk)
-}
-
-// The events that a disk's spool holds as pending, a line each.
-fn listed<R: Threads + Wait + Sync>(
-    rt: &R,
-    alloc: Global,
-    disk: MemDisk,
-) -> Result<Vec<u8>, AllocError> {
-    let disk = MemDisk::of(disk.bytes().to_vec(alloc)?, Vec::new(alloc));
-    let mut net = MemNet::of(alloc, Vec::new(alloc), Vec::new(alloc), Vec::new(alloc));
-    let mut output = MemSink::of(alloc, Vec::new(alloc));
-    let words = words_of(alloc, "list --as relp")?;
-    bridge(
-        rt,
-        alloc,
-        &words,
-        disk,
-        &mut nothing(alloc),
-        &mut output,
-        &mut net,
-    );
-    output.taken().to_vec(alloc)
-}
-
-/// What is answered to a link next, and the events that it acknowledges.
-struct Answer {
-    text: &'static [u8],
-    events: &'static [&'static [u8]],
-}
-
-/// A place, what its one link gives, and the answers.
-struct Place {
-    name: &'static str,
-    input: &'static [u8],
-    answers: &'static [Answer],
-}
-
-const RELP: &[u8] =
-    b"1 open 50 relp_version=0\nrelp_software=a,1,b\ncommands=syslog\n2 syslog 5 first\n3 syslog 6 second\n";
-
-const LUMBERJACK: &[u8] =
-    b"2W\0\0\0\x032J\0\0\0\x01\0\0\0\x07{\"a\":1}2J\0\0\0\x02\0\0\0\x07{\"a\":2}2J\0\0\0\x03\0\0\0\x07{\"a\":3}";
-
-const HEC: &[u8] =
-    b"POST /services/collector/event HTTP/1.1\r\nAuthorization: Splunk 11111111-2222-3333-4444-555555555555\r\nContent-Length: 26\r\n\r\n{\"event\":\"b\"}{\"event\":\"c\"}";
-
-const PLACES: [Place; 3] = [
-    Place {
-        name: "r",
-        input: RELP,
-        answers: &[
-            Answer {
-                text: OPENED,
-                events: &[],
-            },
-            Answer {
-                text: b"2 rsp 6 200 OK\n",
-                events: &[b"first"],
-            },
-            Answer {
-                text: b"3 rsp 6 200 OK\n",
-                events: &[b"second"],
-            },
-        ],
-    },
-    Place {
-        name: "l",
-        input: LUMBERJACK,
-        answers: &[Answer {
-            text: b"2A\0\0\0\x03",
-            events: &[b"{\"a\":1}", b"{\"a\":2}", b"{\"a\":3}"],
-        }],
-    },
-    Place {
-        name: "h",
-        input: HEC,
-        answers: &[Answer {
-            text: b"HTTP/1.1 200 OK\r\nContent-Type: application/json\r\nContent-Length: 27\r\n\r\n{\"text\":\"Success\",\"code\":0}",
-            events: &[b"{\"event\":\"b\"}", b"{\"event\":\"c\"}"],
-        }],
-    },
-];
-
-const WORDS: &str =
-    "serve --relp r --lumberjack l --hec h --workers 1 --talks 1 --token 11111111-2222-3333-4444-555555555555 --forward relp --to d";
-
-const REPLIES: &[u8] =
-    b"1 rsp 6 200 OK\n2 rsp 6 200 OK\n3 rsp 6 200 OK\n4 rsp 6 200 OK\n5 rsp 6 200 OK\n6 rsp 6 200 OK\n7 rsp 6 200 OK\n8 rsp 6 200 OK\n9 rsp 6 200 OK\n";
-
-/// The objects that a run uses. Those of a door and its link are named by the place, as it stands in `PLACES`.
-#[derive(Clone, Copy, PartialEq, Eq, Debug)]
-enum Object {
-    Disk,
-    Accept(u8),
-    Read(u8),
-    Write(u8),
-    /// The binds, and then the dials.
-    Net,
-    PeerRead,
-    PeerWrite,
-    Output,
-}
-
-/// A call that fails: whose, and its number from 0. None: no call fails.
-type Failing = Option<(Object, u64)>;
-
-// The calls of an object that fail.
-fn calls_of(alloc: Global, failing: Failing, object: Object) -> Result<Vec<u64>, AllocError> {
-    let mut numbers = Vec::new(alloc);
-    if let Some((its, number)) = failing {
-        if its == object {
-            numbers.push(number)?;
-        }
-    }
-    Ok(numbers)
-}
-
-// The door at which the link of a place comes in.
-fn door(alloc: Global, place: &Place, number: u8, failing: Failing) -> Result<MemDoor, AllocError>
-    ensures { IfOk result IsUntouched }
-{
-    let source = MemSource::of(
-        place.input.to_vec(alloc)?,
-        100,
-        calls_of(alloc, failing, Object::Read(number))?,
-    );
-    let sink = MemSink::of(alloc, calls_of(alloc, failing, Object::Write(number))?);
-    let mut links = Vec::new(alloc);
-    links.push(MemLink::of(source, sink))?;
-    Ok(MemDoor::of(
-        alloc,
-        links,
-        calls_of(alloc, failing, Object::Accept(number))?,
-    ))
-}
-
-// A place of the net, with its door.
-fn mem_place(
-    alloc: Global,
-    place: &Place,
-    number: u8,
-    failing: Failing,
-) -> Result<MemPlace, AllocError> {
-    let mut doors = Vec::new(alloc);
-    doors.push(door(alloc, place, number, failing)?)?;
-    Ok(MemPlace {
-        place: String::from_str(alloc, place.name)?,
-        doors,
-    })
-}
-
-// The net: the places, and the peer that is dialed.
-fn net(alloc: Global, failing: Failing) -> Result<MemNet, AllocError> {
-    let mut places = Vec::new(alloc);
-    for (number, at) in PLACES.iter().enumerate() {
-        places.push(mem_place(alloc, at, (number % 3) as u8, failing)?)?;
-    }
-    let mut scripts = Vec::new(alloc);
-    scripts.push(MemScript {
-        place: String::from_str(alloc, "d")?,
-        bytes: REPLIES.to_vec(alloc)?,
-        reads: calls_of(alloc, failing, Object::PeerRead)?,
-        writes: calls_of(alloc, failing, Object::PeerWrite)?,
-    })?;
-    Ok(MemNet::of(
-        alloc,
-        places,
-        scripts,
-        calls_of(alloc, failing, Object::Net)?,
-    ))
-}
 
 /// What a run left.
 #[derive(Drop)]
@@ -318,23 +112,86 @@ fn lines(bytes: &[u8]) -> u64 {
     count
 }
 
-// Whether nothing was printed, or a line that says how many are left.
-fn is_printed(alloc: Global, left: &Left) -> Result<bool, AllocError> {
-    let end = format!(in alloc; ", {} left\n", lines(&left.pending))?;
-    Ok(left.printed.is_empty() || left.printed.ends_with(end.as_bytes()))
+// Whether the line that was printed says that so many are left.
+fn says_left(alloc: Global, left: &Left, count: u64) -> Result<bool, AllocError> {
+    let end = format!(in alloc; ", {count} left\n")?;
+    Ok(left.printed.ends_with(end.as_bytes()))
 }
 
-// Whether a run may end so where that call fails. How talks end, and sessions before the last one, doesn't count.
+// Whether the line says how many are pending. At a fault of the disk it may say more, at most all events: the last change may have
+// failed at the disk and stand there all the same, so that the disk may read fewer pending lines than the line counted.
+fn counts_left(alloc: Global, left: &Left) -> Result<bool, AllocError> {
+    let pending = lines(&left.pending);
+    let most = if left.note == Note::DiskFault {
+        EVENTS
+    } else {
+        pending
+    };
+    for count in pending..=most {
+        if says_left(alloc, left, count)? {
+            return Ok(true);
+        }
+    }
+    Ok(false)
+}
+
+// Whether a run prints nothing where that call fails: the print itself fails, or no worker began.
+fn may_be_silent(object: Object, number: u64, note: Note) -> bool {
+    match object {
+        Object::Output => true,
+        Object::Net => number < 3,
+        Object::Disk => note == Note::DiskFault,
+        Object::Accept(_)
+        | Object::Read(_)
+        | Object::Write(_)
+        | Object::PeerRead
+        | Object::PeerWrite => false,
+    }
+}
+
+// Whether the line was printed, or nothing where that may be.
+fn is_printed(alloc: Global, object: Object, number: u64, left: &Left) -> Result<bool, AllocError> {
+    if left.printed.is_empty() {
+        return Ok(may_be_silent(object, number, left.note));
+    }
+    counts_left(alloc, left)
+}
+
+// Whether a run may end so where that call fails. How talks end, and sessions before the last one, doesn't count. The first call of
+// the disk opens the spool, and the first ones of a link to the peer are made in each session.
 fn may_end(object: Object, number: u64, note: Note) -> bool {
     match object {
+        Object::Disk if number == 0 => note == Note::DiskFault,
         Object::Disk => note == Note::Fine || note == Note::DiskFault,
         Object::Accept(_) => note == Note::NetFault,
         Object::Read(_) | Object::Write(_) => note == Note::Fine,
         Object::Net if number < 3 => note == Note::NetFault,
         Object::Net => note == Note::Fine || note == Note::NetFault,
+        Object::PeerRead if number == 0 => note == Note::ReadFault,
         Object::PeerRead => note == Note::Fine || note == Note::ReadFault,
+        Object::PeerWrite if number == 0 => note == Note::WriteFault,
         Object::PeerWrite => note == Note::Fine || note == Note::WriteFault,
         Object::Output => note == Note::WriteFault,
+    }
+}
+
+// Whether the talk at this place ended with this status.
+fn ends_talk(left: &Left, place: u8, status: u8) -> bool {
+    let Some(door) = left.doors.get(usize::from(place)) else {
+        return false;
+    };
+    match door.talks().get(0) {
+        Some(talk) => talk.status == status,
+        None => false,
+    }
+}
+
+// Whether a talk whose first read or first write fails ended with the status of that.
+fn reports_fault(object: Object, number: u64, left: &Left) -> bool {
+    match object {
+        Object::Read(place) if number == 0 => ends_talk(left, place, 71),
+        Object::Write(place) if number == 0 => ends_talk(left, place, 72),
+        _ => true,
     }
 }
 
@@ -349,11 +206,11 @@ fn fail_each<R: Abort + Threads + Wait + Sync>(
         let left = run(rt, alloc, Some((object, number)))?;
         let note = left.note;
         assert!(rt;
-            may_end(object, number, note),
+            may_end(object, number, note) && reports_fault(object, number, &left),
             "{object:?} {number}: {note:?}"
         );
         assert!(rt;
-            are_kept(&left) && is_printed(alloc, &left)?,
+            are_kept(&left) && is_printed(alloc, object, number, &left)?,
             "{object:?} {number}"
         );
     }

@@ -33,7 +33,8 @@ const LUMBERJACK: &[Turn] = &[
 
 const HEC: &[Turn] = &[
     (
-        b"POST /services/collector HTTP/1.1\r\nAuthorization: Splunk 11111111-2222-3333-4444-555555555555\r\nContent-Length: 13\r\nExpect: 100-continue\r\n\r\n",
+        b"POST /services/collector HTTP/1.1\r\nAuthorization: Splunk 11111111-2222-3333-4444-555555555555\r\n\
+        Content-Length: 13\r\nExpect: 100-continue\r\n\r\n",
         b"HTTP/1.1 100 Continue\r\n\r\n",
     ),
     (
@@ -42,7 +43,8 @@ const HEC: &[Turn] = &[
     ),
     (
         b"GET /services/collector/health HTTP/1.1\r\n\r\n",
-        b"HTTP/1.1 200 OK\r\nContent-Type: application/json\r\nContent-Length: 35\r\n\r\n{\"text\":\"HEC is healthy\",\"code\":17}",
+        b"HTTP/1.1 200 OK\r\nContent-Type: application/json\r\nContent-Length: 35\r\n\r\n\
+        {\"text\":\"HEC is healthy\",\"code\":17}",
     ),
 ];
 

@@ -1,6 +1,8 @@
 //! The rows of each protocol, and a failing disk.
+ghost use Rattle.std.specs.Prelude.{◌<◌, IfOk, IfSome};
+
 use crate::harness::{Failing, NONE, Part, Row, device, joined, serve};
-use crate::{hec_rows, lumberjack_rows, relp_rows};
+use crate::{hec_endings, hec_refused, hec_rows, lumberjack_endings, lumberjack_rows, relp_rows};
 use edge_io::Proto;
 use event_form::{Attended, Talk};
 use std::process::Abort;
@@ -85,48 +87,50 @@ const FAULTY: [Faulty; 3] = [
     },
 ];
 
+// Serves a row over a disk of which that call fails, and answers how many of the two takes were answered where that ended the
+// connection. None: the device wasn't opened, or the call that fails comes after the connection.
+fn takes_before(
+    rt: &(impl Abort + AllocGlobal),
+    row: &Faulty,
+    call: u64,
+) -> Result<Option<usize>, Fail>
+    ensures { IfOk result (λ takes. IfSome takes (λ n. n < 3)) }
+{
+    let alloc = rt.alloc();
+    let calls = [call];
+    let failing = Failing {
+        disk: &calls,
+        ..NONE
+    };
+    let input = row.input.to_vec(alloc)?;
+    let Some(left) = serve(alloc, row.proto, device(alloc, 4096)?, input, 1000, failing)? else {
+        return Ok(None);
+    };
+    let Attended { talk, taken } = left.attended;
+    let takes = row.written.iter().position(|(count, _)| *count == taken);
+    let takes = takes.ok_or("another count")?;
+    assert_eq!(rt;
+        left.written.as_slice(),
+        row.written[takes].1,
+        "call {call}"
+    );
+    if talk == Talk::DiskFault {
+        assert!(rt; left.count as u64 >= taken, "call {call}");
+        return Ok(Some(takes));
+    }
+    assert_eq!(rt; (talk, takes), (Talk::Ended, 2), "call {call}");
+    Ok(None)
+}
+
 // Whichever call of the disk fails, nothing is answered that isn't there, and nothing is written after
 // the answers. Each of the two takes makes four calls.
 #[test]
 fn a_failed_call_of_the_disk_ends_the_connection(rt: HostRuntime) -> Result<(), Fail> {
-    let alloc = rt.alloc();
     for row in &FAULTY {
-        let Faulty {
-            proto,
-            input,
-            written,
-        } = row;
         let mut faults = [0_u32; 3];
         for call in 0..40 {
-            let call = [call];
-            let failing = Failing {
-                disk: &call,
-                ..NONE
-            };
-            let device = device(alloc, 4096)?;
-            let Some(left) = serve(alloc, *proto, device, input.to_vec(alloc)?, 1000, failing)?
-            else {
-                continue;
-            };
-            let takes = written
-                .iter()
-                .position(|(taken, _)| *taken == left.attended.taken);
-            let takes = takes.ok_or("another count")?;
-            assert_eq!(rt;
-                left.written.as_slice(),
-                written[takes].1,
-                "call {}",
-                call[0]
-            );
-            if left.attended.talk == Talk::DiskFault {
+            if let Some(takes) = takes_before(&rt, row, call)? {
                 faults[takes] = faults[takes].saturating_add(1);
-            } else {
-                assert_eq!(rt;
-                    (left.attended.talk, takes),
-                    (Talk::Ended, 2),
-                    "call {}",
-                    call[0]
-                );
             }
         }
         assert_eq!(rt; faults, [4, 4, 0]);
@@ -141,14 +145,15 @@ fn relp_is_served(rt: HostRuntime) -> Result<(), Fail> {
 
 #[test]
 fn lumberjack_is_served(rt: HostRuntime) -> Result<(), Fail> {
-    check(&rt, Proto::Lumberjack, &lumberjack_rows::ROWS)
+    check(&rt, Proto::Lumberjack, &lumberjack_rows::ROWS)?;
+    check(&rt, Proto::Lumberjack, &lumberjack_endings::ENDINGS)
 }
 
 #[test]
 fn the_collector_is_served(rt: HostRuntime) -> Result<(), Fail> {
     check(&rt, Proto::Hec, &hec_rows::ROWS)?;
-    check(&rt, Proto::Hec, &hec_rows::REFUSED)?;
-    check(&rt, Proto::Hec, &hec_rows::ENDINGS)
+    check(&rt, Proto::Hec, &hec_refused::REFUSED)?;
+    check(&rt, Proto::Hec, &hec_endings::ENDINGS)
 }
 
 // A connection that isn't closed goes on, whatever number of requests came.

@@ -8,7 +8,13 @@ mod connections;
 #[cfg(test)]
 mod harness;
 #[cfg(test)]
+mod hec_endings;
+#[cfg(test)]
+mod hec_refused;
+#[cfg(test)]
 mod hec_rows;
+#[cfg(test)]
+mod lumberjack_endings;
 #[cfg(test)]
 mod lumberjack_rows;
 #[cfg(test)]

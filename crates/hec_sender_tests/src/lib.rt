@@ -3,9 +3,15 @@
 #![tactic(auto)]
 
 #[cfg(test)]
+mod confirmed_rows;
+#[cfg(test)]
 mod driven;
 #[cfg(test)]
+mod long_rows;
+#[cfg(test)]
 mod peer;
+#[cfg(test)]
+mod refused_rows;
 #[cfg(test)]
 mod rows;
 #[cfg(test)]

@@ -1,9 +1,14 @@
+//! Whole sessions: what is written to a collector, and the turns, by rows.
+use crate::confirmed_rows::CONFIRMED;
 use crate::driven::{Driven, FIRST};
+use crate::long_rows::LONG_ROWS;
 use crate::peer::{event_request_size, replies, requests};
-use crate::rows::{Entries, LONG_ROWS, ROWS};
+use crate::refused_rows::REFUSED;
+use crate::rows::{Entries, LongRow, Row};
 use event_form::Turn;
 use std::alloc::{AllocError, Global};
-use std::test::*;
+use std::process::Abort;
+use std::test::Fail;
 
 /// What was written, how long each text was, and the turns.
 #[derive(Drop)]
@@ -75,10 +80,10 @@ fn send(
     Ok(session)
 }
 
-#[test]
-fn requests_are_written_and_confirmed(rt: HostRuntime) -> Result<(), Fail> {
+// Sessions of few requests, with the collector's bytes in pieces of each size.
+fn check(rt: &(impl Abort + AllocGlobal), rows: &[Row]) -> Result<(), Fail> {
     let alloc = rt.alloc();
-    for (polls, entries, answers, more, written, turns) in ROWS {
+    for (polls, entries, answers, more, written, turns) in rows {
         let mut peer = replies(alloc, answers)?;
         peer.extend_from_slice(more)?;
         let expected = requests(alloc, written)?;
@@ -92,7 +97,13 @@ fn requests_are_written_and_confirmed(rt: HostRuntime) -> Result<(), Fail> {
             );
         }
     }
-    for (entries, answers, bodies, turns) in LONG_ROWS {
+    Ok(())
+}
+
+// Sessions of several requests, and how long these are.
+fn check_long(rt: &(impl Abort + AllocGlobal), rows: &[LongRow]) -> Result<(), Fail> {
+    let alloc = rt.alloc();
+    for (entries, answers, bodies, turns) in rows {
         let peer = replies(alloc, answers)?;
         let session = send(alloc, 1, entries, &peer, 4096)?;
         assert_eq!(rt; session.turns.as_str(), *turns);
@@ -102,4 +113,11 @@ fn requests_are_written_and_confirmed(rt: HostRuntime) -> Result<(), Fail> {
         }
     }
     Ok(())
+}
+
+#[test]
+fn requests_are_written_and_confirmed(rt: HostRuntime) -> Result<(), Fail> {
+    check(&rt, CONFIRMED)?;
+    check(&rt, REFUSED)?;
+    check_long(&rt, LONG_ROWS)
 }

@@ -1,244 +1,143 @@
-use super::{
-    A, ACK_TOKEN, ACK_TOKEN_IS_A, CHANNEL_IS_A, COLLECTOR, T, TOKEN, are_none, is_place,
-    named_words,
-};
-use bridge_words::{Command, Need, Receiver, Relay, WordsFault, need_of, wrong_words};
+//! The words of `serve`.
+use super::{ACK_TOKEN, ASKED_OFTEN, COLLECTOR, TOKEN, are_no_commands, is_place, words_after};
+use bridge_words::{Command, Need, Receiver, Relay, Server, WordsFault, need_of, wrong_words};
 use std::alloc::Global;
 use std::test::Fail;
+
+// What the words of `serve` ask for: the places of RELP, of Lumberjack and of the collector, of which an empty text is none; workers;
+// connections of each; the token and the token with acks; and the receiver with its place.
+#[derive(Clone, Copy)]
+struct Asked {
+    places: [&'static str; 3],
+    workers: u32,
+    talks: u32,
+    tokens: [Option<u128>; 2],
+    forward: Option<(Receiver, &'static str)>,
+}
 
 // As many connections as a worker serves where the words say nothing.
 const MOST: u32 = 67_108_864;
 
-// What follows `serve`, and what it asks for: the places of RELP, of Lumberjack and of the collector, workers,
-// connections, the token and the token with acks, and the receiver with its place. An empty text is no place.
-const SERVES: [(
-    &[&str],
-    [&str; 3],
-    u32,
-    u32,
-    [Option<u128>; 2],
-    Option<Receiver>,
-    &str,
-); 20] = [
+// RELP at one place, and nothing else is said.
+const AT_P: Asked = Asked {
+    places: ["p", "", ""],
+    workers: 4,
+    talks: MOST,
+    tokens: [None, None],
+    forward: None,
+};
+
+// What follows `serve`, and what it asks for.
+const SERVES: &[(&str, Asked)] = &[
+    ("--relp p", AT_P),
     (
-        &["--relp", "p"],
-        ["p", "", ""],
-        4,
-        MOST,
-        [None, None],
-        None,
-        "",
+        "--lumberjack logs.example:5044",
+        Asked {
+            places: ["", "logs.example:5044", ""],
+            ..AT_P
+        },
     ),
     (
-        &["--lumberjack", "logs.example:5044"],
-        ["", "logs.example:5044", ""],
-        4,
-        MOST,
-        [None, None],
-        None,
-        "",
+        "--hec=0.0.0.0:8088",
+        Asked {
+            places: ["", "", "0.0.0.0:8088"],
+            ..AT_P
+        },
     ),
     (
-        &["--hec=0.0.0.0:8088"],
-        ["", "", "0.0.0.0:8088"],
-        4,
-        MOST,
-        [None, None],
-        None,
-        "",
+        "--hec h --relp=r --lumberjack l",
+        Asked {
+            places: ["r", "l", "h"],
+            ..AT_P
+        },
     ),
     (
-        &["--hec", "h", "--relp=r", "--lumberjack", "l"],
-        ["r", "l", "h"],
-        4,
-        MOST,
-        [None, None],
-        None,
-        "",
+        "--relp p --hec p",
+        Asked {
+            places: ["p", "", "p"],
+            ..AT_P
+        },
+    ),
+    ("--relp p --", AT_P),
+    (
+        "--relp -",
+        Asked {
+            places: ["-", "", ""],
+            ..AT_P
+        },
     ),
     (
-        &["--relp", "p", "--hec", "p"],
-        ["p", "", "p"],
-        4,
-        MOST,
-        [None, None],
-        None,
-        "",
+        "--relp=-x",
+        Asked {
+            places: ["-x", "", ""],
+            ..AT_P
+        },
+    ),
+    ("--relp p --workers 1", Asked { workers: 1, ..AT_P }),
+    (
+        "--workers=0000000016 --relp=p",
+        Asked {
+            workers: 16,
+            ..AT_P
+        },
+    ),
+    ("--talks 1 --relp p", Asked { talks: 1, ..AT_P }),
+    ("--relp p --talks=67108864", AT_P),
+    (
+        "--hec h --token $T --ack-token=$A",
+        Asked {
+            places: ["", "", "h"],
+            tokens: [Some(TOKEN), Some(ACK_TOKEN)],
+            ..AT_P
+        },
     ),
     (
-        &["--relp", "p", "--"],
-        ["p", "", ""],
-        4,
-        MOST,
-        [None, None],
-        None,
-        "",
+        "--relp p --ack-token $A",
+        Asked {
+            tokens: [None, Some(ACK_TOKEN)],
+            ..AT_P
+        },
     ),
     (
-        &["--relp", "-"],
-        ["-", "", ""],
-        4,
-        MOST,
-        [None, None],
-        None,
-        "",
+        "--relp p --forward relp --to d",
+        Asked {
+            forward: Some((Receiver::Relp, "d")),
+            ..AT_P
+        },
     ),
     (
-        &["--relp=-x"],
-        ["-x", "", ""],
-        4,
-        MOST,
-        [None, None],
-        None,
-        "",
+        "--to=d --relp=p --forward=lumberjack --talks=2 --workers=3",
+        Asked {
+            workers: 3,
+            talks: 2,
+            forward: Some((Receiver::Lumberjack, "d")),
+            ..AT_P
+        },
     ),
     (
-        &["--relp", "p", "--workers", "1"],
-        ["p", "", ""],
-        1,
-        MOST,
-        [None, None],
-        None,
-        "",
+        "--relp=p --forward=hec --to d --out-token $T --out-channel=$A",
+        Asked {
+            forward: Some((COLLECTOR, "d")),
+            ..AT_P
+        },
     ),
     (
-        &["--workers=0000000016", "--relp=p"],
-        ["p", "", ""],
-        16,
-        MOST,
-        [None, None],
-        None,
-        "",
+        "--out-channel $T --out-token $A --polls=1000 --to=d --forward=hec --hec=h --token $A",
+        Asked {
+            places: ["", "", "h"],
+            tokens: [Some(ACK_TOKEN), None],
+            forward: Some((ASKED_OFTEN, "d")),
+            ..AT_P
+        },
     ),
     (
-        &["--talks", "1", "--relp", "p"],
-        ["p", "", ""],
-        4,
-        1,
-        [None, None],
-        None,
-        "",
+        "--relp p --forward relp --to=d --out-token $T --polls 1",
+        Asked {
+            forward: Some((Receiver::Relp, "d")),
+            ..AT_P
+        },
     ),
-    (
-        &["--relp", "p", "--talks=67108864"],
-        ["p", "", ""],
-        4,
-        MOST,
-        [None, None],
-        None,
-        "",
-    ),
-    (
-        &["--hec", "h", "--token", T, ACK_TOKEN_IS_A],
-        ["", "", "h"],
-        4,
-        MOST,
-        [Some(TOKEN), Some(ACK_TOKEN)],
-        None,
-        "",
-    ),
-    (
-        &["--relp", "p", "--ack-token", A],
-        ["p", "", ""],
-        4,
-        MOST,
-        [None, Some(ACK_TOKEN)],
-        None,
-        "",
-    ),
-    (
-        &["--relp", "p", "--forward", "relp", "--to", "d"],
-        ["p", "", ""],
-        4,
-        MOST,
-        [None, None],
-        Some(Receiver::Relp),
-        "d",
-    ),
-    (
-        &[
-            "--to=d",
-            "--relp=p",
-            "--forward=lumberjack",
-            "--talks=2",
-            "--workers=3",
-        ],
-        ["p", "", ""],
-        3,
-        2,
-        [None, None],
-        Some(Receiver::Lumberjack),
-        "d",
-    ),
-    (
-        &[
-            "--relp=p",
-            "--forward=hec",
-            "--to",
-            "d",
-            "--out-token",
-            T,
-            CHANNEL_IS_A,
-        ],
-        ["p", "", ""],
-        4,
-        MOST,
-        [None, None],
-        Some(COLLECTOR),
-        "d",
-    ),
-    (
-        &[
-            "--out-channel",
-            T,
-            "--out-token",
-            A,
-            "--polls=1000",
-            "--to=d",
-            "--forward=hec",
-            "--hec=h",
-            "--token",
-            A,
-        ],
-        ["", "", "h"],
-        4,
-        MOST,
-        [Some(ACK_TOKEN), None],
-        Some(Receiver::Hec {
-            token: ACK_TOKEN,
-            channel: TOKEN,
-            polls: 1000,
-        }),
-        "d",
-    ),
-    (
-        &[
-            "--relp",
-            "p",
-            "--forward",
-            "relp",
-            "--to=d",
-            "--out-token",
-            T,
-            "--polls",
-            "1",
-        ],
-        ["p", "", ""],
-        4,
-        MOST,
-        [None, None],
-        Some(Receiver::Relp),
-        "d",
-    ),
-    (
-        &["--relp", "p", "--out-token", T, CHANNEL_IS_A, "--polls=7"],
-        ["p", "", ""],
-        4,
-        MOST,
-        [None, None],
-        None,
-        "",
-    ),
+    ("--relp p --out-token $T --out-channel=$A --polls=7", AT_P),
 ];
 
 fn place_of(text: &str) -> Option<&str> {
@@ -246,33 +145,44 @@ fn place_of(text: &str) -> Option<&str> {
 }
 
 // Whether it is forwarded to this receiver at this place, or not at all.
-fn is_relay(forward: Option<Relay>, want: Option<Receiver>, want_place: &str) -> bool {
-    match forward {
-        Some(relay) => Some(relay.receiver) == want && relay.place.as_str() == want_place,
-        None => want == None && want_place.is_empty(),
+fn is_relay(forward: Option<Relay>, want: Option<(Receiver, &str)>) -> bool {
+    match (forward, want) {
+        (None, None) => true,
+        (Some(relay), Some((receiver, place))) => {
+            relay.receiver == receiver && relay.place.as_str() == place
+        }
+        _ => false,
     }
 }
 
+fn is_server(server: Server, want: &Asked) -> bool {
+    let Server {
+        relp,
+        lumberjack,
+        hec,
+        workers,
+        talks,
+        token,
+        ack_token,
+        forward,
+    } = server;
+    let [at_relp, at_lumberjack, at_hec] = want.places;
+    workers == want.workers
+        && talks == want.talks
+        && [token, ack_token] == want.tokens
+        && is_place(relp, place_of(at_relp))
+        && is_place(lumberjack, place_of(at_lumberjack))
+        && is_place(hec, place_of(at_hec))
+        && is_relay(forward, want.forward)
+}
+
 pub(crate) fn serves(alloc: Global) -> Result<bool, Fail> {
-    for (after, places, workers, talks, tokens, receiver, to) in SERVES {
-        let words = named_words(alloc, "serve", after)?;
+    for (text, want) in SERVES {
+        let words = words_after(alloc, "serve", text)?;
         let Some(Command::Serve { server }) = Command::of(alloc, &words)? else {
             return Ok(false);
         };
-        if server.workers != workers || server.talks != talks {
-            return Ok(false);
-        }
-        if [server.token, server.ack_token] != tokens {
-            return Ok(false);
-        }
-        let [relp, lumberjack, hec] = places;
-        if !is_place(server.relp, place_of(relp))
-            || !is_place(server.lumberjack, place_of(lumberjack))
-            || !is_place(server.hec, place_of(hec))
-        {
-            return Ok(false);
-        }
-        if !is_relay(server.forward, receiver, to) {
+        if !is_server(server, want) {
             return Ok(false);
         }
         if need_of(alloc, &words)? != Need::Existing || wrong_words(alloc, &words)? != None {
@@ -283,79 +193,62 @@ pub(crate) fn serves(alloc: Global) -> Result<bool, Fail> {
 }
 
 // What follows `serve` in words that are no command, and why they are none.
-const NO_SERVES: [(&[&str], WordsFault); 41] = [
-    (&[], WordsFault::NoDoor),
-    (&["--"], WordsFault::NoDoor),
-    (&["--workers", "1", "--talks", "1"], WordsFault::NoDoor),
-    (&["--token", T], WordsFault::NoDoor),
-    (&["--forward", "relp", "--to", "d"], WordsFault::NoDoor),
-    (&["--relp", ""], WordsFault::Place),
-    (&["--lumberjack="], WordsFault::Place),
-    (&["--relp", "p", "--hec="], WordsFault::Place),
-    (&["--relp"], WordsFault::MissingValue),
-    (&["--relp", "--hec", "h"], WordsFault::MissingValue),
-    (&["--relp", "--", "p"], WordsFault::UnknownWord),
-    (&["p"], WordsFault::UnknownWord),
-    (&["relp", "p"], WordsFault::UnknownWord),
-    (&["--relp", "p", "q"], WordsFault::UnknownWord),
-    (&["--", "--relp", "p"], WordsFault::UnknownWord),
-    (&["--relp", "p", "--relp", "p"], WordsFault::GivenTwice),
-    (&["--relp=p", "--as=json"], WordsFault::UnknownWord),
-    (&["--relp=p", "--work=4"], WordsFault::UnknownWord),
-    (&["--relp=p", "--workers", "0"], WordsFault::Workers),
-    (&["--relp=p", "--workers", "17"], WordsFault::Workers),
-    (&["--relp=p", "--workers=x"], WordsFault::Workers),
-    (&["--relp=p", "--workers=00000000004"], WordsFault::Workers),
+const NO_SERVES: &[(&str, WordsFault)] = &[
+    ("", WordsFault::NoDoor),
+    ("--", WordsFault::NoDoor),
+    ("--workers 1 --talks 1", WordsFault::NoDoor),
+    ("--token $T", WordsFault::NoDoor),
+    ("--forward relp --to d", WordsFault::NoDoor),
+    ("--relp ''", WordsFault::Place),
+    ("--lumberjack=", WordsFault::Place),
+    ("--relp p --hec=", WordsFault::Place),
+    ("--relp", WordsFault::MissingValue),
+    ("--relp --hec h", WordsFault::MissingValue),
+    ("--relp -- p", WordsFault::UnknownWord),
+    ("p", WordsFault::UnknownWord),
+    ("relp p", WordsFault::UnknownWord),
+    ("--relp p q", WordsFault::UnknownWord),
+    ("-- --relp p", WordsFault::UnknownWord),
+    ("--relp p --relp p", WordsFault::GivenTwice),
+    ("--relp=p --as=json", WordsFault::UnknownWord),
+    ("--relp=p --work=4", WordsFault::UnknownWord),
+    ("--relp=p --workers 0", WordsFault::Workers),
+    ("--relp=p --workers 17", WordsFault::Workers),
+    ("--relp=p --workers=x", WordsFault::Workers),
+    ("--relp=p --workers=00000000004", WordsFault::Workers),
+    ("--relp=p --workers=4 --workers=4", WordsFault::GivenTwice),
+    ("--relp=p --talks 0", WordsFault::Talks),
+    ("--relp=p --talks 67108865", WordsFault::Talks),
+    ("--relp=p --talks=", WordsFault::Talks),
+    ("--relp=p --token zz", WordsFault::Token),
+    ("--relp=p --ack-token=zz", WordsFault::AckToken),
+    ("--relp=p --forward relp", WordsFault::NoTo),
+    ("--relp=p --to d", WordsFault::NoForward),
     (
-        &["--relp=p", "--workers=4", "--workers=4"],
-        WordsFault::GivenTwice,
-    ),
-    (&["--relp=p", "--talks", "0"], WordsFault::Talks),
-    (&["--relp=p", "--talks", "67108865"], WordsFault::Talks),
-    (&["--relp=p", "--talks="], WordsFault::Talks),
-    (&["--relp=p", "--token", "zz"], WordsFault::Token),
-    (&["--relp=p", "--ack-token=zz"], WordsFault::AckToken),
-    (&["--relp=p", "--forward", "relp"], WordsFault::NoTo),
-    (&["--relp=p", "--to", "d"], WordsFault::NoForward),
-    (
-        &["--relp=p", "--to=d", "--out-token", T, CHANNEL_IS_A],
+        "--relp=p --to=d --out-token $T --out-channel=$A",
         WordsFault::NoForward,
     ),
+    ("--relp=p --forward relp --to=", WordsFault::Place),
+    ("--relp=p --forward RELP --to=d", WordsFault::Proto),
+    ("--relp=p --forward hec", WordsFault::NoTo),
+    ("--relp=p --forward=hec --to=d", WordsFault::NoOutToken),
     (
-        &["--relp=p", "--forward", "relp", "--to="],
-        WordsFault::Place,
-    ),
-    (
-        &["--relp=p", "--forward", "RELP", "--to=d"],
-        WordsFault::Proto,
-    ),
-    (&["--relp=p", "--forward", "hec"], WordsFault::NoTo),
-    (
-        &["--relp=p", "--forward=hec", "--to=d"],
+        "--relp=p --forward=hec --to=d --out-channel=$A",
         WordsFault::NoOutToken,
     ),
     (
-        &["--relp=p", "--forward=hec", "--to=d", CHANNEL_IS_A],
-        WordsFault::NoOutToken,
-    ),
-    (
-        &["--relp=p", "--forward=hec", "--to=d", "--out-token", T],
+        "--relp=p --forward=hec --to=d --out-token $T",
         WordsFault::NoOutChannel,
     ),
-    (&["--relp=p", "--out-token", "zz"], WordsFault::OutToken),
-    (&["--relp=p", "--out-channel", "zz"], WordsFault::OutChannel),
-    (&["--relp=p", "--polls", "0"], WordsFault::Polls),
+    ("--relp=p --out-token zz", WordsFault::OutToken),
+    ("--relp=p --out-channel zz", WordsFault::OutChannel),
+    ("--relp=p --polls 0", WordsFault::Polls),
     (
-        &["--relp=p", "--forward=relp", "--to=d", "--polls=1001"],
+        "--relp=p --forward=relp --to=d --polls=1001",
         WordsFault::Polls,
     ),
 ];
 
 pub(crate) fn no_serves(alloc: Global) -> Result<bool, Fail> {
-    for (after, fault) in NO_SERVES {
-        if !are_none(alloc, &named_words(alloc, "serve", after)?, fault)? {
-            return Ok(false);
-        }
-    }
-    Ok(true)
+    are_no_commands(alloc, "serve", NO_SERVES)
 }

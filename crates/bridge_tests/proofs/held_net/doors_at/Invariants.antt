@@ -2,8 +2,8 @@ use Rattle.std.proofs.Common.{◌-◌, ◌≤◌, All, vec_len}
 use Rattle.std.specs.Vec.{vec_capacity}
 use Rattle.edge_io.specs.Door.{IsNewDoor}
 use Rattle.bridge_tests.specs.Held.{door_state}
-use Rattle.bridge_tests.specs.declared.held.HeldDoor.{HeldDoor}
-use Rattle.bridge_tests.proofs.held.doors_at.Given as goal
+use Rattle.bridge_tests.specs.declared.held_net.HeldDoor.{HeldDoor}
+use Rattle.bridge_tests.proofs.held_net.doors_at.Given as goal
 
 abbrev pub invariant-doors : goal.invariant-doors
 invariant-doors l = record {

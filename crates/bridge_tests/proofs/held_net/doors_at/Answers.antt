@@ -2,8 +2,8 @@ use Rattle.std.proofs.Common.{◌∷◌, [], arith}
 use Rattle.std.proofs.lemmas.List.Elements.{All-append, All-cons}
 use Rattle.edge_io.specs.Door.{IsNewDoor}
 use Rattle.bridge_tests.specs.Held.{door_state}
-use Rattle.bridge_tests.specs.declared.held.HeldDoor.{HeldDoor}
-use Rattle.bridge_tests.proofs.held.doors_at.Goals as goal
+use Rattle.bridge_tests.specs.declared.held_net.HeldDoor.{HeldDoor}
+use Rattle.bridge_tests.proofs.held_net.doors_at.Goals as goal
 
 pub doors-preserved : goal.doors-preserved
 doors-preserved c =
