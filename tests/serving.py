@@ -1,6 +1,6 @@
 """What the tests of `serve` share: the server's process, senders of each protocol, and a receiver of RELP.
 
-Python takes it as a module; it tests nothing by itself. Senders and the receiver are written from the protocols, and share nothing
+Python imports it as a module; it tests nothing by itself. Senders and the receiver are written from the protocols, and share nothing
 with bridge.
 """
 import http.client
@@ -105,6 +105,11 @@ class Server:
         status, self.child = self.child.returncode, None
         return status, err.decode()
 
+    def processor_seconds(self):
+        """How long it has had a processor so far."""
+        fields = pathlib.Path(f"/proc/{self.child.pid}/stat").read_text().rsplit(")", 1)[1].split()
+        return (int(fields[11]) + int(fields[12])) / os.sysconf("SC_CLK_TCK")
+
     def list(self):
         """The texts of the events in the spool, while no server has it."""
         done = subprocess.run([self.program, self.spool, "list", "--as", "relp"], check=True, stdout=subprocess.PIPE)
@@ -186,9 +191,9 @@ class RelpReceiver:
     """A receiver of RELP in threads of its own, which keeps what came. Each `drops`th event it answers no more on that connection, and
     says that it ends."""
 
-    def __init__(self, drops=0):
+    def __init__(self, drops=0, port=0):
         self.texts, self.drops, self.links = [], drops, 0
-        self.listener = socket.create_server(("127.0.0.1", 0))
+        self.listener = socket.create_server(("127.0.0.1", port))
         self.port = self.listener.getsockname()[1]
         threading.Thread(target=self.accept, daemon=True).start()
 
@@ -224,6 +229,33 @@ class RelpReceiver:
         return command != b"close"
 
     def close(self):
+        self.listener.close()
+
+
+class ClosingReceiver:
+    """Accepts connections, closes each at once, and counts them; until it refuses them."""
+
+    def __init__(self):
+        self.links = 0
+        self.listener = socket.create_server(("127.0.0.1", 0))
+        self.port = self.listener.getsockname()[1]
+        self.thread = threading.Thread(target=self.accept, daemon=True)
+        self.thread.start()
+
+    def accept(self):
+        while True:
+            try:
+                link, _ = self.listener.accept()
+            except OSError:
+                return
+            self.links += 1
+            link.close()
+
+    def refuse(self):
+        """Accepts no more: whoever connects then is refused."""
+        # (a close alone would leave the accept that waits)
+        self.listener.shutdown(socket.SHUT_RDWR)
+        self.thread.join()
         self.listener.close()
 
 
