@@ -1,6 +1,6 @@
 """What the measurements over spool files share: the program, full spools, times, and bytes that are read.
 
-Python takes it as a module; it measures nothing by itself.
+Python imports it as a module; it measures nothing by itself.
 """
 import contextlib
 import os

@@ -13,6 +13,7 @@ use edge_disk::{Disk, FileDisk, MemDisk};
 use hec_ids::Ids;
 use spool_log::{Opening, Spool, format};
 use std::alloc::Global;
+use std::cmp::OrderedFloat;
 use std::env;
 use std::num::nearest_usize_to_f64;
 use std::rt::Clock;
@@ -33,7 +34,7 @@ const TAKES: u64 = 400_000;
 
 const FILE_TAKES: u64 = 1_600;
 
-const ROUNDS: u32 = 9;
+const ROUNDS: usize = 9;
 
 const CREWS: [u32; 3] = [1, 4, 16];
 
@@ -130,23 +131,46 @@ fn shared<D: Disk + Drop + Send, R: Threads + Wait + Sync + Clock>(
     Ok(time)
 }
 
-/// The best times of one thread alone and of each crew, in runs that take turns.
-fn best<M: Disks, R: Threads + Wait + Sync + Clock>(
+/// What the runs of all rounds took.
+#[derive(Drop)]
+struct Times {
+    /// The best of one thread alone.
+    own: Duration,
+    /// The best of each crew.
+    crews: [Duration; 3],
+    /// The takes a second of the last crew beside those of one thread, the median of the rounds.
+    together: f64,
+}
+
+/// One thread alone and each crew, in runs that take turns.
+fn rounds<M: Disks, R: Threads + Wait + Sync + Clock>(
     rt: &R,
     alloc: Global,
     disks: &M,
     takes: u64,
-) -> anyhow::Result<(Duration, [Duration; 3])> {
+) -> anyhow::Result<Times> {
     let mut own = Duration::MAX;
     let mut crews = [Duration::MAX; 3];
-    for _ in 0..ROUNDS {
+    let mut ratios = [0.0; ROUNDS];
+    for ratio in ratios.iter_mut() {
         own = own.min(alone(rt, alloc, disks.make()?, takes)?);
-        for (seats, best) in CREWS.iter().zip(crews.iter_mut()) {
+        let mut times = [Duration::MAX; 3];
+        for (seats, time) in CREWS.iter().zip(times.iter_mut()) {
             let seats = (*seats).clamp(1, 64);
-            *best = (*best).min(shared(rt, alloc, disks.make()?, takes, seats)?);
+            *time = shared(rt, alloc, disks.make()?, takes, seats)?;
         }
+        for (best, time) in crews.iter_mut().zip(times.iter()) {
+            *best = (*best).min(*time);
+        }
+        let [one, _, many] = times;
+        *ratio = one.as_secs_f64() / many.as_secs_f64();
     }
-    Ok((own, crews))
+    ratios.sort_unstable_by_key(|ratio| OrderedFloat(*ratio));
+    Ok(Times {
+        own,
+        crews,
+        together: ratios[ROUNDS / 2],
+    })
 }
 
 /// Microseconds a take.
@@ -154,30 +178,26 @@ fn each(time: Duration, takes: u64) -> f64 {
     time.as_secs_f64() * 1e6 / nearest_usize_to_f64(takes as usize)
 }
 
-fn print(
-    rt: &HostRuntime,
-    what: &str,
-    takes: u64,
-    own: Duration,
-    crews: [Duration; 3],
-) -> anyhow::Result<()> {
+fn print(rt: &HostRuntime, what: &str, takes: u64, times: &Times) -> anyhow::Result<()> {
+    let own = times.own;
     println!(rt; "{what}: {takes} takes of one entry, the best of {ROUNDS} runs each")?;
     println!(rt; "    alone: {:.3} microseconds a take", each(own, takes))?;
-    for (seats, time) in CREWS.iter().zip(crews.iter()) {
+    for (seats, time) in CREWS.iter().zip(times.crews.iter()) {
         println!(rt;
             "    {seats} threads: {:.3} microseconds a take, {:.3} of that alone",
             each(*time, takes),
             time.as_secs_f64() / own.as_secs_f64()
         )?;
     }
-    let [one, _, many] = crews;
+    let [one, _, many] = times.crews;
     println!(rt;
         "    the turn, at one thread: {:.0} nanoseconds a take",
         (each(one, takes) - each(own, takes)) * 1e3
     )?;
     println!(rt;
-        "    16 threads together: {:.3} of the takes a second of one",
-        one.as_secs_f64() / many.as_secs_f64()
+        "    16 threads together: {:.3} of the takes a second of one; in the rounds, their median, {:.3}",
+        one.as_secs_f64() / many.as_secs_f64(),
+        times.together
     )?;
     Ok(())
 }
@@ -188,12 +208,12 @@ fn main(rt: HostRuntime) -> anyhow::Result<()> {
         return Ok(());
     };
     let alloc = rt.alloc();
-    let (own, crews) = best(&rt, alloc, &InMemory { alloc }, TAKES)?;
-    print(&rt, "memory", TAKES, own, crews)?;
+    let times = rounds(&rt, alloc, &InMemory { alloc }, TAKES)?;
+    print(&rt, "memory", TAKES, &times)?;
     let file = InFile {
         rt: &rt,
         path: path.as_str(),
     };
-    let (own, crews) = best(&rt, alloc, &file, FILE_TAKES)?;
-    print(&rt, "a file", FILE_TAKES, own, crews)
+    let times = rounds(&rt, alloc, &file, FILE_TAKES)?;
+    print(&rt, "a file", FILE_TAKES, &times)
 }

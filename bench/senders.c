@@ -1,0 +1,284 @@
+// senders PROTOCOL PORT LINKS AHEAD LOOK BYTES WINDOW GROUP TURNS SECONDS FILE
+//
+// Takes turns of so many seconds. In the one the bare loop goes over FILE: for each group a write of it, fdatasync, a write of its
+// gate's byte, fdatasync. A group has GROUP events of BYTES bytes. In the other LINKS connections send to PORT, each with at most AHEAD
+// frames, windows or requests of WINDOW events that aren't answered yet, until the time is over and all are answered. A connection
+// waits for the next answer; where LOOK isn't 0, it sleeps so many microseconds and then reads what came. Without turns of the loop
+// where FILE is -.
+//
+// Prints for each turn `loop` or `sent`, its events and its seconds, and last `times` and the microseconds from the sending of
+// a frame, window or request to its answer: the median, and that of 99 in 100.
+#define _GNU_SOURCE
+#include <arpa/inet.h>
+#include <errno.h>
+#include <fcntl.h>
+#include <netinet/tcp.h>
+#include <pthread.h>
+#include <stdio.h>
+#include <stdlib.h>
+#include <string.h>
+#include <time.h>
+#include <unistd.h>
+
+#define MOST_AHEAD 256
+#define MOST_TIMES 4000000
+
+static long port, ahead, look, bytes, window, group;
+static double end_at;
+static pthread_barrier_t begin, over;
+
+// A connection: what was sent and what was answered, counted in frames, windows or requests; and when the last ones were sent.
+struct sender {
+    pthread_t thread;
+    int link;
+    long sent, answered, count;
+    double at[MOST_AHEAD];
+    int *times;
+    char *text, piece[65536];
+    size_t size, had;
+};
+
+static void stop(const char *what) {
+    perror(what);
+    exit(1);
+}
+
+static double now(void) {
+    struct timespec t;
+    clock_gettime(CLOCK_MONOTONIC, &t);
+    return t.tv_sec + t.tv_nsec / 1e9;
+}
+
+static void put(struct sender *it, const char *text, size_t size) {
+    while (size > 0) {
+        ssize_t n = write(it->link, text, size);
+        if (n <= 0) stop("write");
+        text += n, size -= n;
+    }
+}
+
+// Adds to the piece what comes next, and a zero byte after it.
+static void get(struct sender *it) {
+    ssize_t n = -1;
+    while (n < 0) {
+        if (look) usleep(look);
+        n = recv(it->link, it->piece + it->had, sizeof it->piece - it->had - 1, look ? MSG_DONTWAIT : 0);
+        if (n == 0 || (n < 0 && (!look || errno != EAGAIN))) stop("read");
+    }
+    it->had += n;
+    it->piece[it->had] = 0;
+}
+
+// Drops the front of the piece.
+static void drop(struct sender *it, size_t size) {
+    it->had -= size;
+    memmove(it->piece, it->piece + size, it->had + 1);
+}
+
+static void note(struct sender *it) {
+    double since = it->at[it->answered++ % MOST_AHEAD];
+    if (it->count < MOST_TIMES) it->times[it->count++] = (int)((now() - since) * 1e6);
+}
+
+// ---- RELP: a frame is one event. Each reply but that of the open is one line.
+
+static void open_relp(struct sender *it) {
+    static const char offers[] = "relp_version=0\nrelp_software=bench,1,x\ncommands=syslog";
+    char *length = NULL, *space = NULL;
+    it->text = malloc(ahead * (bytes + 40));
+    put(it, it->text, sprintf(it->text, "1 open %zu %s\n", strlen(offers), offers));
+    do {
+        get(it);
+        length = strstr(it->piece, "rsp ");
+        space = length ? strchr(length + 4, ' ') : NULL;
+    } while (!space || it->piece + it->had < space + 1 + atol(length + 4) + 1);
+    it->had = 0;
+}
+
+static void send_relp(struct sender *it, long frames) {
+    size_t size = 0;
+    double at = now();
+    for (long i = 0; i < frames; i++) {
+        it->at[it->sent % MOST_AHEAD] = at;
+        size += sprintf(it->text + size, "%ld syslog %ld ", it->sent++ + 2, bytes);
+        memset(it->text + size, 'x', bytes);
+        it->text[size + bytes] = '\n';
+        size += bytes + 1;
+    }
+    put(it, it->text, size);
+}
+
+static void take_relp(struct sender *it) {
+    size_t end = 0;
+    for (size_t i = 0; i < it->had; i++)
+        if (it->piece[i] == '\n') note(it), end = i + 1;
+    drop(it, end);
+}
+
+// ---- Lumberjack: a window of frames, and the acknowledgment of its last frame; there may be some of earlier ones before.
+
+static void number(char *to, unsigned value) {
+    value = htonl(value);
+    memcpy(to, &value, 4);
+}
+
+static void open_lumberjack(struct sender *it) {
+    char *to = it->text = malloc(6 + window * (10 + bytes));
+    memcpy(to, "2W", 2), number(to + 2, window), to += 6;
+    for (int i = 1; i <= window; i++) {
+        memcpy(to, "2J", 2), number(to + 2, i), number(to + 6, bytes);
+        memset(to + 10, 'x', bytes);
+        memcpy(to + 10, "{\"message\":\"", 12), memcpy(to + 10 + bytes - 2, "\"}", 2);
+        to += 10 + bytes;
+    }
+    it->size = to - it->text;
+}
+
+static void take_lumberjack(struct sender *it) {
+    size_t end = 0;
+    for (; it->had - end >= 6; end += 6)
+        if (!memcmp(it->piece + end + 2, it->text + 2, 4)) note(it);
+    drop(it, end);
+}
+
+// ---- The collector: a request of event objects, and its reply, whose body is one object.
+
+static void open_hec(struct sender *it) {
+    it->text = malloc(400 + window * bytes);
+    it->size = sprintf(it->text, "POST /services/collector/event HTTP/1.1\r\nHost: 127.0.0.1\r\nAuthorization: Splunk " TOKEN "\r\n"
+        "Content-Length: %ld\r\n\r\n", window * bytes);
+    for (int i = 0; i < window; i++) {
+        memset(it->text + it->size, 'x', bytes);
+        memcpy(it->text + it->size, "{\"event\":\"", 10), memcpy(it->text + it->size + bytes - 2, "\"}", 2);
+        it->size += bytes;
+    }
+}
+
+static void take_hec(struct sender *it) {
+    for (char *end; (end = strchr(it->piece, '}')); drop(it, end + 1 - it->piece)) {
+        if (end - it->piece < 8 || memcmp(end - 8, "\"code\":0", 8)) stop(it->piece);
+        note(it);
+    }
+}
+
+// ---- All of them
+
+// Windows and requests are alike, and each is written by itself.
+static void send_again(struct sender *it, long count) {
+    for (; count > 0; count--) {
+        it->at[it->sent++ % MOST_AHEAD] = now();
+        put(it, it->text, it->size);
+    }
+}
+
+static const struct protocol {
+    const char *name;
+    void (*open)(struct sender *);
+    void (*send)(struct sender *, long);
+    void (*take)(struct sender *);
+} protocols[] = {
+    {"relp", open_relp, send_relp, take_relp},
+    {"lumberjack", open_lumberjack, send_again, take_lumberjack},
+    {"hec", open_hec, send_again, take_hec},
+}, *protocol;
+
+static void dial(struct sender *it) {
+    struct sockaddr_in at = {.sin_family = AF_INET, .sin_port = htons(port), .sin_addr = {htonl(INADDR_LOOPBACK)}};
+    int one = 1;
+    it->link = socket(AF_INET, SOCK_STREAM, 0);
+    if (it->link < 0 || connect(it->link, (struct sockaddr *)&at, sizeof at)) stop("connect");
+    setsockopt(it->link, IPPROTO_TCP, TCP_NODELAY, &one, sizeof one);
+}
+
+static void *send_on(void *of) {
+    struct sender *it = of;
+    dial(it);
+    protocol->open(it);
+    for (;;) {
+        pthread_barrier_wait(&begin);
+        if (end_at == 0) break;
+        for (;;) {
+            long free = ahead - (it->sent - it->answered);
+            if (free > 0 && now() < end_at) protocol->send(it, free);
+            if (it->answered == it->sent) break;
+            get(it);
+            protocol->take(it);
+        }
+        pthread_barrier_wait(&over);
+    }
+    close(it->link);
+    return NULL;
+}
+
+// The bare loop over a file: the place of the closed gate, and a group.
+static int file = -1;
+static long gate = 12288 + 17, need, room;
+static char *text;
+
+static void loop(double seconds) {
+    long done = 0;
+    double start = now();
+    while (now() < start + seconds) {
+        if (gate > room) gate = 12288 + 17;
+        if (pwrite(file, text, need, gate + 1) != need || fdatasync(file)) stop("a write or a sync");
+        if (pwrite(file, "\1", 1, gate) != 1 || fdatasync(file)) stop("a write or a sync");
+        gate += need, done += group;
+    }
+    printf("loop %ld %f\n", done, now() - start);
+}
+
+static long answered(struct sender *all, int links) {
+    long sum = 0;
+    for (int i = 0; i < links; i++) sum += all[i].answered;
+    return sum;
+}
+
+static int less(const void *a, const void *b) {
+    return *(const int *)a - *(const int *)b;
+}
+
+static void print_times(struct sender *all, int links) {
+    long count = 0, half, most;
+    for (int i = 0; i < links; i++) count += all[i].count;
+    int *each = malloc((count + 1) * sizeof(int)), *to = each;
+    for (int i = 0; i < links; i++) memcpy(to, all[i].times, all[i].count * sizeof(int)), to += all[i].count;
+    qsort(each, count, sizeof(int), less);
+    half = count ? each[count / 2] : 0, most = count ? each[count * 99 / 100] : 0;
+    printf("times %ld %ld\n", half, most);
+}
+
+int main(int count, char **words) {
+    if (count != 12) return 64;
+    for (protocol = protocols; strcmp(protocol->name, words[1]); protocol++);
+    int links = atoi(words[3]), turns = atoi(words[9]);
+    double seconds = atof(words[10]);
+    port = atol(words[2]), ahead = atol(words[4]), look = atol(words[5]);
+    bytes = atol(words[6]), window = atol(words[7]), group = atol(words[8]);
+    if (strcmp(words[11], "-")) {
+        file = open(words[11], O_RDWR);
+        need = 9 + group * (29 + bytes), room = lseek(file, 0, SEEK_END) - need - 1, text = calloc(1, need);
+        if (file < 0 || !text) stop(words[11]);
+        memset(text, 'x', need - 1);
+    }
+    struct sender *all = calloc(links, sizeof *all);
+    pthread_barrier_init(&begin, NULL, links + 1), pthread_barrier_init(&over, NULL, links + 1);
+    for (int i = 0; i < links; i++) {
+        all[i].times = malloc(MOST_TIMES * sizeof(int));
+        if (pthread_create(&all[i].thread, NULL, send_on, all + i)) stop("a thread");
+    }
+    for (int turn = 0; turn < turns; turn++) {
+        if (file >= 0) loop(seconds);
+        long before = answered(all, links);
+        double start = now();
+        end_at = start + seconds;
+        pthread_barrier_wait(&begin);
+        pthread_barrier_wait(&over);
+        printf("sent %ld %f\n", (answered(all, links) - before) * window, now() - start);
+    }
+    if (file >= 0) loop(seconds);
+    end_at = 0;
+    pthread_barrier_wait(&begin);
+    for (int i = 0; i < links; i++) pthread_join(all[i].thread, NULL);
+    print_times(all, links);
+    return 0;
+}
