@@ -20,7 +20,7 @@ pub struct Memory {
     pub older: Vec<Slot>,
     /// The open slot with the greatest ordinal, to which groups are added.
     pub active: Slot,
-    /// Where the last reading of entries ended.
+    /// Where the last reading of entries began and ended.
     pub bookmark: Option<Bookmark>,
     pub ghost large: { 4096 ≤ size },
     pub ghost small: { size ≤ 1073741824 },

@@ -25,6 +25,8 @@ mod openings;
 #[cfg(test)]
 mod play;
 #[cfg(test)]
+mod reading_on;
+#[cfg(test)]
 mod script;
 #[cfg(test)]
 mod slots;

@@ -6,6 +6,7 @@ use crate::free_slot::the_free_slot_is_as_defined;
 use crate::groups::{FAILING, GROUPS};
 use crate::known::{CHANGES, MARKS};
 use crate::openings::OPENINGS;
+use crate::reading_on::a_reading_walks_over_nothing_again;
 use crate::script::run_script;
 use crate::slots::{calls, groups, reads, registers};
 use std::alloc::Global;
@@ -49,6 +50,7 @@ fn spools(rt: HostRuntime) -> Result<(), Fail> {
         run_script(&rt, rt.alloc(), script)?;
     }
     assert!(rt; the_free_slot_is_as_defined(rt.alloc())?);
+    assert!(rt; a_reading_walks_over_nothing_again(rt.alloc())?);
     Ok(())
 }
 

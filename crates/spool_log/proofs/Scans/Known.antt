@@ -1,15 +1,15 @@
 -- Entries that aren't known, found one after another.
-use Rattle.std.proofs.Common.{◌≡◌, ◌⊎◌, inl, inr, ℕ, ◌+◌, ◌<◌, ◌≤◌, Bool, true, false, cond, List, [], ◌∷◌, ◌++◌, length, take, drop, refl, sym, ◌∙◌, ap, arith}
+use Rattle.std.proofs.Common.{◌≡◌, ◌⊎◌, inl, inr, ℕ, ◌+◌, ◌<◌, ◌≤◌, Bool, true, false, cond, List, [], ◌∷◌, ◌++◌, length, get_or, take, drop, refl, sym, ◌∙◌, ap, arith}
 use Rattle.std.specs.Prelude.{not, nat_le}
 use Rattle.std.specs.List.{filter}
-use Rattle.std.proofs.lemmas.Bool.{cond-true, cond-false, le-leb, lt-leb}
+use Rattle.std.proofs.lemmas.Bool.{cond-true, cond-false, cases_lt, le-leb, lt-leb}
 use Rattle.std.proofs.lemmas.List.{length-take}
 use Rattle.std.proofs.lemmas.List.Elements.{filter-append}
 use Rattle.std.proofs.Math.Seq.{take-add}
 use Rattle.known_numbers.specs.Numbers.{Numbers, IsKnown}
 use Rattle.event_form.specs.declared.event.Entry.{Entry}
 use Rattle.spool_state.specs.Left.{NumberedEntry, numbered, is_known, unknown}
-use Rattle.spool_state.proofs.Unknown.{known_from, unknown_from, numbered_append, unknown_append}
+use Rattle.spool_state.proofs.Unknown.{known_from, unknown_from, filter_like, numbered_append, unknown_append, unknown_numbers}
 use Rattle.event_form.specs.Entry.{IsEntry}
 use Rattle.spool_log.specs.declared.reading.numbered.Numbered.{Numbered}
 use Rattle.spool_log.specs.Outcome.{given_entries, AreNumbered}
@@ -52,6 +52,24 @@ wanted_split numbers from first es i k le =
     ∙ wanted_append numbers from (numbered first (take i es)) (numbered (first + length (take i es)) (take k (drop i es)))
     ∙ ap (λ (n : ℕ). wanted_from numbers from (numbered first (take i es)) ++ wanted_from numbers from (numbered n (take k (drop i es)))) at
 
+-- ---- the next number that isn't known
+
+-- a number that isn't known is at least this one where it is at least the next one that isn't known
+same_test : (numbers : Numbers) (from least n : ℕ) → from ≤ least → ((k : ℕ) → from ≤ k → k < least → IsKnown numbers k) → (IsKnown numbers n → ⊥) → nat_le least n ≡ nat_le from n
+same_test numbers from least n le passed off = elim (cases_lt n from) [
+  | inl low ↦ lt-leb least n (omega (arith, le, low)) ∙ sym (lt-leb from n low)
+  | inr ge ↦ elim (cases_lt n least) [
+    | inl below ↦ absurd (off (passed n ge below))
+    | inr above ↦ le-leb least n above ∙ sym (le-leb from n ge)
+  ]
+]
+
+-- from there on the same entries are wanted
+pub wanted_next : (numbers : Numbers) (from least : ℕ) (xs : List NumberedEntry) → from ≤ least → ((k : ℕ) → from ≤ k → k < least → IsKnown numbers k) → wanted_from numbers least xs ≡ wanted_from numbers from xs
+wanted_next numbers from least xs le passed =
+    filter_like (λ e. nat_le least e.number) (λ e. nat_le from e.number) (unknown numbers xs)
+    (λ k d lt. same_test numbers from least (get_or (unknown numbers xs) k d).number le passed (unknown_numbers numbers xs k d lt))
+
 -- ---- entries that are given one after another
 
 -- one entry more
@@ -81,3 +99,7 @@ numbered_later from a b (one ∷ more) le h = (h.0, omega (arith, h.1, le), h.2,
 pub numbered_push : (from a : ℕ) (given : List Numbered) (one : Numbered) → from ≤ a → AreNumbered from a given → a ≤ one.number → IsEntry one.entry → AreNumbered from (one.number + 1) (given ++ one ∷ [])
 numbered_push from a [] one ge h le entry = (omega (arith, ge, le), omega arith, entry, tt)
 numbered_push from a (x ∷ more) one ge h le entry = (h.0, omega (arith, h.1, le), h.2, numbered_push (x.number + 1) a more one (omega (arith, h.1)) h.3 le entry)
+
+pub numbered_earlier : (from least end : ℕ) (given : List Numbered) → from ≤ least → AreNumbered least end given → AreNumbered from end given
+numbered_earlier from least end [] le h = tt
+numbered_earlier from least end (x ∷ more) le h = (omega (arith, le, h.0), h.1, h.2, h.3)

@@ -1,14 +1,19 @@
--- Where the last reading ended, as a mark of a slot.
+-- Where the last reading began and ended, as marks of a slot.
 use Rattle.std.specs.Prelude.{◌≡◌, ℕ, ◌≤◌, List, [], ◌∷◌, Option, Some, None}
 use Rattle.spool_state.specs.Segment.{Segment}
 use Rattle.spool_state.specs.SpoolState.{OpenSlot}
 use Rattle.spool_slots.specs.Mark.{IsMark}
 use Rattle.spool_log.specs.declared.reading.bookmark.Bookmark.{Bookmark}
 
--- where the segment has the bookmark's ordinal, that is a mark of it
+-- both are marks of the segment
+pub record AreMarks (segment : Segment) (bookmark : Bookmark) : Type 0 where
+  pub began : IsMark segment bookmark.began
+  pub ended : IsMark segment bookmark.ended
+
+-- where the segment has the bookmark's ordinal, those are marks of it
 abbrev pub IsMarkOf : Option Bookmark → Segment → Type 0
 IsMarkOf None segment = Unit {0}
-IsMarkOf (Some bookmark) segment = segment.ordinal ≡ bookmark.ordinal → IsMark segment bookmark.mark
+IsMarkOf (Some bookmark) segment = segment.ordinal ≡ bookmark.ordinal → AreMarks segment bookmark
 
 -- for each of these slots
 abbrev pub IsMarkAmong : Option Bookmark → List OpenSlot → Type 0
@@ -20,7 +25,7 @@ abbrev pub IsUpto : Option Bookmark → ℕ → Type 0
 IsUpto None ordinal = Unit {0}
 IsUpto (Some bookmark) ordinal = bookmark.ordinal ≤ ordinal
 
--- It is a mark of the open slot that has its ordinal, if any, and no later slot has that.
+-- Its marks are marks of the open slot that has its ordinal, if any, and no later slot has that.
 pub record IsMarked (older : List OpenSlot) (active : OpenSlot) (bookmark : Option Bookmark) : Type 0 where
   pub older_marked : IsMarkAmong bookmark older
   pub active_marked : IsMarkOf bookmark active.segment

@@ -124,8 +124,8 @@ impl<D: Disk> Spool<D> {
     /// `TooLarge` comes exactly where the group needs more than an empty slot has, then `Spent` exactly where
     /// the end would pass 2^63, then `Full` exactly where the active slot has no room for it and no slot is
     /// free. `NotSpool` and `NoMemory` come only where the spool was in doubt. After these nothing changed
-    /// but by mending. `DiskFault` comes only where a call of the disk failed. Where it came of the group_stages,
-    /// the spool is in doubt.
+    /// but by mending. `DiskFault` comes only where a call of the disk failed. Where one of the calls that store
+    /// the group failed, the spool is in doubt.
     pub fn take(&mut self, entries: &[Entry]) -> Result<Receipt, TakeFault>
         requires few { length entries.now < 2 ^ 32 }
         requires limits { All IsEntry entries.now }

@@ -14,7 +14,7 @@ ghost use Rattle.spool_slots.specs.Mark.{IsMark};
 ghost use Rattle.spool_log.specs.Memory.{numbers_of, base_of, end_of};
 ghost use Rattle.spool_log.specs.Knows.{IsStored};
 ghost use Rattle.spool_log.specs.Outcome.{IsNotBroken, AreNumbered, given_entries};
-ghost use Rattle.spool_log.specs.Reading.Marked.{IsMarkOf, IsMarked};
+ghost use Rattle.spool_log.specs.Reading.Marked.{AreMarks, IsMarkOf, IsMarked};
 ghost use Rattle.spool_log.specs.Reading.Wanted.{wanted_from};
 
 use crate::{Bookmark, Memory, Numbered, PendFault};
@@ -67,8 +67,20 @@ fn give_unknown(
     Ok(())
 }
 
+/// Where a reading began that came to `mark` and goes on at `here`: there, where nothing was read before.
+fn began_at(began: Mark, mark: Mark, here: Mark) -> Mark
+    ensures { (result ≡ began) ⊎ (result ≡ here) }
+{
+    if mark.number <= began.number {
+        here
+    } else {
+        began
+    }
+}
+
 /// Gives the slot's entries from the mark on whose numbers are at least `from` and aren't known, after those
-/// that are given, up to `most` of all. It answers the mark at which the reading ended.
+/// that are given, up to `most` of all. It answers where the reading began and ended: where nothing was read,
+/// both at the mark.
 fn read_slot<D: Disk>(
     slot: &Slot,
     alloc: Global,
@@ -79,7 +91,7 @@ fn read_slot<D: Disk>(
     from: u64,
     most: u32,
     given: &mut Vec<Numbered>,
-) -> Result<Mark, PendFault>
+) -> Result<Bookmark, PendFault>
     requires place { slot.now.at + slot.now.size ≤ (D.moment disk.old).size }
     requires ends { slot.now.first + slot.now.count ≤ most_number }
     requires few { length given.old.items ≤ most }
@@ -92,30 +104,41 @@ fn read_slot<D: Disk>(
     ensures told { D.tells → IsUntouched (D.moment disk.old) (D.moment disk.new) }
     ensures few { OnOk result (length given.new.items ≤ most) }
     ensures numbered { OnOk result (AreNumbered from (slot.now.first + slot.now.count) given.new.items) }
+    ensures ordinal { IfOk result (λ read. read.ordinal ≡ slot.now.ordinal) }
     ensures read { (segment : Segment) → D.tells → Slots.Knows slot.now segment (D.moment disk.old).reads → IsMark segment start
         → MatchResult result
-        (λ mark. IsMark segment mark
+        (λ read. AreMarks segment read
         × (given_entries given.new.items ≡ given_entries given.old.items ++ take (most - length given.old.items)
         (wanted_from numbers.now from (numbered segment.first (entries_of segment))))) IsNotBroken }
 {
     let end = slot.first + slot.count;
+    let mut began = start;
     let mut mark = start;
     'parts: while mark.number < end && given.len() < most as usize {
         let number = numbers.next_unknown(from.max(mark.number));
         if end <= number {
-            return Ok(mark);
+            return Ok(Bookmark {
+                ordinal: slot.ordinal,
+                began,
+                ended: mark,
+            });
         }
         let here = slot.pass(disk, window, mark, number)?;
         let wanted = most - given.len() as u32;
         let part = slot.read_part(alloc, disk, window, here, wanted)?;
         give_unknown(numbers, part.entries, number, given)?;
+        began = began_at(began, mark, here);
         mark = part.mark;
     }
-    Ok(mark)
+    Ok(Bookmark {
+        ordinal: slot.ordinal,
+        began,
+        ended: mark,
+    })
 }
 
-/// The mark from which a slot is read: where the last reading ended, where that is in the slot and not after
-/// `from`; or its first.
+/// The mark from which a slot is read: the bookmark's nearest one, where that is in the slot and not after
+/// `from`; or the slot's first.
 fn start_in(slot: &Slot, bookmark: Option<Bookmark>, from: u64) -> Mark
     requires { slot.now.first + slot.now.count ≤ most_number }
 
@@ -125,34 +148,32 @@ fn start_in(slot: &Slot, bookmark: Option<Bookmark>, from: u64) -> Mark
     ensures mark { (segment : Segment) (c : List ℕ) → Slots.Knows slot.now segment c → IsMarkOf bookmark segment → IsMark segment result }
 {
     if let Some(kept) = bookmark {
-        let number = kept.mark.number;
+        let mark = kept.nearest(from);
+        let number = mark.number;
         if kept.ordinal == slot.ordinal
             && slot.first <= number
             && number <= from
             && number <= slot.first + slot.count
         {
-            return kept.mark;
+            return mark;
         }
     }
     slot.start()
 }
 
-/// The bookmark after the slot was read from one number up to a mark: there, where that is farther on.
-fn moved(bookmark: Option<Bookmark>, slot: &Slot, from: u64, mark: Mark) -> Option<Bookmark>
-    ensures { (result ≡ bookmark) ⊎ (result ≡ Some (record { ordinal = slot.now.ordinal; mark = mark })) }
+/// The bookmark after a slot was read: that of its reading, where some entries were read.
+fn moved(bookmark: Option<Bookmark>, read: Bookmark) -> Option<Bookmark>
+    ensures { (result ≡ bookmark) ⊎ (result ≡ Some read) }
 {
-    if mark.number <= from {
+    if read.ended.number <= read.began.number {
         return bookmark;
     }
-    Some(Bookmark {
-        ordinal: slot.ordinal,
-        mark,
-    })
+    Some(read)
 }
 
 impl Memory {
     /// The first `most` entries whose numbers are at least `from` and aren't known, over all slots, and where
-    /// the reading ended.
+    /// the reading began and ended.
     pub(crate) fn read_from<D: Disk>(
         &self,
         alloc: Global,
@@ -173,31 +194,32 @@ impl Memory {
             → MatchResult result
             (λ read. (given_entries read.0.items ≡ take most (left_from s from)) × IsMarked s.older s.active read.1) IsNotBroken }
     {
+        let least = numbers.next_unknown(from);
         let mut given = Vec::new(alloc);
         let mut bookmark = self.bookmark;
         for slot in &self.older {
-            let start = start_in(slot, self.bookmark, from);
-            let mark = read_slot(
-                slot, alloc, disk, window, numbers, start, from, most, &mut given,
+            let start = start_in(slot, self.bookmark, least);
+            let read = read_slot(
+                slot, alloc, disk, window, numbers, start, least, most, &mut given,
             )?;
-            bookmark = moved(bookmark, slot, start.number, mark);
+            bookmark = moved(bookmark, read);
         }
-        let start = start_in(&self.active, self.bookmark, from);
-        let mark = read_slot(
+        let start = start_in(&self.active, self.bookmark, least);
+        let read = read_slot(
             &self.active,
             alloc,
             disk,
             window,
             numbers,
             start,
-            from,
+            least,
             most,
             &mut given,
         )?;
-        Ok((given, moved(bookmark, &self.active, start.number, mark)))
+        Ok((given, moved(bookmark, read)))
     }
 
-    /// Keeps where a reading ended.
+    /// Keeps where a reading began and ended.
     pub(crate) fn read_up(&mut self, bookmark: Option<Bookmark>)
         ensures same_device { (self.new.size ≡ self.old.size) × (self.new.slots ≡ self.old.slots) }
         ensures end { end_of self.new ≡ end_of self.old }

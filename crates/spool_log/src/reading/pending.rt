@@ -12,9 +12,10 @@ impl<D: Disk> Spool<D> {
     ghost use Rattle.spool_log.specs.Outcome.{AreNumbered, PendsFrom};
 
     /// The first `most` of the entries with numbers from `from`, which is at most the end, that aren't known
-    /// as confirmed, or all where they are fewer, read from the device, each with its number. In doubt the
-    /// spool is mended first; nothing else changes. `NotSpool` comes only where the device reads as no spool,
-    /// and never on a disk that tells what it reads; `DiskFault` only where a call of the disk failed.
+    /// as confirmed, or all where they are fewer, read from the device, each with its number. Where they go
+    /// on after the last reading, or are those again that it gave first, nothing of a slot before them is read.
+    /// In doubt the spool is mended first; nothing else changes. `NotSpool` comes only where the device reads as
+    /// no spool, and never on a disk that tells what it reads; `DiskFault` only where a call of the disk failed.
     pub fn pending(&mut self, from: u64, most: u32) -> Result<Vec<Numbered>, PendFault>
         requires number { from ≤ end_of self.old.memory }
 

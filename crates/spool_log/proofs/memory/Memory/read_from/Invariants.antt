@@ -17,7 +17,7 @@ invariant-loop-slot g l =
       told : g.D.Disk.tells → IsUntouched (moment l.fn.disk) (moment l.disk);
       few : length l.given.items ≤ l.most;
       go_on : GoOn (drop l.slot-index l.self.older.items) l.self.active.first;
-      numbered : AreNumbered l.from (first_in (drop l.slot-index l.self.older.items) l.self.active.first) l.given.items;
+      numbered : AreNumbered l.least (first_in (drop l.slot-index l.self.older.items) l.self.active.first) l.given.items;
       marked : (s : SpoolState) → g.D.Disk.tells → IsStored s l.self (moment l.fn.disk).reads → IsMarked s.older s.active l.bookmark;
-      read : (s : SpoolState) → g.D.Disk.tells → IsStored s l.self (moment l.fn.disk).reads → given_entries l.given.items ≡ wanted_so_far s l.numbers l.from l.most l.slot-index;
+      read : (s : SpoolState) → g.D.Disk.tells → IsStored s l.self (moment l.fn.disk).reads → given_entries l.given.items ≡ wanted_so_far s l.numbers l.least l.most l.slot-index;
     }

@@ -19,7 +19,7 @@ invariant-parts g l =
       few : length l.given.items ≤ l.most;
       rising : AreNumbered l.from l.mark.number l.given.items;
       read : (segment : Segment) → g.D.Disk.tells → Slots.Knows l.slot segment (moment l.fn.disk).reads → IsMark segment l.fn.start
-          → IsMark segment l.mark × (given_entries l.given.items ≡ given_entries l.fn.given.items ++ wanted_in l.numbers l.from segment.first (entries_of segment) (l.mark.number - segment.first));
+          → IsMark segment l.began × IsMark segment l.mark × (given_entries l.given.items ≡ given_entries l.fn.given.items ++ wanted_in l.numbers l.from segment.first (entries_of segment) (l.mark.number - segment.first));
     }
 
 abbrev pub decreases-parts : goal.decreases-parts
