@@ -181,9 +181,11 @@ class RelpLink:
         number = self.frame(b"close", b"")
         while self.reply(b"") != number:
             pass
-        self.link.close()
+        self.drop()
 
     def drop(self):
+        # (the connection is closed once its reader is too)
+        self.stream.close()
         self.link.close()
 
 

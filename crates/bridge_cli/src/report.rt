@@ -7,9 +7,16 @@ pub fn print_line(rt: &impl Eprint, text: &str) {
     let _ = eprintln!(rt; "bridge: {text}");
 }
 
-/// Prints the note's text, where there is one.
+// The text of `Note::NoMemory`, here as a constant, since there may be no memory to make it of the note.
+const NO_MEMORY: &str = "no memory";
+
+/// Prints the note's text, where there is one. For want of memory that takes none.
 pub fn print_note(rt: &(impl AllocGlobal + Eprint), note: Note) {
     if note == Note::Fine {
+        return;
+    }
+    if note == Note::NoMemory {
+        print_line(rt, NO_MEMORY);
         return;
     }
     let Ok(text) = note_text(rt.alloc(), &note) else {

@@ -93,10 +93,12 @@ impl Door for TcpDoor {
         }
     }
 
-    /// Closes the connection and counts its errors. It takes no memory.
+    /// Counts the connection's errors, and closes it so that its peer gets what was written last. For that it waits until the
+    /// peer closes it too, but some second for a silent peer and some 80 for one that goes on sending. It takes no memory.
     fn give_back(&mut self, link: TcpLink, _: Proto, _: u64, _: u8) -> Result<(), AllocError> {
         self.read_errors = self.read_errors.saturating_add(link.read_errors());
         self.write_errors = self.write_errors.saturating_add(link.write_errors());
+        link.close();
         Ok(())
     }
 }

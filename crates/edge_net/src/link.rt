@@ -1,7 +1,9 @@
 //! A connection over TCP.
 ghost use Rattle.std.specs.Prelude.{◌≡◌};
 
-use edge_io::{FileIo, Link, Object, ReadFault, Sink, Source, WriteFault};
+use crate::closing::close_after_peer;
+use edge_io::{Link, Object, ReadFault, Sink, Source, WriteFault};
+use std::io::{Read, Write};
 use std::net::TcpStream;
 
 /// A connection over TCP, that was dialed or accepted. It counts its errors and tells no bytes. The link may be
@@ -9,15 +11,16 @@ use std::net::TcpStream;
 #[derive(Drop)]
 pub struct TcpLink {
     place: Option<String>,
-    io: FileIo<TcpStream>,
+    stream: TcpStream,
+    read_errors: u64,
+    write_errors: u64,
 }
 
 impl TcpLink {
     ghost use Rattle.std.specs.Prelude.{Some, None};
     ghost use Rattle.std.specs.Option.{option_map};
     ghost use Rattle.std.specs.String.{string_bytes};
-    ghost use Rattle.edge_net.specs.TcpLink.{place_of, io_of, IsUnfailed};
-    ghost use Rattle.edge_io.specs.FileIo.{read_errors_of, write_errors_of};
+    ghost use Rattle.edge_net.specs.TcpLink.{place_of, read_errors_of, write_errors_of, IsUnfailed};
 
     // A link over the stream. An answer isn't held back until more is written; where the system doesn't grant
     // that, the link is slower and else the same.
@@ -28,7 +31,9 @@ impl TcpLink {
         let _ = stream.set_nodelay(true);
         TcpLink {
             place,
-            io: FileIo::of(stream),
+            stream,
+            read_errors: 0,
+            write_errors: 0,
         }
     }
 
@@ -50,16 +55,22 @@ impl TcpLink {
 
     /// How many reads have failed.
     pub(crate) fn read_errors(&self) -> u64
-        ensures { result ≡ read_errors_of (io_of self.now) }
+        ensures { result ≡ read_errors_of self.now }
     {
-        self.io.read_errors()
+        self.read_errors
     }
 
     /// How many writes have failed.
     pub(crate) fn write_errors(&self) -> u64
-        ensures { result ≡ write_errors_of (io_of self.now) }
+        ensures { result ≡ write_errors_of self.now }
     {
-        self.io.write_errors()
+        self.write_errors
+    }
+
+    /// Closes the connection so that its peer gets what was written last. What the peer still sends meanwhile is dropped, and
+    /// counts as unread.
+    pub(crate) fn close(self) {
+        close_after_peer(self.stream)
     }
 }
 
@@ -73,45 +84,57 @@ impl Object for TcpLink {
 
 impl Source for TcpLink {
     ghost use Rattle.std.specs.Prelude.{None};
-    ghost use Rattle.edge_io.specs.FileIo.{read_errors_of, write_errors_of};
-    ghost use Rattle.edge_net.specs.TcpLink.{place_of, io_of};
+    ghost use Rattle.edge_net.specs.TcpLink.{place_of, read_errors_of, write_errors_of};
 
     ghost given = { λ _. None };
 
     ghost left = { λ _. None };
 
-    ghost read_faults = { λ link. read_errors_of (io_of link) };
+    ghost read_faults = { λ link. read_errors_of link };
 
-    ghost read_apart = { λ x y. (write_errors_of (io_of y) ≡ write_errors_of (io_of x)) × (place_of y ≡ place_of x) };
+    ghost read_apart = { λ x y. (write_errors_of y ≡ write_errors_of x) × (place_of y ≡ place_of x) };
 
     ghost read_apart_refl = { λ _. (Prim.cc, Prim.cc) };
 
     ghost read_apart_trans = { λ x y z p q. (Prim.cc, Prim.cc) };
 
-    /// A read of the socket, which may wait for the peer. The end of input is the peer's: it has shut its side.
+    /// A read of the socket, which may wait for the peer. The end of input is the peer's: it has shut its side. Each error of it
+    /// is a fault, an interrupted call's too.
     fn read(&mut self, buf: &mut [u8]) -> Result<usize, ReadFault> {
-        self.io.read(buf)
+        match self.stream.read(buf) {
+            Ok(n) => Ok(n),
+            Err(_) => {
+                self.read_errors = self.read_errors.saturating_add(1);
+                Err(ReadFault)
+            }
+        }
     }
 }
 
 impl Sink for TcpLink {
     ghost use Rattle.std.specs.Prelude.{None};
-    ghost use Rattle.edge_io.specs.FileIo.{read_errors_of, write_errors_of};
-    ghost use Rattle.edge_net.specs.TcpLink.{place_of, io_of};
+    ghost use Rattle.edge_net.specs.TcpLink.{place_of, read_errors_of, write_errors_of};
 
     ghost taken = { λ _. None };
 
-    ghost write_faults = { λ link. write_errors_of (io_of link) };
+    ghost write_faults = { λ link. write_errors_of link };
 
-    ghost write_apart = { λ x y. (read_errors_of (io_of y) ≡ read_errors_of (io_of x)) × (place_of y ≡ place_of x) };
+    ghost write_apart = { λ x y. (read_errors_of y ≡ read_errors_of x) × (place_of y ≡ place_of x) };
 
     ghost apart_refl = { λ _. (Prim.cc, Prim.cc) };
 
     ghost apart_trans = { λ x y z p q. (Prim.cc, Prim.cc) };
 
-    /// A write to the socket, which may wait for a peer that doesn't read.
+    /// A write to the socket, which may wait for a peer that doesn't read. Each error of it is a fault, and so is 0 bytes for a
+    /// piece that isn't empty.
     fn write(&mut self, piece: &[u8]) -> Result<usize, WriteFault> {
-        self.io.write(piece)
+        match self.stream.write(piece) {
+            Ok(n) if n > 0 || piece.is_empty() => Ok(n),
+            _ => {
+                self.write_errors = self.write_errors.saturating_add(1);
+                Err(WriteFault)
+            }
+        }
     }
 }
 

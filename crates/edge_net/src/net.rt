@@ -123,7 +123,8 @@ impl<R: net::Net<Stream = TcpStream, Listener = TcpListener> + Clock> Net for Tc
         }
     }
 
-    /// Closes the connection and counts its errors.
+    /// Closes the connection and counts its errors. What the peer still sends, or had sent and nobody read, is given up: what a
+    /// sender wrote and its peer didn't acknowledge is sent again.
     fn hang_up(&mut self, link: TcpLink) {
         self.read_errors = self.read_errors.saturating_add(link.read_errors());
         self.write_errors = self.write_errors.saturating_add(link.write_errors());

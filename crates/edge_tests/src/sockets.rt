@@ -90,13 +90,53 @@ fn a_peer_that_resets_is_a_fault(rt: HostRuntime) -> Result<(), Fail> {
     let mut net = TcpNet::new(rt.alloc(), &rt);
     let mut door = bound(&rt, &mut net, &place);
     let (mut near, mut far) = pair(&rt, &mut net, &mut door, &place);
-    assert_eq!(rt; near.write(b"unread"), Ok(6));
-    assert_eq!(rt; far.read(&mut [0u8; 1]), Ok(1));
+    assert_eq!(rt; far.write(b"unread"), Ok(6));
+    assert_eq!(rt; near.read(&mut [0u8; 1]), Ok(1));
     // Closed with bytes unread, it resets the connection.
-    door.give_back(far, Proto::Relp, 0, 0)?;
-    assert_eq!(rt; near.read(&mut [0u8; 16]), Err(ReadFault));
-    assert!(rt; near.write(b"more").is_err());
     net.hang_up(near);
+    assert_eq!(rt; far.read(&mut [0u8; 16]), Err(ReadFault));
+    assert!(rt; far.write(b"more").is_err());
+    door.give_back(far, Proto::Relp, 0, 0)?;
+    Ok(())
+}
+
+// Sends the whole piece before it reads: whether that went, whether "answer" comes then, and what comes after it.
+fn sends_then_hears(mut link: TcpLink, piece: &[u8]) -> (bool, bool, Result<usize, ReadFault>) {
+    let mut buf = [0u8; 16];
+    let sent = write_whole(&mut link, piece).is_ok();
+    let heard = link.read(&mut buf) == Ok(6) && buf.starts_with(b"answer");
+    (sent, heard, link.read(&mut buf))
+}
+
+// Whether an answer goes over the link, of which nothing is read, and the link is given back after it.
+fn answers_and_gives_back(mut door: TcpDoor, mut link: TcpLink) -> bool {
+    let answered = write_whole(&mut link, b"answer").is_ok();
+    let given = door.give_back(link, Proto::Hec, 0, 66).is_ok();
+    answered && given
+}
+
+#[test]
+fn a_link_given_back_unread_ends_after_its_answer(rt: HostRuntime) -> Result<(), Fail> {
+    let place = free_place(&rt)?;
+    let mut net = TcpNet::new(rt.alloc(), &rt);
+    let mut door = bound(&rt, &mut net, &place);
+    let (mut silent, unread) = pair(&rt, &mut net, &mut door, &place);
+    let start = Instant::now(&rt)?;
+    door.give_back(unread, Proto::Hec, 0, 66)?;
+    assert!(rt;
+        start.elapsed(&rt)? < Duration::from_secs(20),
+        "a peer that is silent and stays is given up"
+    );
+    assert_eq!(rt; silent.read(&mut [0u8; 16]), Ok(0));
+    let (near, far) = pair(&rt, &mut net, &mut door, &place);
+    let piece = vec![in rt.alloc(); b'x'; 4_194_304]?;
+    let (heard, answered) = thread::join(
+        &rt,
+        move || sends_then_hears(near, &piece),
+        move || answers_and_gives_back(door, far),
+    );
+    assert!(rt; answered);
+    assert_eq!(rt; heard, (true, true, Ok(0)));
     Ok(())
 }
 
