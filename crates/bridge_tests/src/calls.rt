@@ -3,7 +3,7 @@
 use crate::script::run_script;
 use crate::waiting::wait_for_answers;
 use crate::{
-    collectors, devices, drains, faults, lists, marks, requests, sessions, slots, windows,
+    collectors, devices, drains, faults, frames, lists, marks, requests, sessions, slots, windows,
 };
 use std::alloc::Global;
 use std::process::Abort;
@@ -11,7 +11,8 @@ use std::sync::Wait;
 use std::test::Fail;
 use std::thread::Threads;
 
-// Scripts, and the greatest length of a read: of RELP, of Lumberjack, of the collector, and over disks that fail.
+// Scripts, and the greatest length of a read: of RELP, of Lumberjack, of the collector, of sessions that forward, and
+// where calls fail or frames are wrong.
 type Scripts = &'static [(&'static str, usize)];
 
 const RELP: Scripts = &[
@@ -59,6 +60,16 @@ const DRAINS: Scripts = &[
     (collectors::COLLECTOR, 8192),
 ];
 
+const FAULTS: Scripts = &[
+    (faults::FAULTS, 8192),
+    (faults::STREAMS, 1),
+    (frames::CUTS, 1),
+    (frames::CUTS, 8192),
+    (frames::WRONG, 1),
+    (frames::WRONG, 8192),
+    (devices::SPENT, 8192),
+];
+
 fn run_scripts<R: Abort + Threads + Wait + Sync>(
     rt: &R,
     alloc: Global,
@@ -95,8 +106,8 @@ fn entries_forwarded(rt: HostRuntime) -> Result<(), Fail> {
 }
 
 #[test]
-fn disks_that_fail(rt: HostRuntime) -> Result<(), Fail> {
-    run_script(&rt, rt.alloc(), faults::FAULTS, 8192)
+fn calls_that_fail(rt: HostRuntime) -> Result<(), Fail> {
+    run_scripts(&rt, rt.alloc(), FAULTS)
 }
 
 #[test]

@@ -203,3 +203,33 @@ ends 71 read fault
 call list
 ends 0
 same"#;
+
+/// A spool with no number left for an entry: how a connection of each protocol ends. Nothing is stored.
+pub(crate) const SPENT: &str = r#"- the cursor is 2^63, and so is the first number of the slot
+device 16384
+call format 1 4096
+out text 1 slots of 4096 bytes%0a
+ends 0
+put 4118 text %80
+put 12297 text %80
+call list
+ends 0
+same
+call replay relp
+open
+in text 2 syslog 5 hello%0a
+out text 0 serverclose 0%0a
+ends 77 history spent at 9223372036854775808
+keeps 12288 16384
+call replay lumberjack
+in text 2J%00%00%00%01%00%00%00%02{}
+ends 77 history spent at 9223372036854775808
+keeps 12288 16384
+call replay hec --token 11111111-2222-3333-4444-555555555555
+event {"event":"a"}
+ends_busy {"text":"Server is busy","code":9}
+ends 77 history spent at 9223372036854775808
+keeps 12288 16384
+call list
+ends 0
+same"#;

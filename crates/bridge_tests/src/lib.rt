@@ -7,6 +7,8 @@ mod calls;
 #[cfg(test)]
 mod collectors;
 #[cfg(test)]
+mod cuts;
+#[cfg(test)]
 mod devices;
 #[cfg(test)]
 mod drains;
@@ -14,6 +16,8 @@ mod drains;
 mod failing;
 #[cfg(test)]
 mod faults;
+#[cfg(test)]
+mod frames;
 // (both in every build, since definitions in specs/ speak of their types)
 mod held;
 mod held_net;

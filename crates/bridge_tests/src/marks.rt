@@ -2,11 +2,27 @@
 
 /// A slot whose entries are confirmed is used again.
 pub(crate) const FREED: &str =
-    r#"- two slots that are full, until a peer acknowledges the entry of the first
+    r#"- two slots that are full, until a peer acknowledges the entry of the first; four calls of the disk begin the second one
 device 20480
 call format 2 4096
 out text 2 slots of 4096 bytes%0a
 ends 0
+call replay relp
+open
+in text 2 syslog 2000 
+in times 2000 a
+in text %0a3 syslog 2003 
+in times 2003 b
+in text %0a
+out text 2 rsp 6 200 OK%0a3 rsp 6 200 OK%0a
+outcome 0 text
+outcome 76 text
+outcome 76 text 0 4294967296 0 2 relp 2000%0a
+outcome 91 text 0 4294967296 0 2 relp 2000%0a
+outcome 91 text 0 4294967296 0 2 relp 2000%0a1 4294967296 1 3 relp 2003%0a
+outcome 106 text 0 4294967296 0 2 relp 2000%0a1 4294967296 1 3 relp 2003%0a
+fails disk 0 1 1 1 2 7*3 4
+stops
 call replay relp
 open
 in text 2 syslog 2000 
@@ -29,7 +45,7 @@ out text %0a
 leaves text 0 4294967296 0 2 relp 2000%0a1 4294967296 1 3 relp 2003%0a
 leaves text 1 4294967296 1 3 relp 2003%0a
 stops
-fails 0 1
+fails disk 0 1
 ends 68 peer closed
 call list
 out text 1 4294967296 1 3 relp 2003%0a
@@ -70,7 +86,7 @@ replies text 1 rsp 6 200 OK%0a2 rsp 6 200 OK%0a
 leaves text 0 4294967296 0 2 relp 5%0a
 leaves text
 stops
-fails 0 1
+fails disk 0 1
 call drain relp there
 replies text 1 rsp 6 200 OK%0a2 rsp 6 200 OK%0a
 peer_write 1
@@ -113,7 +129,7 @@ out text 1 open 59 relp_version=0%0arelp_software=bridge,1,local%0acommands=sysl
 leaves text 0 4294967296 0 2 relp 5%0a
 leaves text
 stops
-fails 0 1
+fails disk 0 1
 ends 0
 holds 4096 text %01%00%00%00%00%00%00%00%03%00%00%00%13%02%00%00%00%00%00%00%00%01%00%00%00%00%00%00%00%01%00%00
 holds 8192 text %01%00%00%00%00%00%00%00%02%00%00%00%11%01%00%00%00%00%00%00%00%01

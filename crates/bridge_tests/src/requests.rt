@@ -252,5 +252,5 @@ outcome 0 text
 outcome 117 text
 outcome 117 text 0 4294967296 0 4294967296 event 13%0a
 outcome 216 text 0 4294967296 0 4294967296 event 13%0a
-fails 0 1 1 1 2
+fails disk 0 1 1 1 2
 stops"#;

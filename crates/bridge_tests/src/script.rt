@@ -1,9 +1,10 @@
 //! Scripts: calls of `bridge` one after another, each line a step.
 
+use crate::cuts::cuts_well;
 use crate::parts::{add, bytes_of, number, word};
 use crate::play::{Outcome, Play};
 use crate::requests::exchange;
-use crate::sweeps::{fails_well, stops_well};
+use crate::sweeps::{Swept, fails_well, stops_well};
 use bridge_words::note_text;
 use std::alloc::Global;
 use std::process::Abort;
@@ -128,11 +129,14 @@ fn end<R: Threads + Wait + Sync>(
     Ok(is_right)
 }
 
-// The numbers of a text, with a space between them.
+// The numbers of a text, with a space between them; `61*0` stands for 61 of them that are 0.
 fn numbers(alloc: Global, text: &str) -> Result<Vec<u64>, Fail> {
     let mut all = Vec::new(alloc);
     for word in text.split(' ') {
-        all.push(number(word)?)?;
+        let (count, one) = word.split_once('*').unwrap_or(("1", word));
+        for _ in 0..number(count)? {
+            all.push(number(one)?)?;
+        }
     }
     Ok(all)
 }
@@ -152,10 +156,15 @@ fn look<R: Threads + Wait + Sync>(
         return Ok(play.before == play.device);
     }
     if step == "fails" {
-        return Ok(fails_well(rt, alloc, play, &numbers(alloc, rest)?)?);
+        let (name, places) = word(rest);
+        let swept = Swept::named(name).ok_or("no such object")?;
+        return Ok(fails_well(rt, alloc, play, swept, &numbers(alloc, places)?)?);
     }
     if step == "stops" {
         return Ok(stops_well(rt, alloc, play)?);
+    }
+    if step == "cuts" {
+        return Ok(cuts_well(rt, alloc, play, &numbers(alloc, rest)?)?);
     }
     let (first, rest) = word(rest);
     let first = number(first)?;
@@ -213,13 +222,16 @@ fn follow<R: Threads + Wait + Sync>(
 ///   length;
 /// - `same`, `keeps FROM END`, `holds AT BYTES`: the device, or that part of it, is as it was
 ///   before the call; these bytes stand on it;
-/// - `outcome WRITTEN BYTES`: what the call may leave where its disk fails, that is so many bytes
-///   of the output, and what `list` prints then; the last one is what it leaves where it ends well;
+/// - `outcome WRITTEN BYTES`: what the call may leave where a call of its disk, its input or its output fails, that is so
+///   many bytes of the output, and what `list` prints then; the last one is what it leaves where it ends well;
 ///   `leaves BYTES`: the same of a session that forwards, whatever it has written, and the last one is what it leaves where
 ///   no call of the disk fails;
-/// - `fails PLACES`: the call is made with each call of the disk failing once, and the last of
-///   these leave the outcomes at these places; `stops`: it is made with the machine stopped at each
-///   call of the disk.
+/// - `fails disk PLACES`: the call is made with each call of the disk failing once, and the last of
+///   these leave the outcomes at these places; `fails input PLACES` and `fails output PLACES`: the same of each read of the
+///   input and of each write of the output, of which all leave these, and `61*0` stands for 61 places 0; `stops`: it is made
+///   with the machine stopped at each call of the disk;
+/// - `cuts ENDS`: the call is made with its input cut after each number of its bytes, from none to all; its frames end at
+///   these places, from 0 on, and the outcomes are those of no frame, of the first one, and so on.
 pub(crate) fn run_script<R: Abort + Threads + Wait + Sync>(
     rt: &R,
     alloc: Global,

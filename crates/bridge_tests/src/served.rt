@@ -4,13 +4,29 @@ use crate::places::{EVENTS, PLACES, Place, WORDS};
 use crate::spools::{formatted, listed, nothing, words_of};
 use bridge_core::{Ended, bridge};
 use bridge_words::Note;
-use edge_disk::MemDisk;
-use edge_io::{MemDoor, MemSink};
+use edge_disk::{Disk, MemDisk};
+use edge_io::{MemDoor, MemNet, MemSink, Net, Sink};
 use std::alloc::{AllocError, Global};
 use std::process::Abort;
 use std::sync::Wait;
 use std::test::Fail;
 use std::thread::Threads;
+
+/// What is printed where no call fails.
+const LINE: &[u8] = b"3 talks, 7 taken, 7 confirmed, 0 left\n";
+
+/// How the last frame ends that a session writes.
+const CLOSE: &[u8] = b" close 0\n";
+
+/// The sessions with the peer.
+#[derive(Drop)]
+struct Sessions {
+    /// What was written in all of them.
+    sent: Vec<u8>,
+    /// Whether one of them ended before its `close` was written, and whether the last one did.
+    has_cut: bool,
+    is_cut: bool,
+}
 
 /// What a run left.
 #[derive(Drop)]
@@ -18,10 +34,50 @@ struct Left {
     note: Note,
     printed: Vec<u8>,
     doors: Vec<MemDoor>,
-    /// What was sent to the peer, of all sessions.
-    sent: Vec<u8>,
+    sessions: Sessions,
     /// The events that are pending, a line each.
     pending: Vec<u8>,
+    /// Whether the call of the disk, the net or the output that is to fail comes only after the run.
+    comes_next: bool,
+}
+
+fn sessions_of(alloc: Global, net: &MemNet) -> Result<Sessions, AllocError> {
+    let mut sessions = Sessions {
+        sent: Vec::new(alloc),
+        has_cut: false,
+        is_cut: false,
+    };
+    for hung in net.hung() {
+        sessions.sent.extend_from_slice(&hung.written)?;
+        sessions.is_cut = !hung.written.ends_with(CLOSE);
+        sessions.has_cut = sessions.has_cut || sessions.is_cut;
+    }
+    Ok(sessions)
+}
+
+// Whether the call of the disk, the net or the output that is to fail is one of the next ones: a sync, a bind of no door or a write
+// of nothing.
+fn comes_next(
+    failing: Failing,
+    disk: &mut MemDisk,
+    net: &mut MemNet,
+    output: &mut MemSink,
+) -> bool {
+    let Some((object, number)) = failing else {
+        return false;
+    };
+    for _ in 0..=number {
+        let fails = match object {
+            Object::Disk => disk.sync().is_err(),
+            Object::Net => net.bind("", 0).is_err(),
+            Object::Output => output.write(&[]).is_err(),
+            _ => false,
+        };
+        if fails {
+            return true;
+        }
+    }
+    false
 }
 
 // A run in which that call fails.
@@ -37,7 +93,7 @@ fn run<R: Threads + Wait + Sync>(
     let words = words_of(alloc, WORDS)?;
     let Ended {
         note,
-        disk,
+        mut disk,
         doors,
         ..
     } = bridge(
@@ -49,15 +105,12 @@ fn run<R: Threads + Wait + Sync>(
         &mut output,
         &mut net,
     );
-    let mut sent = Vec::new(alloc);
-    for hung in net.hung() {
-        sent.extend_from_slice(&hung.written)?;
-    }
     Ok(Left {
         note,
         printed: output.taken().to_vec(alloc)?,
         doors,
-        sent,
+        sessions: sessions_of(alloc, &net)?,
+        comes_next: comes_next(failing, &mut disk, &mut net, &mut output),
         pending: listed(rt, alloc, disk)?,
     })
 }
@@ -81,7 +134,7 @@ fn is_kept(place: &Place, written: &[u8], left: &Left) -> bool {
             None => return true,
         }
         for event in answer.events {
-            if !has(&left.pending, event) && !has(&left.sent, event) {
+            if !has(&left.pending, event) && !has(&left.sessions.sent, event) {
                 return false;
             }
         }
@@ -157,9 +210,32 @@ fn is_printed(alloc: Global, object: Object, number: u64, left: &Left) -> Result
     counts_left(alloc, left)
 }
 
-// Whether a run may end so where that call fails. How talks end, and sessions before the last one, doesn't count. The first call of
-// the disk opens the spool, and the first ones of a link to the peer are made in each session.
-fn may_end(object: Object, number: u64, note: Note) -> bool {
+// The status of the talk at this place; none where no link was served.
+fn status_at(left: &Left, place: u8) -> Option<u8> {
+    let Some(door) = left.doors.get(usize::from(place)) else {
+        return None;
+    };
+    match door.talks().get(0) {
+        Some(talk) => Some(talk.status),
+        None => None,
+    }
+}
+
+// Whether the run made the call that was to fail.
+fn is_reached(object: Object, left: &Left) -> bool {
+    match object {
+        Object::Disk | Object::Net | Object::Output => !left.comes_next,
+        Object::Accept(place) | Object::Read(place) | Object::Write(place) => {
+            status_at(left, place) != Some(0)
+        }
+        Object::PeerRead | Object::PeerWrite => left.sessions.has_cut,
+    }
+}
+
+// Whether a run may end so where that call fails. How talks end doesn't count, nor sessions before the last one. The first call of
+// the disk opens the spool; in each session the open is written, its answer read, and an event written.
+fn may_end(object: Object, number: u64, left: &Left) -> bool {
+    let note = left.note;
     match object {
         Object::Disk if number == 0 => note == Note::DiskFault,
         Object::Disk => note == Note::Fine || note == Note::DiskFault,
@@ -167,51 +243,117 @@ fn may_end(object: Object, number: u64, note: Note) -> bool {
         Object::Read(_) | Object::Write(_) => note == Note::Fine,
         Object::Net if number < 3 => note == Note::NetFault,
         Object::Net => note == Note::Fine || note == Note::NetFault,
-        Object::PeerRead if number == 0 => note == Note::ReadFault,
-        Object::PeerRead => note == Note::Fine || note == Note::ReadFault,
-        Object::PeerWrite if number == 0 => note == Note::WriteFault,
-        Object::PeerWrite => note == Note::Fine || note == Note::WriteFault,
+        Object::PeerRead => note == Note::ReadFault && left.sessions.is_cut,
+        Object::PeerWrite if note == Note::Fine => number > 1,
+        Object::PeerWrite => note == Note::WriteFault && left.sessions.is_cut,
         Object::Output => note == Note::WriteFault,
     }
 }
 
-// Whether the talk at this place ended with this status.
-fn ends_talk(left: &Left, place: u8, status: u8) -> bool {
-    let Some(door) = left.doors.get(usize::from(place)) else {
-        return false;
+// Whether that was written to the link of a place, which gave all that it has.
+fn is_answered(place: &Place, written: &[u8]) -> bool {
+    let mut rest = written;
+    for answer in place.answers {
+        match rest.strip_prefix(answer.text) {
+            Some(more) => rest = more,
+            None => return false,
+        }
+    }
+    rest.is_empty()
+}
+
+// Whether the talk at this place ended with this status, answered whole where that is 0; or whether there was none.
+fn ends_talk(place: &Place, door: &MemDoor, status: Option<u8>) -> bool {
+    let Some(talk) = door.talks().get(0) else {
+        return status.is_none();
     };
-    match door.talks().get(0) {
-        Some(talk) => talk.status == status,
-        None => false,
-    }
+    status == Some(talk.status) && (talk.status != 0 || is_answered(place, &talk.written))
 }
 
-// Whether a talk whose first read or first write fails ended with the status of that.
-fn reports_fault(object: Object, number: u64, left: &Left) -> bool {
+// How the talk at a place ends where that call fails; there is none where its accept fails.
+fn status_by(object: Object, place: u8) -> Option<u8> {
     match object {
-        Object::Read(place) if number == 0 => ends_talk(left, place, 71),
-        Object::Write(place) if number == 0 => ends_talk(left, place, 72),
-        _ => true,
+        Object::Accept(at) if at == place => None,
+        Object::Read(at) if at == place => Some(71),
+        Object::Write(at) if at == place => Some(72),
+        _ => Some(0),
     }
 }
 
-// One call after another fails.
+// Whether each talk ended as it has to where that call fails. One call of the disk may end one talk, whichever made it.
+fn talks_end(object: Object, left: &Left) -> bool {
+    let mut has_fault = object != Object::Disk;
+    for (number, (place, door)) in PLACES.iter().zip(left.doors.iter()).enumerate() {
+        if ends_talk(place, door, status_by(object, (number % 3) as u8)) {
+            continue;
+        }
+        if has_fault || !ends_talk(place, door, Some(73)) {
+            return false;
+        }
+        has_fault = true;
+    }
+    true
+}
+
+// Whether a run left all that it has to where no call fails.
+fn is_whole(left: &Left) -> bool {
+    for (place, door) in PLACES.iter().zip(left.doors.iter()) {
+        if !ends_talk(place, door, Some(0)) {
+            return false;
+        }
+    }
+    let is_printed = left.note == Note::Fine && left.printed.as_slice() == LINE;
+    is_printed && left.doors.len() == 3 && left.pending.is_empty() && are_kept(left)
+}
+
+// Whether a run left what it has to where that call fails.
+fn is_right(alloc: Global, object: Object, number: u64, left: &Left) -> Result<bool, AllocError> {
+    if !is_reached(object, left) {
+        return Ok(is_whole(left));
+    }
+    let is_told = may_end(object, number, left) && talks_end(object, left);
+    Ok(is_told && are_kept(left) && is_printed(alloc, object, number, left)?)
+}
+
+// The objects; how many calls each run makes of each, at least; and how many at most. Of the net these are three binds, and a dial
+// for each session, which confirms an event at least; of the peer the one read of a session, and the writes of its open, its events
+// and its close; of the disk those of an opening and of four groups, and at most those of seven sessions besides.
+const CALLS: &[(Object, u64, u64)] = &[
+    (Object::Accept(0), 1, 1),
+    (Object::Accept(1), 1, 1),
+    (Object::Accept(2), 1, 1),
+    (Object::Read(0), 2, 2),
+    (Object::Read(1), 2, 2),
+    (Object::Read(2), 3, 3),
+    (Object::Write(0), 3, 3),
+    (Object::Write(1), 1, 1),
+    (Object::Write(2), 1, 1),
+    (Object::Net, 4, 10),
+    (Object::PeerRead, 1, 1),
+    (Object::PeerWrite, 3, 9),
+    (Object::Output, 1, 1),
+    (Object::Disk, 30, 160),
+];
+
+// One call after another fails, until one is none of the run's.
 fn fail_each<R: Abort + Threads + Wait + Sync>(
     rt: &R,
     alloc: Global,
     object: Object,
-    calls: u64,
+    least: u64,
+    most: u64,
 ) -> Result<(), Fail> {
-    for number in 0..calls {
+    for number in 0..=most {
         let left = run(rt, alloc, Some((object, number)))?;
         let note = left.note;
+        let was_made = is_reached(object, &left);
         assert!(rt;
-            may_end(object, number, note) && reports_fault(object, number, &left),
-            "{object:?} {number}: {note:?}"
+            (was_made || number >= least) && (!was_made || number < most),
+            "{object:?} {number}: made: {was_made}"
         );
         assert!(rt;
-            are_kept(&left) && is_printed(alloc, object, number, &left)?,
-            "{object:?} {number}"
+            is_right(alloc, object, number, &left)?,
+            "{object:?} {number}: {note:?}"
         );
     }
     Ok(())
@@ -219,43 +361,10 @@ fn fail_each<R: Abort + Threads + Wait + Sync>(
 
 #[test]
 fn three_places_are_served(rt: HostRuntime) -> Result<(), Fail> {
-    let alloc = rt.alloc();
-    let left = run(&rt, alloc, None)?;
-    assert!(rt; left.note == Note::Fine);
-    let line: &[u8] = b"3 talks, 7 taken, 7 confirmed, 0 left\n";
-    assert!(rt; left.printed.as_slice() == line);
-    assert!(rt; left.pending.is_empty() && left.doors.len() == 3);
-    for (place, door) in PLACES.iter().zip(left.doors.iter()) {
-        let mut answers = Vec::new(alloc);
-        for answer in place.answers {
-            answers.extend_from_slice(answer.text)?;
-        }
-        let talk = door.talks().get(0).ok_or("no talk")?;
-        assert!(rt; talk.status == 0 && talk.written == answers);
-    }
-    assert!(rt; are_kept(&left));
-    Ok(())
-}
-
-#[test]
-fn calls_of_doors_fail(rt: HostRuntime) -> Result<(), Fail> {
-    for place in 0..3 {
-        fail_each(&rt, rt.alloc(), Object::Accept(place), 1)?;
-        fail_each(&rt, rt.alloc(), Object::Read(place), 3)?;
-        fail_each(&rt, rt.alloc(), Object::Write(place), 3)?;
+    let left = run(&rt, rt.alloc(), None)?;
+    assert!(rt; is_whole(&left));
+    for (object, least, most) in CALLS {
+        fail_each(&rt, rt.alloc(), *object, *least, *most)?;
     }
     Ok(())
-}
-
-#[test]
-fn calls_of_the_net_and_the_peer_fail(rt: HostRuntime) -> Result<(), Fail> {
-    fail_each(&rt, rt.alloc(), Object::Net, 6)?;
-    fail_each(&rt, rt.alloc(), Object::PeerRead, 3)?;
-    fail_each(&rt, rt.alloc(), Object::PeerWrite, 4)?;
-    fail_each(&rt, rt.alloc(), Object::Output, 1)
-}
-
-#[test]
-fn calls_of_the_disk_fail(rt: HostRuntime) -> Result<(), Fail> {
-    fail_each(&rt, rt.alloc(), Object::Disk, 80)
 }

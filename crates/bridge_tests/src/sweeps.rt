@@ -1,7 +1,7 @@
-//! A call whose disk fails or stops at each of its calls in turn.
+//! A call that is made again and again, each time with another call of its disk, its input or its output failing, or with its disk
+//! stopping there.
 
 use crate::play::{Left, Outcome, Play};
-use bridge_words::Note;
 use edge_disk::{Crash, MemDisk};
 use std::alloc::{AllocError, Global};
 use std::sync::Wait;
@@ -10,8 +10,43 @@ use std::thread::Threads;
 // No outcome that may be.
 const WRONG: u64 = u64::MAX;
 
-// More calls than are made of a disk.
-const CALLS: u64 = 100;
+// More calls than are made of a disk, an input or an output.
+const CALLS: u64 = 1000;
+
+// The status where a call of the disk failed.
+const DISK_FAULT: u8 = 73;
+
+/// Whose calls fail, one at a time.
+#[derive(Clone, Copy, PartialEq, Eq)]
+pub(crate) enum Swept {
+    Disk,
+    Input,
+    Output,
+}
+
+impl Swept {
+    /// The one of that name.
+    pub(crate) fn named(name: &str) -> Option<Swept> {
+        if name == "disk" {
+            Some(Swept::Disk)
+        } else if name == "input" {
+            Some(Swept::Input)
+        } else if name == "output" {
+            Some(Swept::Output)
+        } else {
+            None
+        }
+    }
+
+    // The status where one of its calls failed.
+    fn status(self) -> u8 {
+        match self {
+            Swept::Disk => DISK_FAULT,
+            Swept::Input => 71,
+            Swept::Output => 72,
+        }
+    }
+}
 
 const CRASHES: [Crash; 5] = [
     Crash::Synced,
@@ -21,8 +56,8 @@ const CRASHES: [Crash; 5] = [
     Crash::Filled(255),
 ];
 
-// What `list` prints of a device; nothing where it doesn't end well.
-fn listed<R: Threads + Wait + Sync>(
+/// What `list` prints of a device; nothing where it doesn't end well.
+pub(crate) fn listed<R: Threads + Wait + Sync>(
     rt: &R,
     alloc: Global,
     device: Vec<u8>,
@@ -30,7 +65,7 @@ fn listed<R: Threads + Wait + Sync>(
     let mut play = Play::new(alloc, 8192);
     play.words.push(String::from_str(alloc, "list")?)?;
     let left = play.call(rt, alloc, MemDisk::of(device, Vec::new(alloc)))?;
-    if left.note == Note::Fine {
+    if left.status == 0 {
         Ok(Some(left.written))
     } else {
         Ok(None)
@@ -53,7 +88,7 @@ fn answers_later<R: Threads + Wait + Sync>(
     }
     later.input = play.after.to_vec(alloc)?;
     let left = later.call(rt, alloc, MemDisk::of(device, Vec::new(alloc)))?;
-    Ok(left.note == Note::Fine && left.written == play.answer)
+    Ok(left.status == 0 && left.written == play.answer)
 }
 
 // Where the outcomes have this one.
@@ -77,34 +112,35 @@ fn bytes_after(alloc: Global, disk: MemDisk, crash: Option<Crash>) -> Result<Vec
     }
 }
 
-// Whether no call of the disk failed: the call ended well, or as the peer of a session ends it.
-fn is_over(play: &Play, note: Note) -> bool {
-    note == Note::Fine || (play.is_drain && note != Note::DiskFault)
+// Whether no call failed that has this status: the call ended well, or as the peer of a session ends it.
+fn is_over(play: &Play, fault: u8, status: u8) -> bool {
+    status == 0 || (play.is_drain && status != fault)
 }
 
-// Whether the note fits what was written and the outcome: a call that ends well, and no other,
-// writes all, and leaves the last outcome. A session leaves the last one where no call of the disk fails.
-fn is_right(play: &Play, note: Note, written: &[u8], found: u64) -> bool {
-    let is_fine = note == Note::Fine;
+// Whether the status fits what was written and the outcome: a call that ends well, and no other, writes all, and leaves the last
+// outcome. Where a read fails all may have been written. A session leaves the last one where no call of the disk fails.
+fn is_right(play: &Play, status: u8, written: &[u8], found: u64) -> bool {
+    let is_fine = status == 0;
     let is_last = found.saturating_add(1) == play.outcomes.len() as u64;
     if play.is_drain {
-        return is_last || note == Note::DiskFault;
+        return is_last || status == DISK_FAULT;
     }
-    let is_whole = play.output.is_empty() || is_fine == (written.len() == play.output.len());
-    play.output.starts_with(written) && is_whole && (is_last || !is_fine)
+    let is_whole = written.len() == play.output.len();
+    let is_told = play.output.is_empty() || is_fine == is_whole || status == Swept::Input.status();
+    play.output.starts_with(written) && is_told && (is_last || !is_fine)
 }
 
-// Makes the call over this disk, which then may crash. Answers the note, and the outcome.
+// Makes the call over this disk, which then may crash. Answers the status, and the outcome.
 fn outcome_over<R: Threads + Wait + Sync>(
     rt: &R,
     alloc: Global,
     play: &Play,
     disk: MemDisk,
     crash: Option<Crash>,
-) -> Result<(Note, u64), AllocError> {
+) -> Result<(u8, u64), AllocError> {
     let Left {
-        status: _,
-        note,
+        status,
+        note: _,
         written,
         disk,
         sent: _,
@@ -112,35 +148,61 @@ fn outcome_over<R: Threads + Wait + Sync>(
     } = play.call(rt, alloc, disk)?;
     let device = bytes_after(alloc, disk, crash)?;
     if !answers_later(rt, alloc, play, device.to_vec(alloc)?)? {
-        return Ok((note, WRONG));
+        return Ok((status, WRONG));
     }
     let Some(lines) = listed(rt, alloc, device)? else {
-        return Ok((note, WRONG));
+        return Ok((status, WRONG));
     };
     let found = place_of(play, written.len() as u64, &lines);
-    if is_right(play, note, &written, found) {
-        Ok((note, found))
+    if is_right(play, status, &written, found) {
+        Ok((status, found))
     } else {
-        Ok((note, WRONG))
+        Ok((status, WRONG))
     }
 }
 
-/// Whether each call of the disk, where it fails alone, makes the note and leaves an outcome that
-/// may be, and the last calls leave these.
+// Makes the call with that call of its disk, its input or its output failing, and no other one. Answers the status, and the
+// outcome.
+fn outcome_failing<R: Threads + Wait + Sync>(
+    rt: &R,
+    alloc: Global,
+    play: &mut Play,
+    swept: Swept,
+    number: u64,
+) -> Result<(u8, u64), AllocError> {
+    let mut calls = Vec::new(alloc);
+    play.reads.clear();
+    play.writes.clear();
+    match swept {
+        Swept::Disk => calls.push(number)?,
+        Swept::Input => play.reads.push(number)?,
+        Swept::Output => play.writes.push(number)?,
+    }
+    let disk = MemDisk::of(play.device.to_vec(alloc)?, calls);
+    let found = outcome_over(rt, alloc, play, disk, None)?;
+    play.reads.clear();
+    play.writes.clear();
+    Ok(found)
+}
+
+/// Whether each call of the disk, the input or the output, where it fails alone, makes the status and leaves an outcome that may
+/// be, until none fails; and the last of these leave the outcomes at these places. Of the input and the output these are all calls.
 pub(crate) fn fails_well<R: Threads + Wait + Sync>(
     rt: &R,
     alloc: Global,
-    play: &Play,
+    play: &mut Play,
+    swept: Swept,
     last: &[u64],
 ) -> Result<bool, AllocError> {
     let mut seen = Vec::new(alloc);
+    let fault = swept.status();
     for number in 0..CALLS {
-        let disk = MemDisk::of(play.device.to_vec(alloc)?, vec![in alloc; number]?);
-        let (note, found) = outcome_over(rt, alloc, play, disk, None)?;
-        if is_over(play, note) {
-            return Ok(found != WRONG && !seen.contains(&WRONG) && seen.ends_with(last));
+        let (status, found) = outcome_failing(rt, alloc, play, swept, number)?;
+        if is_over(play, fault, status) {
+            let is_all = swept == Swept::Disk || seen.len() == last.len();
+            return Ok(is_all && found != WRONG && !seen.contains(&WRONG) && seen.ends_with(last));
         }
-        if note != Note::DiskFault {
+        if status != fault {
             return Ok(false);
         }
         seen.push(found)?;
@@ -159,8 +221,8 @@ fn stops_after<R: Threads + Wait + Sync>(
     let mut is_fine = false;
     for choice in CRASHES {
         let disk = MemDisk::stopped(play.device.to_vec(alloc)?, calls);
-        let (note, found) = outcome_over(rt, alloc, play, disk, Some(choice))?;
-        is_fine = is_over(play, note);
+        let (status, found) = outcome_over(rt, alloc, play, disk, Some(choice))?;
+        is_fine = is_over(play, DISK_FAULT, status);
         if found == WRONG {
             return Ok((false, is_fine));
         }

@@ -2,7 +2,10 @@
 ghost use Rattle.std.specs.Prelude.{◌<◌, IfOk, IfSome};
 
 use crate::harness::{Failing, NONE, Part, Row, device, joined, serve};
-use crate::{hec_endings, hec_refused, hec_rows, lumberjack_endings, lumberjack_rows, relp_rows};
+use crate::{
+    hec_endings, hec_refused, hec_rows, hec_unsaid, lumberjack_endings, lumberjack_rows,
+    relp_endings, relp_rows,
+};
 use edge_io::Proto;
 use event_form::{Attended, Talk};
 use std::process::Abort;
@@ -12,26 +15,29 @@ use std::test::Fail;
 fn check(rt: &(impl Abort + AllocGlobal), proto: Proto, rows: &[Row]) -> Result<(), Fail> {
     let alloc = rt.alloc();
     for row in rows {
+        let Row {
+            name,
+            slot,
+            talk,
+            taken,
+            ..
+        } = *row;
+        assert!(rt; !row.steps.is_empty(), "{name}: no step");
         for step in row.steps {
-            let slot = row.slot.clamp(4096, 1_000_000);
+            let step = *step;
+            assert!(rt;
+                step > 0 && slot >= 4096 && slot <= 1_000_000,
+                "{name}: {slot}, step {step}"
+            );
             let input = joined(alloc, row.input)?;
-            let step = (*step).max(1);
             let served = serve(alloc, proto, device(alloc, slot)?, input, step, row.failing)?;
             let left = served.ok_or("not opened")?;
-            let Row {
-                name,
-                talk,
-                taken,
-                ..
-            } = *row;
             let attended = Attended { talk, taken };
             assert_eq!(rt; left.attended, attended, "{name}, step {step}");
             let written = joined(alloc, row.written)?;
             assert_eq!(rt; left.written, written, "{name}, step {step}");
+            assert_eq!(rt; left.entries.as_slice(), row.entries, "{name}, step {step}");
             assert_eq!(rt; left.count as u64, taken, "{name}, step {step}");
-            if let Some(entries) = row.entries {
-                assert_eq!(rt; left.entries.as_slice(), entries, "{name}, step {step}");
-            }
         }
     }
     Ok(())
@@ -43,6 +49,8 @@ struct Faulty {
     input: &'static [u8],
     /// What is written by how many entries were taken.
     written: [(u64, &'static [u8]); 3],
+    /// The entries of both takes.
+    entries: &'static [u8],
 }
 
 const FAULTY: [Faulty; 3] = [
@@ -69,6 +77,7 @@ const FAULTY: [Faulty; 3] = [
                 3 rsp 6 200 OK\n",
             ),
         ],
+        entries: b"7 0 2 rfirst\n7 1 3 rsecond\n",
     },
     Faulty {
         proto: Proto::Lumberjack,
@@ -79,11 +88,13 @@ const FAULTY: [Faulty; 3] = [
             (2, b"2A\0\0\0\x02"),
             (3, b"2A\0\0\0\x022A\0\0\0\x01"),
         ],
+        entries: b"7 0 1 jxxxxx\n7 1 2 jxxxxxx\n7 2 1 jxxxxxxx\n",
     },
     Faulty {
         proto: Proto::Hec,
         input: hec_rows::TWO_TAKES,
         written: hec_rows::AT_EACH,
+        entries: b"7 0 0 o{\"event\":1}\n7 1 0 o{\"event\":1}\n",
     },
 ];
 
@@ -115,7 +126,13 @@ fn takes_before(
         "call {call}"
     );
     if talk == Talk::DiskFault {
-        assert!(rt; left.count as u64 >= taken, "call {call}");
+        let next = row
+            .written
+            .get(takes + 1)
+            .map_or(taken, |(count, _)| *count);
+        let count = left.count as u64;
+        assert!(rt; count == taken || count == next, "call {call}: {count}");
+        assert!(rt; row.entries.starts_with(&left.entries), "call {call}");
         return Ok(Some(takes));
     }
     assert_eq!(rt; (talk, takes), (Talk::Ended, 2), "call {call}");
@@ -140,7 +157,8 @@ fn a_failed_call_of_the_disk_ends_the_connection(rt: HostRuntime) -> Result<(), 
 
 #[test]
 fn relp_is_served(rt: HostRuntime) -> Result<(), Fail> {
-    check(&rt, Proto::Relp, &relp_rows::ROWS)
+    check(&rt, Proto::Relp, &relp_rows::ROWS)?;
+    check(&rt, Proto::Relp, &relp_endings::ENDINGS)
 }
 
 #[test]
@@ -153,7 +171,8 @@ fn lumberjack_is_served(rt: HostRuntime) -> Result<(), Fail> {
 fn the_collector_is_served(rt: HostRuntime) -> Result<(), Fail> {
     check(&rt, Proto::Hec, &hec_rows::ROWS)?;
     check(&rt, Proto::Hec, &hec_refused::REFUSED)?;
-    check(&rt, Proto::Hec, &hec_endings::ENDINGS)
+    check(&rt, Proto::Hec, &hec_endings::ENDINGS)?;
+    check(&rt, Proto::Hec, &hec_unsaid::UNSAID)
 }
 
 // A connection that isn't closed goes on, whatever number of requests came.

@@ -19,18 +19,20 @@ const TOKEN: u128 = 0x1111_1111_2222_3333_4444_5555_5555_5555;
 
 const ACK_TOKEN: u128 = 0xaaaa_aaaa_2222_3333_4444_5555_5555_5555;
 
-/// Which calls of the disk, the input and the output fail, counted from 0.
+/// Which calls of the disk, the input and the output fail, counted from 0, and how many ids of the run are used up.
 #[derive(Clone, Copy)]
 pub struct Failing<'a> {
     pub disk: &'a [u64],
     pub reads: &'a [u64],
     pub writes: &'a [u64],
+    pub ids: u32,
 }
 
 pub const NONE: Failing<'static> = Failing {
     disk: &[],
     reads: &[],
     writes: &[],
+    ids: 0,
 };
 
 /// A part of an input.
@@ -49,7 +51,7 @@ pub struct Row {
     pub input: &'static [Part],
     /// How many bytes a read brings at most, each in turn.
     pub steps: &'static [usize],
-    /// How many bytes the one slot of the spool has.
+    /// How many bytes the one slot of the spool has, 4,096 to 1,000,000.
     pub slot: u64,
     pub failing: Failing<'static>,
     pub talk: Talk,
@@ -57,8 +59,8 @@ pub struct Row {
     pub taken: u64,
     pub written: &'static [Part],
     /// The entries, one after another as `CONN INDEX UNIT`, a letter for the form (`r` RELP, `d` pairs, `j`
-    /// JSON, `o` an object, `w` a raw line), the text and LF. None: they are long, and only counted.
-    pub entries: Option<&'static [u8]>,
+    /// JSON, `o` an object, `w` a raw line), the text and LF. A text of so many letters x, above 100, is shown as `x{COUNT}`.
+    pub entries: &'static [u8],
 }
 
 /// What a connection left.
@@ -117,7 +119,13 @@ fn shown(alloc: Global, entries: &[Numbered]) -> Result<Vec<u8>, Fail> {
         let head = format!(in alloc; "{} {} {} ", entry.conn, entry.index, entry.unit)?;
         out.extend_from_slice(head.as_bytes())?;
         out.push(letter(entry.event.origin))?;
-        out.extend_from_slice(entry.event.text.bytes())?;
+        let text = entry.event.text.bytes();
+        if text.len() > 100 && text.iter().all(|&byte| byte == b'x') {
+            let fill = format!(in alloc; "x{{{}}}", text.len())?;
+            out.extend_from_slice(fill.as_bytes())?;
+        } else {
+            out.extend_from_slice(text)?;
+        }
         out.push(b'\n')?;
     }
     Ok(out)
@@ -138,7 +146,7 @@ pub fn serve(
     let Ok(spool) = Spool::recover(alloc, disk, Opening::Raise) else {
         return Ok(None);
     };
-    let ids = Ids::new(alloc, spool.run(), 0);
+    let ids = Ids::new(alloc, spool.run(), failing.ids);
     let mut access = Alone::new(Desk { spool, ids });
     let mut source = MemSource::of(input, step, failing.reads.to_vec(alloc)?);
     let mut sink = MemSink::of(alloc, failing.writes.to_vec(alloc)?);

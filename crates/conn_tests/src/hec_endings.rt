@@ -1,10 +1,10 @@
-//! Connections of the collector, and how they end: at a request that closes, at bytes that are none, and where the spool, a read or a
-//! write refuses.
+//! Connections of the collector, and how they end: at a request that closes, at bytes that are none, and where the spool or the
+//! table of ids refuses, or a read fails.
 use crate::harness::{Failing, NONE, Part, Row};
 use event_form::{Talk, Why};
 
 /// What is sent, and what comes of it.
-pub const ENDINGS: [Row; 10] = [
+pub const ENDINGS: [Row; 11] = [
     // A request that closes is answered so, and nothing after it is read.
     Row {
         name: "a request that closes is the last one",
@@ -29,7 +29,7 @@ pub const ENDINGS: [Row; 10] = [
             b"HTTP/1.1 200 OK\r\nContent-Type: application/json\r\nContent-Length: 27\r\n\
             Connection: close\r\n\r\n{\"text\":\"Success\",\"code\":0}",
         )],
-        entries: Some(b"7 0 0 o{\"event\":1}\n"),
+        entries: b"7 0 0 o{\"event\":1}\n",
     },
     // So is one of HTTP/1.0, with acks.
     Row {
@@ -52,7 +52,7 @@ pub const ENDINGS: [Row; 10] = [
             b"HTTP/1.1 200 OK\r\nContent-Type: application/json\r\nContent-Length: 46\r\n\
             Connection: close\r\n\r\n{\"text\":\"Success\",\"code\":0,\"ackId\":4294967296}",
         )],
-        entries: Some(b"7 0 4294967296 o{\"event\":1}\n"),
+        entries: b"7 0 4294967296 o{\"event\":1}\n",
     },
     Row {
         name: "a closing request that is refused",
@@ -68,7 +68,7 @@ pub const ENDINGS: [Row; 10] = [
             b"HTTP/1.1 401 Unauthorized\r\nContent-Type: application/json\r\nContent-Length: 37\r\n\
             Connection: close\r\n\r\n{\"text\":\"Token is required\",\"code\":2}",
         )],
-        entries: Some(b""),
+        entries: b"",
     },
     Row {
         name: "bytes that are no request",
@@ -98,7 +98,7 @@ pub const ENDINGS: [Row; 10] = [
                 Connection: close\r\n\r\n{\"text\":\"Invalid data format\",\"code\":6}",
             ),
         ],
-        entries: Some(b"7 0 0 o{\"event\":1}\n"),
+        entries: b"7 0 0 o{\"event\":1}\n",
     },
     Row {
         name: "a request without its end",
@@ -122,7 +122,7 @@ pub const ENDINGS: [Row; 10] = [
         written: &[Part::Bytes(
             b"HTTP/1.1 200 OK\r\nContent-Type: application/json\r\nContent-Length: 27\r\n\r\n{\"text\":\"Success\",\"code\":0}",
         )],
-        entries: Some(b"7 0 0 o{\"event\":1}\n"),
+        entries: b"7 0 0 o{\"event\":1}\n",
     },
     Row {
         name: "more than the spool's one slot takes",
@@ -147,7 +147,7 @@ pub const ENDINGS: [Row; 10] = [
             b"HTTP/1.1 503 Service Unavailable\r\nContent-Type: application/json\r\nContent-Length: 34\r\n\
             Connection: close\r\n\r\n{\"text\":\"Server is busy\",\"code\":9}",
         )],
-        entries: Some(b""),
+        entries: b"",
     },
     // The same with acks: the id was said, and no id is told after that.
     Row {
@@ -174,58 +174,96 @@ pub const ENDINGS: [Row; 10] = [
             b"HTTP/1.1 200 OK\r\nContent-Type: application/json\r\nContent-Length: 46\r\n\r\n\
             {\"text\":\"Success\",\"code\":0,\"ackId\":4294967296}",
         )],
-        entries: Some(b""),
+        entries: b"",
     },
-    // A reply that isn't written: its events stay, without acks.
+    // A request that closes, of which the events aren't taken: the refusal is the ending, and is said once.
     Row {
-        name: "a reply that isn't written, without acks",
-        input: &[Part::Bytes(
-            b"POST /services/collector/event HTTP/1.1\r\n\
-            Authorization: Splunk 11111111-2222-3333-4444-555555555555\r\nContent-Length: 11\r\n\r\n\
-            {\"event\":1}\
-            POST /services/collector/event HTTP/1.1\r\n\
-            Authorization: Splunk 11111111-2222-3333-4444-555555555555\r\nContent-Length: 11\r\n\r\n\
-            {\"event\":1}",
-        )],
+        name: "a closing request of more than the slot takes",
+        input: &[
+            Part::Bytes(
+                b"POST /services/collector/event HTTP/1.1\r\n\
+                Authorization: Splunk 11111111-2222-3333-4444-555555555555\r\nConnection: close\r\n\
+                Content-Length: 5012\r\n\r\n{\"event\":\"",
+            ),
+            Part::Fill(5000),
+            Part::Bytes(b"\"}"),
+        ],
         steps: &[1000],
         slot: 4096,
-        failing: Failing {
-            writes: &[1],
-            ..NONE
+        failing: NONE,
+        talk: Talk::TooLarge {
+            need: 5050,
+            most: 4078,
         },
-        talk: Talk::WriteFault,
-        taken: 2,
+        taken: 0,
         written: &[Part::Bytes(
-            b"HTTP/1.1 200 OK\r\nContent-Type: application/json\r\nContent-Length: 27\r\n\r\n{\"text\":\"Success\",\"code\":0}",
+            b"HTTP/1.1 503 Service Unavailable\r\nContent-Type: application/json\r\nContent-Length: 34\r\n\
+            Connection: close\r\n\r\n{\"text\":\"Server is busy\",\"code\":9}",
         )],
-        entries: Some(b"7 0 0 o{\"event\":1}\n7 1 0 o{\"event\":1}\n"),
+        entries: b"",
     },
-    // With acks they aren't taken.
     Row {
-        name: "a reply that isn't written, with acks",
-        input: &[Part::Bytes(
-            b"POST /services/collector/event HTTP/1.1\r\n\
-            Authorization: Splunk aaaaaaaa-2222-3333-4444-555555555555\r\n\
-            X-Splunk-Request-Channel: cccccccc-2222-3333-4444-555555555555\r\nContent-Length: 11\r\n\r\n\
-            {\"event\":1}\
-            POST /services/collector/event HTTP/1.1\r\n\
-            Authorization: Splunk aaaaaaaa-2222-3333-4444-555555555555\r\n\
-            X-Splunk-Request-Channel: cccccccc-2222-3333-4444-555555555555\r\nContent-Length: 11\r\n\r\n\
-            {\"event\":1}",
-        )],
+        name: "a closing request of more than the slot takes, with acks",
+        input: &[
+            Part::Bytes(
+                b"POST /services/collector/event HTTP/1.1\r\n\
+                Authorization: Splunk aaaaaaaa-2222-3333-4444-555555555555\r\n\
+                X-Splunk-Request-Channel: cccccccc-2222-3333-4444-555555555555\r\nConnection: close\r\n\
+                Content-Length: 5012\r\n\r\n{\"event\":\"",
+            ),
+            Part::Fill(5000),
+            Part::Bytes(b"\"}"),
+        ],
         steps: &[1000],
         slot: 4096,
+        failing: NONE,
+        talk: Talk::TooLarge {
+            need: 5050,
+            most: 4078,
+        },
+        taken: 0,
+        written: &[Part::Bytes(
+            b"HTTP/1.1 200 OK\r\nContent-Type: application/json\r\nContent-Length: 46\r\n\
+            Connection: close\r\n\r\n{\"text\":\"Success\",\"code\":0,\"ackId\":4294967296}",
+        )],
+        entries: b"",
+    },
+    // The last id of the run, and a request after it.
+    Row {
+        name: "no id is left",
+        input: &[
+            Part::Bytes(
+                b"POST /services/collector/event HTTP/1.1\r\n\
+                Authorization: Splunk aaaaaaaa-2222-3333-4444-555555555555\r\n\
+                X-Splunk-Request-Channel: cccccccc-2222-3333-4444-555555555555\r\nContent-Length: 11\r\n\r\n\
+                {\"event\":1}",
+            ),
+            Part::Bytes(
+                b"POST /services/collector/event HTTP/1.1\r\n\
+                Authorization: Splunk aaaaaaaa-2222-3333-4444-555555555555\r\n\
+                X-Splunk-Request-Channel: dddddddd-2222-3333-4444-555555555555\r\nContent-Length: 11\r\n\r\n\
+                {\"event\":2}",
+            ),
+        ],
+        steps: &[1, 1000],
+        slot: 4096,
         failing: Failing {
-            writes: &[1],
+            ids: 4_294_967_295,
             ..NONE
         },
-        talk: Talk::WriteFault,
+        talk: Talk::NoMore { run: 1 },
         taken: 1,
-        written: &[Part::Bytes(
-            b"HTTP/1.1 200 OK\r\nContent-Type: application/json\r\nContent-Length: 46\r\n\r\n\
-            {\"text\":\"Success\",\"code\":0,\"ackId\":4294967296}",
-        )],
-        entries: Some(b"7 0 4294967296 o{\"event\":1}\n"),
+        written: &[
+            Part::Bytes(
+                b"HTTP/1.1 200 OK\r\nContent-Type: application/json\r\nContent-Length: 46\r\n\r\n\
+                {\"text\":\"Success\",\"code\":0,\"ackId\":8589934591}",
+            ),
+            Part::Bytes(
+                b"HTTP/1.1 503 Service Unavailable\r\nContent-Type: application/json\r\nContent-Length: 34\r\n\
+                Connection: close\r\n\r\n{\"text\":\"Server is busy\",\"code\":9}",
+            ),
+        ],
+        entries: b"7 0 8589934591 o{\"event\":1}\n",
     },
     Row {
         name: "a read that fails",
@@ -248,6 +286,6 @@ pub const ENDINGS: [Row; 10] = [
         written: &[Part::Bytes(
             b"HTTP/1.1 200 OK\r\nContent-Type: application/json\r\nContent-Length: 27\r\n\r\n{\"text\":\"Success\",\"code\":0}",
         )],
-        entries: Some(b"7 0 0 o{\"event\":1}\n"),
+        entries: b"7 0 0 o{\"event\":1}\n",
     },
 ];

@@ -134,7 +134,7 @@ pub const REFUSED: [Row; 2] = [
                 {\"text\":\"Query string authorization is not enabled\",\"code\":16}",
             ),
         ],
-        entries: Some(b""),
+        entries: b"",
     },
     // Leave to send a body is given once, before what the request asks for is done.
     Row {
@@ -167,6 +167,6 @@ pub const REFUSED: [Row; 2] = [
                 {\"text\":\"Success\",\"code\":0}",
             ),
         ],
-        entries: Some(b"7 0 0 o{\"event\":1}\n7 1 0 o{\"event\":2}\n"),
+        entries: b"7 0 0 o{\"event\":1}\n7 1 0 o{\"event\":2}\n",
     },
 ];

@@ -58,7 +58,7 @@ pub const ROWS: [Row; 4] = [
         written: &[Part::Bytes(
             b"HTTP/1.1 200 OK\r\nContent-Type: application/json\r\nContent-Length: 27\r\n\r\n{\"text\":\"Success\",\"code\":0}",
         )],
-        entries: Some(b"7 0 0 o{\"event\":\"a\"}\n7 1 0 o{\"event\":{\"b\":1.50}}\n"),
+        entries: b"7 0 0 o{\"event\":\"a\"}\n7 1 0 o{\"event\":{\"b\":1.50}}\n",
     },
     Row {
         name: "raw lines",
@@ -74,7 +74,7 @@ pub const ROWS: [Row; 4] = [
         written: &[Part::Bytes(
             b"HTTP/1.1 200 OK\r\nContent-Type: application/json\r\nContent-Length: 27\r\n\r\n{\"text\":\"Success\",\"code\":0}",
         )],
-        entries: Some(b"7 0 0 wp\n7 1 0 wq\n"),
+        entries: b"7 0 0 wp\n7 1 0 wq\n",
     },
     // With acks: an id, told true once to its channel, and to no other one.
     Row {
@@ -128,9 +128,7 @@ pub const ROWS: [Row; 4] = [
                 {\"acks\":{\"4294967296\":false}}",
             ),
         ],
-        entries: Some(
-            b"7 0 4294967296 o{\"event\":\"a\"}\n7 1 4294967296 o{\"event\":{\"b\":1.50}}\n",
-        ),
+        entries: b"7 0 4294967296 o{\"event\":\"a\"}\n7 1 4294967296 o{\"event\":{\"b\":1.50}}\n",
     },
     // Each request has an id of its own, in order; no entry has another one's.
     Row {
@@ -174,6 +172,6 @@ pub const ROWS: [Row; 4] = [
                 {\"acks\":{\"4294967296\":false,\"4294967297\":true}}",
             ),
         ],
-        entries: Some(b"7 0 4294967296 o{\"event\":1}\n7 1 4294967297 o{\"event\":2}\n"),
+        entries: b"7 0 4294967296 o{\"event\":1}\n7 1 4294967297 o{\"event\":2}\n",
     },
 ];

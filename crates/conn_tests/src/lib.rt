@@ -14,8 +14,12 @@ mod hec_refused;
 #[cfg(test)]
 mod hec_rows;
 #[cfg(test)]
+mod hec_unsaid;
+#[cfg(test)]
 mod lumberjack_endings;
 #[cfg(test)]
 mod lumberjack_rows;
+#[cfg(test)]
+mod relp_endings;
 #[cfg(test)]
 mod relp_rows;

@@ -15,7 +15,7 @@ pub const ENDINGS: [Row; 17] = [
         talk: Talk::Truncated { at: 18 },
         taken: 1,
         written: &[Part::Bytes(b"2A\0\0\0\x01")],
-        entries: Some(b"7 0 1 j{}\n"),
+        entries: b"7 0 1 j{}\n",
     },
     Row {
         name: "staged, then a part of a window frame",
@@ -26,7 +26,7 @@ pub const ENDINGS: [Row; 17] = [
         talk: Talk::Truncated { at: 18 },
         taken: 1,
         written: &[Part::Bytes(b"2A\0\0\0\x01")],
-        entries: Some(b"7 0 1 j{}\n"),
+        entries: b"7 0 1 j{}\n",
     },
     Row {
         name: "staged, then a compressed frame",
@@ -40,7 +40,7 @@ pub const ENDINGS: [Row; 17] = [
         },
         taken: 1,
         written: &[Part::Bytes(b"2A\0\0\0\x01")],
-        entries: Some(b"7 0 1 j{}\n"),
+        entries: b"7 0 1 j{}\n",
     },
     Row {
         name: "staged, then another version",
@@ -54,7 +54,7 @@ pub const ENDINGS: [Row; 17] = [
         },
         taken: 1,
         written: &[Part::Bytes(b"2A\0\0\0\x01")],
-        entries: Some(b"7 0 1 j{}\n"),
+        entries: b"7 0 1 j{}\n",
     },
     Row {
         name: "staged, then an acknowledgment",
@@ -68,7 +68,7 @@ pub const ENDINGS: [Row; 17] = [
         },
         taken: 1,
         written: &[Part::Bytes(b"2A\0\0\0\x01")],
-        entries: Some(b"7 0 1 j{}\n"),
+        entries: b"7 0 1 j{}\n",
     },
     Row {
         name: "staged, then a window too large",
@@ -82,7 +82,7 @@ pub const ENDINGS: [Row; 17] = [
         },
         taken: 1,
         written: &[Part::Bytes(b"2A\0\0\0\x01")],
-        entries: Some(b"7 0 1 j{}\n"),
+        entries: b"7 0 1 j{}\n",
     },
     Row {
         name: "staged, then a frame too long",
@@ -96,7 +96,7 @@ pub const ENDINGS: [Row; 17] = [
         },
         taken: 1,
         written: &[Part::Bytes(b"2A\0\0\0\x01")],
-        entries: Some(b"7 0 1 j{}\n"),
+        entries: b"7 0 1 j{}\n",
     },
     // At a failed read what is staged is given up.
     Row {
@@ -111,7 +111,7 @@ pub const ENDINGS: [Row; 17] = [
         talk: Talk::ReadFault,
         taken: 0,
         written: &[],
-        entries: Some(b""),
+        entries: b"",
     },
     Row {
         name: "what was acknowledged stays at a failed read",
@@ -125,7 +125,7 @@ pub const ENDINGS: [Row; 17] = [
         talk: Talk::ReadFault,
         taken: 2,
         written: &[Part::Bytes(b"2A\0\0\0\x02")],
-        entries: Some(b"7 0 1 j{}\n7 1 2 j{}\n"),
+        entries: b"7 0 1 j{}\n7 1 2 j{}\n",
     },
     // The acknowledgment is not written: after a whole window, and at the end of the input.
     Row {
@@ -142,7 +142,7 @@ pub const ENDINGS: [Row; 17] = [
         talk: Talk::WriteFault,
         taken: 2,
         written: &[Part::Bytes(b"2A\0\0\0\x01")],
-        entries: Some(b"7 0 1 jx\n7 1 2 jy\n"),
+        entries: b"7 0 1 jx\n7 1 2 jy\n",
     },
     Row {
         name: "an acknowledgment isn't written, at the end of the input",
@@ -156,7 +156,7 @@ pub const ENDINGS: [Row; 17] = [
         talk: Talk::WriteFault,
         taken: 2,
         written: &[Part::Bytes(b"2A\0\0\0\x01")],
-        entries: Some(b"7 0 1 jx\n7 1 2 jy\n"),
+        entries: b"7 0 1 jx\n7 1 2 jy\n",
     },
     // A refused batch is not acknowledged: at the end of a window, of the input and at a fault.
     Row {
@@ -176,7 +176,7 @@ pub const ENDINGS: [Row; 17] = [
         },
         taken: 1,
         written: &[Part::Bytes(b"2A\0\0\0\x01")],
-        entries: None,
+        entries: b"7 0 1 jx{3000}\n",
     },
     Row {
         name: "a batch is refused at the end of the input",
@@ -195,7 +195,7 @@ pub const ENDINGS: [Row; 17] = [
         },
         taken: 1,
         written: &[Part::Bytes(b"2A\0\0\0\x01")],
-        entries: None,
+        entries: b"7 0 1 jx{3000}\n",
     },
     Row {
         name: "a batch is refused at a fault",
@@ -215,7 +215,7 @@ pub const ENDINGS: [Row; 17] = [
         },
         taken: 1,
         written: &[Part::Bytes(b"2A\0\0\0\x01")],
-        entries: None,
+        entries: b"7 0 1 jx{3000}\n",
     },
     Row {
         name: "a batch is refused at a frame cut short",
@@ -235,7 +235,7 @@ pub const ENDINGS: [Row; 17] = [
         },
         taken: 1,
         written: &[Part::Bytes(b"2A\0\0\0\x01")],
-        entries: None,
+        entries: b"7 0 1 jx{3000}\n",
     },
     // Two events are one group, which has to fit whole.
     Row {
@@ -255,7 +255,7 @@ pub const ENDINGS: [Row; 17] = [
         },
         taken: 0,
         written: &[],
-        entries: Some(b""),
+        entries: b"",
     },
     Row {
         name: "two events are one group, which fits exactly",
@@ -271,6 +271,6 @@ pub const ENDINGS: [Row; 17] = [
         talk: Talk::Ended,
         taken: 2,
         written: &[Part::Bytes(b"2A\0\0\0\x02")],
-        entries: None,
+        entries: b"7 0 1 jx{2000}\n7 1 2 jx{2011}\n",
     },
 ];

@@ -4,7 +4,7 @@ use crate::harness::{NONE, Part, Row};
 use event_form::Talk;
 
 /// What is sent, and what comes of it.
-pub const ROWS: [Row; 9] = [
+pub const ROWS: [Row; 10] = [
     Row {
         name: "no bytes",
         input: &[],
@@ -14,7 +14,7 @@ pub const ROWS: [Row; 9] = [
         talk: Talk::Ended,
         taken: 0,
         written: &[],
-        entries: Some(b""),
+        entries: b"",
     },
     Row {
         name: "a window of two frames",
@@ -27,7 +27,7 @@ pub const ROWS: [Row; 9] = [
         talk: Talk::Ended,
         taken: 2,
         written: &[Part::Bytes(b"2A\0\0\0\x02")],
-        entries: Some(b"7 0 1 j{\"a\":1}\n7 1 2 j{}\n"),
+        entries: b"7 0 1 j{\"a\":1}\n7 1 2 j{}\n",
     },
     Row {
         name: "a new window cuts the old one",
@@ -40,7 +40,7 @@ pub const ROWS: [Row; 9] = [
         talk: Talk::Ended,
         taken: 3,
         written: &[Part::Bytes(b"2A\0\0\0\x022A\0\0\0\x01")],
-        entries: Some(b"7 0 1 j{}\n7 1 2 j{}\n7 2 1 j[]\n"),
+        entries: b"7 0 1 j{}\n7 1 2 j{}\n7 2 1 j[]\n",
     },
     Row {
         name: "a window of zero has no effect",
@@ -51,7 +51,7 @@ pub const ROWS: [Row; 9] = [
         talk: Talk::Ended,
         taken: 1,
         written: &[Part::Bytes(b"2A\0\0\0\x09")],
-        entries: Some(b"7 0 9 j{}\n"),
+        entries: b"7 0 9 j{}\n",
     },
     Row {
         name: "a frame outside a window is a window of one",
@@ -62,7 +62,7 @@ pub const ROWS: [Row; 9] = [
         talk: Talk::Ended,
         taken: 2,
         written: &[Part::Bytes(b"2A\0\0\0\x052A\0\0\0\x03")],
-        entries: Some(b"7 0 5 jx\n7 1 3 jy\n"),
+        entries: b"7 0 5 jx\n7 1 3 jy\n",
     },
     Row {
         name: "pairs stay as they stand, doubled keys too",
@@ -75,7 +75,7 @@ pub const ROWS: [Row; 9] = [
         talk: Talk::Ended,
         taken: 1,
         written: &[Part::Bytes(b"2A\0\0\0\x01")],
-        entries: Some(b"7 0 1 d\0\0\0\x01a\0\0\0\x01x\0\0\0\x01a\0\0\0\x01y\n"),
+        entries: b"7 0 1 d\0\0\0\x01a\0\0\0\x01x\0\0\0\x01a\0\0\0\x01y\n",
     },
     Row {
         name: "a frame without pairs",
@@ -86,7 +86,7 @@ pub const ROWS: [Row; 9] = [
         talk: Talk::Ended,
         taken: 1,
         written: &[Part::Bytes(b"2A\0\0\0\x01")],
-        entries: Some(b"7 0 1 d\n"),
+        entries: b"7 0 1 d\n",
     },
     Row {
         name: "the end of the input ends the window",
@@ -97,7 +97,7 @@ pub const ROWS: [Row; 9] = [
         talk: Talk::Ended,
         taken: 2,
         written: &[Part::Bytes(b"2A\0\0\0\x06")],
-        entries: Some(b"7 0 8 j{}\n7 1 6 j[]\n"),
+        entries: b"7 0 8 j{}\n7 1 6 j[]\n",
     },
     // The longest frames: the window is full before a piece is, and takes the rest once they are served.
     Row {
@@ -115,6 +115,29 @@ pub const ROWS: [Row; 9] = [
         talk: Talk::Ended,
         taken: 4,
         written: &[Part::Bytes(b"2A\0\0\0\x012A\0\0\0\x03")],
-        entries: None,
+        entries: b"7 0 1 jx{131072}\n7 1 1 jx{131072}\n7 2 2 j{}\n7 3 3 j[]\n",
+    },
+    // A batch ends with the frame by which the staged texts have 262,144 bytes; the window goes on.
+    Row {
+        name: "batches that end by their bytes",
+        input: &[
+            Part::Bytes(b"2W\0\0\0\x052J\0\0\0\x01\0\x02\0\0"),
+            Part::Fill(131072),
+            Part::Bytes(b"2J\0\0\0\x02\0\x02\0\0"),
+            Part::Fill(131072),
+            Part::Bytes(b"2J\0\0\0\x03\0\x02\0\0"),
+            Part::Fill(131072),
+            Part::Bytes(b"2J\0\0\0\x04\0\x02\0\0"),
+            Part::Fill(131072),
+            Part::Bytes(b"2J\0\0\0\x05\0\x02\0\0"),
+            Part::Fill(131072),
+        ],
+        steps: &[8192],
+        slot: 1_000_000,
+        failing: NONE,
+        talk: Talk::Ended,
+        taken: 5,
+        written: &[Part::Bytes(b"2A\0\0\0\x022A\0\0\0\x042A\0\0\0\x05")],
+        entries: b"7 0 1 jx{131072}\n7 1 2 jx{131072}\n7 2 3 jx{131072}\n7 3 4 jx{131072}\n7 4 5 jx{131072}\n",
     },
 ];

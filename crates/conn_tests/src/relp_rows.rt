@@ -1,9 +1,9 @@
 //! Connections of RELP. The frames, answers and places are those of rsyslog's RELP specification, version 0.
-use crate::harness::{Failing, NONE, Part, Row};
+use crate::harness::{NONE, Part, Row};
 use event_form::{Talk, Why};
 
-// An `open`, 61 bytes.
-const OPEN: &[u8] = b"1 open 50 relp_version=0\nrelp_software=a,1,b\ncommands=syslog\n";
+/// An `open`, 61 bytes.
+pub const OPEN: &[u8] = b"1 open 50 relp_version=0\nrelp_software=a,1,b\ncommands=syslog\n";
 
 /// The answer to an `open`.
 pub const OPENED: &[u8] =
@@ -17,8 +17,13 @@ const OMRELP: &[u8] = b"1 open 86 relp_version=0\n\
     xxxxxxxxxxxxxxxxxxxxxxxxxxxxxxxxxxxxxxxxxxxxxxxxxxxxxxxxxxxxxxxxxxxxxxxxxxxxxxx\n\
     102 close 0\n";
 
+// The event of it, as it is stored.
+const OMRELP_ENTRY: &[u8] =
+    b"7 0 2 r<133>2026-11-26T20:57:46.865810+00:00 vm app: event 000000 xxxxxxxx\
+    xxxxxxxxxxxxxxxxxxxxxxxxxxxxxxxxxxxxxxxxxxxxxxxxxxxxxxxxxxxxxxxxxxxxxxxxxxxxxxx\n";
+
 /// What is sent, and what comes of it.
-pub const ROWS: [Row; 16] = [
+pub const ROWS: [Row; 11] = [
     Row {
         name: "bytes after a close are dropped",
         input: &[
@@ -34,7 +39,7 @@ pub const ROWS: [Row; 16] = [
             Part::Bytes(OPENED),
             Part::Bytes(b"2 rsp 6 200 OK\n3 rsp 6 200 OK\n4 rsp 0\n0 serverclose 0\n"),
         ],
-        entries: Some(b"7 0 2 rfirst\n7 1 3 rsecond\n"),
+        entries: b"7 0 2 rfirst\n7 1 3 rsecond\n",
     },
     // A frame after a close is neither stored nor answered.
     Row {
@@ -49,7 +54,7 @@ pub const ROWS: [Row; 16] = [
             Part::Bytes(OPENED),
             Part::Bytes(b"2 rsp 0\n0 serverclose 0\n"),
         ],
-        entries: Some(b""),
+        entries: b"",
     },
     // What rsyslog 8.2302 sends: its open, its first event and its close.
     Row {
@@ -64,7 +69,7 @@ pub const ROWS: [Row; 16] = [
             Part::Bytes(OPENED),
             Part::Bytes(b"2 rsp 6 200 OK\n102 rsp 0\n0 serverclose 0\n"),
         ],
-        entries: None,
+        entries: OMRELP_ENTRY,
     },
     Row {
         name: "each frame is answered by how far the session is",
@@ -87,7 +92,7 @@ pub const ROWS: [Row; 16] = [
                 b"3 rsp 16 500 already open\n4 rsp 19 500 unknown command\n5 rsp 6 200 OK\n",
             ),
         ],
-        entries: Some(b"7 0 5 r\n"),
+        entries: b"7 0 5 r\n",
     },
     Row {
         name: "no bytes",
@@ -98,7 +103,7 @@ pub const ROWS: [Row; 16] = [
         talk: Talk::Ended,
         taken: 0,
         written: &[],
-        entries: Some(b""),
+        entries: b"",
     },
     Row {
         name: "an open alone",
@@ -109,7 +114,7 @@ pub const ROWS: [Row; 16] = [
         talk: Talk::Ended,
         taken: 0,
         written: &[Part::Bytes(OPENED)],
-        entries: Some(b""),
+        entries: b"",
     },
     Row {
         name: "an event, then the end",
@@ -120,7 +125,7 @@ pub const ROWS: [Row; 16] = [
         talk: Talk::Ended,
         taken: 1,
         written: &[Part::Bytes(OPENED), Part::Bytes(b"2 rsp 6 200 OK\n")],
-        entries: Some(b"7 0 2 rfirst\n"),
+        entries: b"7 0 2 rfirst\n",
     },
     Row {
         name: "an event, then a part of a frame",
@@ -131,7 +136,7 @@ pub const ROWS: [Row; 16] = [
         talk: Talk::Truncated { at: 78 },
         taken: 1,
         written: &[Part::Bytes(OPENED), Part::Bytes(b"2 rsp 6 200 OK\n")],
-        entries: Some(b"7 0 2 rfirst\n"),
+        entries: b"7 0 2 rfirst\n",
     },
     Row {
         name: "the frames before a fault are served",
@@ -148,7 +153,7 @@ pub const ROWS: [Row; 16] = [
         },
         taken: 1,
         written: &[Part::Bytes(OPENED), Part::Bytes(b"2 rsp 6 200 OK\n")],
-        entries: Some(b"7 0 2 rfirst\n"),
+        entries: b"7 0 2 rfirst\n",
     },
     Row {
         name: "a close before a fault",
@@ -165,114 +170,7 @@ pub const ROWS: [Row; 16] = [
             Part::Bytes(OPENED),
             Part::Bytes(b"2 rsp 6 200 OK\n3 rsp 0\n0 serverclose 0\n"),
         ],
-        entries: Some(b"7 0 2 rfirst\n"),
-    },
-    // The answer is not written: the event stands in the spool.
-    Row {
-        name: "an answer isn't written",
-        input: &[
-            Part::Bytes(OPEN),
-            Part::Bytes(b"2 syslog 5 first\n3 syslog 6 second\n"),
-        ],
-        steps: &[1, 1000],
-        slot: 4096,
-        failing: Failing {
-            writes: &[1],
-            ..NONE
-        },
-        talk: Talk::WriteFault,
-        taken: 1,
-        written: &[Part::Bytes(OPENED)],
-        entries: Some(b"7 0 2 rfirst\n"),
-    },
-    Row {
-        name: "a read fails",
-        input: &[
-            Part::Bytes(OPEN),
-            Part::Bytes(b"2 syslog 5 first\n3 syslog 6 second\n"),
-        ],
-        steps: &[78],
-        slot: 4096,
-        failing: Failing {
-            reads: &[1],
-            ..NONE
-        },
-        talk: Talk::ReadFault,
-        taken: 1,
-        written: &[Part::Bytes(OPENED), Part::Bytes(b"2 rsp 6 200 OK\n")],
-        entries: Some(b"7 0 2 rfirst\n"),
-    },
-    // Of 4,078 bytes 3,038 are taken, and 1,040 are left: a refused event is not answered.
-    Row {
-        name: "a refused event is not answered",
-        input: &[
-            Part::Bytes(OPEN),
-            Part::Bytes(b"2 syslog 3000 "),
-            Part::Fill(3000),
-            Part::Bytes(b"\n3 syslog 1003 "),
-            Part::Fill(1003),
-            Part::Bytes(b"\n4 close 0\n"),
-        ],
-        steps: &[1000],
-        slot: 4096,
-        failing: NONE,
-        talk: Talk::Full {
-            need: 1041,
-            room: 1040,
-        },
-        taken: 1,
-        written: &[
-            Part::Bytes(OPENED),
-            Part::Bytes(b"2 rsp 6 200 OK\n"),
-            Part::Bytes(b"0 serverclose 0\n"),
-        ],
-        entries: None,
-    },
-    Row {
-        name: "the hint is not written",
-        input: &[
-            Part::Bytes(OPEN),
-            Part::Bytes(b"2 syslog 3000 "),
-            Part::Fill(3000),
-            Part::Bytes(b"\n3 syslog 1003 "),
-            Part::Fill(1003),
-            Part::Bytes(b"\n4 close 0\n"),
-        ],
-        steps: &[1000],
-        slot: 4096,
-        failing: Failing {
-            writes: &[2],
-            ..NONE
-        },
-        talk: Talk::WriteFault,
-        taken: 1,
-        written: &[Part::Bytes(OPENED), Part::Bytes(b"2 rsp 6 200 OK\n")],
-        entries: None,
-    },
-    Row {
-        name: "an exact fit, and a group that no slot takes",
-        input: &[
-            Part::Bytes(OPEN),
-            Part::Bytes(b"2 syslog 4040 "),
-            Part::Fill(4040),
-            Part::Bytes(b"\n3 syslog 4041 "),
-            Part::Fill(4041),
-            Part::Bytes(b"\n"),
-        ],
-        steps: &[1000],
-        slot: 4096,
-        failing: NONE,
-        talk: Talk::TooLarge {
-            need: 4079,
-            most: 4078,
-        },
-        taken: 1,
-        written: &[
-            Part::Bytes(OPENED),
-            Part::Bytes(b"2 rsp 6 200 OK\n"),
-            Part::Bytes(b"0 serverclose 0\n"),
-        ],
-        entries: None,
+        entries: b"7 0 2 rfirst\n",
     },
     // The longest frames: the window is full before a piece is, and takes the rest once they are served.
     Row {
@@ -294,6 +192,6 @@ pub const ROWS: [Row; 16] = [
             Part::Bytes(OPENED),
             Part::Bytes(b"2 rsp 6 200 OK\n3 rsp 6 200 OK\n4 rsp 6 200 OK\n5 rsp 6 200 OK\n"),
         ],
-        entries: None,
+        entries: b"7 0 2 rx{131072}\n7 1 3 rx{131072}\n7 2 4 ra\n7 3 5 rb\n",
     },
 ];

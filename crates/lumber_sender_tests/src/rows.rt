@@ -148,3 +148,22 @@ pub const LONG_ROWS: &[LongRow] = &[
         "N w w w c3 N Done",
     ),
 ];
+
+/// A session of one window whose frame is longer than those that a receiver here reads: the entries, what is written, which is some
+/// bytes, some that repeat with how often they do, and some more. The window is acknowledged.
+pub type WideRow = (
+    &'static [Entries],
+    &'static [u8],
+    &'static [u8],
+    usize,
+    &'static [u8],
+);
+
+/// Payloads above 131,072 bytes, which have their own length: each byte of the text makes an escape of six.
+pub const WIDE_ROWS: &[WideRow] = &[(
+    &[(Origin::HecRaw, b"\x01", 30_000, 1)],
+    b"2W\0\0\0\x012J\0\0\0\x01\0\x02\xbf\x2e{\"message\":\"",
+    b"\\u0001",
+    30_000,
+    b"\"}",
+)];

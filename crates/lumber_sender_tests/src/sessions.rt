@@ -1,6 +1,6 @@
 use crate::driven::{Driven, FIRST};
 use crate::received::sizes;
-use crate::rows::{Entries, LONG_ROWS, ROWS};
+use crate::rows::{Entries, LONG_ROWS, ROWS, WIDE_ROWS};
 use event_form::Turn;
 use std::alloc::{AllocError, Global};
 use std::test::*;
@@ -61,13 +61,32 @@ fn send(
             }
             Turn::Wait => {
                 let (piece, more) = rest.split_at(size.min(rest.len()));
-                driven.feed(piece)?;
+                if !driven.feed(piece)? {
+                    session.turns.push_str("no room")?;
+                    break;
+                }
                 rest = more;
             }
             _ => {}
         }
     }
     Ok(session)
+}
+
+/// Bytes, some that repeat so often, and more bytes.
+fn repeated(
+    alloc: Global,
+    head: &[u8],
+    part: &[u8],
+    times: usize,
+    tail: &[u8],
+) -> Result<Vec<u8>, AllocError> {
+    let mut bytes = Vec::from_slice(alloc, head)?;
+    for _ in 0..times {
+        bytes.extend_from_slice(part)?;
+    }
+    bytes.extend_from_slice(tail)?;
+    Ok(bytes)
 }
 
 #[test]
@@ -87,6 +106,12 @@ fn windows_are_written_and_acknowledged(rt: HostRuntime) -> Result<(), Fail> {
             let sizes = sizes(rt.alloc(), &session.out)?.ok_or("no windows")?;
             assert_eq!(rt; sizes.as_slice(), *windows, "{turns}");
         }
+    }
+    for (entries, head, part, times, tail) in WIDE_ROWS {
+        let session = send(rt.alloc(), entries, b"2A\0\0\0\x01", 4096)?;
+        let written = repeated(rt.alloc(), head, part, *times, tail)?;
+        assert_eq!(rt; session.out.as_slice(), written.as_slice());
+        assert_eq!(rt; session.turns.as_str(), "N w c1 N Done");
     }
     Ok(())
 }

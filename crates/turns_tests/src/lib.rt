@@ -10,8 +10,6 @@ pub use crew::{Shift, work_together};
 pub use taking::{entry, take_many};
 
 #[cfg(test)]
-mod faults;
-#[cfg(test)]
 mod made;
 #[cfg(test)]
 mod pair;

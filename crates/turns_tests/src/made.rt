@@ -8,6 +8,7 @@ use edge_disk::MemDisk;
 use hec_ids::Ids;
 use spool_log::{Opening, Spool, format};
 use std::alloc::{AllocError, Global};
+use std::test::Fail;
 
 /// A disk with an empty spool of two slots of that size. It keeps no record of what a crash may leave.
 pub(crate) fn formatted(alloc: Global, slot: u64) -> Result<Option<MemDisk>, AllocError>
@@ -29,6 +30,16 @@ pub(crate) fn opened(alloc: Global, disk: MemDisk) -> Option<Desk<MemDisk>>
         Ok(spool) => Some(desk_over(alloc, spool)),
         Err(_) => None,
     }
+}
+
+/// How many calls of the disk an opening of these bytes for storing makes.
+pub(crate) fn calls_to_open(alloc: Global, bytes: &[u8]) -> Result<u64, Fail> {
+    for calls in 0..100 {
+        if opened(alloc, MemDisk::stopped(bytes.to_vec(alloc)?, calls)).is_some() {
+            return Ok(calls);
+        }
+    }
+    Err("no spool".into())
 }
 
 // The desk of a spool, with no id.

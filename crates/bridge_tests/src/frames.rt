@@ -1,0 +1,94 @@
+//! Inputs that end within a frame, and frames that are wrong.
+
+/// A session of RELP whose input ends after each of its bytes: within a frame, or where one ends.
+pub(crate) const CUTS: &str = r#"- three frames
+device 16384
+call format 1 4096
+out text 1 slots of 4096 bytes%0a
+ends 0
+call replay relp
+open
+in text 2 syslog 5 hello%0a3 close 0%0a
+out text 2 rsp 6 200 OK%0a3 rsp 0%0a0 serverclose 0%0a
+outcome 0 text
+outcome 76 text
+outcome 91 text 0 4294967296 0 2 relp 5%0a
+outcome 115 text 0 4294967296 0 2 relp 5%0a
+cuts 0 61 78 88"#;
+
+/// Each kind of wrong frame: where it is found, and what is answered. Nothing is stored.
+pub(crate) const WRONG: &str = r#"- RELP
+device 16384
+call format 1 4096
+out text 1 slots of 4096 bytes%0a
+ends 0
+call replay relp
+in text 1234567890
+ends 66 fault at 9: digits
+call replay relp
+in text 1 
+in times 33 a
+ends 66 fault at 34: command
+call replay relp
+in text 1 open x
+ends 66 fault at 7: digits
+call replay relp
+in text 1 open 0x
+ends 66 fault at 8: space
+call replay relp
+in text 1 open 0 x
+ends 66 fault at 9: trailer
+call list
+ends 0
+same
+
+- Lumberjack
+device 16384
+call format 1 4096
+out text 1 slots of 4096 bytes%0a
+ends 0
+call replay lumberjack
+in text 1
+ends 66 fault at 0: version
+call replay lumberjack
+in text 2X
+ends 66 fault at 1: type
+call replay lumberjack
+in text 2A%00%00%00%01
+ends 66 fault at 1: ack from writer
+call replay lumberjack
+in text 2W%00%01%00%01
+ends 66 fault at 2: too many
+call replay lumberjack
+in text 2D%00%00%00%01%00%00%04%01
+ends 66 fault at 6: too many
+call replay lumberjack
+in text 2J%00%00%00%01%00%02%00%01
+ends 66 fault at 6: too long
+call replay lumberjack
+in text 2D%00%00%00%01%00%00%00%01%00%02%00%00
+ends 66 fault at 10: too long
+call list
+ends 0
+same
+
+- the collector
+device 16384
+call format 1 4096
+out text 1 slots of 4096 bytes%0a
+ends 0
+call replay hec --token 11111111-2222-3333-4444-555555555555
+in text POST /services/collector HTTP/1.1%0d%0aContent-Length: 1x%0d%0a%0d%0a
+ends_malformed {"text":"Invalid data format","code":6}
+ends 66 fault at 0: bad length
+call replay hec --token 11111111-2222-3333-4444-555555555555
+in text POST /services/collector HTTP/1.1%0d%0aContent-Length: 1048577%0d%0a%0d%0a
+ends_malformed {"text":"Invalid data format","code":6}
+ends 66 fault at 0: too long
+call replay hec --token 11111111-2222-3333-4444-555555555555
+in text POST /services/collector HTTP/1.1%0d%0aTransfer-Encoding: chunked%0d%0a%0d%0azz%0d%0a
+ends_malformed {"text":"Invalid data format","code":6}
+ends 66 fault at 65: bad chunk
+call list
+ends 0
+same"#;
