@@ -33,8 +33,8 @@ pub record RepliesAreKept {p : Protocol HttpItem} {left : Option (List ℕ)} {b 
   pub stored : (group : Group) → AcknowledgesGroup carried group → IsTakenDurably calls now group
   pub told : (channel id : ℕ) → TellsTrue carried channel id → (group : Group) × IsOfId id group × AreDurable now (group ∷ [])
 
--- Whatever the text of a connection acknowledges, as its sender reads it, is durable: by RELP the transactions that are answered 200,
--- by Lumberjack the sequence numbers of its acks, and by the collector what its replies say.
+-- Whatever the text of a connection acknowledges is durable: by RELP the transactions that are answered 200, and by Lumberjack the
+-- sequence numbers of its acks, as the sender reads them; by the collector what its replies say, by the steps that wrote them.
 abbrev pub AnswersAreKept : (proto : Proto) (tokens : Tokens) (conn : ℕ) (left : Option (List ℕ)) (b : List ℕ) (calls : List Call)
     (text : List ℕ) (talk : Talk) → CarriedAs proto tokens conn left b calls text talk → Moment → Type 0
 AnswersAreKept Relp tokens conn left b calls text talk carried now =

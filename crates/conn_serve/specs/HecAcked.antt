@@ -1,4 +1,4 @@
--- What the replies of a collector's connection acknowledge, as its sender reads them.
+-- What the replies of a collector's connection acknowledge, by the steps that wrote them.
 use Rattle.std.specs.Prelude.{◌≡◌, ◌⊎◌, ℕ, ◌<◌, Bool, true, false, List, [], ◌∷◌, ◌++◌, length, get_or, Option, None}
 use Rattle.std.specs.List.{Contains}
 use Rattle.event_form.specs.declared.talk.Talk.{Talk}
