@@ -6,7 +6,7 @@ use std::time::Duration;
 // How long a read waits for a byte, in milliseconds.
 const WAIT_MILLIS: u64 = 20;
 
-// How many reads may wait in vain: together they wait for a second.
+// How many reads may wait in vain: together they wait for little more than a second.
 const MOST_VAIN: u32 = 50;
 
 // How many reads are made at most.
@@ -26,9 +26,9 @@ fn is_vain(kind: ErrorKind) -> bool {
 /// program has not read yet. So the stream to the peer is ended first, and then what still comes is read and dropped, until the
 /// peer ends its side too. A peer that did so before costs no wait.
 ///
-/// There is no clock here, so the bounds are of reads: 50 that wait in vain, a second together, and 4,096 in all, of which each
-/// takes at most 4,096 bytes and waits for 20 milliseconds, so some 80 seconds together. After these, and at an error, which is
-/// not told, the connection is closed whatever still comes.
+/// There is no clock here, so the bounds are of reads: 50 that wait in vain, little more than a second together, and 4,096 in all, of
+/// which each takes at most 4,096 bytes and waits for little more than 20 milliseconds, so less than two minutes together. After
+/// these, and at an error, which is not told, the connection is closed whatever still comes.
 pub(crate) fn close_after_peer(mut stream: TcpStream) {
     let wait = Duration::from_millis(WAIT_MILLIS);
     if stream.shutdown(Shutdown::Write).is_err() || stream.set_read_timeout(Some(wait)).is_err() {

@@ -94,7 +94,8 @@ impl Door for TcpDoor {
     }
 
     /// Counts the connection's errors, and closes it so that its peer gets what was written last. For that it waits until the
-    /// peer closes it too, but some second for a silent peer and some 80 for one that goes on sending. It takes no memory.
+    /// peer closes it too: little more than a second where that one is silent, and less than two minutes where it goes on sending.
+    /// It takes no memory.
     fn give_back(&mut self, link: TcpLink, _: Proto, _: u64, _: u8) -> Result<(), AllocError> {
         self.read_errors = self.read_errors.saturating_add(link.read_errors());
         self.write_errors = self.write_errors.saturating_add(link.write_errors());
