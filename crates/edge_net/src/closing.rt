@@ -26,9 +26,9 @@ fn is_vain(kind: ErrorKind) -> bool {
 /// program has not read yet. So the stream to the peer is ended first, and then what still comes is read and dropped, until the
 /// peer ends its side too. A peer that did so before costs no wait.
 ///
-/// There is no clock here, so the bounds are of reads: 50 that wait in vain, little more than a second together, and 4,096 in all, of
-/// which each takes at most 4,096 bytes and waits for little more than 20 milliseconds, so less than two minutes together. After
-/// these, and at an error, which is not told, the connection is closed whatever still comes.
+/// There is no clock here, so the bounds are of reads: 50 that wait in vain, little more than a second together, and 4,096 in
+/// all, of which each takes at most 4,096 bytes and waits for little more than 20 milliseconds, so less than two minutes
+/// together. After these, and at an error, which is not told, the connection is closed whatever still comes.
 pub(crate) fn close_after_peer(mut stream: TcpStream) {
     let wait = Duration::from_millis(WAIT_MILLIS);
     if stream.shutdown(Shutdown::Write).is_err() || stream.set_read_timeout(Some(wait)).is_err() {
