@@ -24,7 +24,7 @@ use Rattle.bridge_words.specs.Lines.{drain_line}
 use Rattle.bridge_core.specs.Listed.{IsUnreadable}
 use Rattle.bridge_parts.specs.Refused.{note_of_recover, note_of_sent}
 use Rattle.bridge_parts.specs.Opened.{desk_in}
-use Rattle.bridge_core.specs.Replayed.{Reaches}
+use Rattle.bridge_parts.specs.Reached.{Reaches}
 use Rattle.bridge_parts.specs.Written.{IsPrinted, PrintsAfter}
 
 -- The device stood for a state of which this is so, and nothing was written to it: a crash leaves what it could leave

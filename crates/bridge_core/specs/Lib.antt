@@ -10,7 +10,3 @@ pub mod Loading
 pub mod Done
 pub mod RunOf
 pub mod Headline
-pub mod Complete
-pub mod CompleteReplay
-pub mod CompleteDrain
-pub mod CompleteCommands

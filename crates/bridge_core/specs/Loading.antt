@@ -6,6 +6,7 @@ use Rattle.load_run.specs.declared.loaded.LoadFault.{LoadFault}
 use Rattle.load_run.specs.declared.loaded.LoadFault.TheVariants as Load
 use Rattle.load_run.specs.Load.{IsLoaded}
 use Rattle.load_run.specs.Line.{load_line}
+use Rattle.ending_laws.specs.Loads.{AllConfirmed}
 use Rattle.bridge_words.specs.declared.note.Note.{Note}
 use Rattle.bridge_words.specs.Notes.{note_of_talk}
 use Rattle.bridge_parts.specs.Refused.{note_of_sent}
@@ -16,12 +17,6 @@ abbrev pub note_of_load : LoadFault → Note
 note_of_load (Load.Replayed talk) = note_of_talk talk
 note_of_load (Load.Drained sent) = note_of_sent sent
 note_of_load Load.NoMemory = Note.NoMemory
-
--- all events were taken, and all of them are confirmed
-pub record AllConfirmed (count : ℕ) (loaded : Loaded) : Type 0 where
-  pub events : loaded.events ≡ count
-  pub confirmed : loaded.confirmed ≡ count
-  pub left : loaded.left ≡ 0
 
 -- A load came to numbers, by which all is confirmed, and the line that tells them was printed as the note says.
 pub record IsTold (proto : Proto) (number count : ℕ) (taken taken' : Option (List ℕ)) (note : Note) : Type 0 where

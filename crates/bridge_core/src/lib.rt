@@ -1,13 +1,12 @@
 //! bridge: takes log events by RELP, by Lumberjack and by Splunk's HTTP Event Collector, keeps them in a spool on a device of a fixed
 //! length, and forwards them. The one contract is that of [`bridge`], the top call: what it makes, lists, stores, answers and sends
-//! for its words. [`each_command_ends_well`] is a law over that contract alone.
+//! for its words.
 #![tactic(auto)]
 
 mod asked;
 mod draining;
 mod ended;
 mod formatting;
-mod laws;
 mod lines;
 mod listing;
 mod loading;
@@ -17,5 +16,4 @@ mod sending;
 mod top;
 
 pub use ended::Ended;
-pub use laws::each_command_ends_well;
 pub use top::bridge;

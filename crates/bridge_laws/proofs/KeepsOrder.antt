@@ -32,7 +32,7 @@ use Rattle.bridge_serve.specs.Opened.{IsOpenedOnly}
 use Rattle.bridge_serve.specs.Served.{RunsOver}
 use Rattle.bridge_core.specs.Drained.{IsLooked, IsSent, IsSessionOver, IsUnread}
 use Rattle.bridge_core.specs.Replayed.{IsStored}
-use Rattle.bridge_core.proofs.CompleteOrdinals.{desk_rules}
+use Rattle.ending_laws.proofs.Ordinals.{desk_rules}
 use Rattle.bridge_laws.specs.InOrder.{IsInOrder}
 use Rattle.bridge_laws.proofs.InOrder.{Never, opening_keeps_order, opens_legal, still_in_order, stood_in_order}
 use Rattle.bridge_laws.proofs.OnlyCaller.{met_by}

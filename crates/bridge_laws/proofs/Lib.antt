@@ -1,3 +1,6 @@
+pub mod Complete
+pub mod CompleteReplay
+pub mod CompleteDrain
 pub mod ServeEnds
 pub mod LegalParts
 pub mod InOrder

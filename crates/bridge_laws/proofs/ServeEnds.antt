@@ -20,10 +20,10 @@ use Rattle.bridge_parts.specs.Refused.{note_of_recover}
 use Rattle.bridge_parts.specs.Written.{first_of}
 use Rattle.bridge_serve.specs.Noted.{note_of_look, note_of_run, note_of_workers}
 use Rattle.bridge_serve.proofs.Causes.{workers_tell}
-use Rattle.bridge_core.specs.Complete.{NoneFailed, EndsWell}
+use Rattle.bridge_laws.specs.Complete.{NoneFailed, EndsWell}
 use Rattle.bridge_core.specs.Done.{Run, IsUndone, Does}
 use Rattle.bridge_core.specs.RunOf.{IsRunOf}
-use Rattle.bridge_core.proofs.Complete.{not_disk, not_read, not_write}
+use Rattle.bridge_laws.proofs.Complete.{not_disk, not_read, not_write}
 use Rattle.bridge_laws.specs.ServeEnds.{Ran, IsStopped, GoesWell, IsUnhindered, ServeEndsWell}
 
 -- ---- the call

@@ -15,7 +15,7 @@ use Rattle.bridge_words.specs.declared.note.Note.{Note}
 use Rattle.bridge_words.specs.Words.{IsCommand}
 use Rattle.bridge_serve.specs.Doors.{SomeRose}
 use Rattle.bridge_serve.specs.Served.{IsRun}
-use Rattle.bridge_core.specs.Complete.{NoneFailed, EndsWell}
+use Rattle.bridge_laws.specs.Complete.{NoneFailed, EndsWell}
 use Rattle.bridge_core.specs.Done.{Run, IsUndone, Does}
 use Rattle.bridge_core.specs.RunOf.{IsRunOf}
 

@@ -1,9 +1,38 @@
-//! What follows for `serve` from the contract of `bridge` alone. The function does nothing: its contract is the law.
+//! When each command has to end well, from the contract of `bridge` alone. The functions do nothing: each has a law as its contract.
 ghost use Rattle.bridge_core.specs.RunOf.{run_of};
+ghost use Rattle.bridge_laws.specs.CompleteCommands.{EachEndsWell};
 ghost use Rattle.bridge_laws.specs.ServeEnds.{ServeEndsWell};
 
 use edge_disk::Disk;
 use edge_io::{Net, Sink, Source};
+
+/// Each command ends well where no call failed and nothing stands in its way: only want of memory can take the place of that.
+///
+/// The arguments are the disk, the input, the output and the net before a call of `bridge` and after it, and the doors that it bound.
+/// Of that call no more is known than its contract says, and that no count of faults rose in it.
+///
+/// - `format` ends well on a device of the wanted length.
+/// - `list` does on a device that stands for a spool.
+/// - `load` does by each protocol.
+/// - `replay` does where a run and an ordinal of the register are left, the input's bytes are fewer than 2^40 and end with a
+///   frame, or one of their frames closes the connection, and each group and each id that they bring is granted in the state
+///   to which those before it lead. Then the spool has their events after what it had, and nothing else.
+/// - `drain` does where the register can be written once for each pending entry, the peer's bytes are fewer than 2^40, and
+///   their frames or replies acknowledge all that is pending before anything ends the session otherwise. Then nothing is left.
+pub fn each_command_ends_well<D: Disk, S: Source, K: Sink, N: Net>(
+    _disk: &D,
+    _disk_after: &D,
+    _input: &S,
+    _input_after: &S,
+    _output: &K,
+    _output_after: &K,
+    _net: &N,
+    _net_after: &N,
+    _doors_after: &Vec<N::P>,
+)
+    ensures { EachEndsWell (run_of D.tells D.moment S.given S.left S.read_faults K.taken K.write_faults N.told N.P.told
+        _disk.now _disk_after.now _input.now _input_after.now _output.now _output_after.now _net.now _net_after.now _doors_after.now.items) }
+{}
 
 /// `serve` ends well where no call failed and nothing stands in its way: only want of memory can take the place of that.
 ///

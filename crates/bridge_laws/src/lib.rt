@@ -1,5 +1,5 @@
-//! What follows from the contract of `bridge_core::bridge` alone: when `serve` has to end well, and that each command keeps
-//! the order of a spool's entries.
+//! What follows from the contract of `bridge_core::bridge` alone: when each command has to end well, and that each keeps the order of a
+//! spool's entries.
 //!
 //! The functions do nothing: each has a law as its contract.
 #![tactic(auto)]
@@ -7,7 +7,7 @@
 mod laws;
 mod order;
 
-pub use laws::serve_ends_well;
+pub use laws::{each_command_ends_well, serve_ends_well};
 pub use order::{
     desk_opens_legal, each_command_keeps_order, empty_is_in_order, opening_keeps_order,
     order_holds_from_format,
