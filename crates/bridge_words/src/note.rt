@@ -40,7 +40,7 @@ pub enum Note {
     WriteFault,
     /// A call of the disk failed.
     DiskFault,
-    /// A place was not dialed.
+    /// A place was not dialed or bound, or no connection could be accepted at one that was.
     NetFault,
     /// The input ended inside the frame that begins at this offset of it.
     Truncated { at: u64 },

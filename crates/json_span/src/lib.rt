@@ -3,9 +3,9 @@
 //! most 127 levels of arrays and objects; an escape of a lone surrogate passes. Nothing is decoded and
 //! nothing is copied: what the callers get are spans.
 //!
-//! The contract: each answer is right by the RFC's grammar, as a relation on whole byte lists, and no
-//! other answer is. A value is the longest at its place, a cut one can still become a value, and a fault
-//! is at the first byte after which nothing can.
+//! The contract: each answer is the one that the RFC's grammar allows, which stands as a relation on whole byte
+//! lists. A value is the longest at its place; where the bytes end inside one, it is cut, and more bytes could make
+//! it a value; else the fault is at the first byte after which none can.
 #![tactic(auto)]
 
 mod bytes;

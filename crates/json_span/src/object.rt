@@ -73,8 +73,8 @@ fn after_member(bytes: &[u8], at: usize) -> usize
     }
 }
 
-/// The members of the object over the span `object`, in their order, each of those with one name too.
-/// Memory is all that can fail.
+/// The members of the object over the span `object`, in their order; where several have the same name, each
+/// of them. The only error is want of memory.
 pub fn members(alloc: Global, bytes: &[u8], object: Span) -> Result<Vec<Member>, AllocError>
     requires { HasObject bytes.now object }
     ensures { IfOk result (λ v. HasMembers bytes.now object v.items) }

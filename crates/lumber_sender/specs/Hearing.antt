@@ -13,10 +13,6 @@ IsHeard size acked f (Part seq) = (f ≡ Ack seq) × (acked < seq) × (seq < siz
 IsHeard size acked f Whole = (seq : ℕ) × (f ≡ Ack seq) × (acked < seq) × (seq ≡ size)
 IsHeard size acked f Beyond = (seq : ℕ) × (f ≡ Ack seq) × (size < seq)
 
--- how many bytes an acknowledgment has
-abbrev pub ack_bytes : ℕ
-ack_bytes = 6
-
 -- what it leaves of the sender
 abbrev pub heard_by : Sender → Reader → Heard → Sender
 heard_by s r Nothing = record s { reader = r; heard = s.heard + 1 }

@@ -85,7 +85,8 @@ impl RelpSender {
         }
     }
 
-    /// Adds entries, of which the first has this number. It takes no memory.
+    /// Adds 1 to 128 entries, of which the first has this number, once `turn` has asked for them by `Need`. It takes
+    /// no memory.
     pub fn give(&mut self, first: u64, entries: Vec<Entry>)
         requires asked { self.old.asked ≡ true }
         requires some { 0 < length entries.items }
@@ -132,8 +133,8 @@ impl RelpSender {
         }
     }
 
-    /// Does the next thing: tells what is acknowledged, writes what may be written, asks for more entries,
-    /// or takes the peer's frames, one after another, until something comes of them.
+    /// Does the next thing: takes the peer's frames that are there, and then reports what is acknowledged, gives the
+    /// bytes that may be written, asks for more entries, or says how the session ended.
     ///
     /// The only error is want of memory. After it the sender is as before.
     pub fn turn(&mut self) -> Result<Turn, AllocError>
