@@ -4,10 +4,9 @@ ghost use Rattle.bridge_words.specs.declared.note.Note.TheVariants.{Usage, NoMem
 ghost use Rattle.bridge_words.specs.Words.{IsNoCommand};
 ghost use Rattle.bridge_core.specs.Failed.{TellsReadFault, TellsWriteFault, TellsDial};
 
-use crate::opening::{Opening, Showing, open_text};
-use crate::progress::{Progress, Watched};
 use bridge_core::bridge;
 use bridge_words::{Need, Note, need_of};
+use cli_parts::{Opening, Progress, Showing, Watched, open_text};
 use edge_disk::{FileDisk, MemDisk, OpenFault};
 use edge_io::{Door, Net, Sink, Source};
 use std::io::IsTerminal;

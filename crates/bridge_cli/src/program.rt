@@ -1,7 +1,7 @@
 //! What the program was called with, and its streams.
 use crate::device::run_words;
-use crate::report::{print_line, print_note, print_wrong_words};
 use bridge_words::Note;
+use cli_parts::{print_line, print_note, print_wrong_words};
 use edge_io::FileIo;
 use edge_net::TcpNet;
 use std::fs::{File, OpenOptions};

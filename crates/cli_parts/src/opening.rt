@@ -1,7 +1,7 @@
 //! How FILE is opened, and why it isn't.
 ghost use Rattle.std.specs.Prelude.{◌≡◌, ◌↔◌, IfOk, map, string_bytes};
 ghost use Rattle.edge_disk.specs.declared.open_fault.Sharing.TheVariants.{Shared};
-ghost use Rattle.bridge_cli.specs.Opening.{open_text, IsList, AreList};
+ghost use Rattle.cli_parts.specs.Opening.{open_text, IsList, AreList};
 
 use bridge_words::Command;
 use edge_disk::{OpenFault, Sharing};

@@ -4,7 +4,7 @@ use Rattle.bridge_words.specs.declared.command.Command.{Command}
 use Rattle.bridge_words.specs.declared.command.Command.TheVariants.{Format, List as ListCommand, Replay, Drain, Load, Serve}
 use Rattle.bridge_words.specs.Words.{IsCommand, IsNoCommand}
 use Rattle.bridge_words.proofs.Once.{one_command}
-use Rattle.bridge_cli.specs.Opening.{IsList, AreList}
+use Rattle.cli_parts.specs.Opening.{IsList, AreList}
 
 lists : (command : Command) (words : List (List ℕ)) → IsCommand command words → IsList command → AreList words
 lists (ListCommand form) words is list = (form, is)

@@ -1,7 +1,7 @@
 use Rattle.std.proofs.Common.{map, string_bytes}
 use Rattle.bridge_words.specs.Words.{IsCommand}
-use Rattle.bridge_cli.proofs.Listing.{lists_by, no_list}
-use Rattle.bridge_cli.proofs.opening.Opening.of.Goals as goal
+use Rattle.cli_parts.proofs.Listing.{lists_by, no_list}
+use Rattle.cli_parts.proofs.opening.Opening.of.Goals as goal
 
 pub returns-in-Some : goal.returns-in-Some
 returns-in-Some c =

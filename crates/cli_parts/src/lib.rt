@@ -1,0 +1,13 @@
+//! What the program does around its one call: how FILE is opened, what is shown of a command's progress, the lines on standard
+//! error, and the exit status.
+#![tactic(auto)]
+
+mod opening;
+mod progress;
+mod report;
+mod status;
+
+pub use opening::{Opening, Showing, open_text};
+pub use progress::{Progress, Watched};
+pub use report::{print_line, print_note, print_wrong_words};
+pub use status::exit_code;
