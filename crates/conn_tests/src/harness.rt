@@ -1,11 +1,12 @@
 //! One connection over a spool in memory.
-ghost use Rattle.std.specs.Prelude.{◌<◌, ◌≤◌};
+ghost use Rattle.std.specs.Prelude.{◌<◌};
 
+use crate::fields::{bytes_of, number_of, numbers_of};
 use conn_serve::{Rules, attend};
 use desk_access::{Access, Alone, Desk};
 use edge_disk::MemDisk;
 use edge_io::{Both, MemSink, MemSource, Proto};
-use event_form::{Attended, Origin, Talk};
+use event_form::{Attended, Origin};
 use hec_ids::Ids;
 use spool_log::{Numbered, Opening, Spool, format};
 use std::alloc::Global;
@@ -19,80 +20,52 @@ const TOKEN: u128 = 0x1111_1111_2222_3333_4444_5555_5555_5555;
 
 const ACK_TOKEN: u128 = 0xaaaa_aaaa_2222_3333_4444_5555_5555_5555;
 
-/// Which calls of the disk, the input and the output fail, counted from 0, and how many ids of the run are used up.
-#[derive(Clone, Copy)]
-pub struct Failing<'a> {
-    pub disk: &'a [u64],
-    pub reads: &'a [u64],
-    pub writes: &'a [u64],
-    pub ids: u32,
+/// What a connection is given.
+#[derive(Drop)]
+pub(crate) struct Given {
+    /// The device with the spool.
+    pub(crate) device: Vec<u8>,
+    pub(crate) input: Vec<u8>,
+    /// Which calls of the disk, the input and the output fail, counted from 0.
+    pub(crate) disk: Vec<u64>,
+    pub(crate) reads: Vec<u64>,
+    pub(crate) writes: Vec<u64>,
+    /// How many ids of the run are used up.
+    pub(crate) ids: u32,
 }
 
-pub const NONE: Failing<'static> = Failing {
-    disk: &[],
-    reads: &[],
-    writes: &[],
-    ids: 0,
-};
-
-/// A part of an input.
-#[derive(Clone, Copy)]
-pub enum Part {
-    Bytes(&'static [u8]),
-    /// That many letters x.
-    Fill(usize),
-}
-
-/// A connection, and what it leaves.
-#[derive(Clone, Copy)]
-pub struct Row {
-    /// What it shows.
-    pub name: &'static str,
-    pub input: &'static [Part],
-    /// How many bytes a read brings at most, each in turn.
-    pub steps: &'static [usize],
-    /// How many bytes the one slot of the spool has, 4,096 to 1,000,000.
-    pub slot: u64,
-    pub failing: Failing<'static>,
-    pub talk: Talk,
-    /// How many entries were taken.
-    pub taken: u64,
-    pub written: &'static [Part],
-    /// The entries, one after another as `CONN INDEX UNIT`, a letter for the form (`r` RELP, `d` pairs, `j`
-    /// JSON, `o` an object, `w` a raw line), the text and LF. A text of so many letters x, above 100, is shown as `x{COUNT}`.
-    pub entries: &'static [u8],
+impl Given {
+    /// What a row gives: `slot SIZE`, how many bytes the one slot of the spool has, 4,096 where it isn't said and 1,000,000 at most;
+    /// `in BYTES`; `disk N`, `reads N` and `writes N`: the calls that fail; and `ids COUNT`, 0 where it isn't said.
+    pub(crate) fn of(alloc: Global, row: &str) -> Result<Given, Fail> {
+        let slot = number_of(alloc, row, "slot", 4096)?;
+        let ids = u32::try_from(number_of(alloc, row, "ids", 0)?);
+        Ok(Given {
+            ids: ids.ok().ok_or("too many ids")?,
+            device: device(alloc, slot)?,
+            input: bytes_of(alloc, row, "in")?,
+            disk: numbers_of(alloc, row, "disk")?,
+            reads: numbers_of(alloc, row, "reads")?,
+            writes: numbers_of(alloc, row, "writes")?,
+        })
+    }
 }
 
 /// What a connection left.
 #[derive(Drop)]
-pub struct Left {
-    pub attended: Attended,
-    pub written: Vec<u8>,
-    pub entries: Vec<u8>,
+pub(crate) struct Left {
+    pub(crate) attended: Attended,
+    pub(crate) written: Vec<u8>,
+    pub(crate) entries: Vec<u8>,
     /// How many entries the spool has that aren't confirmed, at most 4,096.
-    pub count: usize,
+    pub(crate) count: usize,
 }
 
-/// The parts, one after another.
-pub fn joined(alloc: Global, parts: &[Part]) -> Result<Vec<u8>, Fail> {
-    let mut all = Vec::new(alloc);
-    for part in parts {
-        match part {
-            Part::Bytes(bytes) => all.extend_from_slice(bytes)?,
-            Part::Fill(count) => {
-                let fill = vec![in alloc; b'x'; *count]?;
-                all.extend_from_slice(&fill)?;
-            }
-        }
+// An empty spool of one slot of so many bytes.
+fn device(alloc: Global, slot: u64) -> Result<Vec<u8>, Fail> {
+    if slot < 4096 || slot > 1_000_000 {
+        return Err("no such slot".into());
     }
-    Ok(all)
-}
-
-/// An empty spool of one slot of so many bytes.
-pub fn device(alloc: Global, slot: u64) -> Result<Vec<u8>, Fail>
-    requires large { 4096 ≤ slot }
-    requires small { slot ≤ 1000000 }
-{
     let len = 12_288 + slot as usize;
     let mut disk = MemDisk::of(vec![in alloc; 0; len]?, Vec::new(alloc));
     if format(&mut disk, 1, slot).is_err() {
@@ -112,7 +85,8 @@ fn letter(origin: Origin) -> u8 {
     }
 }
 
-// The entries as a row shows them.
+// The entries, one after another as `CONN INDEX UNIT`, the letter for the form (`r` RELP, `d` pairs, `j` JSON, `o` an object, `w` a
+// raw line), the text and LF. A text of so many letters x, above 100, is shown as `x{COUNT}`.
 fn shown(alloc: Global, entries: &[Numbered]) -> Result<Vec<u8>, Fail> {
     let mut out = Vec::new(alloc);
     for Numbered { entry, .. } in entries {
@@ -131,25 +105,31 @@ fn shown(alloc: Global, entries: &[Numbered]) -> Result<Vec<u8>, Fail> {
     Ok(out)
 }
 
-/// Serves the input over the device, at most `step` bytes in a read. None: the device wasn't opened.
-pub fn serve(
+/// Serves a connection, at most `step` bytes in a read. None: the device wasn't opened.
+pub(crate) fn serve(
     alloc: Global,
     proto: Proto,
-    device: Vec<u8>,
-    input: Vec<u8>,
+    given: Given,
     step: usize,
-    failing: Failing,
 ) -> Result<Option<Left>, Fail>
     requires some { 0 < step }
 {
-    let disk = MemDisk::of(device, failing.disk.to_vec(alloc)?);
+    let Given {
+        device,
+        input,
+        disk,
+        reads,
+        writes,
+        ids,
+    } = given;
+    let disk = MemDisk::of(device, disk);
     let Ok(spool) = Spool::recover(alloc, disk, Opening::Raise) else {
         return Ok(None);
     };
-    let ids = Ids::new(alloc, spool.run(), failing.ids);
+    let ids = Ids::new(alloc, spool.run(), ids);
     let mut access = Alone::new(Desk { spool, ids });
-    let mut source = MemSource::of(input, step, failing.reads.to_vec(alloc)?);
-    let mut sink = MemSink::of(alloc, failing.writes.to_vec(alloc)?);
+    let mut source = MemSource::of(input, step, reads);
+    let mut sink = MemSink::of(alloc, writes);
     let mut link = Both {
         source: &mut source,
         sink: &mut sink,

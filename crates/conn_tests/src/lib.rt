@@ -6,6 +6,10 @@
 #[cfg(test)]
 mod connections;
 #[cfg(test)]
+mod faults;
+#[cfg(test)]
+mod fields;
+#[cfg(test)]
 mod harness;
 #[cfg(test)]
 mod hec_endings;

@@ -1,143 +1,111 @@
 //! Connections of Lumberjack whose windows are stored. The frames, acknowledgments and places are those of Elastic's protocol
 //! document, version 2.
-use crate::harness::{NONE, Part, Row};
-use event_form::Talk;
 
 /// What is sent, and what comes of it.
-pub const ROWS: [Row; 10] = [
-    Row {
-        name: "no bytes",
-        input: &[],
-        steps: &[1],
-        slot: 4096,
-        failing: NONE,
-        talk: Talk::Ended,
-        taken: 0,
-        written: &[],
-        entries: b"",
-    },
-    Row {
-        name: "a window of two frames",
-        input: &[Part::Bytes(
-            b"2W\0\0\0\x022J\0\0\0\x01\0\0\0\x07{\"a\":1}2J\0\0\0\x02\0\0\0\x02{}",
-        )],
-        steps: &[1, 7, 1000],
-        slot: 4096,
-        failing: NONE,
-        talk: Talk::Ended,
-        taken: 2,
-        written: &[Part::Bytes(b"2A\0\0\0\x02")],
-        entries: b"7 0 1 j{\"a\":1}\n7 1 2 j{}\n",
-    },
-    Row {
-        name: "a new window cuts the old one",
-        input: &[Part::Bytes(
-            b"2W\0\0\0\x032J\0\0\0\x01\0\0\0\x02{}2J\0\0\0\x02\0\0\0\x02{}2W\0\0\0\x012J\0\0\0\x01\0\0\0\x02[]",
-        )],
-        steps: &[1, 7, 1000],
-        slot: 4096,
-        failing: NONE,
-        talk: Talk::Ended,
-        taken: 3,
-        written: &[Part::Bytes(b"2A\0\0\0\x022A\0\0\0\x01")],
-        entries: b"7 0 1 j{}\n7 1 2 j{}\n7 2 1 j[]\n",
-    },
-    Row {
-        name: "a window of zero has no effect",
-        input: &[Part::Bytes(b"2W\0\0\0\02J\0\0\0\x09\0\0\0\x02{}")],
-        steps: &[1, 7, 1000],
-        slot: 4096,
-        failing: NONE,
-        talk: Talk::Ended,
-        taken: 1,
-        written: &[Part::Bytes(b"2A\0\0\0\x09")],
-        entries: b"7 0 9 j{}\n",
-    },
-    Row {
-        name: "a frame outside a window is a window of one",
-        input: &[Part::Bytes(b"2J\0\0\0\x05\0\0\0\x01x2J\0\0\0\x03\0\0\0\x01y")],
-        steps: &[1, 7, 1000],
-        slot: 4096,
-        failing: NONE,
-        talk: Talk::Ended,
-        taken: 2,
-        written: &[Part::Bytes(b"2A\0\0\0\x052A\0\0\0\x03")],
-        entries: b"7 0 5 jx\n7 1 3 jy\n",
-    },
-    Row {
-        name: "pairs stay as they stand, doubled keys too",
-        input: &[Part::Bytes(
-            b"2D\0\0\0\x01\0\0\0\x02\0\0\0\x01a\0\0\0\x01x\0\0\0\x01a\0\0\0\x01y",
-        )],
-        steps: &[1, 7, 1000],
-        slot: 4096,
-        failing: NONE,
-        talk: Talk::Ended,
-        taken: 1,
-        written: &[Part::Bytes(b"2A\0\0\0\x01")],
-        entries: b"7 0 1 d\0\0\0\x01a\0\0\0\x01x\0\0\0\x01a\0\0\0\x01y\n",
-    },
-    Row {
-        name: "a frame without pairs",
-        input: &[Part::Bytes(b"2D\0\0\0\x01\0\0\0\0")],
-        steps: &[1, 7, 1000],
-        slot: 4096,
-        failing: NONE,
-        talk: Talk::Ended,
-        taken: 1,
-        written: &[Part::Bytes(b"2A\0\0\0\x01")],
-        entries: b"7 0 1 d\n",
-    },
-    Row {
-        name: "the end of the input ends the window",
-        input: &[Part::Bytes(b"2W\0\0\0\x032J\0\0\0\x08\0\0\0\x02{}2J\0\0\0\x06\0\0\0\x02[]")],
-        steps: &[1, 7, 1000],
-        slot: 4096,
-        failing: NONE,
-        talk: Talk::Ended,
-        taken: 2,
-        written: &[Part::Bytes(b"2A\0\0\0\x06")],
-        entries: b"7 0 8 j{}\n7 1 6 j[]\n",
-    },
-    // The longest frames: the window is full before a piece is, and takes the rest once they are served.
-    Row {
-        name: "the longest frames",
-        input: &[
-            Part::Bytes(b"2W\0\0\0\x012J\0\0\0\x01\0\x02\0\0"),
-            Part::Fill(131072),
-            Part::Bytes(b"2W\0\0\0\x032J\0\0\0\x01\0\x02\0\0"),
-            Part::Fill(131072),
-            Part::Bytes(b"2J\0\0\0\x02\0\0\0\x02{}2J\0\0\0\x03\0\0\0\x02[]"),
-        ],
-        steps: &[8192],
-        slot: 524288,
-        failing: NONE,
-        talk: Talk::Ended,
-        taken: 4,
-        written: &[Part::Bytes(b"2A\0\0\0\x012A\0\0\0\x03")],
-        entries: b"7 0 1 jx{131072}\n7 1 1 jx{131072}\n7 2 2 j{}\n7 3 3 j[]\n",
-    },
-    // A batch ends with the frame by which the staged texts have 262,144 bytes; the window goes on.
-    Row {
-        name: "batches that end by their bytes",
-        input: &[
-            Part::Bytes(b"2W\0\0\0\x052J\0\0\0\x01\0\x02\0\0"),
-            Part::Fill(131072),
-            Part::Bytes(b"2J\0\0\0\x02\0\x02\0\0"),
-            Part::Fill(131072),
-            Part::Bytes(b"2J\0\0\0\x03\0\x02\0\0"),
-            Part::Fill(131072),
-            Part::Bytes(b"2J\0\0\0\x04\0\x02\0\0"),
-            Part::Fill(131072),
-            Part::Bytes(b"2J\0\0\0\x05\0\x02\0\0"),
-            Part::Fill(131072),
-        ],
-        steps: &[8192],
-        slot: 1_000_000,
-        failing: NONE,
-        talk: Talk::Ended,
-        taken: 5,
-        written: &[Part::Bytes(b"2A\0\0\0\x022A\0\0\0\x042A\0\0\0\x05")],
-        entries: b"7 0 1 jx{131072}\n7 1 2 jx{131072}\n7 2 3 jx{131072}\n7 3 4 jx{131072}\n7 4 5 jx{131072}\n",
-    },
-];
+pub(crate) const ROWS: &str = r#"row no bytes
+steps 1
+ends Ended, 0 taken
+
+row a window of two frames
+in 2W\0\0\0\x02
+in 2J\0\0\0\x01\0\0\0\x07{"a":1}
+in 2J\0\0\0\x02\0\0\0\x02{}
+steps 1 7 1000
+ends Ended, 2 taken
+out 2A\0\0\0\x02
+entries 7 0 1 j{"a":1}\n
+entries 7 1 2 j{}\n
+
+row a new window cuts the old one
+in 2W\0\0\0\x03
+in 2J\0\0\0\x01\0\0\0\x02{}
+in 2J\0\0\0\x02\0\0\0\x02{}
+in 2W\0\0\0\x01
+in 2J\0\0\0\x01\0\0\0\x02[]
+steps 1 7 1000
+ends Ended, 3 taken
+out 2A\0\0\0\x02
+out 2A\0\0\0\x01
+entries 7 0 1 j{}\n
+entries 7 1 2 j{}\n
+entries 7 2 1 j[]\n
+
+row a window of zero has no effect
+in 2W\0\0\0\0
+in 2J\0\0\0\x09\0\0\0\x02{}
+steps 1 7 1000
+ends Ended, 1 taken
+out 2A\0\0\0\x09
+entries 7 0 9 j{}\n
+
+row a frame outside a window is a window of one
+in 2J\0\0\0\x05\0\0\0\x01x
+in 2J\0\0\0\x03\0\0\0\x01y
+steps 1 7 1000
+ends Ended, 2 taken
+out 2A\0\0\0\x05
+out 2A\0\0\0\x03
+entries 7 0 5 jx\n
+entries 7 1 3 jy\n
+
+row pairs stay as they stand, doubled keys too
+in 2D\0\0\0\x01\0\0\0\x02\0\0\0\x01a\0\0\0\x01x\0\0\0\x01a\0\0\0\x01y
+steps 1 7 1000
+ends Ended, 1 taken
+out 2A\0\0\0\x01
+entries 7 0 1 d\0\0\0\x01a\0\0\0\x01x\0\0\0\x01a\0\0\0\x01y\n
+
+row a frame without pairs
+in 2D\0\0\0\x01\0\0\0\0
+steps 1 7 1000
+ends Ended, 1 taken
+out 2A\0\0\0\x01
+entries 7 0 1 d\n
+
+row the end of the input ends the window
+in 2W\0\0\0\x03
+in 2J\0\0\0\x08\0\0\0\x02{}
+in 2J\0\0\0\x06\0\0\0\x02[]
+steps 1 7 1000
+ends Ended, 2 taken
+out 2A\0\0\0\x06
+entries 7 0 8 j{}\n
+entries 7 1 6 j[]\n
+
+row the longest frames
+- The longest frames: the window is full before a piece is, and takes the rest once they are served.
+in 2W\0\0\0\x01
+in 2J\0\0\0\x01\0\x02\0\0\{131072}
+in 2W\0\0\0\x03
+in 2J\0\0\0\x01\0\x02\0\0\{131072}
+in 2J\0\0\0\x02\0\0\0\x02{}
+in 2J\0\0\0\x03\0\0\0\x02[]
+steps 8192
+slot 524288
+ends Ended, 4 taken
+out 2A\0\0\0\x01
+out 2A\0\0\0\x03
+entries 7 0 1 jx{131072}\n
+entries 7 1 1 jx{131072}\n
+entries 7 2 2 j{}\n
+entries 7 3 3 j[]\n
+
+row batches that end by their bytes
+- A batch ends with the frame by which the staged texts have 262,144 bytes; the window goes on.
+in 2W\0\0\0\x05
+in 2J\0\0\0\x01\0\x02\0\0\{131072}
+in 2J\0\0\0\x02\0\x02\0\0\{131072}
+in 2J\0\0\0\x03\0\x02\0\0\{131072}
+in 2J\0\0\0\x04\0\x02\0\0\{131072}
+in 2J\0\0\0\x05\0\x02\0\0\{131072}
+steps 8192
+slot 1000000
+ends Ended, 5 taken
+out 2A\0\0\0\x02
+out 2A\0\0\0\x04
+out 2A\0\0\0\x05
+entries 7 0 1 jx{131072}\n
+entries 7 1 2 jx{131072}\n
+entries 7 2 3 jx{131072}\n
+entries 7 3 4 jx{131072}\n
+entries 7 4 5 jx{131072}\n"#;
