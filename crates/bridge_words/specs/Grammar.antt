@@ -1,6 +1,6 @@
 -- The words of bridge as they are told to clap, whose definitions say which words these are: options in any order and each
 -- once, `--name value` or `--name=value`, and `--`, after which there is no option.
-use Rattle.std.specs.Prelude.{◌≡◌, List, Option, Some, codes, true, false}
+use Rattle.std.specs.Prelude.{◌≡◌, Bool, List, Option, Some, codes, true, false}
 use Rattle.clap.specs.declared.builder.command.Command.{Command}
 use Rattle.clap.specs.declared.builder.command.Command.TheViews.{out-Command}
 use Rattle.clap.specs.Walk.{Row, Text}
@@ -8,12 +8,12 @@ use Rattle.clap.specs.Simple.{App, app_of, new_app, new_rule, subcommand_of, wit
 use Rattle.clap.specs.Kinds.{Kinds}
 use Rattle.clap.specs.Faults.{fault_of}
 
--- a word that must stand, one that may, and an option with a value
-abbrev needs : Text → App → App
-needs name app = with_rule app (record (new_rule name) { required = true })
+-- a word that must stand or may, and an option with a value
+abbrev pub word : Bool → Text → App → App
+word is_needed name app = with_rule app (record (new_rule name) { required = is_needed })
 
-abbrev may_have : Text → App → App
-may_have name app = with_rule app (new_rule name)
+abbrev needs : Text → App → App
+needs = word true
 
 abbrev pub option : Text → App → App
 option name app = with_rule app (record (new_rule name) { long = Some name })
@@ -34,7 +34,7 @@ replay_app = option (codes "ack-token") (option (codes "token") (needs (codes "p
 abbrev pub drain_app : App
 drain_app =
     option (codes "polls") (option (codes "out-channel") (option (codes "out-token")
-    (may_have (codes "place") (needs (codes "proto") (new_app (codes "drain"))))))
+    (word false (codes "place") (needs (codes "proto") (new_app (codes "drain"))))))
 
 -- `load PROTO NUMBER COUNT`
 abbrev pub load_app : App

@@ -9,7 +9,7 @@ use edge_io::Proto;
 use std::alloc::{AllocError, Global};
 
 /// How `list` prints an entry.
-#[derive(Clone, Copy, PartialEq, Eq, Debug)]
+#[derive(Clone, Copy, PartialEq, Eq)]
 pub enum ListForm {
     /// Its number, connection, index, unit and origin, and the length of its text.
     Plain,
@@ -22,7 +22,7 @@ pub enum ListForm {
 }
 
 /// What `drain` and `serve` forward to.
-#[derive(Clone, Copy, PartialEq, Eq, Debug)]
+#[derive(Clone, Copy, PartialEq, Eq)]
 pub enum Receiver {
     /// A receiver of RELP.
     Relp,
@@ -38,7 +38,7 @@ pub enum Receiver {
 }
 
 /// Where a server forwards to.
-#[derive(PartialEq, Eq, Drop, Debug)]
+#[derive(PartialEq, Drop)]
 pub struct Relay {
     /// The protocol, with what a receiver of it is to be told.
     pub receiver: Receiver,
@@ -47,7 +47,7 @@ pub struct Relay {
 }
 
 /// What a server is to do.
-#[derive(PartialEq, Eq, Drop, Debug)]
+#[derive(PartialEq, Drop)]
 pub struct Server {
     /// The place at which connections of RELP come in, if there is one. One of the three places is given.
     pub relp: Option<Place>,
@@ -68,7 +68,7 @@ pub struct Server {
 }
 
 /// What the program is to do.
-#[derive(PartialEq, Eq, Drop, Debug)]
+#[derive(PartialEq, Drop)]
 pub enum Command {
     /// Make the device an empty spool of `slots` slots, 1 to 1,024, of `size` bytes, 4,096 to 1,073,741,824.
     Format {

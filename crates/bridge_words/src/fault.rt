@@ -8,7 +8,7 @@ use crate::reading::{Unread, read};
 use std::alloc::{AllocError, Global};
 
 /// What is wrong with words that are no command.
-#[derive(Clone, Copy, PartialEq, Eq, Debug)]
+#[derive(Clone, Copy, PartialEq, Eq)]
 pub enum WordsFault {
     /// No command is named.
     NoCommand,

@@ -3,39 +3,74 @@
 ghost use Rattle.std.specs.Prelude.{◌≡◌, IfOk, MatchOption, None, Some, map, string_bytes};
 ghost use Rattle.clap.specs.Words.{FailsBy, subcommand_rows_of};
 ghost use Rattle.bridge_words.specs.Values.{rows_in};
-ghost use Rattle.clap.specs.Simple.{App};
-ghost use Rattle.bridge_words.specs.Grammar.{IsApp, option, top_app, format_app, list_app, replay_app, drain_app, load_app, serve_app, bridge_app, refusals, named};
+ghost use Rattle.clap.specs.Simple.{App, new_app, with_subcommand};
+ghost use Rattle.bridge_words.specs.Grammar.{IsApp, word, option, top_app, format_app, list_app, replay_app, drain_app, load_app, serve_app, bridge_app, refusals, named};
 
 use clap::{Arg, ArgMatches, Command, Error};
 use std::alloc::{AllocError, Global};
 
+// Each of these functions passes on the want of memory that an earlier one met, so that a command is built by calls in turn.
+
+// A command of this name, which has no words yet.
+fn command_named<'a>(alloc: Global, name: &'a str) -> Result<Command<'a>, AllocError>
+    ensures { IfOk result (IsApp (new_app name.now)) }
+{
+    Ok(Command::new(alloc, name))
+}
+
+// The command with one word more, which must stand or may.
+fn with_word<'a>(
+    alloc: Global,
+    command: Result<Command<'a>, AllocError>,
+    name: &'a str,
+    is_needed: bool,
+) -> Result<Command<'a>, AllocError>
+    ensures { (app : App) → IfOk command.entry (IsApp app) → IfOk result (IsApp (word is_needed name.now app)) }
+{
+    let command = command?;
+    let word = Arg::new(alloc, name).required(is_needed);
+    command.arg(word)
+}
+
 // The command with one option more, which has a value.
 fn with_option<'a>(
     alloc: Global,
-    command: Command<'a>,
+    command: Result<Command<'a>, AllocError>,
     name: &'a str,
 ) -> Result<Command<'a>, AllocError>
-    ensures { (app : App) → IsApp app command.entry → IfOk result (IsApp (option name.now app)) }
+    ensures { (app : App) → IfOk command.entry (IsApp app) → IfOk result (IsApp (option name.now app)) }
 {
+    let command = command?;
     let option = Arg::new(alloc, name).long(name);
     command.arg(option)
+}
+
+// The command line with one command more.
+fn with_command<'a>(
+    bridge: Result<Command<'a>, AllocError>,
+    command: Result<Command<'a>, AllocError>,
+) -> Result<Command<'a>, AllocError>
+    ensures { (app added : App) → IfOk bridge.entry (IsApp app) → IfOk command.entry (IsApp added) → IfOk result (IsApp (with_subcommand app added.top)) }
+{
+    let bridge = bridge?;
+    let command = command?;
+    bridge.subcommand(command)
 }
 
 // `format SLOTS SIZE`
 fn format_words<'a>(alloc: Global) -> Result<Command<'a>, AllocError>
     ensures { IfOk result (IsApp format_app) }
 {
-    let slots = Arg::new(alloc, "slots").required(true);
-    let size = Arg::new(alloc, "size").required(true);
-    let format = Command::new(alloc, "format").arg(slots)?;
-    format.arg(size)
+    let format = command_named(alloc, "format");
+    let format = with_word(alloc, format, "slots", true);
+    with_word(alloc, format, "size", true)
 }
 
 // `list [--as FORM]`
 fn list_words<'a>(alloc: Global) -> Result<Command<'a>, AllocError>
     ensures { IfOk result (IsApp list_app) }
 {
-    let list = Command::new(alloc, "list");
+    let list = command_named(alloc, "list");
     with_option(alloc, list, "as")
 }
 
@@ -43,9 +78,9 @@ fn list_words<'a>(alloc: Global) -> Result<Command<'a>, AllocError>
 fn replay_words<'a>(alloc: Global) -> Result<Command<'a>, AllocError>
     ensures { IfOk result (IsApp replay_app) }
 {
-    let proto = Arg::new(alloc, "proto").required(true);
-    let replay = Command::new(alloc, "replay").arg(proto)?;
-    let replay = with_option(alloc, replay, "token")?;
+    let replay = command_named(alloc, "replay");
+    let replay = with_word(alloc, replay, "proto", true);
+    let replay = with_option(alloc, replay, "token");
     with_option(alloc, replay, "ack-token")
 }
 
@@ -53,11 +88,11 @@ fn replay_words<'a>(alloc: Global) -> Result<Command<'a>, AllocError>
 fn drain_words<'a>(alloc: Global) -> Result<Command<'a>, AllocError>
     ensures { IfOk result (IsApp drain_app) }
 {
-    let proto = Arg::new(alloc, "proto").required(true);
-    let place = Arg::new(alloc, "place");
-    let drain = Command::new(alloc, "drain").arg(proto)?.arg(place)?;
-    let drain = with_option(alloc, drain, "out-token")?;
-    let drain = with_option(alloc, drain, "out-channel")?;
+    let drain = command_named(alloc, "drain");
+    let drain = with_word(alloc, drain, "proto", true);
+    let drain = with_word(alloc, drain, "place", false);
+    let drain = with_option(alloc, drain, "out-token");
+    let drain = with_option(alloc, drain, "out-channel");
     with_option(alloc, drain, "polls")
 }
 
@@ -65,11 +100,10 @@ fn drain_words<'a>(alloc: Global) -> Result<Command<'a>, AllocError>
 fn load_words<'a>(alloc: Global) -> Result<Command<'a>, AllocError>
     ensures { IfOk result (IsApp load_app) }
 {
-    let proto = Arg::new(alloc, "proto").required(true);
-    let number = Arg::new(alloc, "number").required(true);
-    let count = Arg::new(alloc, "count").required(true);
-    let load = Command::new(alloc, "load").arg(proto)?.arg(number)?;
-    load.arg(count)
+    let load = command_named(alloc, "load");
+    let load = with_word(alloc, load, "proto", true);
+    let load = with_word(alloc, load, "number", true);
+    with_word(alloc, load, "count", true)
 }
 
 // `serve [--relp P] [--lumberjack P] [--hec P] [--workers N] [--talks N] [--token G] [--ack-token G]
@@ -77,31 +111,32 @@ fn load_words<'a>(alloc: Global) -> Result<Command<'a>, AllocError>
 fn serve_words<'a>(alloc: Global) -> Result<Command<'a>, AllocError>
     ensures { IfOk result (IsApp serve_app) }
 {
-    let serve = Command::new(alloc, "serve");
-    let serve = with_option(alloc, serve, "relp")?;
-    let serve = with_option(alloc, serve, "lumberjack")?;
-    let serve = with_option(alloc, serve, "hec")?;
-    let serve = with_option(alloc, serve, "workers")?;
-    let serve = with_option(alloc, serve, "talks")?;
-    let serve = with_option(alloc, serve, "token")?;
-    let serve = with_option(alloc, serve, "ack-token")?;
-    let serve = with_option(alloc, serve, "forward")?;
-    let serve = with_option(alloc, serve, "to")?;
-    let serve = with_option(alloc, serve, "out-token")?;
-    let serve = with_option(alloc, serve, "out-channel")?;
+    let serve = command_named(alloc, "serve");
+    let serve = with_option(alloc, serve, "relp");
+    let serve = with_option(alloc, serve, "lumberjack");
+    let serve = with_option(alloc, serve, "hec");
+    let serve = with_option(alloc, serve, "workers");
+    let serve = with_option(alloc, serve, "talks");
+    let serve = with_option(alloc, serve, "token");
+    let serve = with_option(alloc, serve, "ack-token");
+    let serve = with_option(alloc, serve, "forward");
+    let serve = with_option(alloc, serve, "to");
+    let serve = with_option(alloc, serve, "out-token");
+    let serve = with_option(alloc, serve, "out-channel");
     with_option(alloc, serve, "polls")
 }
 
 // The command line without its commands.
-fn top_words<'a>(alloc: Global) -> Command<'a>
-    ensures { IsApp top_app result }
+fn top_words<'a>(alloc: Global) -> Result<Command<'a>, AllocError>
+    ensures { IfOk result (IsApp top_app) }
 {
-    Command::new(alloc, "bridge")
+    let bridge = Command::new(alloc, "bridge")
         .no_binary_name(true)
         .disable_help_flag(true)
         .disable_help_subcommand(true)
         .disable_version_flag(true)
-        .subcommand_required(true)
+        .subcommand_required(true);
+    Ok(bridge)
 }
 
 // The whole command line.
@@ -109,18 +144,12 @@ fn whole_words<'a>(alloc: Global) -> Result<Command<'a>, AllocError>
     ensures { IfOk result (IsApp bridge_app) }
 {
     let bridge = top_words(alloc);
-    let format = format_words(alloc)?;
-    let bridge = bridge.subcommand(format)?;
-    let list = list_words(alloc)?;
-    let bridge = bridge.subcommand(list)?;
-    let replay = replay_words(alloc)?;
-    let bridge = bridge.subcommand(replay)?;
-    let drain = drain_words(alloc)?;
-    let bridge = bridge.subcommand(drain)?;
-    let load = load_words(alloc)?;
-    let bridge = bridge.subcommand(load)?;
-    let serve = serve_words(alloc)?;
-    bridge.subcommand(serve)
+    let bridge = with_command(bridge, format_words(alloc));
+    let bridge = with_command(bridge, list_words(alloc));
+    let bridge = with_command(bridge, replay_words(alloc));
+    let bridge = with_command(bridge, drain_words(alloc));
+    let bridge = with_command(bridge, load_words(alloc));
+    with_command(bridge, serve_words(alloc))
 }
 
 /// What clap finds in the words. Its error has one of the kinds that are wrong with them, or memory ran out.

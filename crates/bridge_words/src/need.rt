@@ -6,7 +6,7 @@ use crate::Command;
 use std::alloc::{AllocError, Global};
 
 /// Which device the words want.
-#[derive(Clone, Copy, PartialEq, Eq, Debug)]
+#[derive(Clone, Copy, PartialEq, Eq)]
 pub enum Need {
     /// The words are no command, and no device is opened.
     NoCommand,

@@ -49,7 +49,3 @@ impl PartialEq for Place {
         self.text.as_str() == other.text.as_str()
     }
 }
-
-impl Eq for Place {
-    ghost laws = { Prim.search (comparing, rules) };
-}

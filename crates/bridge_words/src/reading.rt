@@ -20,7 +20,7 @@ use edge_io::Proto;
 use std::alloc::{AllocError, Global};
 
 /// Why no command was read from the words.
-#[derive(Clone, Copy, PartialEq, Eq, Debug)]
+#[derive(Drop)]
 pub(crate) enum Unread {
     /// No memory was found.
     NoMemory,

@@ -1,12 +1,4 @@
-use Rattle.std.proofs.Common.{rules, codes}
-use Rattle.std.specs.Prelude.{true}
-use Rattle.clap.specs.Simple.{new_app, new_rule}
-use Rattle.bridge_words.specs.Grammar.{IsApp}
-use Rattle.bridge_words.proofs.Apps.{adds_argument}
 use Rattle.bridge_words.proofs.grammar.replay_words.Goals as goal
 
 pub returns : goal.returns
-returns c =
-    let none : IsApp (new_app (codes "replay")) c.new-2.result = record { is = search rules; local = search rules } in
-    let proto = adds_argument _ (record (new_rule (codes "proto")) { required = true }) _ _ _ none (search rules) (search rules) c.in_ok-replay.ensures in
-    c.with_option-2.ensures _ (c.in_ok-replay-2.ensures _ proto)
+returns c = c.with_option.ensures _ (c.with_option-replay.ensures _ (c.with_word-replay.ensures _ c.command_named-replay.ensures))

@@ -1,10 +1,14 @@
-use Rattle.std.proofs.Common.{rules}
-use Rattle.std.specs.Prelude.{Some}
+use Rattle.std.proofs.Common.{◌∙◌, ap, Some}
 use Rattle.std.proofs.lemmas.Result.{IfOk-weaker}
+use Rattle.clap.specs.declared.builder.arg.Arg.{Arg}
+use Rattle.clap.specs.Walk.{Rule, rule_of}
 use Rattle.clap.specs.Simple.{new_rule}
 use Rattle.bridge_words.proofs.Apps.{adds_argument}
 use Rattle.bridge_words.proofs.grammar.with_option.Goals as goal
 
 pub returns : goal.returns
 returns c = λ app is.
-    IfOk-weaker c.arg.result _ _ (λ r adds. adds_argument app (record (new_rule c.args.name.now) { long = Some c.args.name.now }) _ _ r is (search rules) (search rules) adds) c.arg.ensures
+    let own = rw c.in_ok-command.was at is in
+    let local = ap (λ (a : Arg). a.global) c.long-option.ensures ∙ c.new.ensures.optional.1 in
+    let rule = ap rule_of c.long-option.ensures ∙ ap (λ (r : Rule). record r { long = Some c.args.name.now }) c.new.ensures.rule in
+    IfOk-weaker c.arg.result _ _ (λ r adds. adds_argument app (record (new_rule c.args.name.now) { long = Some c.args.name.now }) _ _ r own local rule adds) c.arg.ensures
