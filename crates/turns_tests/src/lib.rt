@@ -10,6 +10,8 @@ pub use crew::{Shift, work_together};
 pub use taking::{entry, take_many};
 
 #[cfg(test)]
+mod answers;
+#[cfg(test)]
 mod made;
 #[cfg(test)]
 mod pair;

@@ -6,7 +6,7 @@ ghost use Rattle.desk_access.specs.Alone.{HoldsNone};
 use desk_access::Desk;
 use edge_disk::MemDisk;
 use hec_ids::Ids;
-use spool_log::{Opening, Spool, format};
+use spool_log::{Numbered, Opening, PendFault, Spool, format};
 use std::alloc::{AllocError, Global};
 use std::test::Fail;
 
@@ -40,6 +40,11 @@ pub(crate) fn calls_to_open(alloc: Global, bytes: &[u8]) -> Result<u64, Fail> {
         }
     }
     Err("no spool".into())
+}
+
+/// The first entries, so many, that a desk has.
+pub(crate) fn kept(desk: &mut Desk<MemDisk>, most: u32) -> Result<Vec<Numbered>, PendFault> {
+    desk.spool.pending(0, most)
 }
 
 // The desk of a spool, with no id.

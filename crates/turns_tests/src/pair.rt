@@ -1,15 +1,18 @@
-//! Two passes at one desk, of whose disk a call may fail, and answers worked out by hand.
-ghost use Rattle.std.specs.Prelude.{◌≡◌, ◌+◌, IfOk};
+//! Two passes at one desk, of whose disk a call may fail.
+ghost use Rattle.std.specs.Prelude.{◌≡◌, ◌+◌, [], IfOk};
+ghost use Rattle.desk_access.specs.Batch.{Belongs};
 ghost use Rattle.spool_turns.specs.Named.{IsName};
 
-use crate::crew::{jobs, next_job};
-use crate::made::{calls_to_open, formatted, opened};
+use crate::answers::ROWS;
+use crate::crew::{Job, jobs, next_job};
+use crate::made::{calls_to_open, formatted, kept, opened};
 use crate::taking::{entry, take_next, take_one};
 use desk_access::{Access, Desk};
 use edge_disk::MemDisk;
-use spool_log::{Numbered, PendFault, Receipt, TakeFault};
-use spool_turns::{Naming, Opened, Seated, Unnamed};
+use spool_log::{Numbered, PendFault};
+use spool_turns::{Naming, Opened, Pass, Seated, Shared, Unnamed};
 use std::alloc::{AllocError, Global};
+use std::fmt::Debug;
 use std::marker::Brand;
 use std::sync::Wait;
 use std::test::Fail;
@@ -17,40 +20,32 @@ use std::test::Fail;
 // The channel that asks.
 const CHANNEL: u128 = 0x0aee_ac95_ac74_4aa9_b30d_6c4c_0ac5_81ba;
 
-// The number, the connection and the index of an entry.
-type Place = (u64, u64, u64);
-
-// What the calls that store answered, in their order.
+// What two passes were told, a line for each answer, and the passes after their calls.
 #[derive(Drop)]
-struct Stored {
-    one: Result<Receipt, TakeFault>,
-    two: Result<Receipt, TakeFault>,
-    id: Option<u64>,
-    told: bool,
+struct Turned<J: Naming> {
+    said: Result<String, AllocError>,
+    first: Pass<J>,
+    last: Pass<J>,
 }
 
-// What the calls that read answered, in their order.
+// What they were told, and the desk that was closed.
 #[derive(Drop)]
-struct Given {
-    pending: Vec<Place>,
-    confirmed: bool,
-    told: bool,
-    front: u64,
-    left: Vec<Place>,
-}
-
-// All answers, and the desk that was closed.
-#[derive(Drop)]
-struct Answers {
-    stored: Stored,
-    given: Given,
+struct Closed {
+    said: Result<String, AllocError>,
     desk: Desk<MemDisk>,
 }
 
-fn places(
+// Adds a line with this answer.
+fn say<T: Debug>(said: &mut String, answer: &T) -> Result<(), AllocError> {
+    writeln!(said, "{answer:?}")
+}
+
+// Adds a line with the number, the connection and the index of each entry.
+fn say_places(
     alloc: Global,
+    said: &mut String,
     given: Result<Vec<Numbered>, PendFault>,
-) -> Result<Vec<Place>, AllocError> {
+) -> Result<(), AllocError> {
     let mut places = Vec::new(alloc);
     if let Ok(given) = given {
         for numbered in &given {
@@ -58,7 +53,7 @@ fn places(
             places.push((*number, entry.conn, entry.index))?;
         }
     }
-    Ok(places)
+    say(said, &places)
 }
 
 // Whether the channel holds the id settled.
@@ -68,26 +63,31 @@ fn asked<A: Access>(access: &mut A, channel: u128, id: u64) -> bool {
     known[0]
 }
 
-// The first caller takes an entry, and is issued an id, which isn't settled.
+// The first caller takes an entry, and is issued an id, which isn't settled. Returns the id, or 0.
 fn store_one<A: Access>(
     alloc: Global,
+    said: &mut String,
     access: &mut A,
     conn: u64,
-) -> Result<(Result<Receipt, TakeFault>, Option<u64>, bool), AllocError>
+) -> Result<u64, AllocError>
     requires may { A.may_take access.old conn 0 }
 {
-    let one = take_one(access, conn, 0, entry(alloc, conn, 0)?);
+    let entry = entry(alloc, conn, 0)?;
+    say(said, &take_one(access, conn, 0, entry))?;
     let id = access.issue(CHANNEL).ok();
-    let told = asked(access, CHANNEL, id.unwrap_or(0));
-    Ok((one, id, told))
+    say(said, &id)?;
+    let id = id.unwrap_or(0);
+    say(said, &asked(access, CHANNEL, id))?;
+    Ok(id)
 }
 
 // The other takes two, and may confirm as before.
 fn store_two<A: Access>(
     alloc: Global,
+    said: &mut String,
     access: &mut A,
     conn: u64,
-) -> Result<Result<Receipt, TakeFault>, AllocError>
+) -> Result<(), AllocError>
     requires may { A.may_take access.old conn 0 }
     requires confirm { A.may_confirm access.old }
 
@@ -95,177 +95,165 @@ fn store_two<A: Access>(
 {
     let first = entry(alloc, conn, 0)?;
     let second = entry(alloc, conn, 1)?;
-    Ok(take_next(access, conn, 0, &[first, second]))
+    say(said, &take_next(access, conn, 0, &[first, second]))
 }
 
-// The other reads all entries, confirms so many, and asks for the id. Then the first loads the end and reads what is left.
-fn read_all<A: Access, B: Access>(
+// The other reads all entries, confirms so many, and asks for the id.
+fn read_all<A: Access>(
     alloc: Global,
-    zero: &mut A,
-    other: &mut B,
+    said: &mut String,
+    access: &mut A,
     upto: u64,
     id: u64,
-) -> Result<Given, AllocError>
-    requires confirm { B.may_confirm other.old }
+) -> Result<(), AllocError>
+    requires confirm { A.may_confirm access.old }
 {
-    let pending = other.pending(0, 10);
-    let confirmed = other.end() >= upto && other.confirm(upto).is_ok();
-    let told = asked(other, CHANNEL, id);
-    let front = zero.end();
-    let left = zero.pending(0, 10);
-    Ok(Given {
-        pending: places(alloc, pending)?,
-        confirmed,
-        told,
-        front,
-        left: places(alloc, left)?,
-    })
+    say_places(alloc, said, access.pending(0, 10))?;
+    let confirmed = access.end() >= upto && access.confirm(upto).is_ok();
+    say(said, &confirmed)?;
+    say(said, &asked(access, CHANNEL, id))
 }
 
-// Two passes store and read in turn. None where there are no two passes, or the second may not confirm.
+// The first loads the end, and reads what is left.
+fn read_left<A: Access>(
+    alloc: Global,
+    said: &mut String,
+    access: &mut A,
+) -> Result<(), AllocError> {
+    say(said, &access.end())?;
+    say_places(alloc, said, access.pending(0, 10))
+}
+
+// Two callers, each with its first connection, store and read in turn. A line for each answer.
+fn told<A: Access>(
+    alloc: Global,
+    zero: &mut A,
+    first: u64,
+    other: &mut A,
+    last: u64,
+    upto: u64,
+) -> Result<String, AllocError>
+    requires first { A.may_take zero.old first 0 }
+    requires last { A.may_take other.old last 0 }
+    requires confirm { A.may_confirm other.old }
+{
+    let mut said = String::new(alloc);
+    let id = store_one(alloc, &mut said, zero, first)?;
+    store_two(alloc, &mut said, other, last)?;
+    read_all(alloc, &mut said, other, upto, id)?;
+    read_left(alloc, &mut said, zero)?;
+    Ok(said)
+}
+
+// The same of two passes at their desk.
+fn in_turn<J: Naming, R: Wait>(
+    rt: &R,
+    alloc: Global,
+    shared: &Shared<MemDisk, J>,
+    first: Job<J>,
+    last: Job<J>,
+    upto: u64,
+) -> Turned<J>
+    requires first { Belongs J.run first.pass.number first.conn × (first.pass.own ≡ []) }
+    requires last { Belongs J.run last.pass.number last.conn × (last.pass.own ≡ []) }
+    requires confirm { last.pass.number + 1 ≡ J.seats }
+{
+    let mut zero = Seated {
+        shared,
+        pass: first.pass,
+        rt,
+    };
+    let mut other = Seated {
+        shared,
+        pass: last.pass,
+        rt,
+    };
+    let said = told(alloc, &mut zero, first.conn, &mut other, last.conn, upto);
+    let Seated { pass: first, .. } = zero;
+    let Seated { pass: last, .. } = other;
+    Turned { said, first, last }
+}
+
+// The same over a desk with two passes, which is then closed. None where no memory is found, there are no two passes, or the
+// second may not confirm.
 fn two_passes<J: Naming, R: Wait>(
     rt: &R,
     alloc: Global,
     unnamed: Unnamed<MemDisk>,
     upto: u64,
-) -> Result<Option<Answers>, AllocError>
+) -> Option<Closed>
     requires seats { 2 ≡ J.seats }
     requires name { IsName J.table J.run J.start J.began unnamed }
 {
     let run = unnamed.run;
     let Ok(Opened { shared, passes }) = unnamed.named::<J>(alloc, 2) else {
-        return Err(AllocError);
+        return None;
     };
-    let mut jobs = jobs(alloc, passes, run, 2)?;
-    let Some(first) = next_job(&mut jobs) else {
-        return Ok(None);
+    let Ok(mut jobs) = jobs(alloc, passes, run, 2) else {
+        return None;
     };
-    let Some(last) = next_job(&mut jobs) else {
-        return Ok(None);
-    };
+    let first = next_job(&mut jobs)?;
+    let last = next_job(&mut jobs)?;
     if last.number != 1 {
-        return Ok(None);
+        return None;
     }
-    let mut zero = Seated {
-        shared: &shared,
-        pass: first.pass,
-        rt,
+    let Ok(mut passes) = Vec::with_capacity(alloc, 2) else {
+        return None;
     };
-    let mut other = Seated {
-        shared: &shared,
-        pass: last.pass,
-        rt,
-    };
-    let (one, id, told) = store_one(alloc, &mut zero, first.conn)?;
-    let two = store_two(alloc, &mut other, last.conn)?;
-    let given = read_all(alloc, &mut zero, &mut other, upto, id.unwrap_or(0))?;
-    let Seated { pass: first, .. } = zero;
-    let Seated { pass: last, .. } = other;
-    let mut passes = Vec::with_capacity(alloc, 2)?;
+    let Turned { said, first, last } = in_turn(rt, alloc, &shared, first, last, upto);
     passes.push_reserved(first);
     passes.push_reserved(last);
-    Ok(Some(Answers {
-        stored: Stored { one, two, id, told },
-        given,
+    Some(Closed {
+        said,
         desk: shared.close(passes),
-    }))
+    })
 }
 
-// What two passes are told over this disk, a line for each answer, and what the desk has that they leave.
-fn said<R: Wait>(rt: &R, alloc: Global, disk: MemDisk, upto: u64) -> Result<String, Fail> {
+// Adds what a desk has, its end, and whether that is in doubt.
+fn say_kept(alloc: Global, said: &mut String, mut desk: Desk<MemDisk>) -> Result<(), AllocError> {
+    say_places(alloc, said, kept(&mut desk, 10))?;
+    say(said, &desk.spool.end())?;
+    say(said, &desk.spool.doubt)
+}
+
+// What two passes are told over a disk with these bytes of which this call fails, a line for each answer, and what the desk
+// has that they leave.
+fn said<R: Wait>(
+    rt: &R,
+    alloc: Global,
+    bytes: &[u8],
+    failing: u64,
+    upto: u64,
+) -> Result<String, Fail> {
+    let disk = MemDisk::of(bytes.to_vec(alloc)?, [failing].to_vec(alloc)?);
     let desk = opened(alloc, disk).ok_or("no spool")?;
     let Ok(unnamed) = Unnamed::new(alloc, desk) else {
         return Err(Fail::from("memory"));
     };
-    let answers = two_passes::<Brand, _>(rt, alloc, unnamed, upto)?.ok_or("no passes")?;
-    let Answers {
-        stored,
-        given,
-        mut desk,
-    } = answers;
-    let kept = places(alloc, desk.spool.pending(0, 10))?;
-    let stored = format!(in alloc;
-        "{:?}\nid {:?} {}\n{:?}",
-        stored.one, stored.id, stored.told, stored.two
-    )?;
-    let given = format!(in alloc;
-        "{:?}\n{} {}\n{} {:?}",
-        given.pending.as_slice(),
-        given.confirmed,
-        given.told,
-        given.front,
-        given.left.as_slice()
-    )?;
-    Ok(format!(in alloc;
-        "{stored}\n{given}\n{} {} {:?}",
-        desk.spool.end(),
-        desk.spool.doubt,
-        kept.as_slice()
-    )?)
+    let closed = two_passes::<Brand, _>(rt, alloc, unnamed, upto).ok_or("no passes")?;
+    let Closed { said, desk } = closed;
+    let mut said = said?;
+    say_kept(alloc, &mut said, desk)?;
+    Ok(said)
 }
 
-// What the first pass's take answers; the id that it is issued, and whether that is told as settled; what the other's
-// take answers; what it reads then, each entry's number, connection and index; whether its confirm was done, and whether
-// the id is told to it; the end that the first loads, and what it reads; the end of the closed desk, whether that is in
-// doubt, and what it has.
-const WHOLE: &str = r#"Ok(Receipt { first: 0, count: 1 })
-id Some(4294967296) false
-Ok(Receipt { first: 1, count: 2 })
-[(0, 4294967296, 0), (1, 4362076160, 0), (2, 4362076160, 1)]
-true false
-3 [(2, 4362076160, 1)]
-3 false [(2, 4362076160, 1)]"#;
-
-// The same where the first pass's take failed, and its group isn't there.
-const ABSENT: &str = r#"Err(DiskFault)
-id Some(4294967296) false
-Ok(Receipt { first: 0, count: 2 })
-[(0, 4362076160, 0), (1, 4362076160, 1)]
-true false
-2 [(0, 4362076160, 0), (1, 4362076160, 1)]
-2 false [(0, 4362076160, 0), (1, 4362076160, 1)]"#;
-
-// Where it failed, and its group is there.
-const PRESENT: &str = r#"Err(DiskFault)
-id Some(4294967296) false
-Ok(Receipt { first: 1, count: 2 })
-[(0, 4294967296, 0), (1, 4362076160, 0), (2, 4362076160, 1)]
-true false
-3 [(0, 4294967296, 0), (1, 4362076160, 0), (2, 4362076160, 1)]
-3 false [(0, 4294967296, 0), (1, 4362076160, 0), (2, 4362076160, 1)]"#;
-
-// Where the other's take failed at its first call.
-const ALONE: &str = r#"Ok(Receipt { first: 0, count: 1 })
-id Some(4294967296) false
-Err(DiskFault)
-[(0, 4294967296, 0)]
-true false
-1 [(0, 4294967296, 0)]
-1 false [(0, 4294967296, 0)]"#;
-
-// Which call of the disk fails, counted from 0 after the opening; how many entries are confirmed; and what is said. A take
-// makes four calls: it writes the group with its gate closed, syncs, opens the gate, and syncs. Where one fails the take is
-// refused, and the desk is in doubt: the next take finds the group whole or not at all, and takes the next number. A gate
-// of which the write failed stays closed. One that was written and not synced is read as open.
-const ROWS: [(u64, u64, &str); 6] = [
-    (0, 0, ABSENT),
-    (1, 0, ABSENT),
-    (2, 0, ABSENT),
-    (3, 0, PRESENT),
-    (4, 0, ALONE),
-    (1000, 2, WHOLE),
-];
+// The first row of which the answers are others.
+fn wrong_row<R: Wait>(rt: &R, alloc: Global) -> Result<Option<String>, Fail> {
+    let disk = formatted(alloc, 4096)?.ok_or("no disk")?;
+    let first = calls_to_open(alloc, disk.bytes())?;
+    for (call, upto, want) in &ROWS {
+        let failing = first.saturating_add(*call);
+        let said = said(rt, alloc, disk.bytes(), failing, *upto)?;
+        if said.as_str() != *want {
+            return Ok(Some(said));
+        }
+    }
+    Ok(None)
+}
 
 #[test]
 fn two_passes_share_a_desk(rt: HostRuntime) -> Result<(), Fail> {
-    let alloc = rt.alloc();
-    let disk = formatted(alloc, 4096)?.ok_or("no disk")?;
-    let first = calls_to_open(alloc, disk.bytes())?;
-    for (call, upto, want) in ROWS {
-        let failing = [first.saturating_add(call)].to_vec(alloc)?;
-        let disk = MemDisk::of(disk.bytes().to_vec(alloc)?, failing);
-        let said = said(&rt, alloc, disk, upto)?;
-        assert!(rt; said.as_str() == want, "call {call}: {said}");
-    }
+    let wrong = wrong_row(&rt, rt.alloc())?;
+    assert!(rt; wrong.is_none(), "{wrong:?}");
     Ok(())
 }
