@@ -2,10 +2,8 @@
 //! the gate proves a crate with tests twice, with and without them.
 #![tactic(auto)]
 
+#[cfg(test)]
 mod alone;
-
-pub use alone::{Served, serve_alone};
-
 #[cfg(test)]
 mod harness;
 #[cfg(test)]
