@@ -20,7 +20,7 @@ use std::rt::Clock;
 use std::sync::Wait;
 use std::thread::Threads;
 use std::time::{Duration, Instant};
-use turns_tests::{take_many, work_together};
+use thread_tests::{take_many, work_together};
 
 const SLOTS: u32 = 8;
 

@@ -1,0 +1,6 @@
+use Rattle.std.proofs.Common.{All}
+use Rattle.edge_io.specs.MemLink.{IsUnused}
+use Rattle.thread_tests.proofs.workers.serving.door.Given as goal
+
+abbrev pub invariant-loop-row : goal.invariant-loop-row
+invariant-loop-row l = All IsUnused l.links.items

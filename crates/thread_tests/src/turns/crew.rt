@@ -1,0 +1,164 @@
+//! Passes that take in threads of their own.
+ghost use Rattle.std.specs.Prelude.{◌≡◌, ◌+◌, ◌*◌, ◌≤◌, ℕ, [], false, All, IfOk, IfSome};
+ghost use Rattle.spool_log.specs.Memory.{run_of};
+ghost use Rattle.desk_access.specs.Alone.{HoldsNone};
+ghost use Rattle.desk_access.specs.Batch.{Belongs};
+ghost use Rattle.spool_turns.specs.Passes.{fresh};
+ghost use Rattle.spool_turns.specs.Named.{IsName};
+
+use crate::turns::taking::take_many;
+use desk_access::Desk;
+use edge_disk::Disk;
+use spool_turns::{Naming, Opened, Pass, Seated, Shared, Unnamed};
+use std::alloc::{AllocError, Global};
+use std::marker::Brand;
+use std::sync::Wait;
+use std::thread::{Threads, map_vec};
+
+/// How far the connections of one pass are from those of the next.
+pub(crate) const CONNS: u64 = 67_108_864;
+
+/// How far those of one run are from those of the next.
+pub(crate) const RUNS: u64 = 4_294_967_296;
+
+/// What passes did together, and the desk that they left.
+#[derive(Drop)]
+pub struct Shift<D: Disk> {
+    /// How many groups they took.
+    pub taken: u64,
+    pub desk: Desk<D>,
+}
+
+/// A pass that made no call, its number, and its first connection.
+#[derive(Drop)]
+pub(crate) struct Job<J: Naming> {
+    pub(crate) pass: Pass<J>,
+    pub(crate) number: u32,
+    pub(crate) conn: u64,
+}
+
+// A pass after its takes, and how many they were.
+#[derive(Drop)]
+struct Worked<J: Naming> {
+    pass: Pass<J>,
+    taken: Result<u64, AllocError>,
+}
+
+/// What each pass is to do, the one with the greatest number first.
+pub(crate) fn jobs<J: Naming>(
+    alloc: Global,
+    mut passes: Vec<Pass<J>>,
+    run: u32,
+    seats: u32,
+) -> Result<Vec<Job<J>>, AllocError>
+    requires run { run ≡ J.run }
+    requires few { seats ≤ 64 }
+    requires fresh { (end : ℕ) × (cursor : ℕ) × (passes.items ≡ fresh 0 seats end cursor) }
+
+    ensures { IfOk result (λ jobs.
+        All (λ (job : _). (job.number ≡ job.pass.number) × Belongs J.run job.pass.number job.conn × (job.pass.own ≡ [])) jobs.items) }
+{
+    let mut jobs = Vec::with_capacity(alloc, seats as usize)?;
+    for popped in 0..seats {
+        let Some(pass) = passes.pop() else {
+            break;
+        };
+        let number = seats - 1 - popped;
+        let conn = first_conn(run, number);
+        jobs.push_reserved(Job { pass, number, conn });
+    }
+    Ok(jobs)
+}
+
+/// The job of the pass with the least number that is left.
+pub(crate) fn next_job<J: Naming>(jobs: &mut Vec<Job<J>>) -> Option<Job<J>>
+    requires { All (λ (job : _). (job.number ≡ job.pass.number) × Belongs J.run job.pass.number job.conn × (job.pass.own ≡ [])) jobs.old.items }
+
+    ensures job { IfSome result (λ job. (job.number ≡ job.pass.number) × Belongs J.run job.pass.number job.conn × (job.pass.own ≡ [])) }
+    ensures rest { All (λ (job : _). (job.number ≡ job.pass.number) × Belongs J.run job.pass.number job.conn × (job.pass.own ≡ [])) jobs.new.items }
+{
+    jobs.pop()
+}
+
+/// The first connection of the pass of that number.
+pub(crate) fn first_conn(run: u32, number: u32) -> u64
+    requires few { number ≤ 63 }
+    ensures belongs { Belongs run number result }
+{
+    u64::from(run) * RUNS + u64::from(number) * CONNS
+}
+
+// Takes so many groups of one entry of the pass's first connection.
+fn work<D: Disk, J: Naming, R: Wait>(
+    rt: &R,
+    alloc: Global,
+    shared: &Shared<D, J>,
+    job: Job<J>,
+    takes: u64,
+) -> Worked<J>
+    requires belongs { Belongs J.run job.pass.number job.conn }
+    requires none { job.pass.own ≡ [] }
+{
+    let mut seated = Seated {
+        shared,
+        pass: job.pass,
+        rt,
+    };
+    let taken = take_many(&mut seated, alloc, job.conn, takes);
+    let Seated { pass, .. } = seated;
+    Worked { pass, taken }
+}
+
+// Each pass takes in a thread of its own.
+fn crew<D: Disk + Drop + Send, J: Naming + Send + Sync, R: Threads + Wait + Sync>(
+    rt: &R,
+    alloc: Global,
+    unnamed: Unnamed<D>,
+    seats: u32,
+    takes: u64,
+) -> Result<Shift<D>, AllocError>
+    requires seats { seats ≡ J.seats }
+    requires few { seats ≤ 64 }
+    requires name { IsName J.table J.run J.start J.began unnamed }
+{
+    let run = unnamed.run;
+    let Ok(Opened { shared, passes }) = unnamed.named::<J>(alloc, seats) else {
+        return Err(AllocError);
+    };
+    let jobs = jobs(alloc, passes, run, seats)?;
+    let workers = map_vec(
+        rt,
+        jobs,
+        &|job: Job<J>| -> Worked<J>
+            requires { Belongs J.run job.pass.number job.conn × (job.pass.own ≡ []) }
+        { work(rt, alloc, &shared, job, takes) },
+    )?;
+    let mut passes = Vec::with_capacity(alloc, workers.len())?;
+    let mut taken: u64 = 0;
+    for worked in workers {
+        taken = taken.saturating_add(worked.taken?);
+        passes.push(worked.pass)?;
+    }
+    Ok(Shift {
+        taken,
+        desk: shared.close(passes),
+    })
+}
+
+/// So many passes share the desk, at most 64, and each takes so many groups of one entry in a thread of its own.
+pub fn work_together<D: Disk + Drop + Send, R: Threads + Wait + Sync>(
+    rt: &R,
+    alloc: Global,
+    desk: Desk<D>,
+    seats: u32,
+    takes: u64,
+) -> Result<Shift<D>, AllocError>
+    requires sure { desk.spool.doubt ≡ false }
+    requires ids { HoldsNone (run_of desk.spool.memory) desk.ids }
+    requires few { seats ≤ 64 }
+{
+    let Ok(unnamed) = Unnamed::new(alloc, desk) else {
+        return Err(AllocError);
+    };
+    crew::<D, Brand, R>(rt, alloc, unnamed, seats, takes)
+}

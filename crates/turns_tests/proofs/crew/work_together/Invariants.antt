@@ -1,5 +1,0 @@
-use Rattle.spool_turns.specs.Named.{table_of, start_of, moment_of}
-use Rattle.turns_tests.proofs.crew.work_together.Given as goal
-
-abbrev pub ghosts-crew : goal.ghosts-crew
-ghosts-crew g a = record { table = table_of a.unnamed; seats = a.seats; run = a.unnamed.run; start = start_of a.unnamed; began = moment_of a.unnamed }
