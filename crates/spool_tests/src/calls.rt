@@ -3,7 +3,7 @@ ghost use Rattle.std.specs.Prelude.{◌<◌, IfOk, All, vec_len};
 ghost use Rattle.event_form.specs.Entry.{IsEntry};
 ghost use Rattle.spool_log.specs.Changing.Mark.{EndsBy};
 
-use crate::made::{entry_of, kind_of, name_of};
+use crate::made::{entry_named, name_of};
 use crate::words::{number, numbers, word};
 use edge_disk::MemDisk;
 use event_form::Entry;
@@ -34,19 +34,17 @@ pub(crate) fn opened(
     }
 }
 
-// The entries that a script names, a kind and a length each.
-fn group_of(alloc: Global, spelled: &str) -> Result<Vec<Entry>, Fail>
+/// The entries that a script names, with a comma between them.
+pub(crate) fn group_of(alloc: Global, spelled: &str) -> Result<Vec<Entry>, Fail>
     ensures limits { IfOk result (λ group. All IsEntry group.items) }
     ensures few { IfOk result (λ group. vec_len group < 100) }
 {
     let mut group = Vec::new(alloc);
+    if spelled.is_empty() {
+        return Ok(group);
+    }
     for part in spelled.split(", ") {
-        let (name, len) = word(part);
-        if !name.is_empty() {
-            let kind = kind_of(name)?;
-            let len = number(len)?;
-            group.push(entry_of(alloc, kind, len as usize)?)?;
-        }
+        group.push(entry_named(alloc, part)?)?;
     }
     if group.len() >= 100 {
         return Err("too many".into());
@@ -122,7 +120,7 @@ fn change(
 /// Makes a change, and says its answer, and whether the spool is in doubt then. `None`: the step is
 /// none of these.
 ///
-/// - `take KIND LENGTH, ..`: a group of entries; `taken FIRST COUNT` or the fault;
+/// - `take ENTRY, ..`: a group, as [`entry_named`] reads entries; `taken FIRST COUNT` or the fault;
 /// - `confirm UPTO`, `mark FROM TO FROM TO`, `mark FROM TO` and `mark`: numbers that become known; `done` or the
 ///   fault.
 pub(crate) fn say_change(
@@ -157,7 +155,7 @@ pub(crate) fn say_pending(
         if !text.is_empty() {
             text.push_str(", ")?;
         }
-        let name = name_of(alloc, &one.entry)?;
+        let name = name_of(&one.entry);
         let len = one.entry.event.text.bytes().len();
         let line = format!(in alloc; "{} {name} {len}", one.number)?;
         text.push_str(line.as_str())?;

@@ -1,12 +1,10 @@
 //! Where a group goes, and when no slot is free, against the definition.
-ghost use Rattle.std.specs.Prelude.{◌≤◌, IfOk};
-ghost use Rattle.event_form.specs.Entry.{IsEntry};
-
+use crate::calls::opened;
+use crate::made::event_of;
+use crate::play::formatted;
 use edge_disk::MemDisk;
-use event_form::{Blob, Entry, Event, Origin};
-use spool_log::{Opening, Receipt, Spool, TakeFault, format};
-use std::alloc::{AllocError, Global};
-use std::process::Abort;
+use spool_log::{Opening, Receipt, Spool, TakeFault};
+use std::alloc::Global;
 use std::test::Fail;
 
 /// What an empty slot of 4,096 bytes has room for.
@@ -89,22 +87,6 @@ impl Model {
     }
 }
 
-fn event(alloc: Global, len: u64) -> Result<Entry, AllocError>
-    requires { len ≤ 131072 }
-    ensures { IfOk result IsEntry }
-{
-    let text = Blob::of(vec![in alloc; 120; len as usize]?);
-    Ok(Entry {
-        conn: 4_294_967_296,
-        index: 0,
-        unit: 2,
-        event: Event {
-            origin: Origin::Relp,
-            text,
-        },
-    })
-}
-
 /// A number from 0 up to and without `below`, which is not 0, and the next state of the generator.
 fn draw(state: u64, below: u64) -> (u64, u64) {
     let next = state
@@ -113,16 +95,65 @@ fn draw(state: u64, below: u64) -> (u64, u64) {
     ((next >> 33).checked_rem(below).unwrap_or(0), next)
 }
 
-// Of each four steps about three take an event of up to 2,400 bytes, and the others confirm up to a number
-// between the cursor and the end.
+// Takes an event of so many bytes, and answers whether the spool does as the model.
+fn takes_alike(
+    alloc: Global,
+    spool: &mut Spool<MemDisk>,
+    model: &mut Model,
+    len: u64,
+) -> Result<bool, Fail> {
+    let group = [event_of(alloc, 4_294_967_296, 2, len)?];
+    // 9 bytes of the group, and 29 of the entry before its text.
+    let want = model.take(len.saturating_add(38));
+    Ok(spool.take(&group) == want)
+}
+
+// Confirms up to a number, and answers whether that is done.
+fn confirms(spool: &mut Spool<MemDisk>, upto: u64) -> bool {
+    let upto = upto.min(spool.end());
+    spool.confirm(upto).is_ok()
+}
+
+// Whether the spool stands as the model.
+fn stands_alike(spool: &Spool<MemDisk>, model: &Model) -> bool {
+    let place = spool.memory.active.at.saturating_sub(12_288) / 4096;
+    spool.end() == model.end
+        && spool.cursor() == model.cursor
+        && spool.room() == model.room()
+        && place == model.active as u64
+}
+
+// Makes 200 steps, and answers whether the spool does as the model at each. Of each four steps about three take an
+// event of up to 2,400 bytes, and the others confirm up to a number between the cursor and the end.
+fn goes_alike(alloc: Global, spool: &mut Spool<MemDisk>, model: &mut Model) -> Result<bool, Fail> {
+    let mut state = 1;
+    for step in 0..200 {
+        let (choice, next) = draw(state, 4);
+        let alike = if choice > 0 {
+            let (len, next) = draw(next, 2401);
+            state = next;
+            takes_alike(alloc, spool, model, len)?
+        } else {
+            let pending = model.end.saturating_sub(model.cursor);
+            let (more, next) = draw(next, pending.saturating_add(1));
+            state = next;
+            model.cursor = model.cursor.saturating_add(more);
+            confirms(spool, model.cursor)
+        };
+        if !alike || !stands_alike(spool, model) {
+            return Ok(false);
+        }
+    }
+    Ok(true)
+}
+
+/// Whether an empty spool of three slots does as the model, which finds no free slot at times, and empties one.
 pub(crate) fn the_free_slot_is_as_defined(alloc: Global) -> Result<bool, Fail> {
     let mut disk = MemDisk::plain(alloc, 24_576)?;
-    if format(&mut disk, 3, 4096) != Ok(()) {
+    if formatted(&mut disk, 3, 4096)?.is_err() {
         return Ok(false);
     }
-    let mut spool = Spool::recover(alloc, disk, Opening::Keep)
-        .ok()
-        .ok_or("no spool")?;
+    let mut spool = opened(alloc, disk, Opening::Keep)?;
     let empty = Row {
         first: 0,
         count: 0,
@@ -136,36 +167,6 @@ pub(crate) fn the_free_slot_is_as_defined(alloc: Global) -> Result<bool, Fail> {
         full: 0,
         reused: 0,
     };
-    let mut state = 1;
-    for step in 0..200 {
-        let (choice, next) = draw(state, 4);
-        if choice > 0 {
-            let (len, next) = draw(next, 2401);
-            state = next;
-            let len = len.min(2400);
-            // 9 bytes of the group, and 29 of the entry before its text.
-            let want = model.take(9 + 29 + len);
-            let group = [event(alloc, len)?];
-            if spool.take(&group) != want {
-                return Ok(false);
-            }
-        } else {
-            let pending = model.end.saturating_sub(model.cursor);
-            let (more, next) = draw(next, pending.saturating_add(1));
-            state = next;
-            model.cursor = model.cursor.saturating_add(more);
-            let upto = model.cursor.min(spool.end());
-            if spool.confirm(upto) != Ok(()) {
-                return Ok(false);
-            }
-        }
-        if (spool.end(), spool.cursor(), spool.room()) != (model.end, model.cursor, model.room()) {
-            return Ok(false);
-        }
-        let place = (spool.memory.active.at.saturating_sub(12_288) / 4096) as usize;
-        if place != model.active {
-            return Ok(false);
-        }
-    }
-    Ok(model.full >= 10 && model.reused >= 10)
+    let alike = goes_alike(alloc, &mut spool, &mut model)?;
+    Ok(alike && model.full >= 10 && model.reused >= 10)
 }

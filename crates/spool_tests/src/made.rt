@@ -1,15 +1,16 @@
 //! Entries that differ in all that an entry has.
-ghost use Rattle.std.specs.Prelude.{◌≤◌, length, IfOk};
+ghost use Rattle.std.specs.Prelude.{IfOk};
 ghost use Rattle.event_form.specs.Entry.{IsEntry};
 
+use crate::words::{number, word};
 use event_form::{Blob, Entry, Event, MOST_TEXT, Origin};
-use std::alloc::{AllocError, Global};
+use std::alloc::Global;
 use std::test::Fail;
 
-/// What an entry has, but for the length of its text. Each byte of that is one more than the byte
-/// before; 0 comes after 255.
+// What an entry has, but for the length of its text. Each byte of that is one more than the byte
+// before; 0 comes after 255.
 #[derive(Clone, Copy)]
-pub(crate) struct Kind {
+struct Kind {
     pub conn: u64,
     pub index: u64,
     pub unit: u64,
@@ -57,36 +58,47 @@ fn fill(text: &mut [u8], first_byte: u8) {
     }
 }
 
-fn text_of(alloc: Global, kind: Kind, len: usize) -> Result<Blob, AllocError>
-    requires { len ≤ MOST_TEXT }
-    ensures { IfOk result (λ text. length text ≤ MOST_TEXT) }
-{
-    let mut text = vec![in alloc; 0; len]?;
-    fill(&mut text, kind.first_byte);
-    Ok(Blob::of(text))
-}
-
-/// The entry of this kind with a text of so many bytes. None has the text of pairs.
-pub(crate) fn entry_of(alloc: Global, kind: Kind, len: usize) -> Result<Entry, Fail>
+/// A RELP event, or one of the collector's, with this text.
+pub(crate) fn entry_with(
+    conn: u64,
+    index: u64,
+    unit: u64,
+    origin: Origin,
+    text: Vec<u8>,
+) -> Result<Entry, Fail>
     ensures { IfOk result IsEntry }
 {
-    if kind.origin == Origin::LumberData || len > MOST_TEXT {
+    if origin == Origin::LumberData || text.len() > MOST_TEXT {
         return Err("no such entry".into());
     }
-    let text = text_of(alloc, kind, len)?;
+    let text = Blob::of(text);
     Ok(Entry {
-        conn: kind.conn,
-        index: kind.index,
-        unit: kind.unit,
-        event: Event {
-            origin: kind.origin,
-            text,
-        },
+        conn,
+        index,
+        unit,
+        event: Event { origin, text },
     })
 }
 
-/// The kind that a script names so.
-pub(crate) fn kind_of(name: &str) -> Result<Kind, Fail> {
+// The entry of this kind with a text of so many bytes.
+fn entry_of(alloc: Global, kind: Kind, len: u64) -> Result<Entry, Fail>
+    ensures { IfOk result IsEntry }
+{
+    let mut text = vec![in alloc; 0; len.min(1_000_000) as usize]?;
+    fill(&mut text, kind.first_byte);
+    entry_with(kind.conn, kind.index, kind.unit, kind.origin, text)
+}
+
+/// A RELP event whose text is so many letters x.
+pub(crate) fn event_of(alloc: Global, conn: u64, unit: u64, len: u64) -> Result<Entry, Fail>
+    ensures { IfOk result IsEntry }
+{
+    let text = vec![in alloc; b'x'; len.min(1_000_000) as usize]?;
+    entry_with(conn, 0, unit, Origin::Relp, text)
+}
+
+// The kind that a script names so.
+fn kind_of(name: &str) -> Result<Kind, Fail> {
     if name == "relp" {
         Ok(RELP)
     } else if name == "json" {
@@ -100,29 +112,58 @@ pub(crate) fn kind_of(name: &str) -> Result<Kind, Fail> {
     }
 }
 
-// Whether the entry is the one of this kind with a text of that length, in all that it has.
-fn is_of(alloc: Global, entry: &Entry, kind: Kind) -> Result<bool, Fail> {
-    let want = entry_of(alloc, kind, entry.event.text.bytes().len())?;
-    let same = (entry.conn, entry.index, entry.unit) == (want.conn, want.index, want.unit);
-    Ok(
-        same && entry.event.origin == want.event.origin
-            && entry.event.text.bytes() == want.event.text.bytes(),
-    )
+/// The entry that a script names: a kind and a length; or a connection, a unit and a text, which stands there or
+/// is so many letters x.
+pub(crate) fn entry_named(alloc: Global, spelled: &str) -> Result<Entry, Fail>
+    ensures { IfOk result IsEntry }
+{
+    let (name, rest) = word(spelled);
+    let Ok(conn) = name.parse::<u64>() else {
+        return entry_of(alloc, kind_of(name)?, number(rest)?);
+    };
+    let (unit, text) = word(rest);
+    let unit = number(unit)?;
+    match text.parse::<u64>() {
+        Ok(len) => event_of(alloc, conn, unit, len),
+        Err(_) => {
+            let text = Vec::from_slice(alloc, text.as_bytes())?;
+            entry_with(conn, 0, unit, Origin::Relp, text)
+        }
+    }
+}
+
+// Whether the text is as `fill` makes it.
+fn is_filled(text: &[u8], first_byte: u8) -> bool {
+    let mut next = first_byte;
+    for byte in text {
+        if *byte != next {
+            return false;
+        }
+        next = next.wrapping_add(1);
+    }
+    true
+}
+
+// Whether the entry is one of this kind, in all that it has.
+fn is_of(entry: &Entry, kind: Kind) -> bool {
+    entry.conn == kind.conn
+        && entry.index == kind.index
+        && entry.unit == kind.unit
+        && entry.event.origin == kind.origin
+        && is_filled(entry.event.text.bytes(), kind.first_byte)
 }
 
 /// The name of the entry's kind, or `another` where it is none of these.
-pub(crate) fn name_of(alloc: Global, entry: &Entry) -> Result<&'static str, Fail> {
-    if is_of(alloc, entry, RELP)? {
-        return Ok("relp");
+pub(crate) fn name_of(entry: &Entry) -> &'static str {
+    if is_of(entry, RELP) {
+        "relp"
+    } else if is_of(entry, JSON) {
+        "json"
+    } else if is_of(entry, HEC) {
+        "hec"
+    } else if is_of(entry, RAW) {
+        "raw"
+    } else {
+        "another"
     }
-    if is_of(alloc, entry, JSON)? {
-        return Ok("json");
-    }
-    if is_of(alloc, entry, HEC)? {
-        return Ok("hec");
-    }
-    if is_of(alloc, entry, RAW)? {
-        return Ok("raw");
-    }
-    Ok("another")
 }

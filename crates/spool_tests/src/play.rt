@@ -1,6 +1,8 @@
 //! What a script works on: the bytes of a device, and the spool that is open over them.
 use crate::calls::{opened, opening_of, say_change, say_pending, say_state};
-use crate::words::{bytes_of, number, word};
+use crate::slots::benches::Bench;
+use crate::slots::registers::put_cell;
+use crate::words::{bytes_of, number, numbers, word};
 use edge_disk::{Crash, MemDisk};
 use spool_log::{FormatFault, Opening, Spool, format};
 use std::alloc::{AllocError, Global};
@@ -13,6 +15,8 @@ pub(crate) struct Play {
     /// Another device, to compare.
     pub other: Vec<u8>,
     pub spool: Option<Spool<MemDisk>>,
+    /// A slot alone, on a disk of its own.
+    pub bench: Option<Bench>,
 }
 
 impl Play {
@@ -21,6 +25,7 @@ impl Play {
             device: Vec::new(alloc),
             other: Vec::new(alloc),
             spool: None,
+            bench: None,
         }
     }
 }
@@ -176,6 +181,8 @@ fn lay(alloc: Global, play: &mut Play, step: &str, rest: &str) -> Result<Option<
     } else if step == "put" {
         let bytes = bytes_of(alloc, bytes)?;
         put(&mut play.device, number(first)?, &bytes);
+    } else if step == "cell" {
+        put_cell(&mut play.device, number(first)?, &numbers(alloc, bytes)?);
     } else if step == "remember" {
         play.other = play.device.to_vec(alloc)?;
     } else if step == "restore" {
@@ -190,8 +197,8 @@ fn lay(alloc: Global, play: &mut Play, step: &str, rest: &str) -> Result<Option<
 
 /// Works on the device, and says what comes of it. `None`: the step is none of these.
 ///
-/// - `zeros LENGTH` and `put AT BYTES`: a device; `remember` copies it, `restore` takes the copy for
-///   it, and `equal` compares it with the copy: `yes` or `no`;
+/// - `zeros LENGTH`, `put AT BYTES` and `cell AT FIELDS`: a device; `remember` copies it, `restore` takes the
+///   copy for it, and `equal` compares it with the copy: `yes` or `no`;
 /// - `format SLOTS SIZE`: makes it an empty spool; `done` or the fault;
 /// - `open HOW FAILING`: a spool over it, where the disk's call of this number fails, counted from 0 after
 ///   the opening, or none; `run RUN`, or the fault of a device that is left as it was;

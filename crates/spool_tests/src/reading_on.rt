@@ -1,6 +1,6 @@
 //! What it costs to read on where a reading ended, or to read again where it began.
+use crate::made::event_of;
 use crate::play::formatted;
-use crate::slots::benches::event_of;
 use crate::slots::counting_disk::CountingDisk;
 use edge_disk::MemDisk;
 use spool_log::{Opening, Spool};
@@ -40,7 +40,7 @@ fn counted(alloc: Global, size: u64) -> Result<Spool<CountingDisk<MemDisk>>, Fai
 
 // Stores an event of 100 bytes, in a group of its own.
 fn store(alloc: Global, spool: &mut Spool<CountingDisk<MemDisk>>) -> Result<(), Fail> {
-    let group = [event_of(alloc, 1, 100)?];
+    let group = [event_of(alloc, 7, 1, 100)?];
     match spool.take(&group) {
         Ok(_) => Ok(()),
         Err(_) => Err("take".into()),
@@ -87,22 +87,36 @@ fn forwarded(alloc: Global, spool: &mut Spool<CountingDisk<MemDisk>>) -> Result<
     Ok((reads, bytes))
 }
 
+// Stores so many events, reads and confirms them at once, and then forwards more. Whether each of the four readings of
+// one event reads that alone.
+fn walks_over_nothing_again(
+    alloc: Global,
+    spool: &mut Spool<CountingDisk<MemDisk>>,
+    stored: u32,
+    more: u32,
+) -> Result<bool, Fail> {
+    for _ in 0..stored {
+        store(alloc, spool)?;
+    }
+    if given(spool, 0, stored)? != stored as usize {
+        return Ok(false);
+    }
+    confirm(spool)?;
+    for _ in 0..more {
+        if forwarded(alloc, spool)? != (4, 4 * 139) {
+            return Ok(false);
+        }
+    }
+    Ok(true)
+}
+
 /// Whether each of four readings of one event reads that alone, whatever was stored in the slot before it: a
 /// group's gate, length and count (9 bytes), an entry with a text of 100 bytes (129), and the gate after it.
 pub(crate) fn a_reading_walks_over_nothing_again(alloc: Global) -> Result<bool, Fail> {
     for (size, stored, more) in ROWS {
         let mut spool = counted(alloc, size)?;
-        for _ in 0..stored {
-            store(alloc, &mut spool)?;
-        }
-        if given(&mut spool, 0, stored)? != stored as usize {
+        if !walks_over_nothing_again(alloc, &mut spool, stored, more)? {
             return Ok(false);
-        }
-        confirm(&mut spool)?;
-        for _ in 0..more {
-            if forwarded(alloc, &mut spool)? != (4, 4 * 139) {
-                return Ok(false);
-            }
         }
     }
     Ok(true)

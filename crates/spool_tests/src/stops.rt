@@ -7,7 +7,8 @@ use spool_log::{Opening, Spool};
 use std::alloc::Global;
 use std::test::Fail;
 
-const CRASHES: [Crash; 5] = [
+/// What a crash may do.
+pub(crate) const CRASHES: [Crash; 5] = [
     Crash::Synced,
     Crash::Written,
     Crash::Filled(0),
@@ -18,14 +19,15 @@ const CRASHES: [Crash; 5] = [
 /// A change, how many calls of the disk it makes, and what stands before it and after: cursor, end and what is
 /// pending.
 #[derive(Clone, Copy)]
-struct Change<'a> {
-    calls: u64,
-    old: &'a str,
-    new: &'a str,
-    step: &'a str,
+pub(crate) struct Change<'a> {
+    pub calls: u64,
+    pub old: &'a str,
+    pub new: &'a str,
+    pub step: &'a str,
 }
 
-fn change_of(spelled: &str) -> Result<Change<'_>, Fail> {
+/// The change that is spelled `CALLS | OLD | NEW | STEP`.
+pub(crate) fn change_of(spelled: &str) -> Result<Change<'_>, Fail> {
     let (calls, rest) = spelled.split_once(" | ").ok_or("no calls")?;
     let (old, rest) = rest.split_once(" | ").ok_or("no state before")?;
     let (new, step) = rest.split_once(" | ").ok_or("no state after")?;
@@ -55,6 +57,18 @@ fn left(alloc: Global, disk: MemDisk, choice: Crash) -> Result<String, Fail> {
     Ok(format!(in alloc; "{} {}: {pending}", spool.cursor(), spool.end())?)
 }
 
+// Whether the change was answered as done with a stop after so many calls, and what stands after it and a crash.
+fn state_after(
+    alloc: Global,
+    device: &[u8],
+    calls: u64,
+    choice: Crash,
+    step: &str,
+) -> Result<(bool, String), Fail> {
+    let (done, disk) = stopped(alloc, device, calls, step)?;
+    Ok((done, left(alloc, disk, choice)?))
+}
+
 // Whether what stands after a stop after so many calls and a crash is what stood before the change or after it,
 // and after it where the change was answered as done, which it was where it made all its calls.
 fn stops_well(
@@ -64,12 +78,13 @@ fn stops_well(
     calls: u64,
     change: Change,
 ) -> Result<bool, Fail> {
+    let whole = calls == change.calls;
     for choice in CRASHES {
-        let (done, disk) = stopped(alloc, device, first.saturating_add(calls), change.step)?;
-        let state = left(alloc, disk, choice)?;
+        let calls = first.saturating_add(calls);
+        let (done, state) = state_after(alloc, device, calls, choice, change.step)?;
         let is_new = state.as_str() == change.new;
         let is_old = state.as_str() == change.old && !done;
-        if done != (calls == change.calls) || !(is_new || is_old) {
+        if done != whole || !(is_new || is_old) {
             return Ok(false);
         }
     }
@@ -93,16 +108,20 @@ pub(crate) fn leaves_all_or_none(
     Ok(true)
 }
 
-// The bytes that are read and those that are durable after the change was stopped after so many calls.
-fn bytes_after(
+// Whether what is read, and what is durable, differ where the change was stopped after so many calls, and after so
+// many more.
+fn differ(
     alloc: Global,
     device: &[u8],
     calls: u64,
+    more: u64,
     step: &str,
-) -> Result<(Vec<u8>, Vec<u8>), Fail> {
-    let (_, disk) = stopped(alloc, device, calls, step)?;
-    let read = disk.bytes().to_vec(alloc)?;
-    let durable = disk.crash(Crash::Synced).bytes().to_vec(alloc)?;
+) -> Result<(bool, bool), Fail> {
+    let (_, before) = stopped(alloc, device, calls, step)?;
+    let (_, after) = stopped(alloc, device, calls.saturating_add(more), step)?;
+    let read = after.bytes() != before.bytes();
+    let before = before.crash(Crash::Synced);
+    let durable = after.crash(Crash::Synced).bytes() != before.bytes();
     Ok((read, durable))
 }
 
@@ -112,17 +131,16 @@ fn bytes_after(
 pub(crate) fn alternates(alloc: Global, device: &[u8], spelled: &str) -> Result<bool, Fail> {
     let change = change_of(spelled)?;
     let first = calls_to_open(alloc, device)?;
-    let (mut read, mut durable) = bytes_after(alloc, device, first, change.step)?;
-    for calls in 1..=change.calls {
-        let after = bytes_after(alloc, device, first.saturating_add(calls), change.step)?;
-        let syncs = calls % 2 == 0;
-        if (after.1 != durable) != syncs || !(after.0 != read || syncs) {
+    for call in 0..change.calls {
+        let (read, durable) = differ(alloc, device, first.saturating_add(call), 1, change.step)?;
+        let syncs = call % 2 == 1;
+        if durable != syncs || !(read || syncs) {
             return Ok(false);
         }
-        (read, durable) = after;
     }
-    let all = bytes_after(alloc, device, first.saturating_add(100), change.step)?;
-    Ok(all.1 == durable)
+    let all = first.saturating_add(change.calls);
+    let (_, durable) = differ(alloc, device, all, 100, change.step)?;
+    Ok(!durable)
 }
 
 // Where the active slot of the device is, or why it is no spool.
@@ -145,14 +163,25 @@ fn may_be_left(calls: u64, old: bool, none: bool, empty: bool) -> bool {
     }
 }
 
+// Whether a format of the device that is stopped after so many calls is answered as done, and what stands after it
+// and a crash.
+fn format_left(
+    alloc: Global,
+    device: &[u8],
+    calls: u64,
+    choice: Crash,
+) -> Result<(bool, String), Fail> {
+    let mut disk = MemDisk::stopped(device.to_vec(alloc)?, calls);
+    let done = formatted(&mut disk, 2, 4096)?.is_ok();
+    Ok((done, seen(alloc, disk.crash(choice))?))
+}
+
 /// Whether a format of the device, wherever it is stopped, leaves the old spool, none or the empty one, each
 /// as far as it may.
 pub(crate) fn format_stops(alloc: Global, device: &[u8], old: &str) -> Result<bool, Fail> {
     for calls in 0..14 {
         for choice in CRASHES {
-            let mut disk = MemDisk::stopped(device.to_vec(alloc)?, calls);
-            let done = formatted(&mut disk, 2, 4096)?.is_ok();
-            let state = seen(alloc, disk.crash(choice))?;
+            let (done, state) = format_left(alloc, device, calls, choice)?;
             let none = state.as_str() == "NotSpool { at: 0 }";
             let empty = state.as_str() == "12288 17 0 0 0 0";
             if done != (calls >= 12) || !may_be_left(calls, state.as_str() == old, none, empty) {

@@ -1,12 +1,14 @@
-//! Answers worked out by hand.
+//! Calls of a desk, with answers worked out by hand.
 ghost use Rattle.spool_log.specs.Changing.Mark.{EndsBy};
 
 use crate::desk::desks::{entry, opened};
+use crate::words::{number, word};
 use desk_access::{Access, Alone};
 use edge_disk::MemDisk;
 use known_numbers::Stretch;
 use spool_log::{ConfirmFault, Numbered, PendFault, Receipt, TakeFault};
 use std::alloc::{AllocError, Global};
+use std::process::Abort;
 use std::test::Fail;
 
 // The channels that ask.
@@ -14,63 +16,75 @@ const CHANNEL: u128 = 0x0aee_ac95_ac74_4aa9_b30d_6c4c_0ac5_81ba;
 
 const OTHER: u128 = 0x14a3_bf8b_5e7d_46e1_a1a0_3a7b_7b5f_6c20;
 
-// The first ids of run 1.
-const FIRST: u64 = 4_294_967_296;
+/// Groups and an id that isn't settled, then entries confirmed. The first ids of run 1 are 4294967296 and
+/// 4294967297.
+pub(crate) const ENTRIES: &str = "end = 0
+one 2 = 0 1
+two 3 = 1 2
+issue ours = 4294967296
+ask ours 4294967296 = no
+pending 0 = 0 1 2
+end = 3
+confirm 2 = done
+pending 0 = 2
+end = 3";
 
-const SECOND: u64 = 4_294_967_297;
+/// Numbers that become known out of order.
+pub(crate) const KNOWN: &str = "two 2 = 0 2
+two 3 = 2 2
+mark 1 3 = done
+count = 2
+pending 0 = 0 3
+pending 1 = 3
+mark 0 1 = done
+count = 0
+pending 0 = 3
+confirm 4 = done
+pending 0 = none";
 
-// A call. `One` and `Two` take so many entries of the unit.
-#[derive(Clone, Copy)]
-pub(crate) enum Step {
-    One(u64),
-    Two(u64),
-    Pending(u64),
-    Confirm(u64),
-    Mark(u64, u64),
-    Count,
-    End,
-    Issue(u128),
-    Settle(u128, u64),
-    Forget(u128, u64),
-    Ask(u128, u64),
-}
+/// An id is told true once, by its own channel, when its group was taken and it was settled.
+pub(crate) const IDS: &str = "issue ours = 4294967296
+two 4294967296 = 0 2
+ask ours 4294967296 = no
+settle other 4294967296 = no
+settle ours 4294967296 = yes
+ask other 4294967296 = no
+ask ours 4294967296 = yes
+ask ours 4294967296 = no
+issue other = 4294967297
+forget ours 4294967297 = no
+forget other 4294967297 = yes
+settle other 4294967297 = no";
 
-// What it answers: the first number and the count of a receipt, the numbers of the first entries found, 100 and more
-// for none, or whether the id was as it was asked.
-#[derive(Clone, Copy, PartialEq, Eq)]
-pub(crate) enum Answer {
-    Taken(u64, u64),
-    Found([u64; 4]),
-    Done,
-    Number(u64),
-    Id(u64),
-    Told(bool),
-    Refused,
-}
-
-fn taken(answer: Result<Receipt, TakeFault>) -> Answer {
+fn say_taken(alloc: Global, answer: Result<Receipt, TakeFault>) -> Result<String, AllocError> {
     match answer {
-        Ok(receipt) => Answer::Taken(receipt.first, receipt.count),
-        Err(_) => Answer::Refused,
+        Ok(receipt) => format!(in alloc; "{} {}", receipt.first, receipt.count),
+        Err(_) => String::from_str(alloc, "refused"),
     }
 }
 
-fn done(answer: Result<(), ConfirmFault>) -> Answer {
-    match answer {
-        Ok(()) => Answer::Done,
-        Err(_) => Answer::Refused,
-    }
+fn say_done(alloc: Global, answer: Result<(), ConfirmFault>) -> Result<String, AllocError> {
+    String::from_str(alloc, if answer.is_ok() { "done" } else { "refused" })
 }
 
-fn found(answer: Result<Vec<Numbered>, PendFault>) -> Answer {
+// The numbers of the entries that were found.
+fn say_found(
+    alloc: Global,
+    answer: Result<Vec<Numbered>, PendFault>,
+) -> Result<String, AllocError> {
     let Ok(given) = answer else {
-        return Answer::Refused;
+        return String::from_str(alloc, "refused");
     };
-    let mut numbers = [100, 101, 102, 103];
-    for (place, one) in numbers.iter_mut().zip(given.iter()) {
-        *place = one.number;
+    let mut text = String::new(alloc);
+    for one in &given {
+        let space = if text.is_empty() { "" } else { " " };
+        let number = format!(in alloc; "{space}{}", one.number)?;
+        text.push_str(number.as_str())?;
     }
-    Answer::Found(numbers)
+    if text.is_empty() {
+        text.push_str("none")?;
+    }
+    Ok(text)
 }
 
 // The stretch, as far as it ends by the end.
@@ -90,89 +104,105 @@ fn asked(alone: &mut Alone<MemDisk>, channel: u128, id: u64) -> bool {
     known[0]
 }
 
-fn call(alloc: Global, alone: &mut Alone<MemDisk>, step: Step) -> Result<Answer, AllocError> {
+// Issues an id, or says whether one was as it was asked.
+fn say_id(
+    alloc: Global,
+    alone: &mut Alone<MemDisk>,
+    step: &str,
+    rest: &str,
+) -> Result<String, Fail> {
+    let (name, id) = word(rest);
+    let channel = if name == "ours" { CHANNEL } else { OTHER };
+    if step == "issue" {
+        return match alone.issue(channel) {
+            Ok(id) => Ok(format!(in alloc; "{id}")?),
+            Err(_) => Err("no id".into()),
+        };
+    }
+    let id = number(id)?;
+    let told = if step == "settle" {
+        alone.settle(channel, id)
+    } else if step == "forget" {
+        alone.forget(channel, id)
+    } else if step == "ask" {
+        asked(alone, channel, id)
+    } else {
+        return Err("no such step".into());
+    };
+    Ok(String::from_str(alloc, if told { "yes" } else { "no" })?)
+}
+
+// Takes a group of one entry of a unit, or of two.
+fn say_take(
+    alloc: Global,
+    alone: &mut Alone<MemDisk>,
+    unit: u64,
+    second: bool,
+) -> Result<String, Fail> {
+    if second {
+        let group = [entry(alloc, 7, 0, unit)?, entry(alloc, 7, 1, unit)?];
+        return Ok(say_taken(alloc, alone.take(&group))?);
+    }
+    let group = [entry(alloc, 7, 0, unit)?];
+    Ok(say_taken(alloc, alone.take(&group))?)
+}
+
+// Makes a call, and says what it answers:
+//
+// - `one UNIT` and `two UNIT`: a group of so many entries; the first number and the count;
+// - `pending FROM`: the numbers of the first entries found, or none; `confirm UPTO` and `mark FROM TO`: `done`;
+// - `count` and `end`: how many stretches are known, and the end;
+// - `issue CHANNEL`: an id; `settle CHANNEL ID`, `forget CHANNEL ID` and `ask CHANNEL ID`: whether the id was as it
+//   was asked.
+fn say_call(
+    alloc: Global,
+    alone: &mut Alone<MemDisk>,
+    step: &str,
+    rest: &str,
+) -> Result<String, Fail> {
     let end = alone.end();
-    match step {
-        Step::One(unit) => {
-            let group = [entry(alloc, 7, 0, unit)?];
-            Ok(taken(alone.take(&group)))
-        }
-        Step::Two(unit) => {
-            let group = [entry(alloc, 7, 0, unit)?, entry(alloc, 7, 1, unit)?];
-            Ok(taken(alone.take(&group)))
-        }
-        Step::Pending(from) => Ok(found(alone.pending(from.min(end), 10))),
-        Step::Confirm(upto) => Ok(done(alone.confirm(upto.min(end)))),
-        Step::Mark(from, to) => Ok(done(alone.mark(&[within(from, to, end)]))),
-        Step::Count => Ok(Answer::Number(alone.known_count())),
-        Step::End => Ok(Answer::Number(end)),
-        Step::Issue(channel) => match alone.issue(channel) {
-            Ok(id) => Ok(Answer::Id(id)),
-            Err(_) => Ok(Answer::Refused),
-        },
-        Step::Settle(channel, id) => Ok(Answer::Told(alone.settle(channel, id))),
-        Step::Forget(channel, id) => Ok(Answer::Told(alone.forget(channel, id))),
-        Step::Ask(channel, id) => Ok(Answer::Told(asked(alone, channel, id))),
+    let (first, more) = word(rest);
+    if step == "one" || step == "two" {
+        say_take(alloc, alone, number(rest)?, step == "two")
+    } else if step == "pending" {
+        let from = number(rest)?.min(end);
+        Ok(say_found(alloc, alone.pending(from, 10))?)
+    } else if step == "confirm" {
+        let upto = number(rest)?.min(end);
+        Ok(say_done(alloc, alone.confirm(upto))?)
+    } else if step == "mark" {
+        let stretch = within(number(first)?, number(more)?, end);
+        Ok(say_done(alloc, alone.mark(&[stretch]))?)
+    } else if step == "count" {
+        Ok(format!(in alloc; "{}", alone.known_count())?)
+    } else if step == "end" {
+        Ok(format!(in alloc; "{end}")?)
+    } else {
+        say_id(alloc, alone, step, rest)
     }
 }
 
-/// Makes calls on a new desk, and says which of them isn't answered so, counted from 0.
-pub(crate) fn wrong_answer(alloc: Global, steps: &[(Step, Answer)]) -> Result<Option<usize>, Fail> {
+// Makes the calls of a script, each with what it answers after ` = `.
+fn follow(
+    rt: &impl Abort,
+    alloc: Global,
+    alone: &mut Alone<MemDisk>,
+    script: &str,
+) -> Result<(), Fail> {
+    for line in script.lines() {
+        let (spelled, want) = line.split_once(" = ").unwrap_or((line, ""));
+        let (step, rest) = word(spelled);
+        let said = say_call(alloc, alone, step, rest)?;
+        assert!(rt; said.as_str() == want, "{line}: {said}");
+    }
+    Ok(())
+}
+
+/// Makes the calls of a script on a new desk.
+pub(crate) fn run_desk(rt: &impl Abort, alloc: Global, script: &str) -> Result<(), Fail> {
     let Some(mut alone) = opened(alloc, &[])? else {
         return Err("no desk".into());
     };
-    if alone.run() != 1 {
-        return Err("another run".into());
-    }
-    for (place, (step, answer)) in steps.iter().enumerate() {
-        if call(alloc, &mut alone, *step)? != *answer {
-            return Ok(Some(place));
-        }
-    }
-    Ok(None)
+    assert_eq!(rt; alone.run(), 1);
+    follow(rt, alloc, &mut alone, script)
 }
-
-/// Groups and an id that isn't settled, then entries confirmed.
-pub(crate) const ENTRIES: &[(Step, Answer)] = &[
-    (Step::End, Answer::Number(0)),
-    (Step::One(2), Answer::Taken(0, 1)),
-    (Step::Two(3), Answer::Taken(1, 2)),
-    (Step::Issue(CHANNEL), Answer::Id(FIRST)),
-    (Step::Ask(CHANNEL, FIRST), Answer::Told(false)),
-    (Step::Pending(0), Answer::Found([0, 1, 2, 103])),
-    (Step::End, Answer::Number(3)),
-    (Step::Confirm(2), Answer::Done),
-    (Step::Pending(0), Answer::Found([2, 101, 102, 103])),
-    (Step::End, Answer::Number(3)),
-];
-
-/// Numbers that become known out of order.
-pub(crate) const KNOWN: &[(Step, Answer)] = &[
-    (Step::Two(2), Answer::Taken(0, 2)),
-    (Step::Two(3), Answer::Taken(2, 2)),
-    (Step::Mark(1, 3), Answer::Done),
-    (Step::Count, Answer::Number(2)),
-    (Step::Pending(0), Answer::Found([0, 3, 102, 103])),
-    (Step::Pending(1), Answer::Found([3, 101, 102, 103])),
-    (Step::Mark(0, 1), Answer::Done),
-    (Step::Count, Answer::Number(0)),
-    (Step::Pending(0), Answer::Found([3, 101, 102, 103])),
-    (Step::Confirm(4), Answer::Done),
-    (Step::Pending(0), Answer::Found([100, 101, 102, 103])),
-];
-
-/// An id is told true once, by its own channel, when its group was taken and it was settled.
-pub(crate) const IDS: &[(Step, Answer)] = &[
-    (Step::Issue(CHANNEL), Answer::Id(FIRST)),
-    (Step::Two(FIRST), Answer::Taken(0, 2)),
-    (Step::Ask(CHANNEL, FIRST), Answer::Told(false)),
-    (Step::Settle(OTHER, FIRST), Answer::Told(false)),
-    (Step::Settle(CHANNEL, FIRST), Answer::Told(true)),
-    (Step::Ask(OTHER, FIRST), Answer::Told(false)),
-    (Step::Ask(CHANNEL, FIRST), Answer::Told(true)),
-    (Step::Ask(CHANNEL, FIRST), Answer::Told(false)),
-    (Step::Issue(OTHER), Answer::Id(SECOND)),
-    (Step::Forget(CHANNEL, SECOND), Answer::Told(false)),
-    (Step::Forget(OTHER, SECOND), Answer::Told(true)),
-    (Step::Settle(OTHER, SECOND), Answer::Told(false)),
-];

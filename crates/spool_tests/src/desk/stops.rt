@@ -17,12 +17,12 @@ fn indexes(alone: &mut Alone<MemDisk>) -> [u64; 4] {
     found
 }
 
-// The desk again, as a new one finds it on what a crash leaves.
-fn after_crash(alloc: Global, alone: Alone<MemDisk>, choice: Crash) -> Option<Alone<MemDisk>> {
+// The indexes that a new desk finds on what a crash leaves.
+fn after_crash(alloc: Global, alone: Alone<MemDisk>, choice: Crash) -> Result<[u64; 4], Fail> {
     let Desk { spool, .. } = alone.into_desk();
     match Spool::recover(alloc, spool.into_disk().crash(choice), Opening::Keep) {
-        Ok(spool) => Some(desk_over(alloc, spool)),
-        Err(_) => None,
+        Ok(spool) => Ok(indexes(&mut desk_over(alloc, spool))),
+        Err(_) => Err("no spool".into()),
     }
 }
 
@@ -46,32 +46,41 @@ fn may_stand(
     }
 }
 
-pub(crate) fn what_was_taken_stands_whichever_call_fails(alloc: Global) -> Result<bool, Fail> {
+// Takes two groups.
+fn take_two(
+    alloc: Global,
+    alone: &mut Alone<MemDisk>,
+) -> Result<(Result<Receipt, TakeFault>, Result<Receipt, TakeFault>), Fail> {
     let first = [entry(alloc, 7, 0, 2)?];
     let second = [entry(alloc, 7, 1, 3)?];
+    let one = alone.take(&first);
+    Ok((one, alone.take(&second)))
+}
+
+// Whether a take failed where this call of the disk fails. `None`: the desk isn't opened. An error: what was taken
+// doesn't stand after a crash.
+fn take_fails(alloc: Global, failing: u64, choice: Crash) -> Result<Option<bool>, Fail> {
+    let Some(mut alone) = opened(alloc, &[failing])? else {
+        return Ok(None);
+    };
+    let (one, two) = take_two(alloc, &mut alone)?;
+    let left = after_crash(alloc, alone, choice)?;
+    if !may_stand(one, two, left) {
+        return Err("another group".into());
+    }
+    Ok(Some(one.is_err() || two.is_err()))
+}
+
+/// Whether what was taken stands after a crash, whichever call of the disk fails.
+pub(crate) fn what_was_taken_stands_whichever_call_fails(alloc: Global) -> Result<bool, Fail> {
     let mut failed = 0_u32;
     for failing in 0..40 {
         for choice in [Crash::Synced, Crash::Written, Crash::Filled(1)] {
-            let Some(mut alone) = opened(alloc, &[failing])? else {
-                continue;
-            };
-            let one = alone.take(&first);
-            let two = alone.take(&second);
-            if one.is_err() || two.is_err() {
+            if take_fails(alloc, failing, choice)? == Some(true) {
                 failed = failed.saturating_add(1);
-            }
-            let Some(mut again) = after_crash(alloc, alone, choice) else {
-                return Err("no spool".into());
-            };
-            let left = indexes(&mut again);
-            if !may_stand(one, two, left) {
-                return Ok(false);
             }
         }
     }
     // Each take makes a write, a sync, the gate and a sync.
-    if failed != 24 {
-        return Ok(false);
-    }
-    Ok(true)
+    Ok(failed == 24)
 }

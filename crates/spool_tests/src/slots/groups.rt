@@ -1,212 +1,239 @@
-use crate::slots::benches::{Bench, add, begun, event, event_of, fits, try_add};
-use edge_disk::{Crash, MemDisk};
-use spool_slots::{ScanFault, Slot, SlotFault, Window};
+//! Groups in one slot: their bytes, what is read back, and which calls of the disk they make.
+use crate::slots::benches::{begun, say_add};
+use crate::slots::reads::say_scan;
+use edge_disk::Crash;
 use std::alloc::Global;
 use std::test::Fail;
 
-// The units of all entries, read in parts of so many.
-fn units(alloc: Global, disk: &mut MemDisk, slot: &Slot, most: u32) -> Result<Vec<u64>, Fail> {
-    let mut units = Vec::new(alloc);
-    if !fits(slot, disk) {
-        return Err("slot".into());
-    }
-    let end = slot.first + slot.count;
-    let mut window = Window::new(alloc)?;
-    let mut mark = slot.start();
-    for _ in 0..9 {
-        if !fits(slot, disk) {
-            return Err("slot".into());
+/// Groups that are added and read back, and slots that are scanned.
+pub(crate) const SLOTS: &str =
+    r#"- the bytes of a slot of ordinal 1, with one RELP event of connection 4294967296, unit 2 and text `hello`
+begin 4096 99
+add 4294967296 2 hello = done
+slot = open 1 0 60 1
+left = 4296
+holds 100 %01%00%00%00%00%00%00%00%01%00%00%00%00%00%00%00%00%01%00%00%00%22%00%00%00%01%01%00%00%00%01 = yes
+holds 131 %00%00%00%00%00%00%00%00%00%00%00%00%00%00%00%00%00%00%00%02%00%00%00%05hello%00 = yes
+
+- three groups are read back, from each entry on, in parts of any size
+begin 4096 9999
+add 7 1 0, 7 2 300 = done
+add 7 3 1 = done
+add 7 4 7, 7 5 0, 7 6 2 = done
+units 0 1 7 = [1, 2, 3, 4, 5, 6]
+units 1 1 7 = [2, 3, 4, 5, 6]
+units 2 1 7 = [3, 4, 5, 6]
+units 3 1 7 = [4, 5, 6]
+units 4 1 7 = [5, 6]
+units 5 1 7 = [6]
+units 6 1 7 = []
+
+- a scan finds the slot
+begin 4096 99
+add 7 1 0, 7 2 300 = done
+add 7 3 1 = done
+slot = open 1 0 423 3
+left = 4296
+scan 4096 = open 1 0 423 3
+
+- an exact fit, and a byte more
+begin 4096 99
+add 7 1 2000 = done
+add 7 2 2003 = NoRoom { need: 2041, room: 2040 }
+slot = open 1 0 2055 1
+begin 4096 99
+add 7 1 2000 = done
+add 7 3 2002 = done
+slot = open 1 0 4095 2
+room = 0
+
+- each rule of a group: no entry after an open gate
+zeros 4300
+put 100 %01%00%00%00%00%00%00%00%01%00%00%00%00%00%00%00%00%01%00%00%00%22%00%00%00%01%01%00%00%00%01
+put 131 %00%00%00%00%00%00%00%00%00%00%00%00%00%00%00%00%00%00%00%02%00%00%00%05hello%00
+remember
+restore
+put 160 %01
+scan 4096 = NotSpool { at: 160 }
+- the length ends within the entry, one byte after it, and outside the slot
+restore
+put 121 %21
+scan 4096 = NotSpool { at: 117 }
+restore
+put 121 %23
+scan 4096 = NotSpool { at: 117 }
+restore
+put 118 %01
+scan 4096 = NotSpool { at: 117 }
+- a count of none, and one too many
+restore
+put 125 %00
+scan 4096 = NotSpool { at: 117 }
+restore
+put 125 %02
+scan 4096 = NotSpool { at: 117 }
+- no origin, pairs that are none, a text that is longer
+restore
+put 126 %06
+scan 4096 = NotSpool { at: 117 }
+restore
+put 126 %02
+scan 4096 = NotSpool { at: 117 }
+restore
+put 154 %06
+scan 4096 = NotSpool { at: 117 }
+- a closed slot, and a gate that isn't open
+restore
+put 100 %ff
+scan 4096 = closed
+restore
+put 160 %02
+scan 4096 = open 1 0 60 1
+"#;
+
+/// Which calls of the disk a group makes.
+pub(crate) const CALLS: &str =
+    r#"- a group of three events of 131,072 bytes is written in seven pieces. A write that fails leaves the first half of its piece: six
+- have 65,536 bytes, the last one has 96. The first four calls are those of `begin`
+begin 2097152 4
+add 7 1 131072, 7 2 131072, 7 3 131072 = DiskFault
+left = 2097352
+holds 32885 x%00 = yes
+begin 2097152 5
+add 7 1 131072, 7 2 131072, 7 3 131072 = DiskFault
+left = 2097352
+holds 98421 x%00 = yes
+begin 2097152 6
+add 7 1 131072, 7 2 131072, 7 3 131072 = DiskFault
+left = 2097352
+holds 163957 x%00 = yes
+begin 2097152 7
+add 7 1 131072, 7 2 131072, 7 3 131072 = DiskFault
+left = 2097352
+holds 229493 x%00 = yes
+begin 2097152 8
+add 7 1 131072, 7 2 131072, 7 3 131072 = DiskFault
+left = 2097352
+holds 295029 x%00 = yes
+begin 2097152 9
+add 7 1 131072, 7 2 131072, 7 3 131072 = DiskFault
+left = 2097352
+holds 360565 x%00 = yes
+begin 2097152 10
+add 7 1 131072, 7 2 131072, 7 3 131072 = DiskFault
+left = 2097352
+holds 393381 x%00 = yes
+- then come a sync, the gate and a sync. The last byte of the third text stands at 393,428 of the disk; it is durable from the first
+- sync on
+begin 2097152 11
+add 7 1 131072, 7 2 131072, 7 3 131072 = DiskFault
+left = 2097352
+holds 117 %00 = yes
+holds 393428 x%00 = yes
+crash = 2097352
+holds 393428 %00 = yes
+begin 2097152 12
+add 7 1 131072, 7 2 131072, 7 3 131072 = DiskFault
+left = 2097352
+holds 117 %00 = yes
+holds 393428 x%00 = yes
+crash = 2097352
+holds 393428 x = yes
+begin 2097152 13
+add 7 1 131072, 7 2 131072, 7 3 131072 = DiskFault
+left = 2097352
+holds 117 %01 = yes
+holds 393428 x%00 = yes
+crash = 2097352
+holds 393428 x = yes
+begin 2097152 14
+add 7 1 131072, 7 2 131072, 7 3 131072 = done
+left = 2097352
+holds 117 %01 = yes
+holds 393428 x%00 = yes
+crash = 2097352
+holds 393428 x = yes
+
+- a group of one piece takes four calls: it needs up to 65,536 bytes
+failing 7 1 0 = [0, 1, 2, 3]
+failing 7 1 962 = [0, 1, 2, 3]
+failing 7 1 65498 = [0, 1, 2, 3]
+failing 7 1 65499 = [0, 1, 2, 3, 4]
+"#;
+
+/// How often the disk is read, and how many bytes.
+pub(crate) const READS: &str =
+    r#"- a scan of a closed slot makes one small read; of an open one with no entry, or with a small group, it makes two
+zeros 20200
+scan_cost 20000 = 1 17
+begin 20000 9999
+left = 20200
+scan_cost 20000 = 2 4113
+add 7 1 100, 7 2 100, 7 3 100, 7 4 100 = done
+left = 20200
+scan_cost 20000 = 2 4113
+
+- a scan of full groups reads no byte again
+begin 20000 9999
+adds 25 7 1 100, 7 2 100, 7 3 100, 7 4 100 = done
+slot = open 1 0 13142 100
+left = 20200
+scan_bytes 20000 = 20000
+begin 600000 9999
+add 7 1 131072, 7 2 131072, 7 3 131072, 7 4 131072 = done
+slot = open 1 0 524430 4
+left = 600200
+scan_bytes 600000 = 600000
+
+- 25 groups of four entries: 13,126 bytes after the slot's head, the last gate included. Read in parts of so many, and then the last
+- entry alone: on the way to it 312 bytes between two heads are not read
+begin 20000 9999
+adds 25 7 1 100, 7 2 100, 7 3 100, 7 4 100 = done
+read_cost 0 100 = 100 3 13126
+read_cost 0 50 = 100 4 18847
+read_cost 0 20 = 100 5 19010
+read_cost 99 1 = 1 4 12944
+"#;
+
+/// Which of the first nine calls after those of `begin` fail a group where they fail.
+pub(crate) fn say_failing(alloc: Global, spelled: &str) -> Result<String, Fail> {
+    let mut failing = Vec::new(alloc);
+    for call in 0..9 {
+        let (said, _) = say_add(alloc, begun(alloc, 200_000, 4 + call, 0)?, spelled)?;
+        if said.as_str() == "DiskFault" {
+            failing.push(call)?;
         }
-        match slot.read_part(alloc, disk, &mut window, mark, most) {
-            Ok(part) => {
-                for entry in &part.entries {
-                    units.push(entry.unit)?;
-                }
-                mark = part.mark;
-            }
-            Err(_) => return Err("part".into()),
-        }
     }
-    if mark.number == end && mark.at == slot.gate && mark.rest == 0 {
-        Ok(units)
-    } else {
-        Err("mark".into())
-    }
+    Ok(format!(in alloc; "{failing:?}")?)
 }
 
-// The first bytes of a slot of ordinal 1 with one RELP event of connection 4294967296, unit 2 and text
-// "hello".
-const HELLO: [u8; 61] = [
-    1, 0, 0, 0, 0, 0, 0, 0, 1, 0, 0, 0, 0, 0, 0, 0, 0, 1, 0, 0, 0, 0x22, 0, 0, 0, 1, 1, 0, 0, 0, 1,
-    0, 0, 0, 0, 0, 0, 0, 0, 0, 0, 0, 0, 0, 0, 0, 0, 0, 0, 0, 2, 0, 0, 0, 5, 0x68, 0x65, 0x6c, 0x6c,
-    0x6f, 0,
-];
-
-pub(crate) fn the_bytes_of_a_slot(alloc: Global) -> Result<bool, Fail> {
-    let entries = [event(alloc, 4_294_967_296, 2, b"hello")?];
-    let Bench { disk, slot } = add(alloc, begun(alloc, 4096, 99, 0)?, &entries)?;
-    if slot.gate != 60 {
-        return Ok(false);
-    }
-    let bytes = disk.bytes();
-    if bytes.len() != 4296 {
-        return Ok(false);
-    }
-    if &bytes[100..161] != HELLO.as_slice() {
-        return Ok(false);
-    }
-    Ok(true)
+// What a scan finds where a second group was stopped after so many calls.
+fn after_stop(alloc: Global, calls: u64, choice: Crash) -> Result<String, Fail> {
+    let (_, one) = say_add(alloc, begun(alloc, 4096, 99, calls)?, "1 1 one")?;
+    let (_, two) = say_add(alloc, one, "1 2 two, 1 3 three")?;
+    say_scan(alloc, two.disk.crash(choice).bytes(), 4096, "scan")
 }
 
-pub(crate) fn groups_are_read_back(alloc: Global) -> Result<bool, Fail> {
-    let first = [event_of(alloc, 1, 0)?, event_of(alloc, 2, 300)?];
-    let second = [event_of(alloc, 3, 1)?];
-    let third = [
-        event_of(alloc, 4, 7)?,
-        event_of(alloc, 5, 0)?,
-        event_of(alloc, 6, 2)?,
-    ];
-    let two = add(
-        alloc,
-        add(alloc, begun(alloc, 4096, 99, 0)?, &first)?,
-        &second,
-    )?;
-    let Bench { mut disk, slot } = add(alloc, two, &third)?;
-    for most in 1..8 {
-        let read = units(alloc, &mut disk, &slot, most)?;
-        if read.as_slice() != [1, 2, 3, 4, 5, 6].as_slice() {
-            return Ok(false);
-        }
-    }
-    Ok(true)
-}
-
-pub(crate) fn a_scan_finds_the_slot(alloc: Global) -> Result<bool, Fail> {
-    let first = [event_of(alloc, 1, 0)?, event_of(alloc, 2, 300)?];
-    let second = [event_of(alloc, 3, 1)?];
-    let Bench { disk, slot } = add(
-        alloc,
-        add(alloc, begun(alloc, 4096, 99, 0)?, &first)?,
-        &second,
-    )?;
-    let found = scanned(alloc, disk)?.ok().ok_or("scan")?.ok_or("closed")?;
-    if (found.ordinal, found.first) != (1, 0) {
-        return Ok(false);
-    }
-    if (found.gate, found.count) != (slot.gate, 3) {
-        return Ok(false);
-    }
-    Ok(true)
-}
-
-// What a scan says of the slot of 4,096 bytes at offset 100.
-fn scanned(alloc: Global, mut disk: MemDisk) -> Result<Result<Option<Slot>, ScanFault>, Fail> {
-    if disk.bytes().len() < 4200 {
-        return Err("disk".into());
-    }
-    let mut window = Window::new(alloc)?;
-    Ok(Slot::scan(&mut disk, &mut window, 100, 4096))
-}
-
-pub(crate) fn an_exact_fit_and_a_byte_more(alloc: Global) -> Result<bool, Fail> {
-    let first = [event_of(alloc, 1, 2000)?];
-    let (large, exact) = ([event_of(alloc, 2, 2003)?], [event_of(alloc, 3, 2002)?]);
-    let one = add(alloc, begun(alloc, 4096, 99, 0)?, &first)?;
-    let (refused, slot, _) = try_add(alloc, one, &large)?;
-    if refused
-        != Err(SlotFault::NoRoom {
-            need: 2041,
-            room: 2040,
-        })
-    {
-        return Ok(false);
-    }
-    if (slot.gate, slot.count) != (2055, 1) {
-        return Ok(false);
-    }
-    let one = add(alloc, begun(alloc, 4096, 99, 0)?, &first)?;
-    let (_, slot, _) = try_add(alloc, one, &exact)?;
-    if (slot.gate, slot.count) != (4095, 2) {
-        return Ok(false);
-    }
-    if slot.room() != 0 {
-        return Ok(false);
-    }
-    Ok(true)
-}
-
-// What a scan says of the slot of one group, where this byte is changed.
-fn scan_changed(
-    alloc: Global,
-    at: usize,
-    byte: u8,
-) -> Result<Result<Option<Slot>, ScanFault>, Fail> {
-    let mut bytes = vec![in alloc; 0; 4300]?;
-    if bytes.len() < 4300 {
-        return Err("bytes".into());
-    }
-    bytes[100..161].copy_from_slice(&HELLO);
-    if at < 4096 {
-        bytes[100 + at] = byte;
-    }
-    scanned(alloc, MemDisk::of(bytes, Vec::new(alloc)))
-}
-
-pub(crate) fn each_rule_of_a_group(alloc: Global) -> Result<bool, Fail> {
-    for (at, byte, place) in [
-        // no entry after an open gate
-        (60, 1, 160),
-        // the length ends within the entry, one byte after it, and outside the slot
-        (21, 33, 117),
-        (21, 35, 117),
-        (18, 1, 117),
-        // a count of none, and one too many
-        (25, 0, 117),
-        (25, 2, 117),
-        // no origin, pairs that are none, a text that is longer
-        (26, 6, 117),
-        (26, 2, 117),
-        (54, 6, 117),
-    ] {
-        let fault = scan_changed(alloc, at, byte)?.err();
-        if fault != Some(ScanFault::NotSpool { at: place }) {
-            return Ok(false);
-        }
-    }
-    if scan_changed(alloc, 0, 255)?.map(|found| found.is_some()) != Ok(false) {
-        return Ok(false);
-    }
-    if scan_changed(alloc, 60, 2)?.map(|found| found.is_some()) != Ok(true) {
-        return Ok(false);
-    }
-    Ok(true)
-}
-
-// How many entries a scan finds where a second group was stopped after so many calls.
-fn count_after(alloc: Global, calls: u64, choice: Crash) -> Result<u64, Fail> {
-    let first = [event(alloc, 1, 1, b"one")?];
-    let second = [event(alloc, 1, 2, b"two")?, event(alloc, 1, 3, b"three")?];
-    let one = add(alloc, begun(alloc, 4096, 99, calls)?, &first)?;
-    let (_, _, disk) = try_add(alloc, one, &second)?;
-    let found = scanned(alloc, disk.crash(choice))?.ok().ok_or("scan")?;
-    Ok(found.ok_or("closed")?.count)
-}
-
+/// Whether a second group that is stopped stands whole or not at all. It makes the calls 8 to 11, and each kind of
+/// crash leaves it from so many calls on.
 pub(crate) fn a_stop_leaves_a_group_or_none(alloc: Global) -> Result<bool, Fail> {
-    // after the stop at each of the four calls, and after them
-    for (choice, want) in [
-        (Crash::Synced, [1, 1, 1, 1, 3]),
-        (Crash::Written, [1, 1, 1, 3, 3]),
-        (Crash::Filled(0), [1, 1, 1, 1, 3]),
-        (Crash::Filled(1), [1, 1, 3, 3, 3]),
-        (Crash::Filled(255), [1, 1, 1, 1, 3]),
+    for (choice, whole) in [
+        (Crash::Synced, 12),
+        (Crash::Written, 11),
+        (Crash::Filled(0), 12),
+        (Crash::Filled(1), 10),
+        (Crash::Filled(255), 12),
     ] {
-        let mut calls = 8;
-        for count in want {
-            if count_after(alloc, calls, choice)? != count {
+        for calls in 8..13 {
+            let found = after_stop(alloc, calls, choice)?;
+            let want = if calls >= whole {
+                "open 1 0 133 3"
+            } else {
+                "open 1 0 58 1"
+            };
+            if found.as_str() != want {
                 return Ok(false);
             }
-            calls = if calls < 12 { calls + 1 } else { 12 };
         }
     }
     Ok(true)
