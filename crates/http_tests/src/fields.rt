@@ -4,21 +4,83 @@ use http_edge::{Field, Fields, HttpRequest, write_reply};
 use std::alloc::{AllocError, Global};
 use std::test::*;
 
-fn request(
-    alloc: Global,
+/// A request, and whether it closes its connection.
+struct Closing {
     minor: u8,
-    method: &[u8],
-    lines: [(&[u8], &[u8]); 2],
-) -> Result<HttpRequest, AllocError> {
+    method: &'static str,
+    /// The fields, as [`request`] takes them.
+    lines: &'static str,
+    closes: bool,
+}
+
+const CLOSING: [Closing; 8] = [
+    Closing {
+        minor: 1,
+        method: "POST",
+        lines: "Host=close\nX=y",
+        closes: false,
+    },
+    Closing {
+        minor: 0,
+        method: "POST",
+        lines: "Host=h\nX=y",
+        closes: true,
+    },
+    Closing {
+        minor: 1,
+        method: "HEAD",
+        lines: "Host=h\nX=y",
+        closes: true,
+    },
+    Closing {
+        minor: 1,
+        method: "head",
+        lines: "Host=h\nX=y",
+        closes: false,
+    },
+    Closing {
+        minor: 1,
+        method: "POST",
+        lines: "connection=a, \tCLOSE ,b\nX=y",
+        closes: true,
+    },
+    Closing {
+        minor: 1,
+        method: "POST",
+        lines: "Connection=keep-alive\nConnection=close",
+        closes: true,
+    },
+    Closing {
+        minor: 1,
+        method: "POST",
+        lines: "Connection=closed,clo se\nConnection=",
+        closes: false,
+    },
+    Closing {
+        minor: 1,
+        method: "POST",
+        lines: "Connections=close\nX=y",
+        closes: false,
+    },
+];
+
+// The rows. A test's proof sees none of them this way, so that it stays short.
+fn rows() -> &'static [Closing] {
+    &CLOSING
+}
+
+// A request with these fields: on each line a name and, after `=`, its value.
+fn request(alloc: Global, minor: u8, method: &str, lines: &str) -> Result<HttpRequest, AllocError> {
     let mut fields = Vec::new(alloc);
-    for (name, value) in lines {
+    for line in lines.lines() {
+        let (name, value) = line.split_once('=').unwrap_or((line, ""));
         fields.push(Field {
-            name: Blob::of(Vec::from_slice(alloc, name)?),
-            value: Blob::of(Vec::from_slice(alloc, value)?),
+            name: Blob::of(Vec::from_slice(alloc, name.as_bytes())?),
+            value: Blob::of(Vec::from_slice(alloc, value.as_bytes())?),
         })?;
     }
     Ok(HttpRequest {
-        method: Blob::of(Vec::from_slice(alloc, method)?),
+        method: Blob::of(Vec::from_slice(alloc, method.as_bytes())?),
         target: Blob::of(Vec::from_slice(alloc, b"/")?),
         minor,
         fields: Fields::of(fields),
@@ -26,59 +88,27 @@ fn request(
     })
 }
 
-// Rows of a minor version, a method, two fields, and whether the request closes its connection.
-fn closing(alloc: Global) -> Result<bool, AllocError> {
-    let rows: [(u8, &[u8], [(&[u8], &[u8]); 2], bool); 8] = [
-        (1, b"POST", [(b"Host", b"close"), (b"X", b"y")], false),
-        (0, b"POST", [(b"Host", b"h"), (b"X", b"y")], true),
-        (1, b"HEAD", [(b"Host", b"h"), (b"X", b"y")], true),
-        (1, b"head", [(b"Host", b"h"), (b"X", b"y")], false),
-        (
-            1,
-            b"POST",
-            [(b"connection", b"a, \tCLOSE ,b"), (b"X", b"y")],
-            true,
-        ),
-        (
-            1,
-            b"POST",
-            [(b"Connection", b"keep-alive"), (b"Connection", b"close")],
-            true,
-        ),
-        (
-            1,
-            b"POST",
-            [(b"Connection", b"closed,clo se"), (b"Connection", b"")],
-            false,
-        ),
-        (
-            1,
-            b"POST",
-            [(b"Connections", b"close"), (b"X", b"y")],
-            false,
-        ),
-    ];
-    for (minor, method, lines, closes) in rows {
-        if request(alloc, minor, method, lines)?.closes() != closes {
-            return Ok(false);
+// The number of the first row whose request closes its connection and shouldn't, or doesn't and should.
+fn misjudged(alloc: Global) -> Result<Option<usize>, AllocError> {
+    for (number, row) in rows().iter().enumerate() {
+        let request = request(alloc, row.minor, row.method, row.lines)?;
+        if request.closes() != row.closes {
+            return Ok(Some(number));
         }
     }
-    Ok(true)
+    Ok(None)
+}
+
+// Whether `field` gives the first of two fields of a name, ASCII case aside, and none for a part of the name.
+fn gives_the_first(request: &HttpRequest) -> bool {
+    request.field(b"hOST") == Some(b"a".as_slice())
+        && request.field(b"Hos") == None
+        && request.fields.as_slice().len() == 2
 }
 
 fn the_first_field_of_a_name(alloc: Global) -> Result<bool, AllocError> {
-    let lines: [(&[u8], &[u8]); 2] = [(b"Host", b"a"), (b"HOST", b"b")];
-    let request = request(alloc, 1, b"GET", lines)?;
-    if request.field(b"hOST") != Some(b"a".as_slice()) {
-        return Ok(false);
-    }
-    if request.field(b"Hos") != None {
-        return Ok(false);
-    }
-    if request.fields.as_slice().len() != 2 {
-        return Ok(false);
-    }
-    Ok(true)
+    let request = request(alloc, 1, "GET", "Host=a\nHOST=b")?;
+    Ok(gives_the_first(&request))
 }
 
 fn replies(alloc: Global) -> Result<bool, AllocError> {
@@ -104,7 +134,7 @@ fn replies(alloc: Global) -> Result<bool, AllocError> {
 
 #[test]
 fn fields_and_replies(rt: HostRuntime) -> Result<(), AllocError> {
-    assert!(rt; closing(rt.alloc())?);
+    assert_eq!(rt; misjudged(rt.alloc())?, None);
     assert!(rt; the_first_field_of_a_name(rt.alloc())?);
     assert!(rt; replies(rt.alloc())?);
     Ok(())

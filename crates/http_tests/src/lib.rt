@@ -8,14 +8,16 @@ mod fields;
 #[cfg(test)]
 mod held;
 #[cfg(test)]
-mod limits;
-#[cfg(test)]
-mod read;
+mod limit_rows;
 #[cfg(test)]
 mod replies;
 #[cfg(test)]
-mod reply_limits;
+mod reply_rows;
+#[cfg(test)]
+mod requests;
 #[cfg(test)]
 mod rows;
 #[cfg(test)]
 mod streams;
+#[cfg(test)]
+mod told;

@@ -1,76 +1,83 @@
-//! Streams of requests and of their faults through a window, in pieces of each size.
-
-use crate::read::{Talk, read, take};
-use crate::rows;
-use crate::rows::{AFTER_64_FIELDS, COUNTS, SIZES};
-use http_edge::{HttpFault, HttpItem, HttpWhy};
+//! Streams of requests and of replies, and each limit of theirs from both sides, in pieces of several sizes.
+use crate::limit_rows::{Limit, at_64_fields, large_bodies, of_replies, of_requests, open_target};
+use crate::reply_rows::replies;
+use crate::rows::{Row, SIZES, faults, streams};
+use crate::{replies, requests};
 use std::alloc::{AllocError, Global};
 use std::test::*;
 
-// What an item tells: `continue`, or a request's target and body, each after a bar.
-fn tell_item(item: &HttpItem, out: &mut Vec<u8>) -> Result<(), AllocError> {
-    match item {
-        HttpItem::Continue => out.extend_from_slice(b"|continue"),
-        HttpItem::Request(request) => {
-            out.extend_from_slice(b"|")?;
-            out.extend_from_slice(request.target.bytes())?;
-            out.extend_from_slice(b"|")?;
-            out.extend_from_slice(request.body.bytes())
+// What a stream is made of.
+#[derive(Clone, Copy)]
+enum Stream {
+    Requests,
+    Replies,
+}
+
+// Whether a stream tells so that is read in pieces of a size.
+fn tells(
+    alloc: Global,
+    stream: Stream,
+    text: &[u8],
+    size: usize,
+    expected: &[u8],
+) -> Result<bool, AllocError> {
+    match stream {
+        Stream::Requests => requests::tells(alloc, text, size, expected),
+        Stream::Replies => replies::tells(alloc, text, size, expected),
+    }
+}
+
+// Whether a row tells so in pieces of each size.
+fn is_read(alloc: Global, stream: Stream, row: &Row) -> Result<bool, AllocError> {
+    for size in SIZES {
+        if !tells(alloc, stream, row.text, size, row.tells)? {
+            return Ok(false);
         }
     }
+    Ok(true)
 }
 
-/// A mark, a place and a word.
-pub fn tell_place(
+// The number of the first row that is told otherwise.
+fn misread(alloc: Global, stream: Stream, rows: &[Row]) -> Result<Option<usize>, AllocError> {
+    for (number, row) in rows.iter().enumerate() {
+        if !is_read(alloc, stream, row)? {
+            return Ok(Some(number));
+        }
+    }
+    Ok(None)
+}
+
+// The text of a limit with so many of its repeated bytes.
+fn text_of(alloc: Global, limit: &Limit, times: usize) -> Result<Vec<u8>, AllocError> {
+    let mut text = Vec::from_slice(alloc, limit.front)?;
+    for _ in 0..times {
+        text.extend_from_slice(limit.fill)?;
+    }
+    text.extend_from_slice(limit.back)?;
+    Ok(text)
+}
+
+// Whether a limit is told from both sides in pieces of a size.
+fn is_kept(alloc: Global, stream: Stream, limit: &Limit, size: usize) -> Result<bool, AllocError> {
+    let within = text_of(alloc, limit, limit.times)?;
+    let is_within = tells(alloc, stream, &within, size, limit.within)?;
+    if !is_within || limit.beyond.is_empty() {
+        return Ok(is_within);
+    }
+    let beyond = text_of(alloc, limit, limit.times.saturating_add(1))?;
+    tells(alloc, stream, &beyond, size, limit.beyond)
+}
+
+// The number of the first limit that is told otherwise in pieces of a size.
+fn misjudged(
     alloc: Global,
-    mark: u8,
-    at: u64,
-    word: &[u8],
-    out: &mut Vec<u8>,
-) -> Result<(), AllocError> {
-    out.push(mark)?;
-    out.extend_from_slice(at.to_string(alloc)?.as_bytes())?;
-    out.extend_from_slice(word)
-}
-
-/// The word for a rule.
-pub fn word(why: HttpWhy) -> &'static [u8] {
-    match why {
-        HttpWhy::BadHead => b" head",
-        HttpWhy::BadLength => b" length",
-        HttpWhy::TooLong => b" long",
-        HttpWhy::BadChunk => b" chunk",
-    }
-}
-
-/// What was read: the items, the rest after `#`, and the fault after `!`.
-pub fn tell(alloc: Global, talk: &Talk) -> Result<Vec<u8>, AllocError> {
-    let mut out = Vec::new(alloc);
-    for item in &talk.items {
-        tell_item(item, &mut out)?;
-    }
-    if let Some(at) = talk.window.rest_at() {
-        tell_place(alloc, b'#', at, b"", &mut out)?;
-    }
-    if let Some(HttpFault { at, why }) = talk.fault {
-        tell_place(alloc, b'!', at, word(why), &mut out)?;
-    }
-    Ok(out)
-}
-
-// What a text tells that is fed in pieces of a size.
-fn told(alloc: Global, text: &[u8], size: usize) -> Result<Vec<u8>, AllocError> {
-    if size == 0 {
-        return Err(AllocError);
-    }
-    tell(alloc, &read(alloc, text, size)?)
-}
-
-// The first size of pieces in which a text doesn't tell so.
-fn misread(alloc: Global, text: &[u8], tells: &[u8]) -> Result<Option<usize>, AllocError> {
-    for size in SIZES {
-        if told(alloc, text, size)?.as_slice() != tells {
-            return Ok(Some(size));
+    stream: Stream,
+    limits: &[Limit],
+    size: usize,
+) -> Result<Option<usize>, AllocError> {
+    for (number, limit) in limits.iter().enumerate() {
+        if !is_kept(alloc, stream, limit, size)? {
+            return Ok(Some(number));
         }
     }
     Ok(None)
@@ -78,66 +85,64 @@ fn misread(alloc: Global, text: &[u8], tells: &[u8]) -> Result<Option<usize>, Al
 
 /// Each stream in pieces of each size.
 #[test]
-fn streams(rt: HostRuntime) -> Result<(), AllocError> {
-    for row in rows::streams() {
-        assert_eq!(&rt; misread(rt.alloc(), row.text, row.tells)?, None);
-    }
-    Ok(())
-}
-
-/// The same of streams with a fault.
-#[test]
-fn faults(rt: HostRuntime) -> Result<(), AllocError> {
-    for row in rows::faults() {
-        assert_eq!(&rt; misread(rt.alloc(), row.text, row.tells)?, None);
-    }
-    Ok(())
-}
-
-/// A head of 64 fields, and what may follow it.
-#[test]
-fn a_head_has_64_fields(rt: HostRuntime) -> Result<(), AllocError> {
+fn streams_are_read(rt: HostRuntime) -> Result<(), AllocError> {
     let alloc = rt.alloc();
-    let mut head = Vec::from_slice(alloc, b"GET / HTTP/1.1\r\n")?;
-    for _ in 0..64 {
-        head.extend_from_slice(b"a: b\r\n")?;
-    }
-    for (behind, tells) in AFTER_64_FIELDS {
-        let before = head.len();
-        head.extend_from_slice(behind)?;
-        assert_eq!(&rt; told(alloc, &head, 100)?.as_slice(), tells);
-        head.truncate(before);
-    }
+    assert_eq!(&rt; misread(alloc, Stream::Requests, streams())?, None);
+    assert_eq!(&rt; misread(alloc, Stream::Requests, faults())?, None);
+    assert_eq!(&rt; misread(alloc, Stream::Replies, replies())?, None);
     Ok(())
 }
 
-/// Rows of a stream, how many bytes are held after it, and how many once all items are given.
+/// Each limit of a request's head, chunk lines and trailer.
 #[test]
-fn counts(rt: HostRuntime) -> Result<(), AllocError> {
-    for (text, held, after) in COUNTS {
-        let mut talk = Talk::new(rt.alloc())?;
-        talk.feed(text)?;
-        assert_eq!(&rt; talk.window.held(), held);
-        talk.drain(rt.alloc())?;
-        assert_eq!(&rt; talk.window.held(), after);
-    }
-    Ok(())
-}
-
-/// A lent item is copied whole.
-#[test]
-fn copies(rt: HostRuntime) -> Result<(), AllocError> {
+fn requests_at_their_limits(rt: HostRuntime) -> Result<(), AllocError> {
     let alloc = rt.alloc();
-    let mut talk = Talk::new(alloc)?;
-    talk.feed(b"POST /a HTTP/1.1\r\nHost: h\r\nContent-Length: 3\r\n\r\nabc")?;
-    let Some(HttpItem::Request(request)) = take(alloc, &mut talk.window)? else {
-        return Err(AllocError);
-    };
-    assert_eq!(&rt; request.method.bytes(), b"POST".as_slice());
-    assert_eq!(&rt; request.target.bytes(), b"/a".as_slice());
-    assert_eq!(&rt; request.minor, 1);
-    assert_eq!(&rt; request.field(b"host"), Some(b"h".as_slice()));
-    assert_eq!(&rt; request.fields.as_slice().len(), 2);
-    assert_eq!(&rt; request.body.bytes(), b"abc".as_slice());
+    for size in [100, 20_000] {
+        assert_eq!(&rt;
+            misjudged(alloc, Stream::Requests, of_requests(), size)?,
+            None
+        );
+    }
+    assert_eq!(&rt;
+        misjudged(alloc, Stream::Requests, at_64_fields(), 100)?,
+        None
+    );
+    Ok(())
+}
+
+/// The largest bodies, and targets.
+#[test]
+fn bodies_and_targets(rt: HostRuntime) -> Result<(), AllocError> {
+    assert_eq!(&rt;
+        misjudged(rt.alloc(), Stream::Requests, large_bodies(), 65_536)?,
+        None
+    );
+    Ok(())
+}
+
+/// Each limit of a reply's head, in pieces of one byte, of a few, and whole.
+#[test]
+fn replies_at_their_limits(rt: HostRuntime) -> Result<(), AllocError> {
+    for size in [1, 7, 4_096, 32_768] {
+        assert_eq!(&rt;
+            misjudged(rt.alloc(), Stream::Replies, of_replies(), size)?,
+            None
+        );
+    }
+    Ok(())
+}
+
+// Whether an unfinished target of so many bytes, which is no text, tells so, or that it is none.
+fn open_target_tells(alloc: Global, times: usize, expected: &[u8]) -> Result<bool, AllocError> {
+    let text = text_of(alloc, open_target(), times)?;
+    let is_open = requests::tells(alloc, &text, 20_000, expected)?;
+    Ok(is_open || requests::tells(alloc, &text, 20_000, b"#0!0 head")?)
+}
+
+/// A target that has not ended and can no longer be text may be a fault at once, or once it ends.
+#[test]
+fn a_target_left_open(rt: HostRuntime) -> Result<(), AllocError> {
+    assert!(&rt; open_target_tells(rt.alloc(), 16_376, b"#0")?);
+    assert!(&rt; open_target_tells(rt.alloc(), 16_377, b"#0!0 long")?);
     Ok(())
 }
