@@ -1,139 +1,224 @@
 //! Sessions of Splunk's collector. Requests and replies are laid out by hand from Splunk's pages on the HTTP Event
 //! Collector and its indexer acknowledgment.
-use event_form::Why;
-use forward_core::Sent;
 
-/// A session: how many entries the spool has, how often a query may be asked, the collector's replies, each a line
-/// with the status and the body, and bytes after them; how the session ends; how many requests and how many queries
-/// are written; how many entries stay, which are the last ones; and how often a pause is made.
-#[derive(Clone, Copy)]
-pub(crate) struct Row {
-    pub count: u64,
-    pub polls: u32,
-    pub replies: &'static str,
-    pub more: &'static [u8],
-    pub sent: Sent,
-    pub written: &'static str,
-    pub left_count: u64,
-    pub pauses: u64,
-}
+/// What the collector sends, and what comes of it.
+pub(crate) const ROWS: &str = r#"row an empty spool
+- Nothing is written, and nothing read.
+count 0
+polls 2
+reply 400 {}
+ends Drained
 
-/// What is written: a line with `e` and the number of objects for a request of events, and one with `a` for a query of the id 7.
-pub(crate) const ROWS: &[Row] = &[
-    // An empty spool: nothing is written, and nothing read.
-    Row {
-        count: 0,
-        polls: 2,
-        replies: "400 {}",
-        more: b"",
-        sent: Sent::Drained,
-        written: "",
-        left_count: 0,
-        pauses: 0,
-    },
-    // Confirmed without an id.
-    Row {
-        count: 1,
-        polls: 2,
-        replies: "200 {\"text\":\"Success\",\"code\":0}",
-        more: b"",
-        sent: Sent::Drained,
-        written: "e1",
-        left_count: 0,
-        pauses: 0,
-    },
-    // Asked twice, denied each time.
-    Row {
-        count: 1,
-        polls: 2,
-        replies: "200 {\"text\":\"Success\",\"code\":0,\"ackId\":7}\n200 {\"acks\":{\"7\":false}}\n200 {\"acks\":{\"7\":false}}",
-        more: b"",
-        sent: Sent::Unconfirmed { asked: 7 },
-        written: "e1\na\na",
-        left_count: 1,
-        pauses: 1,
-    },
-    // Confirmed the second time.
-    Row {
-        count: 1,
-        polls: 2,
-        replies: "200 {\"text\":\"Success\",\"code\":0,\"ackId\":7}\n200 {\"acks\":{\"7\":false}}\n200 {\"acks\":{\"7\":true}}",
-        more: b"",
-        sent: Sent::Drained,
-        written: "e1\na\na",
-        left_count: 0,
-        pauses: 1,
-    },
-    // The bytes end while an answer is waited for.
-    Row {
-        count: 1,
-        polls: 2,
-        replies: "200 {\"text\":\"Success\",\"code\":0,\"ackId\":7}\n200 {\"acks\":{\"7\":false}}",
-        more: b"",
-        sent: Sent::PeerClosed,
-        written: "e1\na\na",
-        left_count: 1,
-        pauses: 1,
-    },
-    // Two runs of entries: the first is confirmed, the second is refused.
-    Row {
-        count: 130,
-        polls: 1,
-        replies: "200 {\"code\":0}\n503 {\"text\":\"Server is busy\",\"code\":9}",
-        more: b"",
-        sent: Sent::Refused { unit: 1, code: 9 },
-        written: "e128\ne2",
-        left_count: 2,
-        pauses: 0,
-    },
-    // Two runs, each confirmed by its query.
-    Row {
-        count: 130,
-        polls: 1,
-        replies: "200 {\"code\":0,\"ackId\":7}\n200 {\"acks\":{\"7\":true}}\n200 {\"code\":0,\"ackId\":7}\n200 {\"acks\":{\"7\":true}}",
-        more: b"",
-        sent: Sent::Drained,
-        written: "e128\na\ne2\na",
-        left_count: 0,
-        pauses: 0,
-    },
-    // A refusal of the token.
-    Row {
-        count: 1,
-        polls: 2,
-        replies: "403 {\"text\":\"Invalid token\",\"code\":4}",
-        more: b"",
-        sent: Sent::Refused { unit: 0, code: 4 },
-        written: "e1",
-        left_count: 1,
-        pauses: 0,
-    },
-    // A query is answered without its id: the reply that may not come begins after 71 bytes of head and 20 of body.
-    Row {
-        count: 1,
-        polls: 2,
-        replies: "200 {\"code\":0,\"ackId\":7}\n200 {\"code\":0}",
-        more: b"",
-        sent: Sent::PeerFault {
-            at: 91,
-            why: Why::Reply,
-        },
-        written: "e1\na",
-        left_count: 1,
-        pauses: 0,
-    },
-    // Bytes that are no reply.
-    Row {
-        count: 1,
-        polls: 2,
-        replies: "",
-        more: b"hello\r\n\r\n",
-        sent: Sent::PeerFault {
-            at: 0,
-            why: Why::BadHead,
-        },
-        written: "e1",
-        left_count: 1,
-        pauses: 0,
-    },
-];
+row confirmed without an id
+count 1
+polls 2
+reply 200 {"text":"Success","code":0}
+ends Drained
+events 1
+
+row asked twice, denied each time
+count 1
+polls 2
+reply 200 {"text":"Success","code":0,"ackId":7}
+reply 200 {"acks":{"7":false}}
+reply 200 {"acks":{"7":false}}
+ends Unconfirmed { asked: 7 }
+events 1
+query
+query
+stay 0
+pauses 1
+
+row confirmed the second time
+count 1
+polls 2
+reply 200 {"text":"Success","code":0,"ackId":7}
+reply 200 {"acks":{"7":false}}
+reply 200 {"acks":{"7":true}}
+ends Drained
+events 1
+query
+query
+pauses 1
+
+row the bytes end while an answer is waited for
+count 1
+polls 2
+reply 200 {"text":"Success","code":0,"ackId":7}
+reply 200 {"acks":{"7":false}}
+ends PeerClosed
+events 1
+query
+query
+stay 0
+pauses 1
+
+row two runs of entries, of which the second is refused
+count 130
+polls 1
+reply 200 {"code":0}
+reply 503 {"text":"Server is busy","code":9}
+ends Refused { unit: 1, code: 9 }
+events 128
+events 2
+stay 128..130
+
+row two runs, each confirmed by its query
+count 130
+polls 1
+reply 200 {"code":0,"ackId":7}
+reply 200 {"acks":{"7":true}}
+reply 200 {"code":0,"ackId":7}
+reply 200 {"acks":{"7":true}}
+ends Drained
+events 128
+query
+events 2
+query
+
+row the token is refused
+count 1
+polls 2
+reply 403 {"text":"Invalid token","code":4}
+ends Refused { unit: 0, code: 4 }
+events 1
+stay 0
+
+row a query is answered without its id
+- The reply that may not come begins after 71 bytes of head and 20 of body.
+count 1
+polls 2
+reply 200 {"code":0,"ackId":7}
+reply 200 {"code":0}
+ends PeerFault { at: 91, why: Reply }
+events 1
+query
+stay 0
+
+row bytes that are no reply
+count 1
+polls 2
+head hello
+ends PeerFault { at: 0, why: BadHead }
+events 1
+stay 0
+
+row the write of the request fails
+- Two runs of entries, of which the first is confirmed by its query the second time, and the other isn't confirmed.
+count 130
+polls 2
+reply 200 {"code":0,"ackId":7}
+reply 200 {"acks":{"7":false}}
+reply 200 {"acks":{"7":true}}
+steps 1000
+writes 0
+ends WriteFault
+stay 0..130
+
+row the write of the query fails
+count 130
+polls 2
+reply 200 {"code":0,"ackId":7}
+reply 200 {"acks":{"7":false}}
+reply 200 {"acks":{"7":true}}
+steps 1000
+writes 1
+ends WriteFault
+events 128
+stay 0..130
+
+row the write of the query again fails
+count 130
+polls 2
+reply 200 {"code":0,"ackId":7}
+reply 200 {"acks":{"7":false}}
+reply 200 {"acks":{"7":true}}
+steps 1000
+writes 2
+ends WriteFault
+events 128
+query
+stay 0..130
+pauses 1
+
+row the write of the next request fails
+count 130
+polls 2
+reply 200 {"code":0,"ackId":7}
+reply 200 {"acks":{"7":false}}
+reply 200 {"acks":{"7":true}}
+steps 1000
+writes 3
+ends WriteFault
+events 128
+query
+query
+stay 128..130
+pauses 1
+
+row the read of the first reply fails
+- Each reply comes whole in one read.
+count 130
+polls 2
+reply 200 {"code":0,"ackId":7}
+reply 200 {"acks":{"7":false}}
+reply 200 {"acks":{"7":true}}
+steps 91
+reads 0
+ends ReadFault
+events 128
+stay 0..130
+
+row the read of the query's answer fails
+count 130
+polls 2
+reply 200 {"code":0,"ackId":7}
+reply 200 {"acks":{"7":false}}
+reply 200 {"acks":{"7":true}}
+steps 91
+reads 1
+ends ReadFault
+events 128
+query
+stay 0..130
+
+row the read of the second answer fails
+count 130
+polls 2
+reply 200 {"code":0,"ackId":7}
+reply 200 {"acks":{"7":false}}
+reply 200 {"acks":{"7":true}}
+steps 91
+reads 2
+ends ReadFault
+events 128
+query
+query
+stay 0..130
+pauses 1
+
+row the read of the next request's reply fails
+count 130
+polls 2
+reply 200 {"code":0,"ackId":7}
+reply 200 {"acks":{"7":false}}
+reply 200 {"acks":{"7":true}}
+steps 91
+reads 3
+ends ReadFault
+events 128
+query
+query
+events 2
+stay 128..130
+pauses 1"#;
+
+/// A session over a disk of which a call fails: what stays, and how it ends where that call comes after it.
+pub(crate) const DISK: &str = r#"row the collector
+count 130
+polls 2
+reply 200 {"code":0,"ackId":7}
+reply 200 {"acks":{"7":false}}
+reply 200 {"acks":{"7":true}}
+ends PeerClosed
+stay 128..130"#;

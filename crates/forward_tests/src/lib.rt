@@ -4,18 +4,18 @@
 #![tactic(auto)]
 
 #[cfg(test)]
-mod collector;
-#[cfg(test)]
-mod failing;
+mod fields;
 #[cfg(test)]
 mod harness;
-#[cfg(test)]
-mod hec_failing;
 #[cfg(test)]
 mod hec_rows;
 #[cfg(test)]
 mod lumberjack_rows;
 #[cfg(test)]
+mod peers;
+#[cfg(test)]
 mod relp_rows;
 #[cfg(test)]
 mod sessions;
+#[cfg(test)]
+mod written;

@@ -1,141 +1,218 @@
 //! Sessions of RELP. The frames and answers are those of rsyslog's RELP specification, version 0.
-use event_form::Why;
-use forward_core::Sent;
 
-/// A session: how many entries the spool has, what the peer sends, how the session ends, whether it is opened and
-/// closed, how many entries are written, and which stay.
-#[derive(Clone, Copy)]
-pub(crate) struct Row {
-    pub count: u64,
-    pub peer: &'static [u8],
-    pub sent: Sent,
-    pub opened: bool,
-    pub frames: u64,
-    pub closed: bool,
-    /// The numbers of the first entries that stay, at most three, and how many they are.
-    pub left: &'static [u64],
-    pub left_count: usize,
-}
+/// What the peer sends, and what comes of it.
+pub(crate) const ROWS: &str = "row one entry, stored and closed
+- The answer to the close isn't waited for.
+count 1
+line 1 rsp 6 200 OK
+line 2 rsp 6 200 OK
+ends Drained
+open
+entries 1
+close 3
 
-/// The frame that opens a session, 70 bytes.
-pub(crate) const OPEN: &[u8] =
-    b"1 open 59 relp_version=0\nrelp_software=bridge,1,local\ncommands=syslog\n";
+row an empty spool
+- Nothing is written, and nothing read.
+count 0
+line 1 rsp 6 200 OK
+ends Drained
 
-pub(crate) const ROWS: &[Row] = &[
-    // One entry, stored and closed; the answer to the close isn't waited for.
-    Row {
-        count: 1,
-        peer: b"1 rsp 6 200 OK\n2 rsp 6 200 OK\n",
-        sent: Sent::Drained,
-        opened: true,
-        frames: 1,
-        closed: true,
-        left: &[],
-        left_count: 0,
-    },
-    // An empty spool: nothing is written, and nothing read.
-    Row {
-        count: 0,
-        peer: b"1 rsp 6 200 OK\n",
-        sent: Sent::Drained,
-        opened: false,
-        frames: 0,
-        closed: false,
-        left: &[],
-        left_count: 0,
-    },
-    // The peer says nothing.
-    Row {
-        count: 1,
-        peer: b"",
-        sent: Sent::PeerClosed,
-        opened: true,
-        frames: 0,
-        closed: false,
-        left: &[0],
-        left_count: 1,
-    },
-    // An entry is refused.
-    Row {
-        count: 2,
-        peer: b"1 rsp 6 200 OK\n2 rsp 9 500 error\n",
-        sent: Sent::Refused { unit: 2, code: 500 },
-        opened: true,
-        frames: 2,
-        closed: false,
-        left: &[0, 1],
-        left_count: 2,
-    },
-    // The open is refused.
-    Row {
-        count: 1,
-        peer: b"1 rsp 9 500 error\n",
-        sent: Sent::Refused { unit: 1, code: 500 },
-        opened: true,
-        frames: 0,
-        closed: false,
-        left: &[0],
-        left_count: 1,
-    },
-    // The hint that the peer closes, after one entry of three; what follows it isn't looked at.
-    Row {
-        count: 3,
-        peer: b"1 rsp 6 200 OK\n2 rsp 6 200 OK\n0 serverclose 0\n3 rsp 6 200 OK\n",
-        sent: Sent::PeerClosed,
-        opened: true,
-        frames: 3,
-        closed: false,
-        left: &[1, 2],
-        left_count: 2,
-    },
-    // A reply with no code.
-    Row {
-        count: 2,
-        peer: b"1 rsp 6 200 OK\n2 rsp 2 ok\n",
-        sent: Sent::PeerFault {
-            at: 15,
-            why: Why::Reply,
-        },
-        opened: true,
-        frames: 2,
-        closed: false,
-        left: &[0, 1],
-        left_count: 2,
-    },
-    // Bytes that are no frame, after an acknowledged entry.
-    Row {
-        count: 2,
-        peer: b"1 rsp 6 200 OK\n2 rsp 6 200 OK\n?",
-        sent: Sent::PeerFault {
-            at: 30,
-            why: Why::Digits,
-        },
-        opened: true,
-        frames: 2,
-        closed: false,
-        left: &[1],
-        left_count: 1,
-    },
-    // The second of 130 entries alone is acknowledged.
-    Row {
-        count: 130,
-        peer: b"1 rsp 6 200 OK\n3 rsp 6 200 OK\n",
-        sent: Sent::PeerClosed,
-        opened: true,
-        frames: 130,
-        closed: false,
-        left: &[0, 2, 3],
-        left_count: 129,
-    },
-    // Answers in another order: the last one completes them.
-    Row {
-        count: 3,
-        peer: b"1 rsp 6 200 OK\n4 rsp 6 200 OK\n3 rsp 6 200 OK\n2 rsp 6 200 OK\n",
-        sent: Sent::Drained,
-        opened: true,
-        frames: 3,
-        closed: true,
-        left: &[],
-        left_count: 0,
-    },
-];
+row the peer says nothing
+count 1
+ends PeerClosed
+open
+stay 0
+
+row an entry is refused
+count 2
+line 1 rsp 6 200 OK
+line 2 rsp 9 500 error
+ends Refused { unit: 2, code: 500 }
+open
+entries 2
+stay 0 1
+
+row the open is refused
+count 1
+line 1 rsp 9 500 error
+ends Refused { unit: 1, code: 500 }
+open
+stay 0
+
+row the hint that the peer closes
+- It comes after one entry of three; what follows it isn't looked at.
+count 3
+line 1 rsp 6 200 OK
+line 2 rsp 6 200 OK
+line 0 serverclose 0
+line 3 rsp 6 200 OK
+ends PeerClosed
+open
+entries 3
+stay 1 2
+
+row a reply with no code
+count 2
+line 1 rsp 6 200 OK
+line 2 rsp 2 ok
+ends PeerFault { at: 15, why: Reply }
+open
+entries 2
+stay 0 1
+
+row bytes that are no frame, after an acknowledged entry
+count 2
+line 1 rsp 6 200 OK
+line 2 rsp 6 200 OK
+bytes ?
+ends PeerFault { at: 30, why: Digits }
+open
+entries 2
+stay 1
+
+row the second of 130 entries alone is acknowledged
+count 130
+line 1 rsp 6 200 OK
+line 3 rsp 6 200 OK
+ends PeerClosed
+open
+entries 130
+stay 0 2..130
+
+row answers in another order
+- The last one completes them.
+count 3
+line 1 rsp 6 200 OK
+line 4 rsp 6 200 OK
+line 3 rsp 6 200 OK
+line 2 rsp 6 200 OK
+ends Drained
+open
+entries 3
+close 5";
+
+/// The peer's bytes end anywhere: just the entries whose answers came whole are gone.
+pub(crate) const CUTS: &str = "row the bytes end before the open is answered
+count 2
+line 1 rsp 6 200 OK
+line 2 rsp 6 200 OK
+line 3 rsp 6 200 OK
+steps 1000
+cuts 0..15
+ends PeerClosed
+open
+stay 0 1
+
+row the bytes end before the first entry is answered
+count 2
+line 1 rsp 6 200 OK
+line 2 rsp 6 200 OK
+line 3 rsp 6 200 OK
+steps 1000
+cuts 15..30
+ends PeerClosed
+open
+entries 2
+stay 0 1
+
+row the bytes end before the second entry is answered
+count 2
+line 1 rsp 6 200 OK
+line 2 rsp 6 200 OK
+line 3 rsp 6 200 OK
+steps 1000
+cuts 30..45
+ends PeerClosed
+open
+entries 2
+stay 1
+
+row the bytes end after both answers
+count 2
+line 1 rsp 6 200 OK
+line 2 rsp 6 200 OK
+line 3 rsp 6 200 OK
+steps 1000
+cuts 45
+ends Drained
+open
+entries 2
+close 4";
+
+/// A read or a write fails: what the answers acknowledge that were read before is marked.
+pub(crate) const FAULTS: &str = "row the read of the open's answer fails
+count 2
+line 1 rsp 6 200 OK
+line 2 rsp 6 200 OK
+steps 15
+reads 0
+ends ReadFault
+open
+stay 0 1
+
+row the read of the first entry's answer fails
+count 2
+line 1 rsp 6 200 OK
+line 2 rsp 6 200 OK
+steps 15
+reads 1
+ends ReadFault
+open
+entries 2
+stay 0 1
+
+row the read of the second entry's answer fails
+count 2
+line 1 rsp 6 200 OK
+line 2 rsp 6 200 OK
+steps 15
+reads 2
+ends ReadFault
+open
+entries 2
+stay 1
+
+row the write of the open fails
+count 1
+line 1 rsp 6 200 OK
+line 2 rsp 6 200 OK
+steps 1000
+writes 0
+ends WriteFault
+stay 0
+
+row the write of the entry fails
+count 1
+line 1 rsp 6 200 OK
+line 2 rsp 6 200 OK
+steps 1000
+writes 1
+ends WriteFault
+open
+stay 0
+
+row the write of the close fails
+count 1
+line 1 rsp 6 200 OK
+line 2 rsp 6 200 OK
+steps 1000
+writes 2
+ends WriteFault
+open
+entries 1";
+
+/// A session over a disk of which a call fails: what stays, and how it ends where that call comes after it.
+pub(crate) const DISK: &str = "row RELP
+count 2
+line 1 rsp 6 200 OK
+line 2 rsp 6 200 OK
+ends PeerClosed
+stay 1";
+
+/// Each second entry is acknowledged, by the answers that stand after the first one.
+pub(crate) const SCATTERED: &str = "row each second of 600 entries is acknowledged
+count 600
+line 1 rsp 6 200 OK
+ends PeerClosed
+open
+entries 600";

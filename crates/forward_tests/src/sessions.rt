@@ -1,187 +1,177 @@
-//! The rows of each protocol.
-use crate::collector::{replies, requests};
-use crate::harness::{HELLO, NONE, filled, polled, session};
+//! All that holds of whole sessions.
+use crate::fields::{check_form, number, numbers, said};
+use crate::harness::{Given, Left, session};
+use crate::written::written;
 use crate::{hec_rows, lumberjack_rows, relp_rows};
 use edge_io::Proto;
 use std::alloc::Global;
 use std::process::Abort;
 use std::test::Fail;
 
-/// How many bytes a read brings at most, each in turn.
-const STEPS: [usize; 3] = [1, 31, 1000];
+// The words of a row: `row NAME`; what [`Given::of`] reads; `steps`, how many bytes a read brings at most, each in turn, and `cuts`,
+// how many bytes the peer sends at most, each in turn; and what is left: `ends HOW`, what [`written`] reads, `stay`, the numbers
+// of the entries that aren't known as confirmed, and `pauses N`.
+const WORDS: &str = "row count polls reads writes steps cuts bytes line head ack reply \
+    ends open entries close window events query stay pauses";
 
-// What is written by RELP: the frame that opens the session, so many entries, and the one that closes it.
-pub(crate) fn relp_text(
-    alloc: Global,
-    opened: bool,
-    frames: u64,
-    closed: bool,
-) -> Result<Vec<u8>, Fail> {
-    let mut text = Vec::new(alloc);
-    if opened {
-        text.extend_from_slice(relp_rows::OPEN)?;
+// Which part of what a session left isn't as the row has it.
+fn wrong_part(alloc: Global, row: &str, left: &Left) -> Result<&'static str, Fail> {
+    if left.ends.as_str() != said(row, "ends", "") {
+        return Ok("the ending");
     }
-    let mut number = 2_u64;
-    for _ in 0..frames {
-        let frame = format!(in alloc; "{number} syslog 5 hello\n")?;
-        text.extend_from_slice(frame.as_bytes())?;
-        number = number.wrapping_add(1);
+    if left.written != written(alloc, row)? {
+        return Ok("what is written");
     }
-    if closed {
-        let close = format!(in alloc; "{number} close 0\n")?;
-        text.extend_from_slice(close.as_bytes())?;
+    if left.numbers != numbers(alloc, said(row, "stay", ""))? {
+        return Ok("what stays");
     }
-    Ok(text)
+    if left.pauses != number(said(row, "pauses", "")) {
+        return Ok("the pauses");
+    }
+    Ok("")
 }
 
-// What is written by Lumberjack: windows of so many entries.
-fn lumberjack_text(alloc: Global, windows: &[u32]) -> Result<Vec<u8>, Fail> {
-    let mut text = Vec::new(alloc);
-    for size in windows {
-        text.extend_from_slice(b"2W")?;
-        text.extend_from_slice(&size.to_be_bytes())?;
-        let mut number = 0_u32;
-        for _ in 0..*size {
-            number = number.wrapping_add(1);
-            text.extend_from_slice(b"2J")?;
-            text.extend_from_slice(&number.to_be_bytes())?;
-            text.extend_from_slice(b"\0\0\0\x13{\"message\":\"")?;
-            text.extend_from_slice(HELLO)?;
-            text.extend_from_slice(b"\"}")?;
-        }
-    }
-    Ok(text)
-}
-
-fn check_relp(rt: &(impl Abort + AllocGlobal)) -> Result<(), Fail> {
+// A row's session, in which a read brings at most so many bytes, and the peer sends at most so many.
+fn check(
+    rt: &(impl Abort + AllocGlobal),
+    proto: Proto,
+    row: &str,
+    step: u64,
+    cut: u64,
+) -> Result<(), Fail> {
     let alloc = rt.alloc();
-    for (place, row) in relp_rows::ROWS.iter().enumerate() {
-        for step in STEPS {
-            let step = step.max(1);
-            let device = filled(alloc, row.count)?;
-            let peer = row.peer.to_vec(alloc)?;
-            let left = session(alloc, Proto::Relp, device, peer, step, NONE)?;
-            let left = left.ok_or("not opened")?;
-            assert_eq!(rt; left.sent, row.sent, "row {place}, step {step}");
-            let text = relp_text(alloc, row.opened, row.frames, row.closed)?;
-            assert_eq!(rt; left.written, text, "row {place}, step {step}");
-            assert_eq!(rt;
-                left.numbers.len(),
-                row.left_count,
-                "row {place}, step {step}"
-            );
-            for (found, due) in left.numbers.iter().zip(row.left) {
-                assert_eq!(rt; *found, *due, "row {place}, step {step}");
-            }
+    let mut given = Given::of(alloc, row)?;
+    given.peer.truncate(cut as usize);
+    let left = session(alloc, proto, given, step.max(1) as usize)?;
+    let left = left.ok_or("not opened")?;
+    let wrong = wrong_part(alloc, row, &left)?;
+    assert!(rt;
+        wrong.is_empty(),
+        "{}, step {step}, {cut} bytes: {wrong}; it ended by {}",
+        said(row, "row", ""),
+        left.ends
+    );
+    Ok(())
+}
+
+// The sessions of a row, in each of its steps and with each of its cuts.
+fn check_row(rt: &(impl Abort + AllocGlobal), proto: Proto, row: &str) -> Result<(), Fail> {
+    let alloc = rt.alloc();
+    let steps = numbers(alloc, said(row, "steps", "1 31 1000"))?;
+    let cuts = numbers(alloc, said(row, "cuts", "1000000"))?;
+    for step in &steps {
+        for cut in &cuts {
+            check(rt, proto, row, *step, *cut)?;
         }
     }
     Ok(())
 }
 
-fn check_lumberjack(rt: &(impl Abort + AllocGlobal)) -> Result<(), Fail> {
-    let alloc = rt.alloc();
-    for (place, row) in lumberjack_rows::ROWS.iter().enumerate() {
-        for step in STEPS {
-            let step = step.max(1);
-            let device = filled(alloc, row.count)?;
-            let peer = row.peer.to_vec(alloc)?;
-            let left = session(alloc, Proto::Lumberjack, device, peer, step, NONE)?;
-            let left = left.ok_or("not opened")?;
-            assert_eq!(rt; left.sent, row.sent, "row {place}, step {step}");
-            let text = lumberjack_text(alloc, row.windows)?;
-            assert_eq!(rt; left.written, text, "row {place}, step {step}");
-            let mut due = row.count.saturating_sub(row.left_count);
-            for found in &left.numbers {
-                assert_eq!(rt; *found, due, "row {place}, step {step}");
-                due = due.wrapping_add(1);
-            }
-            assert_eq!(rt; due, row.count, "row {place}, step {step}");
-        }
+// The sessions of a table's rows. These are so many: a row that was run into another one by a lacking empty line
+// is told by that.
+fn check_rows(
+    rt: &(impl Abort + AllocGlobal),
+    proto: Proto,
+    rows: &str,
+    count: usize,
+) -> Result<(), Fail> {
+    check_form(rows, WORDS, count)?;
+    for row in rows.split("\n\n") {
+        check_row(rt, proto, row)?;
     }
     Ok(())
-}
-
-fn check_hec(rt: &(impl Abort + AllocGlobal)) -> Result<(), Fail> {
-    let alloc = rt.alloc();
-    for (place, row) in hec_rows::ROWS.iter().enumerate() {
-        for step in STEPS {
-            let step = step.max(1);
-            let device = filled(alloc, row.count)?;
-            let mut peer = replies(alloc, row.replies)?;
-            peer.extend_from_slice(row.more)?;
-            let left = polled(alloc, Proto::Hec, row.polls, device, peer, step, NONE)?;
-            let left = left.ok_or("not opened")?;
-            assert_eq!(rt; left.sent, row.sent, "row {place}, step {step}");
-            let text = requests(alloc, row.written)?;
-            assert_eq!(rt; left.written, text, "row {place}, step {step}");
-            assert_eq!(rt; left.pauses, row.pauses, "row {place}, step {step}");
-            let mut due = row.count.saturating_sub(row.left_count);
-            for found in &left.numbers {
-                assert_eq!(rt; *found, due, "row {place}, step {step}");
-                due = due.wrapping_add(1);
-            }
-            assert_eq!(rt; due, row.count, "row {place}, step {step}");
-        }
-    }
-    Ok(())
-}
-
-#[test]
-fn the_collector_is_sent(rt: HostRuntime) -> Result<(), Fail> {
-    check_hec(&rt)
-}
-
-#[test]
-fn relp_is_sent(rt: HostRuntime) -> Result<(), Fail> {
-    check_relp(&rt)
-}
-
-#[test]
-fn lumberjack_is_sent(rt: HostRuntime) -> Result<(), Fail> {
-    check_lumberjack(&rt)
 }
 
 // Each second entry of 600 is acknowledged, of which the spool keeps 240 apart.
-#[test]
-fn scattered_acknowledgments_are_kept_as_far_as_they_fit(rt: HostRuntime) -> Result<(), Fail> {
+fn scattered_acknowledgments_are_kept_as_far_as_they_fit(
+    rt: &(impl Abort + AllocGlobal),
+) -> Result<(), Fail> {
     let alloc = rt.alloc();
-    let mut peer = Vec::from_slice(alloc, b"1 rsp 6 200 OK\n")?;
+    let row = relp_rows::SCATTERED;
+    let mut given = Given::of(alloc, row)?;
     for place in 0..300_u64 {
         let number = place.wrapping_mul(2).wrapping_add(3);
         let reply = format!(in alloc; "{number} rsp 6 200 OK\n")?;
-        peer.extend_from_slice(reply.as_bytes())?;
+        given.peer.extend_from_slice(reply.as_bytes())?;
     }
-    let device = filled(alloc, 600)?;
-    let left = session(alloc, Proto::Relp, device, peer, 1000, NONE)?;
+    let left = session(alloc, Proto::Relp, given, 1000)?;
     let left = left.ok_or("not opened")?;
-    assert_eq!(rt; left.sent, forward_core::Sent::PeerClosed);
-    assert_eq!(rt; left.written, relp_text(alloc, true, 600, false)?);
+    assert_eq!(rt; wrong_part(alloc, row, &left)?, "what stays");
     assert_eq!(rt; left.numbers.len(), 360);
     Ok(())
 }
 
-// The peer's bytes end anywhere: just the entries whose answers came whole are gone.
+// Over a disk of which that call fails: whether the session ended by that. The entries that weren't acknowledged stay.
+fn is_fault(
+    rt: &(impl Abort + AllocGlobal),
+    proto: Proto,
+    row: &str,
+    call: u64,
+) -> Result<bool, Fail> {
+    let alloc = rt.alloc();
+    let mut given = Given::of(alloc, row)?;
+    given.disk.push(call)?;
+    let Some(left) = session(alloc, proto, given, 1000)? else {
+        return Ok(false);
+    };
+    let stay = numbers(alloc, said(row, "stay", ""))?;
+    assert!(rt; left.numbers.ends_with(&stay), "{proto:?}, call {call}");
+    if left.ends.as_str() == "DiskFault" {
+        return Ok(true);
+    }
+    assert!(rt;
+        left.ends.as_str() == said(row, "ends", "") && left.numbers == stay,
+        "{proto:?}, call {call}: {}",
+        left.ends
+    );
+    Ok(false)
+}
+
+// Whichever call of the disk fails, the session ends by that.
+fn check_faults(rt: &(impl Abort + AllocGlobal), proto: Proto, row: &str) -> Result<(), Fail> {
+    check_form(row, WORDS, 1)?;
+    let mut faults = 0_u32;
+    for call in 0..40 {
+        if is_fault(rt, proto, row, call)? {
+            faults = faults.saturating_add(1);
+        }
+    }
+    assert!(rt; faults > 0, "{proto:?}: no call of the session failed");
+    Ok(())
+}
+
+#[test]
+fn scattered_acknowledgments(rt: HostRuntime) -> Result<(), Fail> {
+    scattered_acknowledgments_are_kept_as_far_as_they_fit(&rt)
+}
+
+#[test]
+fn relp(rt: HostRuntime) -> Result<(), Fail> {
+    check_rows(&rt, Proto::Relp, relp_rows::ROWS, 10)?;
+    check_rows(&rt, Proto::Relp, relp_rows::FAULTS, 6)
+}
+
 #[test]
 fn a_peer_may_stop_at_each_byte(rt: HostRuntime) -> Result<(), Fail> {
-    let alloc = rt.alloc();
-    let peer = b"1 rsp 6 200 OK\n2 rsp 6 200 OK\n3 rsp 6 200 OK\n";
-    for len in 0..46_usize {
-        let came = peer.get(..len).ok_or("too short")?;
-        let device = filled(alloc, 2)?;
-        let left = session(alloc, Proto::Relp, device, came.to_vec(alloc)?, 1000, NONE)?;
-        let left = left.ok_or("not opened")?;
-        let stay: &[u64] = match len {
-            0..=29 => &[0, 1],
-            30..=44 => &[1],
-            _ => &[],
-        };
-        assert_eq!(rt; left.numbers.as_slice(), stay, "{len} bytes");
-        let sent = if len == 45 {
-            forward_core::Sent::Drained
-        } else {
-            forward_core::Sent::PeerClosed
-        };
-        assert_eq!(rt; left.sent, sent, "{len} bytes");
-    }
-    Ok(())
+    check_rows(&rt, Proto::Relp, relp_rows::CUTS, 4)
+}
+
+#[test]
+fn relp_over_a_disk_that_fails(rt: HostRuntime) -> Result<(), Fail> {
+    check_faults(&rt, Proto::Relp, relp_rows::DISK)
+}
+
+#[test]
+fn lumberjack(rt: HostRuntime) -> Result<(), Fail> {
+    check_rows(&rt, Proto::Lumberjack, lumberjack_rows::ROWS, 7)
+}
+
+#[test]
+fn the_collector(rt: HostRuntime) -> Result<(), Fail> {
+    check_rows(&rt, Proto::Hec, hec_rows::ROWS, 18)
+}
+
+#[test]
+fn the_collector_over_a_disk_that_fails(rt: HostRuntime) -> Result<(), Fail> {
+    check_faults(&rt, Proto::Hec, hec_rows::DISK)
 }
