@@ -1,0 +1,13 @@
+//! Tests of the crates that speak the protocols, in pieces of each size: those that cut streams into frames, `relp_frame` and
+//! `lumber_frame`; the sessions above them, `relp_session` and `lumber_session`; and the senders, `relp_sender`, `lumber_sender` and
+//! `hec_sender`. They stand in a crate of their own, since the gate proves a crate with tests twice, with and without them.
+#![tactic(auto)]
+
+#[cfg(test)]
+mod receiving;
+#[cfg(test)]
+mod sending;
+#[cfg(test)]
+mod streams;
+#[cfg(test)]
+mod tests;

@@ -1,0 +1,4 @@
+//! What the frames of a connection ask for: the tables row by row, and whole sessions.
+pub(crate) mod lumber;
+pub(crate) mod relp;
+mod relp_rows;

@@ -1,0 +1,6 @@
+//! Whole sessions of the senders: what each writes to a peer and tells of it, whatever the peer answers.
+mod entries;
+pub(crate) mod hec;
+pub(crate) mod lumber;
+pub(crate) mod relp;
+mod session;

@@ -1,0 +1,7 @@
+//! Streams in pieces of each size.
+pub(crate) mod lumber;
+mod lumber_read;
+mod lumber_rows;
+pub(crate) mod relp;
+mod relp_read;
+mod relp_rows;

@@ -1,4 +1,0 @@
-//! Sessions of the sender of RELP.
-mod driver;
-mod rows;
-mod sessions;

@@ -1,4 +1,0 @@
-//! What the frames of a connection ask for: the tables row by row, and whole sessions.
-pub(crate) mod lumber;
-pub(crate) mod relp;
-pub(crate) mod relp_rows;
