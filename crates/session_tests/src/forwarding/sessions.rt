@@ -1,8 +1,8 @@
 //! All that holds of whole sessions.
-use crate::fields::{check_form, number, numbers, said};
-use crate::harness::{Given, Left, session};
-use crate::written::written;
-use crate::{hec_rows, lumberjack_rows, relp_rows};
+use crate::forwarding::fields::{check_form, number, numbers, said};
+use crate::forwarding::harness::{Given, Left, session};
+use crate::forwarding::written::written;
+use crate::forwarding::{hec_rows, lumberjack_rows, relp_rows};
 use edge_io::Proto;
 use std::alloc::Global;
 use std::process::Abort;

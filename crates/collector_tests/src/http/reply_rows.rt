@@ -1,6 +1,6 @@
 //! Streams of replies, and what they tell: the replies' offsets, statuses and bodies, each after a mark, then the offset of the
 //! rest after `#`, and the fault's place and rule after `!`.
-use crate::rows::Row;
+use crate::http::rows::Row;
 
 const REPLIES: [Row; 24] = [
     Row {

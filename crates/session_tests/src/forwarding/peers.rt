@@ -1,5 +1,5 @@
 //! What a peer sends.
-use crate::fields::{number, word};
+use crate::forwarding::fields::{number, word};
 use std::alloc::{AllocError, Global};
 
 // A reply of the collector, of which this is the status, a space and the body.

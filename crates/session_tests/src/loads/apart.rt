@@ -1,5 +1,5 @@
 //! The replay and the drain of a load by `attend` and `forward` alone.
-use crate::rows::two_by_relp;
+use crate::loads::rows::two_by_relp;
 use conn_serve::{Rules, attend};
 use desk_access::{Alone, Desk};
 use edge_disk::MemDisk;

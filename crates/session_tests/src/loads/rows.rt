@@ -117,7 +117,7 @@ fn hec_loads_have_their_lines(rt: HostRuntime) -> Result<(), Fail> {
 
 #[test]
 fn sessions_alone_do_as_the_load(rt: HostRuntime) -> Result<(), Fail> {
-    crate::apart::check_apart(&rt)
+    crate::loads::apart::check_apart(&rt)
 }
 
 // The numbers of the load of two events by RELP after 1.

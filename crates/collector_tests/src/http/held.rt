@@ -1,6 +1,6 @@
 //! What a window holds, one that is full, and one that has a fault.
-use crate::requests::Talk;
-use crate::rows::{Row, faults};
+use crate::http::requests::Talk;
+use crate::http::rows::{Row, faults};
 use http_edge::{HttpItem, HttpRequest};
 use std::alloc::{AllocError, Global};
 use std::test::*;

@@ -1,8 +1,10 @@
 //! Streams of requests and of replies, and each limit of theirs from both sides, in pieces of several sizes.
-use crate::limit_rows::{Limit, at_64_fields, large_bodies, of_replies, of_requests, open_target};
-use crate::reply_rows::replies;
-use crate::rows::{Row, SIZES, faults, streams};
-use crate::{replies, requests};
+use crate::http::limit_rows::{
+    Limit, at_64_fields, large_bodies, of_replies, of_requests, open_target,
+};
+use crate::http::reply_rows::replies;
+use crate::http::rows::{Row, SIZES, faults, streams};
+use crate::http::{replies, requests};
 use std::alloc::{AllocError, Global};
 use std::test::*;
 

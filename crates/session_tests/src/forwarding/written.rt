@@ -1,5 +1,5 @@
 //! What is written to a peer.
-use crate::fields::{number, word};
+use crate::forwarding::fields::{number, word};
 use std::alloc::{AllocError, Global};
 
 // The frame that opens a session of RELP, 70 bytes.

@@ -2,7 +2,7 @@
 ghost use Rattle.std.specs.Prelude.{◌+◌, ◌≤◌, ◌^◌};
 ghost use Rattle.http_edge.specs.Reading.{come};
 
-use crate::told::{tell_end, tell_number};
+use crate::http::told::{tell_end, tell_number};
 use event_form::FeedFault;
 use http_edge::{HttpFault, HttpItem, HttpWindow};
 use std::alloc::{AllocError, Global};

@@ -1,6 +1,6 @@
 use Rattle.std.proofs.Common.{refl}
 use Rattle.std.specs.List.{IsDistinct}
-use Rattle.hec_tests.proofs.ids.ask_at_once.Goals as goal
+use Rattle.collector_tests.proofs.hec.ids.ask_at_once.Goals as goal
 
 pub ask-requires-clause-distinct : goal.ask-requires-clause-distinct
 unfolding IsDistinct

@@ -2,8 +2,8 @@
 ghost use Rattle.std.specs.Prelude.{◌≡◌, ◌<◌, ◌≤◌, IfOk};
 ghost use Rattle.event_form.specs.Entry.{IsEntry};
 
-use crate::fields::{number, numbers, said};
-use crate::peers::peer;
+use crate::forwarding::fields::{number, numbers, said};
+use crate::forwarding::peers::peer;
 use desk_access::{Access, Alone, Desk};
 use edge_disk::MemDisk;
 use edge_io::{Both, MemSink, MemSource, Object, Pause, Proto};

@@ -1,5 +1,5 @@
 use Rattle.std.specs.List.{IsDistinct}
-use Rattle.hec_tests.proofs.ids.asked.Goals as goal
+use Rattle.collector_tests.proofs.hec.ids.asked.Goals as goal
 
 pub ask-requires-clause-distinct : goal.ask-requires-clause-distinct
 unfolding IsDistinct

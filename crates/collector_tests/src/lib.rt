@@ -1,0 +1,8 @@
+//! Tests of what the collector speaks and says: `http_edge` and `http_reply`, and `hec_body`, `hec_ids` and `hec_session`. They
+//! stand in a crate of their own, since the gate proves a crate with tests twice, with and without them.
+#![tactic(auto)]
+
+#[cfg(test)]
+mod hec;
+#[cfg(test)]
+mod http;
