@@ -33,12 +33,19 @@ def lasting_copy():
     return f"{cache}/bridge-build/{hashlib.sha256(TOP.encode()).hexdigest()[:12]}"
 
 
-def copy_sources(rt, copy, names):
+def clear(path):
+    """Removes what is there."""
+    if os.path.islink(path) or os.path.isfile(path):
+        os.remove(path)
+    shutil.rmtree(path, ignore_errors=True)
+
+
+def copy_sources(copy, names):
     """Makes the copy's files those of the repository, as if it had these crates alone. What was built in the copy stays."""
     for it in glob.glob(f"{copy}/crates/*"):
         is_wanted = os.path.basename(it) in names
         for gone in [f"{it}/{part}" for part in os.listdir(it) if part != "out"] if is_wanted else [it]:
-            rt.clear(gone)
+            clear(gone)
     for name in names:
         folder = f"{TOP}/crates/{name}"
         built = lambda at, parts: ["out"] if at == folder else []
