@@ -3,7 +3,7 @@ use crate::calls::{opened, opening_of, recovered, say_pending, with_stretches};
 use crate::script::Step;
 use crate::slots::benches::Bench;
 use crate::slots::registers::put_cell;
-use crate::words::{bytes_of, copied, number, numbers, shown, word};
+use crate::words::{bytes_of, copied, is_told, number, numbers, shown, word};
 use edge_disk::{Crash, MemDisk};
 use spool_log::{FormatFault, Opening, Spool, format};
 use std::alloc::Global;
@@ -72,17 +72,13 @@ pub(crate) fn plain(rt: &impl Abort, alloc: Global, slots: u64, size: u64) -> Me
     disk
 }
 
-// `SLOTS SIZE`: makes the device an empty spool.
-fn say_format(rt: &impl Abort, alloc: Global, device: &mut Vec<u8>, spelled: &str) -> String {
-    let (slots, size) = word(spelled);
-    let bytes = copied(rt, alloc, device);
-    let mut disk = MemDisk::of(bytes, Vec::new(alloc));
+// `SLOTS SIZE`: makes the device an empty spool, and answers whether that is answered as the step says.
+fn formats(rt: &impl Abort, alloc: Global, device: &mut Vec<u8>, step: Step<'_>) -> bool {
+    let (slots, size) = word(step.rest);
+    let mut disk = MemDisk::of(copied(rt, alloc, device), Vec::new(alloc));
     let answer = formatted(rt, &mut disk, number(rt, slots), number(rt, size));
     *device = copied(rt, alloc, disk.bytes());
-    match answer {
-        Ok(()) => String::from_str(alloc, "done").expect(rt, "memory"),
-        Err(fault) => shown(rt, alloc, &fault),
-    }
+    is_told(rt, alloc, &answer, step.want)
 }
 
 /// How many calls of the disk an opening of this device makes that writes nothing.
@@ -106,39 +102,35 @@ fn disk_of(rt: &impl Abort, alloc: Global, device: &[u8], failing: &str) -> MemD
     MemDisk::of(copied(rt, alloc, device), numbers)
 }
 
-fn say_run(rt: &impl Abort, alloc: Global, spool: &Spool<MemDisk>) -> String {
-    format!(in alloc; "run {}", spool.run()).expect(rt, "memory")
+// Keeps the spool, and answers whether its run is told so.
+fn runs(rt: &impl Abort, play: &mut Play, spool: Spool<MemDisk>, want: &str) -> bool {
+    let run = spool.run();
+    play.spool = Some(spool);
+    let (name, told) = word(want);
+    name == "run" && number(rt, told) == u64::from(run)
 }
 
-fn say_open(rt: &impl Abort, alloc: Global, play: &mut Play, rest: &str) -> String {
-    let (name, failing) = word(rest);
+// `HOW FAILING`: opens a spool over the device, or answers whether the refusal is as the step says.
+fn opens(rt: &impl Abort, alloc: Global, play: &mut Play, step: Step<'_>) -> bool {
+    let (name, failing) = word(step.rest);
     let disk = disk_of(rt, alloc, &play.device, failing);
+    play.spool = None;
     match recovered(alloc, disk, opening_of(rt, name)) {
-        Ok(spool) => {
-            let said = say_run(rt, alloc, &spool);
-            play.spool = Some(spool);
-            said
-        }
+        Ok(spool) => runs(rt, play, spool, step.want),
         Err(refusal) => {
-            play.spool = None;
-            assert!(rt;
-                refusal.disk.bytes() == play.device.as_slice(),
-                "a refused device was changed"
-            );
-            shown(rt, alloc, &refusal.fault)
+            shown(rt, alloc, &refusal.fault).as_str() == step.want
+                && refusal.disk.bytes() == play.device.as_slice()
         }
     }
 }
 
 // `SLOTS SIZE HOW`: opens a new spool of slots of that size, on a disk that keeps no record of what it held.
-fn say_plain(rt: &impl Abort, alloc: Global, play: &mut Play, rest: &str) -> String {
-    let (slots, rest) = word(rest);
+fn opens_plain(rt: &impl Abort, alloc: Global, play: &mut Play, step: Step<'_>) -> bool {
+    let (slots, rest) = word(step.rest);
     let (size, name) = word(rest);
     let disk = plain(rt, alloc, number(rt, slots), number(rt, size));
     let spool = opened(rt, alloc, disk, opening_of(rt, name));
-    let said = say_run(rt, alloc, &spool);
-    play.spool = Some(spool);
-    said
+    runs(rt, play, spool, step.want)
 }
 
 // What is pending of a spool; and base, cursor, end and the stretches.
@@ -206,19 +198,18 @@ pub(crate) fn lays(rt: &impl Abort, alloc: Global, play: &mut Play, step: Step<'
 /// - `open HOW FAILING`: a spool over it, where the disk's call of this number fails, counted from 0 after
 ///   the opening, or none; `run RUN`, or the fault of a device that is left as it was;
 /// - `plain SLOTS SIZE HOW`: a new spool, on a disk that keeps no record of what it held; `run RUN`.
-pub(crate) fn opens(
+pub(crate) fn makes_spool(
     rt: &impl Abort,
     alloc: Global,
     play: &mut Play,
     step: Step<'_>,
 ) -> Option<bool> {
-    let said = match step.name {
-        "format" => say_format(rt, alloc, &mut play.device, step.rest),
-        "open" => say_open(rt, alloc, play, step.rest),
-        "plain" => say_plain(rt, alloc, play, step.rest),
-        _ => return None,
-    };
-    Some(said.as_str() == step.want)
+    match step.name {
+        "format" => Some(formats(rt, alloc, &mut play.device, step)),
+        "open" => Some(opens(rt, alloc, play, step)),
+        "plain" => Some(opens_plain(rt, alloc, play, step)),
+        _ => None,
+    }
 }
 
 /// Compares what stands with what stood, and answers whether it is as the step says. `None`: the step is none of these.

@@ -1,7 +1,7 @@
 //! Scripts: steps one after another, each with what it says.
 use crate::calls::spool_says;
 use crate::many::makes_many;
-use crate::play::{Play, compares, lays, opens};
+use crate::play::{Play, compares, lays, makes_spool};
 use crate::slots::registers::set_stops;
 use crate::slots::slot_says;
 use crate::stops::{alternates, format_stops, leaves_all_or_none};
@@ -46,7 +46,7 @@ fn follow(rt: &impl Abort, alloc: Global, play: &mut Play, line: &str) -> bool {
     if let Some(is_well) = stops(rt, alloc, &play.device, step) {
         return is_well;
     }
-    if let Some(is_well) = opens(rt, alloc, play, step) {
+    if let Some(is_well) = makes_spool(rt, alloc, play, step) {
         return is_well;
     }
     if let Some(is_well) = compares(rt, alloc, play, step) {
@@ -64,7 +64,7 @@ fn follow(rt: &impl Abort, alloc: Global, play: &mut Play, line: &str) -> bool {
     spool_says(rt, alloc, spool, step)
 }
 
-/// Follows a script, whose steps these functions tell: [`lays`], [`opens`], [`compares`], [`slot_says`],
+/// Follows a script, whose steps these functions tell: [`lays`], [`makes_spool`], [`compares`], [`slot_says`],
 /// [`makes_many`] and [`spool_says`]; each with what it says after ` = `. And these:
 ///
 /// - `- TEXT`: what comes next;

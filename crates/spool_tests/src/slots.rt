@@ -7,41 +7,53 @@ pub(crate) mod registers;
 
 use crate::play::Play;
 use crate::script::Step;
-use crate::slots::benches::{begun, say_add};
-use crate::slots::groups::failing;
+use crate::slots::benches::{add_group, begun};
+use crate::slots::groups::fails;
 use crate::slots::reads::{costs, is_slot, reads_units, scans};
-use crate::slots::registers::{is_register, say_set};
-use crate::words::{are, copied, number, word};
+use crate::slots::registers::{is_register, set};
+use crate::words::{are, copied, is_told, number, word};
 use edge_disk::{Crash, MemDisk};
 use std::alloc::Global;
 use std::process::Abort;
 
-// Changes the register of the device, and says what comes of it.
-fn say_change(rt: &impl Abort, alloc: Global, device: &mut Vec<u8>, spelled: &str) -> String {
+// Changes the register of the device, and answers whether that is answered as the step says.
+fn sets(rt: &impl Abort, alloc: Global, device: &mut Vec<u8>, step: Step<'_>) -> bool {
     let mut disk = MemDisk::of(copied(rt, alloc, device), Vec::new(alloc));
-    let said = say_set(rt, alloc, &mut disk, spelled);
+    let answer = set(rt, alloc, &mut disk, step.rest).expect(rt, "a register");
     *device = copied(rt, alloc, disk.bytes());
-    said
+    is_told(rt, alloc, &answer, step.want)
 }
 
-// Adds a group so many times, and says what becomes of the last one.
-fn say_adds(rt: &impl Abort, alloc: Global, play: &mut Play, count: u64, spelled: &str) -> String {
-    let mut said = String::new(alloc);
+// Adds a group so many times, and answers whether the last one is answered so.
+fn adds(
+    rt: &impl Abort,
+    alloc: Global,
+    play: &mut Play,
+    count: u64,
+    spelled: &str,
+    want: &str,
+) -> bool {
+    let mut last = Ok(());
     for _ in 0..count {
         let bench = play.bench.take().expect(rt, "a slot");
-        let (answer, bench) = say_add(rt, alloc, bench, spelled);
+        let (answer, bench) = add_group(rt, alloc, bench, spelled);
         play.bench = Some(bench);
-        said = answer;
+        last = answer;
     }
-    said
+    is_told(rt, alloc, &last, want)
+}
+
+// Makes these bytes the device, and answers whether they are as many as the step says.
+fn leaves(rt: &impl Abort, alloc: Global, device: &mut Vec<u8>, bytes: &[u8], want: &str) -> bool {
+    *device = copied(rt, alloc, bytes);
+    are(want, &[bytes.len() as u64])
 }
 
 // Makes the device what a crash leaves of the slot's disk.
-fn crash(rt: &impl Abort, alloc: Global, play: &mut Play) -> u64 {
+fn crashes(rt: &impl Abort, alloc: Global, play: &mut Play, want: &str) -> bool {
     let bench = play.bench.take().expect(rt, "a slot");
     let left = bench.disk.crash(Crash::Synced);
-    play.device = copied(rt, alloc, left.bytes());
-    play.device.len() as u64
+    leaves(rt, alloc, &mut play.device, left.bytes(), want)
 }
 
 // Looks how the slot stands that was begun. `None`: the step is none of these, or there is no such slot.
@@ -55,8 +67,8 @@ fn bench_says(rt: &impl Abort, alloc: Global, play: &mut Play, step: Step<'_>) -
         "units" => Some(reads_units(rt, alloc, bench, step)),
         "read_cost" => Some(costs(rt, alloc, bench, step)),
         "left" => {
-            play.device = copied(rt, alloc, bench.disk.bytes());
-            Some(are(step.want, &[play.device.len() as u64]))
+            let bytes = bench.disk.bytes();
+            Some(leaves(rt, alloc, &mut play.device, bytes, step.want))
         }
         _ => None,
     }
@@ -68,18 +80,19 @@ fn register_says(rt: &impl Abort, alloc: Global, device: &[u8], want: &str) -> b
     is_register(rt, alloc, &mut disk, want)
 }
 
-// Changes a register or a slot, and says what comes of it. `None`: the step is none of these.
-fn say_work(rt: &impl Abort, alloc: Global, play: &mut Play, step: Step<'_>) -> Option<String> {
+// Begins a slot, adds to it or stops it by a crash, and answers whether that is answered as the step says. `None`: the
+// step is none of these.
+fn fills(rt: &impl Abort, alloc: Global, play: &mut Play, step: Step<'_>) -> Option<bool> {
     let (first, more) = word(step.rest);
     match step.name {
-        "set" => Some(say_change(rt, alloc, &mut play.device, step.rest)),
         "begin" => {
             let bench = begun(rt, alloc, number(rt, first), number(rt, more), 0);
             play.bench = Some(bench);
-            Some(String::new(alloc))
+            Some(true)
         }
-        "add" => Some(say_adds(rt, alloc, play, 1, step.rest)),
-        "adds" => Some(say_adds(rt, alloc, play, number(rt, first), more)),
+        "add" => Some(adds(rt, alloc, play, 1, step.rest, step.want)),
+        "adds" => Some(adds(rt, alloc, play, number(rt, first), more, step.want)),
+        "crash" => Some(crashes(rt, alloc, play, step.want)),
         _ => None,
     }
 }
@@ -102,17 +115,14 @@ pub(crate) fn slot_says(
     play: &mut Play,
     step: Step<'_>,
 ) -> Option<bool> {
-    if let Some(said) = say_work(rt, alloc, play, step) {
-        return Some(said.as_str() == step.want);
-    }
     match step.name {
         "register" => Some(register_says(rt, alloc, &play.device, step.want)),
+        "set" => Some(sets(rt, alloc, &mut play.device, step)),
         "scan" | "scan_cost" | "scan_bytes" => Some(scans(rt, alloc, &play.device, step)),
-        "crash" => Some(are(step.want, &[crash(rt, alloc, play)])),
-        "failing" => {
-            let failing = failing(rt, alloc, step.rest);
-            Some(are(step.want, &failing))
-        }
-        _ => bench_says(rt, alloc, play, step),
+        "failing" => Some(fails(rt, alloc, step)),
+        _ => match fills(rt, alloc, play, step) {
+            Some(is_so) => Some(is_so),
+            None => bench_says(rt, alloc, play, step),
+        },
     }
 }

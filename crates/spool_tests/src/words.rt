@@ -41,6 +41,19 @@ pub(crate) fn shown(rt: &impl Abort, alloc: Global, value: &impl Debug) -> Strin
     format!(in alloc; "{value:?}").expect(rt, "memory")
 }
 
+/// Whether an answer is told so: `done` or the fault.
+pub(crate) fn is_told(
+    rt: &impl Abort,
+    alloc: Global,
+    answer: &Result<(), impl Debug>,
+    want: &str,
+) -> bool {
+    match answer {
+        Ok(()) => want == "done",
+        Err(fault) => shown(rt, alloc, fault).as_str() == want,
+    }
+}
+
 /// A copy of the bytes.
 pub(crate) fn copied(rt: &impl Abort, alloc: Global, bytes: &[u8]) -> Vec<u8> {
     bytes.to_vec(alloc).expect(rt, "memory")

@@ -4,7 +4,6 @@ ghost use Rattle.event_form.specs.Entry.{IsEntry};
 ghost use Rattle.edge_disk.specs.MemDisk.{mem_moment};
 
 use crate::calls::group_of;
-use crate::words::shown;
 use edge_disk::MemDisk;
 use event_form::Entry;
 use spool_slots::{Slot, SlotFault};
@@ -85,21 +84,16 @@ fn add(
     }
 }
 
-/// The slot after a group, and what becomes of that: `done` or the fault.
-pub(crate) fn say_add(
+/// Adds the group that is spelled so: what becomes of it, and the slot after it.
+pub(crate) fn add_group(
     rt: &impl Abort,
     alloc: Global,
     bench: Bench,
     spelled: &str,
-) -> (String, Bench) {
+) -> (Result<(), SlotFault>, Bench) {
     let group = group_of(rt, alloc, spelled);
     if group.is_empty() {
         panic!(rt; "no group");
     }
-    let (answer, bench) = add(rt, alloc, bench, &group);
-    let said = match answer {
-        Ok(()) => String::from_str(alloc, "done").expect(rt, "memory"),
-        Err(fault) => shown(rt, alloc, &fault),
-    };
-    (said, bench)
+    add(rt, alloc, bench, &group)
 }

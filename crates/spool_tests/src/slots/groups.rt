@@ -1,8 +1,10 @@
 //! Groups in one slot: their bytes, what is read back, and which calls of the disk they make.
-use crate::slots::benches::{begun, say_add};
+use crate::script::Step;
+use crate::slots::benches::{add_group, begun};
 use crate::slots::reads::finds;
-use crate::stops::CRASHES;
-use edge_disk::MemDisk;
+use crate::words::are;
+use edge_disk::{Crash, MemDisk};
+use spool_slots::SlotFault;
 use std::alloc::Global;
 use std::process::Abort;
 
@@ -196,42 +198,49 @@ read_cost 0 20 = 100 5 19010
 read_cost 99 1 = 1 4 12944
 "#;
 
-/// Which of the first nine calls after those of `begin` fail a group where they fail.
-pub(crate) fn failing(rt: &impl Abort, alloc: Global, spelled: &str) -> Vec<u64> {
+/// Whether these of the first nine calls after those of `begin` fail a group where they fail.
+pub(crate) fn fails(rt: &impl Abort, alloc: Global, step: Step<'_>) -> bool {
     let mut failing = Vec::new(alloc);
     for call in 0..9 {
         let bench = begun(rt, alloc, 200_000, 4 + call, 0);
-        let (said, _) = say_add(rt, alloc, bench, spelled);
-        if said.as_str() == "DiskFault" {
+        let (answer, _) = add_group(rt, alloc, bench, step.rest);
+        if answer == Err(SlotFault::DiskFault) {
             failing.push(call).expect(rt, "memory");
         }
     }
-    failing
+    are(step.want, &failing)
 }
 
 // What a disk has after a second group that was stopped after so many calls.
 fn stopped(rt: &impl Abort, alloc: Global, calls: u64) -> MemDisk {
     let bench = begun(rt, alloc, 4096, 99, calls);
-    let (_, one) = say_add(rt, alloc, bench, "1 1 one");
-    let (_, two) = say_add(rt, alloc, one, "1 2 two, 1 3 three");
+    let (_, one) = add_group(rt, alloc, bench, "1 1 one");
+    let (_, two) = add_group(rt, alloc, one, "1 2 two, 1 3 three");
     two.disk
+}
+
+// Whether a second group that is stopped after 8 to 12 calls stands from so many calls on, and not before.
+fn stands_from(rt: &impl Abort, alloc: Global, choice: Crash, whole: u64) -> bool {
+    for calls in 8..13 {
+        let left = stopped(rt, alloc, calls).crash(choice);
+        let want = if calls >= whole {
+            "1 0 133 3"
+        } else {
+            "1 0 58 1"
+        };
+        if !finds(rt, alloc, left.bytes(), want) {
+            return false;
+        }
+    }
+    true
 }
 
 /// Whether a second group that is stopped stands whole or not at all. It makes the calls 8 to 11, and each kind of
 /// crash leaves it from so many calls on.
 pub(crate) fn a_stop_leaves_a_group_or_none(rt: &impl Abort, alloc: Global) -> bool {
-    for (choice, whole) in CRASHES.into_iter().zip([12, 11, 12, 10, 12]) {
-        for calls in 8..13 {
-            let left = stopped(rt, alloc, calls).crash(choice);
-            let want = if calls >= whole {
-                "1 0 133 3"
-            } else {
-                "1 0 58 1"
-            };
-            if !finds(rt, alloc, left.bytes(), want) {
-                return false;
-            }
-        }
-    }
-    true
+    stands_from(rt, alloc, Crash::Synced, 12)
+        && stands_from(rt, alloc, Crash::Written, 11)
+        && stands_from(rt, alloc, Crash::Filled(0), 12)
+        && stands_from(rt, alloc, Crash::Filled(1), 10)
+        && stands_from(rt, alloc, Crash::Filled(255), 12)
 }

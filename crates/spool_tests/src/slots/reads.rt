@@ -2,7 +2,7 @@
 use crate::script::Step;
 use crate::slots::benches::{Bench, fits};
 use crate::slots::counting_disk::CountingDisk;
-use crate::words::{are, copied, number, numbers, shown, word};
+use crate::words::{are, copied, number, shown, word};
 use edge_disk::MemDisk;
 use spool_slots::{Mark, ScanFault, Slot, Window};
 use std::alloc::Global;
@@ -143,16 +143,20 @@ pub(crate) fn costs(rt: &impl Abort, alloc: Global, bench: &Bench, step: Step<'_
     are(step.want, &[units.len() as u64, disk.reads, disk.bytes])
 }
 
+// What is told of the units of all entries from a number on.
+fn told_from(rt: &impl Abort, alloc: Global, bench: &Bench, number: u64, most: u64) -> String {
+    let mut disk = counting(rt, alloc, bench.disk.bytes());
+    let units = units_from(rt, alloc, &mut disk, &bench.slot, number, most);
+    shown(rt, alloc, &units)
+}
+
 /// `NUMBER LEAST MOST`: whether the units of the entries from a number on are these in parts of each of these sizes.
 pub(crate) fn reads_units(rt: &impl Abort, alloc: Global, bench: &Bench, step: Step<'_>) -> bool {
-    let mut disk = counting(rt, alloc, bench.disk.bytes());
-    let words = numbers(rt, alloc, step.rest);
-    let [number, least, most] = words.as_slice() else {
-        panic!(rt; "no sizes");
-    };
-    for size in *least..=*most {
-        let units = units_from(rt, alloc, &mut disk, &bench.slot, *number, size);
-        if shown(rt, alloc, &units).as_str() != step.want {
+    let (first, sizes) = word(step.rest);
+    let (least, most) = word(sizes);
+    let first = number(rt, first);
+    for size in number(rt, least)..=number(rt, most) {
+        if told_from(rt, alloc, bench, first, size).as_str() != step.want {
             return false;
         }
     }

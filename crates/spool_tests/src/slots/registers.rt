@@ -4,10 +4,10 @@ ghost use Rattle.edge_disk.specs.Disk.{IsSettled};
 ghost use Rattle.edge_disk.specs.MemDisk.{mem_moment};
 
 use crate::play::put;
-use crate::stops::{CRASHES, change_of};
+use crate::stops::{CRASHES, Change, change_of};
 use crate::words::{are, copied, numbers, shown};
-use disk_cell::{Content, Register, Stretch};
-use edge_disk::MemDisk;
+use disk_cell::{Content, Register, SetFault, Stretch};
+use edge_disk::{Crash, MemDisk};
 use std::alloc::Global;
 use std::process::Abort;
 
@@ -183,7 +183,7 @@ fn is_content(value: &Content, ordinal: u64, want: &str) -> bool {
     }
 }
 
-// Reads the register and changes it.
+// Reads the register and changes it. `None`: it isn't read.
 fn change(
     rt: &impl Abort,
     alloc: Global,
@@ -191,7 +191,7 @@ fn change(
     run: u64,
     cursor: u64,
     known: &[Stretch],
-) -> String
+) -> Option<Result<(), SetFault>>
     requires settled { IsSettled (mem_moment disk.old) }
     requires few { length known.now ≤ 240 }
     ensures { (mem_moment disk.new).size ≡ (mem_moment disk.old).size }
@@ -199,12 +199,9 @@ fn change(
     if disk.bytes().len() < 12_288 || run > 2_097_151 {
         panic!(rt; "no register");
     }
-    let Ok(mut register) = Register::load(alloc, disk) else {
-        return String::from_str(alloc, "not read").expect(rt, "memory");
-    };
-    match register.set(disk, run as u32, cursor, known) {
-        Ok(()) => String::from_str(alloc, "done").expect(rt, "memory"),
-        Err(fault) => shown(rt, alloc, &fault),
+    match Register::load(alloc, disk) {
+        Ok(mut register) => Some(register.set(disk, run as u32, cursor, known)),
+        Err(_) => None,
     }
 }
 
@@ -212,9 +209,13 @@ fn stretch(from: u64, to: u64) -> Stretch {
     Stretch { from, to }
 }
 
-/// `RUN CURSOR FROM TO FROM TO`, `RUN CURSOR FROM TO` and `RUN CURSOR`: changes the register, and answers `done`
-/// or the fault.
-pub(crate) fn say_set(rt: &impl Abort, alloc: Global, disk: &mut MemDisk, spelled: &str) -> String
+/// `RUN CURSOR FROM TO FROM TO`, `RUN CURSOR FROM TO` and `RUN CURSOR`: changes the register. `None`: it isn't read.
+pub(crate) fn set(
+    rt: &impl Abort,
+    alloc: Global,
+    disk: &mut MemDisk,
+    spelled: &str,
+) -> Option<Result<(), SetFault>>
     requires { IsSettled (mem_moment disk.old) }
 {
     let words = numbers(rt, alloc, spelled);
@@ -232,18 +233,34 @@ pub(crate) fn say_set(rt: &impl Abort, alloc: Global, disk: &mut MemDisk, spelle
     }
 }
 
-/// Whether a change of the register that is stopped leaves the old content or the new, and the new where it was
-/// answered as done, which it is where it could make all its calls.
+// Whether a change of the register that is stopped after so many calls leaves the old content or the new, and the new
+// where it was answered as done, which it was where it could make all its calls.
+fn stops_well(
+    rt: &impl Abort,
+    alloc: Global,
+    disk: MemDisk,
+    choice: Crash,
+    change: Change<'_>,
+    whole: bool,
+) -> bool
+    requires { IsSettled (mem_moment disk) }
+{
+    let mut disk = disk;
+    let done = set(rt, alloc, &mut disk, change.step) == Some(Ok(()));
+    let mut left = disk.crash(choice);
+    let is_old = !done && is_register(rt, alloc, &mut left, change.old);
+    done == whole && (is_old || is_register(rt, alloc, &mut left, change.new))
+}
+
+/// Whether a change of the register, wherever it is stopped, leaves the old content or the new, and the new where it
+/// was answered as done.
 pub(crate) fn set_stops(rt: &impl Abort, alloc: Global, device: &[u8], spelled: &str) -> bool {
     let change = change_of(rt, spelled);
     for calls in 0..10 {
+        let whole = calls >= change.calls;
         for choice in CRASHES {
-            let mut disk = MemDisk::stopped(copied(rt, alloc, device), calls);
-            let done = say_set(rt, alloc, &mut disk, change.step).as_str() == "done";
-            let mut left = disk.crash(choice);
-            let is_old = !done && is_register(rt, alloc, &mut left, change.old);
-            let is_well = is_old || is_register(rt, alloc, &mut left, change.new);
-            if done != (calls >= change.calls) || !is_well {
+            let disk = MemDisk::stopped(copied(rt, alloc, device), calls);
+            if !stops_well(rt, alloc, disk, choice, change, whole) {
                 return false;
             }
         }
