@@ -75,8 +75,8 @@ fn say_take(rt: &impl Abort, alloc: Global, spool: &mut Spool<MemDisk>, spelled:
     }
 }
 
-// The numbers from one up to and without another, as far as they are below the end.
-fn within(from: u64, to: u64, end: u64) -> Stretch
+/// The numbers from one up to and without another, as far as they are below the end.
+pub(crate) fn within(from: u64, to: u64, end: u64) -> Stretch
     ensures { EndsBy end result }
 {
     let to = to.min(end);

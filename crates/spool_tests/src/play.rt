@@ -56,17 +56,13 @@ pub(crate) fn formatted(
     slots: u64,
     size: u64,
 ) -> Result<(), FormatFault> {
-    if slots < 1 || slots > 1024 || size < 4096 || size > 1_073_741_824 {
-        panic!(rt; "no such layout");
-    }
+    assert!(rt; slots >= 1 && slots <= 1024 && size >= 4096 && size <= 1_073_741_824);
     format(disk, slots as u32, size)
 }
 
 /// The disk of a new spool, which keeps no record of what it held.
 pub(crate) fn plain(rt: &impl Abort, alloc: Global, slots: u64, size: u64) -> MemDisk {
-    if slots > 9 || size > 1_000_000 {
-        panic!(rt; "too long");
-    }
+    assert!(rt; slots <= 9 && size <= 1_000_000);
     let mut disk = MemDisk::plain(alloc, 12_288 + slots * size).expect(rt, "memory");
     formatted(rt, &mut disk, slots, size).expect(rt, "a new device");
     disk

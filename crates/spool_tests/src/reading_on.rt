@@ -100,9 +100,9 @@ fn walks_over_nothing_again(
 /// Whether each of four readings of one event reads that alone, whatever was stored in the slot before it: a
 /// group's gate, length and count (9 bytes), an entry with a text of 100 bytes (129), and the gate after it.
 pub(crate) fn a_reading_walks_over_nothing_again(rt: &impl Abort, alloc: Global) -> bool {
-    for (size, stored, more) in ROWS {
-        let mut spool = counted(rt, alloc, size);
-        if !walks_over_nothing_again(rt, alloc, &mut spool, stored, more) {
+    for (size, stored, more) in &ROWS {
+        let mut spool = counted(rt, alloc, *size);
+        if !walks_over_nothing_again(rt, alloc, &mut spool, *stored, *more) {
             return false;
         }
     }

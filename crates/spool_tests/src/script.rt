@@ -76,7 +76,7 @@ fn follow(rt: &impl Abort, alloc: Global, play: &mut Play, line: &str) -> bool {
 /// - `format_stops OLD`: a format of two slots leaves the old spool, none, or the empty one.
 pub(crate) fn run_script(rt: &impl Abort, alloc: Global, script: &str) {
     let mut play = Play::new(alloc);
-    for line in script.lines() {
+    for line in script.split('\n') {
         assert!(rt; follow(rt, alloc, &mut play, line), "{line}");
     }
 }

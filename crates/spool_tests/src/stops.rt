@@ -78,9 +78,9 @@ fn stops_well(
     change: Change<'_>,
     whole: bool,
 ) -> bool {
-    for choice in CRASHES {
+    for choice in &CRASHES {
         let (done, disk) = stopped(rt, alloc, device, calls, change.step);
-        let state = left(rt, alloc, disk, choice);
+        let state = left(rt, alloc, disk, *choice);
         let is_new = state.as_str() == change.new;
         let is_old = state.as_str() == change.old && !done;
         if done != whole || !(is_new || is_old) {
@@ -184,10 +184,10 @@ fn is_as_formatted(seen: Result<[u64; 6], RecoverFault>, calls: u64, old: &str) 
 /// as far as it may.
 pub(crate) fn format_stops(rt: &impl Abort, alloc: Global, device: &[u8], old: &str) -> bool {
     for calls in 0..14 {
-        for choice in CRASHES {
+        for choice in &CRASHES {
             let mut disk = MemDisk::stopped(copied(rt, alloc, device), calls);
             let done = formatted(rt, &mut disk, 2, 4096).is_ok();
-            let seen = seen(alloc, disk.crash(choice));
+            let seen = seen(alloc, disk.crash(*choice));
             if done != (calls >= 12) || !is_as_formatted(seen, calls, old) {
                 return false;
             }

@@ -13,7 +13,7 @@ use crate::slots::registers::REGISTERS;
 
 #[test]
 fn slots(rt: HostRuntime) {
-    for script in [REGISTERS, SLOTS, CALLS, READS] {
+    for script in &[REGISTERS, SLOTS, CALLS, READS] {
         run_script(&rt, rt.alloc(), script);
     }
     assert!(rt; a_stop_leaves_a_group_or_none(&rt, rt.alloc()));
@@ -21,7 +21,7 @@ fn slots(rt: HostRuntime) {
 
 #[test]
 fn spools(rt: HostRuntime) {
-    for script in [GROUPS, FAILING, OPENINGS, MARKS, CHANGES, DEVICES] {
+    for script in &[GROUPS, FAILING, OPENINGS, MARKS, CHANGES, DEVICES] {
         run_script(&rt, rt.alloc(), script);
     }
     assert!(rt; the_free_slot_is_as_defined(&rt, rt.alloc()));
@@ -30,7 +30,7 @@ fn spools(rt: HostRuntime) {
 
 #[test]
 fn desks(rt: HostRuntime) {
-    for script in [ENTRIES, KNOWN, IDS] {
+    for script in &[ENTRIES, KNOWN, IDS] {
         run_desk(&rt, rt.alloc(), script);
     }
     assert!(rt; what_was_taken_stands_whichever_call_fails(&rt, rt.alloc()));

@@ -1,12 +1,10 @@
 //! Calls of a desk, with answers worked out by hand.
-ghost use Rattle.spool_log.specs.Changing.Mark.{EndsBy};
-
+use crate::calls::within;
 use crate::desk::desks::{entry, opened};
 use crate::script::{Step, step_of};
 use crate::words::{are, number, word};
 use desk_access::{Access, Alone};
 use edge_disk::MemDisk;
-use known_numbers::Stretch;
 use std::alloc::Global;
 use std::process::Abort;
 
@@ -73,17 +71,6 @@ fn finds(
         return want == "none";
     }
     are(want, &numbers)
-}
-
-// The stretch, as far as it ends by the end.
-fn within(from: u64, to: u64, end: u64) -> Stretch
-    ensures { EndsBy end result }
-{
-    let to = to.min(end);
-    Stretch {
-        from: from.min(to),
-        to,
-    }
 }
 
 fn asked(alone: &mut Alone<MemDisk>, channel: u128, id: u64) -> bool {
@@ -170,7 +157,7 @@ pub(crate) fn run_desk(rt: &impl Abort, alloc: Global, script: &str) {
     // No call of this number is made.
     let mut alone = opened(rt, alloc, u64::MAX).expect(rt, "a desk");
     assert!(rt; alone.run() == 1);
-    for line in script.lines() {
+    for line in script.split('\n') {
         assert!(rt; desk_says(rt, alloc, &mut alone, step_of(line)), "{line}");
     }
 }

@@ -65,7 +65,7 @@ fn take_fails(rt: &impl Abort, alloc: Global, failing: u64, choice: Crash) -> bo
     };
     let (one, two) = take_two(rt, alloc, &mut alone);
     let left = after_crash(rt, alloc, alone, choice);
-    assert!(rt; may_stand(one, two, left), "call {failing}: {left:?}");
+    assert!(rt; may_stand(one, two, left));
     one.is_err() || two.is_err()
 }
 
@@ -73,8 +73,8 @@ fn take_fails(rt: &impl Abort, alloc: Global, failing: u64, choice: Crash) -> bo
 pub(crate) fn what_was_taken_stands_whichever_call_fails(rt: &impl Abort, alloc: Global) -> bool {
     let mut failed = 0_u32;
     for failing in 0..40 {
-        for choice in [Crash::Synced, Crash::Written, Crash::Filled(1)] {
-            if take_fails(rt, alloc, failing, choice) {
+        for choice in &[Crash::Synced, Crash::Written, Crash::Filled(1)] {
+            if take_fails(rt, alloc, failing, *choice) {
                 failed = failed.saturating_add(1);
             }
         }

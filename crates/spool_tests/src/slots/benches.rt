@@ -33,9 +33,7 @@ pub(crate) struct Bench {
 /// A slot begun at offset 100 of a disk of zeros, of which a call fails, or each one from `stop` on where that
 /// isn't 0.
 pub(crate) fn begun(rt: &impl Abort, alloc: Global, size: u64, failing: u64, stop: u64) -> Bench {
-    if size < 4096 || size > 5_000_000 {
-        panic!(rt; "size");
-    }
+    assert!(rt; size >= 4096 && size <= 5_000_000);
     let zeros = vec![in alloc; 0; size as usize + 200].expect(rt, "memory");
     let mut disk = if stop > 0 {
         MemDisk::stopped(zeros, stop)
@@ -92,8 +90,6 @@ pub(crate) fn add_group(
     spelled: &str,
 ) -> (Result<(), SlotFault>, Bench) {
     let group = group_of(rt, alloc, spelled);
-    if group.is_empty() {
-        panic!(rt; "no group");
-    }
+    assert!(rt; !group.is_empty());
     add(rt, alloc, bench, &group)
 }

@@ -24,12 +24,8 @@ fn scanned(
     disk: &mut CountingDisk<MemDisk>,
     size: u64,
 ) -> Result<Option<Slot>, ScanFault> {
-    if size < 4096 || size > 5_000_000 {
-        panic!(rt; "size");
-    }
-    if (disk.disk.bytes().len() as u64) < 100 + size {
-        panic!(rt; "disk");
-    }
+    assert!(rt; size >= 4096 && size <= 5_000_000);
+    assert!(rt; disk.disk.bytes().len() as u64 >= 100 + size);
     let mut window = Window::new(alloc).expect(rt, "memory");
     Slot::scan(disk, &mut window, 100, size)
 }
@@ -83,9 +79,7 @@ fn read_units(
     most: u32,
     units: &mut Vec<u64>,
 ) -> Mark {
-    if !fits(slot, &disk.disk) {
-        panic!(rt; "slot");
-    }
+    assert!(rt; fits(slot, &disk.disk));
     let part = slot.read_part(alloc, disk, window, mark, most);
     let part = part.expect(rt, "part");
     for entry in &part.entries {
@@ -103,12 +97,8 @@ fn passed(
     number: u64,
 ) -> Mark {
     let start = slot.start();
-    if !fits(slot, &disk.disk) {
-        panic!(rt; "slot");
-    }
-    if number < start.number || number > slot.first + slot.count {
-        panic!(rt; "number");
-    }
+    assert!(rt; fits(slot, &disk.disk));
+    assert!(rt; number >= start.number && number <= slot.first + slot.count);
     slot.pass(disk, window, start, number).expect(rt, "pass")
 }
 

@@ -163,9 +163,7 @@ pub(crate) fn put_cell(device: &mut [u8], at: u64, fields: &[u64]) {
 /// Whether what is read of the register is told so: its version, run, cursor and ordinal, and the ends of its first
 /// stretch; or the fault.
 pub(crate) fn is_register(rt: &impl Abort, alloc: Global, disk: &mut MemDisk, want: &str) -> bool {
-    if disk.bytes().len() < 12_288 {
-        panic!(rt; "short");
-    }
+    assert!(rt; disk.bytes().len() >= 12_288);
     match Register::load(alloc, disk) {
         Ok(register) => is_content(register.value(), register.ordinal(), want),
         Err(fault) => shown(rt, alloc, &fault).as_str() == want,
@@ -196,9 +194,7 @@ fn change(
     requires few { length known.now ≤ 240 }
     ensures { (mem_moment disk.new).size ≡ (mem_moment disk.old).size }
 {
-    if disk.bytes().len() < 12_288 || run > 2_097_151 {
-        panic!(rt; "no register");
-    }
+    assert!(rt; disk.bytes().len() >= 12_288 && run <= 2_097_151);
     match Register::load(alloc, disk) {
         Ok(mut register) => Some(register.set(disk, run as u32, cursor, known)),
         Err(_) => None,
@@ -258,9 +254,9 @@ pub(crate) fn set_stops(rt: &impl Abort, alloc: Global, device: &[u8], spelled: 
     let change = change_of(rt, spelled);
     for calls in 0..10 {
         let whole = calls >= change.calls;
-        for choice in CRASHES {
+        for choice in &CRASHES {
             let disk = MemDisk::stopped(copied(rt, alloc, device), calls);
-            if !stops_well(rt, alloc, disk, choice, change, whole) {
+            if !stops_well(rt, alloc, disk, *choice, change, whole) {
                 return false;
             }
         }
