@@ -1,74 +1,82 @@
 //! Calls of a spool on a disk in memory, and what they answer.
-ghost use Rattle.std.specs.Prelude.{◌<◌, IfOk, All, vec_len};
+ghost use Rattle.std.specs.Prelude.{◌≡◌, ◌<◌, false, IfOk, All, vec_len};
 ghost use Rattle.event_form.specs.Entry.{IsEntry};
 ghost use Rattle.spool_log.specs.Changing.Mark.{EndsBy};
 
 use crate::made::{entry_named, name_of};
-use crate::words::{number, numbers, word};
+use crate::script::Step;
+use crate::words::{are, number, numbers, shown, word};
 use edge_disk::MemDisk;
 use event_form::Entry;
 use known_numbers::Stretch;
-use spool_log::{ConfirmFault, Opening, Spool};
-use std::alloc::{AllocError, Global};
-use std::test::Fail;
+use spool_log::{ConfirmFault, Numbered, Opening, Refusal, Spool};
+use std::alloc::Global;
+use std::process::Abort;
 
 /// The opening that a script names so.
-pub(crate) fn opening_of(name: &str) -> Result<Opening, Fail> {
-    if name == "keep" {
-        Ok(Opening::Keep)
-    } else if name == "raise" {
-        Ok(Opening::Raise)
-    } else {
-        Err("no such opening".into())
+pub(crate) fn opening_of(rt: &impl Abort, name: &str) -> Opening {
+    match name {
+        "keep" => Opening::Keep,
+        "raise" => Opening::Raise,
+        _ => panic!(rt; "no such opening"),
     }
 }
 
-pub(crate) fn opened(
+/// The spool on a disk, or why there is none. What its callers need of the contract of opening is little.
+pub(crate) fn recovered(
     alloc: Global,
     disk: MemDisk,
     opening: Opening,
-) -> Result<Spool<MemDisk>, Fail> {
-    match Spool::recover(alloc, disk, opening) {
-        Ok(spool) => Ok(spool),
-        Err(_) => Err("no spool".into()),
+) -> Result<Spool<MemDisk>, Refusal<MemDisk>>
+    ensures { IfOk result (λ spool. spool.doubt ≡ false) }
+{
+    Spool::recover(alloc, disk, opening)
+}
+
+/// The spool on a disk, which is one.
+pub(crate) fn opened(
+    rt: &impl Abort,
+    alloc: Global,
+    disk: MemDisk,
+    opening: Opening,
+) -> Spool<MemDisk>
+    ensures { result.doubt ≡ false }
+{
+    match recovered(alloc, disk, opening) {
+        Ok(spool) => spool,
+        Err(_) => panic!(rt; "no spool"),
     }
 }
 
 /// The entries that a script names, with a comma between them.
-pub(crate) fn group_of(alloc: Global, spelled: &str) -> Result<Vec<Entry>, Fail>
-    ensures limits { IfOk result (λ group. All IsEntry group.items) }
-    ensures few { IfOk result (λ group. vec_len group < 100) }
+pub(crate) fn group_of(rt: &impl Abort, alloc: Global, spelled: &str) -> Vec<Entry>
+    ensures limits { All IsEntry result.items }
+    ensures few { vec_len result < 100 }
 {
     let mut group = Vec::new(alloc);
     if spelled.is_empty() {
-        return Ok(group);
+        return group;
     }
     for part in spelled.split(", ") {
-        group.push(entry_named(alloc, part)?)?;
+        let entry = entry_named(rt, alloc, part);
+        group.push(entry).expect(rt, "memory");
     }
-    if group.len() >= 100 {
-        return Err("too many".into());
-    }
-    Ok(group)
+    assert!(rt; group.len() < 100);
+    group
 }
 
-fn say_take(alloc: Global, spool: &mut Spool<MemDisk>, spelled: &str) -> Result<String, Fail> {
-    let group = group_of(alloc, spelled)?;
+fn say_take(rt: &impl Abort, alloc: Global, spool: &mut Spool<MemDisk>, spelled: &str) -> String {
+    let group = group_of(rt, alloc, spelled);
     match spool.take(&group) {
-        Ok(receipt) => Ok(format!(in alloc; "taken {} {}", receipt.first, receipt.count)?),
-        Err(fault) => Ok(format!(in alloc; "{fault:?}")?),
+        Ok(receipt) => {
+            format!(in alloc; "taken {} {}", receipt.first, receipt.count).expect(rt, "memory")
+        }
+        Err(fault) => shown(rt, alloc, &fault),
     }
 }
 
-fn say_known(alloc: Global, answer: Result<(), ConfirmFault>) -> Result<String, AllocError> {
-    match answer {
-        Ok(()) => String::from_str(alloc, "done"),
-        Err(fault) => format!(in alloc; "{fault:?}"),
-    }
-}
-
-// The numbers from one up to and without another, as far as they are below the end.
-fn within(from: u64, to: u64, end: u64) -> Stretch
+/// The numbers from one up to and without another, as far as they are below the end.
+pub(crate) fn within(from: u64, to: u64, end: u64) -> Stretch
     ensures { EndsBy end result }
 {
     let to = to.min(end);
@@ -78,42 +86,36 @@ fn within(from: u64, to: u64, end: u64) -> Stretch
     }
 }
 
-fn say_mark(alloc: Global, spool: &mut Spool<MemDisk>, spelled: &str) -> Result<String, Fail> {
-    if spelled.is_empty() {
-        return Ok(say_known(alloc, spool.mark(&[]))?);
-    }
-    let ends = numbers(alloc, spelled)?;
-    let end = spool.end();
-    match ends.as_slice() {
-        [from, to] => Ok(say_known(alloc, spool.mark(&[within(*from, *to, end)]))?),
-        [from, to, more, last] => {
-            let known = [within(*from, *to, end), within(*more, *last, end)];
-            Ok(say_known(alloc, spool.mark(&known))?)
-        }
-        _ => Err("no stretches".into()),
-    }
-}
-
-fn say_confirm(alloc: Global, spool: &mut Spool<MemDisk>, upto: u64) -> Result<String, AllocError> {
-    let upto = upto.min(spool.end());
-    say_known(alloc, spool.confirm(upto))
-}
-
-// Makes a change, and says its answer. `None`: the step is none of these.
-fn change(
+fn mark(
+    rt: &impl Abort,
     alloc: Global,
     spool: &mut Spool<MemDisk>,
-    step: &str,
-    rest: &str,
-) -> Result<Option<String>, Fail> {
-    if step == "take" {
-        Ok(Some(say_take(alloc, spool, rest)?))
-    } else if step == "mark" {
-        Ok(Some(say_mark(alloc, spool, rest)?))
-    } else if step == "confirm" {
-        Ok(Some(say_confirm(alloc, spool, number(rest)?)?))
-    } else {
-        Ok(None)
+    spelled: &str,
+) -> Result<(), ConfirmFault> {
+    let end = spool.end();
+    if spelled.is_empty() {
+        return spool.mark(&[]);
+    }
+    let ends = numbers(rt, alloc, spelled);
+    match ends.as_slice() {
+        [from, to] => spool.mark(&[within(*from, *to, end)]),
+        [from, to, more, last] => {
+            let known = [within(*from, *to, end), within(*more, *last, end)];
+            spool.mark(&known)
+        }
+        _ => panic!(rt; "no stretches"),
+    }
+}
+
+fn confirm(rt: &impl Abort, spool: &mut Spool<MemDisk>, upto: &str) -> Result<(), ConfirmFault> {
+    let upto = number(rt, upto).min(spool.end());
+    spool.confirm(upto)
+}
+
+fn say_known(rt: &impl Abort, alloc: Global, answer: Result<(), ConfirmFault>) -> String {
+    match answer {
+        Ok(()) => String::from_str(alloc, "done").expect(rt, "memory"),
+        Err(fault) => shown(rt, alloc, &fault),
     }
 }
 
@@ -124,109 +126,135 @@ fn change(
 /// - `confirm UPTO`, `mark FROM TO FROM TO`, `mark FROM TO` and `mark`: numbers that become known; `done` or the
 ///   fault.
 pub(crate) fn say_change(
+    rt: &impl Abort,
     alloc: Global,
     spool: &mut Spool<MemDisk>,
-    step: &str,
+    name: &str,
     rest: &str,
-) -> Result<Option<String>, Fail> {
-    let Some(mut said) = change(alloc, spool, step, rest)? else {
-        return Ok(None);
+) -> Option<String> {
+    let mut said = match name {
+        "take" => say_take(rt, alloc, spool, rest),
+        "mark" => say_known(rt, alloc, mark(rt, alloc, spool, rest)),
+        "confirm" => say_known(rt, alloc, confirm(rt, spool, rest)),
+        _ => return None,
     };
     if spool.doubt() {
-        said.push_str(", in doubt")?;
+        said.push_str(", in doubt").expect(rt, "memory");
     }
-    Ok(Some(said))
+    Some(said)
+}
+
+/// The entries from a number on that are pending, at most so many.
+pub(crate) fn pending_of(
+    rt: &impl Abort,
+    spool: &mut Spool<MemDisk>,
+    from: u64,
+    most: u32,
+) -> Vec<Numbered> {
+    let from = from.min(spool.end());
+    spool.pending(from, most).expect(rt, "entries")
 }
 
 /// What is pending from a number on, at most so many: the number of each entry, its kind and the length of
 /// its text, or `nothing`.
 pub(crate) fn say_pending(
+    rt: &impl Abort,
     alloc: Global,
     spool: &mut Spool<MemDisk>,
     from: u64,
     most: u32,
-) -> Result<String, Fail> {
-    let from = from.min(spool.end());
-    let Ok(given) = spool.pending(from, most) else {
-        return Err("no entries".into());
-    };
+) -> String {
     let mut text = String::new(alloc);
-    for one in &given {
-        if !text.is_empty() {
-            text.push_str(", ")?;
-        }
+    for one in &pending_of(rt, spool, from, most) {
+        let comma = if text.is_empty() { "" } else { ", " };
         let name = name_of(&one.entry);
         let len = one.entry.event.text.bytes().len();
-        let line = format!(in alloc; "{} {name} {len}", one.number)?;
-        text.push_str(line.as_str())?;
+        write!(text, "{comma}{} {name} {len}", one.number).expect(rt, "memory");
     }
     if text.is_empty() {
-        text.push_str("nothing")?;
+        text.push_str("nothing").expect(rt, "memory");
     }
-    Ok(text)
+    text
 }
 
-// The cursor, and the stretches above it.
-fn say_stretches(alloc: Global, spool: &Spool<MemDisk>) -> Result<String, AllocError> {
-    let mut text = format!(in alloc; "{}:", spool.cursor())?;
-    for known in spool.known() {
-        let line = format!(in alloc; " {}-{}", known.from, known.to)?;
-        text.push_str(line.as_str())?;
+/// These numbers, and the ends of the stretches above the cursor.
+pub(crate) fn with_stretches(
+    rt: &impl Abort,
+    alloc: Global,
+    numbers: &[u64],
+    known: &[Stretch],
+) -> Vec<u64> {
+    let mut all = numbers.to_vec(alloc).expect(rt, "memory");
+    for one in known {
+        all.extend_from_slice(&[one.from, one.to])
+            .expect(rt, "memory");
     }
-    Ok(text)
+    all
 }
 
 // The place of the active slot, and its room.
-fn say_room(alloc: Global, spool: &Spool<MemDisk>) -> Result<String, AllocError> {
+fn room_of(spool: &Spool<MemDisk>) -> [u64; 2] {
     let memory = &spool.memory;
     let place = memory.active.at.saturating_sub(12_288) / memory.size;
-    format!(in alloc; "{place} {}", spool.room())
+    [place, spool.room()]
 }
 
-// Where the active slot begins and its closing gate stands, the number and the count of its entries, how
-// many other slots are open, and the cursor.
-pub(crate) fn say_slots(alloc: Global, spool: &Spool<MemDisk>) -> Result<String, AllocError> {
+/// Where the active slot begins and its closing gate stands, the number and the count of its entries, how
+/// many other slots are open, and the cursor.
+pub(crate) fn slots_of(spool: &Spool<MemDisk>) -> [u64; 6] {
     let active = spool.memory.active;
-    let others = spool.memory.older.len();
-    format!(in alloc;
-        "{} {} {} {} {others} {}",
+    let others = spool.memory.older.len() as u64;
+    let cursor = spool.cursor();
+    [
         active.at,
         active.gate,
         active.first,
         active.count,
-        spool.cursor()
-    )
+        others,
+        cursor,
+    ]
 }
 
-/// Says how the spool stands. `None`: the step is none of these.
+// Whether what is pending is what the step says.
+fn pending_is(rt: &impl Abort, alloc: Global, spool: &mut Spool<MemDisk>, step: Step<'_>) -> bool {
+    let (from, most) = word(step.rest);
+    let from = number(rt, from);
+    let most = u32::try_from(number(rt, most)).unwrap_or(u32::MAX);
+    say_pending(rt, alloc, spool, from, most).as_str() == step.want
+}
+
+// Whether the spool stands as the step says.
+fn stands(rt: &impl Abort, alloc: Global, spool: &mut Spool<MemDisk>, step: Step<'_>) -> bool {
+    let cursor = spool.cursor();
+    match step.name {
+        "numbers" => are(step.want, &[spool.base(), cursor, spool.end()]),
+        "known" => {
+            let all = with_stretches(rt, alloc, &[cursor], spool.known());
+            are(step.want, &all)
+        }
+        "room" => are(step.want, &room_of(spool)),
+        "ordinal" => are(step.want, &[spool.memory.register.ordinal()]),
+        "slots" => are(step.want, &slots_of(spool)),
+        "pending" => pending_is(rt, alloc, spool, step),
+        _ => false,
+    }
+}
+
+/// Makes a change, or looks how the spool stands, and answers whether it is as the step says. The changes are those
+/// of [`say_change`]. The others:
 ///
-/// - `numbers`: base, cursor and end; `known`: the cursor and the stretches above it;
+/// - `numbers`: base, cursor and end; `known`: the cursor and the ends of the stretches above it;
 /// - `room`: the place of the active slot and its room; `ordinal`: that of the register;
-/// - `slots`: the offset of the active slot, that of its closing gate in it, its first number and its
-///   count, how many other slots are open, and the cursor;
+/// - `slots`: what [`slots_of`] has;
 /// - `pending FROM MOST`: what is pending.
-pub(crate) fn say_state(
+pub(crate) fn spool_says(
+    rt: &impl Abort,
     alloc: Global,
     spool: &mut Spool<MemDisk>,
-    step: &str,
-    rest: &str,
-) -> Result<Option<String>, Fail> {
-    let said = if step == "numbers" {
-        format!(in alloc; "{} {} {}", spool.base(), spool.cursor(), spool.end())?
-    } else if step == "known" {
-        say_stretches(alloc, spool)?
-    } else if step == "room" {
-        say_room(alloc, spool)?
-    } else if step == "ordinal" {
-        format!(in alloc; "{}", spool.memory.register.ordinal())?
-    } else if step == "slots" {
-        say_slots(alloc, spool)?
-    } else if step == "pending" {
-        let (from, most) = word(rest);
-        let most = u32::try_from(number(most)?).unwrap_or(u32::MAX);
-        say_pending(alloc, spool, number(from)?, most)?
-    } else {
-        return Ok(None);
-    };
-    Ok(Some(said))
+    step: Step<'_>,
+) -> bool {
+    match say_change(rt, alloc, spool, step.name, step.rest) {
+        Some(said) => said.as_str() == step.want,
+        None => stands(rt, alloc, spool, step),
+    }
 }

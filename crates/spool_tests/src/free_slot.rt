@@ -1,11 +1,11 @@
 //! Where a group goes, and when no slot is free, against the definition.
 use crate::calls::opened;
 use crate::made::event_of;
-use crate::play::formatted;
+use crate::play::plain;
 use edge_disk::MemDisk;
 use spool_log::{Opening, Receipt, Spool, TakeFault};
 use std::alloc::Global;
-use std::test::Fail;
+use std::process::Abort;
 
 /// What an empty slot of 4,096 bytes has room for.
 const MOST: u64 = 4078;
@@ -97,15 +97,16 @@ fn draw(state: u64, below: u64) -> (u64, u64) {
 
 // Takes an event of so many bytes, and answers whether the spool does as the model.
 fn takes_alike(
+    rt: &impl Abort,
     alloc: Global,
     spool: &mut Spool<MemDisk>,
     model: &mut Model,
     len: u64,
-) -> Result<bool, Fail> {
-    let group = [event_of(alloc, 4_294_967_296, 2, len)?];
+) -> bool {
+    let group = [event_of(rt, alloc, 4_294_967_296, 2, len)];
     // 9 bytes of the group, and 29 of the entry before its text.
     let want = model.take(len.saturating_add(38));
-    Ok(spool.take(&group) == want)
+    spool.take(&group) == want
 }
 
 // Confirms up to a number, and answers whether that is done.
@@ -125,35 +126,39 @@ fn stands_alike(spool: &Spool<MemDisk>, model: &Model) -> bool {
 
 // Makes 200 steps, and answers whether the spool does as the model at each. Of each four steps about three take an
 // event of up to 2,400 bytes, and the others confirm up to a number between the cursor and the end.
-fn goes_alike(alloc: Global, spool: &mut Spool<MemDisk>, model: &mut Model) -> Result<bool, Fail> {
+fn goes_alike(
+    rt: &impl Abort,
+    alloc: Global,
+    spool: &mut Spool<MemDisk>,
+    model: &mut Model,
+) -> bool {
     let mut state = 1;
-    for step in 0..200 {
+    for _ in 0..200 {
         let (choice, next) = draw(state, 4);
-        let alike = if choice > 0 {
-            let (len, next) = draw(next, 2401);
-            state = next;
-            takes_alike(alloc, spool, model, len)?
+        let below = if choice > 0 {
+            2401
         } else {
-            let pending = model.end.saturating_sub(model.cursor);
-            let (more, next) = draw(next, pending.saturating_add(1));
-            state = next;
-            model.cursor = model.cursor.saturating_add(more);
+            model.end.saturating_sub(model.cursor).saturating_add(1)
+        };
+        let (drawn, next) = draw(next, below);
+        state = next;
+        let alike = if choice > 0 {
+            takes_alike(rt, alloc, spool, model, drawn)
+        } else {
+            model.cursor = model.cursor.saturating_add(drawn);
             confirms(spool, model.cursor)
         };
         if !alike || !stands_alike(spool, model) {
-            return Ok(false);
+            return false;
         }
     }
-    Ok(true)
+    true
 }
 
 /// Whether an empty spool of three slots does as the model, which finds no free slot at times, and empties one.
-pub(crate) fn the_free_slot_is_as_defined(alloc: Global) -> Result<bool, Fail> {
-    let mut disk = MemDisk::plain(alloc, 24_576)?;
-    if formatted(&mut disk, 3, 4096)?.is_err() {
-        return Ok(false);
-    }
-    let mut spool = opened(alloc, disk, Opening::Keep)?;
+pub(crate) fn the_free_slot_is_as_defined(rt: &impl Abort, alloc: Global) -> bool {
+    let disk = plain(rt, alloc, 3, 4096);
+    let mut spool = opened(rt, alloc, disk, Opening::Keep);
     let empty = Row {
         first: 0,
         count: 0,
@@ -167,6 +172,6 @@ pub(crate) fn the_free_slot_is_as_defined(alloc: Global) -> Result<bool, Fail> {
         full: 0,
         reused: 0,
     };
-    let alike = goes_alike(alloc, &mut spool, &mut model)?;
-    Ok(alike && model.full >= 10 && model.reused >= 10)
+    let alike = goes_alike(rt, alloc, &mut spool, &mut model);
+    alike && model.full >= 10 && model.reused >= 10
 }

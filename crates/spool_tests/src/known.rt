@@ -10,41 +10,41 @@ take relp 3 = taken 2 1
 take relp 4, relp 5 = taken 3 2
 again raise = same
 mark 3 4 1 2 = done
-known = 0: 1-2 3-4
+known = 0 1 2 3 4
 pending 0 100 = 0 relp 1, 2 relp 3, 4 relp 5
 again raise = same
 - nothing new, and a stretch of no number
 mark 1 2 4 4 = done
-known = 0: 1-2 3-4
+known = 0 1 2 3 4
 pending 0 100 = 0 relp 1, 2 relp 3, 4 relp 5
 again raise = same
 confirm 0 = done
-known = 0: 1-2 3-4
+known = 0 1 2 3 4
 pending 0 100 = 0 relp 1, 2 relp 3, 4 relp 5
 again raise = same
 - the cursor passes over a stretch that it reaches
 mark 0 1 0 0 = done
-known = 2: 3-4
+known = 2 3 4
 pending 0 100 = 2 relp 3, 4 relp 5
 again raise = same
 mark 2 3 0 0 = done
-known = 4:
+known = 4
 pending 0 100 = 4 relp 5
 again raise = same
 take relp 9 = taken 5 1
-known = 4:
+known = 4
 pending 0 100 = 4 relp 5, 5 relp 9
 again raise = same
 mark 5 6 5 6 = done
-known = 4: 5-6
+known = 4 5 6
 pending 0 100 = 4 relp 5
 again raise = same
 confirm 5 = done
-known = 6:
+known = 6
 pending 0 100 = nothing
 again raise = same
 confirm 2 = done
-known = 6:
+known = 6
 pending 0 100 = nothing
 again raise = same
 
@@ -52,9 +52,9 @@ again raise = same
 plain 1 65536 raise = run 1
 pairs 300
 odd 300
-counts 0 240 480 360
+counts = 0 240 480 360
 mark 0 1 481 482 = done
-counts 2 240 482 358
+counts = 2 240 482 358
 
 - a mark of nothing new makes no call of the disk: the register isn't written
 zeros 20480

@@ -1,11 +1,10 @@
 //! Entries that differ in all that an entry has.
-ghost use Rattle.std.specs.Prelude.{IfOk};
 ghost use Rattle.event_form.specs.Entry.{IsEntry};
 
-use crate::words::{number, word};
+use crate::words::{copied, number, word};
 use event_form::{Blob, Entry, Event, MOST_TEXT, Origin};
 use std::alloc::Global;
-use std::test::Fail;
+use std::process::Abort;
 
 // What an entry has, but for the length of its text. Each byte of that is one more than the byte
 // before; 0 comes after 255.
@@ -60,74 +59,76 @@ fn fill(text: &mut [u8], first_byte: u8) {
 
 /// A RELP event, or one of the collector's, with this text.
 pub(crate) fn entry_with(
+    rt: &impl Abort,
     conn: u64,
     index: u64,
     unit: u64,
     origin: Origin,
     text: Vec<u8>,
-) -> Result<Entry, Fail>
-    ensures { IfOk result IsEntry }
+) -> Entry
+    ensures { IsEntry result }
 {
     if origin == Origin::LumberData || text.len() > MOST_TEXT {
-        return Err("no such entry".into());
+        panic!(rt; "no such entry");
     }
     let text = Blob::of(text);
-    Ok(Entry {
+    Entry {
         conn,
         index,
         unit,
         event: Event { origin, text },
-    })
+    }
+}
+
+// A text of so many bytes.
+fn text_of(rt: &impl Abort, alloc: Global, byte: u8, len: u64) -> Vec<u8> {
+    vec![in alloc; byte; len.min(1_000_000) as usize].expect(rt, "memory")
 }
 
 // The entry of this kind with a text of so many bytes.
-fn entry_of(alloc: Global, kind: Kind, len: u64) -> Result<Entry, Fail>
-    ensures { IfOk result IsEntry }
+fn entry_of(rt: &impl Abort, alloc: Global, kind: Kind, len: u64) -> Entry
+    ensures { IsEntry result }
 {
-    let mut text = vec![in alloc; 0; len.min(1_000_000) as usize]?;
+    let mut text = text_of(rt, alloc, 0, len);
     fill(&mut text, kind.first_byte);
-    entry_with(kind.conn, kind.index, kind.unit, kind.origin, text)
+    entry_with(rt, kind.conn, kind.index, kind.unit, kind.origin, text)
 }
 
 /// A RELP event whose text is so many letters x.
-pub(crate) fn event_of(alloc: Global, conn: u64, unit: u64, len: u64) -> Result<Entry, Fail>
-    ensures { IfOk result IsEntry }
+pub(crate) fn event_of(rt: &impl Abort, alloc: Global, conn: u64, unit: u64, len: u64) -> Entry
+    ensures { IsEntry result }
 {
-    let text = vec![in alloc; b'x'; len.min(1_000_000) as usize]?;
-    entry_with(conn, 0, unit, Origin::Relp, text)
+    let text = text_of(rt, alloc, b'x', len);
+    entry_with(rt, conn, 0, unit, Origin::Relp, text)
 }
 
 // The kind that a script names so.
-fn kind_of(name: &str) -> Result<Kind, Fail> {
-    if name == "relp" {
-        Ok(RELP)
-    } else if name == "json" {
-        Ok(JSON)
-    } else if name == "hec" {
-        Ok(HEC)
-    } else if name == "raw" {
-        Ok(RAW)
-    } else {
-        Err("no such kind".into())
+fn kind_of(rt: &impl Abort, name: &str) -> Kind {
+    match name {
+        "relp" => RELP,
+        "json" => JSON,
+        "hec" => HEC,
+        "raw" => RAW,
+        _ => panic!(rt; "no such kind"),
     }
 }
 
 /// The entry that a script names: a kind and a length; or a connection, a unit and a text, which stands there or
 /// is so many letters x.
-pub(crate) fn entry_named(alloc: Global, spelled: &str) -> Result<Entry, Fail>
-    ensures { IfOk result IsEntry }
+pub(crate) fn entry_named(rt: &impl Abort, alloc: Global, spelled: &str) -> Entry
+    ensures { IsEntry result }
 {
     let (name, rest) = word(spelled);
     let Ok(conn) = name.parse::<u64>() else {
-        return entry_of(alloc, kind_of(name)?, number(rest)?);
+        return entry_of(rt, alloc, kind_of(rt, name), number(rt, rest));
     };
     let (unit, text) = word(rest);
-    let unit = number(unit)?;
+    let unit = number(rt, unit);
     match text.parse::<u64>() {
-        Ok(len) => event_of(alloc, conn, unit, len),
+        Ok(len) => event_of(rt, alloc, conn, unit, len),
         Err(_) => {
-            let text = Vec::from_slice(alloc, text.as_bytes())?;
-            entry_with(conn, 0, unit, Origin::Relp, text)
+            let text = copied(rt, alloc, text.as_bytes());
+            entry_with(rt, conn, 0, unit, Origin::Relp, text)
         }
     }
 }
@@ -144,26 +145,22 @@ fn is_filled(text: &[u8], first_byte: u8) -> bool {
     true
 }
 
-// Whether the entry is one of this kind, in all that it has.
+// Whether the entry, which has the origin of the kind, is one of it in all that it has.
 fn is_of(entry: &Entry, kind: Kind) -> bool {
     entry.conn == kind.conn
         && entry.index == kind.index
         && entry.unit == kind.unit
-        && entry.event.origin == kind.origin
         && is_filled(entry.event.text.bytes(), kind.first_byte)
 }
 
-/// The name of the entry's kind, or `another` where it is none of these.
+/// The name of the entry's kind, each of which has an origin of its own, or `another` where it is none of these.
 pub(crate) fn name_of(entry: &Entry) -> &'static str {
-    if is_of(entry, RELP) {
-        "relp"
-    } else if is_of(entry, JSON) {
-        "json"
-    } else if is_of(entry, HEC) {
-        "hec"
-    } else if is_of(entry, RAW) {
-        "raw"
-    } else {
-        "another"
-    }
+    let (name, kind) = match entry.event.origin {
+        Origin::Relp => ("relp", RELP),
+        Origin::LumberJson => ("json", JSON),
+        Origin::HecEvent => ("hec", HEC),
+        Origin::HecRaw => ("raw", RAW),
+        Origin::LumberData => return "another",
+    };
+    if is_of(entry, kind) { name } else { "another" }
 }

@@ -1,71 +1,71 @@
 //! Scripts: steps one after another, each with what it says.
-use crate::many::{marks_odd, say_counts, takes_pairs, takes_singles};
-use crate::play::{Play, say_device, say_spool};
+use crate::calls::spool_says;
+use crate::many::makes_many;
+use crate::play::{Play, compares, lays, makes_spool};
 use crate::slots::registers::set_stops;
-use crate::slots::say_slots;
+use crate::slots::slot_says;
 use crate::stops::{alternates, format_stops, leaves_all_or_none};
-use crate::words::{number, word};
+use crate::words::word;
 use std::alloc::Global;
 use std::process::Abort;
-use std::test::Fail;
 
-// Whether the change or the format on the device can be stopped anywhere. `None`: the step is none of these.
-fn stops(alloc: Global, device: &[u8], step: &str, rest: &str) -> Result<Option<bool>, Fail> {
-    if step == "stops" {
-        let whole = leaves_all_or_none(alloc, device, rest)?;
-        Ok(Some(whole && alternates(alloc, device, rest)?))
-    } else if step == "set_stops" {
-        Ok(Some(set_stops(alloc, device, rest)?))
-    } else if step == "format_stops" {
-        Ok(Some(format_stops(alloc, device, rest)?))
-    } else {
-        Ok(None)
-    }
+/// A step: its name, what stands after that, and what it says.
+#[derive(Clone, Copy)]
+pub(crate) struct Step<'a> {
+    pub name: &'a str,
+    pub rest: &'a str,
+    pub want: &'a str,
 }
 
-// Whether many calls are all answered so. `None`: the step is none of these.
-fn many(alloc: Global, play: &mut Play, step: &str, rest: &str) -> Result<Option<bool>, Fail> {
-    let Some(spool) = &mut play.spool else {
-        return Ok(None);
-    };
-    if step == "singles" {
-        Ok(Some(takes_singles(alloc, spool, number(rest)?)?))
-    } else if step == "pairs" {
-        Ok(Some(takes_pairs(alloc, spool, number(rest)?)?))
-    } else if step == "odd" {
-        Ok(Some(marks_odd(alloc, spool, number(rest)?)?))
-    } else if step == "counts" {
-        Ok(Some(say_counts(alloc, spool)?.as_str() == rest))
-    } else {
-        Ok(None)
+/// The step of a line.
+pub(crate) fn step_of(line: &str) -> Step<'_> {
+    let (spelled, want) = line.split_once(" = ").unwrap_or((line, ""));
+    let (name, rest) = word(spelled);
+    Step { name, rest, want }
+}
+
+// Whether the change or the format on the device can be stopped anywhere. `None`: the step is none of these.
+fn stops(rt: &impl Abort, alloc: Global, device: &[u8], step: Step<'_>) -> Option<bool> {
+    let rest = step.rest;
+    match step.name {
+        "stops" => Some(
+            leaves_all_or_none(rt, alloc, device, rest) && alternates(rt, alloc, device, rest),
+        ),
+        "set_stops" => Some(set_stops(rt, alloc, device, rest)),
+        "format_stops" => Some(format_stops(rt, alloc, device, rest)),
+        _ => None,
     }
 }
 
 // Does one step, and answers whether it says what it has to.
-fn follow(alloc: Global, play: &mut Play, line: &str) -> Result<bool, Fail> {
-    let (spelled, want) = line.split_once(" = ").unwrap_or((line, ""));
-    let (step, rest) = word(spelled);
-    if step.is_empty() || step == "-" {
-        return Ok(true);
+fn follow(rt: &impl Abort, alloc: Global, play: &mut Play, line: &str) -> bool {
+    let step = step_of(line);
+    if step.name.is_empty() || step.name == "-" || lays(rt, alloc, play, step) {
+        return true;
     }
-    if let Some(is_well) = stops(alloc, &play.device, step, rest)? {
-        return Ok(is_well);
+    if let Some(is_well) = stops(rt, alloc, &play.device, step) {
+        return is_well;
     }
-    if let Some(is_well) = many(alloc, play, step, rest)? {
-        return Ok(is_well);
+    if let Some(is_well) = makes_spool(rt, alloc, play, step) {
+        return is_well;
     }
-    if let Some(said) = say_device(alloc, play, step, rest)? {
-        return Ok(said.as_str() == want);
+    if let Some(is_well) = compares(rt, alloc, play, step) {
+        return is_well;
     }
-    if let Some(said) = say_slots(alloc, play, step, rest)? {
-        return Ok(said.as_str() == want);
+    if let Some(is_well) = slot_says(rt, alloc, play, step) {
+        return is_well;
     }
-    let said = say_spool(alloc, play, step, rest)?;
-    Ok(said.is_some_and(|said| said.as_str() == want))
+    let Some(spool) = &mut play.spool else {
+        return false;
+    };
+    if let Some(is_well) = makes_many(rt, alloc, spool, step) {
+        return is_well;
+    }
+    spool_says(rt, alloc, spool, step)
 }
 
-/// Follows a script. Its steps are those of [`say_device`], [`say_slots`], [`crate::calls::say_change`] and
-/// [`crate::calls::say_state`], each with what it says after ` = `, and these:
+/// Follows a script, whose steps these functions tell: [`lays`], [`makes_spool`], [`compares`], [`slot_says`],
+/// [`makes_many`] and [`spool_says`]; each with what it says after ` = `. And these:
 ///
 /// - `- TEXT`: what comes next;
 /// - `stops CALLS | OLD | NEW | STEP`: the change on the device makes so many calls of the disk, writes and
@@ -73,13 +73,10 @@ fn follow(alloc: Global, play: &mut Play, line: &str) -> Result<bool, Fail> {
 ///   what is pending;
 /// - `set_stops CALLS | OLD | NEW | CHANGE`: the same of the register alone, whose calls with those of reading it
 ///   are so many; the state is what `register` says;
-/// - `format_stops OLD`: a format of two slots leaves the old spool, none, or the empty one;
-/// - `singles COUNT`, `pairs COUNT`, `odd COUNT`: many events, pairs of events, or odd numbers that are
-///   marked; `counts CURSOR STRETCHES LAST PENDING`: how the spool stands then.
-pub(crate) fn run_script(rt: &impl Abort, alloc: Global, script: &str) -> Result<(), Fail> {
+/// - `format_stops OLD`: a format of two slots leaves the old spool, none, or the empty one.
+pub(crate) fn run_script(rt: &impl Abort, alloc: Global, script: &str) {
     let mut play = Play::new(alloc);
-    for line in script.lines() {
-        assert!(rt; follow(alloc, &mut play, line)?, "{line}");
+    for line in script.split('\n') {
+        assert!(rt; follow(rt, alloc, &mut play, line), "{line}");
     }
-    Ok(())
 }

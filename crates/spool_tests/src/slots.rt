@@ -6,79 +6,102 @@ pub(crate) mod reads;
 pub(crate) mod registers;
 
 use crate::play::Play;
-use crate::slots::benches::{Bench, begun, say_add};
-use crate::slots::groups::say_failing;
-use crate::slots::reads::{say_cost, say_scan, say_slot, say_units};
-use crate::slots::registers::{say_register, say_set};
-use crate::words::{number, word};
+use crate::script::Step;
+use crate::slots::benches::{add_group, begun};
+use crate::slots::groups::fails;
+use crate::slots::reads::{costs, is_slot, reads_units, scans};
+use crate::slots::registers::{is_register, set};
+use crate::words::{are, copied, is_told, number, word};
 use edge_disk::{Crash, MemDisk};
 use std::alloc::Global;
-use std::test::Fail;
+use std::process::Abort;
 
-// Changes the register of the device, and says what comes of it.
-fn say_change(alloc: Global, device: &mut Vec<u8>, spelled: &str) -> Result<String, Fail> {
-    let mut disk = MemDisk::of(device.to_vec(alloc)?, Vec::new(alloc));
-    let said = say_set(alloc, &mut disk, spelled)?;
-    *device = disk.bytes().to_vec(alloc)?;
-    Ok(said)
+// Changes the register of the device, and answers whether that is answered as the step says.
+fn sets(rt: &impl Abort, alloc: Global, device: &mut Vec<u8>, step: Step<'_>) -> bool {
+    let mut disk = MemDisk::of(copied(rt, alloc, device), Vec::new(alloc));
+    let answer = set(rt, alloc, &mut disk, step.rest).expect(rt, "a register");
+    *device = copied(rt, alloc, disk.bytes());
+    is_told(rt, alloc, &answer, step.want)
 }
 
-// The slot that was begun.
-fn bench_of(play: &mut Play) -> Result<Bench, Fail> {
-    match play.bench.take() {
-        Some(bench) => Ok(bench),
-        None => Err("no slot".into()),
-    }
-}
-
-// Adds a group so many times, and says what becomes of the last one.
-fn say_adds(alloc: Global, play: &mut Play, count: u64, spelled: &str) -> Result<String, Fail> {
-    let mut said = String::new(alloc);
-    for _ in 0..count {
-        let (answer, bench) = say_add(alloc, bench_of(play)?, spelled)?;
-        play.bench = Some(bench);
-        said = answer;
-    }
-    Ok(said)
-}
-
-// Makes these bytes the device, and says how many they are.
-fn say_left(alloc: Global, device: &mut Vec<u8>, bytes: &[u8]) -> Result<String, Fail> {
-    *device = bytes.to_vec(alloc)?;
-    Ok(format!(in alloc; "{}", bytes.len())?)
-}
-
-// Says how the slot stands that was begun. `None`: the step is none of these, or there is no such slot.
-fn say_bench(
+// Adds a group so many times, and answers whether the last one is answered so.
+fn adds(
+    rt: &impl Abort,
     alloc: Global,
     play: &mut Play,
-    step: &str,
-    rest: &str,
-) -> Result<Option<String>, Fail> {
-    let Some(bench) = &play.bench else {
-        return Ok(None);
-    };
-    let said = if step == "slot" {
-        say_slot(alloc, &bench.slot)?
-    } else if step == "room" {
-        format!(in alloc; "{}", bench.slot.room())?
-    } else if step == "units" {
-        say_units(alloc, bench, rest)?
-    } else if step == "read_cost" {
-        let (first, more) = word(rest);
-        say_cost(alloc, bench, number(first)?, number(more)?)?
-    } else if step == "left" {
-        say_left(alloc, &mut play.device, bench.disk.bytes())?
-    } else {
-        return Ok(None);
-    };
-    Ok(Some(said))
+    count: u64,
+    spelled: &str,
+    want: &str,
+) -> bool {
+    let mut last = Ok(());
+    for _ in 0..count {
+        let bench = play.bench.take().expect(rt, "a slot");
+        let (answer, bench) = add_group(rt, alloc, bench, spelled);
+        play.bench = Some(bench);
+        last = answer;
+    }
+    is_told(rt, alloc, &last, want)
 }
 
-/// Works on a register or a slot, and says what comes of it. `None`: the step is none of these.
+// Makes these bytes the device, and answers whether they are as many as the step says.
+fn leaves(rt: &impl Abort, alloc: Global, device: &mut Vec<u8>, bytes: &[u8], want: &str) -> bool {
+    *device = copied(rt, alloc, bytes);
+    are(want, &[bytes.len() as u64])
+}
+
+// Makes the device what a crash leaves of the slot's disk.
+fn crashes(rt: &impl Abort, alloc: Global, play: &mut Play, want: &str) -> bool {
+    let bench = play.bench.take().expect(rt, "a slot");
+    let left = bench.disk.crash(Crash::Synced);
+    leaves(rt, alloc, &mut play.device, left.bytes(), want)
+}
+
+// Looks how the slot stands that was begun. `None`: the step is none of these, or there is no such slot.
+fn bench_says(rt: &impl Abort, alloc: Global, play: &mut Play, step: Step<'_>) -> Option<bool> {
+    let Some(bench) = &play.bench else {
+        return None;
+    };
+    match step.name {
+        "slot" => Some(is_slot(&bench.slot, step.want)),
+        "room" => Some(are(step.want, &[bench.slot.room()])),
+        "units" => Some(reads_units(rt, alloc, bench, step)),
+        "read_cost" => Some(costs(rt, alloc, bench, step)),
+        "left" => {
+            let bytes = bench.disk.bytes();
+            Some(leaves(rt, alloc, &mut play.device, bytes, step.want))
+        }
+        _ => None,
+    }
+}
+
+// Whether the register of the device is as the step says.
+fn register_says(rt: &impl Abort, alloc: Global, device: &[u8], want: &str) -> bool {
+    let mut disk = MemDisk::of(copied(rt, alloc, device), Vec::new(alloc));
+    is_register(rt, alloc, &mut disk, want)
+}
+
+// Begins a slot, adds to it or stops it by a crash, and answers whether that is answered as the step says. `None`: the
+// step is none of these.
+fn fills(rt: &impl Abort, alloc: Global, play: &mut Play, step: Step<'_>) -> Option<bool> {
+    let (first, more) = word(step.rest);
+    match step.name {
+        "begin" => {
+            let bench = begun(rt, alloc, number(rt, first), number(rt, more), 0);
+            play.bench = Some(bench);
+            Some(true)
+        }
+        "add" => Some(adds(rt, alloc, play, 1, step.rest, step.want)),
+        "adds" => Some(adds(rt, alloc, play, number(rt, first), more, step.want)),
+        "crash" => Some(crashes(rt, alloc, play, step.want)),
+        _ => None,
+    }
+}
+
+/// Works on a register or a slot, and answers whether what comes of it is as the step says. `None`: the step is none
+/// of these.
 ///
-/// - `register`: what is read of the device's register; `set RUN CURSOR FROM TO FROM TO`, with two stretches, one
-///   or none: changes it; `done` or the fault;
+/// - `register`: what is read of the device's register, as [`is_register`] has it; `set RUN CURSOR FROM TO FROM TO`,
+///   with two stretches, one or none: changes it; `done` or the fault;
 /// - `scan SIZE`, `scan_cost SIZE` and `scan_bytes SIZE`: what a scan finds in the device, and what it reads;
 /// - `begin SIZE FAILING`: a slot, on a disk whose call of this number fails; `add ENTRY, ..` and
 ///   `adds COUNT ENTRY, ..`: a group in it, or so many; `done` or the fault of the last one;
@@ -86,34 +109,20 @@ fn say_bench(
 ///   is read from a number on, and what that costs;
 /// - `left` and `crash`: the device is what the slot's disk reads, or what a crash leaves of it; its length;
 /// - `failing ENTRY, ..`: which calls of the disk fail a group.
-pub(crate) fn say_slots(
+pub(crate) fn slot_says(
+    rt: &impl Abort,
     alloc: Global,
     play: &mut Play,
-    step: &str,
-    rest: &str,
-) -> Result<Option<String>, Fail> {
-    let (first, more) = word(rest);
-    let said = if step == "register" {
-        let mut disk = MemDisk::of(play.device.to_vec(alloc)?, Vec::new(alloc));
-        say_register(alloc, &mut disk)?
-    } else if step == "set" {
-        say_change(alloc, &mut play.device, rest)?
-    } else if step.starts_with("scan") {
-        say_scan(alloc, &play.device, number(rest)?, step)?
-    } else if step == "begin" {
-        play.bench = Some(begun(alloc, number(first)?, number(more)?, 0)?);
-        String::new(alloc)
-    } else if step == "add" {
-        say_adds(alloc, play, 1, rest)?
-    } else if step == "adds" {
-        say_adds(alloc, play, number(first)?, more)?
-    } else if step == "crash" {
-        let left = bench_of(play)?.disk.crash(Crash::Synced);
-        say_left(alloc, &mut play.device, left.bytes())?
-    } else if step == "failing" {
-        say_failing(alloc, rest)?
-    } else {
-        return say_bench(alloc, play, step, rest);
-    };
-    Ok(Some(said))
+    step: Step<'_>,
+) -> Option<bool> {
+    match step.name {
+        "register" => Some(register_says(rt, alloc, &play.device, step.want)),
+        "set" => Some(sets(rt, alloc, &mut play.device, step)),
+        "scan" | "scan_cost" | "scan_bytes" => Some(scans(rt, alloc, &play.device, step)),
+        "failing" => Some(fails(rt, alloc, step)),
+        _ => match fills(rt, alloc, play, step) {
+            Some(is_so) => Some(is_so),
+            None => bench_says(rt, alloc, play, step),
+        },
+    }
 }

@@ -10,32 +10,28 @@ use crate::reading_on::a_reading_walks_over_nothing_again;
 use crate::script::run_script;
 use crate::slots::groups::{CALLS, READS, SLOTS, a_stop_leaves_a_group_or_none};
 use crate::slots::registers::REGISTERS;
-use std::test::Fail;
 
 #[test]
-fn slots(rt: HostRuntime) -> Result<(), Fail> {
-    for script in [REGISTERS, SLOTS, CALLS, READS] {
-        run_script(&rt, rt.alloc(), script)?;
+fn slots(rt: HostRuntime) {
+    for script in &[REGISTERS, SLOTS, CALLS, READS] {
+        run_script(&rt, rt.alloc(), script);
     }
-    assert!(rt; a_stop_leaves_a_group_or_none(rt.alloc())?);
-    Ok(())
+    assert!(rt; a_stop_leaves_a_group_or_none(&rt, rt.alloc()));
 }
 
 #[test]
-fn spools(rt: HostRuntime) -> Result<(), Fail> {
-    for script in [GROUPS, FAILING, OPENINGS, MARKS, CHANGES, DEVICES] {
-        run_script(&rt, rt.alloc(), script)?;
+fn spools(rt: HostRuntime) {
+    for script in &[GROUPS, FAILING, OPENINGS, MARKS, CHANGES, DEVICES] {
+        run_script(&rt, rt.alloc(), script);
     }
-    assert!(rt; the_free_slot_is_as_defined(rt.alloc())?);
-    assert!(rt; a_reading_walks_over_nothing_again(rt.alloc())?);
-    Ok(())
+    assert!(rt; the_free_slot_is_as_defined(&rt, rt.alloc()));
+    assert!(rt; a_reading_walks_over_nothing_again(&rt, rt.alloc()));
 }
 
 #[test]
-fn desks(rt: HostRuntime) -> Result<(), Fail> {
-    for script in [ENTRIES, KNOWN, IDS] {
-        run_desk(&rt, rt.alloc(), script)?;
+fn desks(rt: HostRuntime) {
+    for script in &[ENTRIES, KNOWN, IDS] {
+        run_desk(&rt, rt.alloc(), script);
     }
-    assert!(rt; what_was_taken_stands_whichever_call_fails(rt.alloc())?);
-    Ok(())
+    assert!(rt; what_was_taken_stands_whichever_call_fails(&rt, rt.alloc()));
 }

@@ -1,40 +1,35 @@
 //! Desks and entries, for the tests.
-ghost use Rattle.std.specs.Prelude.{◌≡◌, false, IfOk};
+ghost use Rattle.std.specs.Prelude.{◌≡◌, false};
 ghost use Rattle.event_form.specs.Entry.{IsEntry};
 
+use crate::calls::recovered;
 use crate::made::entry_with;
-use crate::play::formatted;
+use crate::play::plain;
+use crate::words::copied;
 use desk_access::{Alone, Desk};
 use edge_disk::MemDisk;
 use event_form::{Entry, Origin};
 use hec_ids::Ids;
 use spool_log::{Opening, Spool};
 use std::alloc::Global;
-use std::test::Fail;
+use std::process::Abort;
 
 /// An event of the collector with the text `a`.
-pub(crate) fn entry(alloc: Global, conn: u64, index: u64, unit: u64) -> Result<Entry, Fail>
-    ensures { IfOk result IsEntry }
+pub(crate) fn entry(rt: &impl Abort, alloc: Global, conn: u64, index: u64, unit: u64) -> Entry
+    ensures { IsEntry result }
 {
-    let text = Vec::from_slice(alloc, b"a")?;
-    entry_with(conn, index, unit, Origin::HecEvent, text)
+    let text = copied(rt, alloc, b"a");
+    entry_with(rt, conn, index, unit, Origin::HecEvent, text)
 }
 
-// The device of an empty spool of two slots.
-fn device(alloc: Global) -> Result<Vec<u8>, Fail> {
-    let mut disk = MemDisk::plain(alloc, 20_480)?;
-    if formatted(&mut disk, 2, 4096)?.is_err() {
-        return Err("no spool".into());
-    }
-    Ok(Vec::from_slice(alloc, disk.bytes())?)
-}
-
-/// A desk over an empty spool of two slots, opened for storing, of whose disk these calls fail; counted from 0.
-pub(crate) fn opened(alloc: Global, failing: &[u64]) -> Result<Option<Alone<MemDisk>>, Fail> {
-    let disk = MemDisk::of(device(alloc)?, Vec::from_slice(alloc, failing)?);
-    match Spool::recover(alloc, disk, Opening::Raise) {
-        Ok(spool) => Ok(Some(desk_over(alloc, spool))),
-        Err(_) => Ok(None),
+/// A desk over an empty spool of two slots, opened for storing, of whose disk this call fails, counted from 0. `None`:
+/// the spool isn't opened.
+pub(crate) fn opened(rt: &impl Abort, alloc: Global, failing: u64) -> Option<Alone<MemDisk>> {
+    let bytes = copied(rt, alloc, plain(rt, alloc, 2, 4096).bytes());
+    let numbers = [failing].to_vec(alloc).expect(rt, "memory");
+    match recovered(alloc, MemDisk::of(bytes, numbers), Opening::Raise) {
+        Ok(spool) => Some(desk_over(alloc, spool)),
+        Err(_) => None,
     }
 }
 

@@ -1,15 +1,12 @@
 //! Calls of a desk, with answers worked out by hand.
-ghost use Rattle.spool_log.specs.Changing.Mark.{EndsBy};
-
+use crate::calls::within;
 use crate::desk::desks::{entry, opened};
-use crate::words::{number, word};
+use crate::script::{Step, step_of};
+use crate::words::{are, number, word};
 use desk_access::{Access, Alone};
 use edge_disk::MemDisk;
-use known_numbers::Stretch;
-use spool_log::{ConfirmFault, Numbered, PendFault, Receipt, TakeFault};
-use std::alloc::{AllocError, Global};
+use std::alloc::Global;
 use std::process::Abort;
-use std::test::Fail;
 
 // The channels that ask.
 const CHANNEL: u128 = 0x0aee_ac95_ac74_4aa9_b30d_6c4c_0ac5_81ba;
@@ -56,46 +53,24 @@ forget ours 4294967297 = no
 forget other 4294967297 = yes
 settle other 4294967297 = no";
 
-fn say_taken(alloc: Global, answer: Result<Receipt, TakeFault>) -> Result<String, AllocError> {
-    match answer {
-        Ok(receipt) => format!(in alloc; "{} {}", receipt.first, receipt.count),
-        Err(_) => String::from_str(alloc, "refused"),
-    }
-}
-
-fn say_done(alloc: Global, answer: Result<(), ConfirmFault>) -> Result<String, AllocError> {
-    String::from_str(alloc, if answer.is_ok() { "done" } else { "refused" })
-}
-
-// The numbers of the entries that were found.
-fn say_found(
+// Whether the numbers of the entries from a number on are these, or `none`.
+fn finds(
+    rt: &impl Abort,
     alloc: Global,
-    answer: Result<Vec<Numbered>, PendFault>,
-) -> Result<String, AllocError> {
-    let Ok(given) = answer else {
-        return String::from_str(alloc, "refused");
-    };
-    let mut text = String::new(alloc);
+    alone: &mut Alone<MemDisk>,
+    from: u64,
+    want: &str,
+) -> bool {
+    let from = from.min(alone.end());
+    let given = alone.pending(from, 10).expect(rt, "entries");
+    let mut numbers = Vec::new(alloc);
     for one in &given {
-        let space = if text.is_empty() { "" } else { " " };
-        let number = format!(in alloc; "{space}{}", one.number)?;
-        text.push_str(number.as_str())?;
+        numbers.push(one.number).expect(rt, "memory");
     }
-    if text.is_empty() {
-        text.push_str("none")?;
+    if given.is_empty() {
+        return want == "none";
     }
-    Ok(text)
-}
-
-// The stretch, as far as it ends by the end.
-fn within(from: u64, to: u64, end: u64) -> Stretch
-    ensures { EndsBy end result }
-{
-    let to = to.min(end);
-    Stretch {
-        from: from.min(to),
-        to,
-    }
+    are(want, &numbers)
 }
 
 fn asked(alone: &mut Alone<MemDisk>, channel: u128, id: u64) -> bool {
@@ -104,105 +79,85 @@ fn asked(alone: &mut Alone<MemDisk>, channel: u128, id: u64) -> bool {
     known[0]
 }
 
-// Issues an id, or says whether one was as it was asked.
-fn say_id(
-    alloc: Global,
-    alone: &mut Alone<MemDisk>,
-    step: &str,
-    rest: &str,
-) -> Result<String, Fail> {
-    let (name, id) = word(rest);
-    let channel = if name == "ours" { CHANNEL } else { OTHER };
-    if step == "issue" {
-        return match alone.issue(channel) {
-            Ok(id) => Ok(format!(in alloc; "{id}")?),
-            Err(_) => Err("no id".into()),
-        };
+// Whether the id was as it was asked.
+fn tells(rt: &impl Abort, alone: &mut Alone<MemDisk>, name: &str, channel: u128, id: u64) -> bool {
+    match name {
+        "settle" => alone.settle(channel, id),
+        "forget" => alone.forget(channel, id),
+        "ask" => asked(alone, channel, id),
+        _ => panic!(rt; "no such step"),
     }
-    let id = number(id)?;
-    let told = if step == "settle" {
-        alone.settle(channel, id)
-    } else if step == "forget" {
-        alone.forget(channel, id)
-    } else if step == "ask" {
-        asked(alone, channel, id)
-    } else {
-        return Err("no such step".into());
-    };
-    Ok(String::from_str(alloc, if told { "yes" } else { "no" })?)
+}
+
+// Whether an id is issued, or was as it was asked, as the step says.
+fn id_says(rt: &impl Abort, alone: &mut Alone<MemDisk>, step: Step<'_>) -> bool {
+    let (name, id) = word(step.rest);
+    let channel = if name == "ours" { CHANNEL } else { OTHER };
+    if step.name == "issue" {
+        let id = alone.issue(channel).expect(rt, "an id");
+        return are(step.want, &[id]);
+    }
+    let told = tells(rt, alone, step.name, channel, number(rt, id));
+    step.want == if told { "yes" } else { "no" }
 }
 
 // Takes a group of one entry of a unit, or of two.
-fn say_take(
+fn takes(
+    rt: &impl Abort,
     alloc: Global,
     alone: &mut Alone<MemDisk>,
     unit: u64,
     second: bool,
-) -> Result<String, Fail> {
-    if second {
-        let group = [entry(alloc, 7, 0, unit)?, entry(alloc, 7, 1, unit)?];
-        return Ok(say_taken(alloc, alone.take(&group))?);
-    }
-    let group = [entry(alloc, 7, 0, unit)?];
-    Ok(say_taken(alloc, alone.take(&group))?)
+) -> [u64; 2] {
+    let one = entry(rt, alloc, 7, 0, unit);
+    let answer = if second {
+        alone.take(&[one, entry(rt, alloc, 7, 1, unit)])
+    } else {
+        alone.take(&[one])
+    };
+    let receipt = answer.expect(rt, "a receipt");
+    [receipt.first, receipt.count]
 }
 
-// Makes a call, and says what it answers:
+// Marks a stretch as known, or all below a number.
+fn knows(rt: &impl Abort, alone: &mut Alone<MemDisk>, step: Step<'_>) -> bool {
+    let end = alone.end();
+    let (first, more) = word(step.rest);
+    let first = number(rt, first);
+    let answer = if step.name == "mark" {
+        alone.mark(&[within(first, number(rt, more), end)])
+    } else {
+        alone.confirm(first.min(end))
+    };
+    answer.is_ok() && step.want == "done"
+}
+
+// Makes a call, and answers whether that is answered as the step says:
 //
 // - `one UNIT` and `two UNIT`: a group of so many entries; the first number and the count;
 // - `pending FROM`: the numbers of the first entries found, or none; `confirm UPTO` and `mark FROM TO`: `done`;
 // - `count` and `end`: how many stretches are known, and the end;
 // - `issue CHANNEL`: an id; `settle CHANNEL ID`, `forget CHANNEL ID` and `ask CHANNEL ID`: whether the id was as it
 //   was asked.
-fn say_call(
-    alloc: Global,
-    alone: &mut Alone<MemDisk>,
-    step: &str,
-    rest: &str,
-) -> Result<String, Fail> {
-    let end = alone.end();
-    let (first, more) = word(rest);
-    if step == "one" || step == "two" {
-        say_take(alloc, alone, number(rest)?, step == "two")
-    } else if step == "pending" {
-        let from = number(rest)?.min(end);
-        Ok(say_found(alloc, alone.pending(from, 10))?)
-    } else if step == "confirm" {
-        let upto = number(rest)?.min(end);
-        Ok(say_done(alloc, alone.confirm(upto))?)
-    } else if step == "mark" {
-        let stretch = within(number(first)?, number(more)?, end);
-        Ok(say_done(alloc, alone.mark(&[stretch]))?)
-    } else if step == "count" {
-        Ok(format!(in alloc; "{}", alone.known_count())?)
-    } else if step == "end" {
-        Ok(format!(in alloc; "{end}")?)
-    } else {
-        say_id(alloc, alone, step, rest)
+fn desk_says(rt: &impl Abort, alloc: Global, alone: &mut Alone<MemDisk>, step: Step<'_>) -> bool {
+    let (rest, want) = (step.rest, step.want);
+    match step.name {
+        "one" => are(want, &takes(rt, alloc, alone, number(rt, rest), false)),
+        "two" => are(want, &takes(rt, alloc, alone, number(rt, rest), true)),
+        "pending" => finds(rt, alloc, alone, number(rt, rest), want),
+        "confirm" | "mark" => knows(rt, alone, step),
+        "count" => are(want, &[alone.known_count() as u64]),
+        "end" => are(want, &[alone.end()]),
+        _ => id_says(rt, alone, step),
     }
 }
 
-// Makes the calls of a script, each with what it answers after ` = `.
-fn follow(
-    rt: &impl Abort,
-    alloc: Global,
-    alone: &mut Alone<MemDisk>,
-    script: &str,
-) -> Result<(), Fail> {
-    for line in script.lines() {
-        let (spelled, want) = line.split_once(" = ").unwrap_or((line, ""));
-        let (step, rest) = word(spelled);
-        let said = say_call(alloc, alone, step, rest)?;
-        assert!(rt; said.as_str() == want, "{line}: {said}");
+/// Makes the calls of a script on a new desk, each with what it answers after ` = `.
+pub(crate) fn run_desk(rt: &impl Abort, alloc: Global, script: &str) {
+    // No call of this number is made.
+    let mut alone = opened(rt, alloc, u64::MAX).expect(rt, "a desk");
+    assert!(rt; alone.run() == 1);
+    for line in script.split('\n') {
+        assert!(rt; desk_says(rt, alloc, &mut alone, step_of(line)), "{line}");
     }
-    Ok(())
-}
-
-/// Makes the calls of a script on a new desk.
-pub(crate) fn run_desk(rt: &impl Abort, alloc: Global, script: &str) -> Result<(), Fail> {
-    let Some(mut alone) = opened(alloc, &[])? else {
-        return Err("no desk".into());
-    };
-    assert_eq!(rt; alone.run(), 1);
-    follow(rt, alloc, &mut alone, script)
 }

@@ -1,10 +1,11 @@
 //! Calls of the disk that fail, and what a crash leaves after them.
+use crate::calls;
 use crate::desk::desks::{desk_over, entry, opened};
 use desk_access::{Access, Alone, Desk};
 use edge_disk::{Crash, MemDisk};
-use spool_log::{Opening, Receipt, Spool, TakeFault};
+use spool_log::{Opening, Receipt, TakeFault};
 use std::alloc::Global;
-use std::test::Fail;
+use std::process::Abort;
 
 // The indexes of the first entries that aren't known as confirmed, 100 and more for none.
 fn indexes(alone: &mut Alone<MemDisk>) -> [u64; 4] {
@@ -18,12 +19,11 @@ fn indexes(alone: &mut Alone<MemDisk>) -> [u64; 4] {
 }
 
 // The indexes that a new desk finds on what a crash leaves.
-fn after_crash(alloc: Global, alone: Alone<MemDisk>, choice: Crash) -> Result<[u64; 4], Fail> {
+fn after_crash(rt: &impl Abort, alloc: Global, alone: Alone<MemDisk>, choice: Crash) -> [u64; 4] {
     let Desk { spool, .. } = alone.into_desk();
-    match Spool::recover(alloc, spool.into_disk().crash(choice), Opening::Keep) {
-        Ok(spool) => Ok(indexes(&mut desk_over(alloc, spool))),
-        Err(_) => Err("no spool".into()),
-    }
+    let left = spool.into_disk().crash(choice);
+    let spool = calls::opened(rt, alloc, left, Opening::Keep);
+    indexes(&mut desk_over(alloc, spool))
 }
 
 // Whether two takes that were answered so may have left these entries. Of a take that failed the whole group is found, or nothing.
@@ -48,39 +48,37 @@ fn may_stand(
 
 // Takes two groups.
 fn take_two(
+    rt: &impl Abort,
     alloc: Global,
     alone: &mut Alone<MemDisk>,
-) -> Result<(Result<Receipt, TakeFault>, Result<Receipt, TakeFault>), Fail> {
-    let first = [entry(alloc, 7, 0, 2)?];
-    let second = [entry(alloc, 7, 1, 3)?];
+) -> (Result<Receipt, TakeFault>, Result<Receipt, TakeFault>) {
+    let first = [entry(rt, alloc, 7, 0, 2)];
+    let second = [entry(rt, alloc, 7, 1, 3)];
     let one = alone.take(&first);
-    Ok((one, alone.take(&second)))
+    (one, alone.take(&second))
 }
 
-// Whether a take failed where this call of the disk fails. `None`: the desk isn't opened. An error: what was taken
-// doesn't stand after a crash.
-fn take_fails(alloc: Global, failing: u64, choice: Crash) -> Result<Option<bool>, Fail> {
-    let Some(mut alone) = opened(alloc, &[failing])? else {
-        return Ok(None);
+// Whether a take failed where this call of the disk fails. What was taken has to stand after a crash.
+fn take_fails(rt: &impl Abort, alloc: Global, failing: u64, choice: Crash) -> bool {
+    let Some(mut alone) = opened(rt, alloc, failing) else {
+        return false;
     };
-    let (one, two) = take_two(alloc, &mut alone)?;
-    let left = after_crash(alloc, alone, choice)?;
-    if !may_stand(one, two, left) {
-        return Err("another group".into());
-    }
-    Ok(Some(one.is_err() || two.is_err()))
+    let (one, two) = take_two(rt, alloc, &mut alone);
+    let left = after_crash(rt, alloc, alone, choice);
+    assert!(rt; may_stand(one, two, left));
+    one.is_err() || two.is_err()
 }
 
 /// Whether what was taken stands after a crash, whichever call of the disk fails.
-pub(crate) fn what_was_taken_stands_whichever_call_fails(alloc: Global) -> Result<bool, Fail> {
+pub(crate) fn what_was_taken_stands_whichever_call_fails(rt: &impl Abort, alloc: Global) -> bool {
     let mut failed = 0_u32;
     for failing in 0..40 {
-        for choice in [Crash::Synced, Crash::Written, Crash::Filled(1)] {
-            if take_fails(alloc, failing, choice)? == Some(true) {
+        for choice in &[Crash::Synced, Crash::Written, Crash::Filled(1)] {
+            if take_fails(rt, alloc, failing, *choice) {
                 failed = failed.saturating_add(1);
             }
         }
     }
     // Each take makes a write, a sync, the gate and a sync.
-    Ok(failed == 24)
+    failed == 24
 }

@@ -8,7 +8,7 @@ use edge_disk::MemDisk;
 use event_form::Entry;
 use spool_slots::{Slot, SlotFault};
 use std::alloc::Global;
-use std::test::Fail;
+use std::process::Abort;
 
 /// Whether the slot lies in the disk, with small numbers.
 pub(crate) fn fits(slot: &Slot, disk: &MemDisk) -> bool
@@ -32,28 +32,31 @@ pub(crate) struct Bench {
 
 /// A slot begun at offset 100 of a disk of zeros, of which a call fails, or each one from `stop` on where that
 /// isn't 0.
-pub(crate) fn begun(alloc: Global, size: u64, failing: u64, stop: u64) -> Result<Bench, Fail> {
-    if size < 4096 || size > 5_000_000 {
-        return Err("size".into());
-    }
-    let zeros = vec![in alloc; 0; size as usize + 200]?;
+pub(crate) fn begun(rt: &impl Abort, alloc: Global, size: u64, failing: u64, stop: u64) -> Bench {
+    assert!(rt; size >= 4096 && size <= 5_000_000);
+    let zeros = vec![in alloc; 0; size as usize + 200].expect(rt, "memory");
     let mut disk = if stop > 0 {
         MemDisk::stopped(zeros, stop)
     } else {
-        MemDisk::of(zeros, [failing].to_vec(alloc)?)
+        MemDisk::of(zeros, [failing].to_vec(alloc).expect(rt, "memory"))
     };
     match Slot::begin(&mut disk, 100, size, 1, 0) {
-        Ok(slot) => Ok(Bench {
+        Ok(slot) => Bench {
             disk,
             slot,
             awaits: true,
-        }),
-        Err(_) => Err("begin".into()),
+        },
+        Err(_) => panic!(rt; "begin"),
     }
 }
 
 // What becomes of a group, and the slot after it.
-fn add(alloc: Global, bench: Bench, entries: &[Entry]) -> Result<(Option<SlotFault>, Bench), Fail>
+fn add(
+    rt: &impl Abort,
+    alloc: Global,
+    bench: Bench,
+    entries: &[Entry],
+) -> (Result<(), SlotFault>, Bench)
     requires some { 0 < length entries.now }
     requires few { length entries.now < 100 }
     requires limits { All IsEntry entries.now }
@@ -64,38 +67,29 @@ fn add(alloc: Global, bench: Bench, entries: &[Entry]) -> Result<(Option<SlotFau
         awaits,
     } = bench;
     if !awaits || !fits(&slot, &disk) {
-        return Err("slot".into());
+        panic!(rt; "slot");
     }
-    let mut buffer = vec![in alloc; 9; 65_536]?;
+    let mut buffer = vec![in alloc; 9; 65_536].expect(rt, "memory");
     match slot.append_entries(&mut disk, entries, &mut buffer) {
-        Ok(()) => Ok((
-            None,
-            Bench {
-                disk,
-                slot,
-                awaits: true,
-            },
-        )),
-        Err(fault) => Ok((
-            Some(fault),
-            Bench {
-                disk,
-                slot,
-                awaits: false,
-            },
-        )),
+        Ok(()) => {
+            let awaits = true;
+            (Ok(()), Bench { disk, slot, awaits })
+        }
+        Err(fault) => {
+            let awaits = false;
+            (Err(fault), Bench { disk, slot, awaits })
+        }
     }
 }
 
-/// The slot after a group, and what becomes of that: `done` or the fault.
-pub(crate) fn say_add(alloc: Global, bench: Bench, spelled: &str) -> Result<(String, Bench), Fail> {
-    let group = group_of(alloc, spelled)?;
-    if group.is_empty() {
-        return Err("no group".into());
-    }
-    let (fault, bench) = add(alloc, bench, &group)?;
-    match fault {
-        None => Ok((String::from_str(alloc, "done")?, bench)),
-        Some(fault) => Ok((format!(in alloc; "{fault:?}")?, bench)),
-    }
+/// Adds the group that is spelled so: what becomes of it, and the slot after it.
+pub(crate) fn add_group(
+    rt: &impl Abort,
+    alloc: Global,
+    bench: Bench,
+    spelled: &str,
+) -> (Result<(), SlotFault>, Bench) {
+    let group = group_of(rt, alloc, spelled);
+    assert!(rt; !group.is_empty());
+    add(rt, alloc, bench, &group)
 }

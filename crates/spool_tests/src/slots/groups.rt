@@ -1,16 +1,19 @@
 //! Groups in one slot: their bytes, what is read back, and which calls of the disk they make.
-use crate::slots::benches::{begun, say_add};
-use crate::slots::reads::say_scan;
-use edge_disk::Crash;
+use crate::script::Step;
+use crate::slots::benches::{add_group, begun};
+use crate::slots::reads::finds;
+use crate::words::are;
+use edge_disk::{Crash, MemDisk};
+use spool_slots::SlotFault;
 use std::alloc::Global;
-use std::test::Fail;
+use std::process::Abort;
 
 /// Groups that are added and read back, and slots that are scanned.
 pub(crate) const SLOTS: &str =
     r#"- the bytes of a slot of ordinal 1, with one RELP event of connection 4294967296, unit 2 and text `hello`
 begin 4096 99
 add 4294967296 2 hello = done
-slot = open 1 0 60 1
+slot = 1 0 60 1
 left = 4296
 holds 100 %01%00%00%00%00%00%00%00%01%00%00%00%00%00%00%00%00%01%00%00%00%22%00%00%00%01%01%00%00%00%01 = yes
 holds 131 %00%00%00%00%00%00%00%00%00%00%00%00%00%00%00%00%00%00%00%02%00%00%00%05hello%00 = yes
@@ -32,19 +35,19 @@ units 6 1 7 = []
 begin 4096 99
 add 7 1 0, 7 2 300 = done
 add 7 3 1 = done
-slot = open 1 0 423 3
+slot = 1 0 423 3
 left = 4296
-scan 4096 = open 1 0 423 3
+scan 4096 = 1 0 423 3
 
 - an exact fit, and a byte more
 begin 4096 99
 add 7 1 2000 = done
 add 7 2 2003 = NoRoom { need: 2041, room: 2040 }
-slot = open 1 0 2055 1
+slot = 1 0 2055 1
 begin 4096 99
 add 7 1 2000 = done
 add 7 3 2002 = done
-slot = open 1 0 4095 2
+slot = 1 0 4095 2
 room = 0
 
 - each rule of a group: no entry after an open gate
@@ -88,7 +91,7 @@ put 100 %ff
 scan 4096 = closed
 restore
 put 160 %02
-scan 4096 = open 1 0 60 1
+scan 4096 = 1 0 60 1
 "#;
 
 /// Which calls of the disk a group makes.
@@ -155,10 +158,10 @@ crash = 2097352
 holds 393428 x = yes
 
 - a group of one piece takes four calls: it needs up to 65,536 bytes
-failing 7 1 0 = [0, 1, 2, 3]
-failing 7 1 962 = [0, 1, 2, 3]
-failing 7 1 65498 = [0, 1, 2, 3]
-failing 7 1 65499 = [0, 1, 2, 3, 4]
+failing 7 1 0 = 0 1 2 3
+failing 7 1 962 = 0 1 2 3
+failing 7 1 65498 = 0 1 2 3
+failing 7 1 65499 = 0 1 2 3 4
 "#;
 
 /// How often the disk is read, and how many bytes.
@@ -176,12 +179,12 @@ scan_cost 20000 = 2 4113
 - a scan of full groups reads no byte again
 begin 20000 9999
 adds 25 7 1 100, 7 2 100, 7 3 100, 7 4 100 = done
-slot = open 1 0 13142 100
+slot = 1 0 13142 100
 left = 20200
 scan_bytes 20000 = 20000
 begin 600000 9999
 add 7 1 131072, 7 2 131072, 7 3 131072, 7 4 131072 = done
-slot = open 1 0 524430 4
+slot = 1 0 524430 4
 left = 600200
 scan_bytes 600000 = 600000
 
@@ -195,46 +198,49 @@ read_cost 0 20 = 100 5 19010
 read_cost 99 1 = 1 4 12944
 "#;
 
-/// Which of the first nine calls after those of `begin` fail a group where they fail.
-pub(crate) fn say_failing(alloc: Global, spelled: &str) -> Result<String, Fail> {
+/// Whether these of the first nine calls after those of `begin` fail a group where they fail.
+pub(crate) fn fails(rt: &impl Abort, alloc: Global, step: Step<'_>) -> bool {
     let mut failing = Vec::new(alloc);
     for call in 0..9 {
-        let (said, _) = say_add(alloc, begun(alloc, 200_000, 4 + call, 0)?, spelled)?;
-        if said.as_str() == "DiskFault" {
-            failing.push(call)?;
+        let bench = begun(rt, alloc, 200_000, 4 + call, 0);
+        let (answer, _) = add_group(rt, alloc, bench, step.rest);
+        if answer == Err(SlotFault::DiskFault) {
+            failing.push(call).expect(rt, "memory");
         }
     }
-    Ok(format!(in alloc; "{failing:?}")?)
+    are(step.want, &failing)
 }
 
-// What a scan finds where a second group was stopped after so many calls.
-fn after_stop(alloc: Global, calls: u64, choice: Crash) -> Result<String, Fail> {
-    let (_, one) = say_add(alloc, begun(alloc, 4096, 99, calls)?, "1 1 one")?;
-    let (_, two) = say_add(alloc, one, "1 2 two, 1 3 three")?;
-    say_scan(alloc, two.disk.crash(choice).bytes(), 4096, "scan")
+// What a disk has after a second group that was stopped after so many calls.
+fn stopped(rt: &impl Abort, alloc: Global, calls: u64) -> MemDisk {
+    let bench = begun(rt, alloc, 4096, 99, calls);
+    let (_, one) = add_group(rt, alloc, bench, "1 1 one");
+    let (_, two) = add_group(rt, alloc, one, "1 2 two, 1 3 three");
+    two.disk
+}
+
+// Whether a second group that is stopped after 8 to 12 calls stands from so many calls on, and not before.
+fn stands_from(rt: &impl Abort, alloc: Global, choice: Crash, whole: u64) -> bool {
+    for calls in 8..13 {
+        let left = stopped(rt, alloc, calls).crash(choice);
+        let want = if calls >= whole {
+            "1 0 133 3"
+        } else {
+            "1 0 58 1"
+        };
+        if !finds(rt, alloc, left.bytes(), want) {
+            return false;
+        }
+    }
+    true
 }
 
 /// Whether a second group that is stopped stands whole or not at all. It makes the calls 8 to 11, and each kind of
 /// crash leaves it from so many calls on.
-pub(crate) fn a_stop_leaves_a_group_or_none(alloc: Global) -> Result<bool, Fail> {
-    for (choice, whole) in [
-        (Crash::Synced, 12),
-        (Crash::Written, 11),
-        (Crash::Filled(0), 12),
-        (Crash::Filled(1), 10),
-        (Crash::Filled(255), 12),
-    ] {
-        for calls in 8..13 {
-            let found = after_stop(alloc, calls, choice)?;
-            let want = if calls >= whole {
-                "open 1 0 133 3"
-            } else {
-                "open 1 0 58 1"
-            };
-            if found.as_str() != want {
-                return Ok(false);
-            }
-        }
-    }
-    Ok(true)
+pub(crate) fn a_stop_leaves_a_group_or_none(rt: &impl Abort, alloc: Global) -> bool {
+    stands_from(rt, alloc, Crash::Synced, 12)
+        && stands_from(rt, alloc, Crash::Written, 11)
+        && stands_from(rt, alloc, Crash::Filled(0), 12)
+        && stands_from(rt, alloc, Crash::Filled(1), 10)
+        && stands_from(rt, alloc, Crash::Filled(255), 12)
 }

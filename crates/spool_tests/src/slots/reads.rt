@@ -1,56 +1,76 @@
 //! What is read of a slot, and how often the disk is read for it.
+use crate::script::Step;
 use crate::slots::benches::{Bench, fits};
 use crate::slots::counting_disk::CountingDisk;
-use crate::words::numbers;
+use crate::words::{are, copied, number, shown, word};
 use edge_disk::MemDisk;
-use spool_slots::{Mark, Slot, Window};
+use spool_slots::{Mark, ScanFault, Slot, Window};
 use std::alloc::Global;
-use std::test::Fail;
+use std::process::Abort;
 
 // A disk of these bytes.
-fn counting(alloc: Global, bytes: &[u8]) -> Result<CountingDisk<MemDisk>, Fail> {
-    Ok(CountingDisk {
-        disk: MemDisk::of(bytes.to_vec(alloc)?, Vec::new(alloc)),
+fn counting(rt: &impl Abort, alloc: Global, bytes: &[u8]) -> CountingDisk<MemDisk> {
+    CountingDisk {
+        disk: MemDisk::of(copied(rt, alloc, bytes), Vec::new(alloc)),
         reads: 0,
         bytes: 0,
-    })
+    }
 }
 
-/// What a scan of the slot of so many bytes at offset 100 finds: a slot, `closed` or the fault. `scan_cost` says
-/// instead how often it reads the disk, and how many bytes; `scan_bytes` how many bytes.
-pub(crate) fn say_scan(alloc: Global, bytes: &[u8], size: u64, step: &str) -> Result<String, Fail> {
-    if size < 4096 || size > 5_000_000 || (bytes.len() as u64) < 100 + size {
-        return Err("size".into());
-    }
-    let mut disk = counting(alloc, bytes)?;
-    if (disk.disk.bytes().len() as u64) < 100 + size {
-        return Err("disk".into());
-    }
-    let mut window = Window::new(alloc)?;
-    let found = Slot::scan(&mut disk, &mut window, 100, size);
-    if found.is_ok() && step == "scan_cost" {
-        return Ok(format!(in alloc; "{} {}", disk.reads, disk.bytes)?);
-    }
-    if found.is_ok() && step == "scan_bytes" {
-        return Ok(format!(in alloc; "{}", disk.bytes)?);
-    }
+// What a scan of the slot of so many bytes at offset 100 finds.
+fn scanned(
+    rt: &impl Abort,
+    alloc: Global,
+    disk: &mut CountingDisk<MemDisk>,
+    size: u64,
+) -> Result<Option<Slot>, ScanFault> {
+    assert!(rt; size >= 4096 && size <= 5_000_000);
+    assert!(rt; disk.disk.bytes().len() as u64 >= 100 + size);
+    let mut window = Window::new(alloc).expect(rt, "memory");
+    Slot::scan(disk, &mut window, 100, size)
+}
+
+// Whether a scan found this: the numbers of a slot, `closed` or the fault.
+fn is_found(
+    rt: &impl Abort,
+    alloc: Global,
+    found: Result<Option<Slot>, ScanFault>,
+    want: &str,
+) -> bool {
     match found {
-        Ok(Some(slot)) => say_slot(alloc, &slot),
-        Ok(None) => Ok(String::from_str(alloc, "closed")?),
-        Err(fault) => Ok(format!(in alloc; "{fault:?}")?),
+        Ok(Some(slot)) => is_slot(&slot, want),
+        Ok(None) => want == "closed",
+        Err(fault) => shown(rt, alloc, &fault).as_str() == want,
     }
 }
 
-/// The ordinal, the first number, the gate and the count of an open slot.
-pub(crate) fn say_slot(alloc: Global, slot: &Slot) -> Result<String, Fail> {
-    Ok(format!(in alloc;
-        "open {} {} {} {}",
-        slot.ordinal, slot.first, slot.gate, slot.count
-    )?)
+/// Whether a scan of the slot of 4096 bytes at offset 100 finds what is told so.
+pub(crate) fn finds(rt: &impl Abort, alloc: Global, bytes: &[u8], want: &str) -> bool {
+    let mut disk = counting(rt, alloc, bytes);
+    let found = scanned(rt, alloc, &mut disk, 4096);
+    is_found(rt, alloc, found, want)
+}
+
+/// Whether what a scan of the device finds is as the step says: `scan SIZE`. `scan_cost SIZE` says instead how often
+/// it reads the disk, and how many bytes; `scan_bytes SIZE` how many bytes.
+pub(crate) fn scans(rt: &impl Abort, alloc: Global, device: &[u8], step: Step<'_>) -> bool {
+    let mut disk = counting(rt, alloc, device);
+    let found = scanned(rt, alloc, &mut disk, number(rt, step.rest));
+    match step.name {
+        "scan_cost" => found.is_ok() && are(step.want, &[disk.reads, disk.bytes]),
+        "scan_bytes" => found.is_ok() && are(step.want, &[disk.bytes]),
+        _ => is_found(rt, alloc, found, step.want),
+    }
+}
+
+/// Whether the ordinal, the first number, the gate and the count of an open slot are these.
+pub(crate) fn is_slot(slot: &Slot, want: &str) -> bool {
+    are(want, &[slot.ordinal, slot.first, slot.gate, slot.count])
 }
 
 // Puts the units of the entries of a part after those that were read, and answers the mark after it.
 fn read_units(
+    rt: &impl Abort,
     alloc: Global,
     disk: &mut CountingDisk<MemDisk>,
     slot: &Slot,
@@ -58,90 +78,77 @@ fn read_units(
     mark: Mark,
     most: u32,
     units: &mut Vec<u64>,
-) -> Result<Mark, Fail> {
-    if !fits(slot, &disk.disk) {
-        return Err("slot".into());
-    }
-    let Ok(part) = slot.read_part(alloc, disk, window, mark, most) else {
-        return Err("part".into());
-    };
+) -> Mark {
+    assert!(rt; fits(slot, &disk.disk));
+    let part = slot.read_part(alloc, disk, window, mark, most);
+    let part = part.expect(rt, "part");
     for entry in &part.entries {
-        units.push(entry.unit)?;
+        units.push(entry.unit).expect(rt, "memory");
     }
-    Ok(part.mark)
+    part.mark
 }
 
 // The mark of an entry.
 fn passed(
+    rt: &impl Abort,
     disk: &mut CountingDisk<MemDisk>,
     slot: &Slot,
     window: &mut Window,
     number: u64,
-) -> Result<Mark, Fail> {
+) -> Mark {
     let start = slot.start();
-    if !fits(slot, &disk.disk) {
-        return Err("slot".into());
-    }
-    if number < start.number || number > slot.first + slot.count {
-        return Err("number".into());
-    }
-    match slot.pass(disk, window, start, number) {
-        Ok(mark) => Ok(mark),
-        Err(_) => Err("pass".into()),
-    }
+    assert!(rt; fits(slot, &disk.disk));
+    assert!(rt; number >= start.number && number <= slot.first + slot.count);
+    slot.pass(disk, window, start, number).expect(rt, "pass")
 }
 
 // The units of all entries from a number on, read in parts of so many, at most 1000.
 fn units_from(
+    rt: &impl Abort,
     alloc: Global,
     disk: &mut CountingDisk<MemDisk>,
     slot: &Slot,
     number: u64,
     most: u64,
-) -> Result<Vec<u64>, Fail> {
+) -> Vec<u64> {
     let most = most.min(1000) as u32;
-    let mut window = Window::new(alloc)?;
-    let mut mark = passed(disk, slot, &mut window, number)?;
+    let mut window = Window::new(alloc).expect(rt, "memory");
+    let mut mark = passed(rt, disk, slot, &mut window, number);
     let mut units = Vec::new(alloc);
     for _ in 0..9 {
-        mark = read_units(alloc, disk, slot, &mut window, mark, most, &mut units)?;
+        mark = read_units(rt, alloc, disk, slot, &mut window, mark, most, &mut units);
     }
     let end = slot.first.saturating_add(slot.count);
-    if mark.number != end || mark.at != slot.gate || mark.rest != 0 {
-        return Err("mark".into());
-    }
-    Ok(units)
+    assert!(rt; mark.number == end && mark.at == slot.gate && mark.rest == 0);
+    units
 }
 
-/// `NUMBER MOST`: how many entries are given from a number on in parts of so many, how often the disk is read
-/// for it, and how many bytes.
-pub(crate) fn say_cost(
-    alloc: Global,
-    bench: &Bench,
-    number: u64,
-    most: u64,
-) -> Result<String, Fail> {
-    let mut disk = counting(alloc, bench.disk.bytes())?;
-    let count = units_from(alloc, &mut disk, &bench.slot, number, most)?.len();
-    Ok(format!(in alloc; "{count} {} {}", disk.reads, disk.bytes)?)
+/// `NUMBER MOST`: whether so many entries are given from a number on in parts of so many, and the disk is read so
+/// often for it, and so many bytes.
+pub(crate) fn costs(rt: &impl Abort, alloc: Global, bench: &Bench, step: Step<'_>) -> bool {
+    let (first, most) = word(step.rest);
+    let (first, most) = (number(rt, first), number(rt, most));
+    let mut disk = counting(rt, alloc, bench.disk.bytes());
+    let units = units_from(rt, alloc, &mut disk, &bench.slot, first, most);
+    are(step.want, &[units.len() as u64, disk.reads, disk.bytes])
 }
 
-/// `NUMBER LEAST MOST`: the units of the entries from a number on, which are the same in parts of each of these
-/// sizes.
-pub(crate) fn say_units(alloc: Global, bench: &Bench, spelled: &str) -> Result<String, Fail> {
-    let mut disk = counting(alloc, bench.disk.bytes())?;
-    let words = numbers(alloc, spelled)?;
-    let [number, least, most] = words.as_slice() else {
-        return Err("no sizes".into());
-    };
-    let mut text = String::new(alloc);
-    for size in *least..=*most {
-        let units = units_from(alloc, &mut disk, &bench.slot, *number, size)?;
-        let said = format!(in alloc; "{units:?}")?;
-        if !text.is_empty() && text != said {
-            return Err("another reading".into());
+// What is told of the units of all entries from a number on.
+fn told_from(rt: &impl Abort, alloc: Global, bench: &Bench, number: u64, most: u64) -> String {
+    let mut disk = counting(rt, alloc, bench.disk.bytes());
+    let units = units_from(rt, alloc, &mut disk, &bench.slot, number, most);
+    shown(rt, alloc, &units)
+}
+
+/// `NUMBER LEAST MOST`: whether the units of the entries from a number on are these in parts of each of these sizes.
+pub(crate) fn reads_units(rt: &impl Abort, alloc: Global, bench: &Bench, step: Step<'_>) -> bool {
+    let (first, sizes) = word(step.rest);
+    let (least, most) = word(sizes);
+    let first = number(rt, first);
+    for size in number(rt, least)..=number(rt, most) {
+        if told_from(rt, alloc, bench, first, size).as_str() != step.want {
+            return false;
         }
-        text = said;
     }
-    Ok(text)
+    true
 }

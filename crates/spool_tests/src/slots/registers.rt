@@ -4,12 +4,12 @@ ghost use Rattle.edge_disk.specs.Disk.{IsSettled};
 ghost use Rattle.edge_disk.specs.MemDisk.{mem_moment};
 
 use crate::play::put;
-use crate::stops::{CRASHES, change_of};
-use crate::words::numbers;
-use disk_cell::{Register, Stretch};
-use edge_disk::MemDisk;
+use crate::stops::{CRASHES, Change, change_of};
+use crate::words::{are, copied, numbers, shown};
+use disk_cell::{Content, Register, SetFault, Stretch};
+use edge_disk::{Crash, MemDisk};
 use std::alloc::Global;
-use std::test::Fail;
+use std::process::Abort;
 
 /// Cells and what is read of them, and changes.
 pub(crate) const REGISTERS: &str =
@@ -25,7 +25,7 @@ register = 2 0 0 1
 zeros 12288
 cell 4096 1 4 99 8 3000000 9
 cell 8192 1 5 35 2 2097151 6 1 8 9
-register = 2 2097151 6 5 8-9
+register = 2 2097151 6 5 8 9
 zeros 12288
 cell 4096 1 9223372036854775808 17 1 2 8
 cell 8192 1 4 99 8 3000000 9
@@ -108,7 +108,7 @@ holds 8192 %01%00%00%00%00%00%00%00%02%00%00%00%33%02%00%00%00%00%00%00%00%01%00
 holds 8224 %00%00%00%00%00%00%00%02%00%00%00%00%00%00%00%04%00%00%00%00%00%00%00%09%00%00%00%00%00%00%01%02 = yes
 holds 4096 %01%00%00%00%00%00%00%00%01%00%00%00%11%01%00%00%00%00%00%00%00%00%00%00%00%00%00%00%00%00%00%00 = yes
 holds 4128 %00%00%00%00%00%00%00%00%00%00%00%00%00%00%00%00 = yes
-register = 2 1 0 2 2-4
+register = 2 1 0 2 2 4
 zeros 12288
 cell 4096 1 1 35 2 0 0 1 8 9
 cell 8192 0 7 17 1 3 9
@@ -117,26 +117,26 @@ holds 8192 %01%00%00%00%00%00%00%00%02%00%00%00%33%02%00%00%00%00%00%00%00%01%00
 holds 8224 %00%00%00%00%00%00%00%02%00%00%00%00%00%00%00%04%00%00%00%00%00%00%00%09%00%00%00%00%00%00%01%02 = yes
 holds 4096 %01%00%00%00%00%00%00%00%01%00%00%00%23%02%00%00%00%00%00%00%00%00%00%00%00%00%00%00%00%00%00%01 = yes
 holds 4128 %00%00%00%00%00%00%00%08%00%00%00%00%00%00%00%09 = yes
-register = 2 1 0 2 2-4
+register = 2 1 0 2 2 4
 
 - a stop leaves the old or the new: to read it takes two calls, and one more where there are stretches; a cell that is closed is
 - written in four calls then, one that is open in six
 zeros 12288
 cell 4096 0 9 17 1 8 90
 cell 8192 1 2 17 1 4 60
-set_stops 6 | 1 4 60 2 | 2 5 70 3 72-80 | 5 70 72 80
+set_stops 6 | 1 4 60 2 | 2 5 70 3 72 80 | 5 70 72 80
 zeros 12288
 cell 4096 1 1 35 2 3 50 1 51 52
 cell 8192 1 2 17 1 4 60
-set_stops 8 | 1 4 60 2 | 2 5 70 3 72-80 | 5 70 72 80
+set_stops 8 | 1 4 60 2 | 2 5 70 3 72 80 | 5 70 72 80
 zeros 12288
 cell 4096 0 9 17 1 8 90
 cell 8192 1 2 35 2 4 60 1 62 63
-set_stops 7 | 2 4 60 2 62-63 | 2 5 70 3 72-80 | 5 70 72 80
+set_stops 7 | 2 4 60 2 62 63 | 2 5 70 3 72 80 | 5 70 72 80
 zeros 12288
 cell 4096 1 1 35 2 3 50 1 51 52
 cell 8192 1 2 35 2 4 60 1 62 63
-set_stops 9 | 2 4 60 2 62-63 | 2 5 70 3 72-80 | 5 70 72 80
+set_stops 9 | 2 4 60 2 62 63 | 2 5 70 3 72 80 | 5 70 72 80
 
 - a worn register is left alone
 zeros 12288
@@ -160,94 +160,106 @@ pub(crate) fn put_cell(device: &mut [u8], at: u64, fields: &[u64]) {
     }
 }
 
-/// What is read of the register: its version, run, cursor and ordinal, and its first stretch; or the fault.
-pub(crate) fn say_register(alloc: Global, disk: &mut MemDisk) -> Result<String, Fail> {
-    if disk.bytes().len() < 12_288 {
-        return Err("short".into());
-    }
-    let register = match Register::load(alloc, disk) {
-        Ok(register) => register,
-        Err(fault) => return Ok(format!(in alloc; "{fault:?}")?),
-    };
-    let value = register.value();
-    let (version, run, cursor) = (value.version, value.run, value.cursor);
-    let ordinal = register.ordinal();
-    match value.known.first() {
-        None => Ok(format!(in alloc; "{version} {run} {cursor} {ordinal}")?),
-        Some(Stretch { from, to }) => {
-            Ok(format!(in alloc; "{version} {run} {cursor} {ordinal} {from}-{to}")?)
-        }
+/// Whether what is read of the register is told so: its version, run, cursor and ordinal, and the ends of its first
+/// stretch; or the fault.
+pub(crate) fn is_register(rt: &impl Abort, alloc: Global, disk: &mut MemDisk, want: &str) -> bool {
+    assert!(rt; disk.bytes().len() >= 12_288);
+    match Register::load(alloc, disk) {
+        Ok(register) => is_content(register.value(), register.ordinal(), want),
+        Err(fault) => shown(rt, alloc, &fault).as_str() == want,
     }
 }
 
-// Reads the register and changes it.
+fn is_content(value: &Content, ordinal: u64, want: &str) -> bool {
+    let (version, run) = (u64::from(value.version), u64::from(value.run));
+    match value.known.first() {
+        None => are(want, &[version, run, value.cursor, ordinal]),
+        Some(one) => are(
+            want,
+            &[version, run, value.cursor, ordinal, one.from, one.to],
+        ),
+    }
+}
+
+// Reads the register and changes it. `None`: it isn't read.
 fn change(
+    rt: &impl Abort,
     alloc: Global,
     disk: &mut MemDisk,
     run: u64,
     cursor: u64,
     known: &[Stretch],
-) -> Result<String, Fail>
+) -> Option<Result<(), SetFault>>
     requires settled { IsSettled (mem_moment disk.old) }
     requires few { length known.now ≤ 240 }
     ensures { (mem_moment disk.new).size ≡ (mem_moment disk.old).size }
 {
-    if disk.bytes().len() < 12_288 || run > 2_097_151 {
-        return Err("no register".into());
-    }
-    let Ok(mut register) = Register::load(alloc, disk) else {
-        return Ok(String::from_str(alloc, "not read")?);
-    };
-    match register.set(disk, run as u32, cursor, known) {
-        Ok(()) => Ok(String::from_str(alloc, "done")?),
-        Err(fault) => Ok(format!(in alloc; "{fault:?}")?),
+    assert!(rt; disk.bytes().len() >= 12_288 && run <= 2_097_151);
+    match Register::load(alloc, disk) {
+        Ok(mut register) => Some(register.set(disk, run as u32, cursor, known)),
+        Err(_) => None,
     }
 }
 
-/// `RUN CURSOR FROM TO FROM TO`, `RUN CURSOR FROM TO` and `RUN CURSOR`: changes the register, and answers `done`
-/// or the fault.
-pub(crate) fn say_set(alloc: Global, disk: &mut MemDisk, spelled: &str) -> Result<String, Fail>
+fn stretch(from: u64, to: u64) -> Stretch {
+    Stretch { from, to }
+}
+
+/// `RUN CURSOR FROM TO FROM TO`, `RUN CURSOR FROM TO` and `RUN CURSOR`: changes the register. `None`: it isn't read.
+pub(crate) fn set(
+    rt: &impl Abort,
+    alloc: Global,
+    disk: &mut MemDisk,
+    spelled: &str,
+) -> Option<Result<(), SetFault>>
     requires { IsSettled (mem_moment disk.old) }
 {
-    let words = numbers(alloc, spelled)?;
+    let words = numbers(rt, alloc, spelled);
     match words.as_slice() {
-        [run, cursor] => change(alloc, disk, *run, *cursor, &[]),
+        [run, cursor] => change(rt, alloc, disk, *run, *cursor, &[]),
         [run, cursor, from, to] => {
-            let one = Stretch {
-                from: *from,
-                to: *to,
-            };
-            change(alloc, disk, *run, *cursor, &[one])
+            let one = stretch(*from, *to);
+            change(rt, alloc, disk, *run, *cursor, &[one])
         }
         [run, cursor, from, to, more, last] => {
-            let one = Stretch {
-                from: *from,
-                to: *to,
-            };
-            let two = Stretch {
-                from: *more,
-                to: *last,
-            };
-            change(alloc, disk, *run, *cursor, &[one, two])
+            let known = [stretch(*from, *to), stretch(*more, *last)];
+            change(rt, alloc, disk, *run, *cursor, &known)
         }
-        _ => Err("no stretches".into()),
+        _ => panic!(rt; "no stretches"),
     }
 }
 
-/// Whether a change of the register that is stopped leaves the old content or the new, and the new where it was
-/// answered as done, which it is where it could make all its calls.
-pub(crate) fn set_stops(alloc: Global, device: &[u8], spelled: &str) -> Result<bool, Fail> {
-    let change = change_of(spelled)?;
+// Whether a change of the register that is stopped after so many calls leaves the old content or the new, and the new
+// where it was answered as done, which it was where it could make all its calls.
+fn stops_well(
+    rt: &impl Abort,
+    alloc: Global,
+    disk: MemDisk,
+    choice: Crash,
+    change: Change<'_>,
+    whole: bool,
+) -> bool
+    requires { IsSettled (mem_moment disk) }
+{
+    let mut disk = disk;
+    let done = set(rt, alloc, &mut disk, change.step) == Some(Ok(()));
+    let mut left = disk.crash(choice);
+    let is_old = !done && is_register(rt, alloc, &mut left, change.old);
+    done == whole && (is_old || is_register(rt, alloc, &mut left, change.new))
+}
+
+/// Whether a change of the register, wherever it is stopped, leaves the old content or the new, and the new where it
+/// was answered as done.
+pub(crate) fn set_stops(rt: &impl Abort, alloc: Global, device: &[u8], spelled: &str) -> bool {
+    let change = change_of(rt, spelled);
     for calls in 0..10 {
-        for choice in CRASHES {
-            let mut disk = MemDisk::stopped(device.to_vec(alloc)?, calls);
-            let done = say_set(alloc, &mut disk, change.step)?.as_str() == "done";
-            let read = say_register(alloc, &mut disk.crash(choice))?;
-            let is_old = read.as_str() == change.old && !done;
-            if done != (calls >= change.calls) || !(is_old || read.as_str() == change.new) {
-                return Ok(false);
+        let whole = calls >= change.calls;
+        for choice in &CRASHES {
+            let disk = MemDisk::stopped(copied(rt, alloc, device), calls);
+            if !stops_well(rt, alloc, disk, *choice, change, whole) {
+                return false;
             }
         }
     }
-    Ok(true)
+    true
 }

@@ -3,4 +3,4 @@ use Rattle.event_form.specs.Entry.{IsEntry}
 use Rattle.spool_tests.proofs.calls.group_of.Given as goal
 
 abbrev pub invariant-loop-part : goal.invariant-loop-part
-invariant-loop-part l = All IsEntry l.group.items
+invariant-loop-part g l = All IsEntry l.group.items
