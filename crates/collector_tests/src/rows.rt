@@ -47,7 +47,7 @@ fn told(rt: &impl Abort, alloc: Global, form: &Form, text: &[u8], size: usize) -
 fn is_one_of(rt: &impl Abort, alloc: Global, told: &[u8], wants: &str) -> bool {
     for want in wants.split(" or ") {
         let mut bytes = Vec::new(alloc);
-        spell(rt, want.trim(), &mut bytes);
+        spell(rt, alloc, want.trim(), &mut bytes);
         if bytes.as_slice() == told {
             return true;
         }
@@ -83,11 +83,11 @@ pub fn check(rt: &impl Abort, alloc: Global, form: &Form, sizes: &[usize], table
         }
         match line.split_once("=>") {
             Some((end, wants)) => {
-                spell(rt, end.trim(), &mut text);
+                spell(rt, alloc, end.trim(), &mut text);
                 check_row(rt, alloc, form, sizes, &text, wants);
                 text.clear();
             }
-            None => spell(rt, line.trim(), &mut text),
+            None => spell(rt, alloc, line.trim(), &mut text),
         }
     }
     assert!(rt; text.is_empty(), "a row tells nothing");

@@ -1,22 +1,15 @@
 //! What bodies are cut into, and the ids that ack queries ask for.
-use crate::spelling::add;
+use crate::spelling::{add, shown};
 use event_form::Blob;
 use hec_body::{BodyFault, ack_ids, event_pieces, raw_lines};
 use std::alloc::Global;
-use std::fmt::Debug;
 use std::process::Abort;
-
-// The value as text.
-fn shown(rt: &impl Abort, alloc: Global, value: &impl Debug) -> Vec<u8> {
-    let text = format!(in alloc; "{value:?}").expect(rt, "memory");
-    text.into_bytes()
-}
 
 // The texts, each in brackets, or the fault.
 fn told(rt: &impl Abort, alloc: Global, cut: &Result<Vec<Blob>, BodyFault>) -> Vec<u8> {
     let pieces = match cut {
         Ok(pieces) => pieces,
-        Err(fault) => return shown(rt, alloc, fault),
+        Err(fault) => return shown(rt, alloc, fault).into_bytes(),
     };
     let mut text = Vec::new(alloc);
     for piece in pieces {
@@ -40,7 +33,7 @@ pub fn lines(rt: &impl Abort, alloc: Global, body: &[u8]) -> Vec<u8> {
 /// The ids that a query asks for, or the fault.
 pub fn ids(rt: &impl Abort, alloc: Global, body: &[u8]) -> Vec<u8> {
     match ack_ids(alloc, body) {
-        Ok(ids) => shown(rt, alloc, &ids),
-        Err(fault) => shown(rt, alloc, &fault),
+        Ok(ids) => shown(rt, alloc, &ids).into_bytes(),
+        Err(fault) => shown(rt, alloc, &fault).into_bytes(),
     }
 }

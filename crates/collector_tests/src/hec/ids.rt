@@ -1,5 +1,6 @@
 //! The answers of the table of ids, worked out by hand.
 use crate::hec::id_rows::TABLES;
+use crate::spelling::shown;
 use hec_ids::Ids;
 use std::alloc::Global;
 use std::process::Abort;
@@ -46,24 +47,24 @@ fn issues(ids: &mut Ids, count: u64, is_one: bool) -> bool {
 }
 
 // The answer of a call by its name, a channel and a number.
-fn answer(rt: &impl Abort, alloc: Global, ids: &mut Ids, call: (&str, u128, u64)) -> String {
-    let (name, channel, number) = call;
-    if name == "issue" {
-        return format!(in alloc; "{:?}", ids.issue(channel)).expect(rt, "memory");
+fn answer(
+    rt: &impl Abort,
+    alloc: Global,
+    ids: &mut Ids,
+    name: &str,
+    channel: u128,
+    number: u64,
+) -> String {
+    match name {
+        "issue" => shown(rt, alloc, &ids.issue(channel)),
+        "ask_at_once" => shown(rt, alloc, &asked_at_once(ids, channel)),
+        "settle" => shown(rt, alloc, &ids.settle(channel, number)),
+        "forget" => shown(rt, alloc, &ids.forget(channel, number)),
+        "ask" => shown(rt, alloc, &asked(ids, channel, number)),
+        "issue_often" => shown(rt, alloc, &issues(ids, number, true)),
+        "issue_on_each" => shown(rt, alloc, &issues(ids, number, false)),
+        _ => panic!(rt; "no call: {name}"),
     }
-    if name == "ask_at_once" {
-        return format!(in alloc; "{:?}", asked_at_once(ids, channel)).expect(rt, "memory");
-    }
-    let is_so = if name == "settle" {
-        ids.settle(channel, number)
-    } else if name == "forget" {
-        ids.forget(channel, number)
-    } else if name == "ask" {
-        asked(ids, channel, number)
-    } else {
-        issues(ids, number, name == "issue_often")
-    };
-    format!(in alloc; "{is_so}").expect(rt, "memory")
 }
 
 // Whether the call of a row has its answer.
@@ -77,7 +78,7 @@ fn is_answered(rt: &impl Abort, alloc: Global, ids: &mut Ids, row: &str) -> bool
         .unwrap_or("0")
         .parse::<u64>()
         .expect(rt, "a number");
-    answer(rt, alloc, ids, (name, channel, number)).as_str() == want
+    answer(rt, alloc, ids, name, channel, number).as_str() == want
 }
 
 /// Each call of each table has its answer.
@@ -85,10 +86,7 @@ pub fn tables(rt: &impl Abort, alloc: Global) {
     for (run, first, rows) in TABLES {
         let mut ids = Ids::new(alloc, run, first);
         for row in rows.lines() {
-            assert!(rt;
-                is_answered(rt, alloc, &mut ids, row),
-                "run {run}, first {first}: {row}"
-            );
+            assert!(rt; is_answered(rt, alloc, &mut ids, row), "{row}");
         }
     }
 }

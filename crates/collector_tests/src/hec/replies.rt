@@ -1,7 +1,8 @@
 //! The bodies of the collector's replies.
+use event_form::Blob;
 use hec_body::ack_text;
 use hec_session::{HecCode, HecSay, say_body, success_body};
-use std::alloc::Global;
+use std::alloc::{AllocError, Global};
 use std::process::Abort;
 
 /// Codes with a number or without one, and the body.
@@ -58,34 +59,35 @@ fn says() -> &'static [(HecCode, Option<u32>, &'static str)] {
     &SAYS
 }
 
-/// A success tells the id, if one was issued.
-pub fn successes(rt: &impl Abort, alloc: Global) {
-    for (ack, want) in [
-        (None, r#"{"text":"Success","code":0}"#),
-        (
-            Some(4_294_967_296),
-            r#"{"text":"Success","code":0,"ackId":4294967296}"#,
-        ),
-    ] {
-        let body = success_body(alloc, ack).expect(rt, "memory");
-        assert!(rt; body.bytes() == want.as_bytes(), "{want}");
-    }
+fn is(rt: &impl Abort, body: Result<Blob, AllocError>, want: &str) -> bool {
+    body.expect(rt, "memory").bytes() == want.as_bytes()
+}
+
+/// A success tells the id, if one was issued, and an ack of each id that is asked for whether it is known.
+pub fn answers(rt: &impl Abort, alloc: Global) {
+    let success = r#"{"text":"Success","code":0}"#;
+    assert!(rt; is(rt, success_body(alloc, None), success));
+    let issued = r#"{"text":"Success","code":0,"ackId":4294967296}"#;
+    assert!(rt; is(rt, success_body(alloc, Some(4_294_967_296)), issued));
+    assert!(rt; is(rt, ack_text(alloc, &[], &[]), r#"{"acks":{}}"#));
+    let known = r#"{"acks":{"4294967296":true}}"#;
+    assert!(rt; is(rt, ack_text(alloc, &[4294967296], &[true]), known));
+    let both = r#"{"acks":{"18446744073709551615":false,"0":true}}"#;
+    assert!(rt;
+        is(
+            rt,
+            ack_text(alloc, &[18446744073709551615, 0], &[false, true]),
+            both
+        )
+    );
 }
 
 /// Each code has its text, and the number of an event if there is one.
 pub fn faults(rt: &impl Abort, alloc: Global) {
     for (code, event, want) in says() {
-        let body = say_body(alloc, &HecSay::of(*code, *event)).expect(rt, "memory");
-        assert!(rt; body.bytes() == want.as_bytes(), "{want}");
+        assert!(rt;
+            is(rt, say_body(alloc, &HecSay::of(*code, *event)), want),
+            "{want}"
+        );
     }
-}
-
-/// The answer says of each id that is asked for whether it is known.
-pub fn acks(rt: &impl Abort, alloc: Global) {
-    let none = ack_text(alloc, &[], &[]).expect(rt, "memory");
-    assert!(rt; none.bytes() == br#"{"acks":{}}"#.as_slice());
-    let one = ack_text(alloc, &[4294967296], &[true]).expect(rt, "memory");
-    assert!(rt; one.bytes() == br#"{"acks":{"4294967296":true}}"#.as_slice());
-    let two = ack_text(alloc, &[18446744073709551615, 0], &[false, true]).expect(rt, "memory");
-    assert!(rt; two.bytes() == br#"{"acks":{"18446744073709551615":false,"0":true}}"#.as_slice());
 }

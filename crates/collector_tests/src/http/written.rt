@@ -12,12 +12,9 @@ const REPLIES: &[u8] =
 /// Three replies are written one after another, the second of which ends the connection.
 pub fn replies_are_written(rt: &impl Abort, alloc: Global) {
     let mut out = Vec::new(alloc);
-    for (status, closes, body) in [
-        (200, false, b"{\"text\":\"Success\",\"code\":0}".as_slice()),
-        (400, true, b""),
-        (503, false, b"{}"),
-    ] {
-        write_reply(status, closes, body, &mut out).expect(rt, "memory");
-    }
+    let success = b"{\"text\":\"Success\",\"code\":0}";
+    write_reply(200, false, success, &mut out).expect(rt, "memory");
+    write_reply(400, true, b"", &mut out).expect(rt, "memory");
+    write_reply(503, false, b"{}", &mut out).expect(rt, "memory");
     assert!(rt; out.as_slice() == REPLIES);
 }
