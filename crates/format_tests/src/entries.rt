@@ -40,15 +40,20 @@ fn is_hello(entry: &Entry) -> bool {
         && entry.event.text.bytes() == b"hello".as_slice()
 }
 
+// The entry is read at the front of these bytes, and copied.
+fn is_read(rt: &impl Abort, alloc: Global, bytes: &[u8]) {
+    let took = read_entry(alloc, bytes).ok().expect(rt, "an entry");
+    assert!(rt; took.used == 34 && is_hello(&took.entry));
+    assert!(rt; is_hello(&took.entry.copy(alloc).expect(rt, "memory")));
+}
+
 /// An entry is written, read and copied.
 pub fn an_entry_is_written_and_read(rt: &impl Abort, alloc: Global) {
     let out = written(rt, alloc);
     assert!(rt; out.len() == 36 && out[0] == 9 && out[35] == 7);
     assert!(rt; &out[1..35] == HELLO.as_slice());
     assert!(rt; entry_length(&HELLO[..29]) == Some(34));
-    let took = read_entry(alloc, &out[1..]).ok().expect(rt, "an entry");
-    assert!(rt; took.used == 34 && is_hello(&took.entry));
-    assert!(rt; is_hello(&took.entry.copy(alloc).expect(rt, "memory")));
+    is_read(rt, alloc, &out[1..]);
 }
 
 /// A pair is read, and what follows it.

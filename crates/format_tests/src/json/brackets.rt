@@ -132,7 +132,8 @@ at 6|{"a":-}
 cut|{"a\u12
 at 4|{"a\q":1}"#;
 
-/// Arrays and objects in others, 127 levels of them and more. A fault before the bracket of the 128th level comes first.
+/// Arrays and objects in others, 127 levels of them and more: `deep 127` is the place of the bracket of the 128th level, and `~3*[~` stands
+/// for three brackets. A fault before that bracket comes first.
 pub const DEPTHS: &str = r#"deep 127|~254*[~
 cut|~127*[~
 deep 127|~127*[~{~126*[~

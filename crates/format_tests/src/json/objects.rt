@@ -2,13 +2,13 @@
 ghost use Rattle.std.specs.Prelude.{◌≤◌, length};
 
 use crate::spelling::spell;
-use json_span::{Member, first_value, is_object, members};
+use json_span::{Member, Span, first_value, is_object, members};
 use std::alloc::Global;
 use std::process::Abort;
 
 /// Whether Python's `json` reads a text as one object. It may have 127 levels.
 const OBJECTS: &str = r#"yes|{}
-yes| { } 
+yes| { }%20
 yes|%09%0d%0a{"a":1}%0a
 yes|{"a":1,"a":2}
 yes|{"a":{"b":[1,2,{}]}}
@@ -17,7 +17,7 @@ yes|{"\ud800":"%c3%a9"}
 yes|{"a" : 1 , "b" : -2e3}
 yes|{"a":[],"b":null,"c":true}
 no|
-no| 
+no|%20
 no|[]
 no|[{}]
 no|"{}"
@@ -79,24 +79,22 @@ fn first_members(alloc: Global, bytes: &[u8], at: usize) -> Option<Vec<Member>>
 /// The starts and ends of the members' names and values, the place of the object, and the text.
 const MEMBERS: &str = r#"|0|{}
 |1|[{ }]
-1 4 5 6,8 11 12 15,|0|{"a":1, "a":[2]}
-1 4 5 6,7 10 11 12,13 16 17 18,|0|{"a":1,"b":2,"a":1}
-2 5 8 21,24 27 28 38,|1| {"x" : {"y":{"z":1}} , "w":[ {}, [] ]}  
-1 3 4 6,8 15 16 23,|0|{"":"" ,"\"k\\":"v,}:{"}
-1 4 5 12,13 16 17 21,22 25 26 30,31 34 35 43,|0|{"a":-1.5e+3,"b":true,"c":null,"d":"\u0041"}
-4 8 9 16,|3|[0,{"in":{"a":1}},2]
-6 9 10 11,|5|{"o":{"i":1}}"#;
+1 4,5 6,8 11,12 15,|0|{"a":1, "a":[2]}
+1 4,5 6,7 10,11 12,13 16,17 18,|0|{"a":1,"b":2,"a":1}
+2 5,8 21,24 27,28 38,|1| {"x" : {"y":{"z":1}} , "w":[ {}, [] ]}%20%20
+1 3,4 6,8 15,16 23,|0|{"":"" ,"\"k\\":"v,}:{"}
+1 4,5 12,13 16,17 21,22 25,26 30,31 34,35 43,|0|{"a":-1.5e+3,"b":true,"c":null,"d":"\u0041"}
+4 8,9 16,|3|[0,{"in":{"a":1}},2]
+6 9,10 11,|5|{"o":{"i":1}}"#;
 
-// The places of the members, each with a comma after it.
+// The starts and the ends of the members' names and values.
 fn told(rt: &impl Abort, alloc: Global, members: &[Member]) -> String {
     let mut told = String::new(alloc);
-    for Member { name, value } in members {
-        let places = format!(in alloc;
-            "{} {} {} {},",
-            name.start, name.end, value.start, value.end
-        );
-        told.push_str(places.expect(rt, "memory").as_str())
-            .expect(rt, "memory");
+    for member in members {
+        for Span { start, end } in [member.name, member.value] {
+            let places = format!(in alloc; "{start} {end},").expect(rt, "memory");
+            told.push_str(&places).expect(rt, "memory");
+        }
     }
     told
 }
@@ -105,10 +103,12 @@ fn told(rt: &impl Abort, alloc: Global, members: &[Member]) -> String {
 pub fn members_in_order(rt: &impl Abort, alloc: Global) {
     for line in MEMBERS.lines() {
         let (want, rest) = line.split_once('|').expect(rt, "a bar");
-        let (at, text) = rest.split_once('|').expect(rt, "a second bar");
+        let (at, spelt) = rest.split_once('|').expect(rt, "a second bar");
         let at = at.parse::<usize>().expect(rt, "a place");
-        assert!(rt; at <= text.as_bytes().len());
-        let found = first_members(alloc, text.as_bytes(), at).expect(rt, "an object");
+        let mut bytes = Vec::new(alloc);
+        spell(rt, spelt, &mut bytes);
+        assert!(rt; at <= bytes.len());
+        let found = first_members(alloc, &bytes, at).expect(rt, "an object");
         assert!(rt; told(rt, alloc, &found).as_str() == want, "{line}");
     }
 }
