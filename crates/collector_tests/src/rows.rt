@@ -55,22 +55,22 @@ fn is_one_of(rt: &impl Abort, alloc: Global, told: &[u8], wants: &str) -> bool {
     false
 }
 
-// Checks what a text tells in pieces of each size.
-fn check_row(
+// Whether a text tells this in pieces of each size.
+fn tells(
     rt: &impl Abort,
     alloc: Global,
     form: &Form,
     sizes: &[usize],
     text: &[u8],
     wants: &str,
-) {
+) -> bool {
     for size in sizes {
         let told = told(rt, alloc, form, text, *size);
-        assert!(rt;
-            is_one_of(rt, alloc, &told, wants),
-            "not told in pieces of {size}: {wants}"
-        );
+        if !is_one_of(rt, alloc, &told, wants) {
+            return false;
+        }
     }
+    true
 }
 
 /// Checks a table, in pieces of each size where its texts are streams. A row is a text, `=>`, and what that tells, both as
@@ -84,7 +84,7 @@ pub fn check(rt: &impl Abort, alloc: Global, form: &Form, sizes: &[usize], table
         match line.split_once("=>") {
             Some((end, wants)) => {
                 spell(rt, alloc, end.trim(), &mut text);
-                check_row(rt, alloc, form, sizes, &text, wants);
+                assert!(rt; tells(rt, alloc, form, sizes, &text, wants), "{line}");
                 text.clear();
             }
             None => spell(rt, alloc, line.trim(), &mut text),
