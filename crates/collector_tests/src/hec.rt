@@ -1,4 +1,8 @@
 //! Tests of the crates on Splunk's HTTP Event Collector: `hec_ids`, `hec_body` and `hec_session`.
-mod bodies;
-mod ids;
-mod sessions;
+pub mod bodies;
+pub mod body_rows;
+pub mod id_rows;
+pub mod ids;
+pub mod replies;
+pub mod session_rows;
+pub mod sessions;

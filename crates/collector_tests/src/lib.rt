@@ -6,3 +6,9 @@
 mod hec;
 #[cfg(test)]
 mod http;
+#[cfg(test)]
+mod rows;
+#[cfg(test)]
+mod spelling;
+#[cfg(test)]
+mod tests;

@@ -6,11 +6,11 @@
 #[cfg(test)]
 mod entries;
 #[cfg(test)]
-mod json_objects;
-#[cfg(test)]
-mod json_values;
+mod json;
 #[cfg(test)]
 mod maps;
+#[cfg(test)]
+mod spelling;
 #[cfg(test)]
 mod tests;
 #[cfg(test)]

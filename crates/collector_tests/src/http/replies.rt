@@ -2,98 +2,71 @@
 ghost use Rattle.std.specs.Prelude.{◌+◌, ◌≤◌, ◌^◌};
 ghost use Rattle.http_reply.specs.Reading.{come};
 
-use crate::http::told::{tell_end, tell_number};
+use crate::http::told::tell_end;
+use crate::spelling::add;
 use event_form::FeedFault;
 use http_edge::HttpFault;
 use http_reply::{HttpReply, ReplyReader};
-use std::alloc::{AllocError, Global};
+use std::alloc::Global;
+use std::process::Abort;
 
-/// A reader that may still be fed so many bytes, what the replies told that it gave, and the fault that it reported.
+/// A reader that may still be fed so many bytes, and the fault that it reported.
 #[derive(Drop)]
 struct Hearing {
     reader: ReplyReader,
     left: usize,
-    told: Vec<u8>,
     fault: Option<HttpFault>,
     ghost room: { reader.at + come reader + left ≤ 2 ^ 40 },
 }
 
-// What a reply tells: its offset, status and body.
-fn tell_reply(alloc: Global, reply: &HttpReply, out: &mut Vec<u8>) -> Result<(), AllocError> {
-    tell_number(alloc, b'@', reply.at, b"", out)?;
-    tell_number(alloc, b' ', u64::from(reply.status), b"|", out)?;
-    out.extend_from_slice(reply.body.bytes())
+// Tells a reply: its offset, status and body.
+fn tell_reply(rt: &impl Abort, alloc: Global, reply: &HttpReply, told: &mut Vec<u8>) {
+    let head = format!(in alloc; "@{} {}|", reply.at, reply.status).expect(rt, "memory");
+    add(rt, told, head.as_bytes());
+    add(rt, told, reply.body.bytes());
 }
 
 impl Hearing {
-    fn new(alloc: Global) -> Hearing {
-        Hearing {
-            reader: ReplyReader::new(alloc),
-            left: 1 << 40,
-            told: Vec::new(alloc),
-            fault: None,
-        }
-    }
-
-    fn feed(&mut self, piece: &[u8]) -> Result<(), AllocError> {
-        if piece.len() > self.left {
-            return Err(AllocError);
-        }
+    fn feed(&mut self, rt: &impl Abort, piece: &[u8]) {
+        assert!(rt; piece.len() <= self.left);
         self.left -= piece.len();
         match self.reader.feed(piece) {
-            Ok(()) => Ok(()),
-            Err(FeedFault::Fault(fault)) => {
-                self.fault = Some(fault);
-                Ok(())
-            }
-            Err(FeedFault::NoMemory) => Err(AllocError),
-        }
-    }
-
-    // Takes the next reply, and tells it; answers whether there was one.
-    fn tell_next(&mut self, alloc: Global) -> Result<bool, AllocError> {
-        match self.reader.take() {
-            Some(reply) => {
-                tell_reply(alloc, &reply, &mut self.told)?;
-                Ok(true)
-            }
-            None => Ok(false),
+            Ok(()) => {}
+            Err(FeedFault::Fault(fault)) => self.fault = Some(fault),
+            Err(FeedFault::NoMemory) => panic!(rt; "memory"),
         }
     }
 
     // Takes the replies that wait, and tells them.
-    fn drain(&mut self, alloc: Global) -> Result<(), AllocError> {
+    fn drain(&mut self, rt: &impl Abort, alloc: Global, told: &mut Vec<u8>) {
         for _ in 0..u32::MAX {
-            if !self.tell_next(alloc)? {
-                break;
+            match self.reader.take() {
+                Some(reply) => tell_reply(rt, alloc, &reply, told),
+                None => break,
             }
         }
-        Ok(())
-    }
-
-    // What was read: the replies, the rest after `#`, and the fault after `!`.
-    fn tell(&self, alloc: Global) -> Result<Vec<u8>, AllocError> {
-        let mut out = Vec::from_slice(alloc, &self.told)?;
-        tell_end(alloc, self.reader.rest_at(), self.fault, &mut out)?;
-        Ok(out)
     }
 }
 
-// Reads a text in pieces of a size.
-fn hear(alloc: Global, text: &[u8], size: usize) -> Result<Hearing, AllocError> {
-    if size == 0 {
-        return Err(AllocError);
-    }
-    let mut hearing = Hearing::new(alloc);
+/// What a text tells that is fed in pieces of a size: its replies, the rest and the fault.
+pub fn told(rt: &impl Abort, alloc: Global, text: &[u8], size: usize) -> Vec<u8> {
+    assert!(rt; size > 0);
+    let mut hearing = Hearing {
+        reader: ReplyReader::new(alloc),
+        left: 1 << 40,
+        fault: None,
+    };
+    let mut told = Vec::new(alloc);
     for piece in text.chunks(size) {
-        hearing.feed(piece)?;
-        hearing.drain(alloc)?;
+        hearing.feed(rt, piece);
+        hearing.drain(rt, alloc, &mut told);
     }
-    Ok(hearing)
-}
-
-/// Whether a text tells so that is fed in pieces of a size.
-pub fn tells(alloc: Global, text: &[u8], size: usize, expected: &[u8]) -> Result<bool, AllocError> {
-    let told = hear(alloc, text, size)?.tell(alloc)?;
-    Ok(told.as_slice() == expected)
+    tell_end(
+        rt,
+        alloc,
+        hearing.reader.rest_at(),
+        hearing.fault,
+        &mut told,
+    );
+    told
 }

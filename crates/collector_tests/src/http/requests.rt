@@ -2,153 +2,109 @@
 ghost use Rattle.std.specs.Prelude.{◌+◌, ◌≤◌, ◌^◌};
 ghost use Rattle.http_edge.specs.Reading.{come};
 
-use crate::http::told::{tell_end, tell_number};
+use crate::http::told::tell_end;
+use crate::spelling::add;
 use event_form::FeedFault;
 use http_edge::{HttpFault, HttpItem, HttpWindow};
-use std::alloc::{AllocError, Global};
+use std::alloc::Global;
+use std::process::Abort;
 
-/// A window that may still be fed so many bytes, what the items told that it gave, and the fault that it told.
+/// A window that may still be fed so many bytes, and the fault that it reported.
 #[derive(Drop)]
 pub struct Talk {
     pub window: HttpWindow,
     left: usize,
-    told: Vec<u8>,
     pub fault: Option<HttpFault>,
     pub ghost room: { window.reading.at + come window.reading + left ≤ 2 ^ 40 },
 }
 
-// What an item tells: `continue`, or a request's target and body, each after a bar. Of a body above 1,000 bytes it
-// tells how many.
-fn tell_item(alloc: Global, item: &HttpItem, out: &mut Vec<u8>) -> Result<(), AllocError> {
+// Tells an item: `continue`, or a request's target and body, each after a bar. Of a body above 1,000 bytes it tells how many.
+fn tell_item(rt: &impl Abort, alloc: Global, item: &HttpItem, told: &mut Vec<u8>) {
     match item {
-        HttpItem::Continue => out.extend_from_slice(b"|continue"),
+        HttpItem::Continue => add(rt, told, b"|continue"),
         HttpItem::Request(request) => {
-            out.push(b'|')?;
-            out.extend_from_slice(request.target.bytes())?;
-            out.push(b'|')?;
+            add(rt, told, b"|");
+            add(rt, told, request.target.bytes());
+            add(rt, told, b"|");
             let body = request.body.bytes();
             if body.len() > 1_000 {
-                return tell_number(alloc, b'(', body.len() as u64, b" bytes)", out);
+                let count = format!(in alloc; "({} bytes)", body.len()).expect(rt, "memory");
+                add(rt, told, count.as_bytes());
+            } else {
+                add(rt, told, body);
             }
-            out.extend_from_slice(body)
         }
     }
 }
 
 impl Talk {
-    pub fn new(alloc: Global) -> Result<Talk, AllocError> {
-        Ok(Talk {
-            window: HttpWindow::new(alloc)?,
+    pub fn new(rt: &impl Abort, alloc: Global) -> Talk {
+        Talk {
+            window: HttpWindow::new(alloc).expect(rt, "memory"),
             left: 1 << 40,
-            told: Vec::new(alloc),
             fault: None,
-        })
+        }
     }
 
     /// How much of the piece the window takes; nothing at a fault.
-    pub fn feed(&mut self, piece: &[u8]) -> Result<usize, AllocError> {
-        if piece.len() > self.left {
-            return Err(AllocError);
-        }
+    pub fn feed(&mut self, rt: &impl Abort, piece: &[u8]) -> usize {
+        assert!(rt; piece.len() <= self.left);
         self.left -= piece.len();
         match self.window.feed(piece) {
-            Ok(taken) => Ok(taken),
+            Ok(taken) => taken,
             Err(FeedFault::Fault(fault)) => {
                 self.fault = Some(fault);
-                Ok(0)
+                0
             }
-            Err(FeedFault::NoMemory) => Err(AllocError),
+            Err(FeedFault::NoMemory) => panic!(rt; "memory"),
         }
     }
 
     /// The next item, as one of its own.
-    pub fn take(&mut self, alloc: Global) -> Result<Option<HttpItem>, AllocError> {
+    pub fn take(&mut self, rt: &impl Abort, alloc: Global) -> Option<HttpItem> {
         match self.window.next() {
-            Some(item) => Ok(Some(item.to_item(alloc)?)),
-            None => Ok(None),
-        }
-    }
-
-    // Takes the next item, and tells it; answers whether there was one.
-    fn tell_next(&mut self, alloc: Global) -> Result<bool, AllocError> {
-        match self.take(alloc)? {
-            Some(item) => {
-                tell_item(alloc, &item, &mut self.told)?;
-                Ok(true)
-            }
-            None => Ok(false),
+            Some(item) => Some(item.to_item(alloc).expect(rt, "memory")),
+            None => None,
         }
     }
 
     /// Takes the items that wait, and tells them.
-    pub fn drain(&mut self, alloc: Global) -> Result<(), AllocError> {
+    pub fn drain(&mut self, rt: &impl Abort, alloc: Global, told: &mut Vec<u8>) {
         for _ in 0..u32::MAX {
-            if !self.tell_next(alloc)? {
-                break;
+            match self.take(rt, alloc) {
+                Some(item) => tell_item(rt, alloc, &item, told),
+                None => break,
             }
         }
-        Ok(())
     }
 
-    /// Feeds the bytes until the window takes no more, and gives those that it didn't take.
-    pub fn fill<'b>(&mut self, bytes: &'b [u8]) -> Result<&'b [u8], AllocError> {
-        let mut rest = bytes;
-        for _ in 0..u32::MAX {
-            let taken = self.feed(rest)?;
-            if taken == 0 {
-                break;
-            }
-            rest = rest.get(taken..).unwrap_or(&[]);
-        }
-        Ok(rest)
-    }
-
-    // Feeds bytes and takes the items, and gives the bytes that weren't taken.
-    fn read_some<'b>(&mut self, alloc: Global, bytes: &'b [u8]) -> Result<&'b [u8], AllocError> {
-        let taken = self.feed(bytes)?;
-        self.drain(alloc)?;
-        Ok(bytes.get(taken..).unwrap_or(&[]))
-    }
-
-    // Reads the piece until it is taken or has a fault.
-    fn read(&mut self, alloc: Global, piece: &[u8]) -> Result<(), AllocError> {
+    // Reads the piece until it is taken or has a fault, and tells the items.
+    fn read(&mut self, rt: &impl Abort, alloc: Global, piece: &[u8], told: &mut Vec<u8>) {
         let mut rest = piece;
         for _ in 0..u32::MAX {
-            rest = self.read_some(alloc, rest)?;
+            let taken = self.feed(rt, rest);
+            self.drain(rt, alloc, told);
+            rest = rest.get(taken..).unwrap_or(&[]);
             if rest.is_empty() || self.fault.is_some() {
                 break;
             }
         }
-        Ok(())
     }
 
-    // What was read: the items, the rest after `#`, and the fault after `!`.
-    fn tell(&self, alloc: Global) -> Result<Vec<u8>, AllocError> {
-        let mut out = Vec::from_slice(alloc, &self.told)?;
-        tell_end(alloc, self.window.rest_at(), self.fault, &mut out)?;
-        Ok(out)
-    }
-
-    /// Whether it tells so.
-    pub fn is_told(&self, alloc: Global, expected: &[u8]) -> Result<bool, AllocError> {
-        let told = self.tell(alloc)?;
-        Ok(told.as_slice() == expected)
+    /// Tells the rest and the fault.
+    pub fn tell_end(&self, rt: &impl Abort, alloc: Global, told: &mut Vec<u8>) {
+        tell_end(rt, alloc, self.window.rest_at(), self.fault, told);
     }
 }
 
-// Reads a text in pieces of a size.
-fn read(alloc: Global, text: &[u8], size: usize) -> Result<Talk, AllocError> {
-    if size == 0 {
-        return Err(AllocError);
-    }
-    let mut talk = Talk::new(alloc)?;
+/// What a text tells that is fed in pieces of a size: its items, the rest and the fault.
+pub fn told(rt: &impl Abort, alloc: Global, text: &[u8], size: usize) -> Vec<u8> {
+    assert!(rt; size > 0);
+    let mut talk = Talk::new(rt, alloc);
+    let mut told = Vec::new(alloc);
     for piece in text.chunks(size) {
-        talk.read(alloc, piece)?;
+        talk.read(rt, alloc, piece, &mut told);
     }
-    Ok(talk)
-}
-
-/// Whether a text tells so that is fed in pieces of a size.
-pub fn tells(alloc: Global, text: &[u8], size: usize, expected: &[u8]) -> Result<bool, AllocError> {
-    read(alloc, text, size)?.is_told(alloc, expected)
+    talk.tell_end(rt, alloc, &mut told);
+    told
 }

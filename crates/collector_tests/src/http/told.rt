@@ -1,42 +1,33 @@
-//! How numbers and ends of streams are told.
+//! How ends of streams are told.
+use crate::spelling::add;
 use http_edge::{HttpFault, HttpWhy};
-use std::alloc::{AllocError, Global};
-
-/// A mark, a number and a word.
-pub fn tell_number(
-    alloc: Global,
-    mark: u8,
-    number: u64,
-    word: &[u8],
-    out: &mut Vec<u8>,
-) -> Result<(), AllocError> {
-    out.push(mark)?;
-    out.extend_from_slice(number.to_string(alloc)?.as_bytes())?;
-    out.extend_from_slice(word)
-}
+use std::alloc::Global;
+use std::process::Abort;
 
 // The word for a rule.
-fn word(why: HttpWhy) -> &'static [u8] {
+fn word(why: HttpWhy) -> &'static str {
     match why {
-        HttpWhy::BadHead => b" head",
-        HttpWhy::BadLength => b" length",
-        HttpWhy::TooLong => b" long",
-        HttpWhy::BadChunk => b" chunk",
+        HttpWhy::BadHead => "head",
+        HttpWhy::BadLength => "length",
+        HttpWhy::TooLong => "long",
+        HttpWhy::BadChunk => "chunk",
     }
 }
 
-/// The offset of the rest after `#`, and a fault's place and rule after `!`.
+/// Tells the offset of the rest after `#`, and a fault's place and rule after `!`.
 pub fn tell_end(
+    rt: &impl Abort,
     alloc: Global,
     rest_at: Option<u64>,
     fault: Option<HttpFault>,
-    out: &mut Vec<u8>,
-) -> Result<(), AllocError> {
+    told: &mut Vec<u8>,
+) {
     if let Some(at) = rest_at {
-        tell_number(alloc, b'#', at, b"", out)?;
+        let rest = format!(in alloc; "#{at}").expect(rt, "memory");
+        add(rt, told, rest.as_bytes());
     }
     if let Some(HttpFault { at, why }) = fault {
-        tell_number(alloc, b'!', at, word(why), out)?;
+        let fault = format!(in alloc; "!{at} {}", word(why)).expect(rt, "memory");
+        add(rt, told, fault.as_bytes());
     }
-    Ok(())
 }

@@ -1,8 +1,8 @@
 //! Why a run ended, and the lines that are printed.
 use bridge_words::{Note, drain_line, entry_line, note_text, serve_line, spool_line};
 use event_form::{Blob, Entry, Event, Origin, Why};
-use std::alloc::Global;
-use std::test::Fail;
+use std::alloc::{AllocError, Global};
+use std::process::Abort;
 
 // Notes, their statuses and their texts.
 const NOTES: [(Note, u8, &str); 27] = [
@@ -132,16 +132,51 @@ const NOTES: [(Note, u8, &str); 27] = [
     ),
 ];
 
-pub(crate) fn texts(alloc: Global) -> Result<bool, Fail> {
-    for (note, status, text) in NOTES {
-        if note.status() != status {
-            return Ok(false);
-        }
-        if note_text(alloc, &note)?.bytes() != text.as_bytes() {
-            return Ok(false);
-        }
+// The rows. A test's proof sees none of them this way, so that it stays short.
+fn notes() -> &'static [(Note, u8, &'static str)] {
+    &NOTES
+}
+
+/// Each note has its status and its text.
+pub fn texts(rt: &impl Abort, alloc: Global) {
+    for (note, status, text) in notes() {
+        assert!(rt; note.status() == *status, "{text}");
+        let told = note_text(alloc, note).expect(rt, "memory");
+        assert!(rt; told.bytes() == text.as_bytes(), "{text}");
     }
-    Ok(true)
+}
+
+fn is(rt: &impl Abort, line: Result<String, AllocError>, want: &str) -> bool {
+    line.expect(rt, "memory").as_str() == want
+}
+
+// Lines that count.
+fn counts(rt: &impl Abort, alloc: Global) {
+    const MOST: u64 = 18_446_744_073_709_551_615;
+    assert!(rt; is(rt, spool_line(alloc, 2, 4096), "2 slots of 4096 bytes\n"));
+    assert!(rt;
+        is(
+            rt,
+            drain_line(alloc, 10_000, 0),
+            "10000 confirmed, 0 left\n"
+        )
+    );
+    assert!(rt;
+        is(
+            rt,
+            drain_line(alloc, 0, MOST),
+            "0 confirmed, 18446744073709551615 left\n"
+        )
+    );
+    assert!(rt;
+        is(
+            rt,
+            serve_line(alloc, 3, 7, 7, 0),
+            "3 talks, 7 taken, 7 confirmed, 0 left\n"
+        )
+    );
+    let most = "0 talks, 18446744073709551615 taken, 10 confirmed, 2 left\n";
+    assert!(rt; is(rt, serve_line(alloc, 0, MOST, 10, 2), most));
 }
 
 // The line of an entry of each origin.
@@ -153,26 +188,9 @@ const LINES: [(Origin, &str); 5] = [
     (Origin::HecRaw, "7 4294967296 1 2 raw 5\n"),
 ];
 
-pub(crate) fn lines(alloc: Global) -> Result<bool, Fail> {
-    if spool_line(alloc, 2, 4096)?.as_str() != "2 slots of 4096 bytes\n" {
-        return Ok(false);
-    }
-    if drain_line(alloc, 10_000, 0)?.as_str() != "10000 confirmed, 0 left\n" {
-        return Ok(false);
-    }
-    if drain_line(alloc, 0, 18_446_744_073_709_551_615)?.as_str()
-        != "0 confirmed, 18446744073709551615 left\n"
-    {
-        return Ok(false);
-    }
-    if serve_line(alloc, 3, 7, 7, 0)?.as_str() != "3 talks, 7 taken, 7 confirmed, 0 left\n" {
-        return Ok(false);
-    }
-    if serve_line(alloc, 0, 18_446_744_073_709_551_615, 10, 2)?.as_str()
-        != "0 talks, 18446744073709551615 taken, 10 confirmed, 2 left\n"
-    {
-        return Ok(false);
-    }
+/// Each line is as it is printed.
+pub fn lines(rt: &impl Abort, alloc: Global) {
+    counts(rt, alloc);
     for (origin, line) in LINES {
         let entry = Entry {
             conn: 4_294_967_296,
@@ -180,12 +198,9 @@ pub(crate) fn lines(alloc: Global) -> Result<bool, Fail> {
             unit: 2,
             event: Event {
                 origin,
-                text: Blob::of(Vec::from_slice(alloc, b"hello")?),
+                text: Blob::of(Vec::from_slice(alloc, b"hello").expect(rt, "memory")),
             },
         };
-        if entry_line(alloc, 7, &entry)?.as_str() != line {
-            return Ok(false);
-        }
+        assert!(rt; is(rt, entry_line(alloc, 7, &entry), line));
     }
-    Ok(true)
 }

@@ -3,7 +3,7 @@
 //! of a fault. They go through the productions of RFC 8259, and through the ways to break each.
 
 /// White space before a value (RFC 8259, section 2).
-pub(super) const WHITE_SPACE: &str = r#"1 2| 1
+pub const WHITE_SPACE: &str = r#"1 2| 1
 1 2|%091
 1 2|%0a1
 1 2|%0d1
@@ -25,7 +25,7 @@ at 0|/**/1
 at 0|//%0a1"#;
 
 /// The literals (section 3).
-pub(super) const LITERALS: &str = r#"0 4|true
+pub const LITERALS: &str = r#"0 4|true
 0 5|false
 0 4|null
 at 3|truth
@@ -49,7 +49,7 @@ at 0|Infinity
 at 0|yes"#;
 
 /// Numbers (section 6).
-pub(super) const NUMBERS: &str = r#"0 1|0
+pub const NUMBERS: &str = r#"0 1|0
 0 2|-0
 0 1|1
 0 2|-1
@@ -140,7 +140,7 @@ at 3|[1eE2]
 at 6|[0.3e+]"#;
 
 /// Strings of single bytes and escapes (section 7).
-pub(super) const STRINGS: &str = r#"0 2|""
+pub const STRINGS: &str = r#"0 2|""
 0 3|"a"
 0 3|" "
 0 3|"/"
@@ -205,7 +205,7 @@ at 3|"\u%c3%a9"
 at 5|"\uD8%000""#;
 
 /// Characters of several bytes (RFC 3629).
-pub(super) const CHARACTERS: &str = r#"0 4|"%c2%80"
+pub const CHARACTERS: &str = r#"0 4|"%c2%80"
 0 4|"%c3%a9"
 0 4|"%df%bf"
 0 5|"%e0%a0%80"

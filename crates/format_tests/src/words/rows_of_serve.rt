@@ -1,0 +1,67 @@
+//! The words of `serve`.
+
+/// What the words of `serve` ask for: the places of RELP, of Lumberjack and of the collector, workers, connections of each, the token, the
+/// token with acks, and the receiver with its place.
+pub const SERVES: &str = r#"serve --relp p => serve (p) - - 4 67108864 - - -, a device
+serve --lumberjack logs.example:5044 => serve - (logs.example:5044) - 4 67108864 - - -, a device
+serve --hec=0.0.0.0:8088 => serve - - (0.0.0.0:8088) 4 67108864 - - -, a device
+serve --hec h --relp=r --lumberjack l => serve (r) (l) (h) 4 67108864 - - -, a device
+serve --relp p --hec p => serve (p) - (p) 4 67108864 - - -, a device
+serve --relp p -- => serve (p) - - 4 67108864 - - -, a device
+serve --relp - => serve (-) - - 4 67108864 - - -, a device
+serve --relp=-x => serve (-x) - - 4 67108864 - - -, a device
+serve --relp p --workers 1 => serve (p) - - 1 67108864 - - -, a device
+serve --workers=0000000016 --relp=p => serve (p) - - 16 67108864 - - -, a device
+serve --talks 1 --relp p => serve (p) - - 4 1 - - -, a device
+serve --relp p --talks=67108864 => serve (p) - - 4 67108864 - - -, a device
+serve --hec h --token $T --ack-token=$A => serve - - (h) 4 67108864 $T $A -, a device
+serve --relp p --ack-token $A => serve (p) - - 4 67108864 - $A -, a device
+serve --relp p --forward relp --to d => serve (p) - - 4 67108864 - - relp (d), a device
+serve --to=d --relp=p --forward=lumberjack --talks=2 --workers=3 => serve (p) - - 3 2 - - lumberjack (d), a device
+serve --relp=p --forward=hec --to d --out-token $T --out-channel=$A => serve (p) - - 4 67108864 - - hec $T $A 60 (d), a device
+serve --out-channel $T --out-token $A --polls=1000 --to=d --forward=hec --hec=h --token $A => serve - - (h) 4 67108864 $A - hec $A $T 1000 (d), a device
+serve --relp p --forward relp --to=d --out-token $T --polls 1 => serve (p) - - 4 67108864 - - relp (d), a device
+serve --relp p --out-token $T --out-channel=$A --polls=7 => serve (p) - - 4 67108864 - - -, a device"#;
+
+/// Words of `serve` that are no command, and why they are none.
+pub const NO_SERVES: &str = r#"serve => serve: --relp, --lumberjack or --hec is needed
+serve -- => serve: --relp, --lumberjack or --hec is needed
+serve --workers 1 --talks 1 => serve: --relp, --lumberjack or --hec is needed
+serve --token $T => serve: --relp, --lumberjack or --hec is needed
+serve --forward relp --to d => serve: --relp, --lumberjack or --hec is needed
+serve --relp '' => PLACE: empty
+serve --lumberjack= => PLACE: empty
+serve --relp p --hec= => PLACE: empty
+serve --relp => an option has no value
+serve --relp --hec h => an option has no value
+serve --relp -- p => unknown word or option
+serve p => unknown word or option
+serve relp p => unknown word or option
+serve --relp p q => unknown word or option
+serve -- --relp p => unknown word or option
+serve --relp p --relp p => an option is given twice
+serve --relp=p --as=json => unknown word or option
+serve --relp=p --work=4 => unknown word or option
+serve --relp=p --workers 0 => --workers: 1 to 16
+serve --relp=p --workers 17 => --workers: 1 to 16
+serve --relp=p --workers=x => --workers: 1 to 16
+serve --relp=p --workers=00000000004 => --workers: 1 to 16
+serve --relp=p --workers=4 --workers=4 => an option is given twice
+serve --relp=p --talks 0 => --talks: 1 to 67108864
+serve --relp=p --talks 67108865 => --talks: 1 to 67108864
+serve --relp=p --talks= => --talks: 1 to 67108864
+serve --relp=p --token zz => --token: no GUID
+serve --relp=p --ack-token=zz => --ack-token: no GUID
+serve --relp=p --forward relp => --forward: --to is needed
+serve --relp=p --to d => --to: --forward is needed
+serve --relp=p --to=d --out-token $T --out-channel=$A => --to: --forward is needed
+serve --relp=p --forward relp --to= => PLACE: empty
+serve --relp=p --forward RELP --to=d => PROTO: relp, lumberjack or hec
+serve --relp=p --forward hec => --forward: --to is needed
+serve --relp=p --forward=hec --to=d => hec: --out-token is needed
+serve --relp=p --forward=hec --to=d --out-channel=$A => hec: --out-token is needed
+serve --relp=p --forward=hec --to=d --out-token $T => hec: --out-channel is needed
+serve --relp=p --out-token zz => --out-token: no GUID
+serve --relp=p --out-channel zz => --out-channel: no GUID
+serve --relp=p --polls 0 => --polls: 1 to 1000
+serve --relp=p --forward=relp --to=d --polls=1001 => --polls: 1 to 1000"#;
