@@ -1,7 +1,7 @@
 //! All that holds of whole connections.
 use crate::faults::a_failed_call_of_the_disk_ends_the_connection;
 use crate::fields::{bytes_of, check_form, numbers_of};
-use crate::harness::{check_bytes, desk_of, entries_of, link_of, serve};
+use crate::harness::{check_bytes, repeated, serve};
 use crate::{
     hec_endings, hec_refused, hec_rows, hec_unsaid, lumberjack_endings, lumberjack_rows,
     relp_endings, relp_rows,
@@ -11,23 +11,20 @@ use event_form::{Attended, Talk};
 use std::alloc::Global;
 use std::process::Abort;
 
-// The words of a row: `row NAME`; `in`, the bytes that come; what [`desk_of`] and [`link_of`] read; `steps`, how many bytes a read
-// brings at most, each in turn; and what is left: `ends HOW, COUNT taken`, and the bytes of `out` and `entries`, those as
-// [`entries_of`] shows them.
+// The words of a row: `row NAME`; what [`serve`] reads; `steps`, how many bytes a read brings at most, each in turn; and what is left:
+// `ends HOW, COUNT taken`, and the bytes of `out` and `entries`.
 const WORDS: &str = "row in steps slot disk reads writes ids ends out entries";
 
 // Serves a row's input, at most so many bytes in a read.
 fn check(rt: &impl Abort, alloc: Global, proto: Proto, row: &str, step: usize) {
     assert!(rt; step > 0, "no step");
-    let mut desk = desk_of(rt, alloc, row, &[]).expect(rt, "not opened");
-    let mut link = link_of(rt, alloc, row, bytes_of(rt, alloc, row, "in"), step);
-    let Attended { talk, taken } = serve(alloc, proto, &mut link, &mut desk);
+    let left = serve(rt, alloc, proto, row, &[], 1, step).expect(rt, "not opened");
+    let Attended { talk, taken } = left.attended;
     let ended = format!(in alloc; "{talk:?}, {taken} taken").expect(rt, "memory");
     check_bytes(rt, alloc, row, "ends", ended.as_bytes());
-    check_bytes(rt, alloc, row, "out", link.sink.taken());
-    let (entries, count) = entries_of(rt, alloc, &mut desk);
-    check_bytes(rt, alloc, row, "entries", &entries);
-    assert!(rt; count == taken, "{count} entries");
+    check_bytes(rt, alloc, row, "out", &left.written);
+    check_bytes(rt, alloc, row, "entries", &left.entries);
+    assert!(rt; left.count == taken, "another count of entries");
 }
 
 // Serves a row's input in each of its steps.
@@ -58,31 +55,18 @@ fn each_row_is_served(rt: &impl Abort, alloc: Global) {
     }
 }
 
-// The bytes a thousand times.
-fn repeated(rt: &impl Abort, alloc: Global, bytes: &[u8]) -> Vec<u8> {
-    let mut all = Vec::new(alloc);
-    for _ in 0..1000 {
-        all.extend_from_slice(bytes).expect(rt, "memory");
-    }
-    all
-}
-
 // A connection that isn't closed goes on, whatever number of requests came.
 fn a_thousand_requests_are_answered(rt: &impl Abort, alloc: Global) {
     let row = hec_rows::ONE;
     check_form(rt, row, WORDS, 1);
-    let input = repeated(rt, alloc, &bytes_of(rt, alloc, row, "in"));
-    let mut desk = desk_of(rt, alloc, row, &[]).expect(rt, "not opened");
-    let mut link = link_of(rt, alloc, row, input, 1000);
-    let Attended { talk, taken } = serve(alloc, Proto::Hec, &mut link, &mut desk);
+    let left = serve(rt, alloc, Proto::Hec, row, &[], 1000, 1000).expect(rt, "not opened");
+    let Attended { talk, taken } = left.attended;
     assert!(rt;
         talk == Talk::Ended && taken == 1000,
         "{talk:?}, {taken} taken"
     );
-    let written = repeated(rt, alloc, &bytes_of(rt, alloc, row, "out"));
-    assert!(rt; link.sink.taken() == written.as_slice());
-    let (_, count) = entries_of(rt, alloc, &mut desk);
-    assert!(rt; count == 1000);
+    let written = repeated(rt, alloc, &bytes_of(rt, alloc, row, "out"), 1000);
+    assert!(rt; left.written == written && left.count == 1000);
 }
 
 #[test]

@@ -1,6 +1,6 @@
 //! Connections over a disk of which one call fails.
 use crate::fields::{bytes_of, check_form, numbers_of};
-use crate::harness::{check_bytes, desk_of, entries_of, link_of, serve};
+use crate::harness::{Left, check_bytes, serve};
 use edge_io::Proto;
 use event_form::{Attended, Talk};
 use std::alloc::Global;
@@ -77,36 +77,31 @@ fn takes_of(rt: &impl Abort, counts: &[u64], taken: u64) -> (usize, &'static str
     (2, "both", *both)
 }
 
-// Serves a row over a disk of which that call fails, and answers how many of the two takes were answered where that ended the
-// connection. None: the device wasn't opened, or the call that fails comes after the connection.
+// What a row left over a disk of which that call failed is right. Answers how many of the two takes were answered where that ended the
+// connection. None: the call that fails comes after the connection.
 fn takes_before(
     rt: &impl Abort,
     alloc: Global,
-    proto: Proto,
     row: &str,
+    left: &Left,
     call: u64,
 ) -> Option<usize> {
-    let Some(mut desk) = desk_of(rt, alloc, row, &[call]) else {
-        return None;
-    };
-    let mut link = link_of(rt, alloc, row, bytes_of(rt, alloc, row, "in"), 1000);
-    let Attended { talk, taken } = serve(alloc, proto, &mut link, &mut desk);
+    let Attended { talk, taken } = left.attended;
     let (takes, field, next) = takes_of(rt, &numbers_of(rt, alloc, row, "taken"), taken);
-    check_bytes(rt, alloc, row, field, link.sink.taken());
+    check_bytes(rt, alloc, row, field, &left.written);
     if talk != Talk::DiskFault {
-        assert!(rt;
-            talk == Talk::Ended && takes == 2,
-            "{proto:?}, call {call}: {talk:?}"
-        );
+        assert!(rt; talk == Talk::Ended && takes == 2, "call {call}: {talk:?}");
         return None;
     }
-    let (shown, count) = entries_of(rt, alloc, &mut desk);
     assert!(rt;
-        count == taken || count == next,
-        "{proto:?}, call {call}: {count}"
+        left.count == taken || left.count == next,
+        "call {call}: another count"
     );
     let entries = bytes_of(rt, alloc, row, "entries");
-    assert!(rt; entries.starts_with(&shown), "{proto:?}, call {call}");
+    assert!(rt;
+        entries.starts_with(&left.entries),
+        "call {call}: other entries"
+    );
     Some(takes)
 }
 
@@ -121,7 +116,11 @@ pub(crate) fn a_failed_call_of_the_disk_ends_the_connection(rt: &impl Abort, all
         check_form(rt, row, WORDS, 1);
         let mut faults = [0_u32; 3];
         for call in 0..40 {
-            if let Some(takes) = takes_before(rt, alloc, proto, row, call) {
+            let left = serve(rt, alloc, proto, row, &[call], 1, 1000);
+            let Some(left) = left else {
+                continue;
+            };
+            if let Some(takes) = takes_before(rt, alloc, row, &left, call) {
                 assert!(rt; takes < 3);
                 faults[takes] = faults[takes].saturating_add(1);
             }

@@ -20,11 +20,17 @@ const TOKEN: u128 = 0x1111_1111_2222_3333_4444_5555_5555_5555;
 
 const ACK_TOKEN: u128 = 0xaaaa_aaaa_2222_3333_4444_5555_5555_5555;
 
-/// A link over bytes in memory.
-pub(crate) type Wire = Both<MemSource, MemSink>;
-
-/// A desk over a disk in memory.
-pub(crate) type MemDesk = Alone<MemDisk>;
+/// What a connection left.
+#[derive(Drop)]
+pub(crate) struct Left {
+    pub(crate) attended: Attended,
+    pub(crate) written: Vec<u8>,
+    /// The entries that aren't confirmed, at most 4,096, one after another as `CONN INDEX UNIT`, the letter for the form, the text and
+    /// LF.
+    pub(crate) entries: Vec<u8>,
+    /// How many entries these are.
+    pub(crate) count: u64,
+}
 
 // A disk with an empty spool of one slot, of `slot SIZE` bytes: 4,096 where the row doesn't say it, and 1,000,000 at most. The calls
 // of `disk N` fail, counted from 0, and these.
@@ -39,14 +45,9 @@ fn disk_of(rt: &impl Abort, alloc: Global, row: &str, failing: &[u64]) -> MemDis
     MemDisk::of(disk.bytes().to_vec(alloc).expect(rt, "memory"), calls)
 }
 
-/// The desk of a row, over a disk of which these calls fail too. Of the run's ids `ids COUNT` are used up, none where the row doesn't
-/// say it. None: the device wasn't opened.
-pub(crate) fn desk_of(
-    rt: &impl Abort,
-    alloc: Global,
-    row: &str,
-    failing: &[u64],
-) -> Option<MemDesk> {
+// The desk of a row, over a disk of which these calls fail too. Of the run's ids `ids COUNT` are used up, none where the row doesn't
+// say it. None: the device wasn't opened.
+fn desk_of(rt: &impl Abort, alloc: Global, row: &str, failing: &[u64]) -> Option<Alone<MemDisk>> {
     let used = u32::try_from(number_of(rt, row, "ids", 0)).expect(rt, "too many ids");
     match Spool::recover(alloc, disk_of(rt, alloc, row, failing), Opening::Raise) {
         Ok(spool) => {
@@ -57,33 +58,33 @@ pub(crate) fn desk_of(
     }
 }
 
-/// A link that gives these bytes, at most `step` in a read. The reads of the row's `reads N` fail, and the writes of its `writes N`,
-/// counted from 0.
-pub(crate) fn link_of(
+/// The bytes so many times.
+pub(crate) fn repeated(rt: &impl Abort, alloc: Global, bytes: &[u8], times: usize) -> Vec<u8> {
+    let mut all = Vec::new(alloc);
+    for _ in 0..times {
+        all.extend_from_slice(bytes).expect(rt, "memory");
+    }
+    all
+}
+
+// A link that gives the bytes of the row's `in` so many times, at most `step` of them in a read. The reads of `reads N` fail, and the
+// writes of `writes N`, counted from 0.
+fn link_of(
     rt: &impl Abort,
     alloc: Global,
     row: &str,
-    input: Vec<u8>,
+    times: usize,
     step: usize,
-) -> Wire
-    requires some { 0 < step }
+) -> Both<MemSource, MemSink>
+    requires { 0 < step }
 {
+    let input = repeated(rt, alloc, &bytes_of(rt, alloc, row, "in"), times);
     let reads = numbers_of(rt, alloc, row, "reads");
     let writes = numbers_of(rt, alloc, row, "writes");
     Both {
         source: MemSource::of(input, step, reads),
         sink: MemSink::of(alloc, writes),
     }
-}
-
-/// Serves a connection.
-pub(crate) fn serve(alloc: Global, proto: Proto, link: &mut Wire, desk: &mut MemDesk) -> Attended {
-    let rules = Rules {
-        proto,
-        token: Some(TOKEN),
-        ack_token: Some(ACK_TOKEN),
-    };
-    attend(alloc, link, &rules, desk, CONN)
 }
 
 // The letter for the form of an event: RELP, pairs, JSON, an object, a raw line.
@@ -97,9 +98,8 @@ fn letter(origin: Origin) -> char {
     }
 }
 
-/// The entries that aren't confirmed, at most 4,096, one after another as `CONN INDEX UNIT`, the letter for the form, the text and LF;
-/// and how many these are.
-pub(crate) fn entries_of(rt: &impl Abort, alloc: Global, desk: &mut MemDesk) -> (Vec<u8>, u64) {
+// The entries that aren't confirmed, and how many these are.
+fn entries_of(rt: &impl Abort, alloc: Global, desk: &mut Alone<MemDisk>) -> (Vec<u8>, u64) {
     let mut shown = Vec::new(alloc);
     let Ok(pending) = desk.pending(0, 4096) else {
         return (shown, 0);
@@ -117,6 +117,37 @@ pub(crate) fn entries_of(rt: &impl Abort, alloc: Global, desk: &mut MemDesk) -> 
         shown.push(b'\n').expect(rt, "memory");
     }
     (shown, pending.len() as u64)
+}
+
+/// Serves a connection whose bytes are those of the row, so many times, at most `step` of them in a read. These calls of the disk fail,
+/// beside the row's. None: the device wasn't opened.
+pub(crate) fn serve(
+    rt: &impl Abort,
+    alloc: Global,
+    proto: Proto,
+    row: &str,
+    failing: &[u64],
+    times: usize,
+    step: usize,
+) -> Option<Left>
+    requires { 0 < step }
+{
+    let mut desk = desk_of(rt, alloc, row, failing)?;
+    let mut link = link_of(rt, alloc, row, times, step);
+    let rules = Rules {
+        proto,
+        token: Some(TOKEN),
+        ack_token: Some(ACK_TOKEN),
+    };
+    let attended = attend(alloc, &mut link, &rules, &mut desk, CONN);
+    let written = link.sink.taken().to_vec(alloc).expect(rt, "memory");
+    let (entries, count) = entries_of(rt, alloc, &mut desk);
+    Some(Left {
+        attended,
+        written,
+        entries,
+        count,
+    })
 }
 
 /// Refuses bytes that aren't those of the row's field.
