@@ -23,12 +23,16 @@ fn holds(rt: &impl Abort, host: &HostRuntime, path: &str, want: &[u8]) -> bool {
     bytes.as_slice() == want
 }
 
-fn a_file_keeps_its_bytes(rt: &impl Abort, host: &HostRuntime, path: &str) {
+// Makes a disk of four bytes where no file is, and writes two of them.
+fn write_two(rt: &impl Abort, host: &HostRuntime, path: &str) {
     assert!(rt; FileDisk::open(host, path).is_err());
     let mut disk = FileDisk::make(host, path, 4).expect(rt, "make");
     assert!(rt; disk.len() == 4);
     assert!(rt; disk.write_at(1, &[2, 3]).is_ok() && disk.sync().is_ok());
-    drop(disk);
+}
+
+fn a_file_keeps_its_bytes(rt: &impl Abort, host: &HostRuntime, path: &str) {
+    write_two(rt, host, path);
     assert!(rt; holds(rt, host, path, &[0, 2, 3, 0]));
     let mut disk = FileDisk::open(host, path).expect(rt, "open");
     assert!(rt; disk.len() == 4);
@@ -41,7 +45,7 @@ fn a_file_keeps_its_bytes(rt: &impl Abort, host: &HostRuntime, path: &str) {
 }
 
 // Makes the disk, and sees that it and its file hold these two bytes.
-fn is_made(rt: &impl Abort, host: &HostRuntime, path: &str, len: u64, want: [u8; 2]) {
+fn check_made(rt: &impl Abort, host: &HostRuntime, path: &str, len: u64, want: [u8; 2]) {
     let mut disk = FileDisk::make(host, path, len).expect(rt, "make");
     assert!(rt; disk.len() == 2);
     let mut buf = [9; 2];
@@ -60,7 +64,7 @@ fn a_length_is_set_where_there_is_none(rt: &impl Abort, host: &HostRuntime, path
     // one with bytes keeps them and its length, whichever length is asked for
     for len in [0, 1, 9] {
         fs::write(host, path, b"\x07\x08".as_slice()).expect(rt, "write");
-        is_made(rt, host, path, len, [7, 8]);
+        check_made(rt, host, path, len, [7, 8]);
     }
     fs::remove_file(host, path).expect(rt, "remove");
 }
@@ -102,6 +106,6 @@ pub(crate) fn files_are_disks(rt: &impl Abort, host: &HostRuntime) {
     a_length_is_set_where_there_is_none(rt, host, &path);
     a_file_in_use_is_not_opened(rt, host, &path);
     a_file_is_shared(rt, host, &path);
-    is_made(rt, host, &name, 2, [0, 0]);
+    check_made(rt, host, &name, 2, [0, 0]);
     fs::remove_file(host, name.as_str()).expect(rt, "remove");
 }

@@ -74,13 +74,19 @@ fn has_240(known: &KnownNumbers, cursor: u64, count: u64, ends: [Stretch; 2]) ->
     is_right && stretches.len() == 240 && [*first, *last] == ends
 }
 
-/// A stretch that would be one too many is passed over, and the next ones are still added.
-pub(crate) fn stops_at_240(rt: &impl Abort, alloc: Global) {
-    assert!(rt; MOST_STRETCHES == 240);
+// 300 stretches of one number each: 1, 3, 5 and so on.
+fn odd_numbers(rt: &impl Abort, alloc: Global) -> Vec<Stretch> {
     let mut odd = Vec::new(alloc);
     for n in 0..300 {
         odd.push(of(2 * n + 1, 2 * n + 2)).expect(rt, "memory");
     }
+    odd
+}
+
+/// A stretch that would be one too many is passed over, and the next ones are still added.
+pub(crate) fn stops_at_240(rt: &impl Abort, alloc: Global) {
+    assert!(rt; MOST_STRETCHES == 240);
+    let odd = odd_numbers(rt, alloc);
     let mut known = KnownNumbers::reserve(alloc).expect(rt, "memory");
     known.mark(&odd);
     assert!(rt; has_240(&known, 0, 240, [of(1, 2), of(479, 480)]));

@@ -47,18 +47,23 @@ fn is_talk(talk: &Finished, want: (Proto, u64, &str, &str, u8, u64)) -> bool {
         && talk.left == left
 }
 
+// Accepts both links of the door, and gives them back in the other order, the first one after a read and a write.
+fn serve_two(rt: &impl Abort, door: &mut MemDoor) {
+    let mut first = next(rt, door);
+    assert!(rt; door.accept().is_err(), "the second accept fails");
+    let second = next(rt, door);
+    assert!(rt; matches!(door.accept(), Ok(None)), "no link is left");
+    let counts = [first.read(&mut [0u8; 8]).ok(), first.write(b"answer").ok()];
+    assert!(rt; counts == [Some(4), Some(6)]);
+    let given = door.give_back(second, Proto::Hec, 8, 0);
+    given.expect(rt, "memory");
+    let given = door.give_back(first, Proto::Relp, 7, 66);
+    given.expect(rt, "memory");
+}
+
 pub(crate) fn a_door_accepts_in_order_and_tells_its_links(rt: &impl Abort, alloc: Global) {
     let mut door = door(rt, alloc);
-    let mut first = next(rt, &mut door);
-    assert!(rt; door.accept().is_err(), "the second accept fails");
-    let second = next(rt, &mut door);
-    assert!(rt; matches!(door.accept(), Ok(None)), "no link is left");
-    assert!(rt; first.read(&mut [0u8; 8]) == Ok(4));
-    assert!(rt; first.write(b"answer") == Ok(6));
-    door.give_back(second, Proto::Hec, 8, 0)
-        .expect(rt, "memory");
-    door.give_back(first, Proto::Relp, 7, 66)
-        .expect(rt, "memory");
+    serve_two(rt, &mut door);
     let [second, first] = door.talks() else {
         panic!(rt; "two links were given back");
     };
@@ -78,18 +83,20 @@ fn places(rt: &impl Abort, alloc: Global) -> Vec<MemPlace> {
 pub(crate) fn a_net_binds_the_doors_of_a_place(rt: &impl Abort, alloc: Global) {
     let failing = [2].to_vec(alloc).expect(rt, "memory");
     let mut net = MemNet::of(alloc, places(rt, alloc), Vec::new(alloc), failing);
-    for (doors, is_bound, when) in [
-        (1, true, "of two"),
-        (2, false, "where one is left"),
-        (1, false, "at the call that fails"),
-        (1, true, "the last"),
-        (0, true, "of none"),
+    for (doors, is_bound) in [
+        (1, true),
+        // where one is left
+        (2, false),
+        // at the call that fails
+        (1, false),
+        (1, true),
+        (0, true),
     ] {
         let is_right = match net.bind("r", doors) {
             Ok(made) => is_bound && made.len() == doors as usize,
             Err(fault) => !is_bound && fault == NetFault::Fault,
         };
-        assert!(rt; is_right, "{doors} {when}");
+        assert!(rt; is_right);
     }
     assert!(rt; matches!(net.dial("r"), Err(NetFault::Fault)), "no script");
 }
@@ -114,17 +121,26 @@ fn is_hung_up(hung: &Hung, want: (&str, &str, u64)) -> bool {
         && hung.left == left
 }
 
-pub(crate) fn a_net_dials_by_a_script_and_tells_what_it_hung_up(rt: &impl Abort, alloc: Global) {
-    let scripts = scripts(rt, alloc);
-    let mut net = MemNet::of(alloc, Vec::new(alloc), scripts, Vec::new(alloc));
+// Dials twice, and hangs up both links, the first one after a read and two writes.
+fn dial_twice(rt: &impl Abort, net: &mut MemNet) {
     let mut link = net.dial("d").expect(rt, "the script's place");
     let again = net.dial("d").expect(rt, "the same again");
-    assert!(rt; link.write(b"1 open 0\n") == Ok(9));
-    assert!(rt; link.write(b"lost").is_err(), "the second write fails");
-    assert!(rt; link.read(&mut [0u8; 2]) == Ok(2));
+    let counts = [
+        link.write(b"1 open 0\n").ok(),
+        // the second write fails
+        link.write(b"lost").ok(),
+        link.read(&mut [0u8; 2]).ok(),
+    ];
+    assert!(rt; counts == [Some(9), None, Some(2)]);
     net.pause();
     net.hang_up(link);
     net.hang_up(again);
+}
+
+pub(crate) fn a_net_dials_by_a_script_and_tells_what_it_hung_up(rt: &impl Abort, alloc: Global) {
+    let scripts = scripts(rt, alloc);
+    let mut net = MemNet::of(alloc, Vec::new(alloc), scripts, Vec::new(alloc));
+    dial_twice(rt, &mut net);
     let [link, again] = net.hung() else {
         panic!(rt; "two links were hung up");
     };

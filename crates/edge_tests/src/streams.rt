@@ -19,20 +19,28 @@ const READS: [(usize, &[u64], &str); 5] = [
     (1, &[1, 1, 99], "h|fault|e|l|l|o"),
 ];
 
+// Whether the reads give this, each after a bar.
+fn gives(source: &mut MemSource, wants: &str) -> bool {
+    for want in wants.split('|') {
+        let mut buf = [0u8; 4];
+        let is_right = match source.read(&mut buf) {
+            Ok(n) => want.as_bytes() == &buf[..n],
+            Err(ReadFault) => want == "fault",
+        };
+        if !is_right {
+            return false;
+        }
+    }
+    true
+}
+
 pub(crate) fn reads_in_steps_and_to_the_end(rt: &impl Abort, alloc: Global) {
     for (step, failing, wants) in READS {
         assert!(rt; step > 0);
         let bytes = b"hello, world".to_vec(alloc).expect(rt, "memory");
         let failing = failing.to_vec(alloc).expect(rt, "memory");
         let mut source = MemSource::of(bytes, step, failing);
-        for want in wants.split('|') {
-            let mut buf = [0u8; 4];
-            let is_right = match source.read(&mut buf) {
-                Ok(n) => want.as_bytes() == &buf[..n],
-                Err(ReadFault) => want == "fault",
-            };
-            assert!(rt; is_right);
-        }
+        assert!(rt; gives(&mut source, wants), "{wants}");
     }
 }
 
