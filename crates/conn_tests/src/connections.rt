@@ -24,7 +24,7 @@ fn check(rt: &impl Abort, alloc: Global, proto: Proto, row: &str, step: usize) {
     check_bytes(rt, alloc, row, "ends", ended.as_bytes());
     check_bytes(rt, alloc, row, "out", &left.written);
     check_bytes(rt, alloc, row, "entries", &left.entries);
-    assert!(rt; left.count == taken, "another count of entries");
+    assert!(rt; left.count == taken, "another count of entries in {row}");
 }
 
 // Serves a row's input in each of its steps.

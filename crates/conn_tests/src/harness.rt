@@ -150,8 +150,12 @@ pub(crate) fn serve(
     })
 }
 
-/// Refuses bytes that aren't those of the row's field.
+/// Refuses bytes that aren't those of the row's field, and shows the first 200 of them.
 pub(crate) fn check_bytes(rt: &impl Abort, alloc: Global, row: &str, field: &str, bytes: &[u8]) {
     let want = bytes_of(rt, alloc, row, field);
-    assert!(rt; bytes == want.as_slice(), "another {field}: {bytes:?}");
+    let start = &bytes[..bytes.len().min(200)];
+    assert!(rt;
+        bytes == want.as_slice(),
+        "another {field}: {start:?} in {row}"
+    );
 }
