@@ -1,10 +1,10 @@
 //! Connections over a disk of which one call fails.
 use crate::fields::{bytes_of, check_form, numbers_of};
-use crate::harness::{Given, serve};
+use crate::harness::{Left, check_bytes, serve};
 use edge_io::Proto;
 use event_form::{Attended, Talk};
+use std::alloc::Global;
 use std::process::Abort;
-use std::test::Fail;
 
 // The words of a row: `row NAME`, `in`, and how many entries are `taken` where no take is answered, the first one is, and both are;
 // what is written then, in `none`, `first` and `both`; and the entries of both takes, in `entries`.
@@ -61,72 +61,70 @@ both {"text":"Success","code":0}
 entries 7 0 0 o{"event":1}\n
 entries 7 1 0 o{"event":1}\n"#;
 
-// Serves a row over a disk of which that call fails, and answers how many of the two takes were answered where that ended the
-// connection. None: the device wasn't opened, or the call that fails comes after the connection.
+// How many takes were answered where so many entries are taken, the field that says what is written then, and how many entries the
+// spool may have beside those.
+fn takes_of(rt: &impl Abort, counts: &[u64], taken: u64) -> (usize, &'static str, u64) {
+    let [none, first, both] = counts else {
+        panic!(rt; "three counts are wanted");
+    };
+    if taken == *none {
+        return (0, "none", *first);
+    }
+    if taken == *first {
+        return (1, "first", *both);
+    }
+    assert!(rt; taken == *both, "another count: {taken}");
+    (2, "both", *both)
+}
+
+// What a row left over a disk of which that call failed is right. Answers how many of the two takes were answered where that ended the
+// connection. None: the call that fails comes after the connection.
 fn takes_before(
-    rt: &(impl Abort + AllocGlobal),
-    proto: Proto,
+    rt: &impl Abort,
+    alloc: Global,
     row: &str,
+    left: &Left,
     call: u64,
-) -> Result<Option<usize>, Fail> {
-    let alloc = rt.alloc();
-    let mut given = Given::of(alloc, row)?;
-    given.disk.push(call)?;
-    let Some(left) = serve(alloc, proto, given, 1000)? else {
-        return Ok(None);
-    };
+) -> Option<usize> {
     let Attended { talk, taken } = left.attended;
-    let counts = numbers_of(alloc, row, "taken")?;
-    let takes = counts.iter().position(|count| *count == taken);
-    let takes = takes.ok_or("another count")?;
-    let field = match takes {
-        0 => "none",
-        1 => "first",
-        2 => "both",
-        _ => return Err("no such count".into()),
-    };
-    let written = bytes_of(alloc, row, field)?;
-    assert_eq!(rt; left.written, written, "{proto:?}, call {call}");
-    if talk == Talk::DiskFault {
-        let next = counts.get(takes.saturating_add(1)).copied();
-        let count = left.count as u64;
-        assert!(rt;
-            count == taken || Some(count) == next,
-            "{proto:?}, call {call}: {count}"
-        );
-        let entries = bytes_of(alloc, row, "entries")?;
-        assert!(rt;
-            entries.starts_with(&left.entries),
-            "{proto:?}, call {call}"
-        );
-        return Ok(Some(takes));
+    let (takes, field, next) = takes_of(rt, &numbers_of(rt, alloc, row, "taken"), taken);
+    check_bytes(rt, alloc, row, field, &left.written);
+    if talk != Talk::DiskFault {
+        assert!(rt; talk == Talk::Ended && takes == 2, "call {call}: {talk:?}");
+        return None;
     }
     assert!(rt;
-        talk == Talk::Ended && takes == 2,
-        "{proto:?}, call {call}: {talk:?}"
+        left.count == taken || left.count == next,
+        "call {call}: another count"
     );
-    Ok(None)
+    let entries = bytes_of(rt, alloc, row, "entries");
+    assert!(rt;
+        entries.starts_with(&left.entries),
+        "call {call}: other entries"
+    );
+    Some(takes)
 }
 
 /// Whichever call of the disk fails, nothing is answered that isn't there, and nothing is written after
 /// the answers. Each of the two takes makes four calls.
-pub(crate) fn a_failed_call_of_the_disk_ends_the_connection(
-    rt: &(impl Abort + AllocGlobal),
-) -> Result<(), Fail> {
+pub(crate) fn a_failed_call_of_the_disk_ends_the_connection(rt: &impl Abort, alloc: Global) {
     for (proto, row) in [
         (Proto::Relp, RELP),
         (Proto::Lumberjack, LUMBERJACK),
         (Proto::Hec, COLLECTOR),
     ] {
-        check_form(row, WORDS, 1)?;
+        check_form(rt, row, WORDS, 1);
         let mut faults = [0_u32; 3];
         for call in 0..40 {
-            if let Some(takes) = takes_before(rt, proto, row, call)? {
-                let fault = faults.get_mut(takes).ok_or("no such count")?;
-                *fault = fault.saturating_add(1);
+            let left = serve(rt, alloc, proto, row, &[call], 1, 1000);
+            let Some(left) = left else {
+                continue;
+            };
+            if let Some(takes) = takes_before(rt, alloc, row, &left, call) {
+                assert!(rt; takes < 3);
+                faults[takes] = faults[takes].saturating_add(1);
             }
         }
-        assert_eq!(rt; faults, [4, 4, 0], "{proto:?}");
+        assert!(rt; faults == [4, 4, 0], "{proto:?}: {faults:?}");
     }
-    Ok(())
 }

@@ -2,8 +2,8 @@
 //! with one word are one field, and follow on one another. A line `- TEXT` is a comment.
 //!
 //! Bytes are spelled as they stand, and by `\n`, `\r`, `\0` and `\x` with two digits; `\{COUNT}` are so many letters x.
-use std::alloc::{AllocError, Global};
-use std::test::Fail;
+use std::alloc::Global;
+use std::process::Abort;
 
 // The first word of a line, and what follows the space after it.
 fn word(line: &str) -> (&str, &str) {
@@ -21,81 +21,70 @@ fn is_of(word: &str, words: &str) -> bool {
 }
 
 /// Refuses a text with a line that begins with none of these words, or with another number of rows.
-pub(crate) fn check_form(text: &str, words: &str, rows: usize) -> Result<(), Fail> {
+pub(crate) fn check_form(rt: &impl Abort, text: &str, words: &str, rows: usize) {
     let mut count = 1_usize;
     for line in text.lines() {
+        let (first, _) = word(line);
         if line.is_empty() {
             count = count.saturating_add(1);
-            continue;
-        }
-        let (first, _) = word(line);
-        if first != "-" && !is_of(first, words) {
-            return Err(Fail::new(format_args!("no such line: {line}")));
+        } else {
+            assert!(rt; first == "-" || is_of(first, words), "no such line: {line}");
         }
     }
-    if count != rows {
-        return Err(Fail::new(format_args!("{count} rows for {rows}")));
-    }
-    Ok(())
-}
-
-fn digit(byte: u8) -> Option<u8> {
-    char::from(byte).to_digit(16).map(|digit| digit as u8)
+    assert!(rt; count == rows, "{count} rows for {rows}");
 }
 
 // What stands after a backslash: a byte, how many of it, and what comes next.
-fn escaped(part: &str) -> Option<(u8, u32, &[u8])> {
-    if let Some(fill) = part.strip_prefix("{") {
-        let (count, rest) = fill.split_once('}')?;
-        return Some((b'x', count.parse::<u32>().ok()?, rest.as_bytes()));
-    }
-    match part.as_bytes() {
-        [b'n', rest @ ..] => Some((b'\n', 1, rest)),
-        [b'r', rest @ ..] => Some((b'\r', 1, rest)),
-        [b'0', rest @ ..] => Some((0, 1, rest)),
-        [b'x', high, low, rest @ ..] => {
-            let byte = digit(*high)?.wrapping_mul(16).wrapping_add(digit(*low)?);
-            Some((byte, 1, rest))
+fn escaped(part: &str) -> Option<(u8, usize, &str)> {
+    let (kind, rest) = part.split_at_checked(1)?;
+    match kind.as_bytes() {
+        b"n" => Some((b'\n', 1, rest)),
+        b"r" => Some((b'\r', 1, rest)),
+        b"0" => Some((0, 1, rest)),
+        b"x" => {
+            let (digits, rest) = rest.split_at_checked(2)?;
+            Some((u8::from_str_radix(digits, 16).ok()?, 1, rest))
+        }
+        b"{" => {
+            let (count, rest) = rest.split_once('}')?;
+            Some((b'x', count.parse::<usize>().ok()?, rest))
         }
         _ => None,
     }
 }
 
-// Adds the bytes that are spelled so, and answers whether there are such ones.
-fn add(bytes: &mut Vec<u8>, spelled: &str) -> Result<bool, AllocError> {
+// Adds the bytes that are spelled so.
+fn add(rt: &impl Abort, bytes: &mut Vec<u8>, spelled: &str) {
     for (number, part) in spelled.split('\\').enumerate() {
         if number == 0 {
-            bytes.extend_from_slice(part.as_bytes())?;
+            bytes
+                .extend_from_slice(part.as_bytes())
+                .expect(rt, "memory");
             continue;
         }
-        let Some((byte, times, rest)) = escaped(part) else {
-            return Ok(false);
-        };
-        for _ in 0..times {
-            bytes.push(byte)?;
-        }
-        bytes.extend_from_slice(rest)?;
+        let (byte, times, rest) = escaped(part).expect(rt, spelled);
+        let fill = vec![in *bytes.allocator(); byte; times].expect(rt, "memory");
+        bytes.extend_from_slice(&fill).expect(rt, "memory");
+        bytes
+            .extend_from_slice(rest.as_bytes())
+            .expect(rt, "memory");
     }
-    Ok(true)
 }
 
-/// The bytes that the lines with these words spell, one after another.
-pub(crate) fn bytes_of(alloc: Global, row: &str, words: &str) -> Result<Vec<u8>, Fail> {
+/// The bytes that the lines of a field spell, one after another.
+pub(crate) fn bytes_of(rt: &impl Abort, alloc: Global, row: &str, field: &str) -> Vec<u8> {
     let mut bytes = Vec::new(alloc);
     for line in row.lines() {
         let (first, spelled) = word(line);
-        if !is_of(first, words) {
-            continue;
-        }
-        if !add(&mut bytes, spelled)? {
-            return Err(Fail::new(format_args!("no such bytes: {line}")));
+        if first == field {
+            add(rt, &mut bytes, spelled);
         }
     }
-    Ok(bytes)
+    bytes
 }
 
 /// The numbers of a field, which stand with a space between them.
-pub(crate) fn numbers_of(alloc: Global, row: &str, field: &str) -> Result<Vec<u64>, Fail> {
+pub(crate) fn numbers_of(rt: &impl Abort, alloc: Global, row: &str, field: &str) -> Vec<u64> {
     let mut numbers = Vec::new(alloc);
     for line in row.lines() {
         let (first, spelled) = word(line);
@@ -103,26 +92,21 @@ pub(crate) fn numbers_of(alloc: Global, row: &str, field: &str) -> Result<Vec<u6
             continue;
         }
         for number in spelled.split(' ') {
-            match number.parse::<u64>() {
-                Ok(number) => numbers.push(number)?,
-                Err(_) => return Err(Fail::new(format_args!("no such numbers: {line}"))),
-            }
+            let number = number.parse::<u64>().expect(rt, line);
+            numbers.push(number).expect(rt, "memory");
         }
     }
-    Ok(numbers)
+    numbers
 }
 
-/// The number of a field; this one where the row hasn't the field.
-pub(crate) fn number_of(
-    alloc: Global,
-    row: &str,
-    field: &str,
-    otherwise: u64,
-) -> Result<u64, Fail> {
-    let numbers = numbers_of(alloc, row, field)?;
-    match numbers.as_slice() {
-        [] => Ok(otherwise),
-        [number] => Ok(*number),
-        _ => Err(Fail::new(format_args!("{field}: more numbers than one"))),
+/// The one number of a field; this one where the row hasn't the field.
+pub(crate) fn number_of(rt: &impl Abort, row: &str, field: &str, otherwise: u64) -> u64 {
+    let mut found = otherwise;
+    for line in row.lines() {
+        let (first, number) = word(line);
+        if first == field {
+            found = number.parse::<u64>().expect(rt, line);
+        }
     }
+    found
 }

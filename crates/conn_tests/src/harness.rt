@@ -10,7 +10,7 @@ use event_form::{Attended, Origin};
 use hec_ids::Ids;
 use spool_log::{Numbered, Opening, Spool, format};
 use std::alloc::Global;
-use std::test::Fail;
+use std::process::Abort;
 
 /// The number of the connection.
 const CONN: u64 = 7;
@@ -20,135 +20,142 @@ const TOKEN: u128 = 0x1111_1111_2222_3333_4444_5555_5555_5555;
 
 const ACK_TOKEN: u128 = 0xaaaa_aaaa_2222_3333_4444_5555_5555_5555;
 
-/// What a connection is given.
-#[derive(Drop)]
-pub(crate) struct Given {
-    /// The device with the spool.
-    pub(crate) device: Vec<u8>,
-    pub(crate) input: Vec<u8>,
-    /// Which calls of the disk, the input and the output fail, counted from 0.
-    pub(crate) disk: Vec<u64>,
-    pub(crate) reads: Vec<u64>,
-    pub(crate) writes: Vec<u64>,
-    /// How many ids of the run are used up.
-    pub(crate) ids: u32,
-}
-
-impl Given {
-    /// What a row gives: `slot SIZE`, how many bytes the one slot of the spool has, 4,096 where it isn't said and 1,000,000 at most;
-    /// `in BYTES`; `disk N`, `reads N` and `writes N`: the calls that fail; and `ids COUNT`, 0 where it isn't said.
-    pub(crate) fn of(alloc: Global, row: &str) -> Result<Given, Fail> {
-        let slot = number_of(alloc, row, "slot", 4096)?;
-        let ids = u32::try_from(number_of(alloc, row, "ids", 0)?);
-        Ok(Given {
-            ids: ids.ok().ok_or("too many ids")?,
-            device: device(alloc, slot)?,
-            input: bytes_of(alloc, row, "in")?,
-            disk: numbers_of(alloc, row, "disk")?,
-            reads: numbers_of(alloc, row, "reads")?,
-            writes: numbers_of(alloc, row, "writes")?,
-        })
-    }
-}
-
 /// What a connection left.
 #[derive(Drop)]
 pub(crate) struct Left {
     pub(crate) attended: Attended,
     pub(crate) written: Vec<u8>,
+    /// The entries that aren't confirmed, at most 4,096, one after another as `CONN INDEX UNIT`, the letter for the form, the text and
+    /// LF.
     pub(crate) entries: Vec<u8>,
-    /// How many entries the spool has that aren't confirmed, at most 4,096.
-    pub(crate) count: usize,
+    /// How many entries these are.
+    pub(crate) count: u64,
 }
 
-// An empty spool of one slot of so many bytes.
-fn device(alloc: Global, slot: u64) -> Result<Vec<u8>, Fail> {
-    if slot < 4096 || slot > 1_000_000 {
-        return Err("no such slot".into());
-    }
-    let len = 12_288 + slot as usize;
-    let mut disk = MemDisk::of(vec![in alloc; 0; len]?, Vec::new(alloc));
-    if format(&mut disk, 1, slot).is_err() {
-        return Err("format".into());
-    }
-    Ok(disk.bytes().to_vec(alloc)?)
+// A disk with an empty spool of one slot, of `slot SIZE` bytes: 4,096 where the row doesn't say it, and 1,000,000 at most. The calls
+// of `disk N` fail, counted from 0, and these.
+fn disk_of(rt: &impl Abort, alloc: Global, row: &str, failing: &[u64]) -> MemDisk {
+    let slot = number_of(rt, row, "slot", 4096);
+    assert!(rt; 4096 <= slot && slot <= 1_000_000, "no such slot");
+    let bytes = vec![in alloc; 0; 12_288 + slot as usize].expect(rt, "memory");
+    let mut disk = MemDisk::of(bytes, Vec::new(alloc));
+    assert!(rt; format(&mut disk, 1, slot).is_ok(), "format");
+    let mut calls = numbers_of(rt, alloc, row, "disk");
+    calls.extend_from_slice(failing).expect(rt, "memory");
+    MemDisk::of(disk.bytes().to_vec(alloc).expect(rt, "memory"), calls)
 }
 
-// The letter for the form of an event.
-fn letter(origin: Origin) -> u8 {
-    match origin {
-        Origin::Relp => b'r',
-        Origin::LumberData => b'd',
-        Origin::LumberJson => b'j',
-        Origin::HecEvent => b'o',
-        Origin::HecRaw => b'w',
-    }
-}
-
-// The entries, one after another as `CONN INDEX UNIT`, the letter for the form (`r` RELP, `d` pairs, `j` JSON, `o` an object, `w` a
-// raw line), the text and LF. A text of so many letters x, above 100, is shown as `x{COUNT}`.
-fn shown(alloc: Global, entries: &[Numbered]) -> Result<Vec<u8>, Fail> {
-    let mut out = Vec::new(alloc);
-    for Numbered { entry, .. } in entries {
-        let head = format!(in alloc; "{} {} {} ", entry.conn, entry.index, entry.unit)?;
-        out.extend_from_slice(head.as_bytes())?;
-        out.push(letter(entry.event.origin))?;
-        let text = entry.event.text.bytes();
-        if text.len() > 100 && text.iter().all(|&byte| byte == b'x') {
-            let fill = format!(in alloc; "x{{{}}}", text.len())?;
-            out.extend_from_slice(fill.as_bytes())?;
-        } else {
-            out.extend_from_slice(text)?;
+// The desk of a row, over a disk of which these calls fail too. Of the run's ids `ids COUNT` are used up, none where the row doesn't
+// say it. None: the device wasn't opened.
+fn desk_of(rt: &impl Abort, alloc: Global, row: &str, failing: &[u64]) -> Option<Alone<MemDisk>> {
+    let used = u32::try_from(number_of(rt, row, "ids", 0)).expect(rt, "too many ids");
+    match Spool::recover(alloc, disk_of(rt, alloc, row, failing), Opening::Raise) {
+        Ok(spool) => {
+            let ids = Ids::new(alloc, spool.run(), used);
+            Some(Alone::new(Desk { spool, ids }))
         }
-        out.push(b'\n')?;
+        Err(_) => None,
     }
-    Ok(out)
 }
 
-/// Serves a connection, at most `step` bytes in a read. None: the device wasn't opened.
+/// The bytes so many times.
+pub(crate) fn repeated(rt: &impl Abort, alloc: Global, bytes: &[u8], times: usize) -> Vec<u8> {
+    let mut all = Vec::new(alloc);
+    for _ in 0..times {
+        all.extend_from_slice(bytes).expect(rt, "memory");
+    }
+    all
+}
+
+// A link that gives the bytes of the row's `in` so many times, at most `step` of them in a read. The reads of `reads N` fail, and the
+// writes of `writes N`, counted from 0.
+fn link_of(
+    rt: &impl Abort,
+    alloc: Global,
+    row: &str,
+    times: usize,
+    step: usize,
+) -> Both<MemSource, MemSink>
+    requires { 0 < step }
+{
+    let input = repeated(rt, alloc, &bytes_of(rt, alloc, row, "in"), times);
+    let reads = numbers_of(rt, alloc, row, "reads");
+    let writes = numbers_of(rt, alloc, row, "writes");
+    Both {
+        source: MemSource::of(input, step, reads),
+        sink: MemSink::of(alloc, writes),
+    }
+}
+
+// The letter for the form of an event: RELP, pairs, JSON, an object, a raw line.
+fn letter(origin: Origin) -> char {
+    match origin {
+        Origin::Relp => 'r',
+        Origin::LumberData => 'd',
+        Origin::LumberJson => 'j',
+        Origin::HecEvent => 'o',
+        Origin::HecRaw => 'w',
+    }
+}
+
+// The entries that aren't confirmed, and how many these are.
+fn entries_of(rt: &impl Abort, alloc: Global, desk: &mut Alone<MemDisk>) -> (Vec<u8>, u64) {
+    let mut shown = Vec::new(alloc);
+    let Ok(pending) = desk.pending(0, 4096) else {
+        return (shown, 0);
+    };
+    for Numbered { entry, .. } in &pending {
+        let form = letter(entry.event.origin);
+        let head = format!(in alloc; "{} {} {} {form}", entry.conn, entry.index, entry.unit);
+        let head = head.expect(rt, "memory");
+        shown
+            .extend_from_slice(head.as_bytes())
+            .expect(rt, "memory");
+        shown
+            .extend_from_slice(entry.event.text.bytes())
+            .expect(rt, "memory");
+        shown.push(b'\n').expect(rt, "memory");
+    }
+    (shown, pending.len() as u64)
+}
+
+/// Serves a connection whose bytes are those of the row, so many times, at most `step` of them in a read. These calls of the disk fail,
+/// beside the row's. None: the device wasn't opened.
 pub(crate) fn serve(
+    rt: &impl Abort,
     alloc: Global,
     proto: Proto,
-    given: Given,
+    row: &str,
+    failing: &[u64],
+    times: usize,
     step: usize,
-) -> Result<Option<Left>, Fail>
-    requires some { 0 < step }
+) -> Option<Left>
+    requires { 0 < step }
 {
-    let Given {
-        device,
-        input,
-        disk,
-        reads,
-        writes,
-        ids,
-    } = given;
-    let disk = MemDisk::of(device, disk);
-    let Ok(spool) = Spool::recover(alloc, disk, Opening::Raise) else {
-        return Ok(None);
-    };
-    let ids = Ids::new(alloc, spool.run(), ids);
-    let mut access = Alone::new(Desk { spool, ids });
-    let mut source = MemSource::of(input, step, reads);
-    let mut sink = MemSink::of(alloc, writes);
-    let mut link = Both {
-        source: &mut source,
-        sink: &mut sink,
-    };
+    let mut desk = desk_of(rt, alloc, row, failing)?;
+    let mut link = link_of(rt, alloc, row, times, step);
     let rules = Rules {
         proto,
         token: Some(TOKEN),
         ack_token: Some(ACK_TOKEN),
     };
-    let attended = attend(alloc, &mut link, &rules, &mut access, CONN);
-    let Both { .. } = link;
-    let (entries, count) = match access.pending(0, 4096) {
-        Ok(pending) => (shown(alloc, &pending)?, pending.len()),
-        Err(_) => (Vec::new(alloc), 0),
-    };
-    Ok(Some(Left {
+    let attended = attend(alloc, &mut link, &rules, &mut desk, CONN);
+    let written = link.sink.taken().to_vec(alloc).expect(rt, "memory");
+    let (entries, count) = entries_of(rt, alloc, &mut desk);
+    Some(Left {
         attended,
-        written: sink.taken().to_vec(alloc)?,
+        written,
         entries,
         count,
-    }))
+    })
+}
+
+/// Refuses bytes that aren't those of the row's field, and shows the first 200 of them.
+pub(crate) fn check_bytes(rt: &impl Abort, alloc: Global, row: &str, field: &str, bytes: &[u8]) {
+    let want = bytes_of(rt, alloc, row, field);
+    let start = &bytes[..bytes.len().min(200)];
+    assert!(rt;
+        bytes == want.as_slice(),
+        "another {field}: {start:?} in {row}"
+    );
 }

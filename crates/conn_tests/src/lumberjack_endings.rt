@@ -118,7 +118,7 @@ in 2J\0\0\0\x01\0\0\x03\xeb\{1003}
 steps 1000
 ends Full { need: 1041, room: 1040 }, 1 taken
 out 2A\0\0\0\x01
-entries 7 0 1 jx{3000}\n
+entries 7 0 1 j\{3000}\n
 
 row a batch is refused at the end of the input
 in 2W\0\0\0\x01
@@ -128,7 +128,7 @@ in 2J\0\0\0\x01\0\0\x03\xeb\{1003}
 steps 1000
 ends Full { need: 1041, room: 1040 }, 1 taken
 out 2A\0\0\0\x01
-entries 7 0 1 jx{3000}\n
+entries 7 0 1 j\{3000}\n
 
 row a batch is refused at a fault
 in 2W\0\0\0\x01
@@ -139,7 +139,7 @@ in 2C
 steps 1000
 ends Full { need: 1041, room: 1040 }, 1 taken
 out 2A\0\0\0\x01
-entries 7 0 1 jx{3000}\n
+entries 7 0 1 j\{3000}\n
 
 row a batch is refused at a frame cut short
 in 2W\0\0\0\x01
@@ -150,7 +150,7 @@ in 2J\0
 steps 1000
 ends Full { need: 1041, room: 1040 }, 1 taken
 out 2A\0\0\0\x01
-entries 7 0 1 jx{3000}\n
+entries 7 0 1 j\{3000}\n
 
 row two events are one group, which no slot takes
 - Two events are one group, which has to fit whole.
@@ -167,5 +167,5 @@ in 2J\0\0\0\x02\0\0\x07\xdb\{2011}
 steps 1000
 ends Ended, 2 taken
 out 2A\0\0\0\x02
-entries 7 0 1 jx{2000}\n
-entries 7 1 2 jx{2011}\n"#;
+entries 7 0 1 j\{2000}\n
+entries 7 1 2 j\{2011}\n"#;

@@ -85,8 +85,8 @@ slot 524288
 ends Ended, 4 taken
 out 2A\0\0\0\x01
 out 2A\0\0\0\x03
-entries 7 0 1 jx{131072}\n
-entries 7 1 1 jx{131072}\n
+entries 7 0 1 j\{131072}\n
+entries 7 1 1 j\{131072}\n
 entries 7 2 2 j{}\n
 entries 7 3 3 j[]\n
 
@@ -104,8 +104,8 @@ ends Ended, 5 taken
 out 2A\0\0\0\x02
 out 2A\0\0\0\x04
 out 2A\0\0\0\x05
-entries 7 0 1 jx{131072}\n
-entries 7 1 2 jx{131072}\n
-entries 7 2 3 jx{131072}\n
-entries 7 3 4 jx{131072}\n
-entries 7 4 5 jx{131072}\n"#;
+entries 7 0 1 j\{131072}\n
+entries 7 1 2 j\{131072}\n
+entries 7 2 3 j\{131072}\n
+entries 7 3 4 j\{131072}\n
+entries 7 4 5 j\{131072}\n"#;

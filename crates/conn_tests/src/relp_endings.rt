@@ -47,7 +47,7 @@ ends Full { need: 1041, room: 1040 }, 1 taken
 out 1 rsp 66 200 OK\nrelp_version=0\nrelp_software=bridge,1,local\ncommands=syslog\n
 out 2 rsp 6 200 OK\n
 out 0 serverclose 0\n
-entries 7 0 2 rx{3000}\n
+entries 7 0 2 r\{3000}\n
 
 row the hint is not written
 in 1 open 50 relp_version=0\nrelp_software=a,1,b\ncommands=syslog\n
@@ -59,7 +59,7 @@ writes 2
 ends WriteFault, 1 taken
 out 1 rsp 66 200 OK\nrelp_version=0\nrelp_software=bridge,1,local\ncommands=syslog\n
 out 2 rsp 6 200 OK\n
-entries 7 0 2 rx{3000}\n
+entries 7 0 2 r\{3000}\n
 
 row an exact fit, and a group that no slot takes
 in 1 open 50 relp_version=0\nrelp_software=a,1,b\ncommands=syslog\n
@@ -70,4 +70,4 @@ ends TooLarge { need: 4079, most: 4078 }, 1 taken
 out 1 rsp 66 200 OK\nrelp_version=0\nrelp_software=bridge,1,local\ncommands=syslog\n
 out 2 rsp 6 200 OK\n
 out 0 serverclose 0\n
-entries 7 0 2 rx{4040}\n"#;
+entries 7 0 2 r\{4040}\n"#;

@@ -128,7 +128,7 @@ out 2 rsp 6 200 OK\n
 out 3 rsp 6 200 OK\n
 out 4 rsp 6 200 OK\n
 out 5 rsp 6 200 OK\n
-entries 7 0 2 rx{131072}\n
-entries 7 1 3 rx{131072}\n
+entries 7 0 2 r\{131072}\n
+entries 7 1 3 r\{131072}\n
 entries 7 2 4 ra\n
 entries 7 3 5 rb\n"#;

@@ -1,146 +1,111 @@
-use edge_disk::{Disk, DiskFault, FileDisk, OpenFault, Sharing};
-use std::path::PathBuf;
-use std::test::Fail;
-use std::{env, fs, process};
+//! Disks that are files.
+use edge_disk::{Disk, FileDisk, OpenFault, Sharing};
+use std::process::{self, Abort};
+use std::{env, fs};
 
-// A path of this process where no file is, in the system's folder for temporary files.
-fn path_of(rt: &HostRuntime, name: &str) -> Result<PathBuf, Fail> {
-    let alloc = rt.alloc();
-    let name = format!(in alloc; "edge_disk_{}_{name}", process::id(rt.process()))?;
-    let path = env::temp_dir(rt)?.join(alloc, name.as_str())?;
-    let _ = fs::remove_file(rt, path.as_path());
-    Ok(path)
+// The name of a file of this process.
+fn file_name(rt: &impl Abort, host: &HostRuntime) -> String {
+    format!(in host.alloc(); "edge_disk_{}", process::id(host.process())).expect(rt, "memory")
 }
 
-pub(crate) fn a_file_keeps_its_bytes(rt: &HostRuntime) -> Result<bool, Fail> {
-    let place = path_of(rt, "kept")?;
-    let path = place.to_str().ok_or("path")?;
-    if FileDisk::open(rt, path).is_ok() {
-        return Ok(false);
-    }
-    let mut disk = FileDisk::make(rt, path, 4).ok().ok_or("make")?;
-    if disk.len() != 4 {
-        return Ok(false);
-    }
-    if disk.write_at(1, &[2, 3]) != Ok(()) {
-        return Ok(false);
-    }
-    if disk.sync() != Ok(()) {
-        return Ok(false);
-    }
-    drop(disk);
-    if fs::read(rt, path)?.as_slice() != [0, 2, 3, 0].as_slice() {
-        return Ok(false);
-    }
-    let mut disk = FileDisk::open(rt, path).ok().ok_or("open")?;
-    if disk.len() != 4 {
-        return Ok(false);
-    }
+// The path where a file of that name is in the system's folder for temporary files. No file is there.
+fn path_of(rt: &impl Abort, host: &HostRuntime, name: &str) -> String {
+    let folder = env::temp_dir(host).expect(rt, "a folder");
+    let path = folder.join(host.alloc(), name).expect(rt, "memory");
+    let _ = fs::remove_file(host, path.as_path());
+    let text = path.to_str().expect(rt, "a path that is text");
+    text.to_string(host.alloc()).expect(rt, "memory")
+}
+
+// Whether the file holds these bytes.
+fn holds(rt: &impl Abort, host: &HostRuntime, path: &str, want: &[u8]) -> bool {
+    let bytes = fs::read(host, path).expect(rt, "a file");
+    bytes.as_slice() == want
+}
+
+// Makes a disk of four bytes where no file is, and writes two of them.
+fn write_two(rt: &impl Abort, host: &HostRuntime, path: &str) {
+    assert!(rt; FileDisk::open(host, path).is_err());
+    let mut disk = FileDisk::make(host, path, 4).expect(rt, "make");
+    assert!(rt; disk.len() == 4);
+    assert!(rt; disk.write_at(1, &[2, 3]).is_ok() && disk.sync().is_ok());
+}
+
+fn a_file_keeps_its_bytes(rt: &impl Abort, host: &HostRuntime, path: &str) {
+    write_two(rt, host, path);
+    assert!(rt; holds(rt, host, path, &[0, 2, 3, 0]));
+    let mut disk = FileDisk::open(host, path).expect(rt, "open");
+    assert!(rt; disk.len() == 4);
     let mut buf = [9; 3];
-    if disk.read_at(0, &mut buf) != Ok(()) {
-        return Ok(false);
-    }
-    if buf != [0, 2, 3] {
-        return Ok(false);
-    }
+    assert!(rt; disk.read_at(0, &mut buf).is_ok() && buf == [0, 2, 3]);
     // A file that has become shorter gives no bytes in place of those that are gone.
-    fs::write(rt, path, b"\x01".as_slice())?;
-    if disk.read_at(0, &mut buf) != Err(DiskFault) {
-        return Ok(false);
-    }
-    fs::remove_file(rt, path)?;
-    Ok(true)
+    fs::write(host, path, b"\x01".as_slice()).expect(rt, "write");
+    assert!(rt; disk.read_at(0, &mut buf).is_err());
+    fs::remove_file(host, path).expect(rt, "remove");
 }
 
-pub(crate) fn a_length_is_set_where_there_is_none(rt: &HostRuntime) -> Result<bool, Fail> {
-    let place = path_of(rt, "made")?;
-    let path = place.to_str().ok_or("path")?;
-    // an empty file gets the length
-    fs::write(rt, path, b"".as_slice())?;
-    let disk = FileDisk::make(rt, path, 3).ok().ok_or("make")?;
-    if disk.len() != 3 {
-        return Ok(false);
-    }
+// Makes the disk, and sees that it and its file hold these two bytes.
+fn check_made(rt: &impl Abort, host: &HostRuntime, path: &str, len: u64, want: [u8; 2]) {
+    let mut disk = FileDisk::make(host, path, len).expect(rt, "make");
+    assert!(rt; disk.len() == 2);
+    let mut buf = [9; 2];
+    assert!(rt; disk.read_at(0, &mut buf).is_ok() && buf == want);
     drop(disk);
-    if fs::read(rt, path)?.as_slice() != [0; 3].as_slice() {
-        return Ok(false);
-    }
+    assert!(rt; holds(rt, host, path, &want));
+}
+
+fn a_length_is_set_where_there_is_none(rt: &impl Abort, host: &HostRuntime, path: &str) {
+    // an empty file gets the length
+    fs::write(host, path, b"".as_slice()).expect(rt, "write");
+    let disk = FileDisk::make(host, path, 3).expect(rt, "make");
+    assert!(rt; disk.len() == 3);
+    drop(disk);
+    assert!(rt; holds(rt, host, path, &[0; 3]));
     // one with bytes keeps them and its length, whichever length is asked for
     for len in [0, 1, 9] {
-        fs::write(rt, path, b"\x07\x08".as_slice())?;
-        let mut disk = FileDisk::make(rt, path, len).ok().ok_or("make again")?;
-        if disk.len() != 2 {
-            return Ok(false);
-        }
-        let mut buf = [9; 2];
-        if disk.read_at(0, &mut buf) != Ok(()) {
-            return Ok(false);
-        }
-        if buf != [7, 8] {
-            return Ok(false);
-        }
-        drop(disk);
-        if fs::read(rt, path)?.as_slice() != [7, 8].as_slice() {
-            return Ok(false);
-        }
+        fs::write(host, path, b"\x07\x08".as_slice()).expect(rt, "write");
+        check_made(rt, host, path, len, [7, 8]);
     }
-    fs::remove_file(rt, path)?;
-    Ok(true)
+    fs::remove_file(host, path).expect(rt, "remove");
 }
 
-pub(crate) fn a_name_alone_is_one_in_the_current_folder(rt: &HostRuntime) -> Result<bool, Fail> {
-    let path = format!(in rt.alloc(); "edge_disk_{}_alone", process::id(rt.process()))?;
-    let disk = FileDisk::make(rt, &path, 2).ok().ok_or("make")?;
-    if disk.len() != 2 {
-        return Ok(false);
-    }
-    drop(disk);
-    if fs::read(rt, path.as_str())?.as_slice() != [0; 2].as_slice() {
-        return Ok(false);
-    }
-    fs::remove_file(rt, path.as_str())?;
-    Ok(true)
+// Whether another program has the file open, and doesn't share it.
+fn is_in_use(opened: Result<FileDisk, OpenFault>) -> bool {
+    matches!(opened, Err(OpenFault::InUse))
 }
 
-pub(crate) fn a_file_in_use_is_not_opened(rt: &HostRuntime) -> Result<bool, Fail> {
-    let place = path_of(rt, "shared")?;
-    let path = place.to_str().ok_or("path")?;
-    let fault_of = |opened: Result<FileDisk, OpenFault>| opened.err();
-    let first = FileDisk::make_locked(rt, path, 2).ok().ok_or("make")?;
-    // nobody else has what one program has for itself
+// Nobody else has what one program has for itself.
+fn a_file_in_use_is_not_opened(rt: &impl Abort, host: &HostRuntime, path: &str) {
+    let first = FileDisk::make_locked(host, path, 2).expect(rt, "make");
     for sharing in [Sharing::Exclusive, Sharing::Shared] {
-        let second = FileDisk::open_locked(rt, path, sharing);
-        if fault_of(second) != Some(OpenFault::InUse) {
-            return Ok(false);
-        }
+        assert!(rt; is_in_use(FileDisk::open_locked(host, path, sharing)));
     }
-    if fault_of(FileDisk::make_locked(rt, path, 9)) != Some(OpenFault::InUse) {
-        return Ok(false);
-    }
-    if FileDisk::open(rt, path).is_ok() {
-        return Ok(false);
-    }
+    assert!(rt; is_in_use(FileDisk::make_locked(host, path, 9)));
+    assert!(rt; FileDisk::open(host, path).is_err());
     drop(first);
-    // those that share it have it together, and nobody has it alone
-    let first = FileDisk::open_locked(rt, path, Sharing::Shared)
-        .ok()
-        .ok_or("first")?;
-    let second = FileDisk::open_locked(rt, path, Sharing::Shared)
-        .ok()
-        .ok_or("second")?;
+}
+
+// Those that share a file have it together, and nobody has it alone.
+fn a_file_is_shared(rt: &impl Abort, host: &HostRuntime, path: &str) {
+    let first = FileDisk::open_locked(host, path, Sharing::Shared).expect(rt, "first");
+    let second = FileDisk::open_locked(host, path, Sharing::Shared).expect(rt, "second");
     drop(first);
-    let third = FileDisk::open_locked(rt, path, Sharing::Exclusive);
-    if fault_of(third) != Some(OpenFault::InUse) {
-        return Ok(false);
-    }
+    assert!(rt; is_in_use(FileDisk::open_locked(host, path, Sharing::Exclusive)));
     drop(second);
-    if FileDisk::open(rt, path).is_err() {
-        return Ok(false);
-    }
-    fs::remove_file(rt, path)?;
-    let gone = FileDisk::open_locked(rt, path, Sharing::Exclusive);
-    if fault_of(gone) != Some(OpenFault::NotFound) {
-        return Ok(false);
-    }
-    Ok(true)
+    assert!(rt; FileDisk::open(host, path).is_ok());
+    fs::remove_file(host, path).expect(rt, "remove");
+    let gone = FileDisk::open_locked(host, path, Sharing::Exclusive);
+    assert!(rt; matches!(gone, Err(OpenFault::NotFound)));
+}
+
+/// Files in the folder for temporary files, and one that is made by its name alone, in the current folder.
+pub(crate) fn files_are_disks(rt: &impl Abort, host: &HostRuntime) {
+    let name = file_name(rt, host);
+    let path = path_of(rt, host, &name);
+    a_file_keeps_its_bytes(rt, host, &path);
+    a_length_is_set_where_there_is_none(rt, host, &path);
+    a_file_in_use_is_not_opened(rt, host, &path);
+    a_file_is_shared(rt, host, &path);
+    check_made(rt, host, &name, 2, [0, 0]);
+    fs::remove_file(host, name.as_str()).expect(rt, "remove");
 }

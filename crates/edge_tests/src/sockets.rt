@@ -1,16 +1,17 @@
+//! Links, doors and a net over the loopback's sockets.
 use edge_io::{Door, Net, NetFault, Pause, Proto, ReadFault, Sink, Source, Stopped, write_whole};
 use edge_net::{TcpDoor, TcpLink, TcpNet};
 use std::net::TcpListener;
 use std::process::Abort;
-use std::test::Fail;
+use std::rt::Clock;
+use std::thread::{self, Threads};
 use std::time::{Duration, Instant};
-use std::{io, thread};
 
 // A port of the loopback at which nobody listens.
-fn free_place(rt: &HostRuntime) -> io::Result<String> {
-    let listener = TcpListener::bind(rt, "127.0.0.1:0")?;
-    let place = listener.local_addr()?;
-    Ok(format!(in rt.alloc(); "{place}")?)
+fn free_place(rt: &impl Abort, host: &HostRuntime) -> String {
+    let listener = TcpListener::bind(host, "127.0.0.1:0").expect(rt, "a free port");
+    let place = listener.local_addr().expect(rt, "an address");
+    format!(in host.alloc(); "{place}").expect(rt, "memory")
 }
 
 // A link that is dialed at the place, and the link that the door accepts for it.
@@ -39,65 +40,73 @@ fn pass(rt: &impl Abort, from: &mut TcpLink, to: &mut TcpLink, piece: &[u8]) {
     assert!(rt; buf.starts_with(piece) && n == piece.len());
 }
 
-#[test]
-fn links_are_dialed_accepted_read_and_written(rt: HostRuntime) -> Result<(), Fail> {
-    let place = free_place(&rt)?;
-    let mut net = TcpNet::new(rt.alloc(), &rt);
-    let doors = net.bind(&place, 2).expect(&rt, "a free port");
-    assert_eq!(rt; doors.len(), 2);
-    for mut door in doors {
-        let (mut near, mut far) = pair(&rt, &mut net, &mut door, &place);
-        pass(&rt, &mut near, &mut far, b"question");
-        pass(&rt, &mut far, &mut near, b"answer");
+fn links_are_dialed_accepted_read_and_written(
+    rt: &impl Abort,
+    net: &mut TcpNet<'_, HostRuntime>,
+    place: &str,
+) {
+    let mut doors = net.bind(place, 2).expect(rt, "a free port");
+    assert!(rt; doors.len() == 2);
+    for door in doors.iter_mut() {
+        let (mut near, mut far) = pair(rt, net, door, place);
+        pass(rt, &mut near, &mut far, b"question");
+        pass(rt, &mut far, &mut near, b"answer");
         net.hang_up(near);
-        assert_eq!(rt; far.read(&mut [0u8; 16]), Ok(0), "the peer has hung up");
-        door.give_back(far, Proto::Relp, 0, 0)?;
+        assert!(rt; far.read(&mut [0u8; 16]) == Ok(0), "the peer has hung up");
+        assert!(rt; door.give_back(far, Proto::Relp, 0, 0).is_ok());
     }
-    Ok(())
 }
 
-#[test]
-fn a_port_that_is_taken_is_a_fault(rt: HostRuntime) -> Result<(), Fail> {
-    let place = free_place(&rt)?;
-    let mut net = TcpNet::new(rt.alloc(), &rt);
-    let door = bound(&rt, &mut net, &place);
-    assert!(rt;
-        matches!(net.bind(&place, 1), Err(NetFault::Fault)),
-        "the port is taken"
-    );
+fn a_port_that_is_taken_is_a_fault(
+    rt: &impl Abort,
+    net: &mut TcpNet<'_, HostRuntime>,
+    place: &str,
+) {
+    let door = bound(rt, net, place);
+    let taken = net.bind(place, 1);
+    assert!(rt; matches!(taken, Err(NetFault::Fault)), "the port is taken");
     drop(door);
-    assert!(rt; net.bind(&place, 1).is_ok(), "the port is free again");
-    Ok(())
+    assert!(rt; net.bind(place, 1).is_ok(), "the port is free again");
 }
 
-#[test]
-fn a_place_that_nobody_serves_is_a_fault(rt: HostRuntime) -> Result<(), Fail> {
-    let free = free_place(&rt)?;
-    let mut net = TcpNet::new(rt.alloc(), &rt);
-    for place in [free.as_str(), "", "127.0.0.1", "127.0.0.1:port"] {
-        assert!(rt; matches!(net.dial(place), Err(NetFault::Fault)), "{place}");
+fn a_place_that_nobody_serves_is_a_fault(
+    rt: &impl Abort,
+    net: &mut TcpNet<'_, HostRuntime>,
+    free: &str,
+) {
+    for place in [free, "", "127.0.0.1", "127.0.0.1:port"] {
+        let dialed = net.dial(place);
+        assert!(rt; matches!(dialed, Err(NetFault::Fault)), "{place}");
     }
-    assert!(rt;
-        matches!(net.bind("127.0.0.1", 1), Err(NetFault::Fault)),
-        "no port"
-    );
-    Ok(())
+    let bound = net.bind("127.0.0.1", 1);
+    assert!(rt; matches!(bound, Err(NetFault::Fault)), "no port");
 }
 
-#[test]
-fn a_peer_that_resets_is_a_fault(rt: HostRuntime) -> Result<(), Fail> {
-    let place = free_place(&rt)?;
-    let mut net = TcpNet::new(rt.alloc(), &rt);
-    let mut door = bound(&rt, &mut net, &place);
-    let (mut near, mut far) = pair(&rt, &mut net, &mut door, &place);
-    assert_eq!(rt; far.write(b"unread"), Ok(6));
-    assert_eq!(rt; near.read(&mut [0u8; 1]), Ok(1));
+fn a_peer_that_resets_is_a_fault(rt: &impl Abort, net: &mut TcpNet<'_, HostRuntime>, place: &str) {
+    let mut door = bound(rt, net, place);
+    let (mut near, mut far) = pair(rt, net, &mut door, place);
+    assert!(rt; far.write(b"unread") == Ok(6));
+    assert!(rt; near.read(&mut [0u8; 1]) == Ok(1));
     // Closed with bytes unread, it resets the connection.
     net.hang_up(near);
-    assert_eq!(rt; far.read(&mut [0u8; 16]), Err(ReadFault));
+    assert!(rt; far.read(&mut [0u8; 16]) == Err(ReadFault));
     assert!(rt; far.write(b"more").is_err());
-    door.give_back(far, Proto::Relp, 0, 0)?;
-    Ok(())
+    assert!(rt; door.give_back(far, Proto::Relp, 0, 0).is_ok());
+}
+
+// A peer that is silent and stays is given up.
+fn a_silent_peer_is_given_up(
+    rt: &(impl Abort + Clock),
+    net: &mut TcpNet<'_, HostRuntime>,
+    door: &mut TcpDoor,
+    place: &str,
+) {
+    let (mut silent, unread) = pair(rt, net, door, place);
+    let start = Instant::now(rt).expect(rt, "a clock");
+    assert!(rt; door.give_back(unread, Proto::Hec, 0, 66).is_ok());
+    let waited = start.elapsed(rt).expect(rt, "a clock");
+    assert!(rt; waited < Duration::from_secs(20));
+    assert!(rt; silent.read(&mut [0u8; 16]) == Ok(0));
 }
 
 // Sends the whole piece before it reads: whether that went, whether "answer" comes then, and what comes after it.
@@ -115,44 +124,36 @@ fn answers_and_gives_back(mut door: TcpDoor, mut link: TcpLink) -> bool {
     answered && given
 }
 
-#[test]
-fn a_link_given_back_unread_ends_after_its_answer(rt: HostRuntime) -> Result<(), Fail> {
-    let place = free_place(&rt)?;
-    let mut net = TcpNet::new(rt.alloc(), &rt);
-    let mut door = bound(&rt, &mut net, &place);
-    let (mut silent, unread) = pair(&rt, &mut net, &mut door, &place);
-    let start = Instant::now(&rt)?;
-    door.give_back(unread, Proto::Hec, 0, 66)?;
-    assert!(rt;
-        start.elapsed(&rt)? < Duration::from_secs(20),
-        "a peer that is silent and stays is given up"
-    );
-    assert_eq!(rt; silent.read(&mut [0u8; 16]), Ok(0));
-    let (near, far) = pair(&rt, &mut net, &mut door, &place);
-    let piece = vec![in rt.alloc(); b'x'; 4_194_304]?;
+fn a_link_given_back_unread_ends_after_its_answer(
+    rt: &(impl Abort + AllocGlobal + Clock + Threads),
+    net: &mut TcpNet<'_, HostRuntime>,
+    place: &str,
+) {
+    let mut door = bound(rt, net, place);
+    a_silent_peer_is_given_up(rt, net, &mut door, place);
+    let (near, far) = pair(rt, net, &mut door, place);
+    let piece = vec![in rt.alloc(); b'x'; 4_194_304].expect(rt, "memory");
     let (heard, answered) = thread::join(
-        &rt,
+        rt,
         move || sends_then_hears(near, &piece),
         move || answers_and_gives_back(door, far),
     );
-    assert!(rt; answered);
-    assert_eq!(rt; heard, (true, true, Ok(0)));
-    Ok(())
+    assert!(rt; answered && heard == (true, true, Ok(0)));
 }
 
-#[test]
-fn a_write_ends_when_the_peer_that_stopped_reading_goes(rt: HostRuntime) -> Result<(), Fail> {
-    let place = free_place(&rt)?;
-    let mut net = TcpNet::new(rt.alloc(), &rt);
-    let mut door = bound(&rt, &mut net, &place);
-    let (mut near, far) = pair(&rt, &mut net, &mut door, &place);
-    let piece = vec![in rt.alloc(); b'x'; 67_108_864]?;
-    let clock = &rt;
+fn a_write_ends_when_the_peer_that_stopped_reading_goes(
+    rt: &(impl Abort + AllocGlobal + Clock + Sync + Threads),
+    net: &mut TcpNet<'_, HostRuntime>,
+    place: &str,
+) {
+    let mut door = bound(rt, net, place);
+    let (mut near, far) = pair(rt, net, &mut door, place);
+    let piece = vec![in rt.alloc(); b'x'; 67_108_864].expect(rt, "memory");
     let (wrote, ()) = thread::join(
-        &rt,
+        rt,
         move || write_whole(&mut near, &piece),
         || {
-            thread::sleep(clock, Duration::from_millis(300));
+            thread::sleep(rt, Duration::from_millis(300));
             drop(far);
         },
     );
@@ -160,13 +161,26 @@ fn a_write_ends_when_the_peer_that_stopped_reading_goes(rt: HostRuntime) -> Resu
         matches!(wrote, Err(Stopped { sent }) if 0 < sent && sent < 67_108_864),
         "{wrote:?}"
     );
-    Ok(())
 }
 
-#[test]
-fn a_pause_takes_a_while(rt: HostRuntime) -> Result<(), Fail> {
-    let start = Instant::now(&rt)?;
-    TcpNet::new(rt.alloc(), &rt).pause();
-    assert!(rt; Duration::from_millis(500) < start.elapsed(&rt)?);
-    Ok(())
+fn a_pause_takes_a_while(rt: &(impl Abort + Clock), net: &mut TcpNet<'_, HostRuntime>) {
+    let start = Instant::now(rt).expect(rt, "a clock");
+    net.pause();
+    let waited = start.elapsed(rt).expect(rt, "a clock");
+    assert!(rt; Duration::from_millis(500) < waited);
+}
+
+/// Each is done at a port of its own, so that none meets what another one left there.
+pub(crate) fn sockets_are_links(
+    rt: &(impl Abort + AllocGlobal + Clock + Sync + Threads),
+    host: &HostRuntime,
+) {
+    let mut net = TcpNet::new(rt.alloc(), host);
+    links_are_dialed_accepted_read_and_written(rt, &mut net, &free_place(rt, host));
+    a_port_that_is_taken_is_a_fault(rt, &mut net, &free_place(rt, host));
+    a_place_that_nobody_serves_is_a_fault(rt, &mut net, &free_place(rt, host));
+    a_peer_that_resets_is_a_fault(rt, &mut net, &free_place(rt, host));
+    a_link_given_back_unread_ends_after_its_answer(rt, &mut net, &free_place(rt, host));
+    a_write_ends_when_the_peer_that_stopped_reading_goes(rt, &mut net, &free_place(rt, host));
+    a_pause_takes_a_while(rt, &mut net);
 }

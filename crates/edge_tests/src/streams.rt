@@ -7,7 +7,7 @@ use edge_io::{
 use std::alloc::Global;
 use std::collections::VecDeque;
 use std::io::{self, ErrorKind, Read, Write};
-use std::test::Fail;
+use std::process::Abort;
 
 // Sources of the text `hello, world` that give so many bytes at a time, the calls of them that fail, and what
 // reads into a buffer of four bytes give, each after a bar: bytes, or `fault`.
@@ -19,49 +19,46 @@ const READS: [(usize, &[u64], &str); 5] = [
     (1, &[1, 1, 99], "h|fault|e|l|l|o"),
 ];
 
-pub(crate) fn reads_in_steps_and_to_the_end(alloc: Global) -> Result<bool, Fail> {
-    for (step, failing, wants) in READS {
-        if step == 0 {
-            return Ok(false);
-        }
-        let bytes = b"hello, world".to_vec(alloc)?;
-        let mut source = MemSource::of(bytes, step, failing.to_vec(alloc)?);
-        for want in wants.split('|') {
-            let mut buf = [0u8; 4];
-            let is_right = match source.read(&mut buf) {
-                Ok(n) => want.as_bytes() == &buf[..n],
-                Err(ReadFault) => want == "fault",
-            };
-            if !is_right {
-                return Ok(false);
-            }
+// Whether the reads give this, each after a bar.
+fn gives(source: &mut MemSource, wants: &str) -> bool {
+    for want in wants.split('|') {
+        let mut buf = [0u8; 4];
+        let is_right = match source.read(&mut buf) {
+            Ok(n) => want.as_bytes() == &buf[..n],
+            Err(ReadFault) => want == "fault",
+        };
+        if !is_right {
+            return false;
         }
     }
-    Ok(true)
+    true
 }
 
-pub(crate) fn writes_but_those_that_fail(alloc: Global) -> Result<bool, Fail> {
-    let mut sink = MemSink::of(alloc, [1, 4].to_vec(alloc)?);
-    let rows = [
+pub(crate) fn reads_in_steps_and_to_the_end(rt: &impl Abort, alloc: Global) {
+    for (step, failing, wants) in READS {
+        assert!(rt; step > 0);
+        let bytes = b"hello, world".to_vec(alloc).expect(rt, "memory");
+        let failing = failing.to_vec(alloc).expect(rt, "memory");
+        let mut source = MemSource::of(bytes, step, failing);
+        assert!(rt; gives(&mut source, wants), "{wants}");
+    }
+}
+
+pub(crate) fn writes_but_those_that_fail(rt: &impl Abort, alloc: Global) {
+    let failing = [1, 4].to_vec(alloc).expect(rt, "memory");
+    let mut sink = MemSink::of(alloc, failing);
+    for (piece, want, taken) in [
         ("ab", Ok(2), "ab"),
         ("cd", Err(WriteFault), "ab"),
         ("", Ok(0), "ab"),
         ("efg", Ok(3), "abefg"),
         ("", Err(WriteFault), "abefg"),
         ("h", Ok(1), "abefgh"),
-    ];
-    for (piece, want, taken) in rows {
-        if sink.write(piece.as_bytes()) != want {
-            return Ok(false);
-        }
-        if sink.taken() != taken.as_bytes() {
-            return Ok(false);
-        }
+    ] {
+        let wrote = sink.write(piece.as_bytes());
+        assert!(rt; wrote == want && sink.taken() == taken.as_bytes());
     }
-    if sink.starved() != 0 {
-        return Ok(false);
-    }
-    Ok(true)
+    assert!(rt; sink.starved() == 0);
 }
 
 // A sink that takes at most three bytes of a piece, and so many pieces.
@@ -102,27 +99,21 @@ impl Sink for Trickle {
     }
 }
 
-pub(crate) fn a_piece_is_written_whole_or_its_start_is(alloc: Global) -> Result<bool, Fail> {
-    let rows = [
+pub(crate) fn a_piece_is_written_whole_or_its_start_is(rt: &impl Abort, alloc: Global) {
+    for (pieces, piece, want, taken) in [
         (9, "0123456789", Ok(()), "0123456789"),
         (2, "0123456789", Err(Stopped { sent: 6 }), "012345"),
         (0, "0123456789", Err(Stopped { sent: 0 }), ""),
         (0, "", Ok(()), ""),
-    ];
-    for (pieces, piece, want, taken) in rows {
+    ] {
         let mut sink = Trickle {
             bytes: Vec::new(alloc),
             pieces,
             faults: 0,
         };
-        if write_whole(&mut sink, piece.as_bytes()) != want {
-            return Ok(false);
-        }
-        if sink.bytes.as_slice() != taken.as_bytes() {
-            return Ok(false);
-        }
+        let wrote = write_whole(&mut sink, piece.as_bytes());
+        assert!(rt; wrote == want && sink.bytes.as_slice() == taken.as_bytes());
     }
-    Ok(true)
 }
 
 // Writes what one read gives.
@@ -134,33 +125,25 @@ fn echo<L: Link>(link: &mut L) -> bool {
     }
 }
 
-pub(crate) fn links_read_and_write(alloc: Global) -> Result<bool, Fail> {
-    let mut source = MemSource::of(b"over and out".to_vec(alloc)?, 5, [1].to_vec(alloc)?);
+pub(crate) fn links_read_and_write(rt: &impl Abort, alloc: Global) {
+    let bytes = b"over and out".to_vec(alloc).expect(rt, "memory");
+    let failing = [1].to_vec(alloc).expect(rt, "memory");
+    let mut source = MemSource::of(bytes, 5, failing);
     let mut sink = MemSink::of(alloc, Vec::new(alloc));
     let mut both = Both {
         source: &mut source,
         sink: &mut sink,
     };
     let answers = [echo(&mut both), echo(&mut both), echo(&mut both)];
-    if answers != [true, false, true] {
-        return Ok(false);
-    }
-    if sink.taken() != "over and o".as_bytes() {
-        return Ok(false);
-    }
+    assert!(rt; answers == [true, false, true]);
+    assert!(rt; sink.taken() == "over and o".as_bytes());
     let mut link = MemLink::of(source, sink);
-    if !echo(&mut link) {
-        return Ok(false);
-    }
-    let mut buf = [0u8; 8];
-    if link.read(&mut buf) != Ok(0) {
-        return Ok(false);
-    }
-    Ok(true)
+    assert!(rt; echo(&mut link));
+    assert!(rt; link.read(&mut [0u8; 8]) == Ok(0));
 }
 
 // What of a device fails.
-#[derive(Clone, Copy, PartialEq, Eq, Debug)]
+#[derive(Clone, Copy)]
 enum Part {
     Read,
     Write,
@@ -198,34 +181,22 @@ impl Write for Device {
     }
 }
 
-pub(crate) fn files_pass_bytes_and_tell_errors(alloc: Global) -> Result<bool, Fail> {
+pub(crate) fn files_pass_bytes_and_tell_errors(rt: &impl Abort, alloc: Global) {
     let mut file = FileIo::of(VecDeque::<u8>::new(alloc));
     let mut buf = [0u8; 8];
-    if write_whole(&mut file, b"to and fro") != Ok(()) {
-        return Ok(false);
-    }
+    assert!(rt; write_whole(&mut file, b"to and fro").is_ok());
     for want in ["to and f", "ro", ""] {
-        if file.read(&mut buf) != Ok(want.len()) {
-            return Ok(false);
-        }
-        if !buf.starts_with(want.as_bytes()) {
-            return Ok(false);
-        }
+        let is_read = file.read(&mut buf) == Ok(want.len());
+        assert!(rt; is_read && buf.starts_with(want.as_bytes()));
     }
-    let rows = [
+    for (part, reads, writes) in [
         (Part::Read, Err(ReadFault), Ok(2)),
         (Part::Write, Ok(0), Err(WriteFault)),
         (Part::Room, Ok(0), Err(WriteFault)),
         (Part::Flush, Ok(0), Err(WriteFault)),
-    ];
-    for (part, reads, writes) in rows {
+    ] {
         let mut file = FileIo::of(Device(part));
-        if file.read(&mut buf) != reads {
-            return Ok(false);
-        }
-        if file.write(b"hi") != writes {
-            return Ok(false);
-        }
+        let is_read = file.read(&mut buf) == reads;
+        assert!(rt; is_read && file.write(b"hi") == writes);
     }
-    Ok(true)
 }
