@@ -1,5 +1,5 @@
 //! Passes that take in threads of their own.
-ghost use Rattle.std.specs.Prelude.{◌≡◌, ◌+◌, ◌*◌, ◌≤◌, ℕ, [], false, All, IfOk, IfSome};
+ghost use Rattle.std.specs.Prelude.{◌≡◌, ◌+◌, ◌*◌, ◌≤◌, ℕ, [], false, All, IfOk};
 ghost use Rattle.spool_log.specs.Memory.{run_of};
 ghost use Rattle.desk_access.specs.Alone.{HoldsNone};
 ghost use Rattle.desk_access.specs.Batch.{Belongs};
@@ -9,7 +9,7 @@ ghost use Rattle.spool_turns.specs.Named.{IsName};
 use crate::turns::taking::take_many;
 use desk_access::Desk;
 use edge_disk::Disk;
-use spool_turns::{Naming, Opened, Pass, Seated, Shared, Unnamed};
+use spool_turns::{Naming, Opened, Pass, Seated, Unnamed};
 use std::alloc::{AllocError, Global};
 use std::marker::Brand;
 use std::sync::Wait;
@@ -29,12 +29,11 @@ pub struct Shift<D: Disk> {
     pub desk: Desk<D>,
 }
 
-/// A pass that made no call, its number, and its first connection.
+/// A pass that made no call, and its first connection.
 #[derive(Drop)]
-pub(crate) struct Job<J: Naming> {
-    pub(crate) pass: Pass<J>,
-    pub(crate) number: u32,
-    pub(crate) conn: u64,
+struct Job<J: Naming> {
+    pass: Pass<J>,
+    conn: u64,
 }
 
 // A pass after its takes, and how many they were.
@@ -44,8 +43,8 @@ struct Worked<J: Naming> {
     taken: Result<u64, AllocError>,
 }
 
-/// What each pass is to do, the one with the greatest number first.
-pub(crate) fn jobs<J: Naming>(
+// What each pass is to do, the one with the greatest number first.
+fn jobs<J: Naming>(
     alloc: Global,
     mut passes: Vec<Pass<J>>,
     run: u32,
@@ -56,28 +55,17 @@ pub(crate) fn jobs<J: Naming>(
     requires fresh { (end : ℕ) × (cursor : ℕ) × (passes.items ≡ fresh 0 seats end cursor) }
 
     ensures { IfOk result (λ jobs.
-        All (λ (job : _). (job.number ≡ job.pass.number) × Belongs J.run job.pass.number job.conn × (job.pass.own ≡ [])) jobs.items) }
+        All (λ (job : _). Belongs J.run job.pass.number job.conn × (job.pass.own ≡ [])) jobs.items) }
 {
     let mut jobs = Vec::with_capacity(alloc, seats as usize)?;
     for popped in 0..seats {
         let Some(pass) = passes.pop() else {
             break;
         };
-        let number = seats - 1 - popped;
-        let conn = first_conn(run, number);
-        jobs.push_reserved(Job { pass, number, conn });
+        let conn = first_conn(run, seats - 1 - popped);
+        jobs.push_reserved(Job { pass, conn });
     }
     Ok(jobs)
-}
-
-/// The job of the pass with the least number that is left.
-pub(crate) fn next_job<J: Naming>(jobs: &mut Vec<Job<J>>) -> Option<Job<J>>
-    requires { All (λ (job : _). (job.number ≡ job.pass.number) × Belongs J.run job.pass.number job.conn × (job.pass.own ≡ [])) jobs.old.items }
-
-    ensures job { IfSome result (λ job. (job.number ≡ job.pass.number) × Belongs J.run job.pass.number job.conn × (job.pass.own ≡ [])) }
-    ensures rest { All (λ (job : _). (job.number ≡ job.pass.number) × Belongs J.run job.pass.number job.conn × (job.pass.own ≡ [])) jobs.new.items }
-{
-    jobs.pop()
 }
 
 /// The first connection of the pass of that number.
@@ -86,27 +74,6 @@ pub(crate) fn first_conn(run: u32, number: u32) -> u64
     ensures belongs { Belongs run number result }
 {
     u64::from(run) * RUNS + u64::from(number) * CONNS
-}
-
-// Takes so many groups of one entry of the pass's first connection.
-fn work<D: Disk, J: Naming, R: Wait>(
-    rt: &R,
-    alloc: Global,
-    shared: &Shared<D, J>,
-    job: Job<J>,
-    takes: u64,
-) -> Worked<J>
-    requires belongs { Belongs J.run job.pass.number job.conn }
-    requires none { job.pass.own ≡ [] }
-{
-    let mut seated = Seated {
-        shared,
-        pass: job.pass,
-        rt,
-    };
-    let taken = take_many(&mut seated, alloc, job.conn, takes);
-    let Seated { pass, .. } = seated;
-    Worked { pass, taken }
 }
 
 // Each pass takes in a thread of its own.
@@ -131,7 +98,16 @@ fn crew<D: Disk + Drop + Send, J: Naming + Send + Sync, R: Threads + Wait + Sync
         jobs,
         &|job: Job<J>| -> Worked<J>
             requires { Belongs J.run job.pass.number job.conn × (job.pass.own ≡ []) }
-        { work(rt, alloc, &shared, job, takes) },
+        {
+            let mut seated = Seated {
+                shared: &shared,
+                pass: job.pass,
+                rt,
+            };
+            let taken = take_many(&mut seated, alloc, job.conn, takes);
+            let Seated { pass, .. } = seated;
+            Worked { pass, taken }
+        },
     )?;
     let mut passes = Vec::with_capacity(alloc, workers.len())?;
     let mut taken: u64 = 0;

@@ -1,0 +1,44 @@
+//! Desks over a spool in memory.
+ghost use Rattle.std.specs.Prelude.{◌≡◌, ◌^◌, ◌≤◌, false};
+ghost use Rattle.spool_log.specs.Memory.{run_of};
+ghost use Rattle.desk_access.specs.Alone.{HoldsNone};
+
+use desk_access::Desk;
+use edge_disk::MemDisk;
+use hec_ids::Ids;
+use spool_log::{Opening, Spool, format};
+use std::alloc::Global;
+use std::process::Abort;
+
+/// A disk with an empty spool of two slots of that size. It keeps no record of what a crash may leave.
+pub(crate) fn formatted(rt: &impl Abort, alloc: Global, slot: u64) -> MemDisk
+    requires { (4096 ≤ slot) × (slot ≤ 2 ^ 30) }
+{
+    let mut disk = MemDisk::plain(alloc, 12_288 + 2 * slot).expect(rt, "memory");
+    format(&mut disk, 2, slot).expect(rt, "an empty spool");
+    disk
+}
+
+/// The desk of the spool on a disk, opened for storing, with no id.
+pub(crate) fn opened(rt: &impl Abort, alloc: Global, disk: MemDisk) -> Desk<MemDisk>
+    ensures sure { result.spool.doubt ≡ false }
+    ensures ids { HoldsNone (run_of result.spool.memory) result.ids }
+{
+    let Ok(spool) = Spool::recover(alloc, disk, Opening::Raise) else {
+        panic!(rt; "no spool");
+    };
+    let ids = Ids::new(alloc, spool.run(), 0);
+    Desk { spool, ids }
+}
+
+/// How many calls of the disk an opening of these bytes for storing makes.
+pub(crate) fn calls_to_open(rt: &impl Abort, alloc: Global, bytes: &[u8]) -> u64 {
+    for calls in 0..100 {
+        let bytes = bytes.to_vec(alloc).expect(rt, "memory");
+        let disk = MemDisk::stopped(bytes, calls);
+        if Spool::recover(alloc, disk, Opening::Raise).is_ok() {
+            return calls;
+        }
+    }
+    panic!(rt; "no spool")
+}
