@@ -2,11 +2,14 @@
 ghost use Rattle.std.specs.Prelude.{◌≡◌, ◌^◌, ◌≤◌, false};
 ghost use Rattle.spool_log.specs.Memory.{run_of};
 ghost use Rattle.desk_access.specs.Alone.{HoldsNone};
+ghost use Rattle.spool_turns.specs.Passes.{fresh};
+ghost use Rattle.spool_turns.specs.Named.{IsName};
 
 use desk_access::Desk;
 use edge_disk::MemDisk;
 use hec_ids::Ids;
 use spool_log::{Opening, Spool, format};
+use spool_turns::{Naming, Opened, Unnamed};
 use std::alloc::Global;
 use std::process::Abort;
 
@@ -29,6 +32,32 @@ pub(crate) fn opened(rt: &impl Abort, alloc: Global, disk: MemDisk) -> Desk<MemD
     };
     let ids = Ids::new(alloc, spool.run(), 0);
     Desk { spool, ids }
+}
+
+/// The same desk, which is to be shared.
+pub(crate) fn to_share(rt: &impl Abort, alloc: Global, disk: MemDisk) -> Unnamed<MemDisk> {
+    let Ok(unnamed) = Unnamed::new(alloc, opened(rt, alloc, disk)) else {
+        panic!(rt; "memory");
+    };
+    unnamed
+}
+
+/// That desk under its name, with so many passes.
+pub(crate) fn named<J: Naming, R: Abort>(
+    rt: &R,
+    alloc: Global,
+    unnamed: Unnamed<MemDisk>,
+    seats: u32,
+) -> Opened<MemDisk, J>
+    requires seats { seats ≡ J.seats }
+    requires name { IsName J.table J.run J.start J.began unnamed }
+
+    ensures { result.passes.items ≡ fresh 0 seats unnamed.alone.end_told unnamed.alone.cursor_told }
+{
+    let Ok(opened) = unnamed.named::<J>(alloc, seats) else {
+        panic!(rt; "memory");
+    };
+    opened
 }
 
 /// How many calls of the disk an opening of these bytes for storing makes.

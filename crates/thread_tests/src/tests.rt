@@ -8,15 +8,12 @@ fn threads_share_desks(rt: HostRuntime) {
     for row in &answers::ROWS {
         pair::check(&rt, alloc, row);
     }
-    assert!(rt; threads::have_taken(&rt, alloc, 2, [1000, 1000, 0, 0, 0, 0, 0, 0]));
-    assert!(rt;
-        threads::have_taken(
-            &rt,
-            alloc,
-            8,
-            [1000, 1000, 1000, 1000, 1000, 1000, 1000, 1000]
-        )
-    );
+    for (seats, counts) in threads::ROWS {
+        assert!(rt;
+            threads::have_taken(&rt, alloc, seats, counts),
+            "{seats} passes"
+        );
+    }
     for case in &rows::CASES {
         serving::check(&rt, alloc, case);
     }

@@ -9,7 +9,7 @@ ghost use Rattle.spool_turns.specs.Named.{IsName};
 use crate::turns::taking::take_many;
 use desk_access::Desk;
 use edge_disk::Disk;
-use spool_turns::{Naming, Opened, Pass, Seated, Unnamed};
+use spool_turns::{Naming, Opened, Pass, Seated, Shared, Unnamed};
 use std::alloc::{AllocError, Global};
 use std::marker::Brand;
 use std::sync::Wait;
@@ -76,8 +76,43 @@ pub(crate) fn first_conn(run: u32, number: u32) -> u64
     u64::from(run) * RUNS + u64::from(number) * CONNS
 }
 
-// Each pass takes in a thread of its own.
+// Each pass takes in a thread of its own. Returns how many groups they took, and the passes.
 fn crew<D: Disk + Drop + Send, J: Naming + Send + Sync, R: Threads + Wait + Sync>(
+    rt: &R,
+    alloc: Global,
+    shared: &Shared<D, J>,
+    jobs: Vec<Job<J>>,
+    takes: u64,
+) -> Result<(u64, Vec<Pass<J>>), AllocError>
+    requires { All (λ (job : _). Belongs J.run job.pass.number job.conn × (job.pass.own ≡ [])) jobs.items }
+{
+    let workers = map_vec(
+        rt,
+        jobs,
+        &|job: Job<J>| -> Worked<J>
+            requires { Belongs J.run job.pass.number job.conn × (job.pass.own ≡ []) }
+        {
+            let mut seated = Seated {
+                shared,
+                pass: job.pass,
+                rt,
+            };
+            let taken = take_many(&mut seated, alloc, job.conn, takes);
+            let Seated { pass, .. } = seated;
+            Worked { pass, taken }
+        },
+    )?;
+    let mut passes = Vec::with_capacity(alloc, workers.len())?;
+    let mut taken: u64 = 0;
+    for worked in workers {
+        taken = taken.saturating_add(worked.taken?);
+        passes.push(worked.pass)?;
+    }
+    Ok((taken, passes))
+}
+
+// The same over a desk under its name, which is then closed.
+fn work_shift<D: Disk + Drop + Send, J: Naming + Send + Sync, R: Threads + Wait + Sync>(
     rt: &R,
     alloc: Global,
     unnamed: Unnamed<D>,
@@ -93,28 +128,7 @@ fn crew<D: Disk + Drop + Send, J: Naming + Send + Sync, R: Threads + Wait + Sync
         return Err(AllocError);
     };
     let jobs = jobs(alloc, passes, run, seats)?;
-    let workers = map_vec(
-        rt,
-        jobs,
-        &|job: Job<J>| -> Worked<J>
-            requires { Belongs J.run job.pass.number job.conn × (job.pass.own ≡ []) }
-        {
-            let mut seated = Seated {
-                shared: &shared,
-                pass: job.pass,
-                rt,
-            };
-            let taken = take_many(&mut seated, alloc, job.conn, takes);
-            let Seated { pass, .. } = seated;
-            Worked { pass, taken }
-        },
-    )?;
-    let mut passes = Vec::with_capacity(alloc, workers.len())?;
-    let mut taken: u64 = 0;
-    for worked in workers {
-        taken = taken.saturating_add(worked.taken?);
-        passes.push(worked.pass)?;
-    }
+    let (taken, passes) = crew(rt, alloc, &shared, jobs, takes)?;
     Ok(Shift {
         taken,
         desk: shared.close(passes),
@@ -136,5 +150,5 @@ pub fn work_together<D: Disk + Drop + Send, R: Threads + Wait + Sync>(
     let Ok(unnamed) = Unnamed::new(alloc, desk) else {
         return Err(AllocError);
     };
-    crew::<D, Brand, R>(rt, alloc, unnamed, seats, takes)
+    work_shift::<D, Brand, R>(rt, alloc, unnamed, seats, takes)
 }

@@ -1,15 +1,15 @@
 //! Two passes at one desk, of whose disk a call may fail.
-ghost use Rattle.std.specs.Prelude.{◌≡◌, [], OnOk};
+ghost use Rattle.std.specs.Prelude.{◌≡◌, []};
 ghost use Rattle.spool_turns.specs.Named.{IsName};
 
-use crate::desks::{calls_to_open, formatted, opened};
+use crate::desks::{calls_to_open, formatted, named, to_share};
 use crate::turns::answers::Row;
 use crate::turns::crew::first_conn;
 use crate::turns::taking::{entry, take_next};
 use desk_access::{Access, Desk};
 use edge_disk::MemDisk;
 use spool_log::{Numbered, PendFault};
-use spool_turns::{Naming, Opened, Seated, Unnamed};
+use spool_turns::{Naming, Opened, Pass, Seated, Shared, Unnamed};
 use std::alloc::Global;
 use std::fmt::Debug;
 use std::marker::Brand;
@@ -39,15 +39,10 @@ fn asked<A: Access>(access: &mut A, id: u64) -> bool {
 }
 
 // The first caller takes an entry, and is issued an id, which isn't settled. Returns the id.
-fn store_one<A: Access>(
-    rt: &impl Abort,
-    alloc: Global,
-    said: &mut String,
-    access: &mut A,
-    conn: u64,
-) -> u64
+fn store_one<A: Access>(rt: &impl Abort, said: &mut String, access: &mut A, conn: u64) -> u64
     requires may { A.may_take access.old conn 0 }
 {
+    let alloc = *said.allocator();
     let Ok(only) = entry(alloc, conn, 0) else {
         panic!(rt; "memory");
     };
@@ -59,19 +54,17 @@ fn store_one<A: Access>(
 }
 
 // The other takes two, and may confirm as before.
-fn store_two<A: Access>(
-    rt: &impl Abort,
-    alloc: Global,
-    said: &mut String,
-    access: &mut A,
-    conn: u64,
-)
+fn store_two<A: Access>(rt: &impl Abort, said: &mut String, access: &mut A, conn: u64)
     requires may { A.may_take access.old conn 0 }
     requires confirm { A.may_confirm access.old }
 
     ensures { A.may_confirm access.new }
 {
-    let (Ok(first), Ok(second)) = (entry(alloc, conn, 0), entry(alloc, conn, 1)) else {
+    let alloc = *said.allocator();
+    let Ok(first) = entry(alloc, conn, 0) else {
+        panic!(rt; "memory");
+    };
+    let Ok(second) = entry(alloc, conn, 1) else {
         panic!(rt; "memory");
     };
     say(rt, said, &take_next(access, conn, 0, &[first, second]));
@@ -89,74 +82,79 @@ fn read_all<A: Access>(rt: &impl Abort, said: &mut String, access: &mut A, upto:
 
 // Two callers, each with its first connection, store and read in turn. The first loads the end at last, and reads what is left.
 // A line for each answer.
-fn told<A: Access>(
+fn tell<A: Access>(
     rt: &impl Abort,
-    alloc: Global,
+    said: &mut String,
     zero: &mut A,
     first: u64,
     other: &mut A,
     last: u64,
     upto: u64,
-) -> String
+)
     requires first { A.may_take zero.old first 0 }
     requires last { A.may_take other.old last 0 }
     requires confirm { A.may_confirm other.old }
 {
-    let mut said = String::new(alloc);
-    let id = store_one(rt, alloc, &mut said, zero, first);
-    store_two(rt, alloc, &mut said, other, last);
-    read_all(rt, &mut said, other, upto, id);
-    say(rt, &mut said, &zero.end());
-    say_places(rt, &mut said, zero.pending(0, 10));
-    said
+    let id = store_one(rt, said, zero, first);
+    store_two(rt, said, other, last);
+    read_all(rt, said, other, upto, id);
+    say(rt, said, &zero.end());
+    say_places(rt, said, zero.pending(0, 10));
 }
 
-// The same of the two passes of a desk, which is then closed.
-fn two_passes<J: Naming, R: Abort + Wait>(
+// The same of two passes at their desk. Returns the passes.
+fn in_turn<J: Naming, R: Abort + Wait>(
     rt: &R,
-    alloc: Global,
-    unnamed: Unnamed<MemDisk>,
+    said: &mut String,
+    shared: &Shared<MemDisk, J>,
+    first: Pass<J>,
+    last: Pass<J>,
     upto: u64,
-) -> (String, Desk<MemDisk>)
+) -> Vec<Pass<J>>
+    requires first { (first.number ≡ 0) × (first.own ≡ []) }
+    requires last { (last.number ≡ 1) × (last.own ≡ []) }
     requires seats { 2 ≡ J.seats }
-    requires name { IsName J.table J.run J.start J.began unnamed }
 {
-    let run = unnamed.run;
-    let Ok(Opened { shared, mut passes }) = unnamed.named::<J>(alloc, 2) else {
-        panic!(rt; "memory");
-    };
-    let Some(last) = passes.pop() else {
-        panic!(rt; "no second pass");
-    };
-    let Some(first) = passes.pop() else {
-        panic!(rt; "no first pass");
-    };
+    let run = shared.run();
     let mut zero = Seated {
-        shared: &shared,
+        shared,
         pass: first,
         rt,
     };
     let mut other = Seated {
-        shared: &shared,
+        shared,
         pass: last,
         rt,
     };
-    let conns = [first_conn(run, 0), first_conn(run, 1)];
-    let said = told(rt, alloc, &mut zero, conns[0], &mut other, conns[1], upto);
-    let passes = Vec::from_array(alloc, [zero.pass, other.pass]).expect(rt, "memory");
-    (said, shared.close(passes))
+    let (first, last) = (first_conn(run, 0), first_conn(run, 1));
+    tell(rt, said, &mut zero, first, &mut other, last, upto);
+    Vec::from_array(*said.allocator(), [zero.pass, other.pass]).expect(rt, "memory")
 }
 
-// What two passes are told over a disk with these bytes of which this call fails, a line for each answer; and what the desk that
-// they leave has, its end, and whether that is in doubt.
-fn said<R: Abort + Wait>(rt: &R, alloc: Global, bytes: &[u8], failing: u64, upto: u64) -> String {
-    let bytes = bytes.to_vec(alloc).expect(rt, "memory");
-    let failing = [failing].to_vec(alloc).expect(rt, "memory");
-    let desk = opened(rt, alloc, MemDisk::of(bytes, failing));
-    let Ok(unnamed) = Unnamed::new(alloc, desk) else {
-        panic!(rt; "memory");
-    };
-    let (mut said, mut desk) = two_passes::<Brand, _>(rt, alloc, unnamed, upto);
+// The same over a desk with two passes, which is then closed.
+fn two_passes<J: Naming, R: Abort + Wait>(
+    rt: &R,
+    said: &mut String,
+    unnamed: Unnamed<MemDisk>,
+    upto: u64,
+) -> Desk<MemDisk>
+    requires seats { 2 ≡ J.seats }
+    requires name { IsName J.table J.run J.start J.began unnamed }
+{
+    let opened = named::<J, R>(rt, *said.allocator(), unnamed, 2);
+    let Opened { shared, mut passes } = opened;
+    let last = passes.pop().expect(rt, "the second pass");
+    let first = passes.pop().expect(rt, "the first pass");
+    let passes = in_turn(rt, said, &shared, first, last, upto);
+    shared.close(passes)
+}
+
+// What two passes are told over this disk, a line for each answer; and what the desk that they leave has, its end, and whether
+// that is in doubt.
+fn said<R: Abort + Wait>(rt: &R, alloc: Global, disk: MemDisk, upto: u64) -> String {
+    let mut said = String::new(alloc);
+    let unnamed = to_share(rt, alloc, disk);
+    let mut desk = two_passes::<Brand, R>(rt, &mut said, unnamed, upto);
     say_places(rt, &mut said, desk.spool.pending(0, 10));
     say(rt, &mut said, &desk.spool.end());
     say(rt, &mut said, &desk.spool.doubt);
@@ -168,6 +166,8 @@ pub(crate) fn check(rt: &(impl Abort + Wait), alloc: Global, row: &Row) {
     let (call, upto, want) = row;
     let disk = formatted(rt, alloc, 4096);
     let failing = calls_to_open(rt, alloc, disk.bytes()).saturating_add(*call);
-    let said = said(rt, alloc, disk.bytes(), failing, *upto);
+    let failing = [failing].to_vec(alloc).expect(rt, "memory");
+    let bytes = disk.bytes().to_vec(alloc).expect(rt, "memory");
+    let said = said(rt, alloc, MemDisk::of(bytes, failing), *upto);
     assert!(rt; said.as_str() == *want, "call {call}: {said}");
 }

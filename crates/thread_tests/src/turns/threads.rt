@@ -3,7 +3,7 @@ ghost use Rattle.std.specs.Prelude.{◌≤◌};
 
 use crate::desks::{formatted, opened};
 use crate::turns::crew::{CONNS, RUNS};
-use crate::turns::{Shift, work_together};
+use crate::turns::work_together;
 use spool_log::Numbered;
 use std::alloc::Global;
 use std::process::Abort;
@@ -27,6 +27,12 @@ fn in_order(run: u32, given: &[Numbered]) -> Option<[u64; 8]> {
     Some(counts)
 }
 
+/// How many passes there are, and how many entries the desk that they leave has of each.
+pub(crate) const ROWS: [(u32, [u64; 8]); 2] = [
+    (2, [1000, 1000, 0, 0, 0, 0, 0, 0]),
+    (8, [1000, 1000, 1000, 1000, 1000, 1000, 1000, 1000]),
+];
+
 /// Whether so many passes, each in a thread of its own, take all that they are to, and the desk that they leave has these
 /// entries of each.
 pub(crate) fn have_taken<R: Abort + Threads + Wait + Sync>(
@@ -38,11 +44,11 @@ pub(crate) fn have_taken<R: Abort + Threads + Wait + Sync>(
     requires { seats ≤ 64 }
 {
     let desk = opened(rt, alloc, formatted(rt, alloc, 1_000_000));
-    let shift = work_together(rt, alloc, desk, seats, TAKES).expect(rt, "memory");
-    let Shift { taken, mut desk } = shift;
-    let end = desk.spool.end();
-    let given = desk.spool.pending(0, 10_000).expect(rt, "the entries");
-    taken == u64::from(seats) * TAKES
-        && end == taken
-        && in_order(desk.spool.run(), &given) == Some(counts)
+    let mut shift = work_together(rt, alloc, desk, seats, TAKES).expect(rt, "memory");
+    let spool = &mut shift.desk.spool;
+    let end = spool.end();
+    let given = spool.pending(0, 10_000).expect(rt, "the entries");
+    shift.taken == u64::from(seats) * TAKES
+        && end == shift.taken
+        && in_order(spool.run(), &given) == Some(counts)
 }

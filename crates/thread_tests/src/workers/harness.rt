@@ -2,7 +2,7 @@
 ghost use Rattle.std.specs.Prelude.{◌≡◌, ◌^◌, ◌≤◌, vec_len};
 ghost use Rattle.spool_turns.specs.Named.{IsName};
 
-use crate::desks::{formatted, opened};
+use crate::desks::{formatted, named, to_share};
 use crate::workers::alone::{Served, serve_alone};
 use crate::workers::door::TestDoor;
 use edge_disk::MemDisk;
@@ -28,13 +28,9 @@ fn serve_named<J: Naming + Send + Sync, R: Abort + Threads + Wait + Sync>(
     requires name { IsName J.table J.run J.start J.began unnamed }
 {
     let seats = posts.len() as u32;
-    let Ok(opened) = unnamed.named::<J>(alloc, seats) else {
-        panic!(rt; "memory");
-    };
-    let Ok(served) = serve_alone(rt, alloc, opened, posts, talks) else {
-        panic!(rt; "memory");
-    };
-    served
+    let opened = named::<J, R>(rt, alloc, unnamed, seats);
+    let served = serve_alone(rt, alloc, opened, posts, talks).ok();
+    served.expect(rt, "memory")
 }
 
 /// Serves at the doors, over an empty spool that was opened once.
@@ -47,9 +43,6 @@ pub(crate) fn served<R: Abort + Threads + Wait + Sync>(
     requires few { vec_len posts ≤ 64 }
     requires talks { talks ≤ 2 ^ 26 }
 {
-    let desk = opened(rt, alloc, formatted(rt, alloc, 65_536));
-    let Ok(unnamed) = Unnamed::new(alloc, desk) else {
-        panic!(rt; "memory");
-    };
+    let unnamed = to_share(rt, alloc, formatted(rt, alloc, 65_536));
     serve_named::<Brand, R>(rt, alloc, unnamed, posts, talks)
 }

@@ -6,8 +6,9 @@ use crate::workers::door::TestDoor;
 use crate::workers::harness::served;
 use crate::workers::rows::{Case, DOORS, LINKS, Link, STARVED, STEP};
 use conn_serve::Rules;
+use edge_disk::MemDisk;
 use edge_io::{Door, Finished, MemDoor, MemLink, MemSink, MemSource};
-use serve_workers::Post;
+use serve_workers::{Post, WorkerReport};
 use spool_log::Numbered;
 use std::alloc::Global;
 use std::process::Abort;
@@ -114,40 +115,74 @@ fn waiting(door: &mut MemDoor) -> usize {
     many
 }
 
+// Adds a line with what came of a worker at that door, of which the links are as they are due.
+fn say_worker(
+    rt: &impl Abort,
+    said: &mut String,
+    place: usize,
+    worker: usize,
+    report: &WorkerReport,
+    door: &mut MemDoor,
+    entries: &[Numbered],
+) {
+    let alloc = *said.allocator();
+    let talks = door.talks();
+    assert!(rt;
+        are_served(rt, alloc, place, worker, talks, entries),
+        "door {place}"
+    );
+    let told = talks.len();
+    let left = waiting(door);
+    writeln!(said, "{:?} {} {told} {left}", report.end, report.finished).expect(rt, "memory");
+}
+
+// What workers at those doors left, a line for each; and how many entries the spool has.
+fn said(
+    rt: &impl Abort,
+    alloc: Global,
+    places: &[usize],
+    served: &mut Served<TestDoor, MemDisk>,
+) -> String {
+    let mut said = String::new(alloc);
+    let spool = &mut served.desk.spool;
+    let entries = spool.pending(0, 1000).expect(rt, "the entries");
+    for (worker, report) in served.reports.iter().enumerate() {
+        let place = *places.get(worker).expect(rt, "a place for each worker");
+        let door = served
+            .doors
+            .get_mut(worker)
+            .expect(rt, "a door for each worker");
+        say_worker(
+            rt,
+            &mut said,
+            place,
+            worker,
+            report,
+            &mut door.door,
+            &entries,
+        );
+    }
+    writeln!(said, "{}", spool.end()).expect(rt, "memory");
+    said
+}
+
+// Places for workers at those doors.
+fn posts(rt: &impl Abort, alloc: Global, places: &[usize], failing: &[u64]) -> Vec<Post<TestDoor>> {
+    let mut posts = Vec::new(alloc);
+    for place in places {
+        posts
+            .push(post(rt, alloc, *place, failing))
+            .expect(rt, "memory");
+    }
+    posts
+}
+
 /// Workers serve as the case has it.
 pub(crate) fn check(rt: &(impl Abort + Threads + Wait + Sync), alloc: Global, case: &Case) {
     let (name, places, most, failing, want) = case;
-    let mut posts = Vec::new(alloc);
-    for door in *places {
-        posts
-            .push(post(rt, alloc, *door, failing))
-            .expect(rt, "memory");
-    }
+    let posts = posts(rt, alloc, places, failing);
     assert!(rt; posts.len() <= 64);
-    let Served {
-        mut desk,
-        mut doors,
-        reports,
-    } = served(rt, alloc, posts, u32::from(*most));
-    let entries = desk.spool.pending(0, 1000).expect(rt, "the entries");
-    let mut said = String::new(alloc);
-    for (worker, report) in reports.iter().enumerate() {
-        let place = places.get(worker).expect(rt, "a place for each worker");
-        let TestDoor { door, .. } = doors.get_mut(worker).expect(rt, "a door for each worker");
-        let told = door.talks().len();
-        assert!(rt;
-            are_served(rt, alloc, *place, worker, door.talks(), &entries),
-            "{name}: {worker}"
-        );
-        writeln!(
-            said,
-            "{:?} {} {told} {}",
-            report.end,
-            report.finished,
-            waiting(door)
-        )
-        .expect(rt, "memory");
-    }
-    writeln!(said, "{}", desk.spool.end()).expect(rt, "memory");
+    let mut served = served(rt, alloc, posts, u32::from(*most));
+    let said = said(rt, alloc, places, &mut served);
     assert!(rt; said.as_str() == *want, "{name}: {said}");
 }
