@@ -27,19 +27,16 @@ pub(crate) fn opened(rt: &impl Abort, alloc: Global, disk: MemDisk) -> Desk<MemD
     ensures sure { result.spool.doubt ≡ false }
     ensures ids { HoldsNone (run_of result.spool.memory) result.ids }
 {
-    let Ok(spool) = Spool::recover(alloc, disk, Opening::Raise) else {
-        panic!(rt; "no spool");
-    };
+    let spool = Spool::recover(alloc, disk, Opening::Raise).ok();
+    let spool = spool.expect(rt, "a spool");
     let ids = Ids::new(alloc, spool.run(), 0);
     Desk { spool, ids }
 }
 
 /// The same desk, which is to be shared.
 pub(crate) fn to_share(rt: &impl Abort, alloc: Global, disk: MemDisk) -> Unnamed<MemDisk> {
-    let Ok(unnamed) = Unnamed::new(alloc, opened(rt, alloc, disk)) else {
-        panic!(rt; "memory");
-    };
-    unnamed
+    let unnamed = Unnamed::new(alloc, opened(rt, alloc, disk)).ok();
+    unnamed.expect(rt, "memory")
 }
 
 /// That desk under its name, with so many passes.
@@ -54,10 +51,8 @@ pub(crate) fn named<J: Naming, R: Abort>(
 
     ensures { result.passes.items ≡ fresh 0 seats unnamed.alone.end_told unnamed.alone.cursor_told }
 {
-    let Ok(opened) = unnamed.named::<J>(alloc, seats) else {
-        panic!(rt; "memory");
-    };
-    opened
+    let opened = unnamed.named::<J>(alloc, seats).ok();
+    opened.expect(rt, "memory")
 }
 
 /// How many calls of the disk an opening of these bytes for storing makes.

@@ -76,16 +76,33 @@ pub(crate) fn first_conn(run: u32, number: u32) -> u64
     u64::from(run) * RUNS + u64::from(number) * CONNS
 }
 
-// Each pass takes in a thread of its own. Returns how many groups they took, and the passes.
+// How many groups were taken, and the passes after their takes.
+fn gathered<J: Naming>(
+    alloc: Global,
+    workers: Vec<Worked<J>>,
+) -> Result<(u64, Vec<Pass<J>>), AllocError> {
+    let mut passes = Vec::with_capacity(alloc, workers.len())?;
+    let mut taken: u64 = 0;
+    for worked in workers {
+        taken = taken.saturating_add(worked.taken?);
+        passes.push(worked.pass)?;
+    }
+    Ok((taken, passes))
+}
+
+// Each of new passes takes in a thread of its own. Returns how many groups they took, and the passes.
 fn crew<D: Disk + Drop + Send, J: Naming + Send + Sync, R: Threads + Wait + Sync>(
     rt: &R,
     alloc: Global,
     shared: &Shared<D, J>,
-    jobs: Vec<Job<J>>,
+    passes: Vec<Pass<J>>,
+    seats: u32,
     takes: u64,
 ) -> Result<(u64, Vec<Pass<J>>), AllocError>
-    requires { All (λ (job : _). Belongs J.run job.pass.number job.conn × (job.pass.own ≡ [])) jobs.items }
+    requires few { seats ≤ 64 }
+    requires fresh { (end : ℕ) × (cursor : ℕ) × (passes.items ≡ fresh 0 seats end cursor) }
 {
+    let jobs = jobs(alloc, passes, shared.run(), seats)?;
     let workers = map_vec(
         rt,
         jobs,
@@ -102,13 +119,7 @@ fn crew<D: Disk + Drop + Send, J: Naming + Send + Sync, R: Threads + Wait + Sync
             Worked { pass, taken }
         },
     )?;
-    let mut passes = Vec::with_capacity(alloc, workers.len())?;
-    let mut taken: u64 = 0;
-    for worked in workers {
-        taken = taken.saturating_add(worked.taken?);
-        passes.push(worked.pass)?;
-    }
-    Ok((taken, passes))
+    gathered(alloc, workers)
 }
 
 // The same over a desk under its name, which is then closed.
@@ -123,12 +134,9 @@ fn work_shift<D: Disk + Drop + Send, J: Naming + Send + Sync, R: Threads + Wait 
     requires few { seats ≤ 64 }
     requires name { IsName J.table J.run J.start J.began unnamed }
 {
-    let run = unnamed.run;
-    let Ok(Opened { shared, passes }) = unnamed.named::<J>(alloc, seats) else {
-        return Err(AllocError);
-    };
-    let jobs = jobs(alloc, passes, run, seats)?;
-    let (taken, passes) = crew(rt, alloc, &shared, jobs, takes)?;
+    let opened = unnamed.named::<J>(alloc, seats).ok().ok_or(AllocError)?;
+    let Opened { shared, passes } = opened;
+    let (taken, passes) = crew(rt, alloc, &shared, passes, seats, takes)?;
     Ok(Shift {
         taken,
         desk: shared.close(passes),
@@ -147,8 +155,6 @@ pub fn work_together<D: Disk + Drop + Send, R: Threads + Wait + Sync>(
     requires ids { HoldsNone (run_of desk.spool.memory) desk.ids }
     requires few { seats ≤ 64 }
 {
-    let Ok(unnamed) = Unnamed::new(alloc, desk) else {
-        return Err(AllocError);
-    };
+    let unnamed = Unnamed::new(alloc, desk).ok().ok_or(AllocError)?;
     work_shift::<D, Brand, R>(rt, alloc, unnamed, seats, takes)
 }

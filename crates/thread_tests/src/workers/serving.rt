@@ -177,12 +177,18 @@ fn posts(rt: &impl Abort, alloc: Global, places: &[usize], failing: &[u64]) -> V
     posts
 }
 
-/// Workers serve as the case has it.
-pub(crate) fn check(rt: &(impl Abort + Threads + Wait + Sync), alloc: Global, case: &Case) {
-    let (name, places, most, failing, want) = case;
+// What workers leave that serve as the case has it.
+fn outcome(rt: &(impl Abort + Threads + Wait + Sync), alloc: Global, case: &Case) -> String {
+    let (_, places, most, failing, _) = case;
     let posts = posts(rt, alloc, places, failing);
     assert!(rt; posts.len() <= 64);
     let mut served = served(rt, alloc, posts, u32::from(*most));
-    let said = said(rt, alloc, places, &mut served);
+    said(rt, alloc, places, &mut served)
+}
+
+/// Workers leave what the case has.
+pub(crate) fn check(rt: &(impl Abort + Threads + Wait + Sync), alloc: Global, case: &Case) {
+    let (name, .., want) = case;
+    let said = outcome(rt, alloc, case);
     assert!(rt; said.as_str() == *want, "{name}: {said}");
 }

@@ -1,4 +1,4 @@
-use Rattle.std.proofs.Common.{◌≡◌, length, sym, ap, ◌∙◌, subst, arith}
+use Rattle.std.proofs.Common.{length, sym, ap, ◌∙◌, subst, arith}
 use Rattle.serve_workers.specs.Crews.{AreNew}
 use Rattle.serve_workers.proofs.Placing.{fresh_new, fresh_many}
 use Rattle.thread_tests.proofs.workers.harness.serve_named.Goals as goal
