@@ -55,12 +55,16 @@ pub(crate) fn named<J: Naming, R: Abort>(
     opened.expect(rt, "memory")
 }
 
+// Whether an opening of these bytes for storing passes where so many calls of the disk pass, and all later ones fail.
+fn opens(rt: &impl Abort, alloc: Global, bytes: &[u8], calls: u64) -> bool {
+    let bytes = bytes.to_vec(alloc).expect(rt, "memory");
+    Spool::recover(alloc, MemDisk::stopped(bytes, calls), Opening::Raise).is_ok()
+}
+
 /// How many calls of the disk an opening of these bytes for storing makes.
 pub(crate) fn calls_to_open(rt: &impl Abort, alloc: Global, bytes: &[u8]) -> u64 {
     for calls in 0..100 {
-        let bytes = bytes.to_vec(alloc).expect(rt, "memory");
-        let disk = MemDisk::stopped(bytes, calls);
-        if Spool::recover(alloc, disk, Opening::Raise).is_ok() {
+        if opens(rt, alloc, bytes, calls) {
             return calls;
         }
     }

@@ -83,9 +83,12 @@ fn gathered<J: Naming>(
 ) -> Result<(u64, Vec<Pass<J>>), AllocError> {
     let mut passes = Vec::with_capacity(alloc, workers.len())?;
     let mut taken: u64 = 0;
-    for worked in workers {
-        taken = taken.saturating_add(worked.taken?);
-        passes.push(worked.pass)?;
+    for Worked {
+        pass,
+        taken: groups,
+    } in workers {
+        passes.push(pass)?;
+        taken = taken.saturating_add(groups?);
     }
     Ok((taken, passes))
 }

@@ -43,9 +43,7 @@ fn store_one<A: Access>(rt: &impl Abort, said: &mut String, access: &mut A, conn
     requires may { A.may_take access.old conn 0 }
 {
     let alloc = *said.allocator();
-    let Ok(only) = entry(alloc, conn, 0) else {
-        panic!(rt; "memory");
-    };
+    let only = entry(alloc, conn, 0).expect(rt, "memory");
     say(rt, said, &take_next(access, conn, 0, &[only]));
     let id = access.issue(CHANNEL).expect(rt, "an id");
     say(rt, said, &id);
@@ -61,12 +59,8 @@ fn store_two<A: Access>(rt: &impl Abort, said: &mut String, access: &mut A, conn
     ensures { A.may_confirm access.new }
 {
     let alloc = *said.allocator();
-    let Ok(first) = entry(alloc, conn, 0) else {
-        panic!(rt; "memory");
-    };
-    let Ok(second) = entry(alloc, conn, 1) else {
-        panic!(rt; "memory");
-    };
+    let first = entry(alloc, conn, 0).expect(rt, "memory");
+    let second = entry(alloc, conn, 1).expect(rt, "memory");
     say(rt, said, &take_next(access, conn, 0, &[first, second]));
 }
 
@@ -164,10 +158,10 @@ fn said<R: Abort + Wait>(rt: &R, alloc: Global, disk: MemDisk, upto: u64) -> Str
 /// Two passes are told the answers of the row.
 pub(crate) fn check(rt: &(impl Abort + Wait), alloc: Global, row: &Row) {
     let (call, upto, want) = row;
-    let disk = formatted(rt, alloc, 4096);
-    let failing = calls_to_open(rt, alloc, disk.bytes()).saturating_add(*call);
+    let bytes = formatted(rt, alloc, 4096).bytes().to_vec(alloc);
+    let bytes = bytes.expect(rt, "memory");
+    let failing = calls_to_open(rt, alloc, &bytes).saturating_add(*call);
     let failing = [failing].to_vec(alloc).expect(rt, "memory");
-    let bytes = disk.bytes().to_vec(alloc).expect(rt, "memory");
     let said = said(rt, alloc, MemDisk::of(bytes, failing), *upto);
     assert!(rt; said.as_str() == *want, "call {call}: {said}");
 }

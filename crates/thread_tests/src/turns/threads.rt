@@ -18,7 +18,7 @@ fn in_order(run: u32, given: &[Numbered]) -> Option<[u64; 8]> {
     let mut counts = [0_u64; 8];
     for (number, numbered) in given.iter().enumerate() {
         let conn = numbered.entry.conn.checked_sub(u64::from(run) * RUNS)?;
-        let count = counts.get_mut(usize::try_from(conn / CONNS).ok()?)?;
+        let count = counts.get_mut((conn / CONNS) as usize)?;
         if conn % CONNS != 0 || numbered.entry.index != *count || numbered.number != number as u64 {
             return None;
         }
