@@ -2,6 +2,10 @@
 //! tests of `spool_turns`; and workers that have a desk to themselves, with the tests of `serve_workers`.
 #![tactic(auto)]
 
+#[cfg(test)]
+mod desks;
+#[cfg(test)]
+mod tests;
 mod turns;
 #[cfg(test)]
 mod workers;

@@ -6,10 +6,8 @@ pub use crew::{Shift, work_together};
 pub use taking::{entry, take_many};
 
 #[cfg(test)]
-mod answers;
+pub(crate) mod answers;
 #[cfg(test)]
-mod made;
+pub(crate) mod pair;
 #[cfg(test)]
-mod pair;
-#[cfg(test)]
-mod threads;
+pub(crate) mod threads;

@@ -1,6 +1,6 @@
 //! Workers that have a desk to themselves, and the tests of `serve_workers`.
 mod alone;
+mod door;
 mod harness;
-mod rows;
-mod serving;
-mod starved;
+pub(crate) mod rows;
+pub(crate) mod serving;

@@ -1,9 +1,7 @@
 -- Passes taken from the end of a list of new ones.
-use Rattle.std.proofs.Common.{◌≡◌, ℕ, ◌+◌, List, [], ◌∷◌, ◌++◌, length, length-append, refl, sym, ap, ◌∙◌, subst, arith}
-use Rattle.std.specs.Prelude.{All, Option, Some, None, IfSome, option_to_list}
-use Rattle.std.proofs.lemmas.List.{append-nil}
+use Rattle.std.proofs.Common.{◌≡◌, ℕ, ◌+◌, List, [], ◌∷◌, ◌++◌, length, length-append, refl, sym, ap, ◌∙◌, arith}
+use Rattle.std.specs.Prelude.{All}
 use Rattle.std.proofs.lemmas.List.Elements.{All-nil, All-cons, All-head, All-tail}
-use Rattle.desk_access.proofs.Nexts.{all_left, all_right}
 use Rattle.spool_turns.specs.Passes.{Known, known, fresh}
 use Rattle.spool_turns.proofs.Called.{fresh-more}
 
@@ -21,10 +19,3 @@ last_fresh count end cursor xs x e =
 pub all_snoc : {X : Type 0} (P : X → Type 0) (xs : List X) (x : X) → All P xs → P x → All P (xs ++ x ∷ [])
 all_snoc P [] x all here = All-cons P x [] here (All-nil P)
 all_snoc P (y ∷ ys) x all here = All-cons P y (ys ++ x ∷ []) (All-head P y ys all) (all_snoc P ys x (All-tail P y ys all) here)
-
--- an element taken from the end of a list, and the rest
-pub popped : {X : Type 0} (P : X → Type 0) (all rest : List X) (o : Option X) → all ≡ rest ++ option_to_list o → All P all → IfSome o P × All P rest
-popped P all rest (Some x) is ready =
-    let both = subst (All P) is ready in
-    (All-head P x [] (all_right P rest (x ∷ []) both), all_left P rest (x ∷ []) both)
-popped P all rest None is ready = (tt, subst (All P) (is ∙ append-nil rest) ready)

@@ -1,5 +1,5 @@
 //! Passes that take in threads of their own.
-ghost use Rattle.std.specs.Prelude.{◌≡◌, ◌+◌, ◌*◌, ◌≤◌, ℕ, [], false, All, IfOk, IfSome};
+ghost use Rattle.std.specs.Prelude.{◌≡◌, ◌+◌, ◌*◌, ◌≤◌, ℕ, [], false, All, IfOk};
 ghost use Rattle.spool_log.specs.Memory.{run_of};
 ghost use Rattle.desk_access.specs.Alone.{HoldsNone};
 ghost use Rattle.desk_access.specs.Batch.{Belongs};
@@ -29,12 +29,11 @@ pub struct Shift<D: Disk> {
     pub desk: Desk<D>,
 }
 
-/// A pass that made no call, its number, and its first connection.
+/// A pass that made no call, and its first connection.
 #[derive(Drop)]
-pub(crate) struct Job<J: Naming> {
-    pub(crate) pass: Pass<J>,
-    pub(crate) number: u32,
-    pub(crate) conn: u64,
+struct Job<J: Naming> {
+    pass: Pass<J>,
+    conn: u64,
 }
 
 // A pass after its takes, and how many they were.
@@ -44,8 +43,8 @@ struct Worked<J: Naming> {
     taken: Result<u64, AllocError>,
 }
 
-/// What each pass is to do, the one with the greatest number first.
-pub(crate) fn jobs<J: Naming>(
+// What each pass is to do, the one with the greatest number first.
+fn jobs<J: Naming>(
     alloc: Global,
     mut passes: Vec<Pass<J>>,
     run: u32,
@@ -56,28 +55,17 @@ pub(crate) fn jobs<J: Naming>(
     requires fresh { (end : ℕ) × (cursor : ℕ) × (passes.items ≡ fresh 0 seats end cursor) }
 
     ensures { IfOk result (λ jobs.
-        All (λ (job : _). (job.number ≡ job.pass.number) × Belongs J.run job.pass.number job.conn × (job.pass.own ≡ [])) jobs.items) }
+        All (λ (job : _). Belongs J.run job.pass.number job.conn × (job.pass.own ≡ [])) jobs.items) }
 {
     let mut jobs = Vec::with_capacity(alloc, seats as usize)?;
     for popped in 0..seats {
         let Some(pass) = passes.pop() else {
             break;
         };
-        let number = seats - 1 - popped;
-        let conn = first_conn(run, number);
-        jobs.push_reserved(Job { pass, number, conn });
+        let conn = first_conn(run, seats - 1 - popped);
+        jobs.push_reserved(Job { pass, conn });
     }
     Ok(jobs)
-}
-
-/// The job of the pass with the least number that is left.
-pub(crate) fn next_job<J: Naming>(jobs: &mut Vec<Job<J>>) -> Option<Job<J>>
-    requires { All (λ (job : _). (job.number ≡ job.pass.number) × Belongs J.run job.pass.number job.conn × (job.pass.own ≡ [])) jobs.old.items }
-
-    ensures job { IfSome result (λ job. (job.number ≡ job.pass.number) × Belongs J.run job.pass.number job.conn × (job.pass.own ≡ [])) }
-    ensures rest { All (λ (job : _). (job.number ≡ job.pass.number) × Belongs J.run job.pass.number job.conn × (job.pass.own ≡ [])) jobs.new.items }
-{
-    jobs.pop()
 }
 
 /// The first connection of the pass of that number.
@@ -88,29 +76,57 @@ pub(crate) fn first_conn(run: u32, number: u32) -> u64
     u64::from(run) * RUNS + u64::from(number) * CONNS
 }
 
-// Takes so many groups of one entry of the pass's first connection.
-fn work<D: Disk, J: Naming, R: Wait>(
+// How many groups were taken, and the passes after their takes.
+fn gathered<J: Naming>(
+    alloc: Global,
+    workers: Vec<Worked<J>>,
+) -> Result<(u64, Vec<Pass<J>>), AllocError> {
+    let mut passes = Vec::with_capacity(alloc, workers.len())?;
+    let mut taken: u64 = 0;
+    for Worked {
+        pass,
+        taken: groups,
+    } in workers {
+        passes.push(pass)?;
+        taken = taken.saturating_add(groups?);
+    }
+    Ok((taken, passes))
+}
+
+// Each of new passes takes in a thread of its own. Returns how many groups they took, and the passes.
+fn crew<D: Disk + Drop + Send, J: Naming + Send + Sync, R: Threads + Wait + Sync>(
     rt: &R,
     alloc: Global,
     shared: &Shared<D, J>,
-    job: Job<J>,
+    passes: Vec<Pass<J>>,
+    seats: u32,
     takes: u64,
-) -> Worked<J>
-    requires belongs { Belongs J.run job.pass.number job.conn }
-    requires none { job.pass.own ≡ [] }
+) -> Result<(u64, Vec<Pass<J>>), AllocError>
+    requires few { seats ≤ 64 }
+    requires fresh { (end : ℕ) × (cursor : ℕ) × (passes.items ≡ fresh 0 seats end cursor) }
 {
-    let mut seated = Seated {
-        shared,
-        pass: job.pass,
+    let jobs = jobs(alloc, passes, shared.run(), seats)?;
+    let workers = map_vec(
         rt,
-    };
-    let taken = take_many(&mut seated, alloc, job.conn, takes);
-    let Seated { pass, .. } = seated;
-    Worked { pass, taken }
+        jobs,
+        &|job: Job<J>| -> Worked<J>
+            requires { Belongs J.run job.pass.number job.conn × (job.pass.own ≡ []) }
+        {
+            let mut seated = Seated {
+                shared,
+                pass: job.pass,
+                rt,
+            };
+            let taken = take_many(&mut seated, alloc, job.conn, takes);
+            let Seated { pass, .. } = seated;
+            Worked { pass, taken }
+        },
+    )?;
+    gathered(alloc, workers)
 }
 
-// Each pass takes in a thread of its own.
-fn crew<D: Disk + Drop + Send, J: Naming + Send + Sync, R: Threads + Wait + Sync>(
+// The same over a desk under its name, which is then closed.
+fn work_shift<D: Disk + Drop + Send, J: Naming + Send + Sync, R: Threads + Wait + Sync>(
     rt: &R,
     alloc: Global,
     unnamed: Unnamed<D>,
@@ -121,24 +137,9 @@ fn crew<D: Disk + Drop + Send, J: Naming + Send + Sync, R: Threads + Wait + Sync
     requires few { seats ≤ 64 }
     requires name { IsName J.table J.run J.start J.began unnamed }
 {
-    let run = unnamed.run;
-    let Ok(Opened { shared, passes }) = unnamed.named::<J>(alloc, seats) else {
-        return Err(AllocError);
-    };
-    let jobs = jobs(alloc, passes, run, seats)?;
-    let workers = map_vec(
-        rt,
-        jobs,
-        &|job: Job<J>| -> Worked<J>
-            requires { Belongs J.run job.pass.number job.conn × (job.pass.own ≡ []) }
-        { work(rt, alloc, &shared, job, takes) },
-    )?;
-    let mut passes = Vec::with_capacity(alloc, workers.len())?;
-    let mut taken: u64 = 0;
-    for worked in workers {
-        taken = taken.saturating_add(worked.taken?);
-        passes.push(worked.pass)?;
-    }
+    let opened = unnamed.named::<J>(alloc, seats).ok().ok_or(AllocError)?;
+    let Opened { shared, passes } = opened;
+    let (taken, passes) = crew(rt, alloc, &shared, passes, seats, takes)?;
     Ok(Shift {
         taken,
         desk: shared.close(passes),
@@ -157,8 +158,6 @@ pub fn work_together<D: Disk + Drop + Send, R: Threads + Wait + Sync>(
     requires ids { HoldsNone (run_of desk.spool.memory) desk.ids }
     requires few { seats ≤ 64 }
 {
-    let Ok(unnamed) = Unnamed::new(alloc, desk) else {
-        return Err(AllocError);
-    };
-    crew::<D, Brand, R>(rt, alloc, unnamed, seats, takes)
+    let unnamed = Unnamed::new(alloc, desk).ok().ok_or(AllocError)?;
+    work_shift::<D, Brand, R>(rt, alloc, unnamed, seats, takes)
 }

@@ -44,22 +44,6 @@ pub(crate) fn take_next<A: Access>(
     access.take(entries)
 }
 
-/// Takes one entry.
-pub(crate) fn take_one<A: Access>(
-    access: &mut A,
-    conn: u64,
-    index: u64,
-    entry: Entry,
-) -> Result<Receipt, TakeFault>
-    requires limits { IsEntry entry × IsPlain entry }
-    requires next { (entry.conn ≡ conn) × (entry.index ≡ index) }
-    requires may { A.may_take access.old conn index }
-
-    ensures { OnOk result (A.may_take access.new conn (index + 1)) }
-{
-    take_next(access, conn, index, &[entry])
-}
-
 /// Takes so many groups of one entry, and reports how many were taken before one was refused.
 pub fn take_many<A: Access>(
     access: &mut A,
@@ -71,7 +55,7 @@ pub fn take_many<A: Access>(
 {
     for index in 0..count {
         let entry = entry(alloc, conn, index)?;
-        if take_one(access, conn, index, entry).is_err() {
+        if take_next(access, conn, index, &[entry]).is_err() {
             return Ok(index);
         }
     }

@@ -1,18 +1,18 @@
-//! Three workers, each at its door.
-ghost use Rattle.std.specs.Prelude.{◌≡◌, IfOk, vec_len, All};
+//! Workers, each at its door.
 ghost use Rattle.edge_io.specs.MemLink.{IsUnused};
 
 use crate::workers::alone::Served;
+use crate::workers::door::TestDoor;
 use crate::workers::harness::served;
-use crate::workers::rows::{CASES, Case, DOORS, LINKS, Link, STEP};
+use crate::workers::rows::{Case, DOORS, LINKS, Link, STARVED, STEP};
 use conn_serve::Rules;
+use edge_disk::MemDisk;
 use edge_io::{Door, Finished, MemDoor, MemLink, MemSink, MemSource};
-use serve_workers::Post;
+use serve_workers::{Post, WorkerReport};
 use spool_log::Numbered;
-use std::alloc::{AllocError, Global};
+use std::alloc::Global;
 use std::process::Abort;
 use std::sync::Wait;
-use std::test::Fail;
 use std::thread::Threads;
 
 // The collector's token.
@@ -24,44 +24,52 @@ const RUN: u64 = 4_294_967_296;
 const WORKER: u64 = 67_108_864;
 
 // A link that gives these bytes, and was not used yet.
-pub fn link(alloc: Global, input: &[u8]) -> Result<MemLink, AllocError>
-    ensures { IfOk result IsUnused }
+fn link(rt: &impl Abort, alloc: Global, input: &[u8]) -> MemLink
+    ensures { IsUnused result }
 {
-    let source = MemSource::of(input.to_vec(alloc)?, STEP, Vec::new(alloc));
-    Ok(MemLink::of(source, MemSink::of(alloc, Vec::new(alloc))))
+    let input = input.to_vec(alloc).expect(rt, "memory");
+    let source = MemSource::of(input, STEP, Vec::new(alloc));
+    MemLink::of(source, MemSink::of(alloc, Vec::new(alloc)))
 }
 
-// A door at which the links of that worker wait.
-fn door(alloc: Global, worker: usize, failing: &[u64]) -> Result<MemDoor, AllocError> {
+// A place for a worker at that door, at which its links wait.
+fn post(rt: &impl Abort, alloc: Global, door: usize, failing: &[u64]) -> Post<TestDoor> {
     let mut links = Vec::new(alloc);
     for row in &LINKS {
-        if row.worker == worker {
-            links.push(link(alloc, row.input)?)?;
+        if row.door == door {
+            links.push(link(rt, alloc, row.input)).expect(rt, "memory");
         }
     }
-    Ok(MemDoor::of(alloc, links, failing.to_vec(alloc)?))
+    let failing = if door == 0 { failing } else { &[] };
+    let failing = failing.to_vec(alloc).expect(rt, "memory");
+    let rules = Rules {
+        proto: DOORS[door % 4],
+        token: Some(TOKEN),
+        ack_token: None,
+    };
+    let door = TestDoor {
+        door: MemDoor::of(alloc, links, failing),
+        starved: door == STARVED,
+    };
+    Post { door, rules }
 }
 
-// A place for each worker.
-fn posts(alloc: Global, failing: &[u64]) -> Result<Vec<Post<MemDoor>>, AllocError> {
-    let mut posts = Vec::new(alloc);
-    for (worker, proto) in DOORS.into_iter().enumerate() {
-        let failing = if worker == 0 { failing } else { &[] };
-        let door = door(alloc, worker, failing)?;
-        let rules = Rules {
-            proto,
-            token: Some(TOKEN),
-            ack_token: None,
-        };
-        posts.push(Post { door, rules })?;
+// The entries of a connection, as a row has them.
+fn shown(rt: &impl Abort, alloc: Global, entries: &[Numbered], conn: u64) -> String {
+    let mut out = String::new(alloc);
+    for Numbered { entry, .. } in entries {
+        if entry.conn == conn {
+            let text = str::from_utf8(entry.event.text.bytes()).expect(rt, "a text");
+            writeln!(out, "{} {} {text}", entry.index, entry.unit).expect(rt, "memory");
+        }
     }
-    Ok(posts)
+    out
 }
 
 // Whether a door tells of a link what is due.
 fn is_told(talk: &Finished, row: &Link, conn: u64) -> bool {
     let read = row.input.len().saturating_sub(row.left);
-    talk.proto == DOORS[row.worker.min(2)]
+    talk.proto == DOORS[row.door % 4]
         && talk.conn == conn
         && talk.read.as_slice() == &row.input[..read]
         && talk.written.as_slice() == row.written
@@ -69,44 +77,30 @@ fn is_told(talk: &Finished, row: &Link, conn: u64) -> bool {
         && talk.left == row.left as u64
 }
 
-// The entries of a connection, as a row has them.
-fn shown(alloc: Global, entries: &[Numbered], conn: u64) -> Result<Vec<u8>, AllocError> {
-    let mut out = Vec::new(alloc);
-    for Numbered { entry, .. } in entries {
-        if entry.conn == conn {
-            let head = format!(in alloc; "{} {} ", entry.index, entry.unit)?;
-            out.extend_from_slice(head.as_bytes())?;
-            out.extend_from_slice(entry.event.text.bytes())?;
-            out.push(b'\n')?;
-        }
-    }
-    Ok(out)
-}
-
-// Whether the door of a worker tells its first links, so many, as they are due, and the spool has their entries.
-fn is_served(
+// Whether these are the first links of that door as they are due, served by the worker of that number, and the spool has their entries.
+fn are_served(
+    rt: &impl Abort,
     alloc: Global,
+    door: usize,
     worker: usize,
-    many: usize,
     talks: &[Finished],
     entries: &[Numbered],
-) -> Result<bool, AllocError> {
-    let mut told = 0;
+) -> bool {
+    let mut told: usize = 0;
     for row in &LINKS {
-        if row.worker != worker || told == many {
+        if row.door != door {
             continue;
         }
         let Some(talk) = talks.get(told) else {
-            return Ok(false);
+            break;
         };
         let conn = RUN + (worker % 64) as u64 * WORKER + told as u64 % WORKER;
-        let there = shown(alloc, entries, conn)?;
-        if !is_told(talk, row, conn) || there.as_slice() != row.entries {
-            return Ok(false);
+        if !is_told(talk, row, conn) || shown(rt, alloc, entries, conn).as_str() != row.entries {
+            return false;
         }
         told = told.saturating_add(1);
     }
-    Ok(told == many && talks.len() == many)
+    told == talks.len()
 }
 
 // How many links still wait at a door, where no more accepts fail.
@@ -121,40 +115,80 @@ fn waiting(door: &mut MemDoor) -> usize {
     many
 }
 
-fn check(rt: &(impl Abort + Threads + Wait + AllocGlobal + Sync), case: &Case) -> Result<(), Fail> {
-    let alloc = rt.alloc();
-    let posts = posts(alloc, case.failing)?;
-    assert!(rt; posts.len() == DOORS.len());
-    let Served {
-        mut desk,
-        mut doors,
-        reports,
-    } = served(rt, alloc, posts, u32::from(case.talks))?;
-    let name = case.name;
-    assert_eq!(rt; reports.len(), DOORS.len(), "{name}");
-    let entries = desk.spool.pending(0, 1000)?;
-    for (worker, many) in case.finished.into_iter().enumerate() {
-        let report = reports.get(worker).ok_or("no report")?;
-        let end = case.ends.get(worker).ok_or("no end")?;
-        assert!(rt;
-            report.end == *end && report.finished as usize == many,
-            "{name}: {worker}"
-        );
-        let talks = doors.get(worker).ok_or("no door")?.talks();
-        assert!(rt;
-            is_served(alloc, worker, many, talks, &entries)?,
-            "{name}: {worker}"
-        );
-    }
-    let first = doors.get_mut(0).ok_or("no door")?;
-    assert_eq!(rt; waiting(first), case.waiting, "{name}");
-    Ok(())
+// Adds a line with what came of a worker at that door, of which the links are as they are due.
+fn say_worker(
+    rt: &impl Abort,
+    said: &mut String,
+    place: usize,
+    worker: usize,
+    report: &WorkerReport,
+    door: &mut MemDoor,
+    entries: &[Numbered],
+) {
+    let alloc = *said.allocator();
+    let talks = door.talks();
+    assert!(rt;
+        are_served(rt, alloc, place, worker, talks, entries),
+        "door {place}"
+    );
+    let told = talks.len();
+    let left = waiting(door);
+    writeln!(said, "{:?} {} {told} {left}", report.end, report.finished).expect(rt, "memory");
 }
 
-#[test]
-fn workers_serve_their_doors(rt: HostRuntime) -> Result<(), Fail> {
-    for case in &CASES {
-        check(&rt, case)?;
+// What workers at those doors left, a line for each; and how many entries the spool has.
+fn said(
+    rt: &impl Abort,
+    alloc: Global,
+    places: &[usize],
+    served: &mut Served<TestDoor, MemDisk>,
+) -> String {
+    let mut said = String::new(alloc);
+    let spool = &mut served.desk.spool;
+    let entries = spool.pending(0, 1000).expect(rt, "the entries");
+    for (worker, report) in served.reports.iter().enumerate() {
+        let place = *places.get(worker).expect(rt, "a place for each worker");
+        let door = served
+            .doors
+            .get_mut(worker)
+            .expect(rt, "a door for each worker");
+        say_worker(
+            rt,
+            &mut said,
+            place,
+            worker,
+            report,
+            &mut door.door,
+            &entries,
+        );
     }
-    Ok(())
+    writeln!(said, "{}", spool.end()).expect(rt, "memory");
+    said
+}
+
+// Places for workers at those doors.
+fn posts(rt: &impl Abort, alloc: Global, places: &[usize], failing: &[u64]) -> Vec<Post<TestDoor>> {
+    let mut posts = Vec::new(alloc);
+    for place in places {
+        posts
+            .push(post(rt, alloc, *place, failing))
+            .expect(rt, "memory");
+    }
+    posts
+}
+
+// What workers leave that serve as the case has it.
+fn outcome(rt: &(impl Abort + Threads + Wait + Sync), alloc: Global, case: &Case) -> String {
+    let (_, places, most, failing, _) = case;
+    let posts = posts(rt, alloc, places, failing);
+    assert!(rt; posts.len() <= 64);
+    let mut served = served(rt, alloc, posts, u32::from(*most));
+    said(rt, alloc, places, &mut served)
+}
+
+/// Workers leave what the case has.
+pub(crate) fn check(rt: &(impl Abort + Threads + Wait + Sync), alloc: Global, case: &Case) {
+    let (name, .., want) = case;
+    let said = outcome(rt, alloc, case);
+    assert!(rt; said.as_str() == *want, "{name}: {said}");
 }

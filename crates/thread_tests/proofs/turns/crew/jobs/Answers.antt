@@ -18,9 +18,9 @@ loop-popped-preserved g c =
     let last = last_fresh count end cursor rest pass (ap (λ n. fresh 0 n end cursor) (sym left) ∙ sym i.0.2 ∙ c.pop.ensures.items ∙ ap (λ o. rest ++ option_to_list o) c.in-Some.is) in
     let number : c.args.seats - 1 - c.loop-popped.popped ≡ pass.number = omega (arith, ap (λ m. m.number) last.1, c.loop-popped-test.true) in
     let belongs = subst (λ (x : ℕ × ℕ). Belongs x.0 x.1 c.first_conn-conn.result) (λ j. (c.requires.run j, number j)) c.first_conn-conn.ensures.belongs in
-    let ready : (c.args.seats - 1 - c.loop-popped.popped ≡ pass.number) × Belongs g.J.Naming.run pass.number c.first_conn-conn.result × (pass.own ≡ []) = (number, belongs, ap (λ m. m.own) last.1) in (
+    let ready : Belongs g.J.Naming.run pass.number c.first_conn-conn.result × (pass.own ≡ []) = (belongs, ap (λ m. m.own) last.1) in (
       (end, cursor, last.0),
-      subst (All (λ job. (job.number ≡ job.pass.number) × Belongs g.J.Naming.run job.pass.number job.conn × (job.pass.own ≡ []))) (sym p.items) (all_snoc (λ job. (job.number ≡ job.pass.number) × Belongs g.J.Naming.run job.pass.number job.conn × (job.pass.own ≡ [])) _ _ i.1 ready),
+      subst (All (λ job. Belongs g.J.Naming.run job.pass.number job.conn × (job.pass.own ≡ []))) (sym p.items) (all_snoc (λ job. Belongs g.J.Naming.run job.pass.number job.conn × (job.pass.own ≡ [])) _ _ i.1 ready),
       search (rules, p.len, i.2),
       search (rules, p.capacity, i.3),
     )

@@ -7,6 +7,6 @@ use Rattle.thread_tests.proofs.turns.crew.jobs.Given as goal
 abbrev pub invariant-loop-popped : goal.invariant-loop-popped
 invariant-loop-popped g l =
     ((end : ℕ) × (cursor : ℕ) × (l.passes.items ≡ fresh 0 (l.fn.seats - l.popped) end cursor))
-    × All (λ (job : _). (job.number ≡ job.pass.number) × Belongs g.J.Naming.run job.pass.number job.conn × (job.pass.own ≡ [])) l.jobs.items
+    × All (λ (job : _). Belongs g.J.Naming.run job.pass.number job.conn × (job.pass.own ≡ [])) l.jobs.items
     × (vec_len l.jobs ≡ l.popped)
     × (l.fn.seats ≤ vec_capacity l.jobs)

@@ -1,0 +1,72 @@
+//! Desks over a spool in memory.
+ghost use Rattle.std.specs.Prelude.{◌≡◌, ◌^◌, ◌≤◌, false};
+ghost use Rattle.spool_log.specs.Memory.{run_of};
+ghost use Rattle.desk_access.specs.Alone.{HoldsNone};
+ghost use Rattle.spool_turns.specs.Passes.{fresh};
+ghost use Rattle.spool_turns.specs.Named.{IsName};
+
+use desk_access::Desk;
+use edge_disk::MemDisk;
+use hec_ids::Ids;
+use spool_log::{Opening, Spool, format};
+use spool_turns::{Naming, Opened, Unnamed};
+use std::alloc::Global;
+use std::process::Abort;
+
+/// A disk with an empty spool of two slots of that size. It keeps no record of what a crash may leave.
+pub(crate) fn formatted(rt: &impl Abort, alloc: Global, slot: u64) -> MemDisk
+    requires { (4096 ≤ slot) × (slot ≤ 2 ^ 30) }
+{
+    let mut disk = MemDisk::plain(alloc, 12_288 + 2 * slot).expect(rt, "memory");
+    format(&mut disk, 2, slot).expect(rt, "an empty spool");
+    disk
+}
+
+/// The desk of the spool on a disk, opened for storing, with no id.
+pub(crate) fn opened(rt: &impl Abort, alloc: Global, disk: MemDisk) -> Desk<MemDisk>
+    ensures sure { result.spool.doubt ≡ false }
+    ensures ids { HoldsNone (run_of result.spool.memory) result.ids }
+{
+    let spool = Spool::recover(alloc, disk, Opening::Raise).ok();
+    let spool = spool.expect(rt, "a spool");
+    let ids = Ids::new(alloc, spool.run(), 0);
+    Desk { spool, ids }
+}
+
+/// The same desk, which is to be shared.
+pub(crate) fn to_share(rt: &impl Abort, alloc: Global, disk: MemDisk) -> Unnamed<MemDisk> {
+    let unnamed = Unnamed::new(alloc, opened(rt, alloc, disk)).ok();
+    unnamed.expect(rt, "memory")
+}
+
+/// That desk under its name, with so many passes.
+pub(crate) fn named<J: Naming, R: Abort>(
+    rt: &R,
+    alloc: Global,
+    unnamed: Unnamed<MemDisk>,
+    seats: u32,
+) -> Opened<MemDisk, J>
+    requires seats { seats ≡ J.seats }
+    requires name { IsName J.table J.run J.start J.began unnamed }
+
+    ensures { result.passes.items ≡ fresh 0 seats unnamed.alone.end_told unnamed.alone.cursor_told }
+{
+    let opened = unnamed.named::<J>(alloc, seats).ok();
+    opened.expect(rt, "memory")
+}
+
+// Whether an opening of these bytes for storing passes where so many calls of the disk pass, and all later ones fail.
+fn opens(rt: &impl Abort, alloc: Global, bytes: &[u8], calls: u64) -> bool {
+    let bytes = bytes.to_vec(alloc).expect(rt, "memory");
+    Spool::recover(alloc, MemDisk::stopped(bytes, calls), Opening::Raise).is_ok()
+}
+
+/// How many calls of the disk an opening of these bytes for storing makes.
+pub(crate) fn calls_to_open(rt: &impl Abort, alloc: Global, bytes: &[u8]) -> u64 {
+    for calls in 0..100 {
+        if opens(rt, alloc, bytes, calls) {
+            return calls;
+        }
+    }
+    panic!(rt; "no spool")
+}

@@ -1,0 +1,20 @@
+//! All that holds of callers that share a desk, in turn and in threads.
+use crate::turns::{answers, pair, threads};
+use crate::workers::{rows, serving};
+
+#[test]
+fn threads_share_desks(rt: HostRuntime) {
+    let alloc = rt.alloc();
+    for row in &answers::ROWS {
+        pair::check(&rt, alloc, row);
+    }
+    for (seats, counts) in threads::ROWS {
+        assert!(rt;
+            threads::have_taken(&rt, alloc, seats, counts),
+            "{seats} passes"
+        );
+    }
+    for case in &rows::CASES {
+        serving::check(&rt, alloc, case);
+    }
+}

@@ -1,0 +1,37 @@
+//! The door of a worker.
+use edge_io::{AcceptFault, Door, MemDoor, MemLink, Proto};
+use std::alloc::AllocError;
+
+/// A door in memory. A starved one lets a link go, and then reports that it found no memory. To contracts it doesn't tell its links.
+#[derive(Drop)]
+pub(crate) struct TestDoor {
+    pub(crate) door: MemDoor,
+    pub(crate) starved: bool,
+}
+
+impl Door for TestDoor {
+    ghost use Rattle.std.specs.Prelude.{None};
+    ghost use Rattle.edge_io.specs.MemDoor.{state_of};
+
+    type L = MemLink;
+
+    ghost told = { λ d. record (state_of d.door) { talks = None } };
+
+    fn accept(&mut self) -> Result<Option<MemLink>, AcceptFault> {
+        self.door.accept()
+    }
+
+    fn give_back(
+        &mut self,
+        link: MemLink,
+        proto: Proto,
+        conn: u64,
+        status: u8,
+    ) -> Result<(), AllocError> {
+        self.door.give_back(link, proto, conn, status)?;
+        if self.starved {
+            return Err(AllocError);
+        }
+        Ok(())
+    }
+}
