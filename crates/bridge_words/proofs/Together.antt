@@ -24,7 +24,7 @@ module _ (p : Result Proto WordsFault) (t c : Result (Option ℕ) WordsFault) (n
   receiver_all channel polls a b d e = rw (← a, ← b, ← d, ← e) refl
 
 module _ (p : Result (Option Proto) WordsFault) (q : Result (Option Text) WordsFault) (t c : Result (Option ℕ) WordsFault) (n : Result ℕ WordsFault)
-  (proto : Option Proto) (place : Option Text) (token : Option ℕ) where
+    (proto : Option Proto) (place : Option Text) (token : Option ℕ) where
   pub relay_channel : (w : WordsFault) → Ok proto ≡ p → q ≡ Ok place → Ok token ≡ t → Err w ≡ c → relay_by p q t c n ≡ Err w
   relay_channel w a b d e = rw (← a, b, ← d, ← e) refl
 

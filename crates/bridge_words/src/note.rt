@@ -58,12 +58,7 @@ pub enum Note {
 }
 
 // A number between two texts.
-fn numbered(
-    alloc: Global,
-    before: &str,
-    number: u64,
-    after: &str,
-) -> Result<String, AllocError>
+fn numbered(alloc: Global, before: &str, number: u64, after: &str) -> Result<String, AllocError>
     ensures { IfOk result (λ text. string_bytes text ≡ before.now ++ (decimal number ++ after.now)) }
 {
     format!(in alloc; "{before}{number}{after}")
@@ -161,7 +156,14 @@ impl Note {
                 two_numbers(alloc, "spool full: ", need, " needed, ", room, " free")
             }
             Note::TooLarge { need, most } => {
-                two_numbers(alloc, "group too large: ", need, " needed, ", most, " at most")
+                two_numbers(
+                    alloc,
+                    "group too large: ",
+                    need,
+                    " needed, ",
+                    most,
+                    " at most",
+                )
             }
             Note::Busy { held } => numbered(alloc, "id table full: ", u64::from(held), " held"),
             Note::Refused { unit, code } => format!(in alloc; "peer refused {unit} with {code}"),

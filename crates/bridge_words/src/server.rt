@@ -98,10 +98,22 @@ fn manner_in(matches: &ArgMatches<'_>) -> Result<Manner, WordsFault>
     ensures wrong { (fault : WordsFault) → result ≡ Err fault → WrongServe fault (rows_in matches.now) }
 {
     let workers = number_or(matches, "workers", 1, 16, 4, WordsFault::Workers)?;
-    let talks = number_or(matches, "talks", 1, 67_108_864, 67_108_864, WordsFault::Talks)?;
+    let talks = number_or(
+        matches,
+        "talks",
+        1,
+        67_108_864,
+        67_108_864,
+        WordsFault::Talks,
+    )?;
     let token = guid_for(matches, "token", WordsFault::Token)?;
     let ack_token = guid_for(matches, "ack-token", WordsFault::AckToken)?;
-    Ok(Manner { workers, talks, token, ack_token })
+    Ok(Manner {
+        workers,
+        talks,
+        token,
+        ack_token,
+    })
 }
 
 /// `serve [--relp P] [--lumberjack P] [--hec P] [--workers N] [--talks N] [--token G] [--ack-token G]

@@ -161,4 +161,3 @@ pub(crate) fn place_for(
         None => Ok(None),
     }
 }
-

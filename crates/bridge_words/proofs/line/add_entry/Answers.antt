@@ -20,5 +20,5 @@ returns c =
     let x5 = c.in_ok-push_str.ensures.bytes ∙ (λ i. x4 i ++ c.origin_word.ensures i) in
     let x6 = c.in_ok-push_str-2.ensures.bytes ∙ (λ i. x5 i ++ 32 ∷ []) in
     on_ok_weaker c.add_number-5.result (λ last. last ∙ (λ i. x6 i ++ (decimal (length (c.bytes.ensures i)) ++ 10 ∷ []))
-        ∙ joined (string_bytes c.args.line.now) (decimal c.args.number) (decimal e.conn) (decimal e.index) (decimal e.unit) (origin_word e.event.origin) (decimal (length e.event.text)))
-        c.add_number-5.ensures
+    ∙ joined (string_bytes c.args.line.now) (decimal c.args.number) (decimal e.conn) (decimal e.index) (decimal e.unit) (origin_word e.event.origin) (decimal (length e.event.text)))
+    c.add_number-5.ensures
