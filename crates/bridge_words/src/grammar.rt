@@ -52,10 +52,9 @@ fn with_command<'a>(
 ) -> Result<Command<'a>, AllocError>
     ensures { (app added : App) → IfOk bridge.entry (IsApp app) → IfOk command.entry (IsApp added) → IfOk result (IsApp (with_subcommand app added.top)) }
 {
-    match (bridge, command) {
-        (Ok(bridge), Ok(command)) => bridge.subcommand(command),
-        _ => Err(AllocError),
-    }
+    let bridge = bridge?;
+    let command = command?;
+    bridge.subcommand(command)
 }
 
 // `format SLOTS SIZE`
