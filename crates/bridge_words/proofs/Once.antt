@@ -1,6 +1,6 @@
 -- Words are one command at most.
-use Rattle.std.proofs.Common.{◌≡◌, ◌∙◌, ℕ, List, refl, sym, ap, subst}
-use Rattle.std.specs.Prelude.{false, Option, Some}
+use Rattle.std.proofs.Common.{◌≡◌, ◌∙◌, ℕ, List, refl, sym, ap, subst, codes}
+use Rattle.std.specs.Prelude.{false, true, Option, Some, Result, IfOk}
 use Rattle.std.specs.Option.{option_map_or}
 use Rattle.std.specs.Str.{bytes_eq}
 use Rattle.std.proofs.lemmas.Slice.Eq.{bytes_eq-Decides}
@@ -9,11 +9,30 @@ use Rattle.bridge_words.specs.declared.command.Command.{Command}
 use Rattle.bridge_words.specs.declared.command.Relay.{Relay}
 use Rattle.bridge_words.specs.declared.command.Server.{Server}
 use Rattle.bridge_words.specs.declared.command.Command.TheVariants.{Format, List as ListCommand, Replay, Drain, Load, Serve}
-use Rattle.bridge_words.specs.Words.{IsSize, IsServe, IsCommandBy, IsCommand, name_of}
+use Rattle.bridge_words.specs.declared.reading.Unread.{Unread}
+use Rattle.bridge_words.specs.Words.{IsSize, IsServe, IsCommandBy, IsNamed, IsCommand, name_of}
 
 -- texts that a test tells apart are apart
 pub apart : (a b : Text) → bytes_eq a b ≡ false → a ≡ b → ⊥
 apart a b test same = let true_is = (bytes_eq-Decides a b).1 same in absurd (cc)
+
+-- and such that it finds the same are the same
+pub same_text : (a b : Text) → true ≡ bytes_eq a b → a ≡ b
+same_text a b test = (bytes_eq-Decides a b).0 (sym test)
+
+-- a command of a name, and none of another one
+pub named : (a b : Text) (rows : List Row) (r : Result Command Unread) → true ≡ bytes_eq a b → IfOk r (IsNamed b rows) → IfOk r (IsNamed a rows)
+named a b rows r test is = subst (λ (t : Text). IfOk r (IsNamed t rows)) (sym (same_text a b test)) is
+
+pub unknown : (name : Text) → false ≡ bytes_eq name (codes "list") → false ≡ bytes_eq name (codes "replay") → false ≡ bytes_eq name (codes "drain")
+    → false ≡ bytes_eq name (codes "format") → false ≡ bytes_eq name (codes "load") → false ≡ bytes_eq name (codes "serve")
+    → (command : Command) → name_of command ≡ name → ⊥
+unknown name list replay drain format load serve (Format slots size) is = apart name _ (sym format) (sym is)
+unknown name list replay drain format load serve (ListCommand form) is = apart name _ (sym list) (sym is)
+unknown name list replay drain format load serve (Replay proto token ack_token) is = apart name _ (sym replay) (sym is)
+unknown name list replay drain format load serve (Drain receiver place) is = apart name _ (sym drain) (sym is)
+unknown name list replay drain format load serve (Load proto number count) is = apart name _ (sym load) (sym is)
+unknown name list replay drain format load serve (Serve server) is = apart name _ (sym serve) (sym is)
 
 -- the parts of a name and its rows
 abbrev rows_or : List Row → Option (Text × List Row) → List Row

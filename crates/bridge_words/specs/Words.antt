@@ -94,6 +94,17 @@ pub record AreDoors (relp lumberjack hec : Option Text) (rows : List Row) : Type
   pub hec_is : hec_in rows ≡ Ok hec
   pub some_door : HasDoor relp lumberjack hec
 
+-- how a server works, and the tokens of the HTTP Event Collector
+pub record IsManner (workers talks : ℕ) (token ack_token : Option ℕ) (rows : List Row) : Type 0 where
+  pub workers_is : workers_in rows ≡ Ok workers
+  pub talks_is : talks_in rows ≡ Ok talks
+  pub token_is : token_in rows ≡ Ok token
+  pub ack_token_is : ack_token_in rows ≡ Ok ack_token
+  pub some_worker : 1 ≤ workers
+  pub few_workers : workers ≤ 16
+  pub some_talk : 1 ≤ talks
+  pub few_talks : talks ≤ 2 ^ 26
+
 -- `serve [--relp P] [--lumberjack P] [--hec P] [--workers N] [--talks N] [--token G] [--ack-token G]
 --     [--forward PROTO] [--to P] [--out-token G] [--out-channel G] [--polls N]`
 pub record IsServe (server : Server) (rows : List Row) : Type 0 where

@@ -60,18 +60,25 @@ fn add_number(line: &mut String, number: u64, after: &str) -> Result<(), AllocEr
     line.push_str(after)
 }
 
+// Adds the line of an entry with this number.
+fn add_entry(line: &mut String, number: u64, entry: &Entry) -> Result<(), AllocError>
+    ensures { OnOk result (string_bytes line.new ≡ string_bytes line.old ++ entry_line number entry.now) }
+{
+    add_number(line, number, " ")?;
+    add_number(line, entry.conn, " ")?;
+    add_number(line, entry.index, " ")?;
+    add_number(line, entry.unit, " ")?;
+    line.push_str(origin_word(entry.event.origin))?;
+    line.push_str(" ")?;
+    add_number(line, entry.event.text.bytes().len() as u64, "\n")
+}
+
 /// The line of an entry with this number: `NUMBER CONN INDEX UNIT ORIGIN LENGTH` and LF, where the length
 /// is that of the event's text in bytes.
 pub fn entry_line(alloc: Global, number: u64, entry: &Entry) -> Result<String, AllocError>
     ensures { IfOk result (λ line. string_bytes line ≡ entry_line number entry.now) }
 {
     let mut line = String::with_capacity(alloc, MOST_LINE)?;
-    add_number(&mut line, number, " ")?;
-    add_number(&mut line, entry.conn, " ")?;
-    add_number(&mut line, entry.index, " ")?;
-    add_number(&mut line, entry.unit, " ")?;
-    line.push_str(origin_word(entry.event.origin))?;
-    line.push_str(" ")?;
-    add_number(&mut line, entry.event.text.bytes().len() as u64, "\n")?;
+    add_entry(&mut line, number, entry)?;
     Ok(line)
 }

@@ -1,5 +1,6 @@
 //! Why a run ended.
-ghost use Rattle.std.specs.Prelude.{◌≡◌, IfOk, string_bytes};
+ghost use Rattle.std.specs.Prelude.{◌≡◌, ◌++◌, IfOk, string_bytes};
+ghost use Rattle.std.specs.Fmt.{decimal};
 ghost use Rattle.bridge_words.specs.Notes.{text_of};
 
 use crate::why::why_word;
@@ -54,6 +55,34 @@ pub enum Note {
     NoMore { run: u32 },
     /// `at` bytes of the input were read, 2^40, which are all that a connection may have.
     TooMuch { at: u64 },
+}
+
+// A number between two texts.
+fn numbered(alloc: Global, before: &str, number: u64, after: &str) -> Result<String, AllocError>
+    ensures { IfOk result (λ text. string_bytes text ≡ before.now ++ (decimal number ++ after.now)) }
+{
+    format!(in alloc; "{before}{number}{after}")
+}
+
+// A number after a text.
+fn ended_by(alloc: Global, before: &str, number: u64) -> Result<String, AllocError>
+    ensures { IfOk result (λ text. string_bytes text ≡ before.now ++ decimal number) }
+{
+    format!(in alloc; "{before}{number}")
+}
+
+// Two numbers between three texts.
+fn two_numbers(
+    alloc: Global,
+    before: &str,
+    first: u64,
+    between: &str,
+    second: u64,
+    after: &str,
+) -> Result<String, AllocError>
+    ensures { IfOk result (λ text. string_bytes text ≡ before.now ++ (decimal first ++ (between.now ++ (decimal second ++ after.now)))) }
+{
+    format!(in alloc; "{before}{first}{between}{second}{after}")
 }
 
 impl Note {
@@ -115,35 +144,42 @@ impl Note {
                 alloc,
                 "usage: bridge FILE format|replay|list|drain|serve|load",
             ),
-            Note::NotSpool { at } => format!(in alloc; "not a spool at {at}"),
+            Note::NotSpool { at } => ended_by(alloc, "not a spool at ", at),
             Note::WrongLength { have, want } => {
-                format!(in alloc; "device has {have} bytes, {want} wanted")
+                two_numbers(alloc, "device has ", have, " bytes, ", want, " wanted")
             }
             Note::Fault { at, why } => {
                 let why = why_word(why);
                 format!(in alloc; "fault at {at}: {why}")
             }
             Note::Full { need, room } => {
-                format!(in alloc; "spool full: {need} needed, {room} free")
+                two_numbers(alloc, "spool full: ", need, " needed, ", room, " free")
             }
             Note::TooLarge { need, most } => {
-                format!(in alloc; "group too large: {need} needed, {most} at most")
+                two_numbers(
+                    alloc,
+                    "group too large: ",
+                    need,
+                    " needed, ",
+                    most,
+                    " at most",
+                )
             }
-            Note::Busy { held } => format!(in alloc; "id table full: {held} held"),
+            Note::Busy { held } => numbered(alloc, "id table full: ", u64::from(held), " held"),
             Note::Refused { unit, code } => format!(in alloc; "peer refused {unit} with {code}"),
             Note::PeerClosed => String::from_str(alloc, "peer closed"),
-            Note::Unconfirmed { asked } => format!(in alloc; "unconfirmed {asked}"),
+            Note::Unconfirmed { asked } => ended_by(alloc, "unconfirmed ", asked),
             Note::NoMemory => String::from_str(alloc, "no memory"),
             Note::ReadFault => String::from_str(alloc, "read fault"),
             Note::WriteFault => String::from_str(alloc, "write fault"),
             Note::DiskFault => String::from_str(alloc, "disk fault"),
             Note::NetFault => String::from_str(alloc, "net fault"),
-            Note::Truncated { at } => format!(in alloc; "input ended in a frame at {at}"),
-            Note::RunsSpent { run } => format!(in alloc; "run {run} was the last"),
-            Note::Spent { end } => format!(in alloc; "history spent at {end}"),
-            Note::Worn { ordinal } => format!(in alloc; "register spent at {ordinal}"),
-            Note::NoMore { run } => format!(in alloc; "ids of run {run} spent"),
-            Note::TooMuch { at } => format!(in alloc; "connection spent at {at}"),
+            Note::Truncated { at } => ended_by(alloc, "input ended in a frame at ", at),
+            Note::RunsSpent { run } => numbered(alloc, "run ", u64::from(run), " was the last"),
+            Note::Spent { end } => ended_by(alloc, "history spent at ", end),
+            Note::Worn { ordinal } => ended_by(alloc, "register spent at ", ordinal),
+            Note::NoMore { run } => numbered(alloc, "ids of run ", u64::from(run), " spent"),
+            Note::TooMuch { at } => ended_by(alloc, "connection spent at ", at),
         }
     }
 }
@@ -152,6 +188,5 @@ impl Note {
 pub fn note_text(alloc: Global, note: &Note) -> Result<Blob, AllocError>
     ensures { IfOk result (λ text. text ≡ text_of note.now) }
 {
-    let text = note.text(alloc)?;
-    Ok(Blob::of(Vec::from_slice(alloc, text.as_bytes())?))
+    Ok(Blob::of(note.text(alloc)?.into_bytes()))
 }

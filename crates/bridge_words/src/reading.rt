@@ -4,15 +4,12 @@ ghost use Rattle.bridge_words.specs.declared.fault.WordsFault.{WordsFault};
 ghost use Rattle.bridge_words.specs.declared.reading.Unread.TheVariants.{NoMemory, Wrong};
 ghost use Rattle.bridge_words.specs.Values.{rows_in, receiver_of};
 ghost use Rattle.bridge_words.specs.Words.{IsNamed, IsCommand, receiver_in, HasPolls};
-ghost use Rattle.bridge_words.specs.Wrong.{fault_for, unread_for, WrongFormat, WrongList, WrongReplay, WrongDrain, WrongLoad, WrongBy, IsWrong};
+ghost use Rattle.bridge_words.specs.Wrong.{unread_for, WrongFormat, WrongList, WrongReplay, WrongDrain, WrongLoad, WrongBy, IsWrong};
 
 use crate::fault::WordsFault;
 use crate::grammar::{found, parse};
 use crate::server::serve_in;
-use crate::values::{
-    ack_token_in, count_in, form_in, number_in, out_channel_in, out_token_in, place_in, polls_in,
-    proto_in, size_in, slots_in, token_in,
-};
+use crate::values::{form_in, guid_for, number_for, number_or, place_for, proto_in};
 use crate::{Command, Receiver};
 use clap::ArgMatches;
 use clap::error::ErrorKind;
@@ -44,26 +41,17 @@ impl From<WordsFault> for Unread {
     }
 }
 
-// What a kind of clap's errors says of the words.
-fn fault_for(kind: ErrorKind) -> WordsFault
-    ensures { result ≡ fault_for kind }
-{
-    match kind {
-        ErrorKind::MissingSubcommand => WordsFault::NoCommand,
-        ErrorKind::MissingRequiredArgument => WordsFault::MissingWord,
-        ErrorKind::InvalidValue => WordsFault::MissingValue,
-        ErrorKind::ArgumentConflict => WordsFault::GivenTwice,
-        _ => WordsFault::UnknownWord,
-    }
-}
-
-// The same of an error that may be for want of memory.
+// What a kind of clap's errors says: what is wrong with the words, or that no memory was found.
 fn unread_for(kind: ErrorKind) -> Unread
     ensures { result ≡ unread_for kind }
 {
     match kind {
         ErrorKind::OutOfMemory => Unread::NoMemory,
-        _ => Unread::Wrong(fault_for(kind)),
+        ErrorKind::MissingSubcommand => Unread::Wrong(WordsFault::NoCommand),
+        ErrorKind::MissingRequiredArgument => Unread::Wrong(WordsFault::MissingWord),
+        ErrorKind::InvalidValue => Unread::Wrong(WordsFault::MissingValue),
+        ErrorKind::ArgumentConflict => Unread::Wrong(WordsFault::GivenTwice),
+        _ => Unread::Wrong(WordsFault::UnknownWord),
     }
 }
 
@@ -72,8 +60,8 @@ fn format_in(matches: &ArgMatches<'_>) -> Result<Command, Unread>
     ensures command { IfOk result (IsNamed (codes "format") (rows_in matches.now)) }
     ensures wrong { (fault : WordsFault) → result ≡ Err (Wrong fault) → WrongFormat fault (rows_in matches.now) }
 {
-    let slots = slots_in(matches)?;
-    let size = size_in(matches)?;
+    let slots = number_for(matches, "slots", 1, 1024, WordsFault::Slots)?;
+    let size = number_for(matches, "size", 4096, 1_073_741_824, WordsFault::Size)?;
     Ok(Command::Format {
         slots,
         size: u64::from(size),
@@ -95,8 +83,8 @@ fn replay_in(matches: &ArgMatches<'_>) -> Result<Command, Unread>
     ensures wrong { (fault : WordsFault) → result ≡ Err (Wrong fault) → WrongReplay fault (rows_in matches.now) }
 {
     let proto = proto_in(matches)?;
-    let token = token_in(matches)?;
-    let ack_token = ack_token_in(matches)?;
+    let token = guid_for(matches, "token", WordsFault::Token)?;
+    let ack_token = guid_for(matches, "ack-token", WordsFault::AckToken)?;
     Ok(Command::Replay {
         proto,
         token,
@@ -132,9 +120,9 @@ fn receiver_in(matches: &ArgMatches<'_>) -> Result<Receiver, WordsFault>
     ensures polls { IfOk result HasPolls }
 {
     let proto = proto_in(matches)?;
-    let token = out_token_in(matches)?;
-    let channel = out_channel_in(matches)?;
-    let polls = polls_in(matches)?;
+    let token = guid_for(matches, "out-token", WordsFault::OutToken)?;
+    let channel = guid_for(matches, "out-channel", WordsFault::OutChannel)?;
+    let polls = number_or(matches, "polls", 1, 1000, 60, WordsFault::Polls)?;
     receiver_of(proto, token, channel, polls)
 }
 
@@ -144,7 +132,7 @@ fn drain_in(alloc: Global, matches: &ArgMatches<'_>) -> Result<Command, Unread>
     ensures wrong { (fault : WordsFault) → result ≡ Err (Wrong fault) → WrongDrain fault (rows_in matches.now) }
 {
     let receiver = receiver_in(matches)?;
-    let place = place_in(alloc, matches)?;
+    let place = place_for(alloc, matches, "place")?;
     Ok(Command::Drain { receiver, place })
 }
 
@@ -154,8 +142,8 @@ fn load_in(matches: &ArgMatches<'_>) -> Result<Command, Unread>
     ensures wrong { (fault : WordsFault) → result ≡ Err (Wrong fault) → WrongLoad fault (rows_in matches.now) }
 {
     let proto = proto_in(matches)?;
-    let number = number_in(matches)?;
-    let count = count_in(matches)?;
+    let number = number_for(matches, "number", 0, 2_147_483_647, WordsFault::Number)?;
+    let count = number_for(matches, "count", 0, 100_000, WordsFault::Count)?;
     Ok(Command::Load {
         proto,
         number,

@@ -3,15 +3,12 @@ ghost use Rattle.std.specs.Prelude.{◌≡◌, ◌↔◌, IsTrue, Err, Ok, IfOk,
 ghost use Rattle.bridge_words.specs.declared.fault.WordsFault.{WordsFault};
 ghost use Rattle.bridge_words.specs.declared.reading.Unread.TheVariants.{Wrong};
 ghost use Rattle.bridge_words.specs.Values.{rows_in, relay_of};
-ghost use Rattle.bridge_words.specs.Words.{HasDoor, AreDoors, HasRelayPolls, IsNamed, relay_in};
+ghost use Rattle.bridge_words.specs.Words.{HasDoor, AreDoors, HasRelayPolls, IsManner, IsNamed, relay_in};
 ghost use Rattle.bridge_words.specs.Wrong.{WrongDoors, WrongServe};
 
 use crate::fault::WordsFault;
 use crate::reading::{Unread, receiver_of};
-use crate::values::{
-    ack_token_in, forward_in, hec_in, lumberjack_in, out_channel_in, out_token_in, polls_in,
-    relp_in, talks_in, to_in, token_in, workers_in,
-};
+use crate::values::{forward_in, guid_for, number_or, place_for};
 use crate::{Command, Place, Relay, Server};
 use clap::ArgMatches;
 use edge_io::Proto;
@@ -40,9 +37,9 @@ fn doors_in(alloc: Global, matches: &ArgMatches<'_>) -> Result<Doors, Unread>
     ensures wrong { (fault : WordsFault) → result ≡ Err (Wrong fault) → WrongDoors fault (rows_in matches.now) }
 {
     let doors = Doors {
-        relp: relp_in(alloc, matches)?,
-        lumberjack: lumberjack_in(alloc, matches)?,
-        hec: hec_in(alloc, matches)?,
+        relp: place_for(alloc, matches, "relp")?,
+        lumberjack: place_for(alloc, matches, "lumberjack")?,
+        hec: place_for(alloc, matches, "hec")?,
     };
     if !doors.has_one() {
         return Err(Unread::Wrong(WordsFault::NoDoor));
@@ -78,12 +75,45 @@ fn relay_in(alloc: Global, matches: &ArgMatches<'_>) -> Result<Option<Relay>, Un
     ensures wrong { (fault : WordsFault) → result ≡ Err (Wrong fault) → relay_in (rows_in matches.now) ≡ Err fault }
 {
     let proto = forward_in(matches)?;
-    let place = to_in(alloc, matches)?;
-    let token = out_token_in(matches)?;
-    let channel = out_channel_in(matches)?;
-    let polls = polls_in(matches)?;
+    let place = place_for(alloc, matches, "to")?;
+    let token = guid_for(matches, "out-token", WordsFault::OutToken)?;
+    let channel = guid_for(matches, "out-channel", WordsFault::OutChannel)?;
+    let polls = number_or(matches, "polls", 1, 1000, 60, WordsFault::Polls)?;
     let relay = relay_of(proto, place, token, channel, polls)?;
     Ok(relay)
+}
+
+/// How a server works, and the tokens of the HTTP Event Collector.
+#[derive(Clone, Copy)]
+struct Manner {
+    workers: u32,
+    talks: u32,
+    token: Option<u128>,
+    ack_token: Option<u128>,
+}
+
+// How a server works, and the tokens.
+fn manner_in(matches: &ArgMatches<'_>) -> Result<Manner, WordsFault>
+    ensures manner { IfOk result (λ manner. IsManner manner.workers manner.talks manner.token manner.ack_token (rows_in matches.now)) }
+    ensures wrong { (fault : WordsFault) → result ≡ Err fault → WrongServe fault (rows_in matches.now) }
+{
+    let workers = number_or(matches, "workers", 1, 16, 4, WordsFault::Workers)?;
+    let talks = number_or(
+        matches,
+        "talks",
+        1,
+        67_108_864,
+        67_108_864,
+        WordsFault::Talks,
+    )?;
+    let token = guid_for(matches, "token", WordsFault::Token)?;
+    let ack_token = guid_for(matches, "ack-token", WordsFault::AckToken)?;
+    Ok(Manner {
+        workers,
+        talks,
+        token,
+        ack_token,
+    })
 }
 
 /// `serve [--relp P] [--lumberjack P] [--hec P] [--workers N] [--talks N] [--token G] [--ack-token G]
@@ -93,10 +123,7 @@ pub(crate) fn serve_in(alloc: Global, matches: &ArgMatches<'_>) -> Result<Comman
     ensures wrong { (fault : WordsFault) → result ≡ Err (Wrong fault) → WrongServe fault (rows_in matches.now) }
 {
     let doors = doors_in(alloc, matches)?;
-    let workers = workers_in(matches)?;
-    let talks = talks_in(matches)?;
-    let token = token_in(matches)?;
-    let ack_token = ack_token_in(matches)?;
+    let manner = manner_in(matches)?;
     let forward = relay_in(alloc, matches)?;
     let Doors {
         relp,
@@ -108,10 +135,10 @@ pub(crate) fn serve_in(alloc: Global, matches: &ArgMatches<'_>) -> Result<Comman
             relp,
             lumberjack,
             hec,
-            workers,
-            talks,
-            token,
-            ack_token,
+            workers: manner.workers,
+            talks: manner.talks,
+            token: manner.token,
+            ack_token: manner.ack_token,
             forward,
         },
     })

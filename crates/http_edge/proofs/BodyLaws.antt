@@ -1,11 +1,11 @@
 -- How the text of a body goes on.
-use Rattle.std.proofs.Common.{◌≡◌, ℕ, ◌+◌, ◌<◌, ◌≤◌, List, [], ◌∷◌, ◌++◌, length, take, get_or, refl, sym, ap, ◌∙◌, subst, arith, append_assoc, append-nil}
-use Rattle.http_edge.specs.declared.stage.Stage.TheVariants.{Line, End}
+use Rattle.std.proofs.Common.{◌≡◌, ℕ, ◌+◌, ◌<◌, ◌≤◌, List, [], ◌∷◌, ◌++◌, length, take, get_or, refl, sym, ap, ◌∙◌, subst, arith, append_assoc, append-nil, length-append}
+use Rattle.http_edge.specs.declared.stage.Stage.TheVariants.{Line, Data, End}
 use Rattle.httparse.specs.Ascii.{crlf_bytes}
 use Rattle.http_edge.specs.Lengths.{BodySize}
 use Rattle.http_edge.specs.Chunks.{IsLine, IsChunk, AreChunks}
-use Rattle.http_edge.specs.Bodies.{IsTooLong}
-use Rattle.http_edge.specs.Turns.{Passes, Exceeds}
+use Rattle.http_edge.specs.Bodies.{IsInChunk, IsTooLong}
+use Rattle.http_edge.specs.Turns.{Takes, Passes, Exceeds}
 
 -- a chunk line that makes the body too long
 pub line_long : (n held : ℕ) (line more u : List ℕ) → IsLine n line → u ≡ line ++ more → 1048576 < held + n → Exceeds Line held u
@@ -27,6 +27,33 @@ end_line held x is size body front e (s, fits, i) =
     let more = are_more i.chunks i.before i.front i.data_so_far chunk i.are one in
     let text : i.front ++ chunk ≡ front ++ x = ap (λ (v : List ℕ). i.front ++ v) (sym (append_assoc i.line i.data_so_far crlf_bytes)) ∙ sym (append_assoc i.front (i.line ++ i.data_so_far) crlf_bytes) ∙ (λ j. sym i.text_is j ++ sym is j) in
     (s, fits, (i.chunks ++ i.data_so_far ∷ [], subst (λ (v : List ℕ). AreChunks (i.chunks ++ i.data_so_far ∷ []) body v) text (subst (λ (v : List ℕ). AreChunks (i.chunks ++ i.data_so_far ∷ []) v (i.front ++ chunk)) (sym i.body_is) more)))
+
+-- data of a chunk, of which so many were due and so many are left
+data_more : (left next : ℕ) (body front d : List ℕ) → length d + next ≡ left → IsInChunk left body front → IsInChunk next (body ++ d) (front ++ d)
+data_more left next body front d e i =
+    let n = length-append i.data_so_far d in
+    let due : length i.data_so_far + left ≡ length (i.data_so_far ++ d) + next = omega (arith, n, e) in
+    record {
+      chunks = i.chunks;
+      before = i.before;
+      front = i.front;
+      line = i.line;
+      data_so_far = i.data_so_far ++ d;
+      are = i.are;
+      line_is = subst (λ (k : ℕ). IsLine k i.line) due i.line_is;
+      some = subst (λ (k : ℕ). 0 < k) due i.some;
+      body_is = ap (λ (v : List ℕ). v ++ d) i.body_is ∙ append_assoc i.before i.data_so_far d;
+      text_is = ap (λ (v : List ℕ). v ++ d) i.text_is ∙ append_assoc i.front (i.line ++ i.data_so_far) d ∙ ap (λ (v : List ℕ). i.front ++ v) (append_assoc i.line i.data_so_far d);
+    }
+
+pub data_takes : (left next held : ℕ) (d : List ℕ) → length d + next ≡ left → Takes (Data left) held (Data next) d
+data_takes left next held d e size body front at (s, fits, i) =
+    let n = length-append body d in (s, omega (arith, n, e, fits), data_more left next body front d e i)
+
+pub data_ends : (left held : ℕ) (d : List ℕ) → length d ≡ left → Takes (Data left) held End d
+data_ends left held d e size body front at (s, fits, i) =
+    let n = length-append body d in
+    let all : length d + 0 ≡ left = omega (arith, e) in (s, omega (arith, n, e, fits), data_more left 0 body front d all i)
 
 -- the first two bytes
 pub two_bytes : (u : List ℕ) (a b : ℕ) → 2 ≤ length u → get_or u 0 0 ≡ a → get_or u 1 0 ≡ b → take 2 u ≡ a ∷ b ∷ []

@@ -1,6 +1,6 @@
 -- What a window holds once a piece is read.
 use Rattle.std.proofs.Common.{◌≡◌, ℕ, ◌+◌, ◌-◌, ◌<◌, ◌≤◌, ◌^◌, List, [], ◌∷◌, ◌++◌, length, take, drop, refl, sym, ap, ◌∙◌, subst, arith, length-append, length-drop, length-take-le, append_assoc, take-append-drop}
-use Rattle.std.specs.Prelude.{Option, Some, None, Result, Err, slice_range}
+use Rattle.std.specs.Prelude.{IsSome, Option, Some, None, Result, Err, slice_range}
 use Rattle.std.specs.Vec.{vec_capacity}
 use Rattle.std.proofs.lemmas.List.{drop-take, drop-append-le, drop_at, take_at}
 use Rattle.event_form.specs.declared.feed_fault.FeedFault.{FeedFault}
@@ -313,6 +313,10 @@ kept_feed h new u piece f sound k = record {
   feeds = (kept_window h new u k, sound);
   room = (let a = k.at_is in let b = k.read_is in let v : length new.unread.items ≡ length u = ap length k.unread_is in omega (arith, a, b, v));
 }
+
+-- what is there isn't missing
+pub none_some : {A : Type 0} (o : Option A) → IsSome o → o ≡ None → ⊥
+none_some o some none = cc
 
 -- bytes that were appended are gone again
 pub cut_off : (old more kept added : List ℕ) (n : ℕ) → more ≡ old ++ added → n ≡ length old → kept ≡ take n more → kept ≡ old

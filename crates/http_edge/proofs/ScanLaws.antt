@@ -203,6 +203,10 @@ scan_bad b old items more queue now heads from at why asks a n e =
 pub cut_back : (old items more kept got : List ℕ) (n : ℕ) → more ≡ items ++ got → n ≡ length items → kept ≡ take n more → kept ≡ items
 cut_back old items more kept got n e l k = k ∙ ap (take n) e ∙ take_at items got n (sym l)
 
+-- bytes to which some were added, and then more
+pub grown : (old items more got next : List ℕ) → items ≡ old ++ got → more ≡ items ++ next → more ≡ old ++ (got ++ next)
+grown old items more got next e f = f ∙ ap (λ (v : List ℕ). v ++ next) e ∙ append_assoc old got next
+
 -- a queue with those that waited before, those of some requests, and those given of the next one
 pub told_after : (before now queue after : List Waiting) (asks : Bool) → now ≡ before ++ queue → after ≡ now ++ told_if asks → after ≡ before ++ (queue ++ told_if asks)
 told_after before now queue after asks e f = f ∙ ap (λ (v : List Waiting). v ++ told_if asks) e ∙ append_assoc before queue (told_if asks)

@@ -8,14 +8,14 @@ use std::marker::Model;
 
 /// A field line of a head (RFC 9112, section 5): its name as it was written, and its value without the
 /// white space around it.
-#[derive(Drop, Debug)]
+#[derive(Drop)]
 pub struct Field {
     pub name: Blob,
     pub value: Blob,
 }
 
 /// The fields of a head in their order. Contracts see them as a list of fields.
-#[derive(Drop, Debug)]
+#[derive(Drop)]
 pub struct Fields {
     lines: Vec<Field>,
 }

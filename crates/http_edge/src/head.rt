@@ -14,7 +14,7 @@ use httparse::Status;
 use httparse::spans::{HeaderSpan, RequestSpans, parse_request};
 
 /// A request but for its body.
-#[derive(Drop, Debug)]
+#[derive(Drop)]
 pub struct Head {
     pub method: Blob,
     pub target: Blob,

@@ -6,7 +6,7 @@ ghost use Rattle.http_edge.specs.LineCount.{count_byte, count_lines, is_over, la
 use crate::limits::MOST_FIELDS;
 
 /// The line that hasn't ended.
-#[derive(Clone, Copy, PartialEq, Eq, Debug)]
+#[derive(Clone, Copy)]
 pub enum LastLine {
     Empty,
     /// CR alone.

@@ -12,7 +12,7 @@ use httparse::{is_method_token, is_uri_token};
 use std::str::from_utf8;
 
 /// How far a head has been read that isn't whole.
-#[derive(Clone, Copy, PartialEq, Eq, Debug)]
+#[derive(Clone, Copy)]
 pub enum HeadPart {
     /// Empty lines, or nothing.
     Blank,

@@ -1,53 +1,41 @@
 //! The writer of replies.
-ghost use Rattle.std.specs.Prelude.{◌≡◌, ◌≤◌, ◌++◌, length, IsTrue, IfOk, OnOk, OnErr};
+ghost use Rattle.std.specs.Prelude.{◌≡◌, ◌≤◌, ◌++◌, length, string_bytes, IsTrue, IfOk, OnOk, OnErr};
 ghost use Rattle.http_edge.specs.Reply.{connection, is_status, reason_of, reply_head, reply_text};
 
 use std::alloc::{AllocError, Global};
 
 // The reason phrase of a status.
-fn reason_of(status: u16) -> &'static [u8]
+fn reason_of(status: u16) -> &'static str
     ensures { result.now ≡ reason_of status }
 {
     match status {
-        200 => b"OK",
-        400 => b"Bad Request",
-        401 => b"Unauthorized",
-        403 => b"Forbidden",
-        404 => b"Not Found",
-        405 => b"Method Not Allowed",
-        500 => b"Internal Server Error",
-        _ => b"Service Unavailable",
+        200 => "OK",
+        400 => "Bad Request",
+        401 => "Unauthorized",
+        403 => "Forbidden",
+        404 => "Not Found",
+        405 => "Method Not Allowed",
+        500 => "Internal Server Error",
+        _ => "Service Unavailable",
     }
 }
 
 // The field that ends the connection, where it is to end.
-fn connection(closing: bool) -> &'static [u8]
+fn connection(closing: bool) -> &'static str
     ensures { result.now ≡ connection closing }
 {
-    if closing {
-        b"Connection: close\r\n"
-    } else {
-        b""
-    }
+    if closing { "Connection: close\r\n" } else { "" }
 }
 
 // The status line, the fields, and the empty line after them.
-fn reply_head(alloc: Global, status: u16, closing: bool, size: usize) -> Result<Vec<u8>, AllocError>
-    ensures { IfOk result (λ head. head.items ≡ reply_head status closing size) }
+fn reply_head(alloc: Global, status: u16, closing: bool, size: usize) -> Result<String, AllocError>
+    ensures { IfOk result (λ head. string_bytes head ≡ reply_head status closing size) }
 {
-    let mut head = Vec::from_slice(alloc, b"HTTP/1.1 ")?;
-    head.extend_from_slice(status.to_string(alloc)?.as_bytes())?;
-    head.extend_from_slice(b" ")?;
-    head.extend_from_slice(reason_of(status))?;
-    head.extend_from_slice(b"\r\n")?;
-    head.extend_from_slice(b"Content-Type: application/json")?;
-    head.extend_from_slice(b"\r\n")?;
-    head.extend_from_slice(b"Content-Length: ")?;
-    head.extend_from_slice(size.to_string(alloc)?.as_bytes())?;
-    head.extend_from_slice(b"\r\n")?;
-    head.extend_from_slice(connection(closing))?;
-    head.extend_from_slice(b"\r\n")?;
-    Ok(head)
+    let reason = reason_of(status);
+    let ending = connection(closing);
+    format!(in alloc;
+        "HTTP/1.1 {status} {reason}\r\nContent-Type: application/json\r\nContent-Length: {size}\r\n{ending}\r\n"
+    )
 }
 
 /// Appends a reply of HTTP/1.1 with this status, its reason, a JSON body of at most 1,048,576 bytes, and,
@@ -66,7 +54,7 @@ pub fn write_reply(
 {
     let before = out.len();
     let head = reply_head(*out.allocator(), status, closing, body.len())?;
-    out.extend_from_slice(&head)?;
+    out.extend_from_slice(head.as_bytes())?;
     if let Err(error) = out.extend_from_slice(body) {
         out.truncate(before);
         return Err(error);

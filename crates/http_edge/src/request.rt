@@ -10,7 +10,7 @@ use event_form::Blob;
 
 /// A whole request. The minor version is 0 or 1: HTTP/1.0 or HTTP/1.1. The body has at most 1,048,576
 /// bytes, those of the chunks joined where it came in chunks.
-#[derive(Drop, Debug)]
+#[derive(Drop)]
 pub struct HttpRequest {
     pub method: Blob,
     pub target: Blob,
@@ -20,7 +20,7 @@ pub struct HttpRequest {
 }
 
 /// An item of a stream of requests.
-#[derive(Drop, Debug)]
+#[derive(Drop)]
 pub enum HttpItem {
     /// The head of a request was read that waits for leave to send its body (RFC 9110, section 10.1.1).
     /// The next item is its request, unless the stream ends or has a fault before.

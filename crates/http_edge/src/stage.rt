@@ -1,7 +1,7 @@
 //! How far a body has been read.
 
 /// What is due next of a body.
-#[derive(Clone, Copy, PartialEq, Eq, Debug)]
+#[derive(Clone, Copy)]
 pub enum Stage {
     /// So many bytes of a body whose head gave its length.
     Plain { left: usize },

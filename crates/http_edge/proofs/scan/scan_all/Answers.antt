@@ -5,7 +5,8 @@ use Rattle.http_edge.specs.declared.waiting.Waiting.{Waiting}
 use Rattle.http_edge.specs.declared.waiting.Waiting.TheVariants.{Request}
 use Rattle.http_edge.specs.Scanning.{Scans}
 use Rattle.http_edge.specs.Waits.{told_if}
-use Rattle.http_edge.proofs.ScanLaws.{at_begin, cut_back, next_at, scan_bad, scan_more, scan_open, scan_part, parked_after, told_after}
+use Rattle.std.proofs.Math.Nat.{le_trans}
+use Rattle.http_edge.proofs.ScanLaws.{at_begin, cut_back, grown, next_at, scan_bad, scan_more, scan_open, scan_part, parked_after, told_after}
 use Rattle.http_edge.proofs.scan.scan_all.Goals as goal
 
 pub requests-init : goal.requests-init
@@ -77,3 +78,119 @@ returns-in-Bad-clause-scans c =
       added = kept ∙ a.added ∙ ap (λ (v : List ℕ). c.args.bytes.now.items ++ v) (sym (append-nil a.got));
       scans = subst (Scans b a.got [] now l.heads) (sym c.cleared-left.ensures) (scan_bad b c.args.bytes.now.items items more q.0 now l.heads l.from w.at w.why w.asks a n refl);
     }
+
+pub returns-in_err-parked-clause-added : goal.returns-in_err-parked-clause-added
+returns-in_err-parked-clause-added c =
+    let l = c.requests in
+    let a = l.invariant.0.2 in
+    (a.got, c.in_err-parked.ensures.kept ∙ a.added)
+
+pub returns-in_err-parked-clause-queued : goal.returns-in_err-parked-clause-queued
+returns-in_err-parked-clause-queued c =
+    let q = c.requests.invariant.0 in
+    (q.0, q.1)
+
+pub returns-in_err-parked-clause-capacity : goal.returns-in_err-parked-clause-capacity
+returns-in_err-parked-clause-capacity c = le_trans c.requests.invariant.1 c.next_request.ensures.capacity
+
+pub returns-in_err-tell-in-Whole-clause-added : goal.returns-in_err-tell-in-Whole-clause-added
+returns-in_err-tell-in-Whole-clause-added c =
+    let l = c.requests in
+    let a = l.invariant.0.2 in
+    let n = c.in_ok-parked.ensures.next in
+    (a.got ++ n.got, grown c.args.bytes.now.items l.bytes.items c.next_request.new.bytes.items a.got n.got a.added n.added)
+
+pub returns-in_err-tell-in-Whole-clause-queued : goal.returns-in_err-tell-in-Whole-clause-queued
+returns-in_err-tell-in-Whole-clause-queued c =
+    let q = c.requests.invariant.0 in
+    (q.0, c.in_err-tell-in-Whole.ensures.err ∙ q.1)
+
+pub returns-in_err-tell-in-Whole-clause-capacity : goal.returns-in_err-tell-in-Whole-clause-capacity
+returns-in_err-tell-in-Whole-clause-capacity c = le_trans c.requests.invariant.1 c.next_request.ensures.capacity
+
+pub returns-in_err-push_back-in-Whole-clause-added : goal.returns-in_err-push_back-in-Whole-clause-added
+returns-in_err-push_back-in-Whole-clause-added c =
+    let l = c.requests in
+    let a = l.invariant.0.2 in
+    let n = c.in_ok-parked.ensures.next in
+    (a.got ++ n.got, grown c.args.bytes.now.items l.bytes.items c.next_request.new.bytes.items a.got n.got a.added n.added)
+
+pub returns-in_err-push_back-in-Whole-clause-queued : goal.returns-in_err-push_back-in-Whole-clause-queued
+returns-in_err-push_back-in-Whole-clause-queued c =
+    let q = c.requests.invariant.0 in
+    let w = c.in-Whole in
+    (q.0 ++ told_if w.asks, c.in_err-push_back-in-Whole.ensures.items ∙ told_after c.args.queue.now.items c.requests.queue.items q.0 c.tell.new.queue.items w.asks q.1 c.in_ok-tell-in-Whole.ensures.ok)
+
+pub returns-in_err-push_back-in-Whole-clause-capacity : goal.returns-in_err-push_back-in-Whole-clause-capacity
+returns-in_err-push_back-in-Whole-clause-capacity c = le_trans c.requests.invariant.1 c.next_request.ensures.capacity
+
+pub returns-in_err-tell-in-Part-clause-added : goal.returns-in_err-tell-in-Part-clause-added
+returns-in_err-tell-in-Part-clause-added c =
+    let l = c.requests in
+    let a = l.invariant.0.2 in
+    let n = c.in_ok-parked.ensures.next in
+    (a.got ++ n.got, grown c.args.bytes.now.items l.bytes.items c.next_request.new.bytes.items a.got n.got a.added n.added)
+
+pub returns-in_err-tell-in-Part-clause-queued : goal.returns-in_err-tell-in-Part-clause-queued
+returns-in_err-tell-in-Part-clause-queued c =
+    let q = c.requests.invariant.0 in
+    (q.0, c.in_err-tell-in-Part.ensures.err ∙ q.1)
+
+pub returns-in_err-tell-in-Part-clause-capacity : goal.returns-in_err-tell-in-Part-clause-capacity
+returns-in_err-tell-in-Part-clause-capacity c = le_trans c.requests.invariant.1 c.next_request.ensures.capacity
+
+pub returns-in-Part-clause-added : goal.returns-in-Part-clause-added
+returns-in-Part-clause-added c =
+    let l = c.requests in
+    let a = l.invariant.0.2 in
+    let n = c.in_ok-parked.ensures.next in
+    (a.got ++ n.got, grown c.args.bytes.now.items l.bytes.items c.next_request.new.bytes.items a.got n.got a.added n.added)
+
+pub returns-in-Part-clause-queued : goal.returns-in-Part-clause-queued
+returns-in-Part-clause-queued c =
+    let q = c.requests.invariant.0 in
+    let p = c.in-Part.part in
+    (q.0 ++ told_if p.asks, told_after c.args.queue.now.items c.requests.queue.items q.0 c.tell-in-Part.new.queue.items p.asks q.1 c.in_ok-tell-in-Part.ensures.ok)
+
+pub returns-in-Part-clause-capacity : goal.returns-in-Part-clause-capacity
+returns-in-Part-clause-capacity c = le_trans c.requests.invariant.1 c.next_request.ensures.capacity
+
+pub returns-in-Open-clause-added : goal.returns-in-Open-clause-added
+returns-in-Open-clause-added c =
+    let l = c.requests in
+    let a = l.invariant.0.2 in
+    let n = c.in_ok-parked.ensures.next in
+    (a.got ++ n.got, grown c.args.bytes.now.items l.bytes.items c.next_request.new.bytes.items a.got n.got a.added n.added)
+
+pub returns-in-Open-clause-queued : goal.returns-in-Open-clause-queued
+returns-in-Open-clause-queued c =
+    let q = c.requests.invariant.0 in
+    (q.0, q.1)
+
+pub returns-in-Open-clause-capacity : goal.returns-in-Open-clause-capacity
+returns-in-Open-clause-capacity c = le_trans c.requests.invariant.1 c.next_request.ensures.capacity
+
+pub returns-in_err-tell-in-Bad-clause-added : goal.returns-in_err-tell-in-Bad-clause-added
+returns-in_err-tell-in-Bad-clause-added c =
+    let l = c.requests in
+    let a = l.invariant.0.2 in
+    let n = c.in_ok-parked.ensures.next in
+    (a.got, cut_back c.args.bytes.now.items l.bytes.items c.next_request.new.bytes.items c.truncate.new.self.items n.got c.len-body.result n.added (c.len-body.ensures ∙ l.bytes.ok.0) c.truncate.ensures.items ∙ a.added)
+
+pub returns-in_err-tell-in-Bad-clause-queued : goal.returns-in_err-tell-in-Bad-clause-queued
+returns-in_err-tell-in-Bad-clause-queued c =
+    let q = c.requests.invariant.0 in
+    (q.0, c.in_err-tell-in-Bad.ensures.err ∙ q.1)
+
+pub returns-in-Bad-clause-added : goal.returns-in-Bad-clause-added
+returns-in-Bad-clause-added c =
+    let l = c.requests in
+    let a = l.invariant.0.2 in
+    let n = c.in_ok-parked.ensures.next in
+    (a.got, cut_back c.args.bytes.now.items l.bytes.items c.next_request.new.bytes.items c.truncate.new.self.items n.got c.len-body.result n.added (c.len-body.ensures ∙ l.bytes.ok.0) c.truncate.ensures.items ∙ a.added)
+
+pub returns-in-Bad-clause-queued : goal.returns-in-Bad-clause-queued
+returns-in-Bad-clause-queued c =
+    let q = c.requests.invariant.0 in
+    let w = c.in-Bad in
+    (q.0 ++ told_if w.asks, told_after c.args.queue.now.items c.requests.queue.items q.0 c.tell-in-Bad.new.queue.items w.asks q.1 c.in_ok-tell-in-Bad.ensures.ok)

@@ -14,7 +14,7 @@ use Rattle.http_edge.specs.Keeping.{answer, moved}
 use Rattle.http_edge.specs.Scanning.{Scans}
 use Rattle.http_edge.proofs.BodyHeldLaws.{bad_feed, cleared_head, gathered_held, open_feed, whole_feed}
 use Rattle.http_edge.proofs.GiveLaws.{beside_short}
-use Rattle.http_edge.proofs.HeldLaws.{cut_off, kept_feed, scan_head}
+use Rattle.http_edge.proofs.HeldLaws.{cut_off, kept_feed, none_some, scan_head}
 use Rattle.http_edge.proofs.NextLaws.{window}
 use Rattle.http_edge.proofs.ScanLaws.{insert_between, queue_back}
 use Rattle.http_edge.proofs.held.Held.read_all.Goals as goal
@@ -141,3 +141,17 @@ returns-in-Bad c = λ piece e.
     let st = subst (λ (l : Left). Settles mid h.at all l c.settle-in-Bad.new.self) c.cleared.ensures c.settle-in-Bad.ensures.settles in
     let told = c.settle-in-Bad.ensures.told ∙ ap (λ (l : Left). answer (moved h.at l.fault)) c.cleared.ensures in
     bad_feed h mid c.settle-in-Bad.new.self all piece g.new.bytes.items g.result c.in-Bad.why c.place-at.result c.settle-in-Bad.result f c.requires.begun.0 c.requires.begun.1 e gathers c.in-Bad.is c.place-at.ensures c.truncate-in-Bad.ensures.items (omega (arith, a, b, d)) refl refl refl refl st told
+
+pub returns-in_default : goal.returns-in_default
+returns-in_default c = λ piece e.
+    let h = c.args.self.now in
+    let f = c.requires.fills in
+    let x = c.gather-used.ensures.gathers in
+    let kept = cut_off h.bytes.items c.scan.new.bytes.items c.truncate.new.self.items x.got c.len-before.result (c.in_default.ensures.kept ∙ x.added) (c.len-before.ensures ∙ h.bytes.ok.0) c.truncate.ensures.items in
+    let a = c.gather-used.ensures.capacity in
+    let b = c.scan.ensures.capacity in
+    let d = c.truncate.ensures.capacity in
+    kept_feed h _ h.unread.items piece f c.requires.begun.0 (record { queue_is = c.in_default.ensures.waits; heads_is = refl; beside_is = refl; bytes_are = kept; space = omega (arith, a, b, d); from_is = refl; whole_is = refl; at_is = refl; begun_is = refl; size_is = refl; stage_is = refl; read_is = refl; unread_is = refl; unread_space = f.unread_space; part_is = refl; fault_is = refl })
+
+pub unreachable-requires : goal.unreachable-requires
+unreachable-requires c = none_some _ c.requires.begun.1 (sym c.take.ensures.value ∙ c.in_default-take.is)
