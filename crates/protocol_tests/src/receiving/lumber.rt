@@ -39,22 +39,19 @@ fn listen(rt: &impl Abort, alloc: Global, stream: &[u8]) -> Heard
         panic!(rt; "memory");
     }
     while let Some(frame) = reader.take() {
-        match core.step(frame) {
-            LumberAct::Nothing => add(rt, &mut acts, &[b"n"]),
+        let (act, commits) = match core.step(frame) {
+            LumberAct::Nothing => (b'n', false),
             LumberAct::Stage { event, seq, commit } => {
-                add(rt, &mut acts, &[&[letter(event.origin, commit)]]);
                 add(rt, &mut texts, &[b"[", event.text.bytes(), b"]"]);
                 last = seq;
-                if commit {
-                    add(rt, &mut acks, &[&ack_for(seq)]);
-                    core.committed();
-                }
+                (letter(event.origin, commit), commit)
             }
-            LumberAct::CommitFirst => {
-                add(rt, &mut acts, &[b"c"]);
-                add(rt, &mut acks, &[&ack_for(last)]);
-                core.committed();
-            }
+            LumberAct::CommitFirst => (b'c', true),
+        };
+        acts.push(act).expect(rt, "memory");
+        if commits {
+            add(rt, &mut acks, &[&ack_for(last)]);
+            core.committed();
         }
     }
     (acts, texts, acks)
@@ -82,17 +79,22 @@ fn window(rt: &impl Abort, alloc: Global, frames: u32, len: usize) -> Vec<u8>
     stream
 }
 
+/// The acknowledgments of these frames.
+fn acks_for(rt: &impl Abort, alloc: Global, seqs: &[u32]) -> Vec<u8> {
+    let mut acks = Vec::new(alloc);
+    for seq in seqs {
+        acks.extend_from_slice(&ack_for(*seq)).expect(rt, "memory");
+    }
+    acks
+}
+
 /// Windows that are more than one batch, by their frames and by their bytes.
 pub(crate) fn large_windows(rt: &impl Abort, alloc: Global) {
     for (frames, len, last) in LARGE {
         assert!(rt; *len <= 131_072);
         let stream = window(rt, alloc, *frames, *len);
         assert!(rt; stream.len() <= 1_000_000);
-        let mut wanted = Vec::new(alloc);
-        for seq in *last {
-            add(rt, &mut wanted, &[&ack_for(*seq)]);
-        }
         let (_, _, acks) = listen(rt, alloc, &stream);
-        assert!(rt; acks == wanted);
+        assert!(rt; acks == acks_for(rt, alloc, last));
     }
 }

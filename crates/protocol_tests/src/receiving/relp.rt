@@ -3,10 +3,10 @@ ghost use Rattle.std.specs.Prelude.{◌≤◌, ◌^◌, length};
 
 use super::relp_rows::{ROWS, Row};
 use crate::parts::add;
-use event_form::{FeedFault, Origin};
+use event_form::{Blob, FeedFault, Origin};
 use relp_frame::RelpReader;
 use relp_session::{RelpAct, RelpCore, closing_hint, stored_reply};
-use std::alloc::Global;
+use std::alloc::{AllocError, Global};
 use std::process::Abort;
 
 const OFFERED: &[u8] =
@@ -32,8 +32,8 @@ fn show(rt: &impl Abort, alloc: Global, act: &RelpAct, out: &mut Vec<u8>) {
     }
 }
 
-/// What is done for the frames that the text spells, up to its end or its first fault.
-fn answers(rt: &impl Abort, alloc: Global, core: &mut RelpCore, text: &[u8]) -> Vec<u8>
+/// Asserts that this is done for the frames that the text spells, up to its end or its first fault.
+fn answers(rt: &impl Abort, alloc: Global, core: &mut RelpCore, text: &[u8], done: &[u8])
     requires { length text.now ≤ 2 ^ 20 }
 {
     let mut reader = RelpReader::new(alloc);
@@ -45,18 +45,18 @@ fn answers(rt: &impl Abort, alloc: Global, core: &mut RelpCore, text: &[u8]) -> 
         let act = core.step(alloc, frame).expect(rt, "memory");
         show(rt, alloc, &act, &mut out);
     }
-    out
+    assert!(rt; out.as_slice() == done);
 }
 
 /// What is done for some frames of a row, and then for another frame.
 fn session(rt: &impl Abort, alloc: Global, row: &Row, frames: &[u8]) {
     let mut core = RelpCore::new();
     if row.opened {
-        assert!(rt; answers(rt, alloc, &mut core, b"1 open 0\n").as_slice() == OFFERED);
+        answers(rt, alloc, &mut core, b"1 open 0\n", OFFERED);
     }
     assert!(rt; frames.len() <= 300);
-    assert!(rt; answers(rt, alloc, &mut core, frames).as_slice() == row.done);
-    assert!(rt; answers(rt, alloc, &mut core, b"9 noop 0\n").as_slice() == row.then);
+    answers(rt, alloc, &mut core, frames, row.done);
+    answers(rt, alloc, &mut core, b"9 noop 0\n", row.then);
 }
 
 pub(crate) fn sessions(rt: &impl Abort, alloc: Global) {
@@ -67,11 +67,17 @@ pub(crate) fn sessions(rt: &impl Abort, alloc: Global) {
     }
 }
 
+/// Asserts that this is the text.
+fn is(rt: &impl Abort, text: Result<Blob, AllocError>, wanted: &[u8]) {
+    assert!(rt; text.expect(rt, "memory").bytes() == wanted);
+}
+
 pub(crate) fn texts_of_the_receiver(rt: &impl Abort, alloc: Global) {
-    let reply = stored_reply(alloc, 2).expect(rt, "memory");
-    assert!(rt; reply.bytes() == b"2 rsp 6 200 OK\n".as_slice());
-    let reply = stored_reply(alloc, 999_999_999).expect(rt, "memory");
-    assert!(rt; reply.bytes() == b"999999999 rsp 6 200 OK\n".as_slice());
-    let hint = closing_hint(alloc).expect(rt, "memory");
-    assert!(rt; hint.bytes() == b"0 serverclose 0\n".as_slice());
+    is(rt, stored_reply(alloc, 2), b"2 rsp 6 200 OK\n");
+    is(
+        rt,
+        stored_reply(alloc, 999_999_999),
+        b"999999999 rsp 6 200 OK\n",
+    );
+    is(rt, closing_hint(alloc), b"0 serverclose 0\n");
 }

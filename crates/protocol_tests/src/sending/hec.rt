@@ -42,14 +42,20 @@ pub(crate) fn sessions(rt: &impl Abort, alloc: Global, rows: &[Row]) {
     }
 }
 
+/// Asserts that event requests have these sizes whose bodies have those.
+fn sizes(rt: &impl Abort, alloc: Global, sizes: &[usize], bodies: &[usize]) {
+    assert!(rt; sizes.len() == bodies.len());
+    for (size, body) in sizes.iter().zip(bodies) {
+        assert!(rt; *size == event_request_size(rt, alloc, *body));
+    }
+}
+
 /// Sessions of several requests, by how long these are.
 pub(crate) fn long_sessions(rt: &impl Abort, alloc: Global) {
     for (entries, answers, bodies, turns) in LONG_ROWS {
         let peer = replies(rt, alloc, answers, b"");
         let session = talk(rt, alloc, 1, entries, &peer, 4096);
-        assert!(rt; session.turns.as_str() == *turns && session.sizes.len() == bodies.len());
-        for (size, body) in session.sizes.iter().zip(*bodies) {
-            assert!(rt; *size == event_request_size(rt, alloc, *body));
-        }
+        assert!(rt; session.turns.as_str() == *turns);
+        sizes(rt, alloc, &session.sizes, bodies);
     }
 }

@@ -74,14 +74,32 @@ pub(crate) fn every_second_entry(rt: &impl Abort, alloc: Global) {
     talk(rt, alloc, &entries, peer.as_bytes(), 100).check(rt, out.as_bytes(), &told);
 }
 
+/// A session of which this is told.
+fn told(
+    rt: &impl Abort,
+    alloc: Global,
+    entries: &[Entries],
+    peer: &[u8],
+    size: usize,
+    turns: &str,
+) {
+    let session = talk(rt, alloc, entries, peer, size);
+    assert!(rt; session.turns.as_str() == turns);
+}
+
 /// Answers that an `imrelp` gave.
 pub(crate) fn recorded(rt: &impl Abort, alloc: Global) {
     for size in SIZES {
         let all = talk(rt, alloc, SENT_ENTRIES, ANSWERED, *size);
         assert!(rt; all.out.as_slice() == SENT && all.turns.ends_with("c10 Done"));
-        let two = talk(rt, alloc, &SENT_ENTRIES[..2], CLOSED, *size);
-        assert!(rt; two.turns.as_str() == "PeerClosed");
-        let one = talk(rt, alloc, &SENT_ENTRIES[..1], ONE_ANSWERED, *size);
-        assert!(rt; one.turns.as_str() == "c1 Done");
+        told(rt, alloc, &SENT_ENTRIES[..2], CLOSED, *size, "PeerClosed");
+        told(
+            rt,
+            alloc,
+            &SENT_ENTRIES[..1],
+            ONE_ANSWERED,
+            *size,
+            "c1 Done",
+        );
     }
 }

@@ -1,7 +1,7 @@
 //! Streams of Lumberjack in pieces of each size, and a window that is full.
 ghost use Rattle.std.specs.Prelude.{◌≤◌, ◌^◌, length};
 
-use super::lumber_read::{Fed, by_reader, by_window};
+use super::lumber_read::{Fed, Found, Read, by_reader, by_window};
 use super::lumber_rows::{ROWS, longest};
 use event_form::FeedFault;
 use lumber_frame::{
@@ -11,7 +11,7 @@ use std::alloc::Global;
 use std::process::Abort;
 
 /// Where the rest of a row begins, and how many bytes of it a window holds.
-fn rest_of(length: usize, whole: usize, fault: Option<(u64, LumberWhy)>) -> (Option<u64>, u64) {
+fn rest_of(length: usize, whole: usize, fault: Option<Found>) -> (Option<u64>, u64) {
     let whole = whole as u64;
     match fault {
         Some((at, _)) => (Some(whole), at.saturating_sub(whole)),
@@ -20,19 +20,26 @@ fn rest_of(length: usize, whole: usize, fault: Option<(u64, LumberWhy)>) -> (Opt
     }
 }
 
+/// What a reader and a window have to read of a row: the bytes of its whole frames, the offset of the rest, and the fault.
+type Wanted<'a> = (&'a [u8], Option<u64>, Option<Found>);
+
+/// Whether that was read.
+fn is(read: &Read, wanted: Wanted<'_>) -> bool {
+    read.0.as_slice() == wanted.0 && read.1 == wanted.1 && read.2 == wanted.2
+}
+
 /// The rows in pieces of each size, by the reader, and by the window where a receiver reads.
 pub(crate) fn streams(rt: &impl Abort, alloc: Global) {
     for (side, text, whole, fault) in ROWS {
         let frames = text.get(..*whole).expect(rt, "as many bytes");
         assert!(rt; text.len() <= 100);
         let (rest_at, held) = rest_of(text.len(), *whole, *fault);
+        let wanted = (frames, rest_at, *fault);
         for size in 1..102 {
-            let (out, at, found) = by_reader(rt, alloc, *side, text, size);
-            assert!(rt; out.as_slice() == frames && at == rest_at && found == *fault);
+            assert!(rt; is(&by_reader(rt, alloc, *side, text, size), wanted));
             if *side == Side::Receiver {
-                let ((out, at, found), holds) = by_window(rt, alloc, text, size);
-                assert!(rt; out.as_slice() == frames && at == rest_at && found == *fault);
-                assert!(rt; holds as u64 == held);
+                let (read, holds) = by_window(rt, alloc, text, size);
+                assert!(rt; is(&read, wanted) && holds as u64 == held);
             }
         }
     }
@@ -43,10 +50,15 @@ pub(crate) fn limits(rt: &impl Abort, alloc: Global) {
     let text = longest(rt, alloc);
     assert!(rt; text.len() <= 500_000);
     for count in 1..21 {
-        let (out, at, found) = by_reader(rt, alloc, Side::Receiver, &text, count * 8192);
-        assert!(rt; out == text && at.is_none() && found.is_none());
-        let ((out, _, found), held) = by_window(rt, alloc, &text, count * 8192);
-        assert!(rt; out == text && found.is_none() && held == 0);
+        let wanted = (text.as_slice(), None, None);
+        assert!(rt;
+            is(
+                &by_reader(rt, alloc, Side::Receiver, &text, count * 8192),
+                wanted
+            )
+        );
+        let (read, held) = by_window(rt, alloc, &text, count * 8192);
+        assert!(rt; is(&read, wanted) && held == 0);
     }
 }
 
@@ -72,10 +84,11 @@ fn steps(rt: &impl Abort, alloc: Global, text: &[u8], steps: &[Step]) {
     let mut fed = Fed::new(rt, alloc);
     let mut rest = text;
     for (taken, held, frame) in steps {
-        assert!(rt; fed.feed(rest) == Ok(*taken) && fed.window.held() == *held);
+        assert!(rt; fed.feed(rest).expect(rt, "no fault") == *taken);
+        assert!(rt; fed.window.held() == *held);
         rest = rest.get(*taken..).unwrap_or(&[]);
         let more = if *held == 131_140 { rest } else { &[] };
-        assert!(rt; fed.feed(more) == Ok(0));
+        assert!(rt; fed.feed(more).expect(rt, "no fault") == 0);
         assert!(rt; fed.next() == *frame);
     }
 }
@@ -101,7 +114,17 @@ pub(crate) fn full(rt: &impl Abort, alloc: Global) {
 /// A pair of keys that are the same.
 const PAIRS: &[u8] = b"\0\0\0\x01a\0\0\0\x01x\0\0\0\x01a\0\0\0\x01y";
 
-/// What a reader tells of a window's frame, a frame with these pairs, and a payload that is longer than it takes.
+/// Takes a window's frame and a frame with these pairs. No other one waits.
+fn taken(rt: &impl Abort, reader: &mut LumberReader) {
+    assert!(rt; matches!(reader.take(), Some(LumberFrame::Window { size: 256 })));
+    let Some(LumberFrame::Pairs { seq, text }) = reader.take() else {
+        panic!(rt; "no pairs");
+    };
+    assert!(rt; seq == 1 && text.bytes() == PAIRS);
+    assert!(rt; reader.take().is_none());
+}
+
+/// The fault by a payload that is longer than a reader takes, and the frames before it.
 fn too_long(rt: &impl Abort, alloc: Global, text: &[u8])
     requires { length text.now ≤ 2 ^ 20 }
 {
@@ -111,12 +134,7 @@ fn too_long(rt: &impl Abort, alloc: Global, text: &[u8])
         why: LumberWhy::TooLong,
     };
     assert!(rt; reader.feed(text) == Err(FeedFault::Fault(fault)));
-    assert!(rt; matches!(reader.take(), Some(LumberFrame::Window { size: 256 })));
-    let Some(LumberFrame::Pairs { seq, text }) = reader.take() else {
-        panic!(rt; "no pairs");
-    };
-    assert!(rt; seq == 1 && text.bytes() == PAIRS);
-    assert!(rt; reader.take().is_none());
+    taken(rt, &mut reader);
 }
 
 /// A payload that is longer than a reader takes, and what taken frames tell.

@@ -21,7 +21,7 @@ pub fn sizes(rt: &impl Abort, alloc: Global, bytes: &[u8]) -> Vec<u32>
                 size = next;
                 last = 0;
             }
-            LumberFrame::Json { seq, .. } if seq <= size && last.checked_add(1) == Some(seq) => {
+            LumberFrame::Json { seq, .. } if last < seq && seq <= size && seq - last == 1 => {
                 last = seq;
             }
             _ => panic!(rt; "another frame"),
