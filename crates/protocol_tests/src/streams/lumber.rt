@@ -84,11 +84,11 @@ fn steps(rt: &impl Abort, alloc: Global, text: &[u8], steps: &[Step]) {
     let mut fed = Fed::new(rt, alloc);
     let mut rest = text;
     for (taken, held, frame) in steps {
-        assert!(rt; fed.feed(rest).expect(rt, "no fault") == *taken);
+        assert!(rt; fed.feed(rest) == Ok(*taken));
         assert!(rt; fed.window.held() == *held);
         rest = rest.get(*taken..).unwrap_or(&[]);
         let more = if *held == 131_140 { rest } else { &[] };
-        assert!(rt; fed.feed(more).expect(rt, "no fault") == 0);
+        assert!(rt; fed.feed(more) == Ok(0));
         assert!(rt; fed.next() == *frame);
     }
 }
@@ -114,14 +114,17 @@ pub(crate) fn full(rt: &impl Abort, alloc: Global) {
 /// A pair of keys that are the same.
 const PAIRS: &[u8] = b"\0\0\0\x01a\0\0\0\x01x\0\0\0\x01a\0\0\0\x01y";
 
-/// Takes a window's frame and a frame with these pairs. No other one waits.
-fn taken(rt: &impl Abort, reader: &mut LumberReader) {
-    assert!(rt; matches!(reader.take(), Some(LumberFrame::Window { size: 256 })));
-    let Some(LumberFrame::Pairs { seq, text }) = reader.take() else {
-        panic!(rt; "no pairs");
-    };
-    assert!(rt; seq == 1 && text.bytes() == PAIRS);
-    assert!(rt; reader.take().is_none());
+/// Whether this is a window of 256 frames.
+fn is_window(frame: &Option<LumberFrame>) -> bool {
+    matches!(frame, Some(LumberFrame::Window { size: 256 }))
+}
+
+/// Whether this is a frame with these pairs and the sequence number 1.
+fn is_pairs(frame: &Option<LumberFrame>) -> bool {
+    match frame {
+        Some(LumberFrame::Pairs { seq, text }) => *seq == 1 && text.bytes() == PAIRS,
+        _ => false,
+    }
 }
 
 /// The fault by a payload that is longer than a reader takes, and the frames before it.
@@ -134,7 +137,9 @@ fn too_long(rt: &impl Abort, alloc: Global, text: &[u8])
         why: LumberWhy::TooLong,
     };
     assert!(rt; reader.feed(text) == Err(FeedFault::Fault(fault)));
-    taken(rt, &mut reader);
+    assert!(rt; is_window(&reader.take()));
+    assert!(rt; is_pairs(&reader.take()));
+    assert!(rt; reader.take().is_none());
 }
 
 /// A payload that is longer than a reader takes, and what taken frames tell.

@@ -39,14 +39,14 @@ fn in_window(rt: &impl Abort, alloc: Global, text: &[u8])
     requires { length text.now ≡ 262178 }
 {
     let mut window = RelpWindow::new(alloc).expect(rt, "memory");
-    assert!(rt; window.feed(text).expect(rt, "no fault") == 131_136);
+    assert!(rt; window.feed(text) == Ok(131_136));
     assert!(rt; window.held() == 131_136);
     let rest = &text[131_136..];
-    assert!(rt; window.feed(rest).expect(rt, "no fault") == 0);
-    assert!(rt; next_body(&mut window).expect(rt, "a frame") == 131_072);
+    assert!(rt; window.feed(rest) == Ok(0));
+    assert!(rt; next_body(&mut window) == Some(131_072));
     assert!(rt; window.held() == 47);
-    assert!(rt; window.feed(rest).expect(rt, "no fault") == 131_042);
-    assert!(rt; next_body(&mut window).expect(rt, "a frame") == 131_072);
+    assert!(rt; window.feed(rest) == Ok(131_042));
+    assert!(rt; next_body(&mut window) == Some(131_072));
     assert!(rt; next_body(&mut window).is_none());
     assert!(rt; window.held() == 0 && window.rest_at().is_none());
 }
