@@ -1,33 +1,27 @@
 //! All that holds of streams, of sessions and of senders.
 use crate::sending::{hec, lumber, relp};
 use crate::{receiving, streams};
-use std::alloc::AllocError;
 
 #[test]
-fn frames_and_windows(rt: HostRuntime) -> Result<(), AllocError> {
-    assert!(rt; streams::relp::streams(rt.alloc())?);
-    assert!(rt; streams::relp::longest_bodies(rt.alloc())?);
-    assert!(rt; streams::lumber::streams(rt.alloc())?);
-    assert!(rt; streams::lumber::limits(rt.alloc())?);
-    assert!(rt; streams::lumber::full(rt.alloc())?);
-    assert!(rt; streams::lumber::frames(rt.alloc())?);
-    assert!(rt; receiving::relp::sessions(rt.alloc())?);
-    assert!(rt; receiving::relp::the_texts_of_the_receiver(rt.alloc())?);
-    assert!(rt; receiving::lumber::connections(rt.alloc())?);
-    assert!(rt; receiving::lumber::large_windows(rt.alloc())?);
-    Ok(())
-}
-
-#[test]
-fn senders(rt: HostRuntime) -> Result<(), AllocError> {
-    assert_eq!(rt; relp::wrong_row(rt.alloc())?, None);
-    assert!(rt; relp::every_second_entry(rt.alloc())?);
-    assert_eq!(rt; relp::wrong_recorded(rt.alloc())?, None);
-    assert_eq!(rt; lumber::wrong_row(rt.alloc())?, None);
-    assert_eq!(rt; lumber::wrong_long_row(rt.alloc())?, None);
-    assert!(rt; lumber::wide_rows(rt.alloc())?);
-    assert_eq!(rt; hec::wrong_row(rt.alloc(), hec::CONFIRMED)?, None);
-    assert_eq!(rt; hec::wrong_row(rt.alloc(), hec::REFUSED)?, None);
-    assert_eq!(rt; hec::wrong_long_row(rt.alloc())?, None);
-    Ok(())
+fn streams_sessions_and_senders(rt: HostRuntime) {
+    let alloc = rt.alloc();
+    streams::relp::streams(&rt, alloc);
+    streams::relp::longest_bodies(&rt, alloc);
+    streams::lumber::streams(&rt, alloc);
+    streams::lumber::limits(&rt, alloc);
+    streams::lumber::full(&rt, alloc);
+    streams::lumber::frames(&rt, alloc);
+    receiving::relp::sessions(&rt, alloc);
+    receiving::relp::texts_of_the_receiver(&rt, alloc);
+    receiving::lumber::connections(&rt, alloc);
+    receiving::lumber::large_windows(&rt, alloc);
+    relp::sessions(&rt, alloc);
+    relp::every_second_entry(&rt, alloc);
+    relp::recorded(&rt, alloc);
+    lumber::sessions(&rt, alloc);
+    lumber::long_sessions(&rt, alloc);
+    lumber::wide_sessions(&rt, alloc);
+    hec::sessions(&rt, alloc, hec::CONFIRMED);
+    hec::sessions(&rt, alloc, hec::REFUSED);
+    hec::long_sessions(&rt, alloc);
 }

@@ -1,10 +1,10 @@
 //! Tests of whole sessions that forward: what a peer answers, cut in pieces of each size, and what is sent, how the
 //! session ends and what stays in the spool.
-mod fields;
-mod harness;
-mod hec_rows;
-mod lumberjack_rows;
+pub(crate) mod fields;
+pub(crate) mod harness;
+pub(crate) mod hec_rows;
+pub(crate) mod lumberjack_rows;
 mod peers;
-mod relp_rows;
-mod sessions;
+pub(crate) mod relp_rows;
+pub(crate) mod sessions;
 mod written;

@@ -1,4 +1,4 @@
 //! Tests of loads: their numbers and lines by each protocol, and the replay and the drain of one of them by `attend` and
 //! `forward` alone.
-mod apart;
-mod rows;
+pub(crate) mod apart;
+pub(crate) mod rows;

@@ -14,48 +14,48 @@ pub(crate) use self::refused_rows::REFUSED;
 use self::rows::Row;
 use super::entries::Entries;
 use super::session::{Session, send};
-use std::alloc::{AllocError, Global};
+use std::alloc::Global;
+use std::process::Abort;
 
 /// Sends the entries to a collector whose bytes come in pieces of a size.
 fn talk(
+    rt: &impl Abort,
     alloc: Global,
     polls: u32,
     entries: &[Entries],
     peer: &[u8],
     size: usize,
-) -> Result<Session, AllocError> {
+) -> Session {
     let driven = DrivenHec::new(alloc, polls);
     let session = Session::new(alloc, FIRST, true);
-    send(alloc, driven, session, entries, peer, size)
+    send(rt, alloc, driven, session, entries, peer, size)
 }
 
-/// The first session of few requests that isn't as its row has it, with the collector's bytes in pieces of each size.
-pub(crate) fn wrong_row(alloc: Global, rows: &[Row]) -> Result<Option<usize>, AllocError> {
-    for (place, (polls, entries, answers, more, written, turns)) in rows.iter().enumerate() {
-        let mut peer = replies(alloc, answers)?;
-        peer.extend_from_slice(more)?;
-        let expected = requests(alloc, written)?;
+/// Sessions of few requests, with the collector's bytes in pieces of each size.
+pub(crate) fn sessions(rt: &impl Abort, alloc: Global, rows: &[Row]) {
+    for (polls, entries, answers, more, written, turns) in rows {
+        let peer = replies(rt, alloc, answers, more);
+        let expected = requests(rt, alloc, written);
         for size in [1, 7, 4096] {
-            if !talk(alloc, *polls, entries, &peer, size)?.is(&expected, turns) {
-                return Ok(Some(place));
-            }
+            talk(rt, alloc, *polls, entries, &peer, size).check(rt, expected.as_bytes(), turns);
         }
     }
-    Ok(None)
 }
 
-/// The first session of several requests that isn't as its row has it, by how long these are.
-pub(crate) fn wrong_long_row(alloc: Global) -> Result<Option<usize>, AllocError> {
-    for (place, (entries, answers, bodies, turns)) in LONG_ROWS.iter().enumerate() {
-        let peer = replies(alloc, answers)?;
-        let session = talk(alloc, 1, entries, &peer, 4096)?;
-        let mut sizes = Vec::new(alloc);
-        for body in *bodies {
-            sizes.push(event_request_size(alloc, *body)?)?;
-        }
-        if session.turns.as_str() != *turns || session.sizes != sizes {
-            return Ok(Some(place));
-        }
+/// Asserts that event requests have these sizes whose bodies have those.
+fn sizes(rt: &impl Abort, alloc: Global, sizes: &[usize], bodies: &[usize]) {
+    assert!(rt; sizes.len() == bodies.len());
+    for (size, body) in sizes.iter().zip(bodies) {
+        assert!(rt; *size == event_request_size(rt, alloc, *body));
     }
-    Ok(None)
+}
+
+/// Sessions of several requests, by how long these are.
+pub(crate) fn long_sessions(rt: &impl Abort, alloc: Global) {
+    for (entries, answers, bodies, turns) in LONG_ROWS {
+        let peer = replies(rt, alloc, answers, b"");
+        let session = talk(rt, alloc, 1, entries, &peer, 4096);
+        assert!(rt; session.turns.as_str() == *turns);
+        sizes(rt, alloc, &session.sizes, bodies);
+    }
 }

@@ -6,6 +6,7 @@ ghost use Rattle.event_form.specs.declared.turn.Turn.TheVariants.{Need};
 use super::entries::{Entries, next_batch};
 use event_form::{Entry, Turn};
 use std::alloc::{AllocError, Global};
+use std::process::Abort;
 
 /// A sender that is driven through a session.
 pub trait Driven {
@@ -22,8 +23,8 @@ pub trait Driven {
         requires limits { All (λ e. IsEvent e.event) entries.items }
         requires few { length entries.items ≤ 128 };
 
-    /// Feeds a piece, and says whether there was room for it.
-    fn feed(&mut self, piece: &[u8]) -> Result<bool, AllocError>;
+    /// Feeds a piece.
+    fn feed<R: Abort>(&mut self, rt: &R, piece: &[u8]);
 }
 
 /// What was written, how long each text was, and the turns: `N` where more entries are asked for, `w` where a text is
@@ -51,85 +52,94 @@ impl Session {
         }
     }
 
-    /// Whether this was written, and these were the turns.
-    pub fn is(&self, out: &[u8], turns: &str) -> bool {
-        self.out.as_slice() == out && self.turns.as_str() == turns
+    /// Asserts that these were the turns, and that this was written.
+    pub fn check(&self, rt: &impl Abort, out: &[u8], turns: &str) {
+        assert_eq!(rt; self.turns.as_str(), turns);
+        assert!(rt; self.out.as_slice() == out, "what is written: {turns}");
+    }
+
+    /// Notes a word.
+    fn word(&mut self, rt: &impl Abort, word: &str) {
+        self.turns.push_str(word).expect(rt, "memory");
     }
 
     /// Notes a step.
-    fn step(&mut self, word: &str) -> Result<(), AllocError> {
+    fn step(&mut self, rt: &impl Abort, word: &str) {
         if self.steps {
-            self.turns.push_str(word)?;
+            self.word(rt, word);
         }
-        Ok(())
+    }
+
+    /// Notes entries by their places: how many of the first there are, or from which up to which.
+    fn known(&mut self, rt: &impl Abort, from: Option<u64>, to: u64) {
+        let to = to.saturating_sub(self.first);
+        match from {
+            None => write!(self.turns, "c{to} ").expect(rt, "memory"),
+            Some(from) => {
+                let from = from.saturating_sub(self.first);
+                write!(self.turns, "a{from}-{to} ").expect(rt, "memory");
+            }
+        }
     }
 
     /// Notes a turn, and says whether the session goes on with it.
-    fn note(&mut self, turn: &Turn) -> Result<bool, AllocError> {
+    fn note(&mut self, rt: &impl Abort, turn: &Turn) -> bool {
         match turn {
             Turn::Write(text) => {
-                self.out.extend_from_slice(text.bytes())?;
-                self.sizes.push(text.bytes().len())?;
-                self.step("w ")?;
+                let bytes = text.bytes();
+                self.out.extend_from_slice(bytes).expect(rt, "memory");
+                self.sizes.push(bytes.len()).expect(rt, "memory");
+                self.step(rt, "w ");
             }
-            Turn::Need => self.step("N ")?,
-            Turn::Pause => self.turns.push_str("p ")?,
-            Turn::Confirmed { upto } => {
-                let known = upto.saturating_sub(self.first);
-                write!(self.turns, "c{known} ")?;
-            }
-            Turn::Also { from, to } => {
-                let from = from.saturating_sub(self.first);
-                let to = to.saturating_sub(self.first);
-                write!(self.turns, "a{from}-{to} ")?;
-            }
+            Turn::Need => self.step(rt, "N "),
+            Turn::Pause => self.word(rt, "p "),
+            Turn::Confirmed { upto } => self.known(rt, None, *upto),
+            Turn::Also { from, to } => self.known(rt, Some(*from), *to),
             Turn::Wait => {}
             _ => {
-                write!(self.turns, "{turn:?}")?;
-                return Ok(false);
+                write!(self.turns, "{turn:?}").expect(rt, "memory");
+                return false;
             }
         }
-        Ok(true)
+        true
     }
 }
 
 /// Runs a session to its end, or until the peer's bytes are all fed and more are waited for. The entries are given in
 /// batches of at most 128, and the peer's bytes in pieces of a size.
 pub fn send<D: Driven + Drop>(
+    rt: &impl Abort,
     alloc: Global,
     mut driven: D,
     mut session: Session,
     entries: &[Entries],
     peer: &[u8],
     size: usize,
-) -> Result<Session, AllocError> {
+) -> Session {
     let mut rest = peer;
     let mut given = 0usize;
     for _ in 0..u32::MAX {
-        let turn = driven.turn()?;
-        if !session.note(&turn)? {
+        let turn = driven.turn().expect(rt, "memory");
+        if !session.note(rt, &turn) {
             break;
         }
         match turn {
             Turn::Need => {
-                let batch = next_batch(alloc, entries, given)?;
+                let batch = next_batch(rt, alloc, entries, given);
                 given = given.saturating_add(batch.len());
                 driven.give(batch);
             }
             Turn::Wait if rest.is_empty() => {
-                session.turns.push_str("closed")?;
+                session.word(rt, "closed");
                 break;
             }
             Turn::Wait => {
                 let (piece, more) = rest.split_at(size.min(rest.len()));
-                if !driven.feed(piece)? {
-                    session.turns.push_str("no room")?;
-                    break;
-                }
+                driven.feed(rt, piece);
                 rest = more;
             }
             _ => {}
         }
     }
-    Ok(session)
+    session
 }

@@ -1,14 +1,17 @@
 //! Streams of Lumberjack in pieces of each size, and a window that is full.
-use super::lumber_read::{Fed, by_reader, by_window};
+ghost use Rattle.std.specs.Prelude.{◌≤◌, ◌^◌, length};
+
+use super::lumber_read::{Fed, Found, Read, by_reader, by_window};
 use super::lumber_rows::{ROWS, longest};
 use event_form::FeedFault;
 use lumber_frame::{
     LumberFault, LumberFrame, LumberReader, LumberWhy, Side, ack_frame, window_frame, write_json,
 };
-use std::alloc::{AllocError, Global};
+use std::alloc::Global;
+use std::process::Abort;
 
 /// Where the rest of a row begins, and how many bytes of it a window holds.
-fn rest_of(length: usize, whole: usize, fault: Option<(u64, LumberWhy)>) -> (Option<u64>, u64) {
+fn rest_of(length: usize, whole: usize, fault: Option<Found>) -> (Option<u64>, u64) {
     let whole = whole as u64;
     match fault {
         Some((at, _)) => (Some(whole), at.saturating_sub(whole)),
@@ -17,173 +20,139 @@ fn rest_of(length: usize, whole: usize, fault: Option<(u64, LumberWhy)>) -> (Opt
     }
 }
 
+/// What a reader and a window have to read of a row: the bytes of its whole frames, the offset of the rest, and the fault.
+type Wanted<'a> = (&'a [u8], Option<u64>, Option<Found>);
+
+/// Whether that was read.
+fn is(read: &Read, wanted: Wanted<'_>) -> bool {
+    read.0.as_slice() == wanted.0 && read.1 == wanted.1 && read.2 == wanted.2
+}
+
 /// The rows in pieces of each size, by the reader, and by the window where a receiver reads.
-pub(crate) fn streams(alloc: Global) -> Result<bool, AllocError> {
+pub(crate) fn streams(rt: &impl Abort, alloc: Global) {
     for (side, text, whole, fault) in ROWS {
-        if text.len() > 100 {
-            return Ok(false);
-        }
-        let frames = text.get(..whole).unwrap_or(&[]);
-        if frames.len() != whole {
-            return Ok(false);
-        }
-        let (rest_at, held) = rest_of(text.len(), whole, fault);
-        for size in 1..=101 {
-            let (out, at, found) = by_reader(alloc, side, text, size)?;
-            if out.as_slice() != frames {
-                return Ok(false);
-            }
-            if at != rest_at {
-                return Ok(false);
-            }
-            if found != fault {
-                return Ok(false);
-            }
-            if side == Side::Sender {
-                continue;
-            }
-            let (out, fed, found) = by_window(alloc, text, size)?;
-            if out.as_slice() != frames {
-                return Ok(false);
-            }
-            if fed.window.rest_at() != rest_at {
-                return Ok(false);
-            }
-            if fed.window.held() as u64 != held {
-                return Ok(false);
-            }
-            if found != fault {
-                return Ok(false);
+        let frames = text.get(..*whole).expect(rt, "as many bytes");
+        assert!(rt; text.len() <= 100);
+        let (rest_at, held) = rest_of(text.len(), *whole, *fault);
+        let wanted = (frames, rest_at, *fault);
+        for size in 1..102 {
+            assert!(rt; is(&by_reader(rt, alloc, *side, text, size), wanted));
+            if *side == Side::Receiver {
+                let (read, holds) = by_window(rt, alloc, text, size);
+                assert!(rt; is(&read, wanted) && holds as u64 == held);
             }
         }
     }
-    Ok(true)
 }
 
 /// The longest frames in large pieces, some larger than the window.
-pub(crate) fn limits(alloc: Global) -> Result<bool, AllocError> {
-    let text = longest(alloc)?;
-    if text.len() > 500_000 {
-        return Ok(false);
+pub(crate) fn limits(rt: &impl Abort, alloc: Global) {
+    let text = longest(rt, alloc);
+    assert!(rt; text.len() <= 500_000);
+    for count in 1..21 {
+        let wanted = (text.as_slice(), None, None);
+        assert!(rt;
+            is(
+                &by_reader(rt, alloc, Side::Receiver, &text, count * 8192),
+                wanted
+            )
+        );
+        let (read, held) = by_window(rt, alloc, &text, count * 8192);
+        assert!(rt; is(&read, wanted) && held == 0);
     }
-    for count in 1..=20 {
-        let got = by_reader(alloc, Side::Receiver, &text, count * 8192)?;
-        if got.0 != text {
-            return Ok(false);
-        }
-        if !(got.1.is_none() && got.2.is_none()) {
-            return Ok(false);
-        }
-        let (out, fed, found) = by_window(alloc, &text, count * 8192)?;
-        if out != text {
-            return Ok(false);
-        }
-        if !(found.is_none() && fed.window.held() == 0) {
-            return Ok(false);
-        }
-    }
-    Ok(true)
 }
 
-/// Two JSON frames of the longest payload, and the shortest frames that fill a window: what is taken of
-/// the bytes that are left, what is held then, and the frame that comes next.
-pub(crate) fn full(alloc: Global) -> Result<bool, AllocError> {
-    let payload = vec![in alloc; b'x'; 131_072]?;
+/// What is taken of the bytes that are left, what is held then, and the frame that comes next.
+type Step = (usize, usize, Option<(u32, usize)>);
+
+const LONG_STEPS: &[Step] = &[
+    (131_140, 131_140, Some((1, 131_072))),
+    (131_024, 131_082, Some((2, 131_072))),
+    (0, 0, None),
+    (0, 0, None),
+];
+
+const SHORT_STEPS: &[Step] = &[
+    (131_140, 131_140, Some((0, 0))),
+    (6, 131_140, Some((1, 0))),
+    (6, 131_140, Some((2, 0))),
+    (6, 131_140, Some((3, 0))),
+];
+
+/// Feeds a window what is left of the text before each of its frames.
+fn steps(rt: &impl Abort, alloc: Global, text: &[u8], steps: &[Step]) {
+    let mut fed = Fed::new(rt, alloc);
+    let mut rest = text;
+    for (taken, held, frame) in steps {
+        assert!(rt; fed.feed(rest) == Ok(*taken));
+        assert!(rt; fed.window.held() == *held);
+        rest = rest.get(*taken..).unwrap_or(&[]);
+        let more = if *held == 131_140 { rest } else { &[] };
+        assert!(rt; fed.feed(more) == Ok(0));
+        assert!(rt; fed.next() == *frame);
+    }
+}
+
+/// Two JSON frames of the longest payload, and the shortest frames that fill a window.
+pub(crate) fn full(rt: &impl Abort, alloc: Global) {
+    let payload = vec![in alloc; b'x'; 131_072].expect(rt, "memory");
     let mut long = Vec::new(alloc);
+    for seq in 1..3 {
+        assert!(rt; payload.len() < 1 << 20);
+        write_json(seq, &payload, &mut long).expect(rt, "memory");
+    }
+    steps(rt, alloc, &long, LONG_STEPS);
     let mut short = Vec::new(alloc);
-    for seq in 1..=2 {
-        if payload.len() >= 1 << 20 {
-            return Ok(false);
-        }
-        write_json(seq, &payload, &mut long)?;
-    }
     for size in 0..22_000 {
-        short.extend_from_slice(&window_frame(size))?;
+        short
+            .extend_from_slice(&window_frame(size))
+            .expect(rt, "memory");
     }
-    let rows: [(&[u8], [(usize, usize, Option<(u32, usize)>); 4]); 2] = [
-        (
-            &long,
-            [
-                (131_140, 131_140, Some((1, 131_072))),
-                (131_024, 131_082, Some((2, 131_072))),
-                (0, 0, None),
-                (0, 0, None),
-            ],
-        ),
-        (
-            &short,
-            [
-                (131_140, 131_140, Some((0, 0))),
-                (6, 131_140, Some((1, 0))),
-                (6, 131_140, Some((2, 0))),
-                (6, 131_140, Some((3, 0))),
-            ],
-        ),
-    ];
-    for (text, steps) in rows {
-        let mut fed = Fed::new(alloc)?;
-        let mut rest = text;
-        for (taken, held, frame) in steps {
-            if fed.feed(rest) != Ok(taken) {
-                return Ok(false);
-            }
-            rest = rest.get(taken..).unwrap_or(&[]);
-            if fed.window.held() != held {
-                return Ok(false);
-            }
-            if fed.feed(if held == 131_140 { rest } else { &[] }) != Ok(0) {
-                return Ok(false);
-            }
-            if fed.next() != frame {
-                return Ok(false);
-            }
-        }
-    }
-    Ok(true)
+    steps(rt, alloc, &short, SHORT_STEPS);
 }
 
-/// A payload that is longer than a reader takes, and what taken frames tell.
-pub(crate) fn frames(alloc: Global) -> Result<bool, AllocError> {
-    let pairs = b"\0\0\0\x01a\0\0\0\x01x\0\0\0\x01a\0\0\0\x01y";
-    let mut text = Vec::from_slice(alloc, b"2W\0\0\x01\0\x32D\0\0\0\x01\0\0\0\x02")?;
-    text.extend_from_slice(pairs)?;
-    write_json(9, &vec![in alloc; b'x'; 131_073]?, &mut text)?;
-    if text.len() != 6 + 30 + 10 + 131_073 {
-        return Ok(false);
+/// A pair of keys that are the same.
+const PAIRS: &[u8] = b"\0\0\0\x01a\0\0\0\x01x\0\0\0\x01a\0\0\0\x01y";
+
+/// Whether this is a window of 256 frames.
+fn is_window(frame: &Option<LumberFrame>) -> bool {
+    matches!(frame, Some(LumberFrame::Window { size: 256 }))
+}
+
+/// Whether this is a frame with these pairs and the sequence number 1.
+fn is_pairs(frame: &Option<LumberFrame>) -> bool {
+    match frame {
+        Some(LumberFrame::Pairs { seq, text }) => *seq == 1 && text.bytes() == PAIRS,
+        _ => false,
     }
-    if !text[36..].starts_with(b"2J\0\0\0\x09\0\x02\0\x01xxx") {
-        return Ok(false);
-    }
+}
+
+/// The fault by a payload that is longer than a reader takes, and the frames before it.
+fn too_long(rt: &impl Abort, alloc: Global, text: &[u8])
+    requires { length text.now ≤ 2 ^ 20 }
+{
     let mut reader = LumberReader::new(alloc, Side::Receiver);
     let fault = LumberFault {
         at: 42,
         why: LumberWhy::TooLong,
     };
-    if reader.feed(&text) != Err(FeedFault::Fault(fault)) {
-        return Ok(false);
-    }
-    if !matches!(reader.take(), Some(LumberFrame::Window { size: 256 })) {
-        return Ok(false);
-    }
-    match reader.take() {
-        Some(LumberFrame::Pairs { seq, text }) => {
-            if seq != 1 {
-                return Ok(false);
-            }
-            if text.bytes() != pairs.as_slice() {
-                return Ok(false);
-            }
-        }
-        _ => return Ok(false),
-    }
-    if !reader.take().is_none() {
-        return Ok(false);
-    }
-    if window_frame(65_536) != *b"2W\0\x01\0\0" {
-        return Ok(false);
-    }
-    if ack_frame(258) != *b"2A\0\0\x01\x02" {
-        return Ok(false);
-    }
-    Ok(true)
+    assert!(rt; reader.feed(text) == Err(FeedFault::Fault(fault)));
+    assert!(rt; is_window(&reader.take()));
+    assert!(rt; is_pairs(&reader.take()));
+    assert!(rt; reader.take().is_none());
+}
+
+/// A payload that is longer than a reader takes, and what taken frames tell.
+pub(crate) fn frames(rt: &impl Abort, alloc: Global) {
+    let mut text = Vec::from_slice(alloc, b"2W\0\0\x01\0\x32D\0\0\0\x01\0\0\0\x02").expect(
+        rt, "memory",
+    );
+    text.extend_from_slice(PAIRS).expect(rt, "memory");
+    let payload = vec![in alloc; b'x'; 131_073].expect(rt, "memory");
+    write_json(9, &payload, &mut text).expect(rt, "memory");
+    assert!(rt; text.len() == 6 + 30 + 10 + 131_073);
+    assert!(rt; text[36..].starts_with(b"2J\0\0\0\x09\0\x02\0\x01xxx"));
+    too_long(rt, alloc, &text);
+    assert!(rt; window_frame(65_536) == *b"2W\0\x01\0\0");
+    assert!(rt; ack_frame(258) == *b"2A\0\0\x01\x02");
 }

@@ -5,10 +5,15 @@ use event_form::FeedFault;
 use lumber_frame::{
     LumberFault, LumberReader, LumberRef, LumberWhy, LumberWindow, Side, write_frame,
 };
-use std::alloc::{AllocError, Global};
+use std::alloc::Global;
+use std::process::Abort;
 
 /// The place of a fault, and the rule.
 pub type Found = (u64, LumberWhy);
+
+/// What was read of a stream: the frames, written again; the offset of the unfinished frame, or of the one that has the
+/// fault; and the fault.
+pub type Read = (Vec<u8>, Option<u64>, Option<Found>);
 
 /// A window that may still be fed so many bytes.
 #[derive(Drop)]
@@ -19,11 +24,11 @@ pub struct Fed {
 }
 
 impl Fed {
-    pub fn new(alloc: Global) -> Result<Fed, AllocError> {
-        Ok(Fed {
-            window: LumberWindow::new(alloc)?,
+    pub fn new(rt: &impl Abort, alloc: Global) -> Fed {
+        Fed {
+            window: LumberWindow::new(alloc).expect(rt, "memory"),
             left: 1 << 40,
-        })
+        }
     }
 
     pub fn feed(&mut self, piece: &[u8]) -> Result<usize, LumberFault> {
@@ -45,53 +50,53 @@ impl Fed {
     }
 
     /// Writes the frames that wait again.
-    fn drain(&mut self, alloc: Global, out: &mut Vec<u8>) -> Result<(), AllocError> {
+    fn drain(&mut self, rt: &impl Abort, alloc: Global, out: &mut Vec<u8>) {
         for _ in 0..u32::MAX {
-            let Some(frame) = self.window.next() else {
+            let Some(lent) = self.window.next() else {
                 break;
             };
-            write_frame(&frame.to_frame(alloc)?, out)?;
+            let frame = lent.to_frame(alloc).expect(rt, "memory");
+            write_frame(&frame, out).expect(rt, "memory");
         }
-        Ok(())
     }
-}
 
-/// Feeds the text in pieces of a size, each until it is taken, and writes the frames again.
-pub fn by_window(
-    alloc: Global,
-    text: &[u8],
-    size: usize,
-) -> Result<(Vec<u8>, Fed, Option<Found>), AllocError>
-    requires { 0 < size }
-{
-    let mut fed = Fed::new(alloc)?;
-    let mut out = Vec::new(alloc);
-    for piece in text.chunks(size) {
+    /// Feeds the piece until it is taken, and writes the frames again.
+    fn read(
+        &mut self,
+        rt: &impl Abort,
+        alloc: Global,
+        piece: &[u8],
+        out: &mut Vec<u8>,
+    ) -> Option<Found> {
         let mut rest = piece;
         for _ in 0..u32::MAX {
-            match fed.feed(rest) {
-                Ok(taken) => rest = rest.get(taken..).unwrap_or(&[]),
-                Err(fault) => {
-                    fed.drain(alloc, &mut out)?;
-                    return Ok((out, fed, Some((fault.at, fault.why))));
-                }
-            }
-            fed.drain(alloc, &mut out)?;
-            if rest.is_empty() {
-                break;
+            let fed = self.feed(rest);
+            self.drain(rt, alloc, out);
+            match fed {
+                Ok(taken) if taken < rest.len() => rest = &rest[taken..],
+                Ok(_) => break,
+                Err(fault) => return Some((fault.at, fault.why)),
             }
         }
+        None
     }
-    Ok((out, fed, None))
 }
 
-/// Feeds the text in pieces of a size, and writes the frames again.
-pub fn by_reader(
-    alloc: Global,
-    side: Side,
-    text: &[u8],
-    size: usize,
-) -> Result<(Vec<u8>, Option<u64>, Option<Found>), AllocError>
+/// Feeds a window the text in pieces of a size, each until it is taken. Says too how many bytes it holds at the end.
+pub fn by_window(rt: &impl Abort, alloc: Global, text: &[u8], size: usize) -> (Read, usize)
+    requires { 0 < size }
+{
+    let mut fed = Fed::new(rt, alloc);
+    let mut out = Vec::new(alloc);
+    let mut found = None;
+    for piece in text.chunks(size) {
+        found = fed.read(rt, alloc, piece, &mut out);
+    }
+    ((out, fed.window.rest_at(), found), fed.window.held())
+}
+
+/// Feeds a reader the text in pieces of a size.
+pub fn by_reader(rt: &impl Abort, alloc: Global, side: Side, text: &[u8], size: usize) -> Read
     requires pieces { (0 < size) × (size ≤ 2 ^ 20) }
     requires short { length text.now ≤ 2 ^ 20 }
 {
@@ -104,12 +109,12 @@ pub fn by_reader(
         match reader.feed(&text[fed..next]) {
             Ok(()) => {}
             Err(FeedFault::Fault(found)) => fault = Some((found.at, found.why)),
-            Err(FeedFault::NoMemory) => return Err(AllocError),
+            Err(FeedFault::NoMemory) => panic!(rt; "memory"),
         }
         while let Some(frame) = reader.take() {
-            write_frame(&frame, &mut out)?;
+            write_frame(&frame, &mut out).expect(rt, "memory");
         }
         fed = next;
     }
-    Ok((out, reader.rest_at(), fault))
+    (out, reader.rest_at(), fault)
 }

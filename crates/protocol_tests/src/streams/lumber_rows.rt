@@ -1,13 +1,14 @@
 //! Streams of Lumberjack, and what they are. The lengths and faults are counted by hand in the layout of
 //! Elastic's protocol document.
 use lumber_frame::{LumberWhy, Side};
-use std::alloc::{AllocError, Global};
+use std::alloc::Global;
+use std::process::Abort;
 
 /// A side, a stream, how many bytes its whole frames take, and the fault's place and rule.
 pub type Row = (Side, &'static [u8], usize, Option<(u64, LumberWhy)>);
 
 /// Streams of each kind of frame, unfinished ones, and ones with each fault.
-pub const ROWS: [Row; 48] = [
+pub const ROWS: &[Row] = &[
     // Whole frames.
     (Side::Receiver, b"", 0, None),
     (
@@ -207,7 +208,7 @@ pub const ROWS: [Row; 48] = [
 ];
 
 /// Parts of a stream: some bytes, and the byte that follows them until there are so many bytes.
-const LONGEST: [(&[u8], u8, usize); 5] = [
+const LONGEST: &[(&[u8], u8, usize)] = &[
     (b"2J\0\0\0\x01\0\x02\0\0", b'x', 131_082),
     (b"2D\0\0\0\x02\0\0\0\x01\0\x01\xff\xf8", b'k', 262_160),
     (b"\0\0\0\0", 0, 262_164),
@@ -220,11 +221,11 @@ const LONGEST: [(&[u8], u8, usize); 5] = [
 ];
 
 /// Frames with the longest payload, the longest key, the longest value, and the most pairs.
-pub fn longest(alloc: Global) -> Result<Vec<u8>, AllocError> {
+pub fn longest(rt: &impl Abort, alloc: Global) -> Vec<u8> {
     let mut text = Vec::new(alloc);
     for (head, fill, length) in LONGEST {
-        text.extend_from_slice(head)?;
-        text.resize(length, fill)?;
+        text.extend_from_slice(head).expect(rt, "memory");
+        text.resize(*length, *fill).expect(rt, "memory");
     }
-    Ok(text)
+    text
 }

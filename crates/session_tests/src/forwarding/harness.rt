@@ -1,9 +1,8 @@
 //! One session over a spool in memory.
-ghost use Rattle.std.specs.Prelude.{◌≡◌, ◌<◌, ◌≤◌, IfOk};
+ghost use Rattle.std.specs.Prelude.{◌≡◌, ◌<◌, ◌≤◌, ◌^◌};
 ghost use Rattle.event_form.specs.Entry.{IsEntry};
 
 use crate::forwarding::fields::{number, numbers, said};
-use crate::forwarding::peers::peer;
 use desk_access::{Access, Alone, Desk};
 use edge_disk::MemDisk;
 use edge_io::{Both, MemSink, MemSource, Object, Pause, Proto};
@@ -11,41 +10,8 @@ use event_form::{Blob, Entry, Event, Origin};
 use forward_core::{Outward, Sent, forward};
 use hec_ids::Ids;
 use spool_log::{Opening, Spool, format};
-use std::alloc::{AllocError, Global};
-use std::test::Fail;
-
-/// The text of each entry.
-pub(crate) const HELLO: &[u8] = b"hello";
-
-/// What a session is given.
-#[derive(Drop)]
-pub(crate) struct Given {
-    /// The device with the spool.
-    pub(crate) device: Vec<u8>,
-    /// What the peer sends.
-    pub(crate) peer: Vec<u8>,
-    /// How often a query may be asked, and once if it is 0.
-    pub(crate) polls: u32,
-    /// Which calls of the disk, the reads and the writes fail, counted from 0.
-    pub(crate) disk: Vec<u64>,
-    pub(crate) reads: Vec<u64>,
-    pub(crate) writes: Vec<u64>,
-}
-
-impl Given {
-    /// What a row gives: `count N`, how many entries the spool has; what [`peer`] reads; `polls N`; and `reads N` and `writes N`,
-    /// the calls that fail.
-    pub(crate) fn of(alloc: Global, row: &str) -> Result<Given, Fail> {
-        Ok(Given {
-            device: filled(alloc, number(said(row, "count", "")))?,
-            peer: peer(alloc, row)?,
-            polls: number(said(row, "polls", "")),
-            disk: Vec::new(alloc),
-            reads: numbers(alloc, said(row, "reads", ""))?,
-            writes: numbers(alloc, said(row, "writes", ""))?,
-        })
-    }
-}
+use std::alloc::Global;
+use std::process::Abort;
 
 /// What a session left.
 #[derive(Drop)]
@@ -85,11 +51,12 @@ impl Pause for Counter {
     ghost pause_trans = { λ x y z p q. tt };
 }
 
-fn entry(alloc: Global, index: u64) -> Result<Entry, AllocError>
-    ensures { IfOk result IsEntry }
+// The entry with the text `hello` that has this index.
+fn entry(rt: &impl Abort, alloc: Global, index: u64) -> Entry
+    ensures { IsEntry result }
 {
-    let text = Vec::from_slice(alloc, HELLO)?;
-    Ok(Entry {
+    let text = Vec::from_slice(alloc, b"hello").expect(rt, "memory");
+    Entry {
         conn: 1,
         index,
         unit: 2,
@@ -97,42 +64,48 @@ fn entry(alloc: Global, index: u64) -> Result<Entry, AllocError>
             origin: Origin::Relp,
             text: Blob::of(text),
         },
-    })
-}
-
-// Takes the entry with this index, and answers whether it was taken.
-fn takes(alloc: Global, spool: &mut Spool<MemDisk>, index: u64) -> Result<bool, AllocError> {
-    let entries = [entry(alloc, index)?];
-    Ok(spool.take(&entries).is_ok())
-}
-
-// A spool of so many entries, as the bytes of its device.
-fn filled(alloc: Global, count: u32) -> Result<Vec<u8>, Fail> {
-    let mut disk = MemDisk::plain(alloc, 77_824)?;
-    if format(&mut disk, 1, 65_536).is_err() {
-        return Err("format".into());
     }
+}
+
+// Takes the entry with this index into the spool.
+fn take(rt: &impl Abort, alloc: Global, spool: &mut Spool<MemDisk>, index: u64) {
+    let entries = [entry(rt, alloc, index)];
+    assert!(rt; spool.take(&entries).is_ok());
+}
+
+/// A disk with a new spool of so many slots of a size.
+pub(crate) fn blank(rt: &impl Abort, alloc: Global, bytes: u64, slots: u32, size: u64) -> MemDisk
+    requires slots { (1 ≤ slots) × (slots ≤ 1024) }
+    requires size { (4096 ≤ size) × (size ≤ 2 ^ 30) }
+{
+    let mut disk = MemDisk::plain(alloc, bytes).expect(rt, "memory");
+    assert!(rt; format(&mut disk, slots, size).is_ok());
+    disk
+}
+
+/// The bytes of a device whose spool has so many entries as the row says by `count N`.
+pub(crate) fn filled(rt: &impl Abort, alloc: Global, row: &str) -> Vec<u8> {
+    let disk = blank(rt, alloc, 77_824, 1, 65_536);
     let Ok(mut spool) = Spool::recover(alloc, disk, Opening::Raise) else {
-        return Err("recover".into());
+        panic!(rt; "recover");
     };
-    for index in 0..count {
-        if !takes(alloc, &mut spool, u64::from(index))? {
-            return Err("take".into());
-        }
+    for index in 0..number(said(row, "count", "")) {
+        take(rt, alloc, &mut spool, u64::from(index));
     }
-    Ok(spool.into_disk().bytes().to_vec(alloc)?)
+    let disk = spool.into_disk();
+    disk.bytes().to_vec(alloc).expect(rt, "memory")
 }
 
-// The desk over a device of which these calls fail. None: it wasn't opened.
-fn desk(alloc: Global, device: Vec<u8>, failing: Vec<u64>) -> Option<Alone<MemDisk>> {
-    let disk = MemDisk::of(device, failing);
+/// The desk over the spool of a disk. None: it wasn't opened.
+pub(crate) fn desk(alloc: Global, disk: MemDisk) -> Option<Alone<MemDisk>> {
     let spool = Spool::recover(alloc, disk, Opening::Raise).ok()?;
     let ids = Ids::new(alloc, spool.run(), 0);
     Some(Alone::new(Desk { spool, ids }))
 }
 
-// Forwards to a peer with the token and the channel 0, and answers how that ended and how many pauses were made.
-fn sent(
+/// Forwards to a peer with the token and the channel 0, and answers how that ended and how many pauses were made. A query may be
+/// asked so often, and once if `polls` is 0.
+pub(crate) fn sent(
     alloc: Global,
     proto: Proto,
     polls: u32,
@@ -153,46 +126,42 @@ fn sent(
 }
 
 // The numbers of the entries that aren't known as confirmed. Of the calls of the disk one may fail, so it is asked again.
-fn waiting(alloc: Global, access: &mut Alone<MemDisk>) -> Result<Vec<u64>, Fail> {
+fn waiting(rt: &impl Abort, alloc: Global, access: &mut Alone<MemDisk>) -> Vec<u64> {
     let mut numbers = Vec::new(alloc);
     for _ in 0..2 {
         let Ok(pending) = access.pending(0, 4096) else {
             continue;
         };
         for one in &pending {
-            numbers.push(one.number)?;
+            numbers.push(one.number).expect(rt, "memory");
         }
-        return Ok(numbers);
+        return numbers;
     }
-    Err("pending".into())
+    panic!(rt; "pending")
 }
 
-/// Forwards what the device holds, of which a read brings at most `step` bytes. None: the device wasn't opened.
+/// Forwards what a disk's spool holds to a peer that sends these bytes, of which a read brings at most `step`. The row says by `polls N`
+/// how often a query may be asked, and by `reads N` and `writes N` which of these calls fail. None: the spool wasn't opened.
 pub(crate) fn session(
+    rt: &impl Abort,
     alloc: Global,
     proto: Proto,
-    given: Given,
+    row: &str,
+    disk: MemDisk,
+    sends: Vec<u8>,
     step: usize,
-) -> Result<Option<Left>, Fail>
+) -> Option<Left>
     requires some { 0 < step }
 {
-    let Some(mut access) = desk(alloc, given.device, given.disk) else {
-        return Ok(None);
-    };
-    let mut source = MemSource::of(given.peer, step, given.reads);
-    let mut sink = MemSink::of(alloc, given.writes);
-    let (sent, pauses) = sent(
-        alloc,
-        proto,
-        given.polls,
-        &mut access,
-        &mut source,
-        &mut sink,
-    );
-    Ok(Some(Left {
-        ends: format!(in alloc; "{sent:?}")?,
-        written: sink.taken().to_vec(alloc)?,
-        numbers: waiting(alloc, &mut access)?,
+    let mut access = desk(alloc, disk)?;
+    let mut source = MemSource::of(sends, step, numbers(rt, alloc, row, "reads", ""));
+    let mut sink = MemSink::of(alloc, numbers(rt, alloc, row, "writes", ""));
+    let polls = number(said(row, "polls", ""));
+    let (sent, pauses) = sent(alloc, proto, polls, &mut access, &mut source, &mut sink);
+    Some(Left {
+        ends: format!(in alloc; "{sent:?}").expect(rt, "memory"),
+        written: sink.taken().to_vec(alloc).expect(rt, "memory"),
+        numbers: waiting(rt, alloc, &mut access),
         pauses,
-    }))
+    })
 }

@@ -1,177 +1,142 @@
-//! All that holds of whole sessions.
-use crate::forwarding::fields::{check_form, number, numbers, said};
-use crate::forwarding::harness::{Given, Left, session};
+//! What holds of whole sessions.
+use crate::forwarding::fields::{add, check_form, number, numbers, said};
+use crate::forwarding::harness::{Left, filled, session};
+use crate::forwarding::peers::peer;
 use crate::forwarding::written::written;
-use crate::forwarding::{hec_rows, lumberjack_rows, relp_rows};
+use edge_disk::MemDisk;
 use edge_io::Proto;
 use std::alloc::Global;
 use std::process::Abort;
-use std::test::Fail;
 
-// The words of a row: `row NAME`; what [`Given::of`] reads; `steps`, how many bytes a read brings at most, each in turn, and `cuts`,
-// how many bytes the peer sends at most, each in turn; and what is left: `ends HOW`, what [`written`] reads, `stay`, the numbers
-// of the entries that aren't known as confirmed, and `pauses N`.
+// The words of a row: `row NAME`; `count N`, how many entries the spool has; what [`peer`] reads; what [`session`] reads; `steps`, how
+// many bytes a read brings at most, each in turn, and `cuts`, how many bytes the peer sends at most, each in turn; and what is left:
+// `ends HOW`, what [`written`] reads, `stay`, the numbers of the entries that aren't known as confirmed, and `pauses N`.
 const WORDS: &str = "row count polls reads writes steps cuts bytes line head ack reply \
     ends open entries close window events query stay pauses";
 
 // Which part of what a session left isn't as the row has it.
-fn wrong_part(alloc: Global, row: &str, left: &Left) -> Result<&'static str, Fail> {
+fn wrong_part(rt: &impl Abort, alloc: Global, row: &str, left: &Left) -> &'static str {
     if left.ends.as_str() != said(row, "ends", "") {
-        return Ok("the ending");
+        return "the ending";
     }
-    if left.written != written(alloc, row)? {
-        return Ok("what is written");
+    if left.written != written(rt, alloc, row) {
+        return "what is written";
     }
-    if left.numbers != numbers(alloc, said(row, "stay", ""))? {
-        return Ok("what stays");
+    if left.numbers != numbers(rt, alloc, row, "stay", "") {
+        return "what stays";
     }
     if left.pauses != number(said(row, "pauses", "")) {
-        return Ok("the pauses");
+        return "the pauses";
     }
-    Ok("")
+    ""
+}
+
+// What a session leaves over a device, in which a read brings at most so many bytes, and the peer sends these.
+fn left(
+    rt: &impl Abort,
+    alloc: Global,
+    proto: Proto,
+    row: &str,
+    device: &[u8],
+    sends: Vec<u8>,
+    step: u64,
+) -> Left {
+    let device = device.to_vec(alloc).expect(rt, "memory");
+    let disk = MemDisk::of(device, Vec::new(alloc));
+    session(rt, alloc, proto, row, disk, sends, step.max(1) as usize).expect(rt, "not opened")
 }
 
 // A row's session, in which a read brings at most so many bytes, and the peer sends at most so many.
 fn check(
-    rt: &(impl Abort + AllocGlobal),
+    rt: &impl Abort,
+    alloc: Global,
     proto: Proto,
     row: &str,
+    device: &[u8],
     step: u64,
     cut: u64,
-) -> Result<(), Fail> {
-    let alloc = rt.alloc();
-    let mut given = Given::of(alloc, row)?;
-    given.peer.truncate(cut as usize);
-    let left = session(alloc, proto, given, step.max(1) as usize)?;
-    let left = left.ok_or("not opened")?;
-    let wrong = wrong_part(alloc, row, &left)?;
+) {
+    let mut sends = peer(rt, alloc, row);
+    sends.truncate(cut as usize);
+    let left = left(rt, alloc, proto, row, device, sends, step);
+    let wrong = wrong_part(rt, alloc, row, &left);
     assert!(rt;
         wrong.is_empty(),
-        "{}, step {step}, {cut} bytes: {wrong}; it ended by {}",
-        said(row, "row", ""),
-        left.ends
+        "{wrong}, step {step}, {cut} bytes: {row}"
     );
-    Ok(())
 }
 
 // The sessions of a row, in each of its steps and with each of its cuts.
-fn check_row(rt: &(impl Abort + AllocGlobal), proto: Proto, row: &str) -> Result<(), Fail> {
-    let alloc = rt.alloc();
-    let steps = numbers(alloc, said(row, "steps", "1 31 1000"))?;
-    let cuts = numbers(alloc, said(row, "cuts", "1000000"))?;
+fn check_row(rt: &impl Abort, alloc: Global, proto: Proto, row: &str) {
+    let device = filled(rt, alloc, row);
+    let steps = numbers(rt, alloc, row, "steps", "1 31 1000");
+    let cuts = numbers(rt, alloc, row, "cuts", "1000000");
     for step in &steps {
         for cut in &cuts {
-            check(rt, proto, row, *step, *cut)?;
+            check(rt, alloc, proto, row, &device, *step, *cut);
         }
     }
-    Ok(())
 }
 
-// The sessions of a table's rows. These are so many: a row that was run into another one by a lacking empty line
-// is told by that.
-fn check_rows(
-    rt: &(impl Abort + AllocGlobal),
-    proto: Proto,
-    rows: &str,
-    count: usize,
-) -> Result<(), Fail> {
-    check_form(rows, WORDS, count)?;
+/// The sessions of a table's rows. These are so many: a row that was run into another one by a lacking empty line is told by that.
+pub(crate) fn check_rows(rt: &impl Abort, alloc: Global, proto: Proto, rows: &str, count: usize) {
+    check_form(rt, rows, WORDS, count);
     for row in rows.split("\n\n") {
-        check_row(rt, proto, row)?;
+        check_row(rt, alloc, proto, row);
     }
-    Ok(())
 }
 
-// Each second entry of 600 is acknowledged, of which the spool keeps 240 apart.
-fn scattered_acknowledgments_are_kept_as_far_as_they_fit(
-    rt: &(impl Abort + AllocGlobal),
-) -> Result<(), Fail> {
-    let alloc = rt.alloc();
-    let row = relp_rows::SCATTERED;
-    let mut given = Given::of(alloc, row)?;
+/// Each second entry of 600 is acknowledged, of which the spool keeps 240 apart.
+pub(crate) fn check_scattered(rt: &impl Abort, alloc: Global, row: &str) {
+    let mut sends = peer(rt, alloc, row);
     for place in 0..300_u64 {
-        let number = place.wrapping_mul(2).wrapping_add(3);
-        let reply = format!(in alloc; "{number} rsp 6 200 OK\n")?;
-        given.peer.extend_from_slice(reply.as_bytes())?;
+        let number = (2 * place + 3).to_string(alloc).expect(rt, "memory");
+        add(rt, &mut sends, &[number.as_bytes(), b" rsp 6 200 OK\n"]);
     }
-    let left = session(alloc, Proto::Relp, given, 1000)?;
-    let left = left.ok_or("not opened")?;
-    assert_eq!(rt; wrong_part(alloc, row, &left)?, "what stays");
-    assert_eq!(rt; left.numbers.len(), 360);
-    Ok(())
+    let device = filled(rt, alloc, row);
+    let left = left(rt, alloc, Proto::Relp, row, &device, sends, 1000);
+    assert_eq!(rt; wrong_part(rt, alloc, row, &left), "what stays");
+    assert!(rt; left.numbers.len() == 360);
 }
 
-// Over a disk of which that call fails: whether the session ended by that. The entries that weren't acknowledged stay.
+// Whether a session ended by a fault of its disk. If not, it ended as the row has it. The entries that weren't acknowledged stay.
+fn ends_by_fault(rt: &impl Abort, alloc: Global, row: &str, left: &Left) -> bool {
+    let stay = numbers(rt, alloc, row, "stay", "");
+    assert!(rt; left.numbers.ends_with(&stay), "what stays: {row}");
+    if left.ends.as_str() == "DiskFault" {
+        return true;
+    }
+    assert_eq!(rt; left.ends.as_str(), said(row, "ends", ""));
+    assert!(rt; left.numbers == stay, "what stays without a fault: {row}");
+    false
+}
+
+// Over a disk of which that call fails: whether the session ended by that.
 fn is_fault(
-    rt: &(impl Abort + AllocGlobal),
+    rt: &impl Abort,
+    alloc: Global,
     proto: Proto,
     row: &str,
+    device: &[u8],
     call: u64,
-) -> Result<bool, Fail> {
-    let alloc = rt.alloc();
-    let mut given = Given::of(alloc, row)?;
-    given.disk.push(call)?;
-    let Some(left) = session(alloc, proto, given, 1000)? else {
-        return Ok(false);
-    };
-    let stay = numbers(alloc, said(row, "stay", ""))?;
-    assert!(rt; left.numbers.ends_with(&stay), "{proto:?}, call {call}");
-    if left.ends.as_str() == "DiskFault" {
-        return Ok(true);
+) -> bool {
+    let device = device.to_vec(alloc).expect(rt, "memory");
+    let failing = Vec::from_slice(alloc, &[call]).expect(rt, "memory");
+    let disk = MemDisk::of(device, failing);
+    let sends = peer(rt, alloc, row);
+    match session(rt, alloc, proto, row, disk, sends, 1000) {
+        Some(left) => ends_by_fault(rt, alloc, row, &left),
+        None => false,
     }
-    assert!(rt;
-        left.ends.as_str() == said(row, "ends", "") && left.numbers == stay,
-        "{proto:?}, call {call}: {}",
-        left.ends
-    );
-    Ok(false)
 }
 
-// Whichever call of the disk fails, the session ends by that.
-fn check_faults(rt: &(impl Abort + AllocGlobal), proto: Proto, row: &str) -> Result<(), Fail> {
-    check_form(row, WORDS, 1)?;
-    let mut faults = 0_u32;
+/// Whichever call of the disk fails, the session ends by that.
+pub(crate) fn check_faults(rt: &impl Abort, alloc: Global, proto: Proto, row: &str) {
+    check_form(rt, row, WORDS, 1);
+    let device = filled(rt, alloc, row);
+    let mut failed = false;
     for call in 0..40 {
-        if is_fault(rt, proto, row, call)? {
-            faults = faults.saturating_add(1);
-        }
+        failed = is_fault(rt, alloc, proto, row, &device, call) || failed;
     }
-    assert!(rt; faults > 0, "{proto:?}: no call of the session failed");
-    Ok(())
-}
-
-#[test]
-fn scattered_acknowledgments(rt: HostRuntime) -> Result<(), Fail> {
-    scattered_acknowledgments_are_kept_as_far_as_they_fit(&rt)
-}
-
-#[test]
-fn relp(rt: HostRuntime) -> Result<(), Fail> {
-    check_rows(&rt, Proto::Relp, relp_rows::ROWS, 10)?;
-    check_rows(&rt, Proto::Relp, relp_rows::FAULTS, 6)
-}
-
-#[test]
-fn a_peer_may_stop_at_each_byte(rt: HostRuntime) -> Result<(), Fail> {
-    check_rows(&rt, Proto::Relp, relp_rows::CUTS, 4)
-}
-
-#[test]
-fn relp_over_a_disk_that_fails(rt: HostRuntime) -> Result<(), Fail> {
-    check_faults(&rt, Proto::Relp, relp_rows::DISK)
-}
-
-#[test]
-fn lumberjack(rt: HostRuntime) -> Result<(), Fail> {
-    check_rows(&rt, Proto::Lumberjack, lumberjack_rows::ROWS, 7)
-}
-
-#[test]
-fn the_collector(rt: HostRuntime) -> Result<(), Fail> {
-    check_rows(&rt, Proto::Hec, hec_rows::ROWS, 18)
-}
-
-#[test]
-fn the_collector_over_a_disk_that_fails(rt: HostRuntime) -> Result<(), Fail> {
-    check_faults(&rt, Proto::Hec, hec_rows::DISK)
+    assert!(rt; failed, "no call failed: {row}");
 }

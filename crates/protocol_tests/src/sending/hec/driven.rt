@@ -7,6 +7,7 @@ use crate::sending::session::Driven;
 use event_form::{Entry, Turn};
 use hec_sender::{HecSender, WINDOW};
 use std::alloc::{AllocError, Global};
+use std::process::Abort;
 
 /// The number of the first entry.
 pub const FIRST: u64 = 1 << 40;
@@ -57,12 +58,9 @@ impl Driven for DrivenHec {
         self.count += more;
     }
 
-    fn feed(&mut self, piece: &[u8]) -> Result<bool, AllocError> {
-        if piece.len() > self.left {
-            return Ok(false);
-        }
+    fn feed<R: Abort>(&mut self, rt: &R, piece: &[u8]) {
+        assert!(rt; piece.len() <= self.left, "no room");
         self.left -= piece.len();
-        self.sender.feed(piece)?;
-        Ok(true)
+        self.sender.feed(piece).expect(rt, "memory");
     }
 }

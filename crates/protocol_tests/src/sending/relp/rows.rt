@@ -14,8 +14,7 @@ pub struct Row {
 }
 
 /// The frame that opens a session, 70 bytes.
-pub const OPEN: &[u8] =
-    b"1 open 59 relp_version=0\nrelp_software=bridge,1,local\ncommands=syslog\n";
+pub const OPEN: &str = "1 open 59 relp_version=0\nrelp_software=bridge,1,local\ncommands=syslog\n";
 
 /// The text of the entries of `ROWS`.
 pub const HELLO: &[u8] = b"hello";

@@ -3,7 +3,7 @@ use Rattle.lumber_frame.specs.declared.side.Side.TheVariants.{Receiver}
 use Rattle.protocol_tests.proofs.receiving.lumber.listen.Given as goal
 
 abbrev pub decreases-loop-frame : goal.decreases-loop-frame
-decreases-loop-frame l = length l.reader.waiting
+decreases-loop-frame g l = length l.reader.waiting
 
 abbrev pub invariant-loop-frame : goal.invariant-loop-frame
-invariant-loop-frame l = record { ready : l.core.due ≡ false; side : l.reader.side ≡ Receiver }
+invariant-loop-frame g l = record { ready : l.core.due ≡ false; side : l.reader.side ≡ Receiver }

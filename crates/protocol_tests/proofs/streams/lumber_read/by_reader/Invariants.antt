@@ -2,13 +2,13 @@ use Rattle.std.proofs.Common.{length, ◌+◌, ◌-◌, ◌≤◌}
 use Rattle.protocol_tests.proofs.streams.lumber_read.by_reader.Given as goal
 
 abbrev pub decreases-loop-fed : goal.decreases-loop-fed
-decreases-loop-fed l = length l.text - l.fed
+decreases-loop-fed g l = length l.text - l.fed
 
 abbrev pub invariant-loop-fed : goal.invariant-loop-fed
-invariant-loop-fed l = l.reader.at + length l.reader.rest ≤ l.fed
+invariant-loop-fed g l = l.reader.at + length l.reader.rest ≤ l.fed
 
 abbrev pub decreases-loop-frame : goal.decreases-loop-frame
-decreases-loop-frame l = length l.reader.waiting
+decreases-loop-frame g l = length l.reader.waiting
 
 abbrev pub invariant-loop-frame : goal.invariant-loop-frame
-invariant-loop-frame l = l.reader.at + length l.reader.rest ≤ l.next
+invariant-loop-frame g l = l.reader.at + length l.reader.rest ≤ l.next
