@@ -167,8 +167,9 @@ fn are_served(doors: &[HeldDoor<'_>], answers: &[(&[u8], &[u8])]) -> bool {
     if doors.len() != answers.len() {
         return false;
     }
-    for (door, (first, then)) in doors.iter().zip(answers) {
-        if !is_served(door, first, then) {
+    for number in 0..doors.len() {
+        let (first, then) = answers[number];
+        if !is_served(&doors[number], first, then) {
             return false;
         }
     }

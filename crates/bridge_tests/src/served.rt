@@ -127,8 +127,12 @@ fn is_kept(place: &Place, written: &[u8], run: &Served) -> bool {
 
 // Whether that holds of all places.
 fn are_kept(run: &Served) -> bool {
-    for (place, door) in PLACES.iter().zip(run.left.doors.iter()) {
-        for talk in door.talks() {
+    let doors = run.left.doors.as_slice();
+    for number in 0..doors.len() {
+        let Some(place) = PLACES.get(number) else {
+            return false;
+        };
+        for talk in doors[number].talks() {
             if !is_kept(place, &talk.written, run) {
                 return false;
             }
@@ -233,7 +237,11 @@ fn ends_talk(place: &Place, door: &MemDoor, status: Option<u8>) -> bool {
 // talk, whichever made it.
 fn talks_end(object: usize, run: &Served) -> bool {
     let mut has_fault = object != DISK;
-    for (number, (place, door)) in PLACES.iter().zip(run.left.doors.iter()).enumerate() {
+    let doors = run.left.doors.as_slice();
+    for number in 0..doors.len() {
+        let Some(place) = PLACES.get(number) else {
+            return false;
+        };
         let status = if object == number {
             None
         } else if object == READ.saturating_add(number) {
@@ -243,10 +251,10 @@ fn talks_end(object: usize, run: &Served) -> bool {
         } else {
             Some(0)
         };
-        if ends_talk(place, door, status) {
+        if ends_talk(place, &doors[number], status) {
             continue;
         }
-        if has_fault || !ends_talk(place, door, Some(73)) {
+        if has_fault || !ends_talk(place, &doors[number], Some(73)) {
             return false;
         }
         has_fault = true;

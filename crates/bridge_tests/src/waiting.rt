@@ -204,6 +204,16 @@ fn answers(rt: &impl Abort, alloc: Global, turns: &[Turn]) -> Vec<u8> {
     all
 }
 
+// The most bytes of a read, and whether answers come late.
+const PIECES: &[(usize, bool)] = &[
+    (1, false),
+    (7, false),
+    (8192, false),
+    (1, true),
+    (7, true),
+    (8192, true),
+];
+
 /// A sender that waits is served to its end where each answer is written before the next read;
 /// where answers come late, it waits for the first one for ever.
 pub(crate) fn wait_for_answers(rt: &impl Abort, alloc: Global) {
@@ -213,12 +223,16 @@ pub(crate) fn wait_for_answers(rt: &impl Abort, alloc: Global) {
         (Proto::Hec, HEC),
     ] {
         let all = answers(rt, alloc, sender.1);
-        for piece in [1, 7, 8192] {
-            let (note, written) = serve(rt, alloc, sender, piece, false);
-            assert!(rt; note == Note::Fine && written == all, "{note:?}");
-            let (note, written) = serve(rt, alloc, sender, piece, true);
-            let is_first = all.starts_with(&written) && written.len() < all.len();
-            assert!(rt; note == Note::ReadFault && is_first, "{note:?}");
+        for (piece, is_late) in PIECES {
+            let (note, written) = serve(rt, alloc, sender, *piece, *is_late);
+            let is_right = match note {
+                Note::Fine => !is_late && written == all,
+                Note::ReadFault => {
+                    *is_late && all.starts_with(&written) && written.len() < all.len()
+                }
+                _ => false,
+            };
+            assert!(rt; is_right, "{note:?}");
         }
     }
 }
