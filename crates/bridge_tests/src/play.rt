@@ -170,7 +170,7 @@ impl Play {
         MemNet::of(alloc, Vec::new(alloc), scripts, dials)
     }
 
-    /// Makes the call over a disk with the device, of which these calls fail.
+    /// Makes the call over this disk.
     pub(crate) fn call<R: Abort + Threads + Wait + Sync>(
         &self,
         rt: &R,

@@ -224,7 +224,7 @@ pub(crate) fn run_script<R: Abort + Threads + Wait + Sync>(
     }
 }
 
-/// Follows a script once for each number in its first line, with reads of at most so many bytes.
+/// Follows a script once for each number in its first line, with reads of at most so many bytes. The lines after it are the steps.
 pub(crate) fn run_scripts<R: Abort + Threads + Wait + Sync>(rt: &R, alloc: Global, script: &str) {
     let (pieces, steps) = script.split_once('\n').expect(rt, "a first line");
     for piece in &numbers(rt, alloc, pieces) {
