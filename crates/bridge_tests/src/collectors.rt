@@ -1,8 +1,8 @@
 //! Forwarding to Splunk's HTTP Event Collector.
 
 /// Forwarding to a collector.
-pub(crate) const COLLECTOR: &str =
-    r#"- a collector that doesn't confirm, however often it is asked; then one that does
+pub(crate) const COLLECTOR: &str = r#"1 8192
+- a collector that doesn't confirm, however often it is asked; then one that does
 device 20480
 call format 2 4096
 out text 2 slots of 4096 bytes%0a

@@ -1,62 +1,58 @@
 //! A call whose input ends after each number of its bytes.
 
-use crate::play::Play;
-use crate::sweeps::listed;
+use crate::parts::MEMORY;
+use crate::play::{Play, plain};
 use bridge_words::Note;
-use std::alloc::{AllocError, Global};
+use edge_disk::MemDisk;
+use std::alloc::Global;
+use std::process::Abort;
 use std::sync::Wait;
 use std::thread::Threads;
 
-// How many whole frames so many bytes have, and where the last of them ends.
-fn whole_frames(ends: &[u64], length: u64) -> (usize, u64) {
-    let mut whole = (0_usize, 0_u64);
-    for (number, end) in ends.iter().enumerate() {
-        if *end <= length {
-            whole = (number, *end);
-        }
-    }
-    whole
-}
-
-// Whether the call ends as its input does, at the end of a frame or within one, and leaves the outcome of the whole frames.
-fn is_cut_well<R: Threads + Wait + Sync>(
+// Whether the call ends as its input does, at the end of a frame or within one, and leaves the outcome of the whole frames. These are
+// so many, and the last of them ends at that place.
+fn is_cut_well<R: Abort + Threads + Wait + Sync>(
     rt: &R,
     alloc: Global,
     play: &Play,
-    ends: &[u64],
-) -> Result<bool, AllocError> {
-    let (frames, place) = whole_frames(ends, play.input.len() as u64);
+    frames: usize,
+    place: u64,
+) -> bool {
     let (status, note) = if place == play.input.len() as u64 {
         (0, Note::Fine)
     } else {
         (75, Note::Truncated { at: place })
     };
-    let left = play.call(rt, alloc, play.sound(alloc)?)?;
-    let Some(lines) = listed(rt, alloc, left.disk.bytes().to_vec(alloc)?)? else {
-        return Ok(false);
-    };
-    let Some(outcome) = play.outcomes.get(frames) else {
-        return Ok(false);
-    };
-    let is_written = left.written.len() as u64 == outcome.written
-        && play.output.starts_with(&left.written);
-    Ok(left.status == status && left.note == note && is_written && lines == outcome.lines)
+    let device = play.device.to_vec(alloc).expect(rt, MEMORY);
+    let left = play.call(rt, alloc, MemDisk::of(device, Vec::new(alloc)));
+    let list = plain(rt, alloc, "list", &[], 1, left.disk.bytes());
+    let outcome = play.outcomes.get(frames).expect(rt, "an outcome");
+    let written = left.output.taken();
+    let is_told = left.status == status && left.note == note && list.status == 0;
+    let is_written = written.len() as u64 == outcome.written && play.output.starts_with(written);
+    is_told && is_written && list.output.taken() == outcome.lines.as_slice()
 }
 
 /// Whether the call, with its input cut after each number of its bytes, ends and leaves what is due. The frames end at these places,
 /// from 0 to the length of the input; the first outcome is that of no frame, the next one that of the first frame, and so on.
-pub(crate) fn cuts_well<R: Threads + Wait + Sync>(
+pub(crate) fn cuts_well<R: Abort + Threads + Wait + Sync>(
     rt: &R,
     alloc: Global,
     play: &mut Play,
     ends: &[u64],
-) -> Result<bool, AllocError> {
-    let input = play.input.to_vec(alloc)?;
+) -> bool {
+    let input = play.input.to_vec(alloc).expect(rt, MEMORY);
     play.input.clear();
-    let mut is_well = is_cut_well(rt, alloc, play, ends)?;
+    let mut is_well = is_cut_well(rt, alloc, play, 0, 0);
+    let (mut frames, mut place) = (0_usize, 0_u64);
     for byte in &input {
-        play.input.push(*byte)?;
-        is_well = is_cut_well(rt, alloc, play, ends)? && is_well;
+        play.input.push(*byte).expect(rt, MEMORY);
+        let length = play.input.len() as u64;
+        if ends.contains(&length) {
+            frames = frames.saturating_add(1);
+            place = length;
+        }
+        is_well = is_cut_well(rt, alloc, play, frames, place) && is_well;
     }
-    Ok(is_well)
+    is_well
 }

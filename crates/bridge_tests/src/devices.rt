@@ -1,7 +1,8 @@
 //! Devices and words that are refused, devices that are made spools, and streams that fail.
 
 /// What is refused: nothing is read, written or changed.
-pub(crate) const REFUSALS: &str = r#"- zeros: nothing is read, written or changed
+pub(crate) const REFUSALS: &str = r#"8192
+- zeros: nothing is read, written or changed
 device 20480
 call
 in text 1 open 0%0a
@@ -124,8 +125,8 @@ ends 64 usage: bridge FILE format|replay|list|drain|serve|load
 same"#;
 
 /// What stands before a `format` is gone after it; a write fails.
-pub(crate) const STREAMS: &str =
-    r#"- a spool made anew whatever stood there, where its line is not printed too
+pub(crate) const STREAMS: &str = r#"1 8192
+- a spool made anew whatever stood there, where its line is not printed too
 device 20480
 call format 2 4096
 out text 2 slots of 4096 bytes%0a
@@ -191,7 +192,8 @@ ends 0
 same"#;
 
 /// A read fails, with reads of one byte.
-pub(crate) const SECOND_READ: &str = r#"- the second read of one byte fails
+pub(crate) const SECOND_READ: &str = r#"1
+- the second read of one byte fails
 device 16384
 call format 1 4096
 out text 1 slots of 4096 bytes%0a
@@ -205,7 +207,8 @@ ends 0
 same"#;
 
 /// A spool with no number left for an entry: how a connection of each protocol ends. Nothing is stored.
-pub(crate) const SPENT: &str = r#"- the cursor is 2^63, and so is the first number of the slot
+pub(crate) const SPENT: &str = r#"8192
+- the cursor is 2^63, and so is the first number of the slot
 device 16384
 call format 1 4096
 out text 1 slots of 4096 bytes%0a

@@ -1,7 +1,8 @@
 //! Forwarding: over the input and the output, and to a place.
 
 /// What is sent of one event, and of none, and how each ending is told.
-pub(crate) const DRAINS: &str = r#"- one event by RELP, and then none
+pub(crate) const DRAINS: &str = r#"1 8192
+- one event by RELP, and then none
 device 20480
 call format 2 4096
 out text 2 slots of 4096 bytes%0a
@@ -135,7 +136,8 @@ same
 "#;
 
 /// Forwarding to a place that is dialed.
-pub(crate) const PLACES: &str = r#"- one event by RELP
+pub(crate) const PLACES: &str = r#"8192
+- one event by RELP
 device 20480
 call format 2 4096
 out text 2 slots of 4096 bytes%0a
@@ -238,26 +240,27 @@ same
 "#;
 
 /// What is sent of 1,026 entries while the second one alone is acknowledged, and then of those that are left, in order.
-pub(crate) const WINDOW: &str = r#"- 1,026 entries
+pub(crate) const WINDOW: &str = r#"8192
+- 1,026 entries
 device 4206592
 call format 2 2097152
 out text 2 slots of 2097152 bytes%0a
 ends 0
 call replay lumberjack
 in text 2W%00%00%04%02
-in binaries 1026 1 2J %00%00%00%02{}
+in times 1026 2J%w1%00%00%00%02{}
 out text 2A%00%00%01%002A%00%00%02%002A%00%00%03%002A%00%00%04%002A%00%00%04%02
 ends 0
 call drain relp
 in text 1 rsp 6 200 OK%0a3 rsp 6 200 OK%0a
 out text 1 open 59 relp_version=0%0arelp_software=bridge,1,local%0acommands=syslog%0a
-out decimals 2 1025 %20syslog%202%20{}%0a
+out times 1025 %n2 syslog 2 {}%0a
 ends 68 peer closed
 call drain relp
 in text 1 rsp 6 200 OK%0a
-in decimals 2 1025 %20rsp%206%20200%20OK%0a
+in times 1025 %n2 rsp 6 200 OK%0a
 out text 1 open 59 relp_version=0%0arelp_software=bridge,1,local%0acommands=syslog%0a
-out decimals 2 1025 %20syslog%202%20{}%0a
+out times 1025 %n2 syslog 2 {}%0a
 out text 1027 close 0%0a
 ends 0
 call list

@@ -1,94 +1,88 @@
 //! The doors and the net of a run in which one call fails.
-ghost use Rattle.std.specs.Prelude.{IfOk};
-ghost use Rattle.edge_io.specs.MemDoor.{IsUntouched};
 
+use crate::parts::MEMORY;
 use crate::places::{PLACES, Place, REPLIES};
 use edge_io::{MemDoor, MemLink, MemNet, MemPlace, MemScript, MemSink, MemSource};
-use std::alloc::{AllocError, Global};
+use std::alloc::Global;
+use std::process::Abort;
 
-/// The objects that a run uses. Those of a door and its link are named by the place, as it stands in `PLACES`.
-#[derive(Clone, Copy, PartialEq, Eq, Debug)]
-pub(crate) enum Object {
-    Disk,
-    Accept(u8),
-    Read(u8),
-    Write(u8),
-    /// The binds, and then the dials.
-    Net,
-    PeerRead,
-    PeerWrite,
-    Output,
-}
+/// The objects that a run uses, by their numbers. Of those of a door and its link there are three, one for each of `PLACES`, in order.
+pub(crate) const ACCEPT: usize = 0;
 
-/// A call that fails: whose, and its number from 0. None: no call fails.
-pub(crate) type Failing = Option<(Object, u64)>;
+pub(crate) const READ: usize = 3;
+
+pub(crate) const WRITE: usize = 6;
+
+pub(crate) const PEER_READ: usize = 9;
+
+pub(crate) const PEER_WRITE: usize = 10;
+/// The binds, and then the dials.
+pub(crate) const NET: usize = 11;
+
+pub(crate) const OUTPUT: usize = 12;
+
+pub(crate) const DISK: usize = 13;
+
+/// A call that fails: the object's number, and the call's from 0. None: no call fails.
+pub(crate) type Failing = Option<(usize, u64)>;
 
 /// The calls of an object that fail.
 pub(crate) fn calls_of(
+    rt: &impl Abort,
     alloc: Global,
     failing: Failing,
-    object: Object,
-) -> Result<Vec<u64>, AllocError> {
+    object: usize,
+) -> Vec<u64> {
     let mut numbers = Vec::new(alloc);
     if let Some((its, number)) = failing {
         if its == object {
-            numbers.push(number)?;
+            numbers.push(number).expect(rt, MEMORY);
         }
     }
-    Ok(numbers)
+    numbers
 }
 
-// The door at which the link of a place comes in.
-fn door(alloc: Global, place: &Place, number: u8, failing: Failing) -> Result<MemDoor, AllocError>
-    ensures { IfOk result IsUntouched }
-{
-    let source = MemSource::of(
-        place.input.to_vec(alloc)?,
-        100,
-        calls_of(alloc, failing, Object::Read(number))?,
-    );
-    let sink = MemSink::of(alloc, calls_of(alloc, failing, Object::Write(number))?);
-    let mut links = Vec::new(alloc);
-    links.push(MemLink::of(source, sink))?;
-    Ok(MemDoor::of(
-        alloc,
-        links,
-        calls_of(alloc, failing, Object::Accept(number))?,
-    ))
-}
-
-// A place of the net, with its door.
+// A place of the net, with its door, at which the place's link comes in.
 fn mem_place(
+    rt: &impl Abort,
     alloc: Global,
     place: &Place,
-    number: u8,
+    number: usize,
     failing: Failing,
-) -> Result<MemPlace, AllocError> {
+) -> MemPlace {
+    let accepts = calls_of(rt, alloc, failing, ACCEPT.saturating_add(number));
+    let reads = calls_of(rt, alloc, failing, READ.saturating_add(number));
+    let writes = calls_of(rt, alloc, failing, WRITE.saturating_add(number));
+    let input = place.input.to_vec(alloc).expect(rt, MEMORY);
+    let link = MemLink::of(MemSource::of(input, 100, reads), MemSink::of(alloc, writes));
+    let mut links = Vec::new(alloc);
+    links.push(link).expect(rt, MEMORY);
     let mut doors = Vec::new(alloc);
-    doors.push(door(alloc, place, number, failing)?)?;
-    Ok(MemPlace {
-        place: String::from_str(alloc, place.name)?,
+    doors
+        .push(MemDoor::of(alloc, links, accepts))
+        .expect(rt, MEMORY);
+    MemPlace {
+        place: String::from_str(alloc, place.name).expect(rt, MEMORY),
         doors,
-    })
+    }
 }
 
 /// The net: the places, and the peer that is dialed.
-pub(crate) fn net(alloc: Global, failing: Failing) -> Result<MemNet, AllocError> {
+pub(crate) fn net(rt: &impl Abort, alloc: Global, failing: Failing) -> MemNet {
     let mut places = Vec::new(alloc);
     for (number, at) in PLACES.iter().enumerate() {
-        places.push(mem_place(alloc, at, (number % 3) as u8, failing)?)?;
+        places
+            .push(mem_place(rt, alloc, at, number, failing))
+            .expect(rt, MEMORY);
     }
     let mut scripts = Vec::new(alloc);
-    scripts.push(MemScript {
-        place: String::from_str(alloc, "d")?,
-        bytes: REPLIES.to_vec(alloc)?,
-        reads: calls_of(alloc, failing, Object::PeerRead)?,
-        writes: calls_of(alloc, failing, Object::PeerWrite)?,
-    })?;
-    Ok(MemNet::of(
-        alloc,
-        places,
-        scripts,
-        calls_of(alloc, failing, Object::Net)?,
-    ))
+    let script = MemScript {
+        place: String::from_str(alloc, "d").expect(rt, MEMORY),
+        bytes: REPLIES.to_vec(alloc).expect(rt, MEMORY),
+        reads: calls_of(rt, alloc, failing, PEER_READ),
+        writes: calls_of(rt, alloc, failing, PEER_WRITE),
+    };
+    scripts.push(script).expect(rt, MEMORY);
+    let calls = calls_of(rt, alloc, failing, NET);
+    MemNet::of(alloc, places, scripts, calls)
 }

@@ -1,8 +1,8 @@
 //! Calls over a disk that fails or stops, and over streams that fail.
 
 /// What is left of an event, of two batches, and of a register whose version is raised.
-pub(crate) const FAULTS: &str =
-    r#"- an event is stored by four calls of the disk: where the third one fails, which writes the gate, it is not stored,
+pub(crate) const FAULTS: &str = r#"8192
+- an event is stored by four calls of the disk: where the third one fails, which writes the gate, it is not stored,
 - and where the fourth fails, a sync, it is
 device 16384
 call format 1 4096
@@ -73,7 +73,8 @@ ends 0
 same"#;
 
 /// One call of the disk, the input or the output fails, in a session of each protocol, with reads of one byte.
-pub(crate) const STREAMS: &str = r#"- RELP: the frames end at 61, 78 and 88
+pub(crate) const STREAMS: &str = r#"1
+- RELP: the frames end at 61, 78 and 88
 device 16384
 call format 1 4096
 out text 1 slots of 4096 bytes%0a

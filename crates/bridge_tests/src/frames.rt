@@ -1,7 +1,8 @@
 //! Inputs that end within a frame, and frames that are wrong.
 
 /// A session of RELP whose input ends after each of its bytes: within a frame, or where one ends.
-pub(crate) const CUTS: &str = r#"- three frames
+pub(crate) const CUTS: &str = r#"1 8192
+- three frames
 device 16384
 call format 1 4096
 out text 1 slots of 4096 bytes%0a
@@ -17,7 +18,8 @@ outcome 115 text 0 4294967296 0 2 relp 5%0a
 cuts 0 61 78 88"#;
 
 /// Each kind of wrong frame: where it is found, and what is answered. Nothing is stored.
-pub(crate) const WRONG: &str = r#"- RELP
+pub(crate) const WRONG: &str = r#"1 8192
+- RELP
 device 16384
 call format 1 4096
 out text 1 slots of 4096 bytes%0a

@@ -1,7 +1,6 @@
 //! Doors and a net that give links which hold back what they give.
-ghost use Rattle.std.specs.Prelude.{◌≡◌, IfOk, length, All};
+ghost use Rattle.std.specs.Prelude.{◌≡◌, None, IfOk, length, All};
 ghost use Rattle.edge_io.specs.Door.{IsNewDoor};
-ghost use Rattle.bridge_tests.specs.Held.{door_state};
 
 use crate::held::{Held, Movable, Plan};
 use edge_io::{AcceptFault, Door, Net, NetFault, Object, Pause, Proto};
@@ -28,7 +27,15 @@ pub(crate) struct HeldDoor<'a> {
 impl<'a> Door for HeldDoor<'a> {
     type L = Held<'a>;
 
-    ghost told = { λ door. door_state door };
+    ghost told = { λ door. record {
+      place = None;
+      waiting = None;
+      accepted = None;
+      talks = None;
+      accept_faults = 0;
+      read_faults = door.read_faults;
+      write_faults = door.write_faults;
+    } };
 
     fn accept(&mut self) -> Result<Option<Held<'a>>, AcceptFault> {
         Ok(self.link.take())
@@ -93,9 +100,7 @@ impl Object for HeldNet<'_> {
 }
 
 impl Pause for HeldNet<'_> {
-    ghost use Rattle.bridge_tests.specs.Held.{net_state};
-
-    ghost pause_apart = { λ x y. net_state y ≡ net_state x };
+    ghost pause_apart = { λ x y. y ≡ x };
 
     fn pause(&mut self) {}
 
@@ -125,9 +130,7 @@ fn door<'a>(
     marks: &'a [AtomicBool],
     place: &str,
     number: usize,
-) -> HeldDoor<'a>
-    ensures { IsNewDoor place.now (door_state result) }
-{
+) -> HeldDoor<'a> {
     let link = match plan_of(plans, place, number) {
         Some(plan) => Some(Held::by(alloc, plan, marks)),
         None => None,
@@ -149,7 +152,7 @@ fn doors_at<'a>(
     count: usize,
 ) -> Result<Vec<HeldDoor<'a>>, AllocError>
     ensures count { IfOk result (λ made. length made.items ≡ count) }
-    ensures fresh { IfOk result (λ made. All (λ door. IsNewDoor place.now (door_state door)) made.items) }
+    ensures fresh { IfOk result (λ made. All (λ door. IsNewDoor place.now (⟦<HeldDoor<'a> as Door>⟧.told door)) made.items) }
 {
     let mut made = Vec::with_capacity(alloc, count)?;
     'doors: while made.len() < count {
@@ -160,13 +163,11 @@ fn doors_at<'a>(
 }
 
 impl<'a> Net for HeldNet<'a> {
-    ghost use Rattle.bridge_tests.specs.Held.{net_state};
-
     type L = Held<'a>;
 
     type P = HeldDoor<'a>;
 
-    ghost told = { λ net. net_state net };
+    ghost told = { λ net. record { hung = None; net_faults = net.faults; read_faults = net.read_faults; write_faults = net.write_faults } };
 
     ghost has_room = { λ _. Unit {0} };
 
@@ -193,7 +194,7 @@ impl<'a> Net for HeldNet<'a> {
         let _ = self.sent.extend_from_slice(&link.written);
     }
 
-    ghost pauses_keep = { λ x y same. same };
+    ghost pauses_keep = { λ x y same. Prim.cc };
 
     ghost pauses_keep_room = { λ x y same room. room };
 }

@@ -18,8 +18,9 @@ mod failing;
 mod faults;
 #[cfg(test)]
 mod frames;
-// (both in every build, since definitions in specs/ speak of their types)
+#[cfg(test)]
 mod held;
+#[cfg(test)]
 mod held_net;
 #[cfg(test)]
 mod lists;
@@ -43,8 +44,6 @@ mod served;
 mod sessions;
 #[cfg(test)]
 mod slots;
-#[cfg(test)]
-mod spools;
 #[cfg(test)]
 mod sweeps;
 #[cfg(test)]

@@ -1,7 +1,8 @@
 //! The forms of `list`.
 
 /// What is printed for events of each origin, and for long ones.
-pub(crate) const LISTS: &str = r#"- an event of each origin
+pub(crate) const LISTS: &str = r#"8192
+- an event of each origin
 device 16384
 call format 1 4096
 out text 1 slots of 4096 bytes%0a

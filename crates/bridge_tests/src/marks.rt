@@ -1,8 +1,8 @@
 //! What is known after a session, also where the disk or the link fails.
 
 /// A slot whose entries are confirmed is used again.
-pub(crate) const FREED: &str =
-    r#"- two slots that are full, until a peer acknowledges the entry of the first; four calls of the disk begin the second one
+pub(crate) const FREED: &str = r#"7 8192
+- two slots that are full, until a peer acknowledges the entry of the first; four calls of the disk begin the second one
 device 20480
 call format 2 4096
 out text 2 slots of 4096 bytes%0a
@@ -71,7 +71,8 @@ same
 "#;
 
 /// Sessions whose disk fails or stops at each of its calls, and whose link fails at each of its own.
-pub(crate) const FAULTS: &str = r#"- an entry that is acknowledged is pending still, or known
+pub(crate) const FAULTS: &str = r#"1 8192
+- an entry that is acknowledged is pending still, or known
 device 20480
 call format 2 4096
 out text 2 slots of 4096 bytes%0a

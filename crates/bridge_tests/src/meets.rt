@@ -1,16 +1,17 @@
 //! Talks that can only end where others are served beside them, and a talk that can only end where its event is forwarded beside it.
+
 use crate::held::{Part, Plan};
 use crate::held_net::{HeldDoor, HeldNet, Talked};
+use crate::play::{formatted, words_of};
 use crate::script::{OPEN, OPENED};
-use crate::spools::{formatted, words_of};
 use bridge_core::{Ended, bridge};
 use bridge_words::Note;
+use edge_disk::MemDisk;
 use edge_io::{MemSink, MemSource};
-use std::alloc::{AllocError, Global};
+use std::alloc::Global;
 use std::process::Abort;
 use std::sync::Wait;
 use std::sync::atomic::AtomicBool;
-use std::test::Fail;
 use std::thread::Threads;
 
 const EVENT: &[u8] = b"2 syslog 5 hello\n";
@@ -166,52 +167,17 @@ fn are_served(doors: &[HeldDoor<'_>], answers: &[(&[u8], &[u8])]) -> bool {
     if doors.len() != answers.len() {
         return false;
     }
-    for (door, (first, then)) in doors.iter().zip(answers) {
-        if !is_served(door, first, then) {
+    for number in 0..doors.len() {
+        let (first, then) = answers[number];
+        if !is_served(&doors[number], first, then) {
             return false;
         }
     }
     true
 }
 
-/// How a run ended.
-#[derive(Drop)]
-struct Ran<'a> {
-    note: Note,
-    printed: Vec<u8>,
-    doors: Vec<HeldDoor<'a>>,
-}
-
-// Serves links by these plans, with these words, over an empty spool.
-fn serve_by<'a, R: Threads + Wait + Sync>(
-    rt: &R,
-    alloc: Global,
-    plans: &'static [Plan],
-    marks: &'a [AtomicBool],
-    words: &str,
-) -> Result<Ran<'a>, AllocError> {
-    let mut net = HeldNet::new(alloc, plans, marks);
-    let mut input = MemSource::of(Vec::new(alloc), 1, Vec::new(alloc));
-    let mut output = MemSink::of(alloc, Vec::new(alloc));
-    let words = words_of(alloc, words)?;
-    let disk = formatted(rt, alloc)?;
-    let Ended { note, doors, .. } = bridge(
-        rt,
-        alloc,
-        &words,
-        disk,
-        &mut input,
-        &mut output,
-        &mut net,
-    );
-    Ok(Ran {
-        note,
-        printed: output.taken().to_vec(alloc)?,
-        doors,
-    })
-}
-
-// Serves links by these plans, with these words: so it prints, and each link ends well, with a first and a last answer.
+// Serves links by these plans, with these words, over an empty spool: so it prints, and each link ends well, with a first and a last
+// answer.
 fn check<R: Abort + Threads + Wait + Sync>(
     rt: &R,
     alloc: Global,
@@ -219,52 +185,52 @@ fn check<R: Abort + Threads + Wait + Sync>(
     words: &str,
     line: &str,
     answers: &[(&[u8], &[u8])],
-) -> Result<(), Fail> {
+) {
     let marks = [
         AtomicBool::new(false),
         AtomicBool::new(false),
         AtomicBool::new(false),
     ];
-    let ran = serve_by(rt, alloc, plans, &marks, words)?;
-    let note = ran.note;
-    assert!(rt; ran.printed.as_slice() == line.as_bytes(), "{note:?}");
+    let mut net = HeldNet::new(alloc, plans, &marks);
+    let mut output = MemSink::of(alloc, Vec::new(alloc));
+    let Ended { note, doors, .. } = bridge(
+        rt,
+        alloc,
+        &words_of(rt, alloc, words),
+        MemDisk::of(formatted(rt, alloc), Vec::new(alloc)),
+        &mut MemSource::of(Vec::new(alloc), 1, Vec::new(alloc)),
+        &mut output,
+        &mut net,
+    );
+    assert!(rt; output.taken() == line.as_bytes(), "{note:?}");
     assert!(rt; note == Note::Fine, "{note:?}");
-    assert!(rt; are_served(&ran.doors, answers));
-    Ok(())
+    assert!(rt; are_served(&doors, answers));
 }
 
-#[test]
-fn two_talks_meet(rt: HostRuntime) -> Result<(), Fail> {
+/// Two talks meet, three do, and one meets what forwards its event.
+pub(crate) fn talks_meet<R: Abort + Threads + Wait + Sync>(rt: &R, alloc: Global) {
     check(
-        &rt,
-        rt.alloc(),
+        rt,
+        alloc,
         PAIR,
         "serve --relp r --workers 2 --talks 1",
         "2 talks, 2 taken, 0 confirmed, 2 left\n",
         &[(OPENED, STORED), (OPENED, STORED)],
-    )
-}
-
-#[test]
-fn three_talks_meet(rt: HostRuntime) -> Result<(), Fail> {
+    );
     check(
-        &rt,
-        rt.alloc(),
+        rt,
+        alloc,
         THREE,
         "serve --relp r --lumberjack l --hec h --workers 1 --talks 1 --token 11111111-2222-3333-4444-555555555555",
         "3 talks, 5 taken, 0 confirmed, 5 left\n",
         &[(OPENED, STORED), (ACK, ACK), (SUCCESS, SUCCESS)],
-    )
-}
-
-#[test]
-fn forward_meets(rt: HostRuntime) -> Result<(), Fail> {
+    );
     check(
-        &rt,
-        rt.alloc(),
+        rt,
+        alloc,
         ONWARD,
         "serve --relp r --workers 1 --talks 1 --forward relp --to d",
         "1 talks, 1 taken, 1 confirmed, 0 left\n",
         &[(OPENED, STORED)],
-    )
+    );
 }

@@ -1,8 +1,11 @@
 //! Bytes of inputs, outputs and devices, as the scripts spell them: a word that says how, and what
 //! it takes.
 
-use std::alloc::{AllocError, Global};
-use std::test::Fail;
+use std::alloc::Global;
+use std::process::Abort;
+
+/// What a test says that finds no memory.
+pub(crate) const MEMORY: &str = "memory";
 
 /// The first word of a text, and what follows the space after it.
 pub(crate) fn word(text: &str) -> (&str, &str) {
@@ -10,146 +13,65 @@ pub(crate) fn word(text: &str) -> (&str, &str) {
 }
 
 /// The number that a word spells.
-pub(crate) fn number(word: &str) -> Result<u64, Fail> {
-    match word.parse::<u64>() {
-        Ok(number) => Ok(number),
-        Err(_) => Err("no number".into()),
-    }
+pub(crate) fn number(rt: &impl Abort, word: &str) -> u64 {
+    word.parse::<u64>().expect(rt, "a number")
 }
 
-fn digit(byte: u8) -> Option<u8> {
-    char::from(byte).to_digit(16).map(|digit| digit as u8)
-}
-
-// The bytes of a text, in which `%` and two digits stand for a byte.
-fn text_of(alloc: Global, text: &str) -> Result<Vec<u8>, Fail> {
-    let mut bytes = Vec::new(alloc);
-    for (number, part) in text.split('%').enumerate() {
-        match part.as_bytes() {
-            part if number == 0 => bytes.extend_from_slice(part)?,
-            [first, second, rest @ ..] => {
-                let high = digit(*first).ok_or("no digit")?;
-                let low = digit(*second).ok_or("no digit")?;
-                bytes.push(high.wrapping_mul(16).wrapping_add(low))?;
-                bytes.extend_from_slice(rest)?;
-            }
-            _ => return Err("two digits are missing".into()),
-        }
-    }
-    Ok(bytes)
-}
-
-// Adds a text so many times.
-fn add_times(bytes: &mut Vec<u8>, text: &[u8], count: u64) -> Result<(), AllocError> {
-    for _ in 0..count {
-        bytes.extend_from_slice(text)?;
-    }
-    Ok(())
-}
-
-// Adds so many numbers in decimal, each with a text after it.
-fn add_decimals(
-    alloc: Global,
-    bytes: &mut Vec<u8>,
-    first: u64,
-    count: u64,
-    after: &[u8],
-) -> Result<(), AllocError> {
-    for place in 0..count {
-        let number = first.saturating_add(place);
-        bytes.extend_from_slice(format!(in alloc; "{number}")?.as_bytes())?;
-        bytes.extend_from_slice(after)?;
-    }
-    Ok(())
-}
-
-// Adds the lines by which `list` names the first entries of the first connection, where those are
-// the first of the spool: so many, whose units count from `unit`.
-fn add_lines(
-    alloc: Global,
-    bytes: &mut Vec<u8>,
-    count: u64,
-    unit: u64,
-    end: &[u8],
-) -> Result<(), AllocError> {
-    for number in 0..count {
-        let unit = number.saturating_add(unit);
-        let line = format!(in alloc; "{number} 4294967296 {number} {unit} ")?;
-        bytes.extend_from_slice(line.as_bytes())?;
-        bytes.extend_from_slice(end)?;
-    }
-    Ok(())
-}
-
-// Adds so many multiples of `step` in four bytes, each with a text before it and one after it.
-fn add_binaries(
-    bytes: &mut Vec<u8>,
-    count: u64,
-    step: u64,
-    before: &[u8],
-    after: &[u8],
-) -> Result<(), AllocError> {
-    let mut number = 0_u64;
-    for _ in 0..count {
-        number = number.saturating_add(step);
-        bytes.extend_from_slice(before)?;
-        bytes.extend_from_slice(&u32::try_from(number).unwrap_or(u32::MAX).to_be_bytes())?;
-        bytes.extend_from_slice(after)?;
-    }
-    Ok(())
-}
-
-// Adds numbers and texts, as the word before says.
-fn add_counted(alloc: Global, bytes: &mut Vec<u8>, how: &str, rest: &str) -> Result<(), Fail> {
-    let (first, rest) = word(rest);
-    let (second, rest) = word(rest);
-    let (first, second) = (number(first)?, number(second)?);
-    if how == "decimals" {
-        add_decimals(alloc, bytes, first, second, &text_of(alloc, rest)?)?;
-    } else if how == "lines" {
-        add_lines(alloc, bytes, first, second, &text_of(alloc, rest)?)?;
-    } else if how == "binaries" {
-        let (before, after) = word(rest);
-        add_binaries(
-            bytes,
-            first,
-            second,
-            before.as_bytes(),
-            &text_of(alloc, after)?,
-        )?;
+// Adds what the two characters after a `%` stand for, in this row.
+fn add_code(rt: &impl Abort, alloc: Global, bytes: &mut Vec<u8>, code: &str, row: u64) {
+    let (letter, more) = code.split_at_checked(1).expect(rt, "two characters");
+    if letter == "n" {
+        let number = row.saturating_add(number(rt, more));
+        let digits = format!(in alloc; "{number}").expect(rt, MEMORY);
+        bytes
+            .extend_from_slice(digits.as_bytes())
+            .expect(rt, MEMORY);
+    } else if letter == "w" {
+        let number = row.saturating_add(number(rt, more));
+        let binary = u32::try_from(number).expect(rt, "four bytes");
+        bytes
+            .extend_from_slice(&binary.to_be_bytes())
+            .expect(rt, MEMORY);
     } else {
-        return Err("no such bytes".into());
+        let byte = u8::from_str_radix(code, 16).expect(rt, "two digits");
+        bytes.push(byte).expect(rt, MEMORY);
     }
-    Ok(())
+}
+
+// Adds the bytes of a text, in this row.
+fn add_row(rt: &impl Abort, alloc: Global, bytes: &mut Vec<u8>, text: &str, row: u64) {
+    for (place, part) in text.split('%').enumerate() {
+        let mut plain = part;
+        if place > 0 {
+            let (code, rest) = part.split_at_checked(2).expect(rt, "two characters");
+            add_code(rt, alloc, bytes, code, row);
+            plain = rest;
+        }
+        bytes.extend_from_slice(plain.as_bytes()).expect(rt, MEMORY);
+    }
 }
 
 /// Adds the bytes that a script spells.
 ///
 /// - `text TEXT`, in which `%` and two digits stand for a byte;
-/// - `times COUNT TEXT`: the text so many times;
-/// - `decimals FIRST COUNT TEXT`: so many numbers in decimal, each with the text after it;
-/// - `lines COUNT UNIT TEXT`: the lines that list so many entries, each with the text after the
-///   unit;
-/// - `binaries COUNT STEP WORD TEXT`: multiples of STEP in four bytes, each between the word and
-///   the text.
-pub(crate) fn add(alloc: Global, bytes: &mut Vec<u8>, spelled: &str) -> Result<(), Fail> {
+/// - `times COUNT TEXT`: rows of the text, so many. In it `%n` and a digit stand for the row's number from 0, and so many more, in
+///   decimal; and `%w` and a digit for the same in four bytes.
+pub(crate) fn add(rt: &impl Abort, alloc: Global, bytes: &mut Vec<u8>, spelled: &str) {
     let (how, rest) = word(spelled);
     if how == "text" {
-        bytes.extend_from_slice(&text_of(alloc, rest)?)?;
-        return Ok(());
+        add_row(rt, alloc, bytes, rest, 0);
+        return;
     }
-    if how == "times" {
-        let (count, text) = word(rest);
-        let count = number(count)?;
-        add_times(bytes, &text_of(alloc, text)?, count)?;
-        return Ok(());
+    assert!(rt; how == "times", "{how}");
+    let (count, text) = word(rest);
+    for row in 0..number(rt, count) {
+        add_row(rt, alloc, bytes, text, row);
     }
-    add_counted(alloc, bytes, how, rest)
 }
 
 /// The bytes that a script spells.
-pub(crate) fn bytes_of(alloc: Global, spelled: &str) -> Result<Vec<u8>, Fail> {
+pub(crate) fn bytes_of(rt: &impl Abort, alloc: Global, spelled: &str) -> Vec<u8> {
     let mut bytes = Vec::new(alloc);
-    add(alloc, &mut bytes, spelled)?;
-    Ok(bytes)
+    add(rt, alloc, &mut bytes, spelled);
+    bytes
 }

@@ -1,10 +1,12 @@
 //! A device, the next call of `bridge` over it, and what that call has to leave.
 
+use crate::parts::MEMORY;
 use bridge_core::{Ended, bridge};
 use bridge_words::Note;
 use edge_disk::MemDisk;
-use edge_io::{MemNet, MemScript, MemSink, MemSource};
-use std::alloc::{AllocError, Global};
+use edge_io::{MemDoor, MemNet, MemScript, MemSink, MemSource};
+use std::alloc::Global;
+use std::process::Abort;
 use std::sync::Wait;
 use std::thread::Threads;
 
@@ -24,7 +26,7 @@ pub(crate) struct Play {
     pub(crate) before: Vec<u8>,
     /// What the next call is given: its words and its input, and which reads and writes fail, from
     /// 0.
-    pub(crate) words: Vec<String>,
+    pub(crate) words: String,
     pub(crate) input: Vec<u8>,
     pub(crate) reads: Vec<u64>,
     pub(crate) writes: Vec<u64>,
@@ -46,28 +48,96 @@ pub(crate) struct Play {
     pub(crate) dials: Vec<u64>,
     /// What the links that are hung up must have been written, one after another, and how many these are.
     pub(crate) sent: Vec<u8>,
-    pub(crate) links: u64,
+    pub(crate) links: usize,
 }
 
-/// What a call left.
+/// What a call left: how it ended, and the objects that it was given.
 #[derive(Drop)]
 pub(crate) struct Left {
     pub(crate) status: u8,
     pub(crate) note: Note,
-    pub(crate) written: Vec<u8>,
     pub(crate) disk: MemDisk,
-    /// What the links that were hung up were written, one after another, and how many these are.
-    pub(crate) sent: Vec<u8>,
-    pub(crate) links: u64,
+    pub(crate) doors: Vec<MemDoor>,
+    pub(crate) output: MemSink,
+    pub(crate) net: MemNet,
+}
+
+/// The words of a text, with spaces between them.
+pub(crate) fn words_of(rt: &impl Abort, alloc: Global, text: &str) -> Vec<String> {
+    let mut words = Vec::new(alloc);
+    for word in text.split(' ') {
+        if !word.is_empty() {
+            let word = String::from_str(alloc, word).expect(rt, MEMORY);
+            words.push(word).expect(rt, MEMORY);
+        }
+    }
+    words
+}
+
+/// Makes a call with these words.
+pub(crate) fn made<R: Abort + Threads + Wait + Sync>(
+    rt: &R,
+    alloc: Global,
+    words: &str,
+    disk: MemDisk,
+    mut input: MemSource,
+    mut output: MemSink,
+    mut net: MemNet,
+) -> Left {
+    let words = words_of(rt, alloc, words);
+    let Ended {
+        status,
+        note,
+        disk,
+        doors,
+    } = bridge(rt, alloc, &words, disk, &mut input, &mut output, &mut net);
+    Left {
+        status,
+        note,
+        disk,
+        doors,
+        output,
+        net,
+    }
+}
+
+/// Makes a call with these words and this input, of which a read gives at most so many bytes, over a device. No call of an object
+/// fails, and there is no peer.
+pub(crate) fn plain<R: Abort + Threads + Wait + Sync>(
+    rt: &R,
+    alloc: Global,
+    words: &str,
+    input: &[u8],
+    piece: usize,
+    device: &[u8],
+) -> Left {
+    let device = device.to_vec(alloc).expect(rt, MEMORY);
+    let input = input.to_vec(alloc).expect(rt, MEMORY);
+    made(
+        rt,
+        alloc,
+        words,
+        MemDisk::of(device, Vec::new(alloc)),
+        MemSource::of(input, piece.max(1), Vec::new(alloc)),
+        MemSink::of(alloc, Vec::new(alloc)),
+        MemNet::of(alloc, Vec::new(alloc), Vec::new(alloc), Vec::new(alloc)),
+    )
+}
+
+/// A device with an empty spool, as the program makes it.
+pub(crate) fn formatted<R: Abort + Threads + Wait + Sync>(rt: &R, alloc: Global) -> Vec<u8> {
+    let zeros = vec![in alloc; 0; 20_480].expect(rt, MEMORY);
+    let left = plain(rt, alloc, "format 2 4096", &[], 1, &zeros);
+    left.disk.bytes().to_vec(alloc).expect(rt, MEMORY)
 }
 
 impl Play {
-    /// No device and no words.
-    pub(crate) fn new(alloc: Global, piece: usize) -> Play {
+    /// A call with no words yet over this device, with reads of at most so many bytes.
+    pub(crate) fn over(alloc: Global, device: Vec<u8>, piece: usize) -> Play {
         Play {
-            device: Vec::new(alloc),
+            device,
             before: Vec::new(alloc),
-            words: Vec::new(alloc),
+            words: String::new(alloc),
             input: Vec::new(alloc),
             reads: Vec::new(alloc),
             writes: Vec::new(alloc),
@@ -86,78 +156,38 @@ impl Play {
         }
     }
 
-    /// A call with no words yet, over the device as it stands.
-    pub(crate) fn clear(&mut self) {
-        self.words.clear();
-        self.input.clear();
-        self.reads.clear();
-        self.writes.clear();
-        self.output.clear();
-        self.outcomes.clear();
-        self.is_drain = false;
-        self.after.clear();
-        self.answer.clear();
-        self.replies.clear();
-        self.peer_reads.clear();
-        self.peer_writes.clear();
-        self.dials.clear();
-        self.sent.clear();
-        self.links = 0;
-    }
-
     // A net that has a peer at the place `there`.
-    fn net(&self, alloc: Global) -> Result<MemNet, AllocError> {
+    fn net(&self, rt: &impl Abort, alloc: Global) -> MemNet {
         let mut scripts = Vec::new(alloc);
-        scripts.push(MemScript {
-            place: String::from_str(alloc, "there")?,
-            bytes: self.replies.to_vec(alloc)?,
-            reads: self.peer_reads.to_vec(alloc)?,
-            writes: self.peer_writes.to_vec(alloc)?,
-        })?;
-        Ok(MemNet::of(alloc, Vec::new(alloc), scripts, self.dials.to_vec(alloc)?))
+        let script = MemScript {
+            place: String::from_str(alloc, "there").expect(rt, MEMORY),
+            bytes: self.replies.to_vec(alloc).expect(rt, MEMORY),
+            reads: self.peer_reads.to_vec(alloc).expect(rt, MEMORY),
+            writes: self.peer_writes.to_vec(alloc).expect(rt, MEMORY),
+        };
+        scripts.push(script).expect(rt, MEMORY);
+        let dials = self.dials.to_vec(alloc).expect(rt, MEMORY);
+        MemNet::of(alloc, Vec::new(alloc), scripts, dials)
     }
 
     /// Makes the call over this disk.
-    pub(crate) fn call<R: Threads + Wait + Sync>(
+    pub(crate) fn call<R: Abort + Threads + Wait + Sync>(
         &self,
         rt: &R,
         alloc: Global,
         disk: MemDisk,
-    ) -> Result<Left, AllocError> {
-        let input = self.input.to_vec(alloc)?;
-        let mut source = MemSource::of(input, self.piece.max(1), self.reads.to_vec(alloc)?);
-        let mut sink = MemSink::of(alloc, self.writes.to_vec(alloc)?);
-        let mut net = self.net(alloc)?;
-        let Ended {
-            status,
-            note,
-            disk,
-            doors: _,
-        } = bridge(
+    ) -> Left {
+        let input = self.input.to_vec(alloc).expect(rt, MEMORY);
+        let reads = self.reads.to_vec(alloc).expect(rt, MEMORY);
+        let writes = self.writes.to_vec(alloc).expect(rt, MEMORY);
+        made(
             rt,
             alloc,
-            &self.words,
+            self.words.as_str(),
             disk,
-            &mut source,
-            &mut sink,
-            &mut net,
-        );
-        let mut sent = Vec::new(alloc);
-        for hung in net.hung() {
-            sent.extend_from_slice(&hung.written)?;
-        }
-        Ok(Left {
-            status,
-            note,
-            written: sink.taken().to_vec(alloc)?,
-            disk,
-            sent,
-            links: net.hung().len() as u64,
-        })
-    }
-
-    /// The device as a disk on which no call fails.
-    pub(crate) fn sound(&self, alloc: Global) -> Result<MemDisk, AllocError> {
-        Ok(MemDisk::of(self.device.to_vec(alloc)?, Vec::new(alloc)))
+            MemSource::of(input, self.piece.max(1), reads),
+            MemSink::of(alloc, writes),
+            self.net(rt, alloc),
+        )
     }
 }

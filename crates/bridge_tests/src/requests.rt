@@ -1,94 +1,82 @@
 //! Requests of the HTTP Event Collector. The token is 11111111-2222-3333-4444-555555555555, the one that uses acks
 //! aaaaaaaa-2222-3333-4444-555555555555, and the channel cccccccc-2222-3333-4444-555555555555.
 
+use crate::parts::MEMORY;
 use crate::play::Play;
-use std::alloc::{AllocError, Global};
+use std::alloc::Global;
 use std::mem;
-use std::test::Fail;
+use std::process::Abort;
 
-const TOKEN: &str = "\r\nAuthorization: Splunk 11111111-2222-3333-4444-555555555555";
+const EVENT: &str =
+    "POST /services/collector/event HTTP/1.1\r\nAuthorization: Splunk 11111111-2222-3333-4444-555555555555";
 
-const ACK_TOKEN: &str =
-    "\r\nAuthorization: Splunk aaaaaaaa-2222-3333-4444-555555555555\r\nX-Splunk-Request-Channel: cccccccc-2222-3333-4444-555555555555";
+const ACKED: &str =
+    "POST /services/collector/event HTTP/1.1\r\nAuthorization: Splunk aaaaaaaa-2222-3333-4444-555555555555\r\n\
+    X-Splunk-Request-Channel: cccccccc-2222-3333-4444-555555555555";
 
-// Adds a request with a body of this text to the input.
-fn add_request(
+const ASK: &str =
+    "POST /services/collector/ack HTTP/1.1\r\nAuthorization: Splunk aaaaaaaa-2222-3333-4444-555555555555\r\n\
+    X-Splunk-Request-Channel: cccccccc-2222-3333-4444-555555555555";
+
+const SAYS: &str = "HTTP/1.1 200 OK\r\nContent-Type: application/json";
+
+const REFUSES: &str = "HTTP/1.1 400 Bad Request\r\nContent-Type: application/json";
+
+const BUSY: &str = "HTTP/1.1 503 Service Unavailable\r\nContent-Type: application/json";
+
+const CLOSE: &str = "Connection: close\r\n";
+
+// Adds a request or a reply with a body of this text, by what stands before the body's length and what stands after it.
+fn add_message(
+    rt: &impl Abort,
     alloc: Global,
-    play: &mut Play,
-    target: &str,
-    token: &str,
-    body: &str,
-) -> Result<(), AllocError> {
-    let length = body.len();
-    let head = format!(in alloc;
-        "POST /services/collector/{target} HTTP/1.1{token}\r\nContent-Length: {length}\r\n\r\n"
-    )?;
-    play.input.extend_from_slice(head.as_bytes())?;
-    play.input.extend_from_slice(body.as_bytes())?;
-    Ok(())
-}
-
-// Adds a reply to the output that is wanted.
-fn add_reply(
-    alloc: Global,
-    play: &mut Play,
-    status: &str,
+    bytes: &mut Vec<u8>,
+    start: &str,
     end: &str,
     body: &str,
-) -> Result<(), AllocError> {
+) {
     let length = body.len();
-    let head = format!(in alloc;
-        "HTTP/1.1 {status}\r\nContent-Type: application/json\r\nContent-Length: {length}\r\n{end}\r\n"
-    )?;
-    play.output.extend_from_slice(head.as_bytes())?;
-    play.output.extend_from_slice(body.as_bytes())?;
-    Ok(())
+    let head = format!(in alloc; "{start}\r\nContent-Length: {length}\r\n{end}\r\n").expect(
+        rt, MEMORY,
+    );
+    bytes.extend_from_slice(head.as_bytes()).expect(rt, MEMORY);
+    bytes.extend_from_slice(body.as_bytes()).expect(rt, MEMORY);
 }
 
-/// Adds a request or a reply. None: the step is neither.
+/// Adds a request to the input, or a reply to the output that is wanted; or keeps both for later. Answers whether the step says so.
 pub(crate) fn exchange(
+    rt: &impl Abort,
     alloc: Global,
     play: &mut Play,
     step: &str,
-    rest: &str,
-) -> Result<Option<bool>, Fail> {
-    if step == "event" {
-        add_request(alloc, play, "event", TOKEN, rest)?;
-    } else if step == "acked" {
-        add_request(alloc, play, "event", ACK_TOKEN, rest)?;
-    } else if step == "ask" {
-        add_request(alloc, play, "ack", ACK_TOKEN, rest)?;
-    } else if step == "says" {
-        add_reply(alloc, play, "200 OK", "", rest)?;
-    } else if step == "refuses" {
-        add_reply(alloc, play, "400 Bad Request", "", rest)?;
-    } else if step == "ends_busy" {
-        add_reply(
-            alloc,
-            play,
-            "503 Service Unavailable",
-            "Connection: close\r\n",
-            rest,
-        )?;
-    } else if step == "ends_malformed" {
-        add_reply(
-            alloc,
-            play,
-            "400 Bad Request",
-            "Connection: close\r\n",
-            rest,
-        )?;
-    } else if step == "later" {
-        mem::swap(&mut play.input, &mut play.after);
-        mem::swap(&mut play.output, &mut play.answer);
+    body: &str,
+) -> bool {
+    let (start, end) = match step {
+        "event" => (EVENT, ""),
+        "acked" => (ACKED, ""),
+        "ask" => (ASK, ""),
+        "says" => (SAYS, ""),
+        "refuses" => (REFUSES, ""),
+        "ends_busy" => (BUSY, CLOSE),
+        "ends_malformed" => (REFUSES, CLOSE),
+        "later" => {
+            mem::swap(&mut play.input, &mut play.after);
+            mem::swap(&mut play.output, &mut play.answer);
+            return true;
+        }
+        _ => return false,
+    };
+    if start.starts_with("POST") {
+        add_message(rt, alloc, &mut play.input, start, end, body);
     } else {
-        return Ok(None);
+        add_message(rt, alloc, &mut play.output, start, end, body);
     }
-    Ok(Some(true))
+    true
 }
 
 /// Requests with the token whose events are durable once they are answered.
-pub(crate) const REQUESTS: &str = r#"- two objects
+pub(crate) const REQUESTS: &str = r#"1 7 8192
+- two objects
 device 20480
 call format 2 4096
 out text 2 slots of 4096 bytes%0a
@@ -170,7 +158,8 @@ ends 0
 same"#;
 
 /// Requests with the token that uses acks, and what their ids are told.
-pub(crate) const IDS: &str = r#"- an id is told true once, in the run that issued it
+pub(crate) const IDS: &str = r#"1 8192
+- an id is told true once, in the run that issued it
 device 20480
 call format 2 4096
 out text 2 slots of 4096 bytes%0a
@@ -200,7 +189,8 @@ says {"text":"Success","code":0,"ackId":8589934592}
 ends 0"#;
 
 /// A spool with no room for a request: the last reply closes, and with an id none follows it.
-pub(crate) const FULL: &str = r#"- two events of RELP, and a request for which no slot is free
+pub(crate) const FULL: &str = r#"8192
+- two events of RELP, and a request for which no slot is free
 device 20480
 call format 2 4096
 out text 2 slots of 4096 bytes%0a
@@ -234,8 +224,8 @@ says {"acks":{"12884901888":false}}
 ends 0"#;
 
 /// A disk that fails or stops at each of its calls while an id is issued, said and settled. In the next run it is unknown.
-pub(crate) const STOPS: &str =
-    r#"- the id is said before its events are taken, and told true only after that
+pub(crate) const STOPS: &str = r#"8192
+- the id is said before its events are taken, and told true only after that
 device 16384
 call format 1 4096
 out text 1 slots of 4096 bytes%0a

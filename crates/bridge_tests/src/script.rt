@@ -1,15 +1,17 @@
 //! Scripts: calls of `bridge` one after another, each line a step.
 
 use crate::cuts::cuts_well;
-use crate::parts::{add, bytes_of, number, word};
+use crate::parts::{MEMORY, add, bytes_of, number, word};
 use crate::play::{Outcome, Play};
 use crate::requests::exchange;
-use crate::sweeps::{Swept, fails_well, stops_well};
+use crate::sweeps::{fails_well, stops_well};
 use bridge_words::note_text;
+use edge_disk::MemDisk;
+use edge_io::MemNet;
 use std::alloc::Global;
+use std::mem;
 use std::process::Abort;
 use std::sync::Wait;
-use std::test::Fail;
 use std::thread::Threads;
 
 /// The `open` of a sender of RELP, 61 bytes, and its answer.
@@ -24,186 +26,154 @@ fn part(bytes: &[u8], from: u64, end: u64) -> &[u8] {
     &bytes[from.min(end) as usize..end as usize]
 }
 
-// Puts these bytes at the offset, and answers whether there was a place for all of them.
-fn put(device: &mut [u8], at: u64, bytes: &[u8]) -> bool {
-    if bytes.len() > device.len() || at > (device.len() - bytes.len()) as u64 {
-        return false;
-    }
+// Puts these bytes at the offset, where there has to be a place for all of them.
+fn put(rt: &impl Abort, device: &mut [u8], at: u64, bytes: &[u8]) {
+    assert!(rt; bytes.len() <= device.len() && at <= (device.len() - bytes.len()) as u64);
     device[at as usize..at as usize + bytes.len()].copy_from_slice(bytes);
+}
+
+// Adds to what the next call and its peer are given, and what these have to leave. Answers whether the step says so.
+fn adds(rt: &impl Abort, alloc: Global, play: &mut Play, step: &str, rest: &str) -> bool {
+    match step {
+        "in" => add(rt, alloc, &mut play.input, rest),
+        "out" => add(rt, alloc, &mut play.output, rest),
+        "replies" => add(rt, alloc, &mut play.replies, rest),
+        "sent" => {
+            play.links = 1;
+            add(rt, alloc, &mut play.sent, rest);
+        }
+        "open" => {
+            play.input.extend_from_slice(OPEN).expect(rt, MEMORY);
+            play.output.extend_from_slice(OPENED).expect(rt, MEMORY);
+        }
+        _ => return false,
+    }
     true
 }
 
-// Begins a call with these words.
-fn begin(alloc: Global, play: &mut Play, words: &str) -> Result<(), Fail> {
-    play.clear();
-    for word in words.split(' ') {
-        if !word.is_empty() {
-            play.words.push(String::from_str(alloc, word)?)?;
+// Says which call of the input, the output, the peer's link or the net fails. Answers whether the step says so.
+fn fails(rt: &impl Abort, play: &mut Play, step: &str, rest: &str) -> bool {
+    let calls = match step {
+        "read" => &mut play.reads,
+        "write" => &mut play.writes,
+        "peer_read" => &mut play.peer_reads,
+        "peer_write" => &mut play.peer_writes,
+        "dial" => &mut play.dials,
+        _ => return false,
+    };
+    calls.push(number(rt, rest)).expect(rt, MEMORY);
+    true
+}
+
+// Begins a call, or says what stands on the device or what may be left. Answers whether the step says so.
+fn lays(rt: &impl Abort, alloc: Global, play: &mut Play, step: &str, rest: &str) -> bool {
+    let (first, spelled) = word(rest);
+    match step {
+        "call" => {
+            let device = mem::replace(&mut play.device, Vec::new(alloc));
+            *play = Play::over(alloc, device, play.piece);
+            play.words = String::from_str(alloc, rest).expect(rt, MEMORY);
+        }
+        "device" => {
+            play.device = vec![in alloc; 0; number(rt, first) as usize].expect(rt, MEMORY);
+        }
+        "put" => {
+            let bytes = bytes_of(rt, alloc, spelled);
+            put(rt, &mut play.device, number(rt, first), &bytes);
+        }
+        "outcome" => {
+            let written = number(rt, first);
+            let lines = bytes_of(rt, alloc, spelled);
+            play.outcomes
+                .push(Outcome { written, lines })
+                .expect(rt, MEMORY);
+        }
+        "leaves" => {
+            let lines = bytes_of(rt, alloc, rest);
+            play.outcomes
+                .push(Outcome { written: 0, lines })
+                .expect(rt, MEMORY);
+            play.is_drain = true;
+        }
+        _ => return false,
+    }
+    true
+}
+
+// Whether the links that were hung up were so many, and were written this, one after another.
+fn was_sent(net: &MemNet, links: usize, sent: &[u8]) -> bool {
+    let mut rest = sent;
+    for hung in net.hung() {
+        match rest.strip_prefix(hung.written.as_slice()) {
+            Some(more) => rest = more,
+            None => return false,
         }
     }
-    Ok(())
-}
-
-// Says what the next call is given, and what it has to leave. None: the step is none of these.
-fn set(alloc: Global, play: &mut Play, step: &str, rest: &str) -> Result<Option<bool>, Fail> {
-    if step == "call" {
-        begin(alloc, play, rest)?;
-    } else if step == "in" {
-        add(alloc, &mut play.input, rest)?;
-    } else if step == "out" {
-        add(alloc, &mut play.output, rest)?;
-    } else if step == "open" {
-        play.input.extend_from_slice(OPEN)?;
-        play.output.extend_from_slice(OPENED)?;
-    } else if step == "read" {
-        play.reads.push(number(rest)?)?;
-    } else if step == "write" {
-        play.writes.push(number(rest)?)?;
-    } else {
-        return Ok(None);
-    }
-    Ok(Some(true))
-}
-
-// Says what the peer at the place does, and what it has to be sent. None: the step is none of these.
-fn peer(alloc: Global, play: &mut Play, step: &str, rest: &str) -> Result<Option<bool>, Fail> {
-    if step == "replies" {
-        add(alloc, &mut play.replies, rest)?;
-    } else if step == "sent" {
-        play.links = 1;
-        add(alloc, &mut play.sent, rest)?;
-    } else if step == "peer_read" {
-        play.peer_reads.push(number(rest)?)?;
-    } else if step == "peer_write" {
-        play.peer_writes.push(number(rest)?)?;
-    } else if step == "dial" {
-        play.dials.push(number(rest)?)?;
-    } else {
-        return Ok(None);
-    }
-    Ok(Some(true))
-}
-
-// Says what stands on the device, or what may be left. None: the step is none of these.
-fn lay(alloc: Global, play: &mut Play, step: &str, rest: &str) -> Result<Option<bool>, Fail> {
-    let (first, spelled) = word(rest);
-    if step == "device" {
-        play.device = vec![in alloc; 0; number(first)? as usize]?;
-    } else if step == "put" {
-        let bytes = bytes_of(alloc, spelled)?;
-        return Ok(Some(put(&mut play.device, number(first)?, &bytes)));
-    } else if step == "outcome" {
-        let written = number(first)?;
-        let lines = bytes_of(alloc, spelled)?;
-        play.outcomes.push(Outcome { written, lines })?;
-    } else if step == "leaves" {
-        let lines = bytes_of(alloc, rest)?;
-        play.outcomes.push(Outcome { written: 0, lines })?;
-        play.is_drain = true;
-    } else {
-        return Ok(None);
-    }
-    Ok(Some(true))
+    rest.is_empty() && net.hung().len() == links
 }
 
 // Makes the call, and answers whether it ends so and writes what is wanted.
-fn end<R: Threads + Wait + Sync>(
+fn ends<R: Abort + Threads + Wait + Sync>(
     rt: &R,
     alloc: Global,
     play: &mut Play,
     rest: &str,
-) -> Result<bool, Fail> {
+) -> bool {
     let (status, note) = word(rest);
-    let status = number(status)?;
-    let left = play.call(rt, alloc, play.sound(alloc)?)?;
-    let text = note_text(alloc, &left.note)?;
-    let ends = u64::from(left.status) == status && text.bytes() == note.as_bytes();
-    let after = left.disk.bytes().to_vec(alloc)?;
-    let is_sent = left.sent == play.sent && left.links == play.links;
-    let is_right = ends
-        && is_sent
-        && left.written == play.output
-        && after.len() == play.device.len();
-    play.before = play.device.to_vec(alloc)?;
-    play.device = after;
-    Ok(is_right)
+    let device = play.device.to_vec(alloc).expect(rt, MEMORY);
+    let left = play.call(rt, alloc, MemDisk::of(device, Vec::new(alloc)));
+    let text = note_text(alloc, &left.note).expect(rt, MEMORY);
+    let is_told = u64::from(left.status) == number(rt, status) && text.bytes() == note.as_bytes();
+    let is_sent = was_sent(&left.net, play.links, &play.sent);
+    let after = left.disk.bytes().to_vec(alloc).expect(rt, MEMORY);
+    let is_kept = after.len() == play.device.len();
+    play.before = mem::replace(&mut play.device, after);
+    is_told && is_sent && is_kept && left.output.taken() == play.output.as_slice()
 }
 
 // The numbers of a text, with a space between them; `61*0` stands for 61 of them that are 0.
-fn numbers(alloc: Global, text: &str) -> Result<Vec<u64>, Fail> {
+fn numbers(rt: &impl Abort, alloc: Global, text: &str) -> Vec<u64> {
     let mut all = Vec::new(alloc);
     for word in text.split(' ') {
         let (count, one) = word.split_once('*').unwrap_or(("1", word));
-        for _ in 0..number(count)? {
-            all.push(number(one)?)?;
+        for _ in 0..number(rt, count) {
+            all.push(number(rt, one)).expect(rt, MEMORY);
         }
     }
-    Ok(all)
+    all
+}
+
+// Whether these bytes stand on the device at the offset.
+fn holds(rt: &impl Abort, alloc: Global, play: &Play, at: u64, spelled: &str) -> bool {
+    let bytes = bytes_of(rt, alloc, spelled);
+    let end = at.saturating_add(bytes.len() as u64);
+    part(&play.device, at, end) == bytes.as_slice()
 }
 
 // Makes the call, or looks at what the last one left.
-fn look<R: Threads + Wait + Sync>(
+fn looks<R: Abort + Threads + Wait + Sync>(
     rt: &R,
     alloc: Global,
     play: &mut Play,
     step: &str,
     rest: &str,
-) -> Result<bool, Fail> {
-    if step == "ends" {
-        return end(rt, alloc, play, rest);
+) -> bool {
+    let (first, more) = word(rest);
+    match step {
+        "ends" => ends(rt, alloc, play, rest),
+        "same" => play.before == play.device,
+        "fails" => fails_well(rt, alloc, play, first, &numbers(rt, alloc, more)),
+        "stops" => stops_well(rt, alloc, play),
+        "cuts" => cuts_well(rt, alloc, play, &numbers(rt, alloc, rest)),
+        "keeps" => {
+            let (from, end) = (number(rt, first), number(rt, more));
+            part(&play.before, from, end) == part(&play.device, from, end)
+        }
+        _ => step == "holds" && holds(rt, alloc, play, number(rt, first), more),
     }
-    if step == "same" {
-        return Ok(play.before == play.device);
-    }
-    if step == "fails" {
-        let (name, places) = word(rest);
-        let swept = Swept::named(name).ok_or("no such object")?;
-        return Ok(fails_well(rt, alloc, play, swept, &numbers(alloc, places)?)?);
-    }
-    if step == "stops" {
-        return Ok(stops_well(rt, alloc, play)?);
-    }
-    if step == "cuts" {
-        return Ok(cuts_well(rt, alloc, play, &numbers(alloc, rest)?)?);
-    }
-    let (first, rest) = word(rest);
-    let first = number(first)?;
-    if step == "keeps" {
-        let end = number(rest)?;
-        return Ok(part(&play.before, first, end) == part(&play.device, first, end));
-    }
-    let bytes = bytes_of(alloc, rest)?;
-    let end = first.saturating_add(bytes.len() as u64);
-    Ok(step == "holds" && part(&play.device, first, end) == bytes.as_slice())
 }
 
-// Does one step, and answers whether all is as it has to be.
-fn follow<R: Threads + Wait + Sync>(
-    rt: &R,
-    alloc: Global,
-    play: &mut Play,
-    line: &str,
-) -> Result<bool, Fail> {
-    let (step, rest) = word(line);
-    if step.is_empty() || step == "-" {
-        return Ok(true);
-    }
-    if let Some(is_right) = set(alloc, play, step, rest)? {
-        return Ok(is_right);
-    }
-    if let Some(is_right) = exchange(alloc, play, step, rest)? {
-        return Ok(is_right);
-    }
-    if let Some(is_right) = peer(alloc, play, step, rest)? {
-        return Ok(is_right);
-    }
-    if let Some(is_right) = lay(alloc, play, step, rest)? {
-        return Ok(is_right);
-    }
-    look(rt, alloc, play, step, rest)
-}
-
-/// Follows a script, with reads of at most so many bytes.
+/// Follows a script, with reads of at most so many bytes. Each line is a step:
 ///
 /// - `- TEXT`: what comes next;
 /// - `device SIZE`: a device of so many zeros; `put AT BYTES`: bytes that are put on it;
@@ -237,13 +207,27 @@ pub(crate) fn run_script<R: Abort + Threads + Wait + Sync>(
     alloc: Global,
     script: &str,
     piece: usize,
-) -> Result<(), Fail> {
-    let mut play = Play::new(alloc, piece);
+) {
+    let mut play = Play::over(alloc, Vec::new(alloc), piece);
     for line in script.lines() {
+        let (step, rest) = word(line);
+        let is_set = step.is_empty()
+            || step == "-"
+            || adds(rt, alloc, &mut play, step, rest)
+            || fails(rt, &mut play, step, rest)
+            || exchange(rt, alloc, &mut play, step, rest)
+            || lays(rt, alloc, &mut play, step, rest);
         assert!(rt;
-            follow(rt, alloc, &mut play, line)?,
+            is_set || looks(rt, alloc, &mut play, step, rest),
             "{line} (reads of {piece} bytes)"
         );
     }
-    Ok(())
+}
+
+/// Follows a script once for each number in its first line, with reads of at most so many bytes. The lines after it are the steps.
+pub(crate) fn run_scripts<R: Abort + Threads + Wait + Sync>(rt: &R, alloc: Global, script: &str) {
+    let (pieces, steps) = script.split_once('\n').expect(rt, "a first line");
+    for piece in &numbers(rt, alloc, pieces) {
+        run_script(rt, alloc, steps, *piece as usize);
+    }
 }

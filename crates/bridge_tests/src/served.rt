@@ -1,15 +1,17 @@
 //! `serve` over doors in memory: what it prints, and what each call that fails leaves.
-use crate::failing::{Failing, Object, calls_of, net};
+
+use crate::failing::{
+    DISK, Failing, NET, OUTPUT, PEER_READ, PEER_WRITE, READ, WRITE, calls_of, net,
+};
+use crate::parts::MEMORY;
 use crate::places::{EVENTS, PLACES, Place, WORDS};
-use crate::spools::{formatted, listed, nothing, words_of};
-use bridge_core::{Ended, bridge};
+use crate::play::{Left, formatted, made, plain};
 use bridge_words::Note;
 use edge_disk::{Disk, MemDisk};
-use edge_io::{MemDoor, MemNet, MemSink, Net, Sink};
-use std::alloc::{AllocError, Global};
+use edge_io::{MemDoor, MemNet, MemSink, MemSource, Net, Sink};
+use std::alloc::Global;
 use std::process::Abort;
 use std::sync::Wait;
-use std::test::Fail;
 use std::thread::Threads;
 
 /// What is printed where no call fails.
@@ -30,10 +32,8 @@ struct Sessions {
 
 /// What a run left.
 #[derive(Drop)]
-struct Left {
-    note: Note,
-    printed: Vec<u8>,
-    doors: Vec<MemDoor>,
+struct Served {
+    left: Left,
     sessions: Sessions,
     /// The events that are pending, a line each.
     pending: Vec<u8>,
@@ -41,36 +41,32 @@ struct Left {
     comes_next: bool,
 }
 
-fn sessions_of(alloc: Global, net: &MemNet) -> Result<Sessions, AllocError> {
-    let mut sessions = Sessions {
-        sent: Vec::new(alloc),
-        has_cut: false,
-        is_cut: false,
-    };
+fn sessions_of(rt: &impl Abort, alloc: Global, net: &MemNet) -> Sessions {
+    let mut sent = Vec::new(alloc);
+    let (mut has_cut, mut is_cut) = (false, false);
     for hung in net.hung() {
-        sessions.sent.extend_from_slice(&hung.written)?;
-        sessions.is_cut = !hung.written.ends_with(CLOSE);
-        sessions.has_cut = sessions.has_cut || sessions.is_cut;
+        sent.extend_from_slice(&hung.written).expect(rt, MEMORY);
+        is_cut = !hung.written.ends_with(CLOSE);
+        has_cut = has_cut || is_cut;
     }
-    Ok(sessions)
+    Sessions {
+        sent,
+        has_cut,
+        is_cut,
+    }
 }
 
 // Whether the call of the disk, the net or the output that is to fail is one of the next ones: a sync, a bind of no door or a write
 // of nothing.
-fn comes_next(
-    failing: Failing,
-    disk: &mut MemDisk,
-    net: &mut MemNet,
-    output: &mut MemSink,
-) -> bool {
+fn comes_next(failing: Failing, left: &mut Left) -> bool {
     let Some((object, number)) = failing else {
         return false;
     };
     for _ in 0..=number {
         let fails = match object {
-            Object::Disk => disk.sync().is_err(),
-            Object::Net => net.bind("", 0).is_err(),
-            Object::Output => output.write(&[]).is_err(),
+            DISK => left.disk.sync().is_err(),
+            NET => left.net.bind("", 0).is_err(),
+            OUTPUT => left.output.write(&[]).is_err(),
             _ => false,
         };
         if fails {
@@ -81,38 +77,25 @@ fn comes_next(
 }
 
 // A run in which that call fails.
-fn run<R: Threads + Wait + Sync>(
-    rt: &R,
-    alloc: Global,
-    failing: Failing,
-) -> Result<Left, AllocError> {
-    let bytes = formatted(rt, alloc)?.bytes().to_vec(alloc)?;
-    let disk = MemDisk::of(bytes, calls_of(alloc, failing, Object::Disk)?);
-    let mut net = net(alloc, failing)?;
-    let mut output = MemSink::of(alloc, calls_of(alloc, failing, Object::Output)?);
-    let words = words_of(alloc, WORDS)?;
-    let Ended {
-        note,
-        mut disk,
-        doors,
-        ..
-    } = bridge(
+fn run<R: Abort + Threads + Wait + Sync>(rt: &R, alloc: Global, failing: Failing) -> Served {
+    let device = formatted(rt, alloc);
+    let mut left = made(
         rt,
         alloc,
-        &words,
-        disk,
-        &mut nothing(alloc),
-        &mut output,
-        &mut net,
+        WORDS,
+        MemDisk::of(device, calls_of(rt, alloc, failing, DISK)),
+        MemSource::of(Vec::new(alloc), 1, Vec::new(alloc)),
+        MemSink::of(alloc, calls_of(rt, alloc, failing, OUTPUT)),
+        net(rt, alloc, failing),
     );
-    Ok(Left {
-        note,
-        printed: output.taken().to_vec(alloc)?,
-        doors,
-        sessions: sessions_of(alloc, &net)?,
-        comes_next: comes_next(failing, &mut disk, &mut net, &mut output),
-        pending: listed(rt, alloc, disk)?,
-    })
+    let comes_next = comes_next(failing, &mut left);
+    let list = plain(rt, alloc, "list --as relp", &[], 1, left.disk.bytes());
+    Served {
+        sessions: sessions_of(rt, alloc, &left.net),
+        left,
+        pending: list.output.taken().to_vec(alloc).expect(rt, MEMORY),
+        comes_next,
+    }
 }
 
 // Whether some bytes have others among them.
@@ -126,7 +109,7 @@ fn has(bytes: &[u8], part: &[u8]) -> bool {
 }
 
 // Whether each event that was acknowledged to the link of a place is pending, or was sent.
-fn is_kept(place: &Place, written: &[u8], left: &Left) -> bool {
+fn is_kept(place: &Place, written: &[u8], run: &Served) -> bool {
     let mut rest = written;
     for answer in place.answers {
         match rest.strip_prefix(answer.text) {
@@ -134,7 +117,7 @@ fn is_kept(place: &Place, written: &[u8], left: &Left) -> bool {
             None => return true,
         }
         for event in answer.events {
-            if !has(&left.pending, event) && !has(&left.sessions.sent, event) {
+            if !has(&run.pending, event) && !has(&run.sessions.sent, event) {
                 return false;
             }
         }
@@ -143,10 +126,14 @@ fn is_kept(place: &Place, written: &[u8], left: &Left) -> bool {
 }
 
 // Whether that holds of all places.
-fn are_kept(left: &Left) -> bool {
-    for (place, door) in PLACES.iter().zip(left.doors.iter()) {
-        for talk in door.talks() {
-            if !is_kept(place, &talk.written, left) {
+fn are_kept(run: &Served) -> bool {
+    let doors = run.left.doors.as_slice();
+    for number in 0..doors.len() {
+        let Some(place) = PLACES.get(number) else {
+            return false;
+        };
+        for talk in doors[number].talks() {
+            if !is_kept(place, &talk.written, run) {
                 return false;
             }
         }
@@ -154,99 +141,72 @@ fn are_kept(left: &Left) -> bool {
     true
 }
 
-// How many lines these are.
-fn lines(bytes: &[u8]) -> u64 {
-    let mut count = 0_u64;
-    for byte in bytes {
-        if *byte == b'\n' {
-            count = count.saturating_add(1);
-        }
-    }
-    count
-}
-
-// Whether the line that was printed says that so many are left.
-fn says_left(alloc: Global, left: &Left, count: u64) -> Result<bool, AllocError> {
-    let end = format!(in alloc; ", {count} left\n")?;
-    Ok(left.printed.ends_with(end.as_bytes()))
-}
-
 // Whether the line says how many are pending. At a fault of the disk it may say more, at most all events: the last change may have
 // failed at the disk and stand there all the same, so that the disk may read fewer pending lines than the line counted.
-fn counts_left(alloc: Global, left: &Left) -> Result<bool, AllocError> {
-    let pending = lines(&left.pending);
-    let most = if left.note == Note::DiskFault {
-        EVENTS
-    } else {
-        pending
-    };
-    for count in pending..=most {
-        if says_left(alloc, left, count)? {
-            return Ok(true);
+fn counts_left(rt: &impl Abort, alloc: Global, run: &Served) -> bool {
+    let mut pending = 0_u64;
+    for byte in &run.pending {
+        if *byte == b'\n' {
+            pending = pending.saturating_add(1);
         }
     }
-    Ok(false)
-}
-
-// Whether a run prints nothing where that call fails: the print itself fails, or no worker began.
-fn may_be_silent(object: Object, number: u64, note: Note) -> bool {
-    match object {
-        Object::Output => true,
-        Object::Net => number < 3,
-        Object::Disk => note == Note::DiskFault,
-        Object::Accept(_)
-        | Object::Read(_)
-        | Object::Write(_)
-        | Object::PeerRead
-        | Object::PeerWrite => false,
-    }
-}
-
-// Whether the line was printed, or nothing where that may be.
-fn is_printed(alloc: Global, object: Object, number: u64, left: &Left) -> Result<bool, AllocError> {
-    if left.printed.is_empty() {
-        return Ok(may_be_silent(object, number, left.note));
-    }
-    counts_left(alloc, left)
-}
-
-// The status of the talk at this place; none where no link was served.
-fn status_at(left: &Left, place: u8) -> Option<u8> {
-    let Some(door) = left.doors.get(usize::from(place)) else {
-        return None;
+    let most = match run.left.note {
+        Note::DiskFault => EVENTS,
+        _ => pending,
     };
-    match door.talks().get(0) {
-        Some(talk) => Some(talk.status),
-        None => None,
+    for count in pending..=most {
+        let end = format!(in alloc; ", {count} left\n").expect(rt, MEMORY);
+        if run.left.output.taken().ends_with(end.as_bytes()) {
+            return true;
+        }
+    }
+    false
+}
+
+// Whether the line was printed, or nothing where that may be: the print itself fails, or no worker began.
+fn is_printed(rt: &impl Abort, alloc: Global, object: usize, number: u64, run: &Served) -> bool {
+    if !run.left.output.taken().is_empty() {
+        return counts_left(rt, alloc, run);
+    }
+    match run.left.note {
+        Note::DiskFault if object == DISK => true,
+        _ => object == OUTPUT || (object == NET && number < 3),
     }
 }
 
 // Whether the run made the call that was to fail.
-fn is_reached(object: Object, left: &Left) -> bool {
-    match object {
-        Object::Disk | Object::Net | Object::Output => !left.comes_next,
-        Object::Accept(place) | Object::Read(place) | Object::Write(place) => {
-            status_at(left, place) != Some(0)
-        }
-        Object::PeerRead | Object::PeerWrite => left.sessions.has_cut,
+fn is_reached(object: usize, run: &Served) -> bool {
+    if object >= NET {
+        return !run.comes_next;
+    }
+    if object >= PEER_READ {
+        return run.sessions.has_cut;
+    }
+    let talks = match run.left.doors.get(object % 3) {
+        Some(door) => door.talks(),
+        None => return true,
+    };
+    match talks {
+        [talk, ..] => talk.status != 0,
+        [] => true,
     }
 }
 
 // Whether a run may end so where that call fails. How talks end doesn't count, nor sessions before the last one. The first call of
 // the disk opens the spool; in each session the open is written, its answer read, and an event written.
-fn may_end(object: Object, number: u64, left: &Left) -> bool {
-    let note = left.note;
-    match object {
-        Object::Disk if number == 0 => note == Note::DiskFault,
-        Object::Disk => note == Note::Fine || note == Note::DiskFault,
-        Object::Accept(_) => note == Note::NetFault,
-        Object::Read(_) | Object::Write(_) => note == Note::Fine,
-        Object::Net if number < 3 => note == Note::NetFault,
-        Object::Net => note == Note::Fine || note == Note::NetFault,
-        Object::PeerRead => note == Note::ReadFault && left.sessions.is_cut,
-        Object::PeerWrite if note == Note::Fine => number > 1,
-        Object::PeerWrite => note == Note::WriteFault && left.sessions.is_cut,
-        Object::Output => note == Note::WriteFault,
+fn may_end(object: usize, number: u64, run: &Served) -> bool {
+    match run.left.note {
+        Note::Fine => match object {
+            DISK => number > 0,
+            NET => number > 2,
+            PEER_WRITE => number > 1,
+            _ => object >= READ && object < PEER_READ,
+        },
+        Note::DiskFault => object == DISK,
+        Note::NetFault => object == NET || object < READ,
+        Note::ReadFault => object == PEER_READ && run.sessions.is_cut,
+        Note::WriteFault => object == OUTPUT || (object == PEER_WRITE && run.sessions.is_cut),
+        _ => false,
     }
 }
 
@@ -264,30 +224,37 @@ fn is_answered(place: &Place, written: &[u8]) -> bool {
 
 // Whether the talk at this place ended with this status, answered whole where that is 0; or whether there was none.
 fn ends_talk(place: &Place, door: &MemDoor, status: Option<u8>) -> bool {
-    let Some(talk) = door.talks().get(0) else {
-        return status.is_none();
-    };
-    status == Some(talk.status) && (talk.status != 0 || is_answered(place, &talk.written))
-}
-
-// How the talk at a place ends where that call fails; there is none where its accept fails.
-fn status_by(object: Object, place: u8) -> Option<u8> {
-    match object {
-        Object::Accept(at) if at == place => None,
-        Object::Read(at) if at == place => Some(71),
-        Object::Write(at) if at == place => Some(72),
-        _ => Some(0),
+    match (door.talks(), status) {
+        ([talk, ..], Some(status)) => {
+            talk.status == status && (status != 0 || is_answered(place, &talk.written))
+        }
+        ([], None) => true,
+        _ => false,
     }
 }
 
-// Whether each talk ended as it has to where that call fails. One call of the disk may end one talk, whichever made it.
-fn talks_end(object: Object, left: &Left) -> bool {
-    let mut has_fault = object != Object::Disk;
-    for (number, (place, door)) in PLACES.iter().zip(left.doors.iter()).enumerate() {
-        if ends_talk(place, door, status_by(object, (number % 3) as u8)) {
+// Whether each talk ended as it has to where that call fails; there is none where its accept fails. One call of the disk may end one
+// talk, whichever made it.
+fn talks_end(object: usize, run: &Served) -> bool {
+    let mut has_fault = object != DISK;
+    let doors = run.left.doors.as_slice();
+    for number in 0..doors.len() {
+        let Some(place) = PLACES.get(number) else {
+            return false;
+        };
+        let status = if object == number {
+            None
+        } else if object == READ.saturating_add(number) {
+            Some(71)
+        } else if object == WRITE.saturating_add(number) {
+            Some(72)
+        } else {
+            Some(0)
+        };
+        if ends_talk(place, &doors[number], status) {
             continue;
         }
-        if has_fault || !ends_talk(place, door, Some(73)) {
+        if has_fault || !ends_talk(place, &doors[number], Some(73)) {
             return false;
         }
         has_fault = true;
@@ -295,76 +262,70 @@ fn talks_end(object: Object, left: &Left) -> bool {
     true
 }
 
-// Whether a run left all that it has to where no call fails.
-fn is_whole(left: &Left) -> bool {
-    for (place, door) in PLACES.iter().zip(left.doors.iter()) {
-        if !ends_talk(place, door, Some(0)) {
-            return false;
-        }
-    }
-    let is_printed = left.note == Note::Fine && left.printed.as_slice() == LINE;
-    is_printed && left.doors.len() == 3 && left.pending.is_empty() && are_kept(left)
+// Whether a run left all that it has to where no call fails. A print that fails ends no talk.
+fn is_whole(run: &Served) -> bool {
+    let is_printed = match run.left.note {
+        Note::Fine => run.left.output.taken() == LINE,
+        _ => false,
+    };
+    let is_all = run.left.doors.len() == 3 && run.pending.is_empty();
+    is_printed && is_all && talks_end(OUTPUT, run) && are_kept(run)
 }
 
 // Whether a run left what it has to where that call fails.
-fn is_right(alloc: Global, object: Object, number: u64, left: &Left) -> Result<bool, AllocError> {
-    if !is_reached(object, left) {
-        return Ok(is_whole(left));
+fn is_right(rt: &impl Abort, alloc: Global, object: usize, number: u64, run: &Served) -> bool {
+    if !is_reached(object, run) {
+        return is_whole(run);
     }
-    let is_told = may_end(object, number, left) && talks_end(object, left);
-    Ok(is_told && are_kept(left) && is_printed(alloc, object, number, left)?)
+    let is_told = may_end(object, number, run) && talks_end(object, run);
+    is_told && are_kept(run) && is_printed(rt, alloc, object, number, run)
 }
 
-// The objects; how many calls each run makes of each, at least; and how many at most. Of the net these are three binds, and a dial
-// for each session, which confirms an event at least; of the peer the one read of a session, and the writes of its open, its events
-// and its close; of the disk those of an opening and of four groups, and at most those of seven sessions besides.
-const CALLS: &[(Object, u64, u64)] = &[
-    (Object::Accept(0), 1, 1),
-    (Object::Accept(1), 1, 1),
-    (Object::Accept(2), 1, 1),
-    (Object::Read(0), 2, 2),
-    (Object::Read(1), 2, 2),
-    (Object::Read(2), 3, 3),
-    (Object::Write(0), 3, 3),
-    (Object::Write(1), 1, 1),
-    (Object::Write(2), 1, 1),
-    (Object::Net, 4, 10),
-    (Object::PeerRead, 1, 1),
-    (Object::PeerWrite, 3, 9),
-    (Object::Output, 1, 1),
-    (Object::Disk, 30, 160),
+// How many calls each run makes of each object, at least, and at most; in the order of their numbers. Of the peer these are the one
+// read of a session, and the writes of its open, its events and its close; of the net three binds, and a dial for each session, which
+// confirms an event at least; of the disk those of an opening and of four groups, and at most those of seven sessions besides.
+const CALLS: [(&str, u64, u64); 14] = [
+    ("accept at r", 1, 1),
+    ("accept at l", 1, 1),
+    ("accept at h", 1, 1),
+    ("read at r", 2, 2),
+    ("read at l", 2, 2),
+    ("read at h", 3, 3),
+    ("write at r", 3, 3),
+    ("write at l", 1, 1),
+    ("write at h", 1, 1),
+    ("read of the peer", 1, 1),
+    ("write to the peer", 3, 9),
+    ("net", 4, 10),
+    ("output", 1, 1),
+    ("disk", 30, 160),
 ];
 
-// One call after another fails, until one is none of the run's.
-fn fail_each<R: Abort + Threads + Wait + Sync>(
+// A run in which that call fails: its note, and whether it left what it has to, and made the call or not as the counts say.
+fn run_failing<R: Abort + Threads + Wait + Sync>(
     rt: &R,
     alloc: Global,
-    object: Object,
+    (object, number): (usize, u64),
     least: u64,
     most: u64,
-) -> Result<(), Fail> {
-    for number in 0..=most {
-        let left = run(rt, alloc, Some((object, number)))?;
-        let note = left.note;
-        let was_made = is_reached(object, &left);
-        assert!(rt;
-            (was_made || number >= least) && (!was_made || number < most),
-            "{object:?} {number}: made: {was_made}"
-        );
-        assert!(rt;
-            is_right(alloc, object, number, &left)?,
-            "{object:?} {number}: {note:?}"
-        );
-    }
-    Ok(())
+) -> (Note, bool) {
+    let run = run(rt, alloc, Some((object, number)));
+    let is_counted = if is_reached(object, &run) {
+        number < most
+    } else {
+        number >= least
+    };
+    let is_right = is_right(rt, alloc, object, number, &run);
+    (run.left.note, is_counted && is_right)
 }
 
-#[test]
-fn three_places_are_served(rt: HostRuntime) -> Result<(), Fail> {
-    let left = run(&rt, rt.alloc(), None)?;
-    assert!(rt; is_whole(&left));
-    for (object, least, most) in CALLS {
-        fail_each(&rt, rt.alloc(), *object, *least, *most)?;
+/// One call after another of each object fails, until one is none of the run's.
+pub(crate) fn serve_places<R: Abort + Threads + Wait + Sync>(rt: &R, alloc: Global) {
+    assert!(rt; is_whole(&run(rt, alloc, None)));
+    for (object, (name, least, most)) in CALLS.iter().enumerate() {
+        for number in 0..=*most {
+            let (note, is_right) = run_failing(rt, alloc, (object, number), *least, *most);
+            assert!(rt; is_right, "{name} {number}: {note:?}");
+        }
     }
-    Ok(())
 }

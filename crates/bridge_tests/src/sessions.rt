@@ -1,7 +1,8 @@
 //! Sessions of RELP.
 
 /// Sessions over a new spool, and what is listed then.
-pub(crate) const SESSIONS: &str = r#"- one event
+pub(crate) const SESSIONS: &str = r#"1 7 8192
+- one event
 device 20480
 call format 2 4096
 out text 2 slots of 4096 bytes%0a
@@ -181,7 +182,8 @@ ends 0
 same"#;
 
 /// An empty input, and the longest event.
-pub(crate) const NO_INPUT: &str = r#"- no input by RELP: the run is raised, and nothing else changes
+pub(crate) const NO_INPUT: &str = r#"8192
+- no input by RELP: the run is raised, and nothing else changes
 device 20480
 call format 2 4096
 out text 2 slots of 4096 bytes%0a

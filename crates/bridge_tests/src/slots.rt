@@ -1,7 +1,8 @@
 //! Events of RELP that fill the slots of a spool.
 
 /// Which events are stored, where, and what is answered.
-pub(crate) const SLOTS: &str = r#"- one slot that is full
+pub(crate) const SLOTS: &str = r#"8192
+- one slot that is full
 device 16384
 call format 1 4096
 out text 1 slots of 4096 bytes%0a
@@ -212,15 +213,15 @@ out text 1 slots of 16384 bytes%0a
 ends 0
 call replay relp
 open
-in decimals 2 300  syslog 1 a%0a
-out decimals 2 300  rsp 6 200 OK%0a
+in times 300 %n2 syslog 1 a%0a
+out times 300 %n2 rsp 6 200 OK%0a
 ends 0
 call list
-out lines 300 2 relp 1%0a
+out times 300 %n0 4294967296 %n0 %n2 relp 1%0a
 ends 0
 same
 call list
 write 1
-out lines 256 2 relp 1%0a
+out times 256 %n0 4294967296 %n0 %n2 relp 1%0a
 ends 72 write fault
 same"#;

@@ -1,9 +1,11 @@
 //! A call that is made again and again, each time with another call of its disk, its input or its output failing, or with its disk
 //! stopping there.
 
-use crate::play::{Left, Outcome, Play};
+use crate::parts::MEMORY;
+use crate::play::{Left, Play, plain};
 use edge_disk::{Crash, MemDisk};
-use std::alloc::{AllocError, Global};
+use std::alloc::Global;
+use std::process::Abort;
 use std::sync::Wait;
 use std::thread::Threads;
 
@@ -13,40 +15,12 @@ const WRONG: u64 = u64::MAX;
 // More calls than are made of a disk, an input or an output.
 const CALLS: u64 = 1000;
 
-// The status where a call of the disk failed.
+// The statuses where a call of the disk, the input or the output failed.
 const DISK_FAULT: u8 = 73;
 
-/// Whose calls fail, one at a time.
-#[derive(Clone, Copy, PartialEq, Eq)]
-pub(crate) enum Swept {
-    Disk,
-    Input,
-    Output,
-}
+const READ_FAULT: u8 = 71;
 
-impl Swept {
-    /// The one of that name.
-    pub(crate) fn named(name: &str) -> Option<Swept> {
-        if name == "disk" {
-            Some(Swept::Disk)
-        } else if name == "input" {
-            Some(Swept::Input)
-        } else if name == "output" {
-            Some(Swept::Output)
-        } else {
-            None
-        }
-    }
-
-    // The status where one of its calls failed.
-    fn status(self) -> u8 {
-        match self {
-            Swept::Disk => DISK_FAULT,
-            Swept::Input => 71,
-            Swept::Output => 72,
-        }
-    }
-}
+const WRITE_FAULT: u8 = 72;
 
 const CRASHES: [Crash; 5] = [
     Crash::Synced,
@@ -56,39 +30,19 @@ const CRASHES: [Crash; 5] = [
     Crash::Filled(255),
 ];
 
-/// What `list` prints of a device; nothing where it doesn't end well.
-pub(crate) fn listed<R: Threads + Wait + Sync>(
-    rt: &R,
-    alloc: Global,
-    device: Vec<u8>,
-) -> Result<Option<Vec<u8>>, AllocError> {
-    let mut play = Play::new(alloc, 8192);
-    play.words.push(String::from_str(alloc, "list")?)?;
-    let left = play.call(rt, alloc, MemDisk::of(device, Vec::new(alloc)))?;
-    if left.status == 0 {
-        Ok(Some(left.written))
-    } else {
-        Ok(None)
-    }
-}
-
 // Whether the same words, with the input that is kept for it, then write what is wanted over a device.
-fn answers_later<R: Threads + Wait + Sync>(
+fn answers_later<R: Abort + Threads + Wait + Sync>(
     rt: &R,
     alloc: Global,
     play: &Play,
-    device: Vec<u8>,
-) -> Result<bool, AllocError> {
+    device: &[u8],
+) -> bool {
     if play.after.is_empty() {
-        return Ok(true);
+        return true;
     }
-    let mut later = Play::new(alloc, play.piece);
-    for word in &play.words {
-        later.words.push(String::from_str(alloc, word.as_str())?)?;
-    }
-    later.input = play.after.to_vec(alloc)?;
-    let left = later.call(rt, alloc, MemDisk::of(device, Vec::new(alloc)))?;
-    Ok(left.status == 0 && left.written == play.answer)
+    let words = play.words.as_str();
+    let left = plain(rt, alloc, words, &play.after, play.piece, device);
+    left.status == 0 && left.output.taken() == play.answer.as_slice()
 }
 
 // Where the outcomes have this one.
@@ -102,14 +56,6 @@ fn place_of(play: &Play, written: u64, lines: &[u8]) -> u64 {
         place = place.saturating_add(1);
     }
     WRONG
-}
-
-// The bytes that a disk has, or that a crash leaves of it.
-fn bytes_after(alloc: Global, disk: MemDisk, crash: Option<Crash>) -> Result<Vec<u8>, AllocError> {
-    match crash {
-        Some(choice) => disk.crash(choice).bytes().to_vec(alloc),
-        None => disk.bytes().to_vec(alloc),
-    }
 }
 
 // Whether no call failed that has this status: the call ended well, or as the peer of a session ends it.
@@ -126,122 +72,115 @@ fn is_right(play: &Play, status: u8, written: &[u8], found: u64) -> bool {
         return is_last || status == DISK_FAULT;
     }
     let is_whole = written.len() == play.output.len();
-    let is_told = play.output.is_empty() || is_fine == is_whole || status == Swept::Input.status();
+    let is_told = play.output.is_empty() || is_fine == is_whole || status == READ_FAULT;
     play.output.starts_with(written) && is_told && (is_last || !is_fine)
 }
 
 // Makes the call over this disk, which then may crash. Answers the status, and the outcome.
-fn outcome_over<R: Threads + Wait + Sync>(
+fn outcome_over<R: Abort + Threads + Wait + Sync>(
     rt: &R,
     alloc: Global,
     play: &Play,
     disk: MemDisk,
     crash: Option<Crash>,
-) -> Result<(u8, u64), AllocError> {
+) -> (u8, u64) {
     let Left {
         status,
-        note: _,
-        written,
         disk,
-        sent: _,
-        links: _,
-    } = play.call(rt, alloc, disk)?;
-    let device = bytes_after(alloc, disk, crash)?;
-    if !answers_later(rt, alloc, play, device.to_vec(alloc)?)? {
-        return Ok((status, WRONG));
-    }
-    let Some(lines) = listed(rt, alloc, device)? else {
-        return Ok((status, WRONG));
+        output,
+        ..
+    } = play.call(rt, alloc, disk);
+    let disk = match crash {
+        Some(choice) => disk.crash(choice),
+        None => disk,
     };
-    let found = place_of(play, written.len() as u64, &lines);
-    if is_right(play, status, &written, found) {
-        Ok((status, found))
+    let written = output.taken();
+    let list = plain(rt, alloc, "list", &[], 1, disk.bytes());
+    let found = place_of(play, written.len() as u64, list.output.taken());
+    let is_told = list.status == 0 && is_right(play, status, written, found);
+    if is_told && answers_later(rt, alloc, play, disk.bytes()) {
+        (status, found)
     } else {
-        Ok((status, WRONG))
+        (status, WRONG)
     }
 }
 
-// Makes the call with that call of its disk, its input or its output failing, and no other one. Answers the status, and the
-// outcome.
-fn outcome_failing<R: Threads + Wait + Sync>(
+// Makes the call with the call of this number failing that has this status, and no other one. Answers the status, and the outcome.
+fn outcome_failing<R: Abort + Threads + Wait + Sync>(
     rt: &R,
     alloc: Global,
     play: &mut Play,
-    swept: Swept,
+    fault: u8,
     number: u64,
-) -> Result<(u8, u64), AllocError> {
+) -> (u8, u64) {
     let mut calls = Vec::new(alloc);
     play.reads.clear();
     play.writes.clear();
-    match swept {
-        Swept::Disk => calls.push(number)?,
-        Swept::Input => play.reads.push(number)?,
-        Swept::Output => play.writes.push(number)?,
+    if fault == DISK_FAULT {
+        calls.push(number).expect(rt, MEMORY);
+    } else if fault == READ_FAULT {
+        play.reads.push(number).expect(rt, MEMORY);
+    } else {
+        play.writes.push(number).expect(rt, MEMORY);
     }
-    let disk = MemDisk::of(play.device.to_vec(alloc)?, calls);
-    let found = outcome_over(rt, alloc, play, disk, None)?;
+    let device = play.device.to_vec(alloc).expect(rt, MEMORY);
+    let found = outcome_over(rt, alloc, play, MemDisk::of(device, calls), None);
     play.reads.clear();
     play.writes.clear();
-    Ok(found)
+    found
 }
 
 /// Whether each call of the disk, the input or the output, where it fails alone, makes the status and leaves an outcome that may
 /// be, until none fails; and the last of these leave the outcomes at these places. Of the input and the output these are all calls.
-pub(crate) fn fails_well<R: Threads + Wait + Sync>(
+pub(crate) fn fails_well<R: Abort + Threads + Wait + Sync>(
     rt: &R,
     alloc: Global,
     play: &mut Play,
-    swept: Swept,
+    name: &str,
     last: &[u64],
-) -> Result<bool, AllocError> {
+) -> bool {
+    let fault = match name {
+        "disk" => DISK_FAULT,
+        "input" => READ_FAULT,
+        "output" => WRITE_FAULT,
+        _ => return false,
+    };
     let mut seen = Vec::new(alloc);
-    let fault = swept.status();
     for number in 0..CALLS {
-        let (status, found) = outcome_failing(rt, alloc, play, swept, number)?;
+        let (status, found) = outcome_failing(rt, alloc, play, fault, number);
         if is_over(play, fault, status) {
-            let is_all = swept == Swept::Disk || seen.len() == last.len();
-            return Ok(is_all && found != WRONG && !seen.contains(&WRONG) && seen.ends_with(last));
+            let is_all = fault == DISK_FAULT || seen.len() == last.len();
+            return is_all && found != WRONG && !seen.contains(&WRONG) && seen.ends_with(last);
         }
         if status != fault {
-            return Ok(false);
+            return false;
         }
-        seen.push(found)?;
+        seen.push(found).expect(rt, MEMORY);
     }
-    Ok(false)
-}
-
-// Whether each crash leaves an outcome that may be, where the machine stops after so many calls of
-// the disk; and whether the call then ended well.
-fn stops_after<R: Threads + Wait + Sync>(
-    rt: &R,
-    alloc: Global,
-    play: &Play,
-    calls: u64,
-) -> Result<(bool, bool), AllocError> {
-    let mut is_fine = false;
-    for choice in CRASHES {
-        let disk = MemDisk::stopped(play.device.to_vec(alloc)?, calls);
-        let (status, found) = outcome_over(rt, alloc, play, disk, Some(choice))?;
-        is_fine = is_over(play, DISK_FAULT, status);
-        if found == WRONG {
-            return Ok((false, is_fine));
-        }
-    }
-    Ok((true, is_fine))
+    false
 }
 
 /// Whether each crash leaves an outcome that may be, where the machine stops at each call of the
-/// disk in turn.
-pub(crate) fn stops_well<R: Threads + Wait + Sync>(
+/// disk in turn, until the call ends well.
+pub(crate) fn stops_well<R: Abort + Threads + Wait + Sync>(
     rt: &R,
     alloc: Global,
     play: &Play,
-) -> Result<bool, AllocError> {
+) -> bool {
     for calls in 0..CALLS {
-        let (is_well, is_fine) = stops_after(rt, alloc, play, calls)?;
-        if is_fine || !is_well {
-            return Ok(is_well);
+        let mut is_fine = false;
+        for choice in CRASHES {
+            let device = play.device.to_vec(alloc).expect(rt, MEMORY);
+            let disk = MemDisk::stopped(device, calls);
+            let (status, found) = outcome_over(rt, alloc, play, disk, Some(choice));
+            if found == WRONG {
+                return false;
+            }
+            is_fine = is_over(play, DISK_FAULT, status);
+        }
+        if is_fine {
+            return true;
         }
     }
-    Ok(false)
+    false
 }

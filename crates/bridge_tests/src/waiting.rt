@@ -1,6 +1,7 @@
 //! Senders that wait for each answer before they send on.
-ghost use Rattle.std.specs.Prelude.{◌≡◌, ◌≤◌, None, false, length, IfOk};
+ghost use Rattle.std.specs.Prelude.{◌≡◌, ◌≤◌, None, false, length};
 
+use crate::parts::MEMORY;
 use crate::script::{OPEN, OPENED};
 use bridge_words::Note;
 use conn_serve::{Rules, attend};
@@ -9,9 +10,8 @@ use edge_disk::MemDisk;
 use edge_io::{Link, Object, Proto, ReadFault, Sink, Source, WriteFault};
 use hec_ids::Ids;
 use spool_log::{Opening, Spool, format};
-use std::alloc::{AllocError, Global};
+use std::alloc::Global;
 use std::process::Abort;
-use std::test::Fail;
 
 /// What a sender sends at once, and the answer that it waits for before it sends the next.
 type Turn<'a> = (&'a [u8], &'a [u8]);
@@ -151,37 +151,26 @@ impl Link for Waiting<'_> {
     ghost writes_keep = { λ x y same. (Prim.cc, Prim.cc, same, Prim.cc) };
 }
 
-// The rules by which the link is served: the protocol, and the two tokens.
-fn rules(proto: Proto) -> Rules {
-    Rules {
-        proto,
-        token: Some(0x1111_1111_2222_3333_4444_5555_5555_5555),
-        ack_token: Some(0xaaaa_aaaa_2222_3333_4444_5555_5555_5555),
-    }
-}
-
 // A spool of one empty slot, opened for storing.
-fn spool(alloc: Global) -> Result<Spool<MemDisk>, Fail>
-    ensures { IfOk result (λ spool. spool.doubt ≡ false) }
+fn spool(rt: &impl Abort, alloc: Global) -> Spool<MemDisk>
+    ensures { result.doubt ≡ false }
 {
-    let mut disk = MemDisk::plain(alloc, 16_384)?;
-    if format(&mut disk, 1, 4096).is_err() {
-        return Err("format".into());
-    }
+    let mut disk = MemDisk::plain(alloc, 16_384).expect(rt, MEMORY);
+    format(&mut disk, 1, 4096).expect(rt, "format");
     match Spool::recover(alloc, disk, Opening::Raise) {
-        Ok(spool) => Ok(spool),
-        Err(_) => Err("recover".into()),
+        Ok(spool) => spool,
+        Err(_) => rt.panic("recover"),
     }
 }
 
 // Serves a sender over an empty spool, and answers the note and what was written.
-fn serve<'a>(
+fn serve(
+    rt: &impl Abort,
     alloc: Global,
-    proto: Proto,
-    turns: &'a [Turn<'a>],
+    (proto, turns): (Proto, &'static [Turn<'static>]),
     piece: usize,
     is_late: bool,
-) -> Result<(Note, Vec<u8>), Fail> {
+) -> (Note, Vec<u8>) {
     let mut link = Waiting {
         turns,
         sent: 0,
@@ -194,38 +183,56 @@ fn serve<'a>(
         read_faults: 0,
         write_faults: 0,
     };
-    let spool = spool(alloc)?;
+    let rules = Rules {
+        proto,
+        token: Some(0x1111_1111_2222_3333_4444_5555_5555_5555),
+        ack_token: Some(0xaaaa_aaaa_2222_3333_4444_5555_5555_5555),
+    };
+    let spool = spool(rt, alloc);
     let ids = Ids::new(alloc, spool.run(), 0);
     let mut access = Alone::new(Desk { spool, ids });
-    let attended = attend(alloc, &mut link, &rules(proto), &mut access, 1 << 32);
-    Ok((Note::of_talk(attended.talk), link.written))
+    let attended = attend(alloc, &mut link, &rules, &mut access, 1 << 32);
+    (Note::of_talk(attended.talk), link.written)
 }
 
 // What is written to a sender that waits.
-fn answers(alloc: Global, turns: &[Turn]) -> Result<Vec<u8>, AllocError> {
+fn answers(rt: &impl Abort, alloc: Global, turns: &[Turn]) -> Vec<u8> {
     let mut all = Vec::new(alloc);
     for (_, answer) in turns {
-        all.extend_from_slice(answer)?;
+        all.extend_from_slice(answer).expect(rt, MEMORY);
     }
-    Ok(all)
+    all
 }
+
+// The most bytes of a read, and whether answers come late.
+const PIECES: &[(usize, bool)] = &[
+    (1, false),
+    (7, false),
+    (8192, false),
+    (1, true),
+    (7, true),
+    (8192, true),
+];
 
 /// A sender that waits is served to its end where each answer is written before the next read;
 /// where answers come late, it waits for the first one for ever.
-pub(crate) fn wait_for_answers(rt: &impl Abort, alloc: Global) -> Result<(), Fail> {
-    for (proto, turns) in [
+pub(crate) fn wait_for_answers(rt: &impl Abort, alloc: Global) {
+    for sender in [
         (Proto::Relp, RELP),
         (Proto::Lumberjack, LUMBERJACK),
         (Proto::Hec, HEC),
     ] {
-        let all = answers(alloc, turns)?;
-        for piece in [1, 7, 8192] {
-            let (note, written) = serve(alloc, proto, turns, piece, false)?;
-            assert!(rt; note == Note::Fine && written == all, "{note:?}");
-            let (note, written) = serve(alloc, proto, turns, piece, true)?;
-            let is_first = all.starts_with(&written) && written.len() < all.len();
-            assert!(rt; note == Note::ReadFault && is_first, "{note:?}");
+        let all = answers(rt, alloc, sender.1);
+        for (piece, is_late) in PIECES {
+            let (note, written) = serve(rt, alloc, sender, *piece, *is_late);
+            let is_right = match note {
+                Note::Fine => !is_late && written == all,
+                Note::ReadFault => {
+                    *is_late && all.starts_with(&written) && written.len() < all.len()
+                }
+                _ => false,
+            };
+            assert!(rt; is_right, "{note:?}");
         }
     }
-    Ok(())
 }

@@ -1,7 +1,8 @@
 //! Windows of Lumberjack.
 
 /// Connections: what is answered, how they end, and what is listed then.
-pub(crate) const WINDOWS: &str = r#"- no byte
+pub(crate) const WINDOWS: &str = r#"1 2 7 8192
+- no byte
 device 20480
 call format 2 4096
 out text 2 slots of 4096 bytes%0a
@@ -157,19 +158,19 @@ ends 0
 same"#;
 
 /// Batches: a large window, one without room, and a write that fails.
-pub(crate) const BATCHES: &str =
-    r#"- a usual window of Beats: 2,048 frames of 100 bytes are stored and acknowledged as eight batches
+pub(crate) const BATCHES: &str = r#"8192
+- a usual window of Beats: 2,048 frames of 100 bytes are stored and acknowledged as eight batches
 device 4206592
 call format 2 2097152
 out text 2 slots of 2097152 bytes%0a
 ends 0
 call replay lumberjack
 in text 2W%00%00%08%00
-in binaries 2048 1 2J %00%00%00d7777777777777777777777777777777777777777777777777777777777777777777777777777777777777777777777777777
-out binaries 8 256 2A 
+in times 2048 2J%w1%00%00%00d7777777777777777777777777777777777777777777777777777777777777777777777777777777777777777777777777777
+out text 2A%00%00%01%002A%00%00%02%002A%00%00%03%002A%00%00%04%002A%00%00%05%002A%00%00%06%002A%00%00%07%002A%00%00%08%00
 ends 0
 call list
-out lines 2048 1 json 100%0a
+out times 2048 %n0 4294967296 %n0 %n1 json 100%0a
 ends 0
 same
 
@@ -204,7 +205,8 @@ ends 0
 same"#;
 
 /// A read fails, with reads of 18 bytes.
-pub(crate) const STAGED: &str = r#"- where a read fails what is staged is given up
+pub(crate) const STAGED: &str = r#"18
+- where a read fails what is staged is given up
 device 16384
 call format 1 4096
 out text 1 slots of 4096 bytes%0a
