@@ -61,9 +61,9 @@ fn listen(rt: &impl Abort, alloc: Global, stream: &[u8]) -> Heard
 pub(crate) fn connections(rt: &impl Abort, alloc: Global) {
     for (stream, acts, texts, acks) in ROWS {
         assert!(rt; stream.len() <= 100);
-        let heard = listen(rt, alloc, stream);
-        assert!(rt; heard.0.as_slice() == acts.as_bytes());
-        assert!(rt; heard.1.as_slice() == *texts && heard.2.as_slice() == *acks);
+        let (letters, stored, answers) = listen(rt, alloc, stream);
+        assert!(rt; letters.as_slice() == acts.as_bytes());
+        assert!(rt; stored.as_slice() == *texts && answers.as_slice() == *acks);
     }
 }
 
