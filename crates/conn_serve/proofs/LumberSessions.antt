@@ -53,6 +53,10 @@ laws = record {
   some = λ f x is. frame_some f x is.1;
 }
 
+-- where a frame is given, one less waits
+pub fewer : (w w' : Window LumberFault) (f : LumberFrame) → Gives receiver (Spells Receiver) w f w' → length w'.whole < length w.whole
+fewer w w' f g = omega (arith, ap length g.first, length-append g.text w'.whole, laws.some f g.text g.spelled)
+
 -- the place and the reason of a fault
 abbrev pub place : LumberFault → ℕ
 place e = e.at

@@ -47,6 +47,10 @@ laws = record {
   some = some_bytes;
 }
 
+-- where a frame is given, one less waits
+pub fewer : (w w' : Window RelpFault) (f : Frame) → Gives stream.relp IsSpelling w f w' → length w'.whole < length w.whole
+fewer w w' f g = omega (arith, ap length g.first, length-append g.text w'.whole, laws.some f g.text g.spelled)
+
 -- the place and the reason of a fault
 abbrev pub place : RelpFault → ℕ
 place e = e.at

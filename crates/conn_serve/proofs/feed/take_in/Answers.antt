@@ -2,10 +2,9 @@ use Rattle.std.proofs.Common.{◌≡◌, ◌∙◌, ◌-◌, ◌+◌, ◌≤◌,
 use Rattle.std.proofs.lemmas.List.{length-take-le, take-append-drop}
 use Rattle.std.proofs.Math.Seq.{take-add}
 use Rattle.conn_serve.specs.Done.{Anyway, SoFar}
-use Rattle.conn_serve.proofs.Acting.{err_is}
-use Rattle.conn_serve.proofs.Faults.{counts_from, counts_none, err_of}
 use Rattle.conn_serve.proofs.Feeding.{on_start, on_fed, on_then, on_halts, on_is, goes_as, halts_as}
 use Rattle.conn_serve.proofs.Leading.{so_far_fed, so_far_less, so_far_then}
+use Rattle.conn_serve.proofs.Faults.{counts_fine, counts_passed, err_of, quiet_fine}
 use Rattle.conn_serve.proofs.feed.take_in.Goals as goal
 
 pub loop-fed-init : goal.loop-fed-init
@@ -56,7 +55,8 @@ loop-fed-preserved g c =
     let fed = on_fed _ _ _ _ _ (take l.fed piece) (take n rest) from (g.S.Session.served number l.session) mid on inv.done in
     let so_far = so_far_fed _ _ (length piece - (l.fed + n)) (take n rest) (g.S.Session.served number l.session) (g.S.Session.served number c.feed-fed.new.self) on (omega (arith, length-take-le n rest within, length-drop l.fed piece, inv.within, within)) inv.so_far in
     record {
-      done = on_is _ _ _ _ _ (take l.fed piece ++ take n rest) (take (l.fed + n) piece) from to (sym (take-add l.fed n piece)) (on_then _ _ _ _ _ _ _ _ _ (take l.fed piece ++ take n rest) from mid to (λ xs ys p q. g.met.A.Access.ran_more _ _ _ xs ys p q) fed goes);
+      done = on_is _ _ _ _ _ (take l.fed piece ++ take n rest) (take (l.fed + n) piece) from to (sym (take-add l.fed n piece)) (on_then _ _ _ _ _ _ _ _ _
+          (take l.fed piece ++ take n rest) from mid to (λ xs ys p q. g.met.A.Access.ran_more _ _ _ xs ys p q) fed goes);
       within = omega (arith, within, length-drop l.fed piece, inv.within);
       so_far = so_far_then _ _ _ _ _ _ _ _ so_far goes;
       idle = call.idle;
@@ -64,13 +64,25 @@ loop-fed-preserved g c =
       same_number = call.number ∙ inv.same_number;
       same_tokens = call.tokens ∙ c.feed-fed.ensures.tokens ∙ inv.same_tokens;
       may = rw (← inv.same_number) call.may;
-      writes = call.writes.quiet (λ is. cc) ∙ inv.writes;
+      writes = quiet_fine _ _ _ _ _ call.writes ∙ inv.writes;
       same = g.L.Object.same_trans _ _ _ inv.same call.same;
       apart = g.met.L.Sink.apart_trans _ _ _ inv.apart call.apart;
     }
 
-pub returns-in_err-serve-clause-halts : goal.returns-in_err-serve-clause-halts
-returns-in_err-serve-clause-halts g c =
+pub returns-clause-goes : goal.returns-clause-goes
+returns-clause-goes g c =
+    let l = c.loop-fed in
+    let all : take l.fed c.args.piece.now ≡ c.args.piece.now = take_all l.fed c.args.piece.now (omega arith) in
+    on_is _ _ _ _ _ (take l.fed c.args.piece.now) c.args.piece.now (g.S.Session.served c.args.connection.now.number c.args.session.now) (g.S.Session.served c.args.connection.now.number l.session) all l.invariant.done
+
+pub returns-clause-writes : goal.returns-clause-writes
+returns-clause-writes g c = counts_fine _ _ _ _ _ c.loop-fed.invariant.writes
+
+pub returns-clause-bytes : goal.returns-clause-bytes
+returns-clause-bytes g c = λ i. (c.type_inv.piece i).fits
+
+pub returns-in_err-serve : goal.returns-in_err-serve
+returns-in_err-serve g c =
     let l = c.loop-fed in
     let inv = l.invariant in
     let piece = c.args.piece.now in
@@ -87,26 +99,44 @@ returns-in_err-serve-clause-halts g c =
     let halts = halts_as _ _ _ _ _ _ tokens mid (λ t. Anyway (g.S.Session.carried t number) talk) (c.feed-fed.ensures.tokens ∙ inv.same_tokens)
     (goes_as _ _ _ _ _ _ number (λ k. g.S.Session.served k c.feed-fed.new.self) (λ k. Anyway (g.S.Session.carried (g.S.Session.tokens c.feed-fed.new.self) k) talk) inv.same_number call.halts) in
     let fed = on_fed _ _ _ _ _ (take l.fed piece) (take n rest) from (g.S.Session.served number l.session) mid on inv.done in
-    err_is c.from_residual.result talk _ c.from_residual.ensures.1
-    (on_halts _ _ _ _ _ (take l.fed piece ++ take n rest) (drop (l.fed + n) piece) piece from (g.S.Session.carried tokens number) talk (ap (λ (v : List ℕ). v ++ drop (l.fed + n) piece) (sym (take-add l.fed n piece)) ∙ take-append-drop (l.fed + n) piece)
-    (on_then _ _ _ _ _ _ _ _ _ (take l.fed piece ++ take n rest) from mid (Anyway (g.S.Session.carried tokens number) talk) (λ xs ys p q. g.met.A.Access.ran_more _ _ _ xs ys p q) fed halts))
+    rw (err_of c.from_residual.result talk c.from_residual.ensures.1)
+    (record {
+      goes = tt;
+      halts = (on_halts _ _ _ _ _ (take l.fed piece ++ take n rest) (drop (l.fed + n) piece) piece from (g.S.Session.carried tokens number) talk (ap (λ (v : List ℕ). v ++ drop (l.fed + n) piece)
+          (sym (take-add l.fed n piece)) ∙ take-append-drop (l.fed + n) piece) (on_then _ _ _ _ _ _ _ _ _ (take l.fed piece ++ take n rest) from mid (Anyway (g.S.Session.carried tokens number) talk)
+          (λ xs ys p q. g.met.A.Access.ran_more _ _ _ xs ys p q) fed halts));
+      bytes = λ i. (c.type_inv.piece i).fits;
+      only = call.only;
+      idle = tt;
+      extent = tt;
+      tokens = tt;
+      number = call.number ∙ inv.same_number;
+      may = tt;
+      writes = counts_passed _ _ _ _ _ _ _ inv.writes call.writes;
+      same = g.L.Object.same_trans _ _ _ inv.same call.same;
+      apart = g.met.L.Sink.apart_trans _ _ _ inv.apart call.apart;
+    })
 
-pub returns-in_err-serve-clause-writes : goal.returns-in_err-serve-clause-writes
-returns-in_err-serve-clause-writes g c =
-    let err = err_of c.from_residual.result c.in_err-serve.field-0.0 c.from_residual.ensures.1 in
-    counts_from _ _ _ _ _ c.loop-fed.invariant.writes (λ is. sym err ∙ is) (λ is. err ∙ is) c.in_err-serve.ensures.writes
+pub returns-clause-halts : goal.returns-clause-halts
+returns-clause-halts g c = tt
 
-pub returns-clause-goes : goal.returns-clause-goes
-returns-clause-goes g c =
-    let l = c.loop-fed in
-    let all : take l.fed c.args.piece.now ≡ c.args.piece.now = take_all l.fed c.args.piece.now (omega arith) in
-    on_is _ _ _ _ _ (take l.fed c.args.piece.now) c.args.piece.now (g.S.Session.served c.args.connection.now.number c.args.session.now) (g.S.Session.served c.args.connection.now.number l.session) all l.invariant.done
+pub returns-clause-only : goal.returns-clause-only
+returns-clause-only g c = tt
 
-pub returns-clause-writes : goal.returns-clause-writes
-returns-clause-writes g c = counts_none _ _ _ (λ is. cc) c.loop-fed.invariant.writes
+pub returns-clause-idle : goal.returns-clause-idle
+returns-clause-idle g c = c.loop-fed.invariant.idle
 
-pub returns-in_err-serve-clause-bytes : goal.returns-in_err-serve-clause-bytes
-returns-in_err-serve-clause-bytes g c = λ i. (c.type_inv.piece i).fits
+pub returns-clause-tokens : goal.returns-clause-tokens
+returns-clause-tokens g c = c.loop-fed.invariant.same_tokens
 
-pub returns-clause-bytes : goal.returns-clause-bytes
-returns-clause-bytes g c = λ i. (c.type_inv.piece i).fits
+pub returns-clause-number : goal.returns-clause-number
+returns-clause-number g c = c.loop-fed.invariant.same_number
+
+pub returns-clause-may : goal.returns-clause-may
+returns-clause-may g c = c.loop-fed.invariant.may
+
+pub returns-clause-same : goal.returns-clause-same
+returns-clause-same g c = c.loop-fed.invariant.same
+
+pub returns-clause-apart : goal.returns-clause-apart
+returns-clause-apart g c = c.loop-fed.invariant.apart

@@ -3,6 +3,7 @@ use Rattle.hec_session.specs.declared.tokens.Tokens.{Tokens}
 use Rattle.conn_serve.specs.Done.{told}
 use Rattle.conn_serve.specs.Endings.{MayEnd}
 use Rattle.conn_serve.proofs.Running.{progress_turn, serves_as, serves_turn, serves_close, so_far_of}
+use Rattle.conn_serve.proofs.Faults.{counts_from, counts_none, counts_told, quiet_fine}
 use Rattle.conn_serve.proofs.serve.run.Goals as goal
 
 pub turn-requires-clause-so_far : goal.turn-requires-clause-so_far
@@ -17,13 +18,6 @@ turn-requires-clause-may_end g c =
     subst (λ (n : ℕ). MayEnd (g.S.Session.served n l.session) (g.S.Session.carried (g.S.Session.tokens l.session) n)) (sym l.invariant.same_number)
     (subst (λ (t : Tokens). MayEnd (g.S.Session.served number l.session) (g.S.Session.carried t number)) (sym l.invariant.same_tokens) l.invariant.may_end)
 
-pub returns-in-Err-clause-serves : goal.returns-in-Err-clause-serves
-returns-in-Err-clause-serves g c =
-    let l = c.loop-total in
-    let start = told (g.L.Source.given c.args.link.now) (g.L.Source.left c.args.link.now) (g.L.Sink.taken c.args.link.now) in
-    serves_as (λ t. g.S.Session.carried t c.args.connection.now.number) _ _ _ _ _ _ _ _ _ _ l.invariant.same_tokens
-    (serves_turn start _ _ _ _ _ (λ xs ys p q. g.met.A.Access.ran_more _ _ _ xs ys p q) _ _ _ _ _ l.invariant.same_number (λ k. g.S.Session.served k l.session) (g.S.Session.carried (g.S.Session.tokens l.session)) c.in-Err.talk l.invariant.progress c.in-Err.ensures.halts)
-
 pub close-requires-clause-so_far : goal.close-requires-clause-so_far
 close-requires-clause-so_far g c =
     let l = c.loop-total in
@@ -33,21 +27,6 @@ close-requires-clause-so_far g c =
     let p = progress_turn start _ (told (g.L.Source.given now.link) (g.L.Source.left now.link) (g.L.Sink.taken now.link)) _ _ (λ calls. g.A.Access.ran c.args.access.now calls now.access)
     (λ xs ys p q. g.met.A.Access.ran_more _ _ _ xs ys p q) _ _ _ _ _ l.invariant.same_number (λ k. g.S.Session.served k l.session) (λ k. g.S.Session.served k now.session) c.in-Ok.len l.invariant.progress went.goes in
     so_far_of (λ k. g.S.Session.served k now.session) _ _ _ _ _ 0 now.connection.number c.args.connection.now.number (went.number ∙ l.invariant.same_number) (omega (arith, l.invariant.below, went.room, c.min-room.ensures)) p
-
-pub returns-in-Some-clause-serves : goal.returns-in-Some-clause-serves
-returns-in-Some-clause-serves g c =
-    let l = c.loop-total in
-    let start = told (g.L.Source.given c.args.link.now) (g.L.Source.left c.args.link.now) (g.L.Sink.taken c.args.link.now) in
-    let went = c.in-Ok.ensures in
-    let now = c.turn.new in
-    let number = c.args.connection.now.number in
-    let writes = g.met.L.Link.writes_keep _ _ c.close.ensures.apart in
-    let p = progress_turn start _ (told (g.L.Source.given now.link) (g.L.Source.left now.link) (g.L.Sink.taken now.link)) _ _ (λ calls. g.A.Access.ran c.args.access.now calls now.access)
-    (λ xs ys p q. g.met.A.Access.ran_more _ _ _ xs ys p q) _ _ _ _ _ l.invariant.same_number (λ k. g.S.Session.served k l.session) (λ k. g.S.Session.served k now.session) c.in-Ok.len l.invariant.progress went.goes in
-    serves_as (λ t. g.S.Session.carried t number) _ _ _ _ _ _ _ _ _ _ (went.tokens ∙ l.invariant.same_tokens)
-    (serves_close start _ _ _ _ _ _ _ _ _ _ _ _ _ _ (λ k. g.S.Session.served k now.session) (λ k left. g.S.Session.closing k now.session left c.in-Some.talk) (g.S.Session.carried (g.S.Session.tokens now.session)) c.close.result
-    (λ xs ys p q. g.met.A.Access.ran_more _ _ _ xs ys p q) (went.number ∙ l.invariant.same_number) writes.0 writes.1 p
-    (λ fed calls text s. c.in-Some.ensures.closing number (g.L.Source.left now.link) fed calls text went.end s) c.close.ensures.closes)
 
 pub loop-total-preserved : goal.loop-total-preserved
 loop-total-preserved g c =
@@ -68,6 +47,39 @@ loop-total-preserved g c =
       extent = omega (arith, inv.extent, went.extent);
       below = omega (arith, inv.below, went.room, c.min-room.ensures);
       same = g.L.Object.same_trans _ _ _ inv.same went.same;
-      reads = went.reads.quiet (λ is. cc) ∙ inv.reads;
-      writes = went.writes.quiet (λ is. cc) ∙ inv.writes;
+      reads = quiet_fine _ _ _ _ _ went.reads ∙ inv.reads;
+      writes = quiet_fine _ _ _ _ _ went.writes ∙ inv.writes;
+    }
+
+pub returns-in-Err : goal.returns-in-Err
+returns-in-Err g c =
+    let l = c.loop-total in
+    let start = told (g.L.Source.given c.args.link.now) (g.L.Source.left c.args.link.now) (g.L.Sink.taken c.args.link.now) in
+    record {
+      serves = serves_as (λ t. g.S.Session.carried t c.args.connection.now.number) _ _ _ _ _ _ _ _ _ _ l.invariant.same_tokens (serves_turn start _ _ _ _ _
+          (λ xs ys p q. g.met.A.Access.ran_more _ _ _ xs ys p q) _ _ _ _ _ l.invariant.same_number (λ k. g.S.Session.served k l.session) (g.S.Session.carried (g.S.Session.tokens l.session))
+          c.in-Err.talk l.invariant.progress c.in-Err.ensures.halts);
+      reads = counts_told _ _ _ _ _ _ l.invariant.reads c.in-Err.ensures.reads;
+      writes = counts_told _ _ _ _ _ _ l.invariant.writes c.in-Err.ensures.writes;
+      same = g.L.Object.same_trans _ _ _ l.invariant.same c.in-Err.ensures.same;
+    }
+
+pub returns-in-Some : goal.returns-in-Some
+returns-in-Some g c =
+    let l = c.loop-total in
+    let start = told (g.L.Source.given c.args.link.now) (g.L.Source.left c.args.link.now) (g.L.Sink.taken c.args.link.now) in
+    let went = c.in-Ok.ensures in
+    let now = c.turn.new in
+    let number = c.args.connection.now.number in
+    let writes = g.met.L.Link.writes_keep _ _ c.close.ensures.apart in
+    let p = progress_turn start _ (told (g.L.Source.given now.link) (g.L.Source.left now.link) (g.L.Sink.taken now.link)) _ _ (λ calls. g.A.Access.ran c.args.access.now calls now.access)
+    (λ xs ys p q. g.met.A.Access.ran_more _ _ _ xs ys p q) _ _ _ _ _ l.invariant.same_number (λ k. g.S.Session.served k l.session) (λ k. g.S.Session.served k now.session) c.in-Ok.len l.invariant.progress went.goes in
+    record {
+      serves = serves_as (λ t. g.S.Session.carried t number) _ _ _ _ _ _ _ _ _ _ (went.tokens ∙ l.invariant.same_tokens) (serves_close start _ _ _ _ _ _ _ _ _ _ _ _ _ _
+          (λ k. g.S.Session.served k now.session) (λ k left. g.S.Session.closing k now.session left c.in-Some.talk) (g.S.Session.carried (g.S.Session.tokens now.session)) c.close.result
+          (λ xs ys p q. g.met.A.Access.ran_more _ _ _ xs ys p q) (went.number ∙ l.invariant.same_number) writes.0 writes.1 p (λ fed calls text s. c.in-Some.ensures.closing number
+          (g.L.Source.left now.link) fed calls text went.end s) c.close.ensures.closes);
+      reads = counts_none _ _ _ c.close.ensures.unread (writes.2 ∙ quiet_fine _ _ _ _ _ went.reads ∙ l.invariant.reads);
+      writes = counts_from _ _ _ _ _ (quiet_fine _ _ _ _ _ went.writes ∙ l.invariant.writes) (λ is. is) (λ is. is) c.close.ensures.writes;
+      same = g.L.Object.same_trans _ _ _ (g.L.Object.same_trans _ _ _ l.invariant.same went.same) c.close.ensures.same;
     }

@@ -1,12 +1,11 @@
-use Rattle.std.proofs.Common.{◌∙◌, inl, refl, sym, arith}
+use Rattle.std.proofs.Common.{◌∙◌, inl, refl, sym, arith, subst}
 use Rattle.lumber_frame.specs.Lent.{frame_lent}
 use Rattle.lumber_session.specs.Lent.{act_lent}
-use Rattle.conn_serve.proofs.Acting.{done_nothing, err_is, err_then}
+use Rattle.conn_serve.proofs.Acting.{done_nothing, err_then}
 use Rattle.conn_serve.proofs.LumberActing.{staged_few, staged_next, frame_on, frame_batch, frame_halt, batch_then}
+use Rattle.conn_serve.proofs.Faults.{counts_fine, counts_other, err_of, memory_is_whole}
+use Rattle.desk_access.specs.Endings.{IsAtMove}
 use Rattle.conn_serve.proofs.lumberjack.act.serve_frame.Goals as goal
-
-pub returns-in_err-stage-clause-halts : goal.returns-in_err-stage-clause-halts
-returns-in_err-stage-clause-halts g c = err_is c.from_residual.result c.in_err-stage.field-0.0 _ c.from_residual.ensures.1 (done_nothing _ _ _ _ (g.met.A.Access.ran_none _) (inl ((refl, refl), c.in_err-stage.ensures.err)))
 
 pub commit-requires-clause-few : goal.commit-requires-clause-few
 commit-requires-clause-few g c =
@@ -23,25 +22,52 @@ commit-requires-clause-next g c =
     staged_next c.args.connection.now.taken c.args.connection.now.number c.args.core.now c.step_lent-act.new.self c.args.staged.now.entries.items c.stage.new.staged.entries.items c.args.staged.now.last c.stage.new.staged.last (frame_lent c.args.lent)
     (act_lent c.step_lent-act.result) c.step_lent-act.ensures.act staged.entries staged.last c.requires.so_far
 
-pub returns-then-branch-clause-goes : goal.returns-then-branch-clause-goes
-returns-then-branch-clause-goes g c =
+pub returns-in_err-stage : goal.returns-in_err-stage
+returns-in_err-stage g c =
+    rw (err_of c.from_residual.result c.in_err-stage.field-0.0 c.from_residual.ensures.1)
+    (record {
+      goes = tt;
+      only = subst IsAtMove (sym c.in_err-stage.ensures.err) tt;
+      number = refl;
+      may = tt;
+      writes = counts_other _ _ _ _ _ (λ is. memory_is_whole (sym c.in_err-stage.ensures.err ∙ is)) refl;
+      same = g.L.Object.same_refl _;
+      apart = g.met.L.Sink.apart_refl _;
+      halts = (done_nothing _ _ _ _ (g.met.A.Access.ran_none _) (inl ((refl, refl), c.in_err-stage.ensures.err)));
+    })
+
+pub returns-then-branch : goal.returns-then-branch
+returns-then-branch g c =
     let staged = c.in_ok-stage.ensures in
     let due = sym staged.commits ∙ c.if-branch.true in
-    batch_then c.commit.result _ _ _ _ _ c.commit.ensures.goes c.commit.ensures.empty c.commit.ensures.ready c.commit.ensures.behind (λ d empty ready behind.
-    frame_batch c.args.connection.now.taken c.args.connection.now.number c.args.core.now c.step_lent-act.new.self c.args.staged.now.entries.items c.stage.new.staged.entries.items c.args.staged.now.last c.stage.new.staged.last (frame_lent c.args.lent)
-    (act_lent c.step_lent-act.result) c.step_lent-act.ensures.act staged.entries staged.last
-    due _ _ _ _ c.commit.new.core c.commit.new.staged.entries.items c.commit.new.staged.last (λ frames is. behind _ (c.step_lent-act.ensures.due ∙ due) (c.step_lent-act.ensures.behind frames is)) ready empty d)
+    record {
+      goes = batch_then c.commit.result _ _ _ _ _ c.commit.ensures.goes c.commit.ensures.empty c.commit.ensures.ready c.commit.ensures.behind (λ d empty ready behind. frame_batch
+          c.args.connection.now.taken c.args.connection.now.number c.args.core.now c.step_lent-act.new.self c.args.staged.now.entries.items c.stage.new.staged.entries.items c.args.staged.now.last
+          c.stage.new.staged.last (frame_lent c.args.lent) (act_lent c.step_lent-act.result) c.step_lent-act.ensures.act staged.entries staged.last due _ _ _ _ c.commit.new.core
+          c.commit.new.staged.entries.items c.commit.new.staged.last (λ frames is. behind _ (c.step_lent-act.ensures.due ∙ due) (c.step_lent-act.ensures.behind frames is)) ready empty d);
+      halts = err_then c.commit.result _ _ c.commit.ensures.halts (λ talk d. frame_halt c.args.connection.now.taken c.args.connection.now.number c.args.core.now c.step_lent-act.new.self
+          c.args.staged.now.entries.items c.stage.new.staged.entries.items c.args.staged.now.last c.stage.new.staged.last (frame_lent c.args.lent) (act_lent c.step_lent-act.result)
+          c.step_lent-act.ensures.act staged.entries staged.last (sym staged.commits ∙ c.if-branch.true) _ _ _ _ talk d);
+      only = c.commit.ensures.only;
+      number = c.commit.ensures.number;
+      may = c.commit.ensures.may;
+      writes = c.commit.ensures.writes;
+      same = c.commit.ensures.same;
+      apart = c.commit.ensures.apart;
+    }
 
-pub returns-then-branch-clause-halts : goal.returns-then-branch-clause-halts
-returns-then-branch-clause-halts g c =
+pub returns-else-branch : goal.returns-else-branch
+returns-else-branch g c =
     let staged = c.in_ok-stage.ensures in
-    err_then c.commit.result _ _ c.commit.ensures.halts (λ talk d.
-    frame_halt c.args.connection.now.taken c.args.connection.now.number c.args.core.now c.step_lent-act.new.self c.args.staged.now.entries.items c.stage.new.staged.entries.items c.args.staged.now.last c.stage.new.staged.last (frame_lent c.args.lent)
-    (act_lent c.step_lent-act.result) c.step_lent-act.ensures.act staged.entries staged.last
-    (sym staged.commits ∙ c.if-branch.true) _ _ _ _ talk d)
-
-pub returns-else-branch-clause-goes : goal.returns-else-branch-clause-goes
-returns-else-branch-clause-goes g c =
-    let staged = c.in_ok-stage.ensures in
-    frame_on c.args.connection.now.taken c.args.connection.now.number c.args.core.now c.step_lent-act.new.self c.args.staged.now.entries.items c.stage.new.staged.entries.items c.args.staged.now.last c.stage.new.staged.last (frame_lent c.args.lent) (act_lent c.step_lent-act.result) c.step_lent-act.ensures.act staged.entries staged.last
-    _ _ (g.met.A.Access.ran_none _) c.step_lent-act.ensures.behind c.step_lent-act.ensures.due (sym staged.commits ∙ c.if-branch.false) staged.limits
+    record {
+      goes = frame_on c.args.connection.now.taken c.args.connection.now.number c.args.core.now c.step_lent-act.new.self c.args.staged.now.entries.items c.stage.new.staged.entries.items
+          c.args.staged.now.last c.stage.new.staged.last (frame_lent c.args.lent) (act_lent c.step_lent-act.result) c.step_lent-act.ensures.act staged.entries staged.last _ _
+          (g.met.A.Access.ran_none _) c.step_lent-act.ensures.behind c.step_lent-act.ensures.due (sym staged.commits ∙ c.if-branch.false) staged.limits;
+      halts = tt;
+      only = tt;
+      number = refl;
+      may = c.requires.may;
+      writes = counts_fine _ _ _ _ _ refl;
+      same = g.L.Object.same_refl _;
+      apart = g.met.L.Sink.apart_refl _;
+    }

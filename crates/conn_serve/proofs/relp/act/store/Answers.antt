@@ -12,10 +12,9 @@ use Rattle.conn_serve.specs.declared.connection.Connection.{Connection}
 use Rattle.conn_serve.specs.Groups.{IsFrameEntry}
 use Rattle.conn_serve.specs.Relp.{IsDue, entry_of}
 use Rattle.conn_serve.proofs.Acting.{err_then, done_nothing, cut_short}
+use Rattle.conn_serve.proofs.Faults.{counts_err, counts_other, memory_is_whole, said_counts, said_only}
+use Rattle.conn_serve.proofs.HecActing.{ok_any}
 use Rattle.conn_serve.proofs.relp.act.store.Goals as goal
-
-pub returns-in_default-clause-halts : goal.returns-in_default-clause-halts
-returns-in_default-clause-halts g c = done_nothing _ _ _ _ (g.met.A.Access.ran_none _) (inl ((refl, refl), refl))
 
 pub entry_of-entry-requires-clause-event : goal.entry_of-entry-requires-clause-event
 entry_of-entry-requires-clause-event g c = rw c.in-Ok.ensures.copy c.requires.event
@@ -41,3 +40,55 @@ returns-in-Ok-take_group-clause-halts g c =
     let due : IsDue connection.number connection.taken (Store event c.args.txnr) calls c.deref.result.now = inl (receipt, ap (λ (es : List Entry). takes es (Ok receipt) ∷ []) entry_is, text_is) in
     let counted : c.take_group.new.connection.taken ≡ connection.taken + count calls = omega (arith, ap (λ (x : Connection). x.taken) c.in-Ok-take_group.ensures.next, ap count (ap (λ (es : List Entry). takes es (Ok receipt) ∷ []) entry_is), c.from_ref.ensures.len) in
     err_then c.say.result _ _ c.say.ensures.part (λ talk h. cut_short _ _ _ _ _ connection.number connection.taken (Store event c.args.txnr) calls c.deref.result.now h.1.0 talk c.in-Ok-take_group.ensures.ran counted due h.0 h.1.1 h.1.2)
+
+pub returns-in_default : goal.returns-in_default
+returns-in_default g c =
+    record {
+      halts = done_nothing _ _ _ _ (g.met.A.Access.ran_none _) (inl ((refl, refl), refl));
+      goes = tt;
+      only = tt;
+      number = refl;
+      may = tt;
+      writes = counts_other _ _ _ _ _ memory_is_whole refl;
+      same = g.L.Object.same_refl _;
+      apart = g.met.L.Sink.apart_refl _;
+    }
+
+pub returns-in-Ok-take_group-clause-number : goal.returns-in-Ok-take_group-clause-number
+returns-in-Ok-take_group-clause-number g c = ap (λ (x : Connection). x.number) c.in-Ok-take_group.ensures.next
+
+pub returns-in-Ok-take_group-clause-may : goal.returns-in-Ok-take_group-clause-may
+returns-in-Ok-take_group-clause-may g c = ok_any c.say.result _ c.in-Ok-take_group.ensures.may
+
+pub returns-in-Ok-take_group-clause-only : goal.returns-in-Ok-take_group-clause-only
+returns-in-Ok-take_group-clause-only g c = said_only _ (c.say.result) c.say.ensures.part
+
+pub returns-in-Ok-take_group-clause-writes : goal.returns-in-Ok-take_group-clause-writes
+returns-in-Ok-take_group-clause-writes g c = said_counts _ (c.say.result) _ _ c.say.ensures.part c.say.ensures.writes
+
+pub returns-in-Ok-take_group-clause-same : goal.returns-in-Ok-take_group-clause-same
+returns-in-Ok-take_group-clause-same g c = c.say.ensures.same
+
+pub returns-in-Ok-take_group-clause-apart : goal.returns-in-Ok-take_group-clause-apart
+returns-in-Ok-take_group-clause-apart g c = c.say.ensures.apart
+
+pub returns-in-Err-clause-goes : goal.returns-in-Err-clause-goes
+returns-in-Err-clause-goes g c = tt
+
+pub returns-in-Err-clause-only : goal.returns-in-Err-clause-only
+returns-in-Err-clause-only g c = c.end_by.ensures.only
+
+pub returns-in-Err-clause-number : goal.returns-in-Err-clause-number
+returns-in-Err-clause-number g c = ap (λ (x : Connection). x.number) c.in-Err.ensures.stays
+
+pub returns-in-Err-clause-may : goal.returns-in-Err-clause-may
+returns-in-Err-clause-may g c = tt
+
+pub returns-in-Err-clause-writes : goal.returns-in-Err-clause-writes
+returns-in-Err-clause-writes g c = counts_err _ _ _ _ _ c.end_by.ensures.writes
+
+pub returns-in-Err-clause-same : goal.returns-in-Err-clause-same
+returns-in-Err-clause-same g c = c.end_by.ensures.same
+
+pub returns-in-Err-clause-apart : goal.returns-in-Err-clause-apart
+returns-in-Err-clause-apart g c = c.end_by.ensures.apart

@@ -1,4 +1,4 @@
-use Rattle.std.proofs.Common.{rules, ◌≡◌, ◌∙◌, Some, length, refl, ap, subst, arith}
+use Rattle.std.proofs.Common.{rules, ◌≡◌, ◌∙◌, Some, length, refl, ap, subst, arith, sym}
 use Rattle.std.specs.Prelude.{Option}
 use Rattle.desk_access.specs.Carried.{Carried}
 use Rattle.hec_session.specs.declared.tokens.Tokens.{Tokens}
@@ -7,17 +7,11 @@ use Rattle.conn_serve.specs.Done.{Anyway}
 use Rattle.conn_serve.specs.Handled.{Handled, Served}
 use Rattle.conn_serve.specs.Hec.{hec}
 use Rattle.conn_serve.specs.HecServing.{GivesAsked, ReadsBy}
-use Rattle.conn_serve.proofs.Acting.{err_is}
 use Rattle.conn_serve.proofs.Leading.{done_start, done_then, done_ends, so_far_then}
 use Rattle.conn_serve.proofs.HecSessions.{ends_starved, served_item, served_halt, served_same, so_far_few}
+use Rattle.conn_serve.proofs.Faults.{counts_fine, counts_other, counts_passed, err_of, memory_is_whole, quiet_fine}
+use Rattle.desk_access.specs.Endings.{IsAtMove}
 use Rattle.conn_serve.proofs.hec.session.HecSessionSession.serve.Goals as goal
-
-pub returns-then-is_starved-clause-halts : goal.returns-then-is_starved-clause-halts
-returns-then-is_starved-clause-halts g c =
-    let now = c.args.self.now in
-    let number = c.args.connection.now.number in
-    let served = Served (Handled (hec now.core number)) (ReadsBy now.window now.met) in
-    done_ends _ _ _ served (Anyway (Carried (hec now.core number)) _) (g.met.A.Access.ran_none _) (λ fed called said s left more. ends_starved now.core number now.window now.met left fed called said s more)
 
 pub loop-asked-init : goal.loop-asked-init
 loop-asked-init g c = record {
@@ -32,18 +26,6 @@ loop-asked-init g c = record {
   same = g.L.Object.same_refl _;
   apart = g.met.L.Sink.apart_refl _;
 }
-
-pub returns-in_err-asked-clause-halts : goal.returns-in_err-asked-clause-halts
-returns-in_err-asked-clause-halts g c =
-    let l = c.loop-asked in
-    let was = c.args.self.now in
-    let number = c.args.connection.now.number in
-    let talk = c.in_err-asked.field-0.0 in
-    let served = Served (Handled (hec was.core number)) (ReadsBy l.self.window was.met) in
-    err_is c.from_residual.result talk _ c.from_residual.ensures.1
-    (done_then _ _ _ _ _ _ _ _ _ _ served (Anyway (Carried (hec was.core number)) talk) (λ xs ys p q. g.met.A.Access.ran_more _ _ _ xs ys p q) l.invariant.done
-    (done_ends _ _ _ served (Anyway (Carried (hec was.core number)) talk) (g.met.A.Access.ran_none _) (λ fed called said s left more.
-    rw c.in_err-asked.ensures.starved (ends_starved was.core number l.self.window was.met left fed called said s more))))
 
 pub serve_item-requires-clause-early : goal.serve_item-requires-clause-early
 serve_item-requires-clause-early g c =
@@ -69,27 +51,10 @@ loop-asked-preserved g c =
       same_number = call.number ∙ inv.same_number;
       may = rw (← inv.same_number) call.may;
       extent = omega (arith, inv.extent, given.1.at_is, given.1.come_is);
-      writes = call.writes.quiet (λ is. cc) ∙ inv.writes;
+      writes = quiet_fine _ _ _ _ _ call.writes ∙ inv.writes;
       same = g.L.Object.same_trans _ _ _ inv.same call.same;
       apart = g.met.L.Sink.apart_trans _ _ _ inv.apart call.apart;
     }
-
-pub returns-in_err-serve_item-clause-halts : goal.returns-in_err-serve_item-clause-halts
-returns-in_err-serve_item-clause-halts g c =
-    let l = c.loop-asked in
-    let inv = l.invariant in
-    let was = c.args.self.now in
-    let call = c.in_err-serve_item.ensures in
-    let number = c.args.connection.now.number in
-    let talk = c.in_err-serve_item.field-0.0 in
-    let after = c.next_asked.new.window in
-    let given = subst (λ (core : Tokens). GivesAsked core l.self.window (Some c.in-Some.asked) after) inv.same_core (subst (λ (next : Option Asked). GivesAsked l.self.core l.self.window next after) c.in-Some.is c.in_ok-asked.ensures.gives) in
-    err_is c.from_residual-in_err-serve_item.result talk _ c.from_residual-in_err-serve_item.ensures.1
-    (done_then _ _ _ _ _ _ _ _ _ _ _ (Anyway (Carried (hec was.core number)) talk) (λ xs ys p q. g.met.A.Access.ran_more _ _ _ xs ys p q) inv.done
-    (served_halt was.core number _ _ _ _ _ l.self.window after was.met given.0 c.in-Some.asked given.1 given.2 l.connection.number inv.same_number talk call.only call.halts))
-
-pub returns-in_err-serve_item-clause-apart : goal.returns-in_err-serve_item-clause-apart
-returns-in_err-serve_item-clause-apart g c = g.met.L.Sink.apart_trans _ _ _ c.loop-asked.invariant.apart c.in_err-serve_item.ensures.apart
 
 pub loop-asked-smaller : goal.loop-asked-smaller
 loop-asked-smaller g c =
@@ -103,3 +68,93 @@ returns-clause-goes g c =
     let number = c.args.connection.now.number in
     let stays : c.next_asked.new.window ≡ l.self.window = search rules in
     served_same _ _ _ _ _ (Served (Handled (hec was.core number)) (ReadsBy was.window was.met)) number was.core l.self.core l.self.window c.next_asked.new.window was.met l.self.met l.invariant.same_core stays l.invariant.same_met l.invariant.done
+
+pub returns-then-is_starved : goal.returns-then-is_starved
+returns-then-is_starved g c =
+    let now = c.args.self.now in
+    let number = c.args.connection.now.number in
+    let served = Served (Handled (hec now.core number)) (ReadsBy now.window now.met) in
+    record {
+      halts = done_ends _ _ _ served (Anyway (Carried (hec now.core number)) _) (g.met.A.Access.ran_none _) (λ fed called said s left more. ends_starved now.core number now.window now.met left fed called said s more);
+      idle = tt;
+      extent = tt;
+      tokens = tt;
+      goes = tt;
+      only = tt;
+      number = refl;
+      may = tt;
+      writes = counts_other _ _ _ _ _ memory_is_whole refl;
+      same = g.L.Object.same_refl _;
+      apart = g.met.L.Sink.apart_refl _;
+    }
+
+pub returns-in_err-asked : goal.returns-in_err-asked
+returns-in_err-asked g c =
+    let l = c.loop-asked in
+    let was = c.args.self.now in
+    let number = c.args.connection.now.number in
+    let talk = c.in_err-asked.field-0.0 in
+    let served = Served (Handled (hec was.core number)) (ReadsBy l.self.window was.met) in
+    rw (err_of c.from_residual.result talk c.from_residual.ensures.1)
+    (record {
+      goes = tt;
+      halts = (done_then _ _ _ _ _ _ _ _ _ _ served (Anyway (Carried (hec was.core number)) talk) (λ xs ys p q. g.met.A.Access.ran_more _ _ _ xs ys p q) l.invariant.done (done_ends _ _ _ served
+          (Anyway (Carried (hec was.core number)) talk) (g.met.A.Access.ran_none _) (λ fed called said s left more. rw c.in_err-asked.ensures.starved
+          (ends_starved was.core number l.self.window was.met left fed called said s more))));
+      only = subst IsAtMove (sym c.in_err-asked.ensures.starved) tt;
+      idle = tt;
+      extent = tt;
+      tokens = tt;
+      number = l.invariant.same_number;
+      may = tt;
+      writes = counts_other _ _ _ _ _ (λ is. memory_is_whole (sym c.in_err-asked.ensures.starved ∙ is)) l.invariant.writes;
+      same = l.invariant.same;
+      apart = l.invariant.apart;
+    })
+
+pub returns-in_err-serve_item : goal.returns-in_err-serve_item
+returns-in_err-serve_item g c =
+    let l = c.loop-asked in
+    let inv = l.invariant in
+    let was = c.args.self.now in
+    let call = c.in_err-serve_item.ensures in
+    let number = c.args.connection.now.number in
+    let talk = c.in_err-serve_item.field-0.0 in
+    let after = c.next_asked.new.window in
+    let given = subst (λ (core : Tokens). GivesAsked core l.self.window (Some c.in-Some.asked) after) inv.same_core (subst (λ (next : Option Asked). GivesAsked l.self.core l.self.window next after) c.in-Some.is c.in_ok-asked.ensures.gives) in
+    rw (err_of c.from_residual-in_err-serve_item.result talk c.from_residual-in_err-serve_item.ensures.1)
+    (record {
+      goes = tt;
+      halts = (done_then _ _ _ _ _ _ _ _ _ _ _ (Anyway (Carried (hec was.core number)) talk) (λ xs ys p q. g.met.A.Access.ran_more _ _ _ xs ys p q) inv.done
+          (served_halt was.core number _ _ _ _ _ l.self.window after was.met given.0 c.in-Some.asked given.1 given.2 l.connection.number inv.same_number talk call.only call.halts));
+      only = call.only;
+      idle = tt;
+      extent = tt;
+      tokens = tt;
+      number = call.number ∙ inv.same_number;
+      may = tt;
+      writes = counts_passed _ _ _ _ _ _ _ inv.writes call.writes;
+      same = g.L.Object.same_trans _ _ _ inv.same call.same;
+      apart = g.met.L.Sink.apart_trans _ _ _ inv.apart call.apart;
+    })
+
+pub returns-clause-halts : goal.returns-clause-halts
+returns-clause-halts g c = tt
+
+pub returns-clause-only : goal.returns-clause-only
+returns-clause-only g c = tt
+
+pub returns-clause-tokens : goal.returns-clause-tokens
+returns-clause-tokens g c = c.loop-asked.invariant.same_core
+
+pub returns-clause-number : goal.returns-clause-number
+returns-clause-number g c = c.loop-asked.invariant.same_number
+
+pub returns-clause-writes : goal.returns-clause-writes
+returns-clause-writes g c = counts_fine _ _ _ _ _ c.loop-asked.invariant.writes
+
+pub returns-clause-same : goal.returns-clause-same
+returns-clause-same g c = c.loop-asked.invariant.same
+
+pub returns-clause-apart : goal.returns-clause-apart
+returns-clause-apart g c = c.loop-asked.invariant.apart

@@ -7,7 +7,7 @@ use Rattle.conn_serve.specs.Lumber.{lumberjack}
 use Rattle.conn_serve.specs.Done.{Anyway}
 use Rattle.conn_serve.specs.Handled.{Served, ReadBy}
 use Rattle.conn_serve.specs.LumberServing.{Handles}
-use Rattle.conn_serve.proofs.Acting.{err_is}
+use Rattle.conn_serve.proofs.Faults.{counts_fine, counts_passed, err_of, quiet_fine}
 use Rattle.conn_serve.proofs.Leading.{done_start, done_then, so_far_then}
 use Rattle.conn_serve.proofs.LumberSessions.{so_far_few, so_far_handles, served_by, halted_by}
 use Rattle.conn_serve.proofs.lumberjack.session.LumberSessionSession.serve.Goals as goal
@@ -45,35 +45,61 @@ frames-preserved g c =
     let now = c.serve_next.new in
     let frame = served_by _ _ _ _ _ _ number inv.same_number was.window was.core was.staged.entries.items was.staged.last was.fault now.window now.core now.staged.entries.items now.staged.last (call.goes was.fault) in
     record {
-      done = done_then _ _ _ _ _ _ _ _ _ _ _ (Served (Handles number now.core now.staged.entries.items now.staged.last) (ReadBy receiver (Spells Receiver) now.window was.fault)) (λ xs ys p q. g.met.A.Access.ran_more _ _ _ xs ys p q) inv.done frame;
+      done = done_then _ _ _ _ _ _ _ _ _ _ _ (Served (Handles number now.core now.staged.entries.items now.staged.last) (ReadBy receiver (Spells Receiver) now.window was.fault))
+          (λ xs ys p q. g.met.A.Access.ran_more _ _ _ xs ys p q) inv.done frame;
       so_far = so_far_then _ _ _ _ _ _ _ _ inv.so_far frame;
       same_number = call.number ∙ inv.same_number;
       may = rw (← inv.same_number) call.may;
       extent = omega (arith, inv.extent, call.extent);
-      writes = call.writes.quiet (λ is. cc) ∙ inv.writes;
+      writes = quiet_fine _ _ _ _ _ call.writes ∙ inv.writes;
       same = g.L.Object.same_trans _ _ _ inv.same call.same;
       apart = g.met.L.Sink.apart_trans _ _ _ inv.apart call.apart;
     }
 
-pub returns-clause-goes : goal.returns-clause-goes
-returns-clause-goes g c =
+pub returns : goal.returns
+returns g c =
     let l = c.frames in
     let inv = l.invariant in
     let was = l.self in
     let call = c.in_ok-serve_next.ensures in
     let number = c.args.connection.now.number in
     let now = c.serve_next.new in
-    done_then _ _ _ _ _ _ _ _ _ _ _ (Served (Handles number now.core now.staged.entries.items now.staged.last) (ReadBy receiver (Spells Receiver) now.window was.fault)) (λ xs ys p q. g.met.A.Access.ran_more _ _ _ xs ys p q) inv.done
-    (served_by _ _ _ _ _ _ number inv.same_number was.window was.core was.staged.entries.items was.staged.last was.fault now.window now.core now.staged.entries.items now.staged.last (call.goes was.fault))
+    record {
+      goes = done_then _ _ _ _ _ _ _ _ _ _ _ (Served (Handles number now.core now.staged.entries.items now.staged.last) (ReadBy receiver (Spells Receiver) now.window was.fault))
+          (λ xs ys p q. g.met.A.Access.ran_more _ _ _ xs ys p q) inv.done
+          (served_by _ _ _ _ _ _ number inv.same_number was.window was.core was.staged.entries.items was.staged.last was.fault now.window now.core now.staged.entries.items now.staged.last (call.goes was.fault));
+      halts = tt;
+      only = tt;
+      idle = call.idle c.if-branch.false;
+      extent = omega (arith, inv.extent, call.extent);
+      tokens = refl;
+      number = call.number ∙ inv.same_number;
+      may = rw (← inv.same_number) call.may;
+      writes = counts_fine _ _ _ _ _ (quiet_fine _ _ _ _ _ call.writes ∙ inv.writes);
+      same = g.L.Object.same_trans _ _ _ inv.same call.same;
+      apart = g.met.L.Sink.apart_trans _ _ _ inv.apart call.apart;
+    }
 
-pub returns-in_err-serve_next-clause-halts : goal.returns-in_err-serve_next-clause-halts
-returns-in_err-serve_next-clause-halts g c =
+pub returns-in_err-serve_next : goal.returns-in_err-serve_next
+returns-in_err-serve_next g c =
     let l = c.frames in
     let inv = l.invariant in
     let was = l.self in
     let call = c.in_err-serve_next.ensures in
     let number = c.args.connection.now.number in
     let talk = c.in_err-serve_next.field-0.0 in
-    err_is c.from_residual.result talk _ c.from_residual.ensures.1
-    (done_then _ _ _ _ _ _ _ _ _ _ _ (Anyway (Carried (lumberjack number)) talk) (λ xs ys p q. g.met.A.Access.ran_more _ _ _ xs ys p q) inv.done
-    (halted_by _ _ _ _ _ _ number inv.same_number was.window was.core was.staged.entries.items was.staged.last was.fault talk (call.halts was.fault)))
+    rw (err_of c.from_residual.result talk c.from_residual.ensures.1)
+    (record {
+      goes = tt;
+      halts = (done_then _ _ _ _ _ _ _ _ _ _ _ (Anyway (Carried (lumberjack number)) talk) (λ xs ys p q. g.met.A.Access.ran_more _ _ _ xs ys p q) inv.done
+          (halted_by _ _ _ _ _ _ number inv.same_number was.window was.core was.staged.entries.items was.staged.last was.fault talk (call.halts was.fault)));
+      only = call.only;
+      idle = tt;
+      extent = tt;
+      tokens = tt;
+      number = call.number ∙ inv.same_number;
+      may = tt;
+      writes = counts_passed _ _ _ _ _ _ _ inv.writes call.writes;
+      same = g.L.Object.same_trans _ _ _ inv.same call.same;
+      apart = g.met.L.Sink.apart_trans _ _ _ inv.apart call.apart;
+    })

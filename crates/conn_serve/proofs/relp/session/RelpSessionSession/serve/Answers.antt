@@ -6,7 +6,7 @@ use Rattle.conn_serve.specs.Relp.{relp}
 use Rattle.conn_serve.specs.Done.{Anyway}
 use Rattle.conn_serve.specs.Handled.{Served, ReadBy}
 use Rattle.conn_serve.specs.RelpServing.{Handles}
-use Rattle.conn_serve.proofs.Acting.{err_is}
+use Rattle.conn_serve.proofs.Faults.{counts_fine, counts_passed, err_of, quiet_fine}
 use Rattle.conn_serve.proofs.Leading.{done_start, done_then, so_far_then}
 use Rattle.conn_serve.proofs.RelpSessions.{so_far_few, served_by, halted_by}
 use Rattle.conn_serve.proofs.relp.session.RelpSessionSession.serve.Goals as goal
@@ -42,28 +42,52 @@ frames-preserved g c =
       same_number = call.number ∙ inv.same_number;
       may = rw (← inv.same_number) call.may;
       extent = omega (arith, inv.extent, call.extent);
-      writes = call.writes.quiet (λ is. cc) ∙ inv.writes;
+      writes = quiet_fine _ _ _ _ _ call.writes ∙ inv.writes;
       same = g.L.Object.same_trans _ _ _ inv.same call.same;
       apart = g.met.L.Sink.apart_trans _ _ _ inv.apart call.apart;
     }
 
-pub returns-clause-goes : goal.returns-clause-goes
-returns-clause-goes g c =
+pub returns : goal.returns
+returns g c =
     let l = c.frames in
     let inv = l.invariant in
     let call = c.in_ok-serve_next.ensures in
     let number = c.args.connection.now.number in
     let now = c.serve_next.new in
-    done_then _ _ _ _ _ _ _ _ _ _ _ (Served (Handles number now.core) (ReadBy stream.relp IsSpelling now.window l.self.fault)) (λ xs ys p q. g.met.A.Access.ran_more _ _ _ xs ys p q) inv.done
-    (served_by _ _ _ _ _ _ number inv.same_number l.self.window l.self.core l.self.fault now.window now.core (call.goes l.self.fault))
+    record {
+      goes = done_then _ _ _ _ _ _ _ _ _ _ _ (Served (Handles number now.core) (ReadBy stream.relp IsSpelling now.window l.self.fault)) (λ xs ys p q. g.met.A.Access.ran_more _ _ _ xs ys p q) inv.done
+          (served_by _ _ _ _ _ _ number inv.same_number l.self.window l.self.core l.self.fault now.window now.core (call.goes l.self.fault));
+      halts = tt;
+      only = tt;
+      idle = call.idle c.if-branch.false;
+      extent = omega (arith, inv.extent, call.extent);
+      tokens = refl;
+      number = call.number ∙ inv.same_number;
+      may = rw (← inv.same_number) call.may;
+      writes = counts_fine _ _ _ _ _ (quiet_fine _ _ _ _ _ call.writes ∙ inv.writes);
+      same = g.L.Object.same_trans _ _ _ inv.same call.same;
+      apart = g.met.L.Sink.apart_trans _ _ _ inv.apart call.apart;
+    }
 
-pub returns-in_err-serve_next-clause-halts : goal.returns-in_err-serve_next-clause-halts
-returns-in_err-serve_next-clause-halts g c =
+pub returns-in_err-serve_next : goal.returns-in_err-serve_next
+returns-in_err-serve_next g c =
     let l = c.frames in
     let inv = l.invariant in
     let call = c.in_err-serve_next.ensures in
     let number = c.args.connection.now.number in
     let talk = c.in_err-serve_next.field-0.0 in
-    err_is c.from_residual.result talk _ c.from_residual.ensures.1
-    (done_then _ _ _ _ _ _ _ _ _ _ _ (Anyway (Carried (relp number)) talk) (λ xs ys p q. g.met.A.Access.ran_more _ _ _ xs ys p q) inv.done
-    (halted_by _ _ _ _ _ _ number inv.same_number l.self.window l.self.core l.self.fault talk (call.halts l.self.fault)))
+    rw (err_of c.from_residual.result talk c.from_residual.ensures.1)
+    (record {
+      goes = tt;
+      halts = (done_then _ _ _ _ _ _ _ _ _ _ _ (Anyway (Carried (relp number)) talk) (λ xs ys p q. g.met.A.Access.ran_more _ _ _ xs ys p q) inv.done
+          (halted_by _ _ _ _ _ _ number inv.same_number l.self.window l.self.core l.self.fault talk (call.halts l.self.fault)));
+      only = call.only;
+      idle = tt;
+      extent = tt;
+      tokens = tt;
+      number = call.number ∙ inv.same_number;
+      may = tt;
+      writes = counts_passed _ _ _ _ _ _ _ inv.writes call.writes;
+      same = g.L.Object.same_trans _ _ _ inv.same call.same;
+      apart = g.met.L.Sink.apart_trans _ _ _ inv.apart call.apart;
+    })
