@@ -34,7 +34,7 @@ fn is_cut_well<R: Abort + Threads + Wait + Sync>(
 }
 
 /// Whether the call, with its input cut after each number of its bytes, ends and leaves what is due. The frames end at these places,
-/// from 0 to the length of the input; the first outcome is that of no frame, the next one that of the first frame, and so on.
+/// the last one with the input; the first outcome is that of no frame, the next one that of the first frame, and so on.
 pub(crate) fn cuts_well<R: Abort + Threads + Wait + Sync>(
     rt: &R,
     alloc: Global,
@@ -54,5 +54,5 @@ pub(crate) fn cuts_well<R: Abort + Threads + Wait + Sync>(
         }
         is_well = is_cut_well(rt, alloc, play, frames, place) && is_well;
     }
-    is_well
+    is_well && frames == ends.len()
 }

@@ -6,21 +6,31 @@ use edge_io::{MemDoor, MemLink, MemNet, MemPlace, MemScript, MemSink, MemSource}
 use std::alloc::Global;
 use std::process::Abort;
 
-/// The objects that a run uses, by their numbers. Of those of a door and its link there are three, one for each of `PLACES`, in order.
+// The objects that a run uses, by their numbers. Of the first three kinds there is one for each of `PLACES`, in order: the numbers
+// from this one on.
+
+/// The accepts of a door.
 pub(crate) const ACCEPT: usize = 0;
 
+/// The reads of a door's link.
 pub(crate) const READ: usize = 3;
 
+/// The writes of a door's link.
 pub(crate) const WRITE: usize = 6;
 
+/// The reads of the peer that is dialed.
 pub(crate) const PEER_READ: usize = 9;
 
+/// The writes to that peer.
 pub(crate) const PEER_WRITE: usize = 10;
+
 /// The binds, and then the dials.
 pub(crate) const NET: usize = 11;
 
+/// The writes of the output.
 pub(crate) const OUTPUT: usize = 12;
 
+/// The calls of the disk.
 pub(crate) const DISK: usize = 13;
 
 /// A call that fails: the object's number, and the call's from 0. None: no call fails.

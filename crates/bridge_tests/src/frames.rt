@@ -15,7 +15,7 @@ outcome 0 text
 outcome 76 text
 outcome 91 text 0 4294967296 0 2 relp 5%0a
 outcome 115 text 0 4294967296 0 2 relp 5%0a
-cuts 0 61 78 88"#;
+cuts 61 78 88"#;
 
 /// Each kind of wrong frame: where it is found, and what is answered. Nothing is stored.
 pub(crate) const WRONG: &str = r#"1 8192

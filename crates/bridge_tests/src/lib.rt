@@ -47,6 +47,8 @@ mod slots;
 #[cfg(test)]
 mod sweeps;
 #[cfg(test)]
+mod talks;
+#[cfg(test)]
 mod waiting;
 #[cfg(test)]
 mod windows;

@@ -28,7 +28,10 @@ fn part(bytes: &[u8], from: u64, end: u64) -> &[u8] {
 
 // Puts these bytes at the offset, where there has to be a place for all of them.
 fn put(rt: &impl Abort, device: &mut [u8], at: u64, bytes: &[u8]) {
-    assert!(rt; bytes.len() <= device.len() && at <= (device.len() - bytes.len()) as u64);
+    assert!(rt;
+        bytes.len() <= device.len() && at <= (device.len() - bytes.len()) as u64,
+        "put {at}"
+    );
     device[at as usize..at as usize + bytes.len()].copy_from_slice(bytes);
 }
 
@@ -201,7 +204,7 @@ fn looks<R: Abort + Threads + Wait + Sync>(
 ///   input and of each write of the output, of which all leave these, and `61*0` stands for 61 places 0; `stops`: it is made
 ///   with the machine stopped at each call of the disk;
 /// - `cuts ENDS`: the call is made with its input cut after each number of its bytes, from none to all; its frames end at
-///   these places, from 0 on, and the outcomes are those of no frame, of the first one, and so on.
+///   these places, and the outcomes are those of no frame, of the first one, and so on.
 pub(crate) fn run_script<R: Abort + Threads + Wait + Sync>(
     rt: &R,
     alloc: Global,

@@ -1,14 +1,13 @@
 //! `serve` over doors in memory: what it prints, and what each call that fails leaves.
 
-use crate::failing::{
-    DISK, Failing, NET, OUTPUT, PEER_READ, PEER_WRITE, READ, WRITE, calls_of, net,
-};
+use crate::failing::{DISK, Failing, NET, OUTPUT, PEER_READ, PEER_WRITE, READ, calls_of, net};
 use crate::parts::MEMORY;
-use crate::places::{EVENTS, PLACES, Place, WORDS};
+use crate::places::{EVENTS, WORDS};
 use crate::play::{Left, formatted, made, plain};
+use crate::talks::{are_kept, talks_end};
 use bridge_words::Note;
 use edge_disk::{Disk, MemDisk};
-use edge_io::{MemDoor, MemNet, MemSink, MemSource, Net, Sink};
+use edge_io::{MemNet, MemSink, MemSource, Net, Sink};
 use std::alloc::Global;
 use std::process::Abort;
 use std::sync::Wait;
@@ -22,23 +21,23 @@ const CLOSE: &[u8] = b" close 0\n";
 
 /// The sessions with the peer.
 #[derive(Drop)]
-struct Sessions {
+pub(crate) struct Sessions {
     /// What was written in all of them.
-    sent: Vec<u8>,
+    pub sent: Vec<u8>,
     /// Whether one of them ended before its `close` was written, and whether the last one did.
-    has_cut: bool,
-    is_cut: bool,
+    pub has_cut: bool,
+    pub is_cut: bool,
 }
 
 /// What a run left.
 #[derive(Drop)]
-struct Served {
-    left: Left,
-    sessions: Sessions,
+pub(crate) struct Served {
+    pub left: Left,
+    pub sessions: Sessions,
     /// The events that are pending, a line each.
-    pending: Vec<u8>,
+    pub pending: Vec<u8>,
     /// Whether the call of the disk, the net or the output that is to fail comes only after the run.
-    comes_next: bool,
+    pub comes_next: bool,
 }
 
 fn sessions_of(rt: &impl Abort, alloc: Global, net: &MemNet) -> Sessions {
@@ -96,49 +95,6 @@ fn run<R: Abort + Threads + Wait + Sync>(rt: &R, alloc: Global, failing: Failing
         pending: list.output.taken().to_vec(alloc).expect(rt, MEMORY),
         comes_next,
     }
-}
-
-// Whether some bytes have others among them.
-fn has(bytes: &[u8], part: &[u8]) -> bool {
-    for at in 0..bytes.len() {
-        if bytes[at..].starts_with(part) {
-            return true;
-        }
-    }
-    false
-}
-
-// Whether each event that was acknowledged to the link of a place is pending, or was sent.
-fn is_kept(place: &Place, written: &[u8], run: &Served) -> bool {
-    let mut rest = written;
-    for answer in place.answers {
-        match rest.strip_prefix(answer.text) {
-            Some(more) => rest = more,
-            None => return true,
-        }
-        for event in answer.events {
-            if !has(&run.pending, event) && !has(&run.sessions.sent, event) {
-                return false;
-            }
-        }
-    }
-    true
-}
-
-// Whether that holds of all places.
-fn are_kept(run: &Served) -> bool {
-    let doors = run.left.doors.as_slice();
-    for number in 0..doors.len() {
-        let Some(place) = PLACES.get(number) else {
-            return false;
-        };
-        for talk in doors[number].talks() {
-            if !is_kept(place, &talk.written, run) {
-                return false;
-            }
-        }
-    }
-    true
 }
 
 // Whether the line says how many are pending. At a fault of the disk it may say more, at most all events: the last change may have
@@ -208,58 +164,6 @@ fn may_end(object: usize, number: u64, run: &Served) -> bool {
         Note::WriteFault => object == OUTPUT || (object == PEER_WRITE && run.sessions.is_cut),
         _ => false,
     }
-}
-
-// Whether that was written to the link of a place, which gave all that it has.
-fn is_answered(place: &Place, written: &[u8]) -> bool {
-    let mut rest = written;
-    for answer in place.answers {
-        match rest.strip_prefix(answer.text) {
-            Some(more) => rest = more,
-            None => return false,
-        }
-    }
-    rest.is_empty()
-}
-
-// Whether the talk at this place ended with this status, answered whole where that is 0; or whether there was none.
-fn ends_talk(place: &Place, door: &MemDoor, status: Option<u8>) -> bool {
-    match (door.talks(), status) {
-        ([talk, ..], Some(status)) => {
-            talk.status == status && (status != 0 || is_answered(place, &talk.written))
-        }
-        ([], None) => true,
-        _ => false,
-    }
-}
-
-// Whether each talk ended as it has to where that call fails; there is none where its accept fails. One call of the disk may end one
-// talk, whichever made it.
-fn talks_end(object: usize, run: &Served) -> bool {
-    let mut has_fault = object != DISK;
-    let doors = run.left.doors.as_slice();
-    for number in 0..doors.len() {
-        let Some(place) = PLACES.get(number) else {
-            return false;
-        };
-        let status = if object == number {
-            None
-        } else if object == READ.saturating_add(number) {
-            Some(71)
-        } else if object == WRITE.saturating_add(number) {
-            Some(72)
-        } else {
-            Some(0)
-        };
-        if ends_talk(place, &doors[number], status) {
-            continue;
-        }
-        if has_fault || !ends_talk(place, &doors[number], Some(73)) {
-            return false;
-        }
-        has_fault = true;
-    }
-    true
 }
 
 // Whether a run left all that it has to where no call fails. A print that fails ends no talk.

@@ -74,11 +74,11 @@ fn tells(
 }
 
 /// Checks a table, in pieces of each size where its texts are streams. A row is a text, `=>`, and what that tells, both as
-/// [`spell`] has them. A row's text may stand on several lines. Lines that begin with `//` say what follows.
+/// [`spell`] has them. A row's text may stand on several lines, each but the last with ` +` at its end. Lines that begin with `//` say what follows.
 pub fn check(rt: &impl Abort, alloc: Global, form: &Form, sizes: &[usize], table: &str) {
     let mut text = Vec::new(alloc);
     for line in table.lines() {
-        if line.starts_with("//") {
+        if line.is_empty() || line.starts_with("//") {
             continue;
         }
         match line.split_once("=>") {
@@ -87,7 +87,10 @@ pub fn check(rt: &impl Abort, alloc: Global, form: &Form, sizes: &[usize], table
                 assert!(rt; tells(rt, alloc, form, sizes, &text, wants), "{line}");
                 text.clear();
             }
-            None => spell(rt, alloc, line.trim(), &mut text),
+            None => {
+                let part = line.strip_suffix(" +").expect(rt, "a row tells nothing");
+                spell(rt, alloc, part, &mut text);
+            }
         }
     }
     assert!(rt; text.is_empty(), "a row tells nothing");

@@ -101,12 +101,13 @@ pub(crate) fn numbers_of(rt: &impl Abort, alloc: Global, row: &str, field: &str)
 
 /// The one number of a field; this one where the row hasn't the field.
 pub(crate) fn number_of(rt: &impl Abort, row: &str, field: &str, otherwise: u64) -> u64 {
-    let mut found = otherwise;
+    let mut found = None;
     for line in row.lines() {
         let (first, number) = word(line);
         if first == field {
-            found = number.parse::<u64>().expect(rt, line);
+            assert!(rt; found.is_none(), "a second {field}: {line}");
+            found = Some(number.parse::<u64>().expect(rt, line));
         }
     }
-    found
+    found.unwrap_or(otherwise)
 }

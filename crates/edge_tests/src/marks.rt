@@ -52,6 +52,7 @@ fn are(stretches: &[Stretch], numbers: &[u64]) -> bool {
 /// Each row's stretch is added, and the row's numbers are known then.
 pub(crate) fn marks_in_turn(rt: &impl Abort, alloc: Global) {
     let mut known = KnownNumbers::reserve(alloc).expect(rt, "memory");
+    assert!(rt; ROWS.lines().count() == 16);
     for row in ROWS.lines() {
         let numbers = numbers_of(rt, alloc, row);
         let [from, to, cursor, after @ ..] = numbers.as_slice() else {

@@ -96,7 +96,7 @@ pub(crate) fn a_net_binds_the_doors_of_a_place(rt: &impl Abort, alloc: Global) {
             Ok(made) => is_bound && made.len() == doors as usize,
             Err(fault) => !is_bound && fault == NetFault::Fault,
         };
-        assert!(rt; is_right);
+        assert!(rt; is_right, "{doors} doors, {is_bound}");
     }
     assert!(rt; matches!(net.dial("r"), Err(NetFault::Fault)), "no script");
 }

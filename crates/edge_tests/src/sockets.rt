@@ -45,10 +45,11 @@ fn links_are_dialed_accepted_read_and_written(
     net: &mut TcpNet<'_, HostRuntime>,
     place: &str,
 ) {
-    let mut doors = net.bind(place, 2).expect(rt, "a free port");
+    let doors = net.bind(place, 2).expect(rt, "a free port");
     assert!(rt; doors.len() == 2);
-    for door in doors.iter_mut() {
-        let (mut near, mut far) = pair(rt, net, door, place);
+    // Each door is dropped before the next one is used, which accepts all the same.
+    for mut door in doors {
+        let (mut near, mut far) = pair(rt, net, &mut door, place);
         pass(rt, &mut near, &mut far, b"question");
         pass(rt, &mut far, &mut near, b"answer");
         net.hang_up(near);

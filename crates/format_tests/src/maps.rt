@@ -51,7 +51,9 @@ fn bytes_of(rt: &impl Abort, alloc: Global, spelt: &str) -> Vec<u8> {
 
 // The entry of an event, all its numbers 0.
 fn entry_of(rt: &impl Abort, alloc: Global, origin: u8, text: &[u8]) -> Vec<u8> {
-    let length = u32::try_from(text.len()).ok().expect(rt, "a long text");
+    let length = u32::try_from(text.len())
+        .ok()
+        .expect(rt, "a text that isn't too long");
     let mut entry = vec![in alloc; 0; 25].expect(rt, "memory");
     entry[0] = origin;
     add(rt, &mut entry, &length.to_be_bytes());

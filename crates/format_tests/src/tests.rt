@@ -51,6 +51,7 @@ fn events_and_their_forms(rt: HostRuntime) {
     ] {
         words::check(&rt, alloc, table);
     }
+    words::fault_texts(&rt);
     notes::texts(&rt, alloc);
     notes::lines(&rt, alloc);
 }

@@ -6,7 +6,7 @@ pub mod rows_of_drain;
 pub mod rows_of_replay;
 pub mod rows_of_serve;
 
-use bridge_words::{Command, Need, need_of, wrong_words};
+use bridge_words::{Command, Need, WordsFault, need_of, wrong_words};
 use std::alloc::Global;
 use std::process::Abort;
 
@@ -63,5 +63,48 @@ pub fn check(rt: &impl Abort, alloc: Global, table: &str) {
         let (spelt, want) = row.split_once("=>").expect(rt, "what the words are");
         let words = words_of(rt, alloc, spelt.trim());
         assert!(rt; told(rt, alloc, &words).as_str() == want.trim(), "{row}");
+    }
+}
+
+// What is wrong with words, and the text for it.
+const FAULTS: [(WordsFault, &str); 24] = [
+    (WordsFault::NoCommand, "no command is named"),
+    (WordsFault::UnknownWord, "unknown word or option"),
+    (WordsFault::MissingWord, "a word is missing"),
+    (WordsFault::MissingValue, "an option has no value"),
+    (WordsFault::GivenTwice, "an option is given twice"),
+    (WordsFault::Slots, "SLOTS: 1 to 1024"),
+    (WordsFault::Size, "SIZE: 4096 to 1073741824"),
+    (WordsFault::Proto, "PROTO: relp, lumberjack or hec"),
+    (WordsFault::Place, "PLACE: empty"),
+    (WordsFault::Number, "NUMBER: 0 to 2147483647"),
+    (WordsFault::Count, "COUNT: 0 to 100000"),
+    (WordsFault::Form, "--as: relp, json or hec"),
+    (WordsFault::Token, "--token: no GUID"),
+    (WordsFault::AckToken, "--ack-token: no GUID"),
+    (WordsFault::OutToken, "--out-token: no GUID"),
+    (WordsFault::OutChannel, "--out-channel: no GUID"),
+    (WordsFault::Polls, "--polls: 1 to 1000"),
+    (WordsFault::NoOutToken, "hec: --out-token is needed"),
+    (WordsFault::NoOutChannel, "hec: --out-channel is needed"),
+    (WordsFault::Workers, "--workers: 1 to 16"),
+    (WordsFault::Talks, "--talks: 1 to 67108864"),
+    (
+        WordsFault::NoDoor,
+        "serve: --relp, --lumberjack or --hec is needed",
+    ),
+    (WordsFault::NoTo, "--forward: --to is needed"),
+    (WordsFault::NoForward, "--to: --forward is needed"),
+];
+
+// The rows. A test's proof sees none of them this way, so that it stays short.
+fn faults() -> &'static [(WordsFault, &'static str)] {
+    &FAULTS
+}
+
+/// Each fault has its text, so the text in a row says which fault it is.
+pub fn fault_texts(rt: &impl Abort) {
+    for (fault, text) in faults() {
+        assert!(rt; fault.text() == *text, "{text}");
     }
 }

@@ -40,8 +40,11 @@ fn stops(rt: &impl Abort, alloc: Global, device: &[u8], step: Step<'_>) -> Optio
 // Does one step, and answers whether it says what it has to.
 fn follow(rt: &impl Abort, alloc: Global, play: &mut Play, line: &str) -> bool {
     let step = step_of(line);
-    if step.name.is_empty() || step.name == "-" || lays(rt, alloc, play, step) {
+    if step.name.is_empty() || step.name == "-" {
         return true;
+    }
+    if lays(rt, alloc, play, step) {
+        return step.want.is_empty();
     }
     if let Some(is_well) = stops(rt, alloc, &play.device, step) {
         return is_well;

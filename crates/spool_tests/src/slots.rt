@@ -33,6 +33,7 @@ fn adds(
     spelled: &str,
     want: &str,
 ) -> bool {
+    assert!(rt; count > 0);
     let mut last = Ok(());
     for _ in 0..count {
         let bench = play.bench.take().expect(rt, "a slot");
@@ -88,7 +89,7 @@ fn fills(rt: &impl Abort, alloc: Global, play: &mut Play, step: Step<'_>) -> Opt
         "begin" => {
             let bench = begun(rt, alloc, number(rt, first), number(rt, more), 0);
             play.bench = Some(bench);
-            Some(true)
+            Some(step.want.is_empty())
         }
         "add" => Some(adds(rt, alloc, play, 1, step.rest, step.want)),
         "adds" => Some(adds(rt, alloc, play, number(rt, first), more, step.want)),

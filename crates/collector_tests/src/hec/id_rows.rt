@@ -1,4 +1,6 @@
 //! Calls of tables of ids, and what they answer: `C` and `O` are channels, and others are named by their numbers.
+//! `issue_often C 10000` issues so many ids on `C`, `issue_on_each 0 1000` one on each of so many channels from 0 on, and `ask_at_once`
+//! asks for 6, 8 and 7. The answers are worked out by hand.
 
 /// The run of a table, its first id, and the calls that it gets.
 pub const TABLES: [(u32, u32, &str); 6] = [

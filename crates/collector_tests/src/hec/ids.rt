@@ -1,4 +1,4 @@
-//! The answers of the table of ids, worked out by hand.
+//! Calls of the table of ids, as rows have them.
 use crate::hec::id_rows::TABLES;
 use crate::spelling::shown;
 use hec_ids::Ids;
@@ -36,12 +36,12 @@ fn asked_at_once(ids: &mut Ids, channel: u128) -> [bool; 3] {
     known
 }
 
-// Whether so many ids are issued, on one channel or each on a channel of its own.
-fn issues(ids: &mut Ids, count: u64, is_one: bool) -> bool {
+// Whether so many ids are issued, on this channel or each on a channel of its own, of which this is the first.
+fn issues(ids: &mut Ids, first: u128, count: u64, is_one: bool) -> bool {
     let mut all = true;
     for number in 0..count {
-        let channel = if is_one { CHANNEL } else { u128::from(number) };
-        all = ids.issue(channel).is_ok() && all;
+        let offset = if is_one { 0 } else { u128::from(number) };
+        all = ids.issue(first.wrapping_add(offset)).is_ok() && all;
     }
     all
 }
@@ -61,8 +61,8 @@ fn answer(
         "settle" => shown(rt, alloc, &ids.settle(channel, number)),
         "forget" => shown(rt, alloc, &ids.forget(channel, number)),
         "ask" => shown(rt, alloc, &asked(ids, channel, number)),
-        "issue_often" => shown(rt, alloc, &issues(ids, number, true)),
-        "issue_on_each" => shown(rt, alloc, &issues(ids, number, false)),
+        "issue_often" => shown(rt, alloc, &issues(ids, channel, number, true)),
+        "issue_on_each" => shown(rt, alloc, &issues(ids, channel, number, false)),
         _ => panic!(rt; "no call: {name}"),
     }
 }
@@ -73,11 +73,17 @@ fn is_answered(rt: &impl Abort, alloc: Global, ids: &mut Ids, row: &str) -> bool
     let mut words = call.split(' ');
     let name = words.next().expect(rt, "a call");
     let channel = channel_of(rt, words.next().expect(rt, "a channel"));
-    let number = words
-        .next()
-        .unwrap_or("0")
-        .parse::<u64>()
-        .expect(rt, "a number");
+    let number = match words.next() {
+        Some(word) => word.parse::<u64>().expect(rt, "a number"),
+        None => {
+            assert!(rt;
+                name == "issue" || name == "ask_at_once",
+                "no number: {row}"
+            );
+            0
+        }
+    };
+    assert!(rt; words.next().is_none(), "a word too many: {row}");
     answer(rt, alloc, ids, name, channel, number).as_str() == want
 }
 

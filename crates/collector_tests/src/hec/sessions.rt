@@ -10,7 +10,7 @@ const CHANNEL: u128 = 0xcccc_cccc_2222_3333_4444_5555_5555_5555;
 
 // The field that a letter stands for: `P` and `A` the Authorization with each of the tokens, `C` the channel, `Z` one that is no
 // GUID, `T` a second Authorization, and `G` and `I` codings.
-fn lettered(letter: u8) -> &'static [u8] {
+fn lettered(rt: &impl Abort, letter: u8) -> &'static [u8] {
     match letter {
         b'P' => b"Authorization: Splunk 11111111-2222-3333-4444-555555555555\r\n",
         b'A' => b"Authorization: Splunk aaaaaaaa-2222-3333-4444-555555555555\r\n",
@@ -19,7 +19,7 @@ fn lettered(letter: u8) -> &'static [u8] {
         b'T' => b"authorization: Splunk 11111111-2222-3333-4444-555555555555\r\n",
         b'G' => b"Content-Encoding: gzip\r\n",
         b'I' => b"content-encoding: Identity\r\n",
-        _ => b"Unknown: letter\r\n",
+        _ => panic!(rt; "no field has this letter"),
     }
 }
 
@@ -33,7 +33,7 @@ fn add_head(rt: &impl Abort, line: &str, authorization: &str, letters: &str, hea
         add(rt, head, b"\r\n");
     }
     for letter in letters.as_bytes() {
-        add(rt, head, lettered(*letter));
+        add(rt, head, lettered(rt, *letter));
     }
 }
 
@@ -46,6 +46,7 @@ fn request_of(rt: &impl Abort, alloc: Global, row: &str) -> Vec<u8> {
     let letters = parts.next().expect(rt, "letters");
     let authorization = parts.next().expect(rt, "an Authorization");
     let body = parts.next().expect(rt, "a body");
+    assert!(rt; parts.next().is_none(), "a bar too many");
     let mut text = Vec::new(alloc);
     add_head(rt, line, authorization, letters, &mut text);
     if !body.is_empty() {

@@ -5,7 +5,7 @@
 pub const REPLIES: &str = r#"
 =>
 // Replies of the collector, one after another.
-HTTP/1.1 200 OK\r\nContent-Type: application/json\r\nContent-Length: 27\r\n\r\n{"text":"Success","code":0}HTTP/1.1 400 Bad Request\r\n
+HTTP/1.1 200 OK\r\nContent-Type: application/json\r\nContent-Length: 27\r\n\r\n{"text":"Success","code":0}HTTP/1.1 400 Bad Request\r\n +
 Content-Type: application/json\r\nContent-Length: 2\r\n\r\n{} => @0 200|{"text":"Success","code":0}@98 400|{}
 HTTP/1.1 200 OK\r\nContent-Length: 27\r\n\r\n{"text":"Success" => #0
 HTTP/1.1 20 => #0
@@ -15,7 +15,7 @@ HTTP/1.1 20 => #0
 HTTP/1.1 100 Continue\r\n\r\nHTTP/1.1 200 OK\r\nContent-Length: 1\r\n\r\nx => @25 200|x
 HTTP/1.1 103 Early Hints\r\nContent-Length: 5\r\n\r\nHTTP/1.1 199 \r\n\r\n =>
 // Chunks.
-HTTP/1.1 503 Service Unavailable\r\nTransfer-Encoding: chunked\r\n\r\n2;a=b\r\n{"\r\n3\r\na":\r\n0\r\nT: v\r\n\r\nHTTP/1.1 200 OK\r\n
+HTTP/1.1 503 Service Unavailable\r\nTransfer-Encoding: chunked\r\n\r\n2;a=b\r\n{"\r\n3\r\na":\r\n0\r\nT: v\r\n\r\nHTTP/1.1 200 OK\r\n +
 Content-Length: 0\r\n\r\n => @0 503|{"a":@94 200|
 // Faults of heads.
 GET / HTTP/1.1\r\n => #0!0 head

@@ -21,28 +21,28 @@ POST /c HTTP/1.1\r\nTransfer-Encoding: chunked\r\n\r\n2 ;x=y\r\nab\r\n00\r\nT: v
 POST /c HTTP/1.1\r\nTransfer-Encoding: chunked\r\n\r\n2\r\nab\r => #0
 // What real clients wrote.
 // curl 7.88, two events.
-POST /services/collector/event HTTP/1.1\r\nHost: 127.0.0.1:25841\r\nUser-Agent: curl/7.88.1\r\nAccept: */*\r\n
-Authorization: Splunk 11111111-2222-3333-4444-555555555555\r\nContent-Length: 33\r\nContent-Type: application/x-www-form-urlencoded\r\n\r\n
+POST /services/collector/event HTTP/1.1\r\nHost: 127.0.0.1:25841\r\nUser-Agent: curl/7.88.1\r\nAccept: */*\r\n +
+Authorization: Splunk 11111111-2222-3333-4444-555555555555\r\nContent-Length: 33\r\nContent-Type: application/x-www-form-urlencoded\r\n\r\n +
 {"event":"a"}{"event":{"b":1.50}} => |/services/collector/event|{"event":"a"}{"event":{"b":1.50}}
 // curl 7.88, HEAD.
-HEAD /services/collector/health HTTP/1.1\r\nHost: 127.0.0.1:25862\r\nUser-Agent: curl/7.88.1\r\nAccept: */*\r\n
+HEAD /services/collector/health HTTP/1.1\r\nHost: 127.0.0.1:25862\r\nUser-Agent: curl/7.88.1\r\nAccept: */*\r\n +
 Authorization: Splunk 11111111-2222-3333-4444-555555555555\r\n\r\n => |/services/collector/health|
 // curl 7.88, GET.
 GET /services/collector/health HTTP/1.1\r\nHost: 127.0.0.1:25843\r\nUser-Agent: curl/7.88.1\r\nAccept: */*\r\n\r\n => |/services/collector/health|
 // curl 7.88, raw lines.
-POST /services/collector/raw?channel=cccccccc-2222-3333-4444-555555555555&sourcetype=x HTTP/1.1\r\nHost: 127.0.0.1:25842\r\n
-User-Agent: curl/7.88.1\r\nAccept: */*\r\nAuthorization: Splunk 11111111-2222-3333-4444-555555555555\r\nContent-Length: 5\r\n
-Content-Type: application/x-www-form-urlencoded\r\n\r\np\r\n\nq
+POST /services/collector/raw?channel=cccccccc-2222-3333-4444-555555555555&sourcetype=x HTTP/1.1\r\nHost: 127.0.0.1:25842\r\n +
+User-Agent: curl/7.88.1\r\nAccept: */*\r\nAuthorization: Splunk 11111111-2222-3333-4444-555555555555\r\nContent-Length: 5\r\n +
+Content-Type: application/x-www-form-urlencoded\r\n\r\np\r\n\nq +
 => |/services/collector/raw?channel=cccccccc-2222-3333-4444-555555555555&sourcetype=x|p\r\n\nq
 // curl 7.88, two requests on one connection.
-POST /services/collector/event HTTP/1.1\r\nHost: 127.0.0.1:25852\r\nUser-Agent: curl/7.88.1\r\nAccept: */*\r\n
-Authorization: Splunk aaaaaaaa-2222-3333-4444-555555555555\r\nX-Splunk-Request-Channel: cccccccc-2222-3333-4444-555555555555\r\nContent-Length: 13\r\n
-Content-Type: application/x-www-form-urlencoded\r\n\r\n{"event":"a"}POST /services/collector/ack HTTP/1.1\r\nHost: 127.0.0.1:25852\r\n
-User-Agent: curl/7.88.1\r\nAccept: */*\r\nAuthorization: Splunk aaaaaaaa-2222-3333-4444-555555555555\r\n
-X-Splunk-Request-Channel: cccccccc-2222-3333-4444-555555555555\r\nContent-Length: 21\r\nContent-Type: application/x-www-form-urlencoded\r\n\r\n
+POST /services/collector/event HTTP/1.1\r\nHost: 127.0.0.1:25852\r\nUser-Agent: curl/7.88.1\r\nAccept: */*\r\n +
+Authorization: Splunk aaaaaaaa-2222-3333-4444-555555555555\r\nX-Splunk-Request-Channel: cccccccc-2222-3333-4444-555555555555\r\nContent-Length: 13\r\n +
+Content-Type: application/x-www-form-urlencoded\r\n\r\n{"event":"a"}POST /services/collector/ack HTTP/1.1\r\nHost: 127.0.0.1:25852\r\n +
+User-Agent: curl/7.88.1\r\nAccept: */*\r\nAuthorization: Splunk aaaaaaaa-2222-3333-4444-555555555555\r\n +
+X-Splunk-Request-Channel: cccccccc-2222-3333-4444-555555555555\r\nContent-Length: 21\r\nContent-Type: application/x-www-form-urlencoded\r\n\r\n +
 {"acks":[4294967296]} => |/services/collector/event|{"event":"a"}|/services/collector/ack|{"acks":[4294967296]}
 // The log driver of Docker 20.10, before its first request.
-OPTIONS /services/collector/event/1.0 HTTP/1.1\r\nHost: 127.0.0.1:25221\r\nUser-Agent: Go-http-client/1.1\r\nAccept-Encoding: gzip\r\n\r\n
+OPTIONS /services/collector/event/1.0 HTTP/1.1\r\nHost: 127.0.0.1:25221\r\nUser-Agent: Go-http-client/1.1\r\nAccept-Encoding: gzip\r\n\r\n +
 => |/services/collector/event/1.0|"#;
 
 /// Streams with a fault.

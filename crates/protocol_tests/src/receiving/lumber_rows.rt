@@ -3,6 +3,7 @@
 /// A stream, the acts for its frames, the texts of its events, and the acknowledgments.
 pub type Row = (&'static [u8], &'static str, &'static [u8], &'static [u8]);
 
+/// Small connections: windows, cut ones, frames outside a window, pairs, and unfinished ones.
 pub const ROWS: &[Row] = &[
     (b"", "", b"", b""),
     // A window of two frames is one batch.

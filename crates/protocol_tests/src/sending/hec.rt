@@ -55,7 +55,7 @@ pub(crate) fn long_sessions(rt: &impl Abort, alloc: Global) {
     for (entries, answers, bodies, turns) in LONG_ROWS {
         let peer = replies(rt, alloc, answers, b"");
         let session = talk(rt, alloc, 1, entries, &peer, 4096);
-        assert!(rt; session.turns.as_str() == *turns);
+        assert_eq!(rt; session.turns.as_str(), *turns);
         sizes(rt, alloc, &session.sizes, bodies);
     }
 }

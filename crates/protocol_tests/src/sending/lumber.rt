@@ -39,7 +39,8 @@ pub(crate) fn long_sessions(rt: &impl Abort, alloc: Global) {
     for (entries, peer, windows, turns) in LONG_ROWS {
         for size in [1, 4096] {
             let session = talk(rt, alloc, entries, peer, size);
-            assert!(rt; session.turns.as_str() == *turns && session.out.len() <= 1 << 30);
+            assert_eq!(rt; session.turns.as_str(), *turns);
+            assert!(rt; session.out.len() <= 1 << 30);
             assert!(rt; sizes(rt, alloc, &session.out).as_slice() == *windows);
         }
     }

@@ -84,7 +84,7 @@ fn told(
     turns: &str,
 ) {
     let session = talk(rt, alloc, entries, peer, size);
-    assert!(rt; session.turns.as_str() == turns);
+    assert_eq!(rt; session.turns.as_str(), turns);
 }
 
 /// Answers that an `imrelp` gave.

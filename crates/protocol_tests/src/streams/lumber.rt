@@ -111,7 +111,7 @@ pub(crate) fn full(rt: &impl Abort, alloc: Global) {
     steps(rt, alloc, &short, SHORT_STEPS);
 }
 
-/// A pair of keys that are the same.
+/// Two pairs with the same key.
 const PAIRS: &[u8] = b"\0\0\0\x01a\0\0\0\x01x\0\0\0\x01a\0\0\0\x01y";
 
 /// Whether this is a window of 256 frames.

@@ -90,7 +90,9 @@ pub fn by_window(rt: &impl Abort, alloc: Global, text: &[u8], size: usize) -> (R
     let mut out = Vec::new(alloc);
     let mut found = None;
     for piece in text.chunks(size) {
+        let before = found;
         found = fed.read(rt, alloc, piece, &mut out);
+        assert!(rt; before.is_none() || found == before);
     }
     ((out, fed.window.rest_at(), found), fed.window.held())
 }

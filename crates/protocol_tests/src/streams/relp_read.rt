@@ -33,7 +33,9 @@ pub fn by_window(rt: &impl Abort, alloc: Global, text: &[u8], size: usize) -> (R
     let mut fed = 0;
     while fed < text.len() {
         let next = (fed + size).min(text.len());
-        fault = window.feed(&text[fed..next]).err();
+        if let Err(found) = window.feed(&text[fed..next]) {
+            fault = Some(found);
+        }
         drain(rt, alloc, &mut window, &mut frames);
         fed = next;
     }

@@ -62,7 +62,8 @@ fn check(
     let wrong = wrong_part(rt, alloc, row, &left);
     assert!(rt;
         wrong.is_empty(),
-        "{wrong}, step {step}, {cut} bytes: {row}"
+        "{wrong}, step {step}, {cut} bytes; it ended by {}: {row}",
+        left.ends
     );
 }
 
@@ -88,6 +89,7 @@ pub(crate) fn check_rows(rt: &impl Abort, alloc: Global, proto: Proto, rows: &st
 
 /// Each second entry of 600 is acknowledged, of which the spool keeps 240 apart.
 pub(crate) fn check_scattered(rt: &impl Abort, alloc: Global, row: &str) {
+    check_form(rt, row, WORDS, 1);
     let mut sends = peer(rt, alloc, row);
     for place in 0..300_u64 {
         let number = (2 * place + 3).to_string(alloc).expect(rt, "memory");

@@ -1,5 +1,5 @@
 //! The lines of loads. Their numbers were worked out from the standards' layouts by another program.
-use crate::forwarding::fields::{number, word};
+use crate::forwarding::fields::word;
 use edge_io::Proto;
 use load_run::{load, load_line};
 use std::alloc::Global;
@@ -25,10 +25,13 @@ pub(crate) const HEC: &str = "5 0 0 events, 0 bytes in, 0 bytes out, 0 confirmed
 
 /// Each load of these has its line, and an LF.
 pub(crate) fn check_lines(rt: &impl Abort, alloc: Global, proto: Proto, rows: &str) {
+    assert!(rt; rows.lines().count() == 4);
     for row in rows.lines() {
         let (first, rest) = word(row);
         let (second, wanted) = word(rest);
-        let loaded = load(alloc, proto, number(first), number(second).min(100_000));
+        let first = first.parse::<u32>().expect(rt, row);
+        let second = second.parse::<u32>().expect(rt, row);
+        let loaded = load(alloc, proto, first, second.min(100_000));
         let line = load_line(alloc, &loaded.expect(rt, row)).expect(rt, "memory");
         assert_eq!(rt; line.as_str().strip_suffix('\n'), Some(wanted));
     }

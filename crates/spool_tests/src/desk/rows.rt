@@ -92,7 +92,11 @@ fn tells(rt: &impl Abort, alone: &mut Alone<MemDisk>, name: &str, channel: u128,
 // Whether an id is issued, or was as it was asked, as the step says.
 fn id_says(rt: &impl Abort, alone: &mut Alone<MemDisk>, step: Step<'_>) -> bool {
     let (name, id) = word(step.rest);
-    let channel = if name == "ours" { CHANNEL } else { OTHER };
+    let channel = match name {
+        "ours" => CHANNEL,
+        "other" => OTHER,
+        _ => panic!(rt; "no such channel"),
+    };
     if step.name == "issue" {
         let id = alone.issue(channel).expect(rt, "an id");
         return are(step.want, &[id]);
@@ -123,11 +127,10 @@ fn takes(
 fn knows(rt: &impl Abort, alone: &mut Alone<MemDisk>, step: Step<'_>) -> bool {
     let end = alone.end();
     let (first, more) = word(step.rest);
-    let first = number(rt, first);
     let answer = if step.name == "mark" {
-        alone.mark(&[within(first, number(rt, more), end)])
+        alone.mark(&[within(number(rt, first), number(rt, more), end)])
     } else {
-        alone.confirm(first.min(end))
+        alone.confirm(number(rt, step.rest).min(end))
     };
     answer.is_ok() && step.want == "done"
 }

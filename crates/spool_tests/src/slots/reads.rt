@@ -133,7 +133,7 @@ pub(crate) fn costs(rt: &impl Abort, alloc: Global, bench: &Bench, step: Step<'_
     are(step.want, &[units.len() as u64, disk.reads, disk.bytes])
 }
 
-// What is told of the units of all entries from a number on.
+// The units of all entries from a number on, as a script spells them.
 fn told_from(rt: &impl Abort, alloc: Global, bench: &Bench, number: u64, most: u64) -> String {
     let mut disk = counting(rt, alloc, bench.disk.bytes());
     let units = units_from(rt, alloc, &mut disk, &bench.slot, number, most);
@@ -144,8 +144,9 @@ fn told_from(rt: &impl Abort, alloc: Global, bench: &Bench, number: u64, most: u
 pub(crate) fn reads_units(rt: &impl Abort, alloc: Global, bench: &Bench, step: Step<'_>) -> bool {
     let (first, sizes) = word(step.rest);
     let (least, most) = word(sizes);
-    let first = number(rt, first);
-    for size in number(rt, least)..=number(rt, most) {
+    let (first, least, most) = (number(rt, first), number(rt, least), number(rt, most));
+    assert!(rt; least <= most);
+    for size in least..=most {
         if told_from(rt, alloc, bench, first, size).as_str() != step.want {
             return false;
         }

@@ -2,7 +2,7 @@
 
 // What the first pass's take answers; the id that it is issued; whether that is told as settled; what the other's take
 // answers; what it reads then, a line for each entry with its number, connection and index; whether its confirm was done;
-// whether the id is told to it; the end that the first loads, and what it reads; what the closed desk has, its end, and
+// whether the id is told to it; the end that the first loads, and what it reads; after "closed", what that desk has, its end, and
 // whether that is in doubt.
 const WHOLE: &str = r#"Ok(Receipt { first: 0, count: 1 })
 4294967296
@@ -15,6 +15,7 @@ true
 false
 3
 2 4362076160 1
+closed
 2 4362076160 1
 3
 false
@@ -32,6 +33,7 @@ false
 2
 0 4362076160 0
 1 4362076160 1
+closed
 0 4362076160 0
 1 4362076160 1
 2
@@ -52,6 +54,7 @@ false
 0 4294967296 0
 1 4362076160 0
 2 4362076160 1
+closed
 0 4294967296 0
 1 4362076160 0
 2 4362076160 1
@@ -69,6 +72,7 @@ true
 false
 1
 0 4294967296 0
+closed
 0 4294967296 0
 1
 false

@@ -149,6 +149,7 @@ fn said<R: Abort + Wait>(rt: &R, alloc: Global, disk: MemDisk, upto: u64) -> Str
     let mut said = String::new(alloc);
     let unnamed = to_share(rt, alloc, disk);
     let mut desk = two_passes::<Brand, R>(rt, &mut said, unnamed, upto);
+    writeln!(said, "closed").expect(rt, "memory");
     say_places(rt, &mut said, desk.spool.pending(0, 10));
     say(rt, &mut said, &desk.spool.end());
     say(rt, &mut said, &desk.spool.doubt);

@@ -101,6 +101,7 @@ pub(crate) type Case = (
     &'static str,
 );
 
+/// How workers end, and what they leave.
 pub(crate) const CASES: [Case; 6] = [
     (
         "until the doors are shut",

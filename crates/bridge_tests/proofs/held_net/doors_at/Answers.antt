@@ -7,6 +7,6 @@ doors-preserved c = record {
   room = omega (arith, c.push_reserved.ensures.capacity);
 }
 
--- a door that tells none of these is new, whatever it is
+-- a door that tells no place, no count of accepts and no talks is new, whatever else it tells
 pub returns-clause-fresh : goal.returns-clause-fresh
 returns-clause-fresh c = λ k d less. record { place = tt; accepted = tt; talks = tt }
