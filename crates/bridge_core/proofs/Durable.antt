@@ -7,14 +7,15 @@ use Rattle.edge_disk.specs.Disk.{Moment}
 use Rattle.spool_log.specs.declared.opening.Opening.TheVariants.{Raise}
 use Rattle.spool_log.specs.Opening.{opened}
 use Rattle.desk_access.specs.Call.{Call}
+use Rattle.desk_access.specs.Durable.{IsIdTakenDurably, KeepsCalls}
+use Rattle.desk_access.proofs.Durable.{one_durable}
 use Rattle.conn_serve.specs.Acked.{Acknowledges}
+use Rattle.conn_serve.specs.Durable.{AckedIsDurable, AnswersAreDurable}
 use Rattle.conn_serve.specs.Serves.{CarriedAs}
+use Rattle.conn_serve.proofs.Durable.{acked_durably, stored_durably}
 use Rattle.conn_serve.proofs.HecAcks.{told_is_taken}
 use Rattle.hec_session.specs.declared.tokens.Tokens.{Tokens}
-use Rattle.serve_laws.specs.Durable.{AckedIsDurable}
-use Rattle.serve_laws.proofs.Durable.{KeepsCalls, acked_durably, one_durable, stored_durably}
 use Rattle.bridge_parts.specs.Opened.{desk_in}
-use Rattle.bridge_core.specs.Acknowledged.{AnswersAreDurable}
 use Rattle.bridge_core.specs.Replayed.{IsStored}
 
 -- whatever a crash leaves keeps what was taken
@@ -29,7 +30,7 @@ acked_is_durable proto tokens conn left b calls text talk old new numbers carrie
 
 pub answers_are_durable : (proto : Proto) (tokens : Tokens) (conn : ℕ) (left : Option (List ℕ)) (b : List ℕ) (calls : List Call) (text : List ℕ)
     (talk : Talk) (old new : Moment) → (carried : CarriedAs proto tokens conn left b calls text talk) → IsStored old new conn calls
-    → AnswersAreDurable proto tokens conn left b calls text talk carried new
+    → AnswersAreDurable proto tokens conn left b calls text talk carried new (λ channel id. IsIdTakenDurably calls new id)
 answers_are_durable Relp tokens conn left b calls text talk old new carried stored = tt
 answers_are_durable Lumberjack tokens conn left b calls text talk old new carried stored = tt
 answers_are_durable Hec tokens conn left b calls text talk old new carried stored =

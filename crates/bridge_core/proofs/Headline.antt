@@ -10,14 +10,16 @@ use Rattle.edge_io.specs.declared.proto.Proto.{Proto}
 use Rattle.edge_io.specs.declared.proto.Proto.TheVariants.{Relp, Lumberjack, Hec}
 use Rattle.edge_disk.specs.Disk.{Moment}
 use Rattle.desk_access.specs.Call.{Call, Record}
+use Rattle.desk_access.specs.Durable.{IsIdTakenDurably}
 use Rattle.hec_session.specs.declared.tokens.Tokens.{Tokens}
 use Rattle.conn_serve.specs.declared.rules.Rules.{Rules}
 use Rattle.conn_serve.specs.Acked.{Acknowledges}
+use Rattle.conn_serve.specs.Durable.{AckedIsDurable, AnswersAreDurable}
 use Rattle.conn_serve.specs.Serves.{CarriedAs}
 use Rattle.conn_serve.specs.Tokens.{tokens_of}
 use Rattle.serve_workers.specs.declared.worker.WorkerReport.{WorkerReport}
 use Rattle.serve_workers.specs.Served.{TellsMore}
-use Rattle.serve_laws.specs.Durable.{AckedIsDurable, AnswersAreDurable, IsTalkDurable}
+use Rattle.serve_laws.specs.Durable.{IsToldDurably, IsTalkDurable}
 use Rattle.serve_laws.specs.Parts.{Part, AreParts}
 use Rattle.bridge_words.specs.declared.command.Command.{Command}
 use Rattle.bridge_words.specs.declared.command.Command.TheVariants.{Format, List as ListCommand, Replay, Drain, Load, Serve}
@@ -26,7 +28,6 @@ use Rattle.bridge_words.specs.declared.note.Note.{Note}
 use Rattle.bridge_serve.specs.Doors.{rules_of, AreAt, AreBound}
 use Rattle.bridge_serve.specs.Promised.{EachPart, TellsDurable}
 use Rattle.bridge_serve.specs.Served.{IsRun}
-use Rattle.bridge_core.specs.Acknowledged.{AnswersAreDurable as AnswersAreDurableAlone}
 use Rattle.bridge_core.specs.Replayed.{IsReplayed}
 use Rattle.bridge_core.specs.Done.{Run, IsUndone, Does}
 use Rattle.bridge_core.specs.RunOf.{IsRunOf}
@@ -37,14 +38,14 @@ use Rattle.bridge_core.specs.Headline.{AnswersAreKept, IsKept, InputIsKept, Talk
 module _ (tokens : Tokens) (conn : ℕ) (left : Option (List ℕ)) (b : List ℕ) (calls : List Call) (text : List ℕ) (talk : Talk) (now : Moment) where
   -- where it alone uses the spool
   answers_alone : (proto : Proto) (carried : CarriedAs proto tokens conn left b calls text talk) → ((numbers : List ℕ) → Acknowledges proto text numbers → AckedIsDurable calls now numbers)
-      → AnswersAreDurableAlone proto tokens conn left b calls text talk carried now → AnswersAreKept proto tokens conn left b calls text talk carried now
+      → AnswersAreDurable proto tokens conn left b calls text talk carried now (λ channel id. IsIdTakenDurably calls now id) → AnswersAreKept proto tokens conn left b calls text talk carried now
   answers_alone Relp carried acked answers = acked
   answers_alone Lumberjack carried acked answers = acked
   answers_alone Hec carried acked answers = record { stored = answers.stored; told = λ channel id says. let t = answers.told channel id says in (t.0, t.1, t.2.durable) }
 
   -- where many do
   answers_beside : (log : List Record) (number : ℕ) (proto : Proto) (carried : CarriedAs proto tokens conn left b calls text talk) → ((numbers : List ℕ) → Acknowledges proto text numbers → AckedIsDurable calls now numbers)
-      → AnswersAreDurable proto tokens conn left b calls text talk carried log number now → AnswersAreKept proto tokens conn left b calls text talk carried now
+      → AnswersAreDurable proto tokens conn left b calls text talk carried now (IsToldDurably log number now) → AnswersAreKept proto tokens conn left b calls text talk carried now
   answers_beside log number Relp carried acked answers = acked
   answers_beside log number Lumberjack carried acked answers = acked
   answers_beside log number Hec carried acked answers = record { stored = answers.stored; told = λ channel id says. let t = answers.told channel id says in (t.group, t.of_id, t.durable) }

@@ -1,5 +1,5 @@
 -- The promise to senders: what was acknowledged is not lost.
-use Rattle.std.specs.Prelude.{◌≡◌, ◌⊎◌, ℕ, List, [], ◌∷◌, Option, Some}
+use Rattle.std.specs.Prelude.{◌≡◌, ◌⊎◌, ℕ, List, Option, Some}
 use Rattle.std.specs.List.{All}
 use Rattle.std.specs.Io.KnownBytes.{Appends}
 use Rattle.event_form.specs.declared.talk.Talk.{Talk}
@@ -8,17 +8,13 @@ use Rattle.edge_io.specs.declared.proto.Proto.{Proto}
 use Rattle.edge_io.specs.declared.proto.Proto.TheVariants.{Relp, Lumberjack, Hec}
 use Rattle.edge_disk.specs.Disk.{Moment}
 use Rattle.desk_access.specs.Call.{Call}
-use Rattle.desk_access.specs.Carried.{Carried}
-use Rattle.desk_access.specs.Protocol.{Protocol}
-use Rattle.http_edge.specs.declared.request.HttpItem.{HttpItem}
+use Rattle.desk_access.specs.Durable.{IsIdDurable}
 use Rattle.hec_session.specs.declared.tokens.Tokens.{Tokens}
 use Rattle.conn_serve.specs.declared.rules.Rules.{Rules}
-use Rattle.conn_serve.specs.Groups.{Group}
 use Rattle.conn_serve.specs.Acked.{Acknowledges}
-use Rattle.conn_serve.specs.HecAcked.{AcknowledgesGroup, TellsTrue, IsOfId}
+use Rattle.conn_serve.specs.Durable.{AckedIsDurable, RepliesAreDurable}
 use Rattle.conn_serve.specs.Serves.{CarriedAs, CarriedBy}
 use Rattle.conn_serve.specs.Tokens.{tokens_of}
-use Rattle.serve_laws.specs.Durable.{AreDurable, AckedIsDurable, IsTakenDurably}
 use Rattle.bridge_words.specs.declared.command.Command.{Command}
 use Rattle.bridge_words.specs.declared.command.Command.TheVariants.{Replay, Serve}
 use Rattle.bridge_words.specs.declared.command.Server.{Server}
@@ -26,22 +22,17 @@ use Rattle.bridge_words.specs.Words.{IsCommand}
 use Rattle.bridge_serve.specs.Doors.{rules_of}
 use Rattle.bridge_core.specs.Done.{Run}
 
--- The group of each request that a collector's reply answered Success without an id was taken and is durable; and for each id that a
--- reply told true a group of entries is, each of which has the id as its unit.
-pub record RepliesAreKept {p : Protocol HttpItem} {left : Option (List ℕ)} {b : List ℕ} {calls : List Call} {text : List ℕ}
-    {talk : Talk} (carried : Carried p left b calls text talk) (now : Moment) : Type 0 where
-  pub stored : (group : Group) → AcknowledgesGroup carried group → IsTakenDurably calls now group
-  pub told : (channel id : ℕ) → TellsTrue carried channel id → (group : Group) × IsOfId id group × AreDurable now (group ∷ [])
-
 -- Whatever the text of a connection acknowledges is durable: by RELP the transactions that are answered 200, and by Lumberjack the
--- sequence numbers of its acks, as the sender reads them; by the collector what its replies say, by the steps that wrote them.
+-- sequence numbers of its acks, as the sender reads them; by the collector what its replies say, by the steps that wrote them: the group
+-- of a request that was answered Success without an id was taken and is durable; and for each id that a reply told true a group of
+-- entries is, each of which has the id as its unit.
 abbrev pub AnswersAreKept : (proto : Proto) (tokens : Tokens) (conn : ℕ) (left : Option (List ℕ)) (b : List ℕ) (calls : List Call)
     (text : List ℕ) (talk : Talk) → CarriedAs proto tokens conn left b calls text talk → Moment → Type 0
 AnswersAreKept Relp tokens conn left b calls text talk carried now =
     (numbers : List ℕ) → Acknowledges Relp text numbers → AckedIsDurable calls now numbers
 AnswersAreKept Lumberjack tokens conn left b calls text talk carried now =
     (numbers : List ℕ) → Acknowledges Lumberjack text numbers → AckedIsDurable calls now numbers
-AnswersAreKept Hec tokens conn left b calls text talk carried now = RepliesAreKept carried now
+AnswersAreKept Hec tokens conn left b calls text talk carried now = RepliesAreDurable carried now (λ channel id. IsIdDurable now id)
 
 -- A connection was served by these rules: these bytes were read from its sender, and this text was written to it. The calls on the
 -- spool are those that the protocol asks for by these bytes. Whatever the text acknowledges was taken by them, and stands on the disk

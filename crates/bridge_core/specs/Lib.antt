@@ -2,7 +2,6 @@ pub mod Asked
 pub mod Failed
 pub mod Formatted
 pub mod Listed
-pub mod Acknowledged
 pub mod Replayed
 pub mod Drained
 pub mod Sending

@@ -9,15 +9,15 @@ use Rattle.spool_log.specs.declared.opening.Opening.TheVariants.{Raise}
 use Rattle.spool_log.specs.Opening.{opened, CanOpen, IsOpening}
 use Rattle.desk_access.specs.Call.{Call}
 use Rattle.desk_access.specs.Desk.{Stood}
+use Rattle.desk_access.specs.Durable.{IsIdTakenDurably}
 use Rattle.conn_serve.specs.Acked.{Acknowledges}
+use Rattle.conn_serve.specs.Durable.{AckedIsDurable, AnswersAreDurable}
 use Rattle.conn_serve.specs.Serves.{CarriedAs, Serves}
 use Rattle.hec_session.specs.declared.tokens.Tokens.{Tokens}
 use Rattle.bridge_words.specs.declared.note.Note.{Note}
 use Rattle.bridge_words.specs.Notes.{note_of_talk}
 use Rattle.bridge_parts.specs.Opened.{desk_in}
 use Rattle.bridge_parts.specs.Reached.{Reaches}
-use Rattle.serve_laws.specs.Durable.{AckedIsDurable}
-use Rattle.bridge_core.specs.Acknowledged.{AnswersAreDurable}
 
 -- And so it was from that moment on: whatever a crash left meanwhile stands for the state after the first of the
 -- calls, or for a stage of the next one.
@@ -47,11 +47,12 @@ pub record IsServed (proto : Proto) (tokens : Tokens) (conn : ℕ) (given given'
   pub serves : Serves (CarriedAs proto tokens conn) given given' left left' taken taken' Made attended
 
 -- And that was done over the spool that the device stood for. Whatever the text that was written acknowledges is durable:
--- by RELP and Lumberjack the numbers in it, and by the collector its replies.
+-- by RELP and Lumberjack the numbers in it, and by the collector its replies, of which one that tells an id true means that
+-- these calls took a group of that id.
 pub record IsReplayed (proto : Proto) (tokens : Tokens) (tells : Type 0) (old new : Moment)
     (given given' left left' taken taken' : Option (List ℕ)) (note : Note) : Type 0 where
   pub conn : ℕ
   pub served : IsServed proto tokens conn given given' left left' taken taken' (λ calls. tells → IsStored old new conn calls) note
   pub acknowledged : (numbers : List ℕ) → tells → Acknowledges proto served.serves.text numbers → AckedIsDurable served.serves.calls new numbers
   pub answered : tells → AnswersAreDurable proto tokens conn left' served.serves.bytes served.serves.calls served.serves.text
-      served.attended.talk served.serves.carried new
+      served.attended.talk served.serves.carried new (λ channel id. IsIdTakenDurably served.serves.calls new id)

@@ -12,7 +12,7 @@ use Rattle.desk_access.specs.Call.{Call, takes, Record, calls_of}
 use Rattle.desk_access.specs.Desk.{DeskState, Goes, Stood}
 use Rattle.desk_access.specs.History.{IsDesk, Adds, AddsAll, Grows, Was, written_by, written_next}
 use Rattle.desk_access.specs.Legal.{Met}
-use Rattle.desk_access.proofs.Added.{AllWritten}
+use Rattle.desk_access.proofs.Added.{AllWritten, added_then, next_added}
 use Rattle.desk_access.proofs.LegalEntries.{legal_journal}
 use Rattle.desk_access.proofs.Lasting.{stood_was}
 use Rattle.spool_turns.specs.Whole.{OpensLegal}
@@ -49,30 +49,6 @@ opening_keeps_order Raise s is = record {
 -- the desk over it begins with entries of earlier runs
 pub opens_legal : (s : SpoolState) → IsInOrder s → (x : DeskState) → x ≡ desk_in (opened Raise s) → OpensLegal x
 opens_legal s is x same = subst OpensLegal (sym same) (λ m one. subst (λ (t : SpoolState). IsLegalBefore (s.run + 1) (list t)) (sym one) (is.legal, is.earlier))
-
--- ---- what calls may have added
-
-wrote : (call : Call) → Adds call (written_by call)
-wrote (takes group (Ok receipt)) = refl
-wrote (takes group (Err Take.DiskFault)) = inr refl
-wrote call = refl
-
-some_added : (calls : List Call) → (entries : List Entry) × AddsAll calls entries
-some_added [] = ([], refl)
-some_added (call ∷ calls) = let rest = some_added calls in (written_by call ++ rest.0, (written_by call, rest.0, wrote call, rest.1, refl))
-
--- the next call's group, or nothing yet, and then some
-next_added : (calls : List Call) (next : List Entry) → (next ≡ []) ⊎ (next ≡ written_next calls) → (more : List Entry) × AddsAll calls (next ++ more)
-next_added calls next (inl none) = let some = some_added calls in (some.0, subst (λ (l : List Entry). AddsAll calls (l ++ some.0)) (sym none) some.1)
-next_added [] next (inr none) = ([], ap (λ (l : List Entry). l ++ []) none)
-next_added (call ∷ calls) next (inr here) =
-    let rest = some_added calls in
-    (rest.0, subst (λ (l : List Entry). AddsAll (call ∷ calls) (l ++ rest.0)) (sym here) (written_by call, rest.0, wrote call, rest.1, refl))
-
-added_then : (calls more : List Call) (xs ys : List Entry) → AddsAll calls xs → AddsAll more ys → AddsAll (calls ++ more) (xs ++ ys)
-added_then [] more xs ys a b = subst (λ (l : List Entry). AddsAll more (l ++ ys)) (sym a) b
-added_then (call ∷ calls) more xs ys (here, rest, added, others, is) b =
-    (here, rest ++ ys, added, added_then calls more rest ys others b, ap (λ (l : List Entry). l ++ ys) is ∙ append_assoc here rest ys)
 
 -- ---- after calls, or within one
 

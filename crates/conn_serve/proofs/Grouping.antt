@@ -7,17 +7,15 @@ use Rattle.event_form.specs.declared.event.Entry.{Entry}
 use Rattle.spool_log.specs.declared.fault.Receipt.{Receipt}
 use Rattle.spool_log.specs.declared.fault.TakeFault.{TakeFault}
 use Rattle.desk_access.specs.Call.{Call, takes}
-use Rattle.conn_serve.specs.Groups.{Group, HasEntries, groups_by, groups_of, last_unit, units}
+use Rattle.desk_access.specs.Groups.{Group, HasEntries, groups_of}
+use Rattle.desk_access.proofs.Groups.{groups_then}
+use Rattle.conn_serve.specs.Groups.{last_unit, units}
 use Rattle.conn_serve.specs.Acked.{AreOfFirst}
 
 -- the numbers are the units of the groups that the calls took, each of which has an entry
 pub record Told (numbers : List ℕ) (calls : List Call) : Type 0 where
   pub some : All HasEntries (groups_of calls)
   pub own : numbers ≡ units (groups_of calls)
-
-pub groups_then : (xs ys : List Call) → groups_of (xs ++ ys) ≡ groups_of xs ++ groups_of ys
-groups_then [] ys = refl
-groups_then (x ∷ xs) ys = ap (λ (l : List Group). groups_by x ++ l) (groups_then xs ys) ∙ sym (append_assoc (groups_by x) (groups_of xs) (groups_of ys))
 
 units_then : (xs ys : List Group) → units (xs ++ ys) ≡ units xs ++ units ys
 units_then [] ys = refl

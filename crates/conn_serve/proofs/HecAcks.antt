@@ -16,17 +16,17 @@ use Rattle.hec_session.specs.declared.tokens.Tokens.{Tokens}
 use Rattle.hec_session.proofs.EventLaws.{some_events}
 use Rattle.desk_access.specs.Call.{Call, takes, pends, confirms, marks, counts, issues, settles, forgets, asks, AreBy}
 use Rattle.desk_access.specs.Carried.{EndsAtMove, Ending}
-use Rattle.desk_access.specs.Legal.{IsStored, IsStoredBy}
+use Rattle.desk_access.specs.Groups.{Group, groups_of}
+use Rattle.desk_access.specs.Legal.{IsStored}
 use Rattle.desk_access.specs.Protocol.{AreMoves}
 use Rattle.desk_access.specs.Settled.{AllSettleStored}
 use Rattle.desk_access.specs.Step.{Step, calls_of, text_of, count}
+use Rattle.desk_access.proofs.Groups.{groups_then, stored_group}
 use Rattle.desk_access.proofs.Moves.{ending_cases}
 use Rattle.desk_access.proofs.Nexts.{stored_new}
 use Rattle.desk_access.proofs.Told.{told_was_own}
-use Rattle.conn_serve.specs.Groups.{Group, groups_by, groups_of}
 use Rattle.conn_serve.specs.Hec.{hec, takes_all, entries_of, CarriesItem, EndsAtAct, IsDone, IsDue, IsRefused, IsStarved, IsUnstored, SaysLast, StopsAtItem, StopsSaying}
-use Rattle.conn_serve.specs.HecAcked.{LiesWhole, IsOfId, SaidLiesWhole, AcknowledgedIsTaken, SettledIsStored, ToldIsTaken}
-use Rattle.conn_serve.proofs.Grouping.{groups_then}
+use Rattle.conn_serve.specs.HecAcked.{LiesWhole, SaidLiesWhole, AcknowledgedIsTaken, SettledIsStored, ToldIsTaken}
 use Rattle.conn_serve.proofs.HecEntries.{count_entries, entries_unit}
 
 -- ---- what is said lies whole
@@ -210,24 +210,6 @@ settled_is_stored tokens conn left b calls text talk c =
     (settle_then [] (calls_of c.steps) c.late (steps_settle tokens conn [] [] c.steps c.each) (ending_settles tokens conn left b c.steps c.held c.at c.late c.part (calls_of c.steps) talk c.ending))
 
 -- ---- an id that is told true
-
--- a take of entries of a unit took a group of it
-here_stored : (call : Call) (id : ℕ) → IsStoredBy id call → (group : Group) × Contains (groups_by call) group × IsOfId id group
-here_stored (takes entries (Ok receipt)) id (some, unit) = let group : Group = record { first = receipt.first; entries = entries } in (group, only_group (group ∷ []) group refl, record { some = some; unit = unit })
-here_stored (takes entries (Err fault)) id never = absurd never
-here_stored (pends from most result) id never = absurd never
-here_stored (confirms upto result) id never = absurd never
-here_stored (marks stretches result) id never = absurd never
-here_stored (counts number) id never = absurd never
-here_stored (issues channel result) id never = absurd never
-here_stored (settles channel i answer) id never = absurd never
-here_stored (forgets channel i answer) id never = absurd never
-here_stored (asks channel ids known) id never = absurd never
-
-stored_group : (calls : List Call) (id : ℕ) → IsStored calls id → (group : Group) × Contains (groups_of calls) group × IsOfId id group
-stored_group [] id never = absurd never
-stored_group (call ∷ calls) id (inl here) = let g = here_stored call id here in (g.0, Contains-append_left (groups_by call) (groups_of calls) g.0 g.1, g.2)
-stored_group (call ∷ calls) id (inr there) = let g = stored_group calls id there in (g.0, Contains-append_right (groups_by call) (groups_of calls) g.0 g.1, g.2)
 
 pub told_is_taken : ToldIsTaken
 told_is_taken tokens conn left b calls text talk c x z number records none goes by channel id (made, said, is_said, (ids, known, closing, k, asked, answered, short, is_id, told)) =

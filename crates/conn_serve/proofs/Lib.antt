@@ -19,5 +19,6 @@ mod HecActing
 mod HecFronts
 mod HecSessions
 pub mod HecAcks
+pub mod Durable
 pub mod Failing
 pub mod Indexing

@@ -14,9 +14,10 @@ use Rattle.stream_grammar.specs.Framing.{AreSpelled}
 use Rattle.hec_session.specs.declared.tokens.Tokens.{Tokens}
 use Rattle.desk_access.specs.Call.{Call}
 use Rattle.desk_access.specs.Carried.{Carried}
+use Rattle.desk_access.specs.Groups.{Group, HasEntries, groups_of}
 use Rattle.conn_serve.specs.Lumber.{lumberjack}
 use Rattle.conn_serve.specs.Serves.{CarriedAs}
-use Rattle.conn_serve.specs.Groups.{Group, HasEntries, groups_of, units}
+use Rattle.conn_serve.specs.Groups.{units}
 
 -- an answer of RELP that says that an event is durable: a `rsp` frame whose data is 200 OK
 abbrev pub is_success : Frame → Bool

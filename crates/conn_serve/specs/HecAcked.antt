@@ -6,13 +6,12 @@ use Rattle.event_form.specs.declared.talk.Talk.TheVariants.{Closed}
 use Rattle.http_edge.specs.declared.request.HttpItem.{HttpItem}
 use Rattle.hec_session.specs.declared.tokens.Tokens.{Tokens}
 use Rattle.desk_access.specs.Call.{Call, asks, Record, AreBy}
-use Rattle.desk_access.specs.Batch.{AreOfUnit}
 use Rattle.desk_access.specs.Carried.{Carried}
 use Rattle.desk_access.specs.Desk.{DeskState, Goes}
+use Rattle.desk_access.specs.Groups.{Group, IsOfId, groups_of}
 use Rattle.desk_access.specs.Protocol.{Protocol}
 use Rattle.desk_access.specs.Settled.{AllSettleStored}
 use Rattle.desk_access.specs.Step.{Step}
-use Rattle.conn_serve.specs.Groups.{Group, HasEntries, groups_of}
 use Rattle.conn_serve.specs.Hec.{hec, success, answers}
 
 -- These calls were made for an item, and this text, which lies whole in that of the connection, was said for it: as a
@@ -73,11 +72,6 @@ abbrev pub SettledIsStored : Type 0
 SettledIsStored =
     (tokens : Tokens) (conn : ℕ) (left : Option (List ℕ)) (b : List ℕ) (calls : List Call) (text : List ℕ) (talk : Talk)
     → Carried (hec tokens conn) left b calls text talk → AllSettleStored [] calls
-
--- a group of entries that have this id as their unit
-pub record IsOfId (id : ℕ) (group : Group) : Type 0 where
-  pub some : HasEntries group
-  pub unit : AreOfUnit id group.entries
 
 -- Where the connection is the only caller of a desk, whose table held no id as it began: an id that is told true is that
 -- of a group that was taken.

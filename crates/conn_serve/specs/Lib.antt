@@ -13,5 +13,6 @@ pub mod Serves
 pub mod Groups
 pub mod Acked
 pub mod HecAcked
+pub mod Durable
 pub mod DiskFaults
 pub mod Numbering

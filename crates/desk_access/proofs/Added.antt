@@ -1,5 +1,5 @@
 -- Groups that calls added.
-use Rattle.std.proofs.Common.{◌≡◌, ◌⊎◌, inl, inr, List, [], ◌∷◌, sym, subst}
+use Rattle.std.proofs.Common.{◌≡◌, ◌⊎◌, inl, inr, List, [], ◌∷◌, ◌++◌, refl, sym, ap, ◌∙◌, subst, append_assoc}
 use Rattle.std.specs.Prelude.{All, Result, Ok, Err}
 use Rattle.std.proofs.lemmas.List.Elements.{All-nil, All-append}
 use Rattle.event_form.specs.declared.event.Entry.{Entry}
@@ -7,7 +7,7 @@ use Rattle.spool_log.specs.declared.fault.Receipt.{Receipt}
 use Rattle.spool_log.specs.declared.fault.TakeFault.{TakeFault}
 use Rattle.spool_log.specs.declared.fault.TakeFault.TheVariants as Take
 use Rattle.desk_access.specs.Call.{Call, takes}
-use Rattle.desk_access.specs.History.{Adds, written_by}
+use Rattle.desk_access.specs.History.{Adds, AddsAll, written_by, written_next}
 use Rattle.desk_access.specs.Legal.{AddsGroups, all_of}
 
 -- a call adds nothing, or what it may have written
@@ -35,3 +35,30 @@ pub groups_all : (P : Entry → Type 0) (calls : List Call) (groups : List (List
 groups_all P [] groups adds all = subst (λ (l : List (List Entry)). All P (all_of l)) (sym adds) (All-nil P)
 groups_all P (call ∷ calls) groups adds all =
     subst (λ (l : List (List Entry)). All P (all_of l)) (sym adds.4) (All-append P adds.0 (all_of adds.1) (added_all P call adds.0 adds.2 all.0) (groups_all P calls adds.1 adds.3 all.1))
+
+-- ---- what calls may have added
+
+-- what a call may have written it may have added
+wrote : (call : Call) → Adds call (written_by call)
+wrote (takes group (Ok receipt)) = refl
+wrote (takes group (Err Take.DiskFault)) = inr refl
+wrote call = refl
+
+-- some entries that calls may have added
+some_added : (calls : List Call) → (entries : List Entry) × AddsAll calls entries
+some_added [] = ([], refl)
+some_added (call ∷ calls) = let rest = some_added calls in (written_by call ++ rest.0, (written_by call, rest.0, wrote call, rest.1, refl))
+
+-- the next call's group, or nothing yet, and then some
+pub next_added : (calls : List Call) (next : List Entry) → (next ≡ []) ⊎ (next ≡ written_next calls) → (more : List Entry) × AddsAll calls (next ++ more)
+next_added calls next (inl none) = let some = some_added calls in (some.0, subst (λ (l : List Entry). AddsAll calls (l ++ some.0)) (sym none) some.1)
+next_added [] next (inr none) = ([], ap (λ (l : List Entry). l ++ []) none)
+next_added (call ∷ calls) next (inr here) =
+    let rest = some_added calls in
+    (rest.0, subst (λ (l : List Entry). AddsAll (call ∷ calls) (l ++ rest.0)) (sym here) (written_by call, rest.0, wrote call, rest.1, refl))
+
+-- calls after others
+pub added_then : (calls more : List Call) (xs ys : List Entry) → AddsAll calls xs → AddsAll more ys → AddsAll (calls ++ more) (xs ++ ys)
+added_then [] more xs ys a b = subst (λ (l : List Entry). AddsAll more (l ++ ys)) (sym a) b
+added_then (call ∷ calls) more xs ys (here, rest, added, others, is) b =
+    (here, rest ++ ys, added, added_then calls more rest ys others b, ap (λ (l : List Entry). l ++ ys) is ∙ append_assoc here rest ys)

@@ -10,6 +10,8 @@ pub mod Nexts
 pub mod Tables
 pub mod Told
 pub mod Added
+pub mod Groups
+pub mod Durable
 pub mod Issued
 pub mod OneGroup
 pub mod InOrder

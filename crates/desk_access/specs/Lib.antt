@@ -2,7 +2,9 @@ pub mod Standing
 pub mod Call
 pub mod Desk
 pub mod Batch
+pub mod Groups
 pub mod History
+pub mod Durable
 pub mod Alone
 pub mod Journal
 pub mod Legal

@@ -1,90 +1,39 @@
 -- What was acknowledged over a link is durable.
-use Rattle.std.proofs.Common.{◌≡◌, inl, inr, ℕ, ◌+◌, ◌<◌, ◌==◌, arith, Bool, true, false, cond, List, [], ◌∷◌, ◌++◌, length, get_or, Option, refl, sym, ap, ◌∙◌, subst, append_assoc}
-use Rattle.std.specs.Prelude.{Some, Ok, Err}
-use Rattle.std.specs.List.{All, AllZip, Contains}
+use Rattle.std.proofs.Common.{◌≡◌, ℕ, ◌+◌, ◌<◌, ◌==◌, Bool, true, false, cond, List, [], ◌∷◌, ◌++◌, length, get_or, Option, refl, sym, ap, ◌∙◌, subst, append_assoc}
+use Rattle.std.specs.Prelude.{Some}
+use Rattle.std.specs.List.{All, AllZip}
 use Rattle.std.proofs.lemmas.Bool.{eqb-true}
-use Rattle.std.proofs.lemmas.List.Elements.{All-nil, All-cons, All-head, All-tail, All-contains, Contains-append_left, Contains-append_right}
+use Rattle.std.proofs.lemmas.List.Elements.{All-nil, All-cons, All-head, All-tail}
 use Rattle.event_form.specs.declared.event.Entry.{Entry}
 use Rattle.event_form.specs.declared.talk.Talk.{Talk}
 use Rattle.edge_io.specs.Door.{Talked}
 use Rattle.edge_io.specs.declared.proto.Proto.{Proto}
 use Rattle.edge_io.specs.declared.proto.Proto.TheVariants.{Relp, Lumberjack, Hec}
 use Rattle.edge_disk.specs.Disk.{Moment}
-use Rattle.spool_state.specs.SpoolState.{SpoolState}
-use Rattle.spool_state.specs.Image.{StandsFor}
-use Rattle.desk_access.specs.Call.{Call, takes, asks, Record, own_of, calls_of}
+use Rattle.desk_access.specs.Call.{Call, asks, Record, own_of, calls_of}
 use Rattle.desk_access.specs.Desk.{DeskState, Goes}
+use Rattle.desk_access.specs.Durable.{IsToldTrue, KeepsCalls}
 use Rattle.desk_access.specs.History.{IsDesk, AllKept}
 use Rattle.desk_access.specs.Journal.{calls_then, goes_parts}
-use Rattle.desk_access.specs.Legal.{AddsGroups, IsLegal, Met, IsStoredBy, IsStored}
+use Rattle.desk_access.specs.Legal.{AddsGroups, IsLegal, Met, IsStored}
+use Rattle.desk_access.proofs.Durable.{keeps_some, one_durable, own_kept}
+use Rattle.desk_access.proofs.Groups.{stored_group}
 use Rattle.desk_access.proofs.Lasting.{kept_parts}
 use Rattle.desk_access.proofs.Told.{told_was_taken}
 use Rattle.hec_session.specs.declared.tokens.Tokens.{Tokens}
 use Rattle.conn_serve.specs.declared.rules.Rules.{Rules}
-use Rattle.conn_serve.specs.Groups.{Group, groups_by, groups_of}
-use Rattle.conn_serve.specs.Acked.{Acknowledges, AreOfFirst}
-use Rattle.conn_serve.specs.HecAcked.{AcknowledgesGroup, TellsTrue, IsOfId}
+use Rattle.conn_serve.specs.Acked.{Acknowledges}
+use Rattle.conn_serve.specs.Durable.{AnswersAreDurable}
+use Rattle.conn_serve.specs.HecAcked.{TellsTrue}
 use Rattle.conn_serve.specs.Hec.{hec}
 use Rattle.conn_serve.specs.Serves.{CarriedAs}
 use Rattle.conn_serve.specs.Tokens.{tokens_of}
-use Rattle.conn_serve.proofs.Acknowledged.{acked_is_taken}
-use Rattle.conn_serve.proofs.HecAcks.{acknowledged_is_taken, said_lies_whole}
+use Rattle.conn_serve.proofs.Durable.{acked_durably, stored_durably}
+use Rattle.conn_serve.proofs.HecAcks.{said_lies_whole}
 use Rattle.desk_access.specs.Carried.{Carried}
 use Rattle.serve_workers.specs.Served.{Served, calls_in, IsServed, AreServed, Tells, TellsMore}
-use Rattle.serve_laws.specs.Durable.{IsGroupKept, AreDurable, AckedIsDurable, IsTakenDurably, IsToldTrue, IsToldDurably, AnswersAreDurable, IsLinkDurable, IsTalkDurable}
+use Rattle.serve_laws.specs.Durable.{IsToldDurably, IsLinkDurable, IsTalkDurable}
 use Rattle.serve_laws.proofs.Ids.{id_whole}
-
--- ---- groups that are kept
-
--- each group that was taken is kept
-pub groups_kept : (s : SpoolState) (calls : List Call) → AllKept s calls → All (IsGroupKept s) (groups_of calls)
-groups_kept s [] k = All-nil (IsGroupKept s)
-groups_kept s (takes entries (Ok receipt) ∷ calls) k = All-cons (IsGroupKept s) (record { first = receipt.first; entries = entries }) (groups_of calls) k.0 (groups_kept s calls k.1)
-groups_kept s (takes entries (Err fault) ∷ calls) k = groups_kept s calls k.1
-groups_kept s (call ∷ calls) k = groups_kept s calls k.1
-
-first_kept : (s : SpoolState) (groups more : List Group) → All (IsGroupKept s) (groups ++ more) → All (IsGroupKept s) groups
-first_kept s [] more k = All-nil (IsGroupKept s)
-first_kept s (g ∷ groups) more k = All-cons (IsGroupKept s) g groups (All-head (IsGroupKept s) g (groups ++ more) k) (first_kept s groups more (All-tail (IsGroupKept s) g (groups ++ more) k))
-
--- the calls of one caller are among those of the journal
-own_kept : (s : SpoolState) (number : ℕ) (log : List Record) → AllKept s (calls_of log) → AllKept s (own_of number log)
-own_kept s number [] k = tt
-own_kept s number (one ∷ log) k = by (one.by == number) (own_kept s number log k.1) where
-  by : (b : Bool) → AllKept s (own_of number log) → AllKept s (cond b (one.call ∷ own_of number log) (own_of number log))
-  by true rest = (k.0, rest)
-  by false rest = rest
-
--- Whatever a crash leaves now stands for a spool that keeps what these calls took.
-abbrev pub KeepsCalls : Moment → List Call → Type 0
-KeepsCalls now calls = (c : List ℕ) → now.image c → (s : SpoolState) × StandsFor s c × AllKept s calls
-
--- so does one that keeps more
-keeps_some : (now : Moment) (calls some : List Call) → ((s : SpoolState) → AllKept s calls → AllKept s some) → KeepsCalls now calls → KeepsCalls now some
-keeps_some now calls some part keeps = λ c image. let k = keeps c image in (k.0, k.1, part k.0 k.2)
-
--- one of the groups that were taken
-pub one_durable : (now : Moment) (calls : List Call) (group : Group) → KeepsCalls now calls → Contains (groups_of calls) group → AreDurable now (group ∷ [])
-one_durable now calls group keeps taken = λ c image.
-    let k = keeps c image in
-    (k.0, k.1, All-cons (IsGroupKept k.0) group [] (All-contains (IsGroupKept k.0) (groups_of calls) group (groups_kept k.0 calls k.2) taken) (All-nil (IsGroupKept k.0)))
-
--- ---- acknowledged by numbers, and by Success
-
-pub acked_durably : (proto : Proto) (tokens : Tokens) (conn : ℕ) (left : Option (List ℕ)) (b : List ℕ) (calls : List Call) (text : List ℕ) (talk : Talk) (now : Moment) (numbers : List ℕ) → CarriedAs proto tokens conn left b calls text talk
-    → KeepsCalls now calls → Acknowledges proto text numbers → AckedIsDurable calls now numbers
-acked_durably proto tokens conn left b calls text talk now numbers carried keeps says =
-    let taken : AreOfFirst calls numbers = acked_is_taken proto tokens conn left b calls text talk carried numbers says in record {
-      taken = taken;
-      durable = λ c image.
-          let k = keeps c image in
-          (k.0, k.1, first_kept k.0 taken.groups taken.more (subst (All (IsGroupKept k.0)) taken.taken (groups_kept k.0 calls k.2)));
-    }
-
-pub stored_durably : (tokens : Tokens) (conn : ℕ) (left : Option (List ℕ)) (b : List ℕ) (calls : List Call) (text : List ℕ) (talk : Talk) (now : Moment) (carried : Carried (hec tokens conn) left b calls text talk)
-    → KeepsCalls now calls → (group : Group) → AcknowledgesGroup carried group → IsTakenDurably calls now group
-stored_durably tokens conn left b calls text talk now carried keeps group says =
-    let taken = acknowledged_is_taken tokens conn left b calls text talk carried group says in record { taken = taken; durable = one_durable now calls group keeps taken }
 
 -- ---- an id for which true was answered
 
@@ -109,17 +58,6 @@ place_of number (one ∷ log) first call more is = by (λ (rest : List Call) (sa
   by behind true same [] is = record { before = []; one = one; after = log; parts = refl; by = eqb-true one.by number same; is = cc is }
   by behind true same (other ∷ first) is = place_behind number one log call (behind first (cc is))
   by behind false same first is = place_behind number one log call (behind first is)
-
--- a take of entries of a unit took a group of it
-here_stored : (call : Call) (id : ℕ) → IsStoredBy id call → (group : Group) × Contains (groups_by call) group × IsOfId id group
-here_stored (takes entries (Ok receipt)) id (some, unit) = let group : Group = record { first = receipt.first; entries = entries } in (group, (0, omega arith, refl), record { some = some; unit = unit })
-here_stored (takes entries (Err fault)) id never = absurd never
-here_stored call id never = absurd never
-
-stored_group : (calls : List Call) (id : ℕ) → IsStored calls id → (group : Group) × Contains (groups_of calls) group × IsOfId id group
-stored_group [] id never = absurd never
-stored_group (call ∷ calls) id (inl here) = let g = here_stored call id here in (g.0, Contains-append_left (groups_by call) (groups_of calls) g.0 g.1, g.2)
-stored_group (call ∷ calls) id (inr there) = let g = stored_group calls id there in (g.0, Contains-append_right (groups_by call) (groups_of calls) g.0 g.1, g.2)
 
 met_first : (run confirming : ℕ) (before log more : List Record) → Met run confirming before (log ++ more) → Met run confirming before log
 met_first run confirming before [] more m = tt
@@ -174,7 +112,7 @@ module _ (x y : DeskState) (confirming : ℕ) (log : List Record) (rules : IsDes
   -- ---- a link
 
   answers : (number : ℕ) (first behind : List Call) (proto : Proto) (tokens : Tokens) (conn : ℕ) (left : Option (List ℕ)) (b : List ℕ) (calls : List Call) (text : List ℕ) (talk : Talk) (carried : CarriedAs proto tokens conn left b calls text talk)
-      → own_of number log ≡ first ++ (calls ++ behind) → KeepsCalls now calls → AnswersAreDurable proto tokens conn left b calls text talk carried log number now
+      → own_of number log ≡ first ++ (calls ++ behind) → KeepsCalls now calls → AnswersAreDurable proto tokens conn left b calls text talk carried now (IsToldDurably log number now)
   answers number first behind Relp tokens conn left b calls text talk carried own kept = tt
   answers number first behind Lumberjack tokens conn left b calls text talk carried own kept = tt
   answers number first behind Hec tokens conn left b calls text talk carried own kept = record {

@@ -8,13 +8,12 @@ use Rattle.std.proofs.lemmas.List.Elements.{All-head, All-tail, All-contains, Co
 use Rattle.event_form.specs.declared.event.Entry.{Entry}
 use Rattle.desk_access.specs.Call.{Call, takes, Record, own_of, calls_of}
 use Rattle.desk_access.specs.Batch.{AreOfUnit}
+use Rattle.desk_access.specs.Groups.{Group, IsOfId, groups_by, groups_of}
 use Rattle.desk_access.specs.History.{Adds, AddsAll}
 use Rattle.desk_access.specs.Journal.{calls_then}
 use Rattle.desk_access.specs.Legal.{AddsGroups, AreOfOthers, AreOneGroup, IsLegal, all_of}
 use Rattle.spool_turns.specs.OwnEntries.{of_unit}
 use Rattle.spool_turns.proofs.Picks.{picks_both, picks_none}
-use Rattle.conn_serve.specs.Groups.{Group, groups_by, groups_of}
-use Rattle.conn_serve.specs.HecAcked.{IsOfId}
 use Rattle.serve_laws.proofs.Contributing.{in_groups}
 
 -- ---- a group that a caller took, among all

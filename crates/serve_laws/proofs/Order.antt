@@ -1,15 +1,15 @@
 -- What a crash leaves of what a link contributed.
-use Rattle.std.proofs.Common.{◌≡◌, ◌⊎◌, inl, inr, ℕ, zero, suc, ◌+◌, ◌*◌, ◌-◌, ◌^◌, ◌<◌, ◌≤◌, ◌==◌, Bool, true, false, cond, List, [], ◌∷◌, ◌++◌, drop, refl, sym, ap, ◌∙◌, subst, arith, append_assoc}
-use Rattle.std.specs.Prelude.{All, Ok, Err}
+use Rattle.std.proofs.Common.{◌≡◌, ℕ, zero, suc, ◌+◌, ◌*◌, ◌-◌, ◌^◌, ◌<◌, ◌≤◌, ◌==◌, Bool, true, false, cond, List, [], ◌∷◌, ◌++◌, drop, refl, sym, ap, ◌∙◌, subst, arith, append_assoc}
+use Rattle.std.specs.Prelude.{All}
 use Rattle.std.proofs.lemmas.List.Elements.{All-nil, All-cons, All-append, All-drop}
 use Rattle.event_form.specs.declared.event.Entry.{Entry}
 use Rattle.spool_state.specs.SpoolState.{SpoolState, base, list}
-use Rattle.spool_log.specs.declared.fault.TakeFault.TheVariants as Take
-use Rattle.desk_access.specs.Call.{Call, takes, Record, calls_of}
+use Rattle.desk_access.specs.Call.{Call, Record, calls_of}
 use Rattle.desk_access.specs.Desk.{DeskState}
-use Rattle.desk_access.specs.History.{Adds, AddsAll, Grows, Was, written_by, written_next}
+use Rattle.desk_access.specs.History.{AddsAll, Grows, Was}
 use Rattle.desk_access.specs.Batch.{IsPlain}
 use Rattle.desk_access.specs.Legal.{AddsGroups, IsLegal, of_conn}
+use Rattle.desk_access.proofs.Added.{added_then, next_added}
 use Rattle.spool_turns.specs.Whole.{OpensLegal, AreEarlier}
 use Rattle.spool_turns.proofs.Picks.{conn_both, conn_none}
 use Rattle.conn_serve.specs.declared.rules.Rules.{Rules}
@@ -50,30 +50,6 @@ links_in_order x run number rules log links s of_run served contribute grows ope
         }
 
 -- ---- at a moment on the way
-
--- what a call may have written it may have added
-wrote : (call : Call) → Adds call (written_by call)
-wrote (takes group (Ok receipt)) = refl
-wrote (takes group (Err Take.DiskFault)) = inr refl
-wrote call = refl
-
--- some entries that calls may have added
-some_added : (calls : List Call) → (entries : List Entry) × AddsAll calls entries
-some_added [] = ([], refl)
-some_added (call ∷ calls) = let rest = some_added calls in (written_by call ++ rest.0, (written_by call, rest.0, wrote call, rest.1, refl))
-
--- the next call's group, or nothing yet, and then some
-next_added : (calls : List Call) (next : List Entry) → (next ≡ []) ⊎ (next ≡ written_next calls) → (more : List Entry) × AddsAll calls (next ++ more)
-next_added calls next (inl none) = let some = some_added calls in (some.0, subst (λ (l : List Entry). AddsAll calls (l ++ some.0)) (sym none) some.1)
-next_added [] next (inr none) = ([], ap (λ (l : List Entry). l ++ []) none)
-next_added (call ∷ calls) next (inr here) =
-    let rest = some_added calls in
-    (rest.0, subst (λ (l : List Entry). AddsAll (call ∷ calls) (l ++ rest.0)) (sym here) (written_by call, rest.0, wrote call, rest.1, refl))
-
-added_then : (calls more : List Call) (xs ys : List Entry) → AddsAll calls xs → AddsAll more ys → AddsAll (calls ++ more) (xs ++ ys)
-added_then [] more xs ys a b = subst (λ (l : List Entry). AddsAll more (l ++ ys)) (sym a) b
-added_then (call ∷ calls) more xs ys (here, rest, added, others, is) b =
-    (here, rest ++ ys, added, added_then calls more rest ys others b, ap (λ (l : List Entry). l ++ ys) is ∙ append_assoc here rest ys)
 
 pub links_were_in_order : (x : DeskState) (run number : ℕ) (rules : Rules) (log : List Record) (links : List Served) (c : List ℕ) → x.spool.run ≡ run → AreServed rules (first_conn run number) links
     → ((added : List Entry) → AddsAll (calls_of log) added → All (λ (one : Served). Contributes one (of_conn one.conn added)) links) → (w : Was x (calls_of log) c) → OpensLegal x → All (λ (one : Served). BeginsInOrder one (list w.state)) links
