@@ -1,14 +1,15 @@
 //! The top call, over the device that the words want.
 ghost use Rattle.std.specs.Prelude.{◌≡◌, ◌⊎◌, map, string_bytes};
-ghost use Rattle.bridge_words.specs.declared.note.Note.TheVariants.{Usage, NoMemory};
+ghost use Rattle.notes.specs.declared.note.Note.TheVariants.{Usage, NoMemory};
 ghost use Rattle.bridge_words.specs.Words.{IsNoCommand};
 ghost use Rattle.bridge_core.specs.Failed.{TellsReadFault, TellsWriteFault, TellsDial};
 
 use bridge_core::bridge;
-use bridge_words::{Need, Note, need_of};
+use bridge_words::{Need, need_of};
 use cli_parts::{Opening, Progress, Showing, Watched, open_text};
 use edge_disk::{FileDisk, MemDisk, OpenFault};
 use edge_io::{Door, Net, Sink, Source};
+use notes::Note;
 use std::io::IsTerminal;
 use std::sync::Wait;
 use std::thread::Threads;

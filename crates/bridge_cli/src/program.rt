@@ -1,9 +1,9 @@
 //! What the program was called with, and its streams.
 use crate::device::run_words;
-use bridge_words::Note;
 use cli_parts::{print_line, print_note, print_wrong_words};
 use edge_io::FileIo;
 use edge_net::TcpNet;
+use notes::Note;
 use std::fs::{File, OpenOptions};
 use std::rt::Env;
 use std::sync::Wait;

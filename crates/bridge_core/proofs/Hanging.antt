@@ -11,7 +11,7 @@ use Rattle.forward_core.specs.Turning.{IsHalt}
 use Rattle.forward_core.specs.declared.outward.Outward.{Outward}
 use Rattle.forward_core.specs.declared.sent.Sent.{Sent}
 use Rattle.forward_core.specs.declared.sent.Sent.TheVariants as Ending
-use Rattle.bridge_words.specs.declared.note.Note.{Note}
+use Rattle.notes.specs.declared.note.Note.{Note}
 use Rattle.bridge_parts.specs.Refused.{note_of_sent}
 use Rattle.bridge_core.specs.Sending.{IsSentOver}
 use Rattle.bridge_parts.specs.Counted.{WritesOfBoth, RoseBy, WroteAfter}

@@ -14,7 +14,7 @@ use Rattle.forward_core.proofs.AfterLaw.{only_marked_known}
 use Rattle.forward_core.proofs.DropLaw.{told_is_gone}
 use Rattle.bridge_parts.specs.Opened.{desk_in}
 use Rattle.bridge_core.specs.Drained.{IsOverSpool, IsSession, IsSessionOver}
-use Rattle.ending_laws.proofs.Ordinals.{desk_rules}
+use Rattle.bridge_parts.proofs.Desks.{desk_rules}
 
 pub session_over : (outward : Outward) (tells : Type 0) (old new : Moment) (given given' left_there left' written written' : Option (List ℕ)) (confirmed remaining : ℕ) (sent : Sent)
     → IsSession outward given given' left_there left' written written' (IsOverSpool tells old new confirmed remaining) sent

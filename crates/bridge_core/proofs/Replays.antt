@@ -17,8 +17,8 @@ use Rattle.desk_access.specs.Alone.{AloneView, IsAt, Ran}
 use Rattle.desk_access.specs.Journal.{calls_by}
 use Rattle.desk_access.proofs.Lasting.{image_kept}
 use Rattle.hec_session.specs.declared.tokens.Tokens.{Tokens}
-use Rattle.bridge_words.specs.declared.note.Note.{Note}
-use Rattle.bridge_words.specs.Notes.{note_of_talk}
+use Rattle.notes.specs.declared.note.Note.{Note}
+use Rattle.notes.specs.Notes.{note_of_talk}
 use Rattle.bridge_core.specs.Done.{IsRefusedFirst}
 use Rattle.bridge_parts.specs.Opened.{desk_in}
 use Rattle.bridge_core.specs.Replayed.{Keeps, IsStored, IsServed}

@@ -7,8 +7,8 @@ use Rattle.conn_serve.specs.Endings.{CountsFaults}
 use Rattle.spool_log.specs.declared.fault.RecoverFault.{RecoverFault}
 use Rattle.spool_log.specs.declared.fault.RecoverFault.TheVariants as Recover
 use Rattle.bridge_words.specs.declared.command.Command.{Command}
-use Rattle.bridge_words.specs.declared.note.Note.{Note}
-use Rattle.bridge_words.specs.Notes.{note_of_talk}
+use Rattle.notes.specs.declared.note.Note.{Note}
+use Rattle.notes.specs.Notes.{note_of_talk}
 use Rattle.bridge_words.specs.Words.{IsCommand}
 use Rattle.bridge_parts.specs.Counted.{RoseBy}
 use Rattle.bridge_parts.specs.Refused.{note_of_recover}

@@ -7,8 +7,8 @@ use Rattle.edge_disk.specs.Disk.{Moment, LeavesOnly}
 use Rattle.spool_log.specs.Making.Format.{IsFormatStep}
 use Rattle.bridge_words.specs.declared.command.Command.{Command}
 use Rattle.bridge_words.specs.declared.command.Command.TheVariants.{Format, List as ListCommand, Replay, Drain, Load, Serve}
-use Rattle.bridge_words.specs.declared.note.Note.{Note}
-use Rattle.bridge_words.specs.declared.note.Note.TheVariants.{Fine, Usage, NoMemory, WrongLength, RunsSpent, Worn}
+use Rattle.notes.specs.declared.note.Note.{Note}
+use Rattle.notes.specs.declared.note.Note.TheVariants.{Fine, Usage, NoMemory, WrongLength, RunsSpent, Worn}
 use Rattle.bridge_core.specs.Formatted.{IsFormatted}
 use Rattle.bridge_core.specs.Listed.{IsListNote, IsListed}
 use Rattle.bridge_parts.specs.Opened.{IsUnopened}

@@ -18,8 +18,8 @@ use Rattle.forward_core.specs.Laws.{EndsOver, KnowsMarked, DropsTold}
 use Rattle.forward_core.specs.Turning.{IsHalt}
 use Rattle.forward_core.specs.Protocols.{EndsAs, HintsAs, settings_as}
 use Rattle.forward_core.specs.declared.outward.Outward.{Outward}
-use Rattle.bridge_words.specs.declared.note.Note.{Note}
-use Rattle.bridge_words.specs.declared.note.Note.TheVariants.{NoMemory, NetFault, WriteFault}
+use Rattle.notes.specs.declared.note.Note.{Note}
+use Rattle.notes.specs.declared.note.Note.TheVariants.{NoMemory, NetFault, WriteFault}
 use Rattle.bridge_words.specs.Lines.{drain_line}
 use Rattle.bridge_core.specs.Listed.{IsUnreadable}
 use Rattle.bridge_parts.specs.Refused.{note_of_recover, note_of_sent}

@@ -3,8 +3,8 @@ use Rattle.std.specs.Prelude.{◌≡◌, ◌≢◌, ℕ, List, Option}
 use Rattle.spool_state.specs.Image.{slot_at, StandsFor}
 use Rattle.spool_state.specs.Empty.{empty_state}
 use Rattle.edge_disk.specs.Disk.{Moment}
-use Rattle.bridge_words.specs.declared.note.Note.{Note}
-use Rattle.bridge_words.specs.declared.note.Note.TheVariants.{Fine, WrongLength, NoMemory, WriteFault, DiskFault}
+use Rattle.notes.specs.declared.note.Note.{Note}
+use Rattle.notes.specs.declared.note.Note.TheVariants.{Fine, WrongLength, NoMemory, WriteFault, DiskFault}
 use Rattle.bridge_words.specs.Lines.{spool_line}
 use Rattle.bridge_parts.specs.Written.{IsPrinted}
 

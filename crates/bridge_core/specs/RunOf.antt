@@ -4,7 +4,7 @@ use Rattle.edge_disk.specs.Disk.{Moment}
 use Rattle.edge_io.specs.Door.{DoorState}
 use Rattle.edge_io.specs.Net.{NetState}
 use Rattle.bridge_words.specs.declared.command.Command.{Command}
-use Rattle.bridge_words.specs.declared.note.Note.{Note}
+use Rattle.notes.specs.declared.note.Note.{Note}
 use Rattle.bridge_words.specs.Words.{IsCommand, IsNoCommand, IsSomeCommand}
 use Rattle.bridge_core.specs.Failed.{TellsDisk, TellsReadFault, TellsWriteFault, TellsDial}
 use Rattle.bridge_core.specs.Done.{Run, IsUntouched, IsUndone, Does}

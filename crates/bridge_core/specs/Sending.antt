@@ -5,8 +5,8 @@ use Rattle.edge_io.specs.Net.{NetState, IsHungUp}
 use Rattle.edge_io.specs.Told.{Adds, IsDialed, IsFresh}
 use Rattle.forward_core.specs.declared.outward.Outward.{Outward}
 use Rattle.forward_core.specs.declared.sent.Sent.{Sent}
-use Rattle.bridge_words.specs.declared.note.Note.{Note}
-use Rattle.bridge_words.specs.declared.note.Note.TheVariants.{NoMemory, NetFault, WriteFault}
+use Rattle.notes.specs.declared.note.Note.{Note}
+use Rattle.notes.specs.declared.note.Note.TheVariants.{NoMemory, NetFault, WriteFault}
 use Rattle.bridge_words.specs.Lines.{drain_line}
 use Rattle.bridge_parts.specs.Refused.{note_of_sent}
 use Rattle.bridge_core.specs.Drained.{IsSession, PrintsOf}

@@ -4,16 +4,17 @@ ghost use Rattle.edge_disk.specs.Calls.{Calls};
 ghost use Rattle.edge_disk.specs.Disk.{LeavesOnly};
 ghost use Rattle.spool_log.specs.Making.Format.{IsFormatStep};
 ghost use Rattle.conn_serve.specs.Endings.{CountsFaults};
-ghost use Rattle.bridge_words.specs.declared.note.Note.TheVariants.{Usage, WrongLength, ReadFault, WriteFault, DiskFault};
+ghost use Rattle.notes.specs.declared.note.Note.TheVariants.{Usage, WrongLength, ReadFault, WriteFault, DiskFault};
 ghost use Rattle.bridge_words.specs.Lines.{spool_line};
 ghost use Rattle.bridge_words.specs.Words.{IsSize};
 ghost use Rattle.bridge_parts.specs.Written.{IsPrinted};
 ghost use Rattle.bridge_core.specs.Formatted.{IsFormatted};
 ghost use Rattle.bridge_core.specs.Done.{IsRefusedFirst};
 
-use bridge_words::{Note, spool_line};
+use bridge_words::spool_line;
 use edge_disk::Disk;
 use edge_io::{Sink, write_whole};
+use notes::Note;
 use spool_log::FormatFault;
 use std::alloc::Global;
 

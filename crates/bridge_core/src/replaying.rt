@@ -6,7 +6,7 @@ ghost use Rattle.spool_log.specs.Memory.{run_of};
 ghost use Rattle.spool_log.specs.State.{view, IsIn};
 ghost use Rattle.conn_serve.specs.Endings.{CountsFaults};
 ghost use Rattle.conn_serve.specs.Tokens.{tokens_of};
-ghost use Rattle.bridge_words.specs.declared.note.Note.TheVariants.{Usage, WrongLength, ReadFault, WriteFault};
+ghost use Rattle.notes.specs.declared.note.Note.TheVariants.{Usage, WrongLength, ReadFault, WriteFault};
 ghost use Rattle.bridge_core.specs.Failed.{TellsDiskFault};
 ghost use Rattle.bridge_parts.specs.Opened.{IsUnopened};
 ghost use Rattle.bridge_core.specs.Replayed.{Keeps, IsServed, IsReplayed};
@@ -14,12 +14,12 @@ ghost use Rattle.bridge_core.specs.Done.{IsRefusedFirst};
 
 use crate::ended::Finished;
 use bridge_parts::recover_note;
-use bridge_words::Note;
 use conn_serve::{Rules, attend};
 use desk_access::{Alone, Desk};
 use edge_disk::Disk;
 use edge_io::{Both, Link, Sink, Source};
 use hec_ids::Ids;
+use notes::Note;
 use spool_log::{Opening, Refusal, Spool};
 use std::alloc::Global;
 

@@ -3,12 +3,12 @@ ghost use Rattle.std.specs.Prelude.{◌≡◌, ◌≤◌, None, false, length};
 
 use crate::parts::MEMORY;
 use crate::script::{OPEN, OPENED};
-use bridge_words::Note;
 use conn_serve::{Rules, attend};
 use desk_access::{Access, Alone, Desk};
 use edge_disk::MemDisk;
 use edge_io::{Link, Object, Proto, ReadFault, Sink, Source, WriteFault};
 use hec_ids::Ids;
+use notes::Note;
 use spool_log::{Opening, Spool, format};
 use std::alloc::Global;
 use std::process::Abort;

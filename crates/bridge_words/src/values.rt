@@ -8,9 +8,10 @@ ghost use Rattle.bridge_words.specs.Values.{proto_in, form_in, forward_in};
 use crate::fault::WordsFault;
 use crate::number::number_within;
 use crate::reading::Unread;
-use crate::{ListForm, Place};
+use crate::ListForm;
 use clap::ArgMatches;
 use edge_io::Proto;
+use notes::Place;
 use std::alloc::Global;
 use uuid::Uuid;
 

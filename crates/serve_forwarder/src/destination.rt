@@ -1,6 +1,6 @@
 //! Where a server forwards to.
-use bridge_words::Place;
 use forward_core::Outward;
+use notes::Place;
 
 /// Where a server forwards to, and how it speaks there.
 #[derive(Drop, Debug)]

@@ -3,11 +3,11 @@ ghost use Rattle.std.specs.Prelude.{◌≡◌, ◌^◌, ◌<◌, ◌≤◌, [], 
 ghost use Rattle.serve_workers.specs.Works.{first_conn, ServesLink, Stops, Worked};
 ghost use Rattle.serve_workers.specs.Crews.{IsReady};
 
-use bridge_words::Note;
 use conn_serve::{Rules, attend};
 use desk_access::Access;
 use edge_disk::Disk;
 use edge_io::Door;
+use notes::Note;
 use spool_turns::{Naming, Seated};
 use std::alloc::Global;
 use std::sync::Wait;

@@ -1,7 +1,7 @@
 use Rattle.std.proofs.Common.{refl, sym, ◌∙◌, subst, inl}
 use Rattle.edge_disk.specs.Disk.{LeavesOnly}
 use Rattle.edge_disk.proofs.Moments.{weaker}
-use Rattle.bridge_words.specs.declared.note.Note.{Note}
+use Rattle.notes.specs.declared.note.Note.{Note}
 use Rattle.bridge_core.specs.Listed.{IsListNote, IsListed}
 use Rattle.bridge_core.proofs.Sure.{unreadable, read_on, unopened, unopened_note, unopened_calls, unopened_writes, list_note}
 use Rattle.bridge_core.proofs.listing.list.Goals as goal

@@ -1,7 +1,7 @@
 use Rattle.std.proofs.Common.{inl, inr, refl, ◌∙◌, ap}
 use Rattle.bridge_core.specs.Loading.{note_of_load}
-use Rattle.ending_laws.proofs.LoadSure.{all_confirmed, only_memory}
-use Rattle.ending_laws.proofs.LoadWell.{can_load}
+use Rattle.load_laws.proofs.Sure.{all_confirmed, only_memory}
+use Rattle.load_laws.proofs.Well.{can_load}
 use Rattle.bridge_core.proofs.loading.load.Goals as goal
 
 pub returns-in-Ok-clause-told : goal.returns-in-Ok-clause-told

@@ -31,10 +31,10 @@ use Rattle.ending_laws.specs.Replaying.{HecFits, IsGranted}
 use Rattle.bridge_parts.specs.Opened.{desk_in}
 use Rattle.ending_laws.proofs.Endings.{IsDone, Kept, kept_all}
 use Rattle.ending_laws.proofs.Hec.{told_more}
-use Rattle.ending_laws.proofs.LoadRoom.{AreSmall, IsSmall, Packed, goes_packed, new_packed, small_fits, small_then}
-use Rattle.ending_laws.proofs.LoadHecObject.{StoresOne}
-use Rattle.ending_laws.proofs.LoadHecRequest.{act_is, the_tokens}
-use Rattle.ending_laws.proofs.LoadHecItems.{AreLow, AreTexts, IsOwn, asked, asked_then, are_told, low_first, low_last, low_open, object, object_cut, object_low}
+use Rattle.load_laws.proofs.Room.{AreSmall, IsSmall, Packed, goes_packed, new_packed, small_fits, small_then}
+use Rattle.load_laws.proofs.HecObject.{StoresOne}
+use Rattle.load_laws.proofs.HecRequest.{act_is, the_tokens}
+use Rattle.load_laws.proofs.HecItems.{AreLow, AreTexts, IsOwn, asked, asked_then, are_told, low_first, low_last, low_open, object, object_cut, object_low}
 
 -- ---- what they store
 

@@ -35,8 +35,8 @@ use Rattle.load_run.specs.Stream.{lumber_stream, window_at}
 use Rattle.load_run.proofs.Shorts.{AreShort}
 use Rattle.ending_laws.specs.Replaying.{LumberFits}
 use Rattle.bridge_parts.specs.Opened.{desk_in}
-use Rattle.ending_laws.proofs.LoadFronts.{strip}
-use Rattle.ending_laws.proofs.LoadRoom.{AreSmall, IsSmall, goes_packed, new_packed, small_fits, small_then}
+use Rattle.load_laws.proofs.Fronts.{strip}
+use Rattle.load_laws.proofs.Room.{AreSmall, IsSmall, goes_packed, new_packed, small_fits, small_then}
 
 -- ---- the frames of the stream
 

@@ -17,7 +17,7 @@ use Rattle.event_map.proofs.OneList.{length_behind}
 use Rattle.event_map.proofs.PairsOrNot.{pairs_or_not}
 use Rattle.event_map.proofs.StringSizes.{string_size}
 use Rattle.json_span.specs.Members.{IsObjectText}
-use Rattle.ending_laws.proofs.LoadHecKnown.{AreLight}
+use Rattle.load_laws.proofs.HecKnown.{AreLight}
 
 object_short : (value : List ℕ) → length (event_object value) ≡ length value + 10
 object_short value = omega (arith, length-append value (codes "}"))

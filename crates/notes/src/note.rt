@@ -1,7 +1,7 @@
 //! Why a run ended.
 ghost use Rattle.std.specs.Prelude.{◌≡◌, ◌++◌, IfOk, string_bytes};
 ghost use Rattle.std.specs.Fmt.{decimal};
-ghost use Rattle.bridge_words.specs.Notes.{text_of};
+ghost use Rattle.notes.specs.Notes.{text_of};
 
 use crate::why::why_word;
 use event_form::{Blob, Talk, Why};
@@ -86,7 +86,7 @@ fn two_numbers(
 }
 
 impl Note {
-    ghost use Rattle.bridge_words.specs.Notes.{status_of, text_of, note_of_talk};
+    ghost use Rattle.notes.specs.Notes.{status_of, text_of, note_of_talk};
 
     /// The note for a connection that ended so: `Fine` where it was closed or the input was read to its end
     /// at a frame's end, else the note of the same name.

@@ -22,7 +22,7 @@ use Rattle.forward_core.specs.declared.sent.Sent.{Sent}
 use Rattle.forward_core.specs.declared.sent.Sent.TheVariants as Ending
 use Rattle.load_run.specs.Peer.{relp_replies}
 use Rattle.ending_laws.specs.Draining.{AcknowledgesAll}
-use Rattle.ending_laws.proofs.LoadRelp.{AreLow, spelled_low}
+use Rattle.load_laws.proofs.Relp.{AreLow, spelled_low}
 
 -- ---- its frames
 

@@ -1,6 +1,6 @@
-use Rattle.ending_laws.proofs.LoadSure.{all_confirmed, only_memory}
-use Rattle.ending_laws.proofs.LoadWell.{can_load}
-use Rattle.ending_laws.proofs.laws.load_comes_to_its_numbers.Goals as goal
+use Rattle.load_laws.proofs.Sure.{all_confirmed, only_memory}
+use Rattle.load_laws.proofs.Well.{can_load}
+use Rattle.load_laws.proofs.laws.load_comes_to_its_numbers.Goals as goal
 
 pub returns : goal.returns
 returns c proto number count few = (

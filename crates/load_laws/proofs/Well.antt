@@ -31,17 +31,17 @@ use Rattle.ending_laws.proofs.Endings.{Kept, none_failed}
 use Rattle.ending_laws.proofs.Hec.{hec_allowed}
 use Rattle.ending_laws.proofs.Lumber.{lumber_allowed, lumber_took}
 use Rattle.ending_laws.proofs.Relp.{relp_allowed, relp_took}
-use Rattle.ending_laws.proofs.LoadHec.{hec_fits, hec_took}
-use Rattle.ending_laws.proofs.LoadHecItems.{AreTexts, all_requests, length-hec_stream, stream_ends, texts_are}
-use Rattle.ending_laws.proofs.LoadHecLight.{small_light}
-use Rattle.ending_laws.proofs.LoadHecPeer.{hec_answers, length-successes}
-use Rattle.ending_laws.proofs.LoadLumber as lumber
-use Rattle.ending_laws.proofs.LoadLumber.{front_small, last_small, length-lumber_stream, lumber_fits}
-use Rattle.ending_laws.proofs.LoadLumberPeer.{length-window_acks, lumber_answers}
-use Rattle.ending_laws.proofs.LoadRelp.{all_events, all_frames, all_spelled, ends_are, length-relp_stream, relp_fits, stream_few}
-use Rattle.ending_laws.proofs.LoadRelpPeer.{length-relp_replies, relp_answers}
-use Rattle.ending_laws.proofs.LoadRoom.{AreSmall, small_then}
-use Rattle.ending_laws.proofs.LoadSure.{CanLoad, Holds, Replayed, holds, nowhere, reaches}
+use Rattle.load_laws.proofs.Hec.{hec_fits, hec_took}
+use Rattle.load_laws.proofs.HecItems.{AreTexts, all_requests, length-hec_stream, stream_ends, texts_are}
+use Rattle.load_laws.proofs.HecLight.{small_light}
+use Rattle.load_laws.proofs.HecPeer.{hec_answers, length-successes}
+use Rattle.load_laws.proofs.Lumber as lumber
+use Rattle.load_laws.proofs.Lumber.{front_small, last_small, length-lumber_stream, lumber_fits}
+use Rattle.load_laws.proofs.LumberPeer.{length-window_acks, lumber_answers}
+use Rattle.load_laws.proofs.Relp.{all_events, all_frames, all_spelled, ends_are, length-relp_stream, relp_fits, stream_few}
+use Rattle.load_laws.proofs.RelpPeer.{length-relp_replies, relp_answers}
+use Rattle.load_laws.proofs.Room.{AreSmall, small_then}
+use Rattle.load_laws.proofs.Sure.{CanLoad, Holds, Replayed, holds, nowhere, reaches}
 
 -- ---- RELP
 

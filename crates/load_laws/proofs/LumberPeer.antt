@@ -20,7 +20,7 @@ use Rattle.forward_core.specs.declared.sent.Sent.{Sent}
 use Rattle.forward_core.specs.declared.sent.Sent.TheVariants as Ending
 use Rattle.load_run.specs.Peer.{runs_of, window_acks}
 use Rattle.ending_laws.specs.Draining.{AcknowledgesAll}
-use Rattle.ending_laws.proofs.LoadFronts.{strip}
+use Rattle.load_laws.proofs.Fronts.{strip}
 
 -- ---- its frames
 

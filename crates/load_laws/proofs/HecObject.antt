@@ -22,7 +22,7 @@ use Rattle.hec_session.specs.declared.act.HecAct.TheVariants.{StoreThenSay, SayT
 use Rattle.hec_session.specs.declared.endpoint.Form.TheVariants.{Objects}
 use Rattle.hec_session.specs.declared.say.HecSay.{HecSay}
 use Rattle.hec_session.specs.Acts.{Stores, Tells, event_of}
-use Rattle.ending_laws.proofs.LoadHecText.{AreClear, IsClear, letter_clear}
+use Rattle.load_laws.proofs.HecText.{AreClear, IsClear, letter_clear}
 
 -- ---- strings
 

@@ -1,6 +1,6 @@
 //! Why bytes are no stream of their protocol, in words.
 ghost use Rattle.std.specs.Prelude.{◌≡◌};
-ghost use Rattle.bridge_words.specs.Notes.{why_word};
+ghost use Rattle.notes.specs.Notes.{why_word};
 
 use event_form::Why;
 

@@ -3,8 +3,8 @@ use Rattle.std.specs.Prelude.{ℕ, List, [], ◌++◌, codes}
 use Rattle.std.specs.Fmt.{decimal}
 use Rattle.event_form.specs.declared.talk.Talk.{Talk}
 use Rattle.event_form.specs.declared.talk.Why.{Why}
-use Rattle.bridge_words.specs.declared.note.Note.{Note}
-use Rattle.bridge_words.specs.declared.note.Note.TheVariants.{Fine, Usage, NotSpool, WrongLength, Fault, Full, TooLarge, Busy, Refused, PeerClosed, Unconfirmed, NoMemory, ReadFault, WriteFault, DiskFault, NetFault, Truncated, RunsSpent, Spent, Worn, NoMore, TooMuch}
+use Rattle.notes.specs.declared.note.Note.{Note}
+use Rattle.notes.specs.declared.note.Note.TheVariants.{Fine, Usage, NotSpool, WrongLength, Fault, Full, TooLarge, Busy, Refused, PeerClosed, Unconfirmed, NoMemory, ReadFault, WriteFault, DiskFault, NetFault, Truncated, RunsSpent, Spent, Worn, NoMore, TooMuch}
 
 abbrev pub status_of : Note → ℕ
 status_of Fine = 0

@@ -3,7 +3,7 @@ use Rattle.std.proofs.Common.{◌≡◌, inl, ℕ, zero, suc, ◌+◌, ◌*◌, 
 use Rattle.http_reply.specs.declared.reply.HttpReply.{HttpReply}
 use Rattle.http_reply.specs.ReplyStream.{AreReplies, AreSpelledFrom, IsStream, given_of}
 use Rattle.http_reply.proofs.OpeningLaws.{open_nil}
-use Rattle.ending_laws.proofs.LoadHecReply.{reply_some, success, success_first, success_is, success_length, success_text}
+use Rattle.load_laws.proofs.HecReply.{reply_some, success, success_first, success_is, success_length, success_text}
 
 -- so many replies from an offset on, and their bytes
 abbrev pub replies : ℕ → ℕ → List HttpReply

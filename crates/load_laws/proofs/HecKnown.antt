@@ -11,8 +11,8 @@ use Rattle.hec_sender.specs.Progress.{Brings, Ends, Progress, Stops, Takes, Take
 use Rattle.hec_sender.specs.Replies.{Says, by_id}
 use Rattle.hec_sender.specs.Requests.{fitting, known_from, request_of, run_from}
 use Rattle.hec_sender.proofs.Judging.{one_verdict}
-use Rattle.ending_laws.proofs.LoadHecReply.{success, success_says, success_text}
-use Rattle.ending_laws.proofs.LoadHecReplies.{replies}
+use Rattle.load_laws.proofs.HecReply.{success, success_says, success_text}
+use Rattle.load_laws.proofs.HecReplies.{replies}
 
 -- ---- requests of 128 entries
 

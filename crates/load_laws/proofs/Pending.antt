@@ -9,7 +9,7 @@ use Rattle.spool_state.specs.SpoolState.{IsSound, SpoolState, base, list}
 use Rattle.spool_state.proofs.Lefts.{left-cursor}
 use Rattle.desk_access.specs.Call.{Call, taken_of, takes}
 use Rattle.ending_laws.specs.Draining.{pending}
-use Rattle.ending_laws.proofs.LoadRoom.{AreSmall, Packed}
+use Rattle.load_laws.proofs.Room.{AreSmall, Packed}
 
 entries_numbered : (first : ℕ) (entries : List Entry) → map (λ (one : NumberedEntry). one.entry) (numbered first entries) ≡ entries
 entries_numbered first [] = refl

@@ -27,9 +27,9 @@ use Rattle.hec_session.specs.declared.tokens.Grant.TheVariants.{WithoutAcks}
 use Rattle.hec_session.specs.declared.tokens.Tokens.{Tokens}
 use Rattle.hec_session.specs.Acts.{IsAct, IsActFor}
 use Rattle.hec_session.specs.Checks.{and_then, endpoint_of, grant_of, granted, guid, in_plain_coding, task_for, task_of}
-use Rattle.ending_laws.proofs.LoadHecHead.{all_digits, fields_are, head_is, head_printed, head_short, target, the_fields, the_head, the_terms}
-use Rattle.ending_laws.proofs.LoadHecObject.{StoresOne, stores_one}
-use Rattle.ending_laws.proofs.LoadHecText.{decimal_clear}
+use Rattle.load_laws.proofs.HecHead.{all_digits, fields_are, head_is, head_printed, head_short, target, the_fields, the_head, the_terms}
+use Rattle.load_laws.proofs.HecObject.{StoresOne, stores_one}
+use Rattle.load_laws.proofs.HecText.{decimal_clear}
 
 -- the request of a body
 abbrev pub the_request : List ℕ → HttpRequest

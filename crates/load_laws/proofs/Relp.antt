@@ -38,7 +38,7 @@ use Rattle.load_run.specs.Stream.{offers, relp_stream, syslog_frames}
 use Rattle.load_run.proofs.Shorts.{AreShort}
 use Rattle.ending_laws.specs.Replaying.{RelpEnds, RelpFits, relp_events}
 use Rattle.bridge_parts.specs.Opened.{desk_in}
-use Rattle.ending_laws.proofs.LoadRoom.{AreSmall, IsSmall, goes_packed, new_packed, small_fits, small_then}
+use Rattle.load_laws.proofs.Room.{AreSmall, IsSmall, goes_packed, new_packed, small_fits, small_then}
 
 -- ---- the frames of the stream
 

@@ -1,4 +1,4 @@
-//! A place of the net on the command line.
+//! A place of the net.
 ghost use Rattle.std.specs.Prelude.{◌≡◌, IfOk};
 ghost use Rattle.std.proofs.Common.{rules};
 ghost use Rattle.std.specs.Cmp.Rules.{comparing};
@@ -6,7 +6,7 @@ ghost use Rattle.std.specs.Cmp.Rules.{comparing};
 use std::alloc::{AllocError, Global};
 use std::marker::Model;
 
-/// A place of the net, as the command line names it, for example `127.0.0.1:2514`. It isn't empty. Contracts see its bytes.
+/// A place of the net that is bound or dialed, as its user names it, for example `127.0.0.1:2514`. Contracts see its bytes.
 #[derive(Drop, Debug)]
 pub struct Place {
     text: String,
@@ -21,8 +21,9 @@ impl Model for Place {
 }
 
 impl Place {
-    /// The place that a text names.
-    pub(crate) fn of(alloc: Global, text: &str) -> Result<Place, AllocError>
+    /// The place that a text names; whether there is one shows only where it is bound or dialed. An error says that no memory was
+    /// found.
+    pub fn of(alloc: Global, text: &str) -> Result<Place, AllocError>
         ensures { IfOk result (λ place. place ≡ text.now) }
     {
         Ok(Place {

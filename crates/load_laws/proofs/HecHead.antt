@@ -20,7 +20,7 @@ use Rattle.http_edge.specs.Heads.{head_fields}
 use Rattle.http_edge.specs.Reply.{crlf as break}
 use Rattle.hec_sender.specs.Texts.{guid_text, post_head}
 use Rattle.hec_sender.specs.declared.terms.Terms.{Terms}
-use Rattle.ending_laws.proofs.LoadHecText.{AreClear, IsClear}
+use Rattle.load_laws.proofs.HecText.{AreClear, IsClear}
 
 -- ---- the parts
 

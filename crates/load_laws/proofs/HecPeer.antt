@@ -15,9 +15,9 @@ use Rattle.forward_core.specs.declared.sent.Sent.{Sent}
 use Rattle.forward_core.specs.declared.sent.Sent.TheVariants as Ending
 use Rattle.load_run.specs.Peer.{runs_of, successes}
 use Rattle.ending_laws.specs.Draining.{AcknowledgesAll, PeerAcknowledges}
-use Rattle.ending_laws.proofs.LoadHecKnown.{AreLight, Confirmed, goes_on, known_is, taken_confirms}
-use Rattle.ending_laws.proofs.LoadHecReply.{success_text_is}
-use Rattle.ending_laws.proofs.LoadHecReplies.{among, firsts, length-texts, replies, replies_same, texts, whole_stream}
+use Rattle.load_laws.proofs.HecKnown.{AreLight, Confirmed, goes_on, known_is, taken_confirms}
+use Rattle.load_laws.proofs.HecReply.{success_text_is}
+use Rattle.load_laws.proofs.HecReplies.{among, firsts, length-texts, replies, replies_same, texts, whole_stream}
 
 -- ---- its bytes
 

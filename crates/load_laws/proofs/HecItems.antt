@@ -22,11 +22,11 @@ use Rattle.load_run.specs.Events.{load_text, load_texts, next_number}
 use Rattle.load_run.specs.Stream.{hec_stream}
 use Rattle.load_run.proofs.Shorts.{load_text_short, next_low}
 use Rattle.ending_laws.specs.Replaying.{HecEnds}
-use Rattle.ending_laws.proofs.LoadFronts.{strip}
-use Rattle.ending_laws.proofs.LoadHecHead.{target, the_terms}
-use Rattle.ending_laws.proofs.LoadHecObject.{body_size, one_event}
-use Rattle.ending_laws.proofs.LoadHecRequest.{post_size, request_spelled, stays_open, the_request}
-use Rattle.ending_laws.proofs.LoadHecText.{AreClear, object_clear, text_clear}
+use Rattle.load_laws.proofs.Fronts.{strip}
+use Rattle.load_laws.proofs.HecHead.{target, the_terms}
+use Rattle.load_laws.proofs.HecObject.{body_size, one_event}
+use Rattle.load_laws.proofs.HecRequest.{post_size, request_spelled, stays_open, the_request}
+use Rattle.load_laws.proofs.HecText.{AreClear, object_clear, text_clear}
 
 -- ---- the texts
 

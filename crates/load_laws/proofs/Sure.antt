@@ -28,14 +28,15 @@ use Rattle.load_run.specs.Load.{IsDrained, IsFailed, IsIll, IsLoaded, IsReplayed
 use Rattle.load_run.specs.Peer.{peer_of}
 use Rattle.load_run.specs.Runs.{Leads, settings}
 use Rattle.ending_laws.specs.Draining.{PeerAcknowledges, pending}
-use Rattle.ending_laws.specs.Loads.{AllConfirmed}
+use Rattle.load_laws.specs.Loads.{AllConfirmed}
 use Rattle.bridge_parts.specs.Opened.{desk_in}
 use Rattle.bridge_parts.specs.Reached.{Reaches}
+use Rattle.bridge_parts.proofs.Desks.{desk_rules}
 use Rattle.ending_laws.proofs.Drains.{Remains, Whole, drained, may_be, remains}
 use Rattle.ending_laws.proofs.Endings.{IsAllowed, IsDone}
-use Rattle.ending_laws.proofs.Ordinals.{desk_rules, pending_count}
-use Rattle.ending_laws.proofs.LoadPending.{pending_packed, taken_small}
-use Rattle.ending_laws.proofs.LoadRoom.{AreSmall, goes_packed, new_packed}
+use Rattle.ending_laws.proofs.Ordinals.{pending_count}
+use Rattle.load_laws.proofs.Pending.{pending_packed, taken_small}
+use Rattle.load_laws.proofs.Room.{AreSmall, goes_packed, new_packed}
 
 -- ---- calls without a device
 
