@@ -7,7 +7,7 @@ use std::alloc::{AllocError, Global};
 use std::marker::Model;
 
 /// A place of the net, as the command line names it, for example `127.0.0.1:2514`. It isn't empty. Contracts see its bytes.
-#[derive(Drop, Debug)]
+#[derive(Drop)]
 pub struct Place {
     text: String,
 }

@@ -3,7 +3,7 @@ use bridge_words::Place;
 use forward_core::Outward;
 
 /// Where a server forwards to, and how it speaks there.
-#[derive(Drop, Debug)]
+#[derive(Drop)]
 pub struct Destination {
     /// The place that is dialed for each session.
     pub place: Place,
