@@ -36,7 +36,7 @@ impl<D, P> Ended<D, P> {
 }
 
 /// How a command ended that binds no door, and the disk that was handed in.
-#[derive(Drop, Debug)]
+#[derive(Drop)]
 pub(crate) struct Finished<D> {
     pub(crate) note: Note,
     pub(crate) disk: D,

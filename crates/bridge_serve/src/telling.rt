@@ -15,7 +15,7 @@ use serve_workers::WorkerReport;
 use std::alloc::Global;
 
 /// What a run came to, in the numbers of its line.
-#[derive(Clone, Copy, Debug, PartialEq, Eq)]
+#[derive(Clone, Copy, PartialEq, Eq)]
 pub(crate) struct Summary {
     /// How many connections were served to their end and given back.
     pub(crate) talks: u64,

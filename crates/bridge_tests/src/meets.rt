@@ -202,8 +202,8 @@ fn check<R: Abort + Threads + Wait + Sync>(
         &mut output,
         &mut net,
     );
-    assert!(rt; output.taken() == line.as_bytes(), "{note:?}");
-    assert!(rt; note == Note::Fine, "{note:?}");
+    assert!(rt; output.taken() == line.as_bytes());
+    assert!(rt; note == Note::Fine);
     assert!(rt; are_served(&doors, answers));
 }
 

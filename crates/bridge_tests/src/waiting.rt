@@ -156,7 +156,7 @@ fn spool(rt: &impl Abort, alloc: Global) -> Spool<MemDisk>
     ensures { result.doubt ≡ false }
 {
     let mut disk = MemDisk::plain(alloc, 16_384).expect(rt, MEMORY);
-    format(&mut disk, 1, 4096).expect(rt, "format");
+    format(&mut disk, 1, 4096).ok().expect(rt, "format");
     match Spool::recover(alloc, disk, Opening::Raise) {
         Ok(spool) => spool,
         Err(_) => rt.panic("recover"),
@@ -232,7 +232,7 @@ pub(crate) fn wait_for_answers(rt: &impl Abort, alloc: Global) {
                 }
                 _ => false,
             };
-            assert!(rt; is_right, "{note:?}");
+            assert!(rt; is_right);
         }
     }
 }

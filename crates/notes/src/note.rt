@@ -9,7 +9,7 @@ use std::alloc::{AllocError, Global};
 
 /// Why a run ended. Each has one exit status and one text. Offsets count bytes of the device from 0, or of
 /// the input where that is said; needs and rooms count bytes of a slot.
-#[derive(Clone, Copy, PartialEq, Eq, Debug)]
+#[derive(Clone, Copy, PartialEq, Eq)]
 pub enum Note {
     /// All was done.
     Fine,

@@ -7,7 +7,7 @@ use std::alloc::{AllocError, Global};
 use std::marker::Model;
 
 /// A place of the net that is bound or dialed, as its user names it, for example `127.0.0.1:2514`. Contracts see its bytes.
-#[derive(Drop, Debug)]
+#[derive(Drop)]
 pub struct Place {
     text: String,
 }

@@ -13,7 +13,7 @@ use std::alloc::Global;
 use std::sync::Wait;
 
 /// Why a worker ended.
-#[derive(Clone, Copy, Debug, PartialEq, Eq)]
+#[derive(Clone, Copy, PartialEq, Eq)]
 pub enum WorkerEnd {
     /// Its door is shut for good, and no link waits there.
     Shut,
@@ -27,7 +27,7 @@ pub enum WorkerEnd {
 }
 
 /// What a worker reports when it has ended.
-#[derive(Clone, Copy, Debug, PartialEq, Eq)]
+#[derive(Clone, Copy, PartialEq, Eq)]
 pub struct WorkerReport {
     /// Why it ended.
     pub end: WorkerEnd,
