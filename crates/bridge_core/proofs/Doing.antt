@@ -12,7 +12,7 @@ use Rattle.bridge_words.specs.Words.{IsCommand, IsNoCommand, IsNeed}
 use Rattle.bridge_words.proofs.Once.{one_command}
 use Rattle.bridge_words.specs.declared.note.Note.{Note}
 use Rattle.bridge_words.specs.declared.note.Note.TheVariants.{Usage}
-use Rattle.bridge_core.specs.Listed.{IsListNote}
+use Rattle.commands.specs.Listed.{IsListNote}
 use Rattle.bridge_parts.specs.Receivers.{outward_of}
 use Rattle.bridge_core.specs.Failed.{AsksLoad, AsksServe}
 use Rattle.bridge_core.specs.Done.{Run, Does}

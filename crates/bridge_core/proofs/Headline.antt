@@ -28,7 +28,7 @@ use Rattle.bridge_words.specs.declared.note.Note.{Note}
 use Rattle.bridge_serve.specs.Doors.{rules_of, AreAt, AreBound}
 use Rattle.bridge_serve.specs.Promised.{EachPart, TellsDurable}
 use Rattle.bridge_serve.specs.Served.{IsRun}
-use Rattle.bridge_core.specs.Replayed.{IsReplayed}
+use Rattle.commands.specs.Replayed.{IsReplayed}
 use Rattle.bridge_core.specs.Done.{Run, IsUndone, Does}
 use Rattle.bridge_core.specs.RunOf.{IsRunOf}
 use Rattle.bridge_core.specs.Headline.{AnswersAreKept, IsKept, InputIsKept, TalksAreKept, AcknowledgedIsKept, KeepsAcknowledged}

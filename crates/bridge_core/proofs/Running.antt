@@ -12,7 +12,7 @@ use Rattle.bridge_words.specs.Notes.{note_of_talk}
 use Rattle.bridge_words.specs.Words.{IsCommand}
 use Rattle.bridge_parts.specs.Counted.{RoseBy}
 use Rattle.bridge_parts.specs.Refused.{note_of_recover}
-use Rattle.bridge_core.specs.Listed.{IsListNote}
+use Rattle.commands.specs.Listed.{IsListNote}
 use Rattle.bridge_core.specs.Failed.{ReadsOfLink, TellsDisk, TellsReadFault, TellsWriteFault, TellsDial}
 use Rattle.bridge_core.specs.Done.{Run, IsUntouched, Does}
 use Rattle.bridge_core.specs.RunOf.{IsRunOf}

@@ -8,15 +8,15 @@ use Rattle.spool_log.specs.Making.Format.{IsFormatStep}
 use Rattle.bridge_words.specs.declared.command.Command.{Command}
 use Rattle.bridge_words.specs.declared.command.Command.TheVariants.{Format, List as ListCommand, Replay, Drain, Load, Serve}
 use Rattle.bridge_words.specs.declared.note.Note.{Note}
-use Rattle.bridge_words.specs.declared.note.Note.TheVariants.{Fine, Usage, NoMemory, WrongLength, RunsSpent, Worn}
-use Rattle.bridge_core.specs.Formatted.{IsFormatted}
-use Rattle.bridge_core.specs.Listed.{IsListNote, IsListed}
+use Rattle.bridge_words.specs.declared.note.Note.TheVariants.{Fine, NoMemory}
+use Rattle.commands.specs.Formatted.{IsFormatted}
+use Rattle.commands.specs.Listed.{IsListNote, IsListed}
 use Rattle.bridge_parts.specs.Opened.{IsUnopened}
-use Rattle.bridge_core.specs.Replayed.{IsReplayed}
+use Rattle.commands.specs.Replayed.{IsReplayed}
 use Rattle.bridge_parts.specs.Receivers.{outward_of}
-use Rattle.bridge_core.specs.Loading.{LoadIsTold}
+use Rattle.commands.specs.Loading.{LoadIsTold}
 use Rattle.bridge_serve.specs.Served.{IsServed}
-use Rattle.bridge_core.specs.Drained.{IsLooked, IsIdle, IsUnread, IsStreamed, IsNeedless, IsUndialed, IsPlaced}
+use Rattle.commands.specs.Drained.{IsLooked, IsIdle, IsUnread, IsStreamed, IsNeedless, IsUndialed, IsPlaced}
 
 -- What the disk, the input, the output and the net tell, before the call and after it.
 pub record Run : Type 1 where
@@ -118,11 +118,3 @@ Does (Load proto number count) run note = LoadIsTold proto number count note run
 Does (Serve server) run note =
     IsServed run.net_same server run.tells run.disk run.disk_after run.net run.net_after run.doors_after run.writes run.writes_after
     run.taken run.taken_after note × IsUngiven run
-
--- the words or the device were refused, before the input or the output was met
-abbrev pub IsRefusedFirst : Note → Type 0
-IsRefusedFirst Usage = Unit {0}
-IsRefusedFirst (WrongLength have want) = Unit {0}
-IsRefusedFirst (RunsSpent run) = Unit {0}
-IsRefusedFirst (Worn ordinal) = Unit {0}
-IsRefusedFirst note = ⊥

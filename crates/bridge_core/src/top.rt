@@ -6,21 +6,16 @@ ghost use Rattle.bridge_words.specs.declared.note.Note.TheVariants.{Usage, NoMem
 ghost use Rattle.bridge_words.specs.Notes.{status_of};
 ghost use Rattle.bridge_words.specs.Words.{IsCommand, IsNoCommand};
 ghost use Rattle.bridge_core.specs.Failed.{AsksStream, AsksPlace, AsksDrain, AsksLoad, AsksServe};
-ghost use Rattle.bridge_core.specs.Done.{IsRefusedFirst};
+ghost use Rattle.commands.specs.Refused.{IsRefusedFirst};
 ghost use Rattle.bridge_core.specs.RunOf.{run_of, IsRunOf};
 ghost use Rattle.bridge_core.specs.Headline.{KeepsAcknowledged};
 
 use crate::asked::{Unasked, asked_of};
-use crate::draining::drain_out;
-use crate::ended::{Ended, Finished};
-use crate::formatting::format;
-use crate::listing::list;
-use crate::loading::load;
-use crate::placing::drain_to;
-use crate::replaying::replay;
+use crate::ended::Ended;
 use bridge_parts::outward_of;
 use bridge_serve::{Over, serve};
 use bridge_words::{Command, Note};
+use commands::{Finished, drain_out, drain_to, format, list, load, replay};
 use conn_serve::Rules;
 use edge_disk::Disk;
 use edge_io::{Door, Net, Sink, Source};

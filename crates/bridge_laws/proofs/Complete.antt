@@ -8,8 +8,8 @@ use Rattle.bridge_laws.specs.Complete.{NoneFailed, EndsWell, FormatEndsWell, Lis
 use Rattle.bridge_core.specs.Done.{Run}
 use Rattle.bridge_core.specs.RunOf.{IsRunOf}
 use Rattle.bridge_core.specs.Failed.{AsksServe}
-use Rattle.bridge_core.specs.Formatted.{IsFormatted}
-use Rattle.bridge_core.specs.Listed.{IsListed}
+use Rattle.commands.specs.Formatted.{IsFormatted}
+use Rattle.commands.specs.Listed.{IsListed}
 use Rattle.load_run.specs.Line.{load_line}
 use Rattle.bridge_parts.specs.Written.{IsPrinted}
 

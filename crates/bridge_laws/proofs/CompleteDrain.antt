@@ -22,8 +22,8 @@ use Rattle.ending_laws.specs.Draining.{LeavesNothing, PeerAcknowledges, pending}
 use Rattle.bridge_laws.specs.CompleteDrain.{CanDrain, DrainEndsWell, DrainThereEndsWell, DrainsAll, HungUpNone, PeerHad}
 use Rattle.bridge_core.specs.Done.{Run}
 use Rattle.bridge_core.specs.RunOf.{IsRunOf}
-use Rattle.bridge_core.specs.Drained.{IsIdle, IsLooked, IsOverSpool, IsSession, IsUnread, PrintsOf}
-use Rattle.bridge_core.specs.Listed.{IsUnreadable}
+use Rattle.commands.specs.Drained.{IsIdle, IsLooked, IsOverSpool, IsSession, IsUnread, PrintsOf}
+use Rattle.commands.specs.Listed.{IsUnreadable}
 use Rattle.bridge_parts.specs.Receivers.{outward_of}
 use Rattle.bridge_parts.specs.Refused.{note_of_sent}
 use Rattle.bridge_parts.specs.Reached.{Reaches}

@@ -25,7 +25,7 @@ use Rattle.bridge_core.specs.Done.{Run}
 use Rattle.bridge_core.specs.RunOf.{IsRunOf}
 use Rattle.bridge_parts.specs.Refused.{note_of_recover}
 use Rattle.bridge_parts.specs.Reached.{Reaches}
-use Rattle.bridge_core.specs.Replayed.{IsReplayed}
+use Rattle.commands.specs.Replayed.{IsReplayed}
 use Rattle.bridge_laws.proofs.Complete.{not_disk, not_read, not_write}
 use Rattle.ending_laws.proofs.Endings.{IsAllowed, IsDone, Kept, allowed_note, kept, none_failed}
 use Rattle.ending_laws.proofs.Hec.{hec_allowed, hec_stored}

@@ -30,8 +30,8 @@ use Rattle.bridge_words.specs.declared.note.Note.{Note}
 use Rattle.bridge_parts.specs.Opened.{desk_in, IsUnopened}
 use Rattle.bridge_serve.specs.Opened.{IsOpenedOnly}
 use Rattle.bridge_serve.specs.Served.{RunsOver}
-use Rattle.bridge_core.specs.Drained.{IsLooked, IsSent, IsSessionOver, IsUnread}
-use Rattle.bridge_core.specs.Replayed.{IsStored}
+use Rattle.commands.specs.Drained.{IsLooked, IsSent, IsSessionOver, IsUnread}
+use Rattle.commands.specs.Replayed.{IsStored}
 use Rattle.ending_laws.proofs.Ordinals.{desk_rules}
 use Rattle.bridge_laws.specs.InOrder.{IsInOrder}
 use Rattle.bridge_laws.proofs.InOrder.{Never, opening_keeps_order, opens_legal, still_in_order, stood_in_order}

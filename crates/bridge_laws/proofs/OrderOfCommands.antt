@@ -27,8 +27,8 @@ use Rattle.bridge_words.proofs.Once.{one_command}
 use Rattle.bridge_parts.specs.Receivers.{outward_of}
 use Rattle.bridge_core.specs.Done.{Run, Does, DoesStream, DoesPlace, IsUndone}
 use Rattle.bridge_core.specs.RunOf.{IsRunOf}
-use Rattle.bridge_core.specs.Formatted.{IsFormatted}
-use Rattle.bridge_core.specs.Replayed.{IsReplayed}
+use Rattle.commands.specs.Formatted.{IsFormatted}
+use Rattle.commands.specs.Replayed.{IsReplayed}
 use Rattle.bridge_serve.specs.Served.{IsServed}
 use Rattle.bridge_laws.specs.InOrder.{IsInOrder, HoldsInOrder, HoldsNoDisorder, DeskOpensLegal}
 use Rattle.bridge_laws.specs.KeepsOrder.{AsksFormat, EachCommandKeepsOrder, Keeps}

@@ -4,7 +4,7 @@ use Rattle.edge_io.specs.Net.{NetState}
 use Rattle.bridge_words.specs.declared.command.Command.TheVariants.{Format, List as ListCommand, Replay, Load, Serve}
 use Rattle.bridge_words.specs.Words.{IsCommand}
 use Rattle.bridge_core.proofs.Doing.{is_usage, no_asked, list_not_usage, has_polls, is_load, no_load}
-use Rattle.bridge_core.proofs.Failing.{tells_as}
+use Rattle.commands.proofs.Failing.{tells_as}
 use Rattle.bridge_core.proofs.Running.{still, still_calls, still_same, by_link, untouched, list_no_read, list_no_net, refused_no_net, ended_no_net, ran_as}
 use Rattle.bridge_core.proofs.Headline.{keeps_acknowledged}
 use Rattle.bridge_core.proofs.top.bridge.Goals as goal

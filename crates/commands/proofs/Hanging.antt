@@ -1,0 +1,63 @@
+-- A link that was dialed and hung up.
+use Rattle.std.proofs.Common.{◌≡◌, ◌⊎◌, inl, inr, ℕ, List, sym, ◌∙◌, subst, arith}
+use Rattle.std.specs.Prelude.{Option}
+use Rattle.foundation.specs.Faults.{Rose}
+use Rattle.edge_io.specs.Counts.{Gains}
+use Rattle.edge_io.specs.Net.{HungUp, NetState, IsHungUp, AddsHung}
+use Rattle.edge_io.specs.Told.{Adds}
+use Rattle.desk_access.specs.Call.{Call}
+use Rattle.forward_core.specs.Forwarded as sending
+use Rattle.forward_core.specs.Turning.{IsHalt}
+use Rattle.forward_core.specs.declared.outward.Outward.{Outward}
+use Rattle.forward_core.specs.declared.sent.Sent.{Sent}
+use Rattle.forward_core.specs.declared.sent.Sent.TheVariants as Ending
+use Rattle.bridge_words.specs.declared.note.Note.{Note}
+use Rattle.bridge_parts.specs.Refused.{note_of_sent}
+use Rattle.commands.specs.Sending.{IsSentOver}
+use Rattle.bridge_parts.specs.Counted.{WritesOfBoth, RoseBy, WroteAfter}
+use Rattle.bridge_parts.proofs.Endings.{sent_by_read, sent_by_write}
+
+-- a link's faults are added, one at least
+gained : (n m before now : ℕ) → Gains n before now → Rose 1 m n → Rose 1 before now
+gained n m before now gains rose = omega (arith, gains.by, rose)
+
+-- one link more is told, by the place where it was dialed, and by what it gave, took and has left
+pub hung_up : (room : Type 0) (old mid new : Option (List HungUp)) (dialed dialed' given taken left : Option (List ℕ)) → mid ≡ old → dialed' ≡ dialed → room → AddsHung room mid new (IsHungUp dialed' given taken left)
+    → Adds old new (IsHungUp dialed given taken left)
+hung_up room old mid new dialed dialed' given taken left same there has (inl adds) =
+    subst (λ (o : Option (List HungUp)). Adds o new (IsHungUp dialed given taken left)) same (subst (λ (d : Option (List ℕ)). Adds mid new (IsHungUp d given taken left)) there adds)
+hung_up room old mid new dialed dialed' given taken left same there has (inr none) = absurd (none.0 has)
+
+module _ (sent : Sent) (note : Note) (is : (note ≡ note_of_sent sent) ⊎ ((note ≡ Note.WriteFault) ⊎ (note ≡ Note.NoMemory))) where
+  pub link_reads : (n m before now : ℕ) → sending.CountsFaults (sent ≡ Ending.ReadFault) m n → Gains n before now → RoseBy (note ≡ Note.ReadFault) before now
+  link_reads n m before now counts gains = record {
+    later = gains.later;
+    cause = λ by. elim is [
+      | inl own ↦ gained n m before now gains (counts.cause (sent_by_read sent (sym own ∙ by)))
+      | inr other ↦ absurd (elim other [ inl write ↦ (cc) | inr memory ↦ (cc) ])
+    ];
+  }
+
+pub link_writes : (sent : Sent) (note : Note) (n m before now wrote wrote' : ℕ) → sending.CountsWrites (sent ≡ Ending.WriteFault) (IsHalt sent) m n
+    → Gains n before now → WroteAfter (note_of_sent sent) note wrote wrote' → WritesOfBoth note wrote wrote' before now
+link_writes sent note n m before now wrote wrote' counts gains after = record {
+  later = after.later;
+  hung_later = gains.later;
+  cause = λ by. elim (after.cause by) [ inl ended ↦ inr (gained n m before now gains (counts.cause (sent_by_write sent ended))) | inr rose ↦ inl rose ];
+  quiet = after.quiet;
+}
+
+-- the list of links is the same after the dial
+pub over_from : (outward : Outward) (old mid new : NetState) (dialed given left written : Option (List ℕ)) (before writes writes' : ℕ)
+    (taken taken' : Option (List ℕ)) (Made : ℕ → ℕ → ℕ → List Call → Type 0) (note : Note) → mid.hung ≡ old.hung
+    → IsSentOver outward mid new dialed given left written before writes writes' taken taken' Made note → IsSentOver outward old new dialed given left written before writes writes' taken taken' Made note
+over_from outward old mid new dialed given left written before writes writes' taken taken' Made note same over = record {
+  sent = over.sent;
+  remaining = over.remaining;
+  given_after = over.given_after;
+  left_after = over.left_after;
+  written_after = over.written_after;
+  session = over.session;
+  hung = subst (λ (o : Option (List HungUp)). Adds o new.hung (IsHungUp dialed over.given_after over.written_after over.left_after)) same over.hung;
+  printed = over.printed;
+}

@@ -1,0 +1,23 @@
+use Rattle.std.proofs.Common.{inl, inr, refl, ◌∙◌, ap}
+use Rattle.commands.specs.Loading.{note_of_load}
+use Rattle.ending_laws.proofs.LoadSure.{all_confirmed, only_memory}
+use Rattle.ending_laws.proofs.LoadWell.{can_load}
+use Rattle.commands.proofs.loading.load.Goals as goal
+
+pub returns-in-Ok-clause-told : goal.returns-in-Ok-clause-told
+returns-in-Ok-clause-told g c =
+    let few = c.requires.few in
+    inl (record {
+      loaded = c.in-Ok.loaded;
+      loaded_is = c.in-Ok.ensures.loaded;
+      all = all_confirmed c.args.proto c.args.number c.args.count few (can_load c.args.proto c.args.number c.args.count few) c.in-Ok.loaded c.in-Ok.ensures.loaded;
+      line = c.print_loaded.ensures.line;
+    })
+
+pub returns-in-Err-clause-told : goal.returns-in-Err-clause-told
+returns-in-Err-clause-told g c =
+    let few = c.requires.few in
+    inr (record {
+      memory = c.load_note.ensures ∙ ap note_of_load (only_memory c.args.proto c.args.number c.args.count few (can_load c.args.proto c.args.number c.args.count few) c.in-Err.fault c.in-Err.ensures.failed);
+      silent = refl;
+    })
