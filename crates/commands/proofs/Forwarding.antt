@@ -1,21 +1,23 @@
 -- Forwarding over a spool that was opened from a device.
 use Rattle.std.proofs.Common.{◌≡◌, ◌⊎◌, inl, inr, ℕ, ◌-◌, ◌<◌, ◌≤◌, List, [], refl, sym, ◌∙◌, ap, subst, arith}
-use Rattle.std.specs.Prelude.{Bool, true, false, Option}
+use Rattle.std.specs.Prelude.{Bool, true, false}
 use Rattle.std.proofs.lemmas.Bool.{cases_lt}
 use Rattle.edge_disk.specs.Disk.{Moment, LeavesOnly}
 use Rattle.edge_disk.specs.Calls.{Calls}
 use Rattle.edge_disk.proofs.Calls.{calls_as}
 use Rattle.edge_disk.proofs.Moments.{both, weaker}
+use Rattle.edge_io.specs.Net.{NetState}
 use Rattle.spool_state.specs.SpoolState.{SpoolState, end}
 use Rattle.spool_state.specs.Image.{StandsFor}
 use Rattle.spool_state.proofs.Lefts.{left_from-cursor, left_from-end}
 use Rattle.spool_log.specs.declared.fault.RecoverFault.{RecoverFault}
 use Rattle.spool_log.specs.declared.fault.RecoverFault.TheVariants as Recover
+use Rattle.spool_log.specs.declared.memory.Memory.{Memory}
 use Rattle.spool_log.specs.declared.opening.Opening.TheVariants.{Keep}
 use Rattle.spool_log.specs.Memory.{cursor_of, end_of}
-use Rattle.spool_log.specs.Opening.{IsRefusing, IsRefusedAs}
+use Rattle.spool_log.specs.Opening.{IsRefusing, IsRefusedAs, Opens}
 use Rattle.spool_log.proofs.Numbers.{end_known}
-use Rattle.spool_log.specs.State.{View, IsIn}
+use Rattle.spool_log.specs.State.{View, view, IsIn}
 use Rattle.desk_access.specs.Call.{Call}
 use Rattle.desk_access.specs.Desk.{Stood}
 use Rattle.forward_core.specs.Forwarded as sending
@@ -24,17 +26,21 @@ use Rattle.forward_core.specs.declared.outward.Outward.{Outward}
 use Rattle.forward_core.specs.declared.sent.Sent.{Sent}
 use Rattle.forward_core.specs.declared.sent.Sent.TheVariants as Ending
 use Rattle.conn_serve.specs.Endings.{CountsFaults}
+use Rattle.conn_serve.proofs.Faults.{counts_none}
 use Rattle.bridge_words.specs.declared.note.Note.{Note}
-use Rattle.commands.specs.Failed.{CountsWrites, IsHaltNote}
 use Rattle.bridge_parts.specs.Refused.{note_of_sent, note_of_recover}
 use Rattle.bridge_parts.specs.Opened.{desk_in}
-use Rattle.commands.specs.Drained.{IsLooked, IsIdle, HasMore, IsUnread, IsSent, IsSession}
-use Rattle.commands.specs.Listed.{IsUnreadable}
 use Rattle.bridge_parts.specs.Pending.{pending_in}
+use Rattle.bridge_parts.specs.Run.{DiskRun, InputRun, LinkRun, NetRun, OutputRun, IsOffline, IsSilent, IsUngiven}
 use Rattle.bridge_parts.proofs.Endings.{sent_by_disk, sent_by_read, sent_by_write}
 use Rattle.bridge_parts.proofs.Numbers.{pending_seen}
-use Rattle.commands.specs.Sending.{Sends}
-use Rattle.commands.proofs.Sure.{unreadable, unopened}
+use Rattle.commands.specs.Drained.{IsLooked, IsIdle, HasMore, IsUnread, IsSent, IsSession, IsSessionOver, IsOverSpool, Tally, IsStreamed, IsPlaced, IsDrained, IsDrainedTo}
+use Rattle.commands.specs.Failed.{CountsWrites, IsHaltNote}
+use Rattle.commands.specs.Listed.{IsUnreadable}
+use Rattle.commands.specs.Sending.{Sends, SendsFrom, IsSentOut, IsSentThere, used_link}
+use Rattle.commands.specs.SpoolRun.{SpoolRun}
+use Rattle.commands.proofs.Over.{session_over}
+use Rattle.commands.proofs.Sure.{unreadable, unopened, unopened_calls, unopened_read, unopened_reads, unopened_write}
 
 -- ---- the note of an ending
 
@@ -112,10 +118,12 @@ pub seen : (s : SpoolState) (v : View) → IsIn s [] v → IsSeen s (cursor_of v
 seen s v held = record { cursor_is = held.knows.cursor; last_is = end_known s v.memory.active held.sound held.knows.active; within = held.sound.to_end }
 
 -- What a session did over the spool, it did over the device from which that was opened.
-pub sent_from : (s : SpoolState) (old mid new : Moment) (start until cursor last remaining : ℕ) (v : View) (calls : List Call) → StandsFor s old.reads
-    → IsIn s [] v → IsSeen s cursor last → cursor < last → LeavesOnly old.image old mid
-    → Sends s mid new start until calls remaining → IsSent old new start until calls (pending_in v.memory - remaining) remaining
-sent_from s old mid new start until cursor last remaining v calls stood held sees more first sends = record {
+sent_from : (s : SpoolState) (tells same same' : Type 0) (old mid new : Moment) (start until cursor last remaining : ℕ) (v : View) (calls : List Call)
+    → StandsFor s old.reads → IsIn s [] v → IsSeen s cursor last → cursor < last → LeavesOnly old.image old mid
+    → Sends s (record { tells = tells; old = mid; new = new; same = same' }) remaining start until calls
+    → IsSent (record { tells = tells; old = old; new = new; same = same })
+    (record { confirmed = pending_in v.memory - remaining; remaining = remaining }) start until calls
+sent_from s tells same same' old mid new start until cursor last remaining v calls stood held sees more first sends = record {
   state = s;
   stood = stood;
   more = omega (arith, sees.cursor_is, sees.last_is, more);
@@ -128,10 +136,10 @@ sent_from s old mid new start until cursor last remaining v calls stood held see
 }
 
 -- a session, where the calls made mean something else too
-pub session_as : (outward : Outward) (given given' left_there left' written written' : Option (List ℕ)) (Made Also : ℕ → ℕ → List Call → Type 0)
-    (sent : Sent) → ((start until : ℕ) (calls : List Call) → Made start until calls → Also start until calls)
-    → IsSession outward given given' left_there left' written written' Made sent → IsSession outward given given' left_there left' written written' Also sent
-session_as outward given given' left_there left' written written' Made Also sent also session = record {
+pub session_as : (outward : Outward) (link : LinkRun) (Made Also : ℕ → ℕ → List Call → Type 0) (sent : Sent)
+    → ((start until : ℕ) (calls : List Call) → Made start until calls → Also start until calls)
+    → IsSession outward link Made sent → IsSession outward link Also sent
+session_as outward link Made Also sent also session = record {
   start = session.start;
   until = session.until;
   forwards = record {
@@ -147,34 +155,126 @@ session_as outward given given' left_there left' written written' Made Also sent
 }
 
 -- nothing was pending in the spool that was opened, so nothing was in the device
-pub looked_idle : (s : SpoolState) (old new : Moment) (cursor last : ℕ) → StandsFor s old.reads → LeavesOnly old.image old new → IsSeen s cursor last → last ≤ cursor → IsLooked IsIdle old new
+looked_idle : (s : SpoolState) (old new : Moment) (cursor last : ℕ) → StandsFor s old.reads → LeavesOnly old.image old new → IsSeen s cursor last → last ≤ cursor → IsLooked IsIdle old new
 looked_idle s old new cursor last stood left_only sees none = record { state = s; stood = stood; is = idle s (omega (arith, sees.cursor_is, sees.last_is, sees.within, none)); any_moment = left_only }
 
-pub looked_more : (s : SpoolState) (old new : Moment) (cursor last : ℕ) → StandsFor s old.reads → LeavesOnly old.image old new → IsSeen s cursor last → cursor < last → IsLooked HasMore old new
+looked_more : (s : SpoolState) (old new : Moment) (cursor last : ℕ) → StandsFor s old.reads → LeavesOnly old.image old new → IsSeen s cursor last → cursor < last → IsLooked HasMore old new
 looked_more s old new cursor last stood left_only sees more = record { state = s; stood = stood; is = omega (arith, sees.cursor_is, sees.last_is, more); any_moment = left_only }
 
 -- a device that was not opened to be read
-pub unread : (tells : Type 0) (old new : Moment) (fault : RecoverFault) (note : Note) → note ≡ note_of_recover fault
-    → (tells → IsRefusedAs Keep old.reads fault) → (tells → LeavesOnly (IsRefusing Keep fault old) old new) → IsUnread tells old new note
-unread tells old new fault note is why left_only = record {
-  fault = fault;
-  note_is = is;
-  why = λ told. subst (IsUnreadable old.reads) (sym is) (unreadable old.reads fault (why told));
-  any_moment = λ told. weaker _ old.image old new (left_only told) (unopened fault old);
-}
+module _ (disk : DiskRun) (fault : RecoverFault) (why : disk.tells → IsRefusedAs Keep disk.old.reads fault)
+    (left_only : disk.tells → LeavesOnly (IsRefusing Keep fault disk.old) disk.old disk.new) where
+  pub unread : IsUnread disk (note_of_recover fault)
+  unread = record {
+    fault = fault;
+    note_is = refl;
+    why = λ told. unreadable disk.old.reads fault (why told);
+    any_moment = λ told. weaker _ disk.old.image disk.old disk.new (left_only told) (unopened fault disk.old);
+  }
 
-recovered_note : (fault : RecoverFault) → IsSentNote (note_of_recover fault)
+pub recovered_note : (fault : RecoverFault) → IsSentNote (note_of_recover fault)
 recovered_note (Recover.NotSpool at) = record { no_usage = λ is. cc; no_length = λ have want is. cc; no_dial = λ is. cc }
 recovered_note (Recover.RunsSpent run) = record { no_usage = λ is. cc; no_length = λ have want is. cc; no_dial = λ is. cc }
 recovered_note (Recover.Worn ordinal) = record { no_usage = λ is. cc; no_length = λ have want is. cc; no_dial = λ is. cc }
 recovered_note Recover.DiskFault = record { no_usage = λ is. cc; no_length = λ have want is. cc; no_dial = λ is. cc }
 recovered_note Recover.NoMemory = record { no_usage = λ is. cc; no_length = λ have want is. cc; no_dial = λ is. cc }
 
-pub recovered_as : (note : Note) (fault : RecoverFault) → note ≡ note_of_recover fault → IsSentNote note
-recovered_as note fault is = subst IsSentNote (sym is) (recovered_note fault)
-
 -- ---- a test
 
 -- the test for nothing pending said no
 pub not_idle : (r : Bool) (last cursor : ℕ) → (r ≡ true → last ≤ cursor) × (last ≤ cursor → r ≡ true) → r ≡ false → cursor < last
 not_idle r last cursor test off = elim (cases_lt cursor last) [ inl lt ↦ lt | inr ge ↦ let yes = test.1 ge in absurd (cc) ]
+
+-- so it is or not
+pub is_pending : (cursor last : ℕ) → (cursor < last) ⊎ (last ≤ cursor)
+is_pending cursor last = elim (cases_lt cursor last) [ inl lt ↦ inl lt | inr ge ↦ inr ge ]
+
+-- ---- over a device
+
+-- A spool that was opened from a device as it is, of which what is asked was done.
+module _ (tells same same' : Type 0) (old mid new : Moment) (memory : Memory) (doubt : Bool)
+    (opens : tells → (s : SpoolState) × Opens Keep s old.reads (view memory doubt mid)) (first : tells → LeavesOnly old.image old mid) where
+  abbrev device : DiskRun
+  device = record { tells = tells; old = old; new = new; same = same }
+
+  abbrev over : SpoolRun
+  over = record { memory = memory; disk = record { tells = tells; old = mid; new = new; same = same' } }
+
+  -- nothing was pending, and nothing was done to it
+  pub was_idle : end_of memory ≤ cursor_of memory → (tells → LeavesOnly old.image old new) → tells → IsLooked IsIdle old new
+  was_idle none still told =
+      let found = opens told in looked_idle found.0 old new (cursor_of memory) (end_of memory) found.1.stood (still told) (seen found.0 _ found.1.reached) none
+
+  -- entries were, and nothing was done to it
+  pub had_more : cursor_of memory < end_of memory → (tells → LeavesOnly old.image old new) → tells → IsLooked HasMore old new
+  had_more more still told =
+      let found = opens told in looked_more found.0 old new (cursor_of memory) (end_of memory) found.1.stood (still told) (seen found.0 _ found.1.reached) more
+
+  module _ (sure : doubt ≡ false) (more : cursor_of memory < end_of memory) where
+    -- a session was held over it
+    pub was_sent : (outward : Outward) (link : LinkRun) (remaining : ℕ) (sent : Sent) → IsSession outward link (SendsFrom over remaining) sent
+        → IsSessionOver outward device link (record { confirmed = pending_in memory - remaining; remaining = remaining }) sent
+    was_sent outward link remaining sent session =
+        let tally : Tally = record { confirmed = pending_in memory - remaining; remaining = remaining } in
+        session_over outward device link tally sent (session_as outward link (SendsFrom over remaining) (IsOverSpool device tally) sent
+        (λ start until calls made told.
+        let found = opens told in
+        let held = subst (λ (b : Bool). IsIn found.0 [] (view memory b mid)) sure found.1.reached in
+        sent_from found.0 tells same same' old mid new start until (cursor_of memory) (end_of memory) remaining (view memory false mid) calls found.1.stood held
+        (seen found.0 _ held) more (first told) (made found.0 told held)) session)
+
+    pub was_streamed : (outward : Outward) (link : LinkRun) (note : Note) → IsSentOut outward over link note → IsStreamed outward device link note
+    was_streamed outward link note out = record {
+      sent = out.sent;
+      note_is = out.note_is;
+      tally = record { confirmed = pending_in memory - out.remaining; remaining = out.remaining };
+      session = was_sent outward link out.remaining out.sent out.session;
+    }
+
+    pub was_placed : (outward : Outward) (place : List ℕ) (net : NetRun) (output : OutputRun) (note : Note)
+        → IsSentThere outward place over net output note → IsPlaced outward place device net output note
+    was_placed outward place net output note there =
+        let sent = there.over in record {
+          sent = sent.sent;
+          tally = record { confirmed = pending_in memory - sent.remaining; remaining = sent.remaining };
+          dialed = there.new.dialed;
+          link = used_link there.new sent.given sent.left_there sent.taken;
+          place_is = there.place_is;
+          fresh = there.fresh;
+          session = was_sent outward (used_link there.new sent.given sent.left_there sent.taken) sent.remaining sent.sent sent.session;
+          hung = sent.hung;
+          printed = sent.printed;
+        }
+
+-- ---- over a device that was refused
+
+module _ (outward : Outward) (disk : DiskRun) (output : OutputRun) (fault : RecoverFault) (calls : Calls (fault ≡ Recover.DiskFault) disk.old disk.new)
+    (why : disk.tells → IsRefusedAs Keep disk.old.reads fault) (left_only : disk.tells → LeavesOnly (IsRefusing Keep fault disk.old) disk.old disk.new)
+    (silent : IsSilent output) (faults : output.faults_after ≡ output.faults) where
+  pub undrained : (input : InputRun) → IsUngiven input → input.faults_after ≡ input.faults
+      → IsDrained outward disk input output (note_of_recover fault)
+  undrained input ungiven reads =
+      let note = recovered_note fault in record {
+        known = (note.no_usage, note.no_length);
+        calls = unopened_calls fault disk.old disk.new calls;
+        reads = unopened_reads fault input.faults input.faults_after reads;
+        writes = record { later = omega (arith, faults); cause = λ by. absurd (unopened_write fault by); quiet = λ _ _. faults };
+        dials = note.no_dial;
+        drained = inl (unread disk fault why left_only, ungiven, silent);
+      }
+
+  pub undrained_to : (place : List ℕ) (net : NetRun) → IsOffline net → IsDrainedTo outward place disk net output (note_of_recover fault)
+  undrained_to place net offline =
+      let note = recovered_note fault in record {
+        known = (note.no_usage, note.no_length);
+        calls = unopened_calls fault disk.old disk.new calls;
+        reads = record { later = omega (arith, ap (λ (t : NetState). t.read_faults) offline.told); cause = λ by. absurd (unopened_read fault by) };
+        writes = record {
+          later = omega (arith, faults);
+          hung_later = omega (arith, ap (λ (t : NetState). t.write_faults) offline.told);
+          cause = λ by. absurd (unopened_write fault by);
+          quiet = λ _. faults;
+        };
+        dials = counts_none _ net.old.net_faults net.new.net_faults note.no_dial (ap (λ (t : NetState). t.net_faults) offline.told);
+        drained = inl (unread disk fault why left_only, silent, offline);
+      }

@@ -5,7 +5,6 @@ use Rattle.foundation.specs.Faults.{Rose}
 use Rattle.edge_io.specs.Counts.{Gains}
 use Rattle.edge_io.specs.Net.{HungUp, NetState, IsHungUp, AddsHung}
 use Rattle.edge_io.specs.Told.{Adds}
-use Rattle.desk_access.specs.Call.{Call}
 use Rattle.forward_core.specs.Forwarded as sending
 use Rattle.forward_core.specs.Turning.{IsHalt}
 use Rattle.forward_core.specs.declared.outward.Outward.{Outward}
@@ -13,8 +12,10 @@ use Rattle.forward_core.specs.declared.sent.Sent.{Sent}
 use Rattle.forward_core.specs.declared.sent.Sent.TheVariants as Ending
 use Rattle.bridge_words.specs.declared.note.Note.{Note}
 use Rattle.bridge_parts.specs.Refused.{note_of_sent}
-use Rattle.commands.specs.Sending.{IsSentOver}
+use Rattle.commands.specs.Sending.{IsSentOver, NewLink}
+use Rattle.commands.specs.SpoolRun.{SpoolRun}
 use Rattle.bridge_parts.specs.Counted.{WritesOfBoth, RoseBy, WroteAfter}
+use Rattle.bridge_parts.specs.Run.{OutputRun}
 use Rattle.bridge_parts.proofs.Endings.{sent_by_read, sent_by_write}
 
 -- a link's faults are added, one at least
@@ -48,16 +49,16 @@ link_writes sent note n m before now wrote wrote' counts gains after = record {
 }
 
 -- the list of links is the same after the dial
-pub over_from : (outward : Outward) (old mid new : NetState) (dialed given left written : Option (List ℕ)) (before writes writes' : ℕ)
-    (taken taken' : Option (List ℕ)) (Made : ℕ → ℕ → ℕ → List Call → Type 0) (note : Note) → mid.hung ≡ old.hung
-    → IsSentOver outward mid new dialed given left written before writes writes' taken taken' Made note → IsSentOver outward old new dialed given left written before writes writes' taken taken' Made note
-over_from outward old mid new dialed given left written before writes writes' taken taken' Made note same over = record {
+pub over_from : (outward : Outward) (spool : SpoolRun) (new : NewLink) (old mid : NetState) (same same' : Type 0) (after : NetState) (output : OutputRun)
+    (note : Note) → mid.hung ≡ old.hung → IsSentOver outward spool new (record { old = mid; new = after; same = same' }) output note
+    → IsSentOver outward spool new (record { old = old; new = after; same = same }) output note
+over_from outward spool new old mid same same' after output note kept over = record {
   sent = over.sent;
   remaining = over.remaining;
-  given_after = over.given_after;
-  left_after = over.left_after;
-  written_after = over.written_after;
+  given = over.given;
+  left_there = over.left_there;
+  taken = over.taken;
   session = over.session;
-  hung = subst (λ (o : Option (List HungUp)). Adds o new.hung (IsHungUp dialed over.given_after over.written_after over.left_after)) same over.hung;
+  hung = subst (λ (o : Option (List HungUp)). Adds o after.hung (IsHungUp new.dialed over.given over.taken over.left_there)) kept over.hung;
   printed = over.printed;
 }

@@ -1,7 +1,5 @@
 -- A session over the spool that the device stood for sends the entries that weren't known there.
-use Rattle.std.proofs.Common.{ℕ, List, refl, sym, subst}
-use Rattle.std.specs.Prelude.{Option}
-use Rattle.edge_disk.specs.Disk.{Moment}
+use Rattle.std.proofs.Common.{List, refl, sym, subst}
 use Rattle.desk_access.specs.Call.{Call}
 use Rattle.desk_access.specs.Journal.{calls_by}
 use Rattle.forward_core.specs.Calls.{AreOfSession}
@@ -13,13 +11,13 @@ use Rattle.forward_core.proofs.SendsLaw.{sends_left}
 use Rattle.forward_core.proofs.AfterLaw.{only_marked_known}
 use Rattle.forward_core.proofs.DropLaw.{told_is_gone}
 use Rattle.bridge_parts.specs.Opened.{desk_in}
-use Rattle.commands.specs.Drained.{IsOverSpool, IsSession, IsSessionOver}
+use Rattle.bridge_parts.specs.Run.{DiskRun, LinkRun}
+use Rattle.commands.specs.Drained.{IsOverSpool, IsSession, IsSessionOver, Tally}
 use Rattle.ending_laws.proofs.Ordinals.{desk_rules}
 
-pub session_over : (outward : Outward) (tells : Type 0) (old new : Moment) (given given' left_there left' written written' : Option (List ℕ)) (confirmed remaining : ℕ) (sent : Sent)
-    → IsSession outward given given' left_there left' written written' (IsOverSpool tells old new confirmed remaining) sent
-    → IsSessionOver outward tells old new given given' left_there left' written written' confirmed remaining sent
-session_over outward tells old new given given' left_there left' written written' confirmed remaining sent session = record {
+pub session_over : (outward : Outward) (disk : DiskRun) (link : LinkRun) (tally : Tally) (sent : Sent)
+    → IsSession outward link (IsOverSpool disk tally) sent → IsSessionOver outward disk link tally sent
+session_over outward disk link tally sent session = record {
   session = session;
   entries = λ told.
       let is = session.forwards.made told in
@@ -29,12 +27,12 @@ session_over outward tells old new given given' left_there left' written written
       let rules = desk_rules is.state is.stood.sound in
       let made = calls_by 0 forwards.calls reached.records reached.by in
       let on : IsOnDesk x session.start session.until forwards.calls reached.records reached.after = record { rules = rules; sure = refl; start_is = is.start_is; until_is = is.until_is; calls_are = made; goes = reached.goes } in
-      let ends = sends_left (settings_as outward) outward.proto left' x reached.after reached.records session.start session.until sent forwards.bytes forwards.calls forwards.text on forwards.ended in
+      let ends = sends_left (settings_as outward) outward.proto link.left_after x reached.after reached.records session.start session.until sent forwards.bytes forwards.calls forwards.text on forwards.ended in
       record {
         ends = ends;
         marks = λ t one. subst (λ (calls : List Call). KnowsMarked is.state calls t) made
             (only_marked_known x reached.after reached.records session.start session.until t rules refl
             (subst (λ (calls : List Call). AreOfSession session.until session.start calls) (sym made) forwards.ended.session) reached.goes one);
-        drops = λ other. told_is_gone (settings_as outward) outward.proto left' x reached.after reached.records session.start session.until sent forwards.bytes forwards.calls forwards.text on other forwards.ended ends;
+        drops = λ other. told_is_gone (settings_as outward) outward.proto link.left_after x reached.after reached.records session.start session.until sent forwards.bytes forwards.calls forwards.text on other forwards.ended ends;
       };
 }

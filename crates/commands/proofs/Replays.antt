@@ -1,8 +1,6 @@
 -- A connection served over a spool with one caller.
 use Rattle.std.proofs.Common.{◌≡◌, ◌⊎◌, inl, inr, ℕ, ◌*◌, ◌^◌, List, sym, ◌∙◌, ap, subst}
-use Rattle.std.specs.Prelude.{Option}
 use Rattle.event_form.specs.declared.talk.Talk.{Talk}
-use Rattle.edge_io.specs.declared.proto.Proto.{Proto}
 use Rattle.edge_disk.specs.Disk.{Moment, LeavesOnly}
 use Rattle.edge_disk.proofs.Moments.{both}
 use Rattle.spool_state.specs.SpoolState.{SpoolState}
@@ -16,12 +14,11 @@ use Rattle.desk_access.specs.History.{AllKept, Grows}
 use Rattle.desk_access.specs.Alone.{AloneView, IsAt, Ran}
 use Rattle.desk_access.specs.Journal.{calls_by}
 use Rattle.desk_access.proofs.Lasting.{image_kept}
-use Rattle.hec_session.specs.declared.tokens.Tokens.{Tokens}
 use Rattle.bridge_words.specs.declared.note.Note.{Note}
 use Rattle.bridge_words.specs.Notes.{note_of_talk}
 use Rattle.commands.specs.Refused.{IsRefusedFirst}
 use Rattle.bridge_parts.specs.Opened.{desk_in}
-use Rattle.commands.specs.Replayed.{Keeps, IsStored, IsServed}
+use Rattle.commands.specs.Replayed.{Keeps, IsStored}
 
 -- what calls of a desk with one caller lead to, and that memory knows it
 pub record KeepsTo (s : SpoolState) (old new : AloneView) (calls : List Call) : Type 0 where
@@ -51,26 +48,6 @@ ran_keeps_to s tells old new calls told at ran =
 
 pub ran_keeps : (s : SpoolState) (tells : Type 0) (old new : AloneView) (calls : List Call) → tells → IsAt (desk_in s) old → Ran tells old calls new → Keeps s old.spool.moment new.spool.moment calls
 ran_keeps s tells old new calls told at ran = (ran_keeps_to s tells old new calls told at ran).keeps
-
--- what was served, where the calls made mean something else too
-pub served_as : (proto : Proto) (tokens : Tokens) (conn : ℕ) (given given' left left' taken taken' : Option (List ℕ)) (Made Also : List Call → Type 0) (note : Note) → ((calls : List Call) → Made calls → Also calls)
-    → IsServed proto tokens conn given given' left left' taken taken' Made note → IsServed proto tokens conn given given' left left' taken taken' Also note
-served_as proto tokens conn given given' left left' taken taken' Made Also note also served = record {
-  attended = served.attended;
-  note_is = served.note_is;
-  serves = record {
-    bytes = served.serves.bytes;
-    calls = served.serves.calls;
-    text = served.serves.text;
-    read = served.serves.read;
-    consumed = served.serves.consumed;
-    are_bytes = served.serves.are_bytes;
-    wrote = served.serves.wrote;
-    made = also served.serves.calls served.serves.made;
-    counted = served.serves.counted;
-    carried = served.serves.carried;
-  };
-}
 
 -- a spool that was opened from a device, and then served
 pub stored_from : (s : SpoolState) (m mid new : Moment) (calls : List Call) (run : ℕ) (v : View) → v.moment ≡ mid → run_of v.memory ≡ run

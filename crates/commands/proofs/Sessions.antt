@@ -55,9 +55,9 @@ begun view tells s old new start until told at asked =
 -- ---- what the calls lead to
 
 -- the calls keep what they took, and memory has the numbers of the state after them
-pub sends : (s : SpoolState) (tells : Type 0) (old new : AloneView) (start until : ℕ) (calls : List Call) → tells → IsAt (desk_in s) old → start ≡ s.cursor → until ≡ end s → Ran tells old calls new
-    → Sends s old.spool.moment new.spool.moment start until calls (pending_in new.spool.memory)
-sends s tells old new start until calls told at start_is until_is ran =
+pub sends : (s : SpoolState) (tells same : Type 0) (old new : AloneView) (start until : ℕ) (calls : List Call) → tells → IsAt (desk_in s) old → start ≡ s.cursor → until ≡ end s → Ran tells old calls new
+    → Sends s (record { tells = tells; old = old.spool.moment; new = new.spool.moment; same = same }) (pending_in new.spool.memory) start until calls
+sends s tells same old new start until calls told at start_is until_is ran =
     let to = ran_keeps_to s tells old new calls told at ran in
     record { start_is = start_is; until_is = until_is; keeps = to.keeps; remaining_is = pending_seen to.keeps.reached.after.spool to.keeps.reached.after.doubt new.spool to.here.spool }
 

@@ -5,9 +5,10 @@ use Rattle.std.specs.Global.{Vec}
 use Rattle.std.proofs.lemmas.List.Elements.{All-drop}
 use Rattle.edge_disk.specs.Disk.{Moment, LeavesOnly}
 use Rattle.edge_disk.specs.Calls.{Calls}
-use Rattle.edge_disk.proofs.Calls.{calls_as}
+use Rattle.edge_disk.proofs.Calls.{calls_as, calls_on}
 use Rattle.edge_disk.proofs.Moments.{weaker, both}
 use Rattle.spool_state.specs.SpoolState.{SpoolState}
+use Rattle.spool_state.specs.Image.{StandsFor}
 use Rattle.spool_state.specs.Left.{NumberedEntry, left, left_from}
 use Rattle.spool_state.proofs.Lefts.{left_from-cursor}
 use Rattle.spool_log.specs.declared.reading.numbered.Numbered.{Numbered}
@@ -25,7 +26,9 @@ use Rattle.bridge_words.specs.declared.command.ListForm.{ListForm}
 use Rattle.bridge_words.specs.declared.note.Note.{Note}
 use Rattle.bridge_words.specs.declared.note.Note.TheVariants.{Fine}
 use Rattle.bridge_parts.specs.Refused.{note_of_pend, note_of_recover}
-use Rattle.commands.specs.Listed.{ArePrinted, PrintsPart, IsUnreadable, IsPrintNote, IsListNote}
+use Rattle.bridge_parts.specs.Run.{DiskRun, OutputRun, IsSilent}
+use Rattle.commands.specs.Listed.{ArePrinted, PrintsPart, IsUnreadable, IsPrintNote, IsListNote, Lists, IsListed}
+use Rattle.commands.specs.Refused.{IsRefusedFirst}
 use Rattle.commands.proofs.Printing.{IsLimited, none_first, printed_then, printed_cut}
 use Rattle.commands.proofs.Rising.{left_after}
 use Rattle.commands.proofs.Given.{given_last}
@@ -126,7 +129,7 @@ unopened (Recover.Worn ordinal) m c h = h
 unopened Recover.DiskFault m c h = h
 unopened Recover.NoMemory m c h = h
 
-pub unopened_note : (fault : RecoverFault) → IsListNote (note_of_recover fault)
+unopened_note : (fault : RecoverFault) → IsListNote (note_of_recover fault)
 unopened_note (Recover.NotSpool at) = tt
 unopened_note (Recover.RunsSpent run) = tt
 unopened_note (Recover.Worn ordinal) = tt
@@ -134,7 +137,7 @@ unopened_note Recover.DiskFault = tt
 unopened_note Recover.NoMemory = tt
 
 -- the note says whether a call of the disk failed, and no read or write did
-pub unopened_disk : (fault : RecoverFault) → note_of_recover fault ≡ Note.DiskFault → fault ≡ Recover.DiskFault
+unopened_disk : (fault : RecoverFault) → note_of_recover fault ≡ Note.DiskFault → fault ≡ Recover.DiskFault
 unopened_disk Recover.DiskFault is = refl
 unopened_disk fault is = absurd (cc)
 
@@ -152,22 +155,61 @@ unopened_write (Recover.Worn ordinal) is = cc
 unopened_write Recover.DiskFault is = cc
 unopened_write Recover.NoMemory is = cc
 
-module _ (fault : RecoverFault) (note : Note) where
-  pub unopened_calls : (old new : Moment) → note ≡ note_of_recover fault → Calls (fault ≡ Recover.DiskFault) old new → Calls (note ≡ Note.DiskFault) old new
-  unopened_calls old new is calls = calls_as (fault ≡ Recover.DiskFault) (note ≡ Note.DiskFault) old new calls (λ by. unopened_disk fault (sym is ∙ by)) (λ by. is ∙ ap note_of_recover by)
+-- no call failed but as the note says, since nothing was read or written
+module _ (fault : RecoverFault) where
+  pub unopened_calls : (old new : Moment) → Calls (fault ≡ Recover.DiskFault) old new → Calls (note_of_recover fault ≡ Note.DiskFault) old new
+  unopened_calls old new calls =
+      calls_as (fault ≡ Recover.DiskFault) (note_of_recover fault ≡ Note.DiskFault) old new calls (unopened_disk fault) (λ by. ap note_of_recover by)
 
-  pub unopened_reads : (n : ℕ) → note ≡ note_of_recover fault → CountsFaults (note ≡ Note.ReadFault) n n
-  unopened_reads n is = counts_none (note ≡ Note.ReadFault) n n (λ by. unopened_read fault (sym is ∙ by)) refl
+  pub unopened_reads : (before now : ℕ) → now ≡ before → CountsFaults (note_of_recover fault ≡ Note.ReadFault) before now
+  unopened_reads before now same = counts_none (note_of_recover fault ≡ Note.ReadFault) before now (unopened_read fault) same
 
-  pub unopened_writes : (n : ℕ) → note ≡ note_of_recover fault → CountsFaults (note ≡ Note.WriteFault) n n
-  unopened_writes n is = counts_none (note ≡ Note.WriteFault) n n (λ by. unopened_write fault (sym is ∙ by)) refl
+  pub unopened_writes : (before now : ℕ) → now ≡ before → CountsFaults (note_of_recover fault ≡ Note.WriteFault) before now
+  unopened_writes before now same = counts_none (note_of_recover fault ≡ Note.WriteFault) before now (unopened_write fault) same
 
 -- ---- printing is a part of listing
 
-pub list_note : (note : Note) → IsPrintNote note → IsListNote note
+list_note : (note : Note) → IsPrintNote note → IsListNote note
 list_note Note.Fine is = tt
 list_note (Note.NotSpool at) is = tt
 list_note Note.NoMemory is = tt
 list_note Note.WriteFault is = tt
 list_note Note.DiskFault is = tt
 list_note note is = absurd is
+
+-- a spool that is printed was not refused
+print_not_first : (note : Note) → IsPrintNote note → IsRefusedFirst note → ⊥
+print_not_first Note.Fine is first = first
+print_not_first (Note.NotSpool at) is first = first
+print_not_first Note.NoMemory is first = first
+print_not_first Note.WriteFault is first = first
+print_not_first Note.DiskFault is first = first
+print_not_first note is first = absurd is
+
+module _ (form : ListForm) (disk : DiskRun) (output : OutputRun) where
+  -- the entries of a spool that was opened were printed as the note says
+  pub listed : (note : Note) (mid : Moment) → IsPrintNote note → Calls ⊥ disk.old mid → Calls (note ≡ Note.DiskFault) mid disk.new
+      → CountsFaults (note ≡ Note.WriteFault) output.faults output.faults_after
+      → (disk.tells → (s : SpoolState) × StandsFor s disk.old.reads × ArePrinted form (left s) note output.taken output.taken_after)
+      → (disk.tells → LeavesOnly disk.old.image disk.old disk.new) → IsListed form disk output note
+  listed note mid known first calls writes printed any_moment = record {
+    known = list_note note known;
+    unused = λ refused. absurd (print_not_first note known refused);
+    calls = calls_on ⊥ (note ≡ Note.DiskFault) disk.old mid disk.new first (λ never. never) calls;
+    writes = writes;
+    listed = λ told. inr (printed told);
+    any_moment = any_moment;
+  }
+
+  -- the device was not opened
+  pub unlisted : (fault : RecoverFault) → Calls (fault ≡ Recover.DiskFault) disk.old disk.new → (disk.tells → IsRefusedAs Keep disk.old.reads fault)
+      → (disk.tells → LeavesOnly (IsRefusing Keep fault disk.old) disk.old disk.new) → IsSilent output → output.faults_after ≡ output.faults
+      → IsListed form disk output (note_of_recover fault)
+  unlisted fault calls why any_moment silent faults = record {
+    known = unopened_note fault;
+    unused = λ refused. silent;
+    calls = unopened_calls fault disk.old disk.new calls;
+    writes = unopened_writes fault output.faults output.faults_after faults;
+    listed = λ told. inl (unreadable disk.old.reads fault (why told), silent.taken);
+    any_moment = λ told. weaker _ disk.old.image disk.old disk.new (any_moment told) (unopened fault disk.old);
+  }

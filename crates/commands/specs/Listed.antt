@@ -1,9 +1,12 @@
--- What the top call does with the words of `list`.
+-- What `list` does.
 use Rattle.std.specs.Prelude.{◌≡◌, ◌⊎◌, ℕ, List, [], ◌∷◌, ◌++◌, Option}
 use Rattle.std.specs.Io.KnownBytes.{Appends}
 use Rattle.event_form.specs.declared.event.Event.{Event}
 use Rattle.event_form.specs.declared.event.Entry.{Entry}
 use Rattle.event_map.specs.Maps.{IsText, IsJsonObject, IsHecObject}
+use Rattle.edge_disk.specs.Calls.{Calls}
+use Rattle.edge_disk.specs.Disk.{LeavesOnly}
+use Rattle.conn_serve.specs.Endings.{CountsFaults}
 use Rattle.spool_state.specs.SpoolState.{SpoolState}
 use Rattle.spool_state.specs.Left.{NumberedEntry, left, left_from}
 use Rattle.spool_state.specs.Image.{StandsFor}
@@ -13,7 +16,9 @@ use Rattle.bridge_words.specs.declared.note.Note.TheVariants.{Fine, NotSpool, Ru
 use Rattle.bridge_words.specs.declared.command.ListForm.{ListForm}
 use Rattle.bridge_words.specs.declared.command.ListForm.TheVariants.{Plain, Text, JsonObject, HecObject}
 use Rattle.bridge_words.specs.Lines.{entry_line}
+use Rattle.bridge_parts.specs.Run.{DiskRun, OutputRun, IsSilent}
 use Rattle.bridge_parts.specs.Written.{IsCut}
+use Rattle.commands.specs.Refused.{IsRefusedFirst}
 
 -- the line is the event as that map has it, and LF
 abbrev pub IsMapped : (Event → List ℕ → Type 0) → Event → List ℕ → Type 0
@@ -58,8 +63,8 @@ IsUnreadable before note = ⊥
 
 -- The device was not opened, and nothing was written; or it stood for a spool, and of the lines of the entries
 -- whose numbers aren't known as confirmed, in order, as much was written as the note says.
-abbrev pub IsListed : ListForm → List ℕ → Option (List ℕ) → Option (List ℕ) → Note → Type 0
-IsListed form before old new note = (IsUnreadable before note × (new ≡ old)) ⊎ ((s : SpoolState) × StandsFor s before × ArePrinted form (left s) note old new)
+abbrev pub Lists : ListForm → List ℕ → Option (List ℕ) → Option (List ℕ) → Note → Type 0
+Lists form before old new note = (IsUnreadable before note × (new ≡ old)) ⊎ ((s : SpoolState) × StandsFor s before × ArePrinted form (left s) note old new)
 
 -- Of the entries that are left from a number on, the first ones were printed. The others are left from the next number on.
 pub record PrintsPart (form : ListForm) (s : SpoolState) (number next : ℕ) (old new : Option (List ℕ)) : Type 0 where
@@ -81,3 +86,13 @@ abbrev pub IsListNote : Note → Type 0
 IsListNote (RunsSpent run) = Unit {0}
 IsListNote (Worn ordinal) = Unit {0}
 IsListNote note = IsPrintNote note
+
+-- What a call of `list` did: `DiskFault` and `WriteFault` come exactly where a call of the disk or a write failed in it, and nothing is
+-- written to the device: whatever a crash leaves of it is what it could leave before.
+pub record IsListed (form : ListForm) (disk : DiskRun) (output : OutputRun) (note : Note) : Type 0 where
+  pub known : IsListNote note
+  pub unused : IsRefusedFirst note → IsSilent output
+  pub calls : Calls (note ≡ DiskFault) disk.old disk.new
+  pub writes : CountsFaults (note ≡ WriteFault) output.faults output.faults_after
+  pub listed : disk.tells → Lists form disk.old.reads output.taken output.taken_after note
+  pub any_moment : disk.tells → LeavesOnly disk.old.image disk.old disk.new

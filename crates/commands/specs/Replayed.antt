@@ -1,7 +1,7 @@
--- What the top call does with the words of `replay`.
-use Rattle.std.specs.Prelude.{◌≡◌, ◌⊎◌, ℕ, ◌+◌, ◌*◌, ◌^◌, List, Option}
+-- What `replay` does.
+use Rattle.std.specs.Prelude.{◌≡◌, ◌⊎◌, ℕ, ◌+◌, ◌*◌, ◌^◌, List}
 use Rattle.event_form.specs.declared.talk.Attended.{Attended}
-use Rattle.edge_io.specs.declared.proto.Proto.{Proto}
+use Rattle.edge_io.specs.declared.proto.Proto.TheVariants.{Hec}
 use Rattle.edge_disk.specs.Disk.{Moment, LeavesOnly}
 use Rattle.spool_state.specs.SpoolState.{SpoolState}
 use Rattle.spool_state.specs.Image.{StandsFor}
@@ -12,18 +12,28 @@ use Rattle.desk_access.specs.Desk.{Stood}
 use Rattle.desk_access.specs.Durable.{IsIdTakenDurably}
 use Rattle.conn_serve.specs.Acked.{Acknowledges}
 use Rattle.conn_serve.specs.Durable.{AckedIsDurable, AnswersAreDurable}
-use Rattle.conn_serve.specs.Serves.{CarriedAs, Serves}
-use Rattle.hec_session.specs.declared.tokens.Tokens.{Tokens}
+use Rattle.conn_serve.specs.declared.rules.Rules.{Rules}
+use Rattle.conn_serve.specs.Endings.{CountsFaults}
+use Rattle.conn_serve.specs.Serves.{CarriedBy, Serves}
+use Rattle.conn_serve.specs.Tokens.{tokens_of}
 use Rattle.bridge_words.specs.declared.note.Note.{Note}
+use Rattle.bridge_words.specs.declared.note.Note.TheVariants.{ReadFault, WriteFault}
 use Rattle.bridge_words.specs.Notes.{note_of_talk}
-use Rattle.bridge_parts.specs.Opened.{desk_in}
+use Rattle.bridge_parts.specs.Opened.{desk_in, IsUnopened}
 use Rattle.bridge_parts.specs.Reached.{Reaches}
+use Rattle.bridge_parts.specs.Run.{DiskRun, InputRun, LinkRun, OutputRun, both_run, IsSilent, IsUngiven}
+use Rattle.commands.specs.Failed.{TellsDiskFault}
+use Rattle.commands.specs.SpoolRun.{SpoolRun, WasIn}
 
 -- And so it was from that moment on: whatever a crash left meanwhile stands for the state after the first of the
 -- calls, or for a stage of the next one.
 pub record Keeps (s : SpoolState) (old new : Moment) (calls : List Call) : Type 0 where
   pub reached : Reaches s new calls
   pub any_moment : LeavesOnly (Stood (desk_in s) reached.records) old new
+
+-- so it was from whatever state the spool was in
+abbrev pub KeepsFrom : SpoolRun → List Call → Type 0
+KeepsFrom spool calls = (s : SpoolState) → spool.disk.tells → WasIn spool s → Keeps s spool.disk.old spool.disk.new calls
 
 -- The device stood for a state, and was opened for storing: its run was raised by one, and the connection has
 -- the number that begins the new run. Then the calls were made on the spool. Whatever a crash left meanwhile is what
@@ -37,22 +47,31 @@ pub record IsStored (old new : Moment) (conn : ℕ) (calls : List Call) : Type 0
   pub reached : Reaches (opened Raise state) new calls
   pub any_moment : LeavesOnly (λ c. IsOpening Raise old c ⊎ Stood (desk_in (opened Raise state)) reached.records c) old new
 
--- The input was served by this protocol and these tokens, as one connection of this number: the bytes read are its frames, from
--- the first one, none skipped; the calls on the spool and the bytes written are those that they ask for; where it
--- ended with the input, the input was read to its end; and the note is that of the connection's ending.
-pub record IsServed (proto : Proto) (tokens : Tokens) (conn : ℕ) (given given' left left' taken taken' : Option (List ℕ))
-    (Made : List Call → Type 0) (note : Note) : Type 0 where
+-- A link was served by these rules, as one connection of this number: the bytes read are its frames, from the first one, none skipped;
+-- the calls on the spool and the bytes written are those that they ask for; where it ended with the input, the input was read to its
+-- end; and the note is that of the connection's ending.
+pub record IsServed (rules : Rules) (conn : ℕ) (link : LinkRun) (Made : List Call → Type 0) (note : Note) : Type 0 where
   pub attended : Attended
   pub note_is : note ≡ note_of_talk attended.talk
-  pub serves : Serves (CarriedAs proto tokens conn) given given' left left' taken taken' Made attended
+  pub serves : Serves (CarriedBy rules conn) link.given link.given_after link.left link.left_after link.taken link.taken_after Made attended
 
 -- And that was done over the spool that the device stood for. Whatever the text that was written acknowledges is durable:
 -- by RELP and Lumberjack the numbers in it, and by the collector its replies, of which one that tells an id true means that
 -- these calls took a group of that id.
-pub record IsReplayed (proto : Proto) (tokens : Tokens) (tells : Type 0) (old new : Moment)
-    (given given' left left' taken taken' : Option (List ℕ)) (note : Note) : Type 0 where
+pub record ServesInput (rules : Rules) (disk : DiskRun) (link : LinkRun) (note : Note) : Type 0 where
   pub conn : ℕ
-  pub served : IsServed proto tokens conn given given' left left' taken taken' (λ calls. tells → IsStored old new conn calls) note
-  pub acknowledged : (numbers : List ℕ) → tells → Acknowledges proto served.serves.text numbers → AckedIsDurable served.serves.calls new numbers
-  pub answered : tells → AnswersAreDurable proto tokens conn left' served.serves.bytes served.serves.calls served.serves.text
-      served.attended.talk served.serves.carried new (λ channel id. IsIdTakenDurably served.serves.calls new id)
+  pub served : IsServed rules conn link (λ calls. disk.tells → IsStored disk.old disk.new conn calls) note
+  pub acknowledged : (numbers : List ℕ) → disk.tells → Acknowledges rules.proto served.serves.text numbers
+      → AckedIsDurable served.serves.calls disk.new numbers
+  pub answered : disk.tells → AnswersAreDurable rules.proto (tokens_of rules) conn link.left_after served.serves.bytes served.serves.calls
+      served.serves.text served.attended.talk served.serves.carried disk.new (λ channel id. IsIdTakenDurably served.serves.calls disk.new id)
+
+-- What a call of `replay` did: the device was not opened, and nothing was read or written; or the input was served. `ReadFault`,
+-- `WriteFault` and `DiskFault` come exactly where a read, a write or a call of the disk failed in it, but for a reply of the collector
+-- that says that the disk failed and was cut short.
+pub record IsReplayed (rules : Rules) (disk : DiskRun) (input : InputRun) (output : OutputRun) (note : Note) : Type 0 where
+  pub calls : TellsDiskFault (rules.proto ≡ Hec) note disk.old disk.new
+  pub reads : CountsFaults (note ≡ ReadFault) input.faults input.faults_after
+  pub writes : CountsFaults (note ≡ WriteFault) output.faults output.faults_after
+  pub replayed : (IsUnopened disk.tells disk.old disk.new note × IsUngiven input × IsSilent output)
+      ⊎ ServesInput rules disk (both_run input output) note

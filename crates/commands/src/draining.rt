@@ -1,64 +1,31 @@
 //! The command `drain`: the entries that aren't known as confirmed are forwarded, over the spool that the device holds.
-ghost use Rattle.std.specs.Prelude.{◌≡◌, ◌≢◌, ◌⊎◌, ◌≤◌, ◌<◌, ◌∷◌, ℕ, [], false, List, None, Some};
-ghost use Rattle.spool_state.specs.SpoolState.{SpoolState};
+ghost use Rattle.std.specs.Prelude.{◌≡◌, ◌≢◌, ◌≤◌, ◌<◌, ℕ, false};
 ghost use Rattle.edge_disk.specs.Calls.{Calls};
 ghost use Rattle.spool_log.specs.Memory.{cursor_of, end_of};
-ghost use Rattle.spool_log.specs.State.{view, IsIn};
-ghost use Rattle.forward_core.specs.Forwarded as sending;
-ghost use Rattle.forward_core.specs.Turning.{IsHalt};
-ghost use Rattle.forward_core.specs.declared.sent.Sent.TheVariants as Ending;
 ghost use Rattle.conn_serve.specs.Endings.{CountsFaults};
 ghost use Rattle.bridge_words.specs.declared.note.Note.TheVariants.{Usage, WrongLength, ReadFault};
-ghost use Rattle.commands.specs.Drained.{IsLooked, IsIdle, IsUnread, IsSession, IsStreamed};
-ghost use Rattle.bridge_parts.specs.Pending.{pending_in};
-ghost use Rattle.commands.specs.Sending.{Sends, IsSentOut};
+ghost use Rattle.bridge_parts.specs.Run.{disk_run, input_run, link_run, output_run};
+ghost use Rattle.commands.specs.Drained.{IsDrained};
 ghost use Rattle.commands.specs.Failed.{CountsWrites};
+ghost use Rattle.commands.specs.Sending.{IsSentOut};
+ghost use Rattle.commands.specs.SpoolRun.{spool_run};
 
 use crate::finished::Finished;
 use crate::sending::{Sending, is_idle, send};
 use bridge_parts::{recover_note, sent_note};
 use bridge_words::Note;
 use edge_disk::Disk;
-use edge_io::{Both, Net, Pause, Sink, Source};
+use edge_io::{Both, Link, Net, Pause, Sink, Source};
 use forward_core::Outward;
 use spool_log::{Opening, Refusal, Spool};
 use std::alloc::Global;
 
-// Holds one session over the input and the output.
-fn send_both<D: Disk, S: Source, K: Sink, Z: Pause>(
+// Forwards the entries over the link, unless none is pending.
+fn send_out<D: Disk, L: Link, Z: Pause>(
     alloc: Global,
     outward: &Outward,
     spool: Spool<D>,
-    input: &mut S,
-    output: &mut K,
-    rest: &mut Z,
-) -> Sending<D>
-    requires sure { spool.doubt ≡ false }
-    requires polls { 0 < outward.now.polls }
-
-    ensures calls { Calls (result.sent ≡ Ending.DiskFault) (D.moment spool.disk) (D.moment result.spool.disk) }
-    ensures reads { sending.CountsFaults (result.sent ≡ Ending.ReadFault) (S.read_faults input.old) (S.read_faults input.new) }
-    ensures writes { sending.CountsWrites (result.sent ≡ Ending.WriteFault) (IsHalt result.sent) (K.write_faults output.old) (K.write_faults output.new) }
-    ensures paused { Z.pause_apart rest.old rest.new }
-    ensures session { IsSession outward.now (S.given input.old) (S.given input.new) (S.left input.old) (S.left input.new)
-        (K.taken output.old) (K.taken output.new)
-        (λ start until calls. (s : SpoolState) → D.tells → IsIn s [] (view spool.memory spool.doubt (D.moment spool.disk))
-        → Sends s (D.moment spool.disk) (D.moment result.spool.disk) start until calls (pending_in result.spool.memory)) result.sent }
-{
-    let mut link = Both {
-        source: &mut *input,
-        sink: &mut *output,
-    };
-    send(alloc, outward, spool, &mut link, rest)
-}
-
-// Forwards the entries over the input and the output, unless none is pending.
-fn send_out<D: Disk, S: Source, K: Sink, Z: Pause>(
-    alloc: Global,
-    outward: &Outward,
-    spool: Spool<D>,
-    input: &mut S,
-    output: &mut K,
+    link: &mut L,
     rest: &mut Z,
 ) -> Finished<D>
     requires sure { spool.doubt ≡ false }
@@ -66,21 +33,20 @@ fn send_out<D: Disk, S: Source, K: Sink, Z: Pause>(
 
     ensures known { (result.note ≢ Usage) × ((have want : ℕ) → result.note ≢ WrongLength have want) }
     ensures calls { Calls (result.note ≡ Note.DiskFault) (D.moment spool.disk) (D.moment result.disk) }
-    ensures reads { CountsFaults (result.note ≡ ReadFault) (S.read_faults input.old) (S.read_faults input.new) }
-    ensures writes { CountsWrites result.note (K.write_faults output.old) (K.write_faults output.new) }
+    ensures reads { CountsFaults (result.note ≡ ReadFault) (L.read_faults link.old) (L.read_faults link.new) }
+    ensures writes { CountsWrites result.note (L.write_faults link.old) (L.write_faults link.new) }
     ensures dials { result.note ≢ Note.NetFault }
     ensures paused { Z.pause_apart rest.old rest.new }
-    ensures streamed { ((input.new ≡ input.old) × (output.new ≡ output.old) × (result.note ≡ Note.Fine) × (result.disk ≡ spool.disk)
-        × (end_of spool.memory ≤ cursor_of spool.memory))
-        ⊎ IsSentOut outward.now (cursor_of spool.memory < end_of spool.memory) (S.given input.old) (S.given input.new) (S.left input.old) (S.left input.new)
-        (K.taken output.old) (K.taken output.new)
-        (λ start until remaining calls. (s : SpoolState) → D.tells → IsIn s [] (view spool.memory spool.doubt (D.moment spool.disk))
-        → Sends s (D.moment spool.disk) (D.moment result.disk) start until calls remaining) result.note }
+    ensures idle { end_of spool.memory ≤ cursor_of spool.memory
+        → (link.new ≡ link.old) × (result.note ≡ Note.Fine) × (result.disk ≡ spool.disk) }
+    ensures sent { cursor_of spool.memory < end_of spool.memory
+        → IsSentOut outward.now (spool_run D.tells D.moment spool.memory spool.disk result.disk)
+        (link_run L.given L.left L.taken link.old link.new) result.note }
 {
     if is_idle(&spool) {
         return Finished::of(Note::Fine, spool.into_disk());
     }
-    let Sending { sent, spool } = send_both(alloc, outward, spool, input, output, rest);
+    let Sending { sent, spool } = send(alloc, outward, spool, link, rest);
     Finished::of(sent_note(sent), spool.into_disk())
 }
 
@@ -99,20 +65,18 @@ pub fn drain_out<D: Disk, S: Source, K: Sink, N: Net>(
 ) -> Finished<D>
     requires polls { 0 < outward.now.polls }
 
-    ensures known { (result.note ≢ Usage) × ((have want : ℕ) → result.note ≢ WrongLength have want) }
-    ensures calls { Calls (result.note ≡ Note.DiskFault) (D.moment disk) (D.moment result.disk) }
-    ensures reads { CountsFaults (result.note ≡ ReadFault) (S.read_faults input.old) (S.read_faults input.new) }
-    ensures writes { CountsWrites result.note (K.write_faults output.old) (K.write_faults output.new) }
-    ensures dials { result.note ≢ Note.NetFault }
     ensures told { N.told net.new ≡ N.told net.old }
-    ensures drained { (IsUnread D.tells (D.moment disk) (D.moment result.disk) result.note × (input.new ≡ input.old) × (output.new ≡ output.old))
-        ⊎ (((D.tells → IsLooked IsIdle (D.moment disk) (D.moment result.disk)) × (result.note ≡ Note.Fine) × (input.new ≡ input.old)
-        × (output.new ≡ output.old))
-        ⊎ IsStreamed outward.now D.tells (D.moment disk) (D.moment result.disk) (S.given input.old) (S.given input.new) (S.left input.old) (S.left input.new)
-        (K.taken output.old) (K.taken output.new) result.note) }
+    ensures drained { IsDrained outward.now (disk_run D.tells D.moment disk result.disk)
+        (input_run S.given S.left S.read_faults input.old input.new) (output_run K.taken K.write_faults output.old output.new) result.note }
 {
     match Spool::recover(alloc, disk, Opening::Keep) {
-        Ok(spool) => send_out(alloc, outward, spool, input, output, net),
+        Ok(spool) => {
+            let mut link = Both {
+                source: &mut *input,
+                sink: &mut *output,
+            };
+            send_out(alloc, outward, spool, &mut link, net)
+        }
         Err(Refusal { fault, disk }) => Finished::of(recover_note(fault), disk),
     }
 }

@@ -1,15 +1,12 @@
 //! The command `format`: a device is made an empty spool.
-ghost use Rattle.std.specs.Prelude.{◌≡◌, ◌≢◌, ℕ};
-ghost use Rattle.edge_disk.specs.Calls.{Calls};
-ghost use Rattle.edge_disk.specs.Disk.{LeavesOnly};
-ghost use Rattle.spool_log.specs.Making.Format.{IsFormatStep};
+ghost use Rattle.std.specs.Prelude.{◌≡◌, ◌≢◌};
 ghost use Rattle.conn_serve.specs.Endings.{CountsFaults};
-ghost use Rattle.bridge_words.specs.declared.note.Note.TheVariants.{Usage, WrongLength, ReadFault, WriteFault, DiskFault};
+ghost use Rattle.bridge_words.specs.declared.note.Note.TheVariants.{WriteFault, DiskFault};
 ghost use Rattle.bridge_words.specs.Lines.{spool_line};
 ghost use Rattle.bridge_words.specs.Words.{IsSize};
+ghost use Rattle.bridge_parts.specs.Run.{disk_run, output_run};
 ghost use Rattle.bridge_parts.specs.Written.{IsPrinted};
 ghost use Rattle.commands.specs.Formatted.{IsFormatted};
-ghost use Rattle.commands.specs.Refused.{IsRefusedFirst};
 
 use bridge_words::{Note, spool_line};
 use edge_disk::Disk;
@@ -46,13 +43,8 @@ pub fn format<D: Disk, K: Sink>(
 ) -> Note
     requires { IsSize slots size }
 
-    ensures calls { Calls (result ≡ DiskFault) (D.moment disk.old) (D.moment disk.new) }
-    ensures writes { CountsFaults (result ≡ WriteFault) (K.write_faults output.old) (K.write_faults output.new) }
-    ensures known { (result ≢ Usage) × (result ≢ ReadFault) × (result ≢ Note.NetFault) }
-    ensures unchanged { (have want : ℕ) → result ≡ WrongLength have want → disk.new ≡ disk.old }
-    ensures unused { IsRefusedFirst result → output.new ≡ output.old }
-    ensures formatted { IsFormatted slots size D.tells (D.moment disk.old) (D.moment disk.new) (K.taken output.old) (K.taken output.new) result }
-    ensures any_moment { D.tells → LeavesOnly (IsFormatStep slots size (D.moment disk.old)) (D.moment disk.old) (D.moment disk.new) }
+    ensures { IsFormatted slots size (disk_run D.tells D.moment disk.old disk.new)
+        (output_run K.taken K.write_faults output.old output.new) result }
 {
     match spool_log::format(disk, slots, size) {
         Ok(()) => print_line(alloc, output, slots, size),

@@ -8,8 +8,8 @@ ghost use Rattle.spool_log.specs.Memory.{end_of};
 ghost use Rattle.spool_log.specs.State.{view, IsIn};
 ghost use Rattle.conn_serve.specs.Endings.{CountsFaults};
 ghost use Rattle.bridge_words.specs.declared.note.Note.TheVariants.{Fine};
-ghost use Rattle.commands.specs.Listed.{ArePrinted, PrintsPart, IsPrintNote, IsListNote, IsListed};
-ghost use Rattle.commands.specs.Refused.{IsRefusedFirst};
+ghost use Rattle.bridge_parts.specs.Run.{disk_run, output_run};
+ghost use Rattle.commands.specs.Listed.{ArePrinted, PrintsPart, IsPrintNote, IsListed};
 
 use crate::finished::Finished;
 use crate::lines::print_entries;
@@ -103,12 +103,8 @@ pub fn list<D: Disk, K: Sink>(
     output: &mut K,
     form: ListForm,
 ) -> Finished<D>
-    ensures known { IsListNote result.note }
-    ensures unused { IsRefusedFirst result.note → output.new ≡ output.old }
-    ensures calls { Calls (result.note ≡ Note.DiskFault) (D.moment disk) (D.moment result.disk) }
-    ensures writes { CountsFaults (result.note ≡ Note.WriteFault) (K.write_faults output.old) (K.write_faults output.new) }
-    ensures listed { D.tells → IsListed form (D.moment disk).reads (K.taken output.old) (K.taken output.new) result.note }
-    ensures any_moment { D.tells → LeavesOnly (D.moment disk).image (D.moment disk) (D.moment result.disk) }
+    ensures { IsListed form (disk_run D.tells D.moment disk result.disk)
+        (output_run K.taken K.write_faults output.old output.new) result.note }
 {
     match Spool::recover(alloc, disk, Opening::Keep) {
         Ok(mut spool) => {

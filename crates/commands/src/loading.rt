@@ -1,11 +1,11 @@
 //! The command `load`: a stream is made, stored and forwarded in memory, and a line says how much it was.
-ghost use Rattle.std.specs.Prelude.{◌≡◌, ◌≢◌, ◌⊎◌, ◌≤◌};
+ghost use Rattle.std.specs.Prelude.{◌≡◌, ◌≤◌, ◌⊎◌};
 ghost use Rattle.conn_serve.specs.Endings.{CountsFaults};
 ghost use Rattle.load_run.specs.Line.{load_line};
-ghost use Rattle.bridge_words.specs.declared.note.Note.TheVariants.{Usage, ReadFault, WriteFault, DiskFault, NetFault};
+ghost use Rattle.bridge_words.specs.declared.note.Note.TheVariants.{WriteFault};
+ghost use Rattle.bridge_parts.specs.Run.{output_run};
 ghost use Rattle.bridge_parts.specs.Written.{IsPrinted};
 ghost use Rattle.commands.specs.Loading.{note_of_load, LoadIsTold};
-ghost use Rattle.commands.specs.Refused.{IsRefusedFirst};
 
 use bridge_parts::sent_note;
 use bridge_words::Note;
@@ -52,10 +52,7 @@ pub fn load<K: Sink>(
 ) -> Note
     requires few { count ≤ 100000 }
 
-    ensures known { (result ≢ Usage) × (result ≢ ReadFault) × (result ≢ DiskFault) × (result ≢ NetFault) }
-    ensures unused { IsRefusedFirst result → output.new ≡ output.old }
-    ensures writes { CountsFaults (result ≡ WriteFault) (K.write_faults output.old) (K.write_faults output.new) }
-    ensures told { LoadIsTold proto number count result (K.taken output.old) (K.taken output.new) }
+    ensures { LoadIsTold proto number count (output_run K.taken K.write_faults output.old output.new) result }
 {
     match load_run::load(alloc, proto, number, count) {
         Ok(loaded) => print_loaded(alloc, output, &loaded),

@@ -1,20 +1,17 @@
 //! The command `drain` with a place: the entries that aren't known as confirmed are forwarded over a link that is dialed.
-ghost use Rattle.std.specs.Prelude.{◌≡◌, ◌≢◌, ◌⊎◌, ◌≤◌, ◌<◌, ◌-◌, ◌∷◌, ℕ, [], false, List};
-ghost use Rattle.spool_state.specs.SpoolState.{SpoolState};
+ghost use Rattle.std.specs.Prelude.{◌≡◌, ◌≢◌, ◌⊎◌, ◌<◌, ℕ, false};
 ghost use Rattle.edge_disk.specs.Calls.{Calls};
-ghost use Rattle.spool_log.specs.Memory.{cursor_of, end_of};
-ghost use Rattle.spool_log.specs.State.{view, IsIn};
 ghost use Rattle.conn_serve.specs.Endings.{CountsFaults};
-ghost use Rattle.forward_core.specs.declared.sent.Sent.TheVariants as Ending;
 ghost use Rattle.bridge_words.specs.declared.note.Note.TheVariants.{Usage, WrongLength, WriteFault};
 ghost use Rattle.bridge_words.specs.Lines.{drain_line};
-ghost use Rattle.bridge_parts.specs.Written.{IsPrinted};
-ghost use Rattle.bridge_parts.specs.Refused.{note_of_sent};
-ghost use Rattle.commands.specs.Drained.{PrintsOf, IsUnread, IsNeedless, IsUndialed, IsPlaced};
-ghost use Rattle.bridge_parts.specs.Pending.{pending_in};
-ghost use Rattle.commands.specs.Sending.{Sends, IsNotSent, IsSentOver, IsSentThere};
-ghost use Rattle.commands.specs.Failed.{TellsNetFault};
 ghost use Rattle.bridge_parts.specs.Counted.{RoseBy, WroteAfter, WritesOfBoth};
+ghost use Rattle.bridge_parts.specs.Refused.{note_of_sent};
+ghost use Rattle.bridge_parts.specs.Run.{disk_run, net_run, output_run};
+ghost use Rattle.bridge_parts.specs.Written.{IsPrinted};
+ghost use Rattle.commands.specs.Drained.{PrintsOf, IsDrainedTo};
+ghost use Rattle.commands.specs.Failed.{TellsNetFault};
+ghost use Rattle.commands.specs.Sending.{IsSentOver, IsSentTo, new_link};
+ghost use Rattle.commands.specs.SpoolRun.{spool_run};
 
 use crate::finished::Finished;
 use crate::sending::{Sending, is_idle, send};
@@ -52,8 +49,7 @@ fn print_after<K: Sink>(
 ) -> Note
     ensures writes { WroteAfter (note_of_sent sent) result (K.write_faults output.old) (K.write_faults output.new) }
     ensures note { (result ≡ note_of_sent sent) ⊎ ((result ≡ WriteFault) ⊎ (result ≡ Note.NoMemory)) }
-    ensures printed { PrintsOf sent (drain_line confirmed left) result (K.write_faults output.old) (K.write_faults output.new)
-        (K.taken output.old) (K.taken output.new) }
+    ensures printed { PrintsOf sent (drain_line confirmed left) result (output_run K.taken K.write_faults output.old output.new) }
 {
     match sent {
         Sent::NoMemory => Note::NoMemory,
@@ -83,10 +79,9 @@ fn send_over<D: Disk, K: Sink, N: Net>(
     ensures writes { WritesOfBoth result.note (K.write_faults output.old) (K.write_faults output.new) (N.told net.old).write_faults
         (N.told net.new).write_faults }
     ensures dials { (result.note ≢ Note.NetFault) × ((N.told net.new).net_faults ≡ (N.told net.old).net_faults) }
-    ensures sent { IsSentOver outward.now (N.told net.old) (N.told net.new) (N.L.dialed link) (N.L.given link) (N.L.left link) (N.L.taken link)
-        (pending_in spool.memory) (K.write_faults output.old) (K.write_faults output.new) (K.taken output.old) (K.taken output.new)
-        (λ start until remaining calls. (s : SpoolState) → D.tells → IsIn s [] (view spool.memory spool.doubt (D.moment spool.disk))
-        → Sends s (D.moment spool.disk) (D.moment result.disk) start until calls remaining) result.note }
+    ensures sent { IsSentOver outward.now (spool_run D.tells D.moment spool.memory spool.disk result.disk)
+        (new_link N.L.dialed N.L.given N.L.left N.L.taken link) (net_run N.told net.old net.new)
+        (output_run K.taken K.write_faults output.old output.new) result.note }
 {
     let mut link = link;
     let before = pending_count(&spool);
@@ -116,12 +111,8 @@ fn send_there<D: Disk, K: Sink, N: Net>(
     ensures writes { WritesOfBoth result.note (K.write_faults output.old) (K.write_faults output.new) (N.told net.old).write_faults
         (N.told net.new).write_faults }
     ensures dials { TellsNetFault result.note (N.told net.old) (N.told net.new) }
-    ensures placed { IsNotSent (cursor_of spool.memory) (end_of spool.memory) (result.disk ≡ spool.disk) (N.told net.old) (N.told net.new)
-        (K.write_faults output.old) (K.write_faults output.new) (K.taken output.old) (K.taken output.new) result.note
-        ⊎ IsSentThere outward.now place.now (cursor_of spool.memory < end_of spool.memory) (pending_in spool.memory)
-        (N.told net.old) (N.told net.new) (K.write_faults output.old) (K.write_faults output.new) (K.taken output.old) (K.taken output.new)
-        (λ start until remaining calls. (s : SpoolState) → D.tells → IsIn s [] (view spool.memory spool.doubt (D.moment spool.disk))
-        → Sends s (D.moment spool.disk) (D.moment result.disk) start until calls remaining) result.note }
+    ensures placed { IsSentTo outward.now place.now (spool_run D.tells D.moment spool.memory spool.disk result.disk)
+        (net_run N.told net.old net.new) (output_run K.taken K.write_faults output.old output.new) result.note }
 {
     if is_idle(&spool) {
         let note = print_counts(alloc, output, 0, 0);
@@ -150,18 +141,8 @@ pub fn drain_to<D: Disk, K: Sink, N: Net>(
 ) -> Finished<D>
     requires polls { 0 < outward.now.polls }
 
-    ensures known { (result.note ≢ Usage) × ((have want : ℕ) → result.note ≢ WrongLength have want) }
-    ensures calls { Calls (result.note ≡ Note.DiskFault) (D.moment disk) (D.moment result.disk) }
-    ensures reads { RoseBy (result.note ≡ Note.ReadFault) (N.told net.old).read_faults (N.told net.new).read_faults }
-    ensures writes { WritesOfBoth result.note (K.write_faults output.old) (K.write_faults output.new) (N.told net.old).write_faults
-        (N.told net.new).write_faults }
-    ensures dials { TellsNetFault result.note (N.told net.old) (N.told net.new) }
-    ensures drained { (IsUnread D.tells (D.moment disk) (D.moment result.disk) result.note × (output.new ≡ output.old) × (net.new ≡ net.old))
-        ⊎ (IsNeedless D.tells (D.moment disk) (D.moment result.disk) (N.told net.old) (N.told net.new)
-        (K.write_faults output.old) (K.write_faults output.new) (K.taken output.old) (K.taken output.new) result.note
-        ⊎ (IsUndialed D.tells (D.moment disk) (D.moment result.disk) (N.told net.old) (N.told net.new) (K.taken output.old) (K.taken output.new) result.note
-        ⊎ IsPlaced outward.now place.now D.tells (D.moment disk) (D.moment result.disk) (N.told net.old) (N.told net.new)
-        (K.write_faults output.old) (K.write_faults output.new) (K.taken output.old) (K.taken output.new) result.note)) }
+    ensures { IsDrainedTo outward.now place.now (disk_run D.tells D.moment disk result.disk)
+        (net_run N.told net.old net.new) (output_run K.taken K.write_faults output.old output.new) result.note }
 {
     match Spool::recover(alloc, disk, Opening::Keep) {
         Ok(spool) => send_there(alloc, outward, place, spool, output, net),

@@ -1,16 +1,13 @@
 //! The command `replay`: the input is served as one connection, over the spool that the device holds.
-ghost use Rattle.std.specs.Prelude.{◌≡◌, ◌≢◌, ◌⊎◌, ℕ, ◌*◌, ◌^◌, [], false};
-ghost use Rattle.spool_state.specs.SpoolState.{SpoolState};
+ghost use Rattle.std.specs.Prelude.{◌≡◌, ℕ, ◌*◌, ◌^◌, false};
 ghost use Rattle.edge_io.specs.declared.proto.Proto.{Proto};
 ghost use Rattle.spool_log.specs.Memory.{run_of};
-ghost use Rattle.spool_log.specs.State.{view, IsIn};
 ghost use Rattle.conn_serve.specs.Endings.{CountsFaults};
-ghost use Rattle.conn_serve.specs.Tokens.{tokens_of};
-ghost use Rattle.bridge_words.specs.declared.note.Note.TheVariants.{Usage, WrongLength, ReadFault, WriteFault};
+ghost use Rattle.bridge_words.specs.declared.note.Note.TheVariants.{ReadFault, WriteFault};
+ghost use Rattle.bridge_parts.specs.Run.{disk_run, input_run, link_run, output_run};
 ghost use Rattle.commands.specs.Failed.{TellsDiskFault};
-ghost use Rattle.bridge_parts.specs.Opened.{IsUnopened};
-ghost use Rattle.commands.specs.Replayed.{Keeps, IsServed, IsReplayed};
-ghost use Rattle.commands.specs.Refused.{IsRefusedFirst};
+ghost use Rattle.commands.specs.Replayed.{IsServed, IsReplayed, KeepsFrom};
+ghost use Rattle.commands.specs.SpoolRun.{spool_run};
 
 use crate::finished::Finished;
 use bridge_parts::recover_note;
@@ -35,15 +32,12 @@ fn serve_link<D: Disk, L: Link>(
 ) -> Finished<D>
     requires sure { spool.doubt ≡ false }
 
-    ensures known { IsRefusedFirst result.note → ⊥ }
     ensures calls { TellsDiskFault (rules.proto ≡ Proto.Hec) result.note (D.moment spool.disk) (D.moment result.disk) }
     ensures reads { CountsFaults (result.note ≡ ReadFault) (L.read_faults link.old) (L.read_faults link.new) }
     ensures writes { CountsFaults (result.note ≡ WriteFault) (L.write_faults link.old) (L.write_faults link.new) }
     ensures same { L.same link.old link.new }
-    ensures served { IsServed rules.proto (tokens_of rules) (run_of spool.memory * 2 ^ 32)
-        (L.given link.old) (L.given link.new) (L.left link.old) (L.left link.new) (L.taken link.old) (L.taken link.new)
-        (λ calls. (s : SpoolState) → D.tells → IsIn s [] (view spool.memory spool.doubt (D.moment spool.disk))
-        → Keeps s (D.moment spool.disk) (D.moment result.disk) calls) result.note }
+    ensures served { IsServed rules (run_of spool.memory * 2 ^ 32) (link_run L.given L.left L.taken link.old link.new)
+        (KeepsFrom (spool_run D.tells D.moment spool.memory spool.disk result.disk)) result.note }
 {
     let run = spool.run();
     let conn = u64::from(run) * CONNECTIONS;
@@ -52,32 +46,6 @@ fn serve_link<D: Disk, L: Link>(
     let attended = attend(alloc, link, &rules, &mut access, conn);
     let desk = access.into_desk();
     Finished::of(Note::of_talk(attended.talk), desk.spool.into_disk())
-}
-
-// Serves the input by these rules, as the first connection of the spool's run.
-fn serve_input<D: Disk, S: Source, K: Sink>(
-    alloc: Global,
-    rules: Rules,
-    spool: Spool<D>,
-    input: &mut S,
-    output: &mut K,
-) -> Finished<D>
-    requires sure { spool.doubt ≡ false }
-
-    ensures known { IsRefusedFirst result.note → ⊥ }
-    ensures calls { TellsDiskFault (rules.proto ≡ Proto.Hec) result.note (D.moment spool.disk) (D.moment result.disk) }
-    ensures reads { CountsFaults (result.note ≡ ReadFault) (S.read_faults input.old) (S.read_faults input.new) }
-    ensures writes { CountsFaults (result.note ≡ WriteFault) (K.write_faults output.old) (K.write_faults output.new) }
-    ensures served { IsServed rules.proto (tokens_of rules) (run_of spool.memory * 2 ^ 32)
-        (S.given input.old) (S.given input.new) (S.left input.old) (S.left input.new) (K.taken output.old) (K.taken output.new)
-        (λ calls. (s : SpoolState) → D.tells → IsIn s [] (view spool.memory spool.doubt (D.moment spool.disk))
-        → Keeps s (D.moment spool.disk) (D.moment result.disk) calls) result.note }
-{
-    let mut link = Both {
-        source: &mut *input,
-        sink: &mut *output,
-    };
-    serve_link(alloc, rules, spool, &mut link)
 }
 
 /// Serves the input as one connection by the protocol and the tokens of these rules, over the spool that the device
@@ -94,17 +62,17 @@ pub fn replay<D: Disk, S: Source, K: Sink>(
     input: &mut S,
     output: &mut K,
 ) -> Finished<D>
-    ensures known { (result.note ≢ Usage) × ((have want : ℕ) → result.note ≢ WrongLength have want) }
-    ensures calls { TellsDiskFault (rules.proto ≡ Proto.Hec) result.note (D.moment disk) (D.moment result.disk) }
-    ensures reads { CountsFaults (result.note ≡ ReadFault) (S.read_faults input.old) (S.read_faults input.new) }
-    ensures writes { CountsFaults (result.note ≡ WriteFault) (K.write_faults output.old) (K.write_faults output.new) }
-    ensures unused { IsRefusedFirst result.note → (input.new ≡ input.old) × (output.new ≡ output.old) }
-    ensures replayed { (IsUnopened D.tells (D.moment disk) (D.moment result.disk) result.note × (input.new ≡ input.old) × (output.new ≡ output.old))
-        ⊎ IsReplayed rules.proto (tokens_of rules) D.tells (D.moment disk) (D.moment result.disk)
-        (S.given input.old) (S.given input.new) (S.left input.old) (S.left input.new) (K.taken output.old) (K.taken output.new) result.note }
+    ensures { IsReplayed rules (disk_run D.tells D.moment disk result.disk)
+        (input_run S.given S.left S.read_faults input.old input.new) (output_run K.taken K.write_faults output.old output.new) result.note }
 {
     match Spool::recover(alloc, disk, Opening::Raise) {
-        Ok(spool) => serve_input(alloc, rules, spool, input, output),
+        Ok(spool) => {
+            let mut link = Both {
+                source: &mut *input,
+                sink: &mut *output,
+            };
+            serve_link(alloc, rules, spool, &mut link)
+        }
         Err(Refusal { fault, disk }) => Finished::of(recover_note(fault), disk),
     }
 }

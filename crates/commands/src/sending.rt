@@ -1,15 +1,15 @@
 //! One session over a spool: its pending entries are forwarded to the peer of a link.
-ghost use Rattle.std.specs.Prelude.{◌≡◌, ◌↔◌, ◌≤◌, ◌<◌, ℕ, [], false, IsTrue, List};
-ghost use Rattle.spool_state.specs.SpoolState.{SpoolState};
+ghost use Rattle.std.specs.Prelude.{◌≡◌, ◌↔◌, ◌≤◌, ◌<◌, false, IsTrue};
 ghost use Rattle.edge_disk.specs.Calls.{Calls};
 ghost use Rattle.spool_log.specs.Memory.{cursor_of, end_of};
-ghost use Rattle.spool_log.specs.State.{view, IsIn};
 ghost use Rattle.forward_core.specs.Forwarded.{CountsFaults, CountsWrites};
 ghost use Rattle.forward_core.specs.Turning.{IsHalt};
 ghost use Rattle.forward_core.specs.declared.sent.Sent.TheVariants as Ending;
-ghost use Rattle.commands.specs.Drained.{IsSession};
 ghost use Rattle.bridge_parts.specs.Pending.{pending_in};
-ghost use Rattle.commands.specs.Sending.{Sends};
+ghost use Rattle.bridge_parts.specs.Run.{link_run};
+ghost use Rattle.commands.specs.Drained.{IsSession};
+ghost use Rattle.commands.specs.Sending.{SendsFrom};
+ghost use Rattle.commands.specs.SpoolRun.{spool_run};
 
 use desk_access::{Alone, Desk};
 use edge_disk::Disk;
@@ -52,9 +52,8 @@ pub(crate) fn send<D: Disk, L: Link, Z: Pause>(
     ensures dialed { L.dialed link.new ≡ L.dialed link.old }
     ensures rested { Z.same rest.old rest.new }
     ensures paused { Z.pause_apart rest.old rest.new }
-    ensures session { IsSession outward.now (L.given link.old) (L.given link.new) (L.left link.old) (L.left link.new) (L.taken link.old) (L.taken link.new)
-        (λ start until calls. (s : SpoolState) → D.tells → IsIn s [] (view spool.memory spool.doubt (D.moment spool.disk))
-        → Sends s (D.moment spool.disk) (D.moment result.spool.disk) start until calls (pending_in result.spool.memory)) result.sent }
+    ensures session { IsSession outward.now (link_run L.given L.left L.taken link.old link.new)
+        (SendsFrom (spool_run D.tells D.moment spool.memory spool.disk result.spool.disk) (pending_in result.spool.memory)) result.sent }
 {
     let run = spool.run();
     let ids = Ids::new(alloc, run, 0);

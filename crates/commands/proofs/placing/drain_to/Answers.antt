@@ -1,70 +1,42 @@
-use Rattle.std.proofs.Common.{◌-◌, ◌∙◌, refl, sym, subst, inl, inr}
+use Rattle.std.proofs.Common.{refl, sym, subst, inl, inr}
 use Rattle.edge_disk.specs.Disk.{LeavesOnly}
-use Rattle.spool_log.specs.declared.opening.Opening.TheVariants.{Keep}
-use Rattle.spool_log.specs.Memory.{cursor_of, end_of}
-use Rattle.spool_log.specs.Opening.{IsRefusing}
-use Rattle.bridge_parts.specs.Pending.{pending_in}
-use Rattle.commands.proofs.Sure.{unopened_calls}
-use Rattle.commands.proofs.Forwarding.{looked_idle, looked_more, seen, sent_from, session_as, unread}
-use Rattle.commands.proofs.Over.{session_over}
+use Rattle.edge_disk.proofs.Calls.{calls_on}
+use Rattle.commands.proofs.Forwarding.{had_more, undrained_to, was_idle, was_placed}
 use Rattle.commands.proofs.placing.drain_to.Goals as goal
 
-pub returns-in-Ok-clause-drained : goal.returns-in-Ok-clause-drained
-returns-in-Ok-clause-drained g c =
+pub returns-in-Ok : goal.returns-in-Ok
+returns-in-Ok g c =
+    let tells = g.D.Disk.tells in
     let old = g.D.Disk.moment c.args.disk in
     let mid = g.D.Disk.moment c.in-Ok.spool.disk in
     let new = g.D.Disk.moment c.send_there.result.disk in
-    let before = cursor_of c.in-Ok.spool.memory in
-    let most = end_of c.in-Ok.spool.memory in elim c.send_there.ensures.placed [
-      | inl (inl none) ↦ inr (inl (record {
-        idle = λ tells.
-            let found = c.in-Ok.ensures.opened tells in
-            looked_idle found.0 old new before most found.1.stood (subst (λ (d : _). LeavesOnly old.image old (g.D.Disk.moment d)) (sym none.1) (c.in-Ok.ensures.any_moment tells)) (seen found.0 _ found.1.reached) none.0;
-        undialed = none.2;
-        line = none.3;
-        wrote = none.4;
-      }))
-      | inl (inr none) ↦ inr (inr (inl (record {
-        why = none.2;
-        pending = λ tells.
-            let found = c.in-Ok.ensures.opened tells in
-            looked_more found.0 old new before most found.1.stood (subst (λ (d : _). LeavesOnly old.image old (g.D.Disk.moment d)) (sym none.1) (c.in-Ok.ensures.any_moment tells)) (seen found.0 _ found.1.reached) none.0;
-        hung = none.3;
-        silent = none.4;
-      })))
-      | inr sent ↦ inr (inr (inr (record {
-        sent = sent.over.sent;
-        confirmed = pending_in c.in-Ok.spool.memory - sent.over.remaining;
-        remaining = sent.over.remaining;
-        dialed = sent.dialed;
-        given = sent.given;
-        given_after = sent.over.given_after;
-        left_there = sent.left_there;
-        left_after = sent.over.left_after;
-        written = sent.written;
-        written_after = sent.over.written_after;
-        place_is = sent.place_is;
-        fresh = sent.fresh;
-        session = session_over c.args.outward.now g.D.Disk.tells old new _ _ _ _ _ _ (pending_in c.in-Ok.spool.memory - sent.over.remaining)
-            sent.over.remaining sent.over.sent (session_as c.args.outward.now _ _ _ _ _ _ _ _ sent.over.sent (λ start until calls made tells.
-            let found = c.in-Ok.ensures.opened tells in
-            sent_from found.0 old mid new start until before most sent.over.remaining _ calls found.1.stood found.1.reached
-            (seen found.0 _ found.1.reached) sent.more (c.in-Ok.ensures.any_moment tells) (made found.0 tells found.1.reached)) sent.over.session);
-        hung = sent.over.hung;
-        printed = sent.over.printed;
-      })))
-    ]
+    let memory = c.in-Ok.spool.memory in
+    let doubt = c.in-Ok.spool.doubt in
+    let opened = c.in-Ok.ensures in
+    let did = c.send_there.ensures in
+    record {
+      known = did.known;
+      calls = calls_on _ _ _ _ _ opened.calls (λ never. never) did.calls;
+      reads = did.reads;
+      writes = did.writes;
+      dials = did.dials;
+      drained = inr (elim did.placed [
+        | inl (none, still, says) ↦ inl (record {
+          idle = was_idle tells _ _ old mid new memory doubt opened.opened opened.any_moment none
+              (λ told. subst (λ (d : _). LeavesOnly old.image old (g.D.Disk.moment d)) (sym still) (opened.any_moment told));
+          says = says;
+        })
+        | inr (more, inl (still, dial)) ↦ inr (inl (record {
+          pending = had_more tells _ _ old mid new memory doubt opened.opened opened.any_moment more
+              (λ told. subst (λ (d : _). LeavesOnly old.image old (g.D.Disk.moment d)) (sym still) (opened.any_moment told));
+          dial = dial;
+        }))
+        | inr (more, inr there) ↦ inr (inr (was_placed tells _ _ old mid new memory doubt opened.opened opened.any_moment opened.sure more c.args.outward.now
+          c.args.place.now _ _ _ there))
+      ]);
+    }
 
-pub returns-in-Err-clause-calls : goal.returns-in-Err-clause-calls
-returns-in-Err-clause-calls g c = unopened_calls c.in-Err.field-0.fault c.of.result.note _ _ (c.of.ensures.note ∙ c.recover_note.ensures) (rw c.of.ensures.disk c.in-Err.ensures.calls)
-
-pub returns-in-Err-clause-drained : goal.returns-in-Err-clause-drained
-returns-in-Err-clause-drained g c =
-    let old = g.D.Disk.moment c.args.disk in
-    let fault = c.in-Err.field-0.fault in
-    inl (
-      unread g.D.Disk.tells old (g.D.Disk.moment c.of.result.disk) fault c.of.result.note (c.of.ensures.note ∙ c.recover_note.ensures) c.in-Err.ensures.broken (λ told.
-          subst (λ (d : _). LeavesOnly (IsRefusing Keep fault old) old (g.D.Disk.moment d)) (sym c.of.ensures.disk) (c.in-Err.ensures.any_moment told)),
-      refl,
-      refl,
-    )
+pub returns-in-Err : goal.returns-in-Err
+returns-in-Err g c = rw (c.of.ensures.note, c.recover_note.ensures, c.of.ensures.disk)
+    (undrained_to _ _ _ c.in-Err.field-0.fault c.in-Err.ensures.calls c.in-Err.ensures.broken c.in-Err.ensures.any_moment
+    (record { same = refl; taken = refl }) refl _ _ (record { same = refl; told = refl }))

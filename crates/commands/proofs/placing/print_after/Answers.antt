@@ -14,6 +14,6 @@ returns-in_default g c =
     let is : c.first_of.result ≡ first_of ended print = c.first_of.ensures ∙ ap (λ (n : Note). first_of n print) told in record {
       writes = wrote_after ended print c.first_of.result _ _ is (fine_or_fault print) c.print_counts.ensures.writes;
       note = note_of_both ended print c.first_of.result is c.print_counts.ensures.undisturbed;
-      printed = prints_of c.args.sent _ c.first_of.result _ _ _ _ c.in_default.not-NoMemory (record { print = print; written = c.print_counts.ensures.line; note_is = is })
+      printed = prints_of c.args.sent _ c.first_of.result _ c.in_default.not-NoMemory (record { print = print; written = c.print_counts.ensures.line; note_is = is })
           c.print_counts.ensures.writes;
     }

@@ -5,6 +5,7 @@ use Rattle.bridge_words.specs.declared.note.Note.{Note}
 use Rattle.bridge_words.specs.Lines.{drain_line}
 use Rattle.commands.specs.Drained.{PrintsOf}
 use Rattle.bridge_parts.specs.Pending.{pending_in}
+use Rattle.bridge_parts.specs.Run.{disk_run, output_run}
 use Rattle.commands.specs.Sending.{Sends}
 use Rattle.bridge_parts.specs.Counted.{WritesOfBoth, RoseBy}
 use Rattle.commands.proofs.Forwarding.{no_dial_after, session_as}
@@ -50,17 +51,15 @@ returns-clause-sent g c =
     ≡ drain_line (pending_in c.args.spool.memory - pending_in spool.memory) (pending_in spool.memory) = cc in record {
       sent = sent;
       remaining = pending_in spool.memory;
-      given_after = _;
-      left_after = _;
-      written_after = _;
-      session = session_as c.args.outward.now _ _ _ _ _ _ _ _ sent (λ start until calls made s tells held.
-          subst (λ (d : _). Sends s (g.D.Disk.moment c.args.spool.disk) (g.D.Disk.moment d) start until calls (pending_in spool.memory))
+      given = g.N.L.Source.given c.send-sent.new.link;
+      left_there = g.N.L.Source.left c.send-sent.new.link;
+      taken = g.N.L.Sink.taken c.send-sent.new.link;
+      session = session_as c.args.outward.now _ _ _ sent (λ start until calls made s tells held.
+          subst (λ (d : _). Sends s (disk_run g.D.Disk.tells g.D.Disk.moment c.args.spool.disk d) (pending_in spool.memory) start until calls)
           disk (made s tells held)) c.send-sent.ensures.session;
       hung = hung_up _ _ _ _ _ _ _ _ _ (ap (λ (t : NetState). t.hung) same) c.send-sent.ensures.dialed room c.hang_up.ensures.adds;
-      printed = subst (λ (n : Note). PrintsOf sent (drain_line (pending_in c.args.spool.memory - pending_in spool.memory) (pending_in spool.memory)) n
-          (g.K.Sink.write_faults c.args.output.now) (g.K.Sink.write_faults c.print_after-note.new.output) (g.K.Sink.taken c.args.output.now)
-          (g.K.Sink.taken c.print_after-note.new.output)) (sym c.of.ensures.note)
-          (subst (λ (l : List ℕ). PrintsOf sent l c.print_after-note.result (g.K.Sink.write_faults c.args.output.now)
-          (g.K.Sink.write_faults c.print_after-note.new.output) (g.K.Sink.taken c.args.output.now) (g.K.Sink.taken c.print_after-note.new.output))
-          line c.print_after-note.ensures.printed);
+      printed =
+          let output = output_run g.K.Sink.taken g.K.Sink.write_faults c.args.output.now c.print_after-note.new.output in
+          subst (λ (n : Note). PrintsOf sent (drain_line (pending_in c.args.spool.memory - pending_in spool.memory) (pending_in spool.memory)) n output)
+          (sym c.of.ensures.note) (subst (λ (l : List ℕ). PrintsOf sent l c.print_after-note.result output) line c.print_after-note.ensures.printed);
     }

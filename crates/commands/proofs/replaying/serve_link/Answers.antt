@@ -1,6 +1,8 @@
-use Rattle.std.proofs.Common.{◌≡◌, ℕ, ◌*◌, ◌^◌, sym, ◌∙◌, ap, subst, arith}
+use Rattle.std.proofs.Common.{◌≡◌, ℕ, ◌*◌, ◌^◌, [], sym, ◌∙◌, ap, subst, arith}
+use Rattle.std.specs.Prelude.{Bool}
 use Rattle.edge_io.specs.declared.proto.Proto.TheVariants.{Hec}
 use Rattle.hec_ids.specs.Rows.{opened}
+use Rattle.spool_log.specs.State.{view, IsIn}
 use Rattle.bridge_words.specs.Notes.{note_of_talk}
 use Rattle.conn_serve.specs.Serves.{CarriedAs}
 use Rattle.conn_serve.specs.Tokens.{tokens_of}
@@ -9,14 +11,11 @@ use Rattle.commands.specs.Failed.{TellsDiskFault}
 use Rattle.commands.specs.Replayed.{Keeps}
 use Rattle.commands.proofs.Failing.{disk_calls, talk_by_read, talk_by_write}
 use Rattle.bridge_parts.proofs.Desks.{desk_at}
-use Rattle.commands.proofs.Replays.{ran_keeps, no_ending}
+use Rattle.commands.proofs.Replays.{ran_keeps}
 use Rattle.commands.proofs.replaying.serve_link.Goals as goal
 
 pub new-access-requires-clause-ids : goal.new-access-requires-clause-ids
 new-access-requires-clause-ids g c = (0, omega arith, c.new-ids.ensures ∙ ap (λ (n : ℕ). opened n 0) c.run-run.ensures)
-
-pub returns-clause-known : goal.returns-clause-known
-returns-clause-known g c = no_ending c.attend-attended.result.talk c.of.result.note (c.of.ensures.note ∙ c.of_talk.ensures)
 
 pub returns-clause-calls : goal.returns-clause-calls
 returns-clause-calls g c =
@@ -54,7 +53,8 @@ returns-clause-served g c =
         consumed = run.consumed;
         are_bytes = run.are_bytes;
         wrote = run.wrote;
-        made = λ s tells held.
+        made = λ s tells was.
+            let held = subst (λ (b : Bool). IsIn s [] (view c.args.spool.memory b (g.D.Disk.moment c.args.spool.disk))) (sym c.requires.sure) was in
             let at = desk_at s c.new-ids.result c.run-run.result _ c.new-ids.ensures (c.run-run.ensures ∙ held.knows.run) (c.new-access.ensures.at s held) in
             subst (λ (d : _). Keeps s (g.D.Disk.moment d) (g.D.Disk.moment c.of.result.disk) run.calls) before
             (subst (λ (d : _). Keeps s (g.D.Disk.moment c.new-access.result.desk.spool.disk) (g.D.Disk.moment d) run.calls) (sym after)

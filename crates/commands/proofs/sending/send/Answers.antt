@@ -1,10 +1,13 @@
 use Rattle.std.proofs.Common.{◌≡◌, ℕ, [], sym, ◌∙◌, ap, subst, arith}
+use Rattle.std.specs.Prelude.{Bool}
 use Rattle.hec_ids.specs.Rows.{opened}
 use Rattle.edge_disk.specs.Calls.{Calls}
 use Rattle.desk_access.specs.Alone.{alone_at}
 use Rattle.desk_access.specs.Journal.{ran_then}
 use Rattle.forward_core.specs.declared.sent.Sent.TheVariants as Ending
+use Rattle.spool_log.specs.State.{view, IsIn}
 use Rattle.bridge_parts.specs.Pending.{pending_in}
+use Rattle.bridge_parts.specs.Run.{disk_run}
 use Rattle.commands.specs.Sending.{Sends}
 use Rattle.bridge_parts.proofs.Desks.{desk_at}
 use Rattle.bridge_parts.proofs.Failures.{failed}
@@ -46,12 +49,13 @@ returns-clause-session g c =
         read = session.read;
         consumed = session.consumed;
         wrote = session.wrote;
-        made = λ s told_by held.
+        made = λ s told_by was.
+            let held = subst (λ (b : Bool). IsIn s [] (view c.args.spool.memory b (g.D.Disk.moment c.args.spool.disk))) (sym c.requires.sure) was in
             let at = desk_at s c.new-ids.result c.run-run.result _ c.new-ids.ensures (c.run-run.ensures ∙ held.knows.run) (c.new-access.ensures.at s held) in
             let first = begun alone_at tells s c.new-access.result told.2 told.0 told.1 told_by at asked in
-            subst (λ (d : _). Sends s (g.D.Disk.moment d) (g.D.Disk.moment c.into_desk-desk.result.spool.disk) told.0 told.1 session.calls (pending_in c.into_desk-desk.result.spool.memory)) before
-            (subst (λ (p : _). Sends s (g.D.Disk.moment c.new-access.result.desk.spool.disk) (g.D.Disk.moment p.disk) told.0 told.1 session.calls (pending_in p.memory)) (sym after)
-            (sends s tells _ _ told.0 told.1 session.calls told_by at first.start_is first.until_is whole));
+            subst (λ (d : _). Sends s (disk_run tells g.D.Disk.moment d c.into_desk-desk.result.spool.disk) (pending_in c.into_desk-desk.result.spool.memory) told.0 told.1 session.calls) before
+            (subst (λ (p : _). Sends s (disk_run tells g.D.Disk.moment c.new-access.result.desk.spool.disk p.disk) (pending_in p.memory) told.0 told.1 session.calls) (sym after)
+            (sends s tells _ _ _ told.0 told.1 session.calls told_by at first.start_is first.until_is whole));
         ended = session.ended;
       };
     }
