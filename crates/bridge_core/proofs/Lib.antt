@@ -1,3 +1,4 @@
 pub mod Doing
 pub mod Running
 pub mod Headline
+pub mod Alone

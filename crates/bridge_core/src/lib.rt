@@ -4,6 +4,7 @@
 #![tactic(auto)]
 
 mod asked;
+mod doing;
 mod ended;
 mod top;
 

@@ -106,16 +106,24 @@ both_run input output = record {
 
 -- ---- what was left alone
 
+-- no call of the disk was made
+pub record IsUnused (disk : DiskRun) : Type 0 where
+  pub same : disk.same
+  pub size : disk.new.size ≡ disk.old.size
+  pub faults : disk.new.faults ≡ disk.old.faults
+
 -- nothing was read from the input
 pub record IsUngiven (input : InputRun) : Type 0 where
   pub same : input.same
   pub given : input.given_after ≡ input.given
   pub left : input.left_after ≡ input.left
+  pub faults : input.faults_after ≡ input.faults
 
 -- nothing was written to the output
 pub record IsSilent (output : OutputRun) : Type 0 where
   pub same : output.same
   pub taken : output.taken_after ≡ output.taken
+  pub faults : output.faults_after ≡ output.faults
 
 -- no place was bound or dialed
 pub record IsOffline (net : NetRun) : Type 0 where

@@ -25,7 +25,7 @@ use Rattle.hec_session.specs.declared.tokens.Tokens.{Tokens}
 use Rattle.bridge_words.specs.declared.note.Note.{Note}
 use Rattle.bridge_parts.specs.Opened.{desk_in}
 use Rattle.bridge_parts.specs.Run.{LinkRun}
-use Rattle.commands.specs.Replayed.{IsServed, IsStored, KeepsFrom, ServesInput}
+use Rattle.commands.specs.Replayed.{ServesLink, IsStored, KeepsFrom, ServesInput}
 use Rattle.commands.proofs.Replays.{stored_from}
 
 -- whatever a crash leaves keeps what was taken
@@ -65,7 +65,7 @@ module _ (rules : Rules) (tells same same' : Type 0) (old mid new : Moment) (mem
       (made (opened Raise found.0) told opening.reached)
 
   pub serves_input : (link : LinkRun) (note : Note)
-      → IsServed rules (run_of memory * 2 ^ 32) link
+      → ServesLink rules (run_of memory * 2 ^ 32) link
       (KeepsFrom (record { memory = memory; disk = record { tells = tells; old = mid; new = new; same = same' } })) note
       → ServesInput rules (record { tells = tells; old = old; new = new; same = same }) link note
   serves_input link note served =

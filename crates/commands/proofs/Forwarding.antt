@@ -250,15 +250,14 @@ module _ (tells same same' : Type 0) (old mid new : Moment) (memory : Memory) (d
 
 module _ (outward : Outward) (disk : DiskRun) (output : OutputRun) (fault : RecoverFault) (calls : Calls (fault ≡ Recover.DiskFault) disk.old disk.new)
     (why : disk.tells → IsRefusedAs Keep disk.old.reads fault) (left_only : disk.tells → LeavesOnly (IsRefusing Keep fault disk.old) disk.old disk.new)
-    (silent : IsSilent output) (faults : output.faults_after ≡ output.faults) where
-  pub undrained : (input : InputRun) → IsUngiven input → input.faults_after ≡ input.faults
-      → IsDrained outward disk input output (note_of_recover fault)
-  undrained input ungiven reads =
+    (silent : IsSilent output) where
+  pub undrained : (input : InputRun) → IsUngiven input → IsDrained outward disk input output (note_of_recover fault)
+  undrained input ungiven =
       let note = recovered_note fault in record {
         known = (note.no_usage, note.no_length);
         calls = unopened_calls fault disk.old disk.new calls;
-        reads = unopened_reads fault input.faults input.faults_after reads;
-        writes = record { later = omega (arith, faults); cause = λ by. absurd (unopened_write fault by); quiet = λ _ _. faults };
+        reads = unopened_reads fault input.faults input.faults_after ungiven.faults;
+        writes = record { later = omega (arith, silent.faults); cause = λ by. absurd (unopened_write fault by); quiet = λ _ _. silent.faults };
         dials = note.no_dial;
         drained = inl (unread disk fault why left_only, ungiven, silent);
       }
@@ -270,10 +269,10 @@ module _ (outward : Outward) (disk : DiskRun) (output : OutputRun) (fault : Reco
         calls = unopened_calls fault disk.old disk.new calls;
         reads = record { later = omega (arith, ap (λ (t : NetState). t.read_faults) offline.told); cause = λ by. absurd (unopened_read fault by) };
         writes = record {
-          later = omega (arith, faults);
+          later = omega (arith, silent.faults);
           hung_later = omega (arith, ap (λ (t : NetState). t.write_faults) offline.told);
           cause = λ by. absurd (unopened_write fault by);
-          quiet = λ _. faults;
+          quiet = λ _. silent.faults;
         };
         dials = counts_none _ net.old.net_faults net.new.net_faults note.no_dial (ap (λ (t : NetState). t.net_faults) offline.told);
         drained = inl (unread disk fault why left_only, silent, offline);

@@ -1,21 +1,24 @@
 -- A link that was dialed and hung up.
-use Rattle.std.proofs.Common.{◌≡◌, ◌⊎◌, inl, inr, ℕ, List, sym, ◌∙◌, subst, arith}
+use Rattle.std.proofs.Common.{◌≡◌, ◌⊎◌, inl, inr, ℕ, List, refl, sym, ◌∙◌, subst, arith}
 use Rattle.std.specs.Prelude.{Option}
 use Rattle.foundation.specs.Faults.{Rose}
 use Rattle.edge_io.specs.Counts.{Gains}
 use Rattle.edge_io.specs.Net.{HungUp, NetState, IsHungUp, AddsHung}
 use Rattle.edge_io.specs.Told.{Adds}
+use Rattle.edge_io.specs.declared.net_fault.NetFault.{NetFault}
+use Rattle.edge_io.specs.declared.net_fault.NetFault.TheVariants as Dial
 use Rattle.forward_core.specs.Forwarded as sending
 use Rattle.forward_core.specs.Turning.{IsHalt}
 use Rattle.forward_core.specs.declared.outward.Outward.{Outward}
 use Rattle.forward_core.specs.declared.sent.Sent.{Sent}
 use Rattle.forward_core.specs.declared.sent.Sent.TheVariants as Ending
 use Rattle.bridge_words.specs.declared.note.Note.{Note}
-use Rattle.bridge_parts.specs.Refused.{note_of_sent}
+use Rattle.bridge_parts.specs.Refused.{note_of_net, note_of_sent}
+use Rattle.commands.specs.Drained.{HasNotDialed}
 use Rattle.commands.specs.Sending.{IsSentOver, NewLink}
 use Rattle.commands.specs.SpoolRun.{SpoolRun}
 use Rattle.bridge_parts.specs.Counted.{WritesOfBoth, RoseBy, WroteAfter}
-use Rattle.bridge_parts.specs.Run.{OutputRun}
+use Rattle.bridge_parts.specs.Run.{NetRun, OutputRun, IsSilent}
 use Rattle.bridge_parts.proofs.Endings.{sent_by_read, sent_by_write}
 
 -- a link's faults are added, one at least
@@ -62,3 +65,8 @@ over_from outward spool new old mid same same' after output note kept over = rec
   hung = subst (λ (o : Option (List HungUp)). Adds o after.hung (IsHungUp new.dialed over.given over.taken over.left_there)) kept over.hung;
   printed = over.printed;
 }
+
+-- the dial failed, and nothing was printed
+pub undialed : (net : NetRun) (output : OutputRun) (fault : NetFault) → net.new.hung ≡ net.old.hung → IsSilent output → HasNotDialed net output (note_of_net fault)
+undialed net output Dial.Fault kept silent = record { why = inl refl; hung = kept; silent = silent }
+undialed net output Dial.NoMemory kept silent = record { why = inr refl; hung = kept; silent = silent }

@@ -1,4 +1,5 @@
 pub mod Printing
+pub mod Making
 pub mod Rising
 pub mod Given
 pub mod Sure

@@ -52,24 +52,24 @@ module _ (slots size : ℕ) (disk : DiskRun) (output : OutputRun) where
   -- the device has another length
   pub wrong_length : (have want : ℕ) → CameOf disk.old.size (slot_at size slots) (fault.WrongLength have want)
       → Calls (Note.WrongLength have want ≡ Note.DiskFault) disk.old disk.new
-      → (disk.old.size ≢ slot_at size slots → disk.same) → IsSilent output → output.faults_after ≡ output.faults
+      → (disk.old.size ≢ slot_at size slots → disk.same) → IsSilent output
       → (disk.tells → LeavesOnly (IsFormatStep slots size disk.old) disk.old disk.new)
       → IsFormatted slots size disk output (Note.WrongLength have want)
-  wrong_length have want (have_is, want_is, other) calls unchanged silent faults any_moment = record {
+  wrong_length have want (have_is, want_is, other) calls unchanged silent any_moment = record {
     calls = calls;
-    writes = counts_none _ output.faults output.faults_after (λ by. cc) faults;
+    writes = counts_none _ output.faults output.faults_after (λ by. cc) silent.faults;
     formatted = (have_is, want_is, (λ same. other (sym have_is ∙ same ∙ want_is)), unchanged other, silent);
     any_moment = any_moment;
   }
 
   -- a call of the disk failed
   pub disk_failed : disk.old.size ≡ slot_at size slots → Calls (Note.DiskFault ≡ Note.DiskFault) disk.old disk.new
-      → IsSilent output → output.faults_after ≡ output.faults
+      → IsSilent output
       → (disk.tells → LeavesOnly (IsFormatStep slots size disk.old) disk.old disk.new)
       → IsFormatted slots size disk output Note.DiskFault
-  disk_failed length calls silent faults any_moment = record {
+  disk_failed length calls silent any_moment = record {
     calls = calls;
-    writes = counts_none _ output.faults output.faults_after (λ by. cc) faults;
+    writes = counts_none _ output.faults output.faults_after (λ by. cc) silent.faults;
     formatted = (length, silent);
     any_moment = any_moment;
   }

@@ -203,13 +203,13 @@ module _ (form : ListForm) (disk : DiskRun) (output : OutputRun) where
 
   -- the device was not opened
   pub unlisted : (fault : RecoverFault) → Calls (fault ≡ Recover.DiskFault) disk.old disk.new → (disk.tells → IsRefusedAs Keep disk.old.reads fault)
-      → (disk.tells → LeavesOnly (IsRefusing Keep fault disk.old) disk.old disk.new) → IsSilent output → output.faults_after ≡ output.faults
+      → (disk.tells → LeavesOnly (IsRefusing Keep fault disk.old) disk.old disk.new) → IsSilent output
       → IsListed form disk output (note_of_recover fault)
-  unlisted fault calls why any_moment silent faults = record {
+  unlisted fault calls why any_moment silent = record {
     known = unopened_note fault;
     unused = λ refused. silent;
     calls = unopened_calls fault disk.old disk.new calls;
-    writes = unopened_writes fault output.faults output.faults_after faults;
+    writes = unopened_writes fault output.faults output.faults_after silent.faults;
     listed = λ told. inl (unreadable disk.old.reads fault (why told), silent.taken);
     any_moment = λ told. weaker _ disk.old.image disk.old disk.new (any_moment told) (unopened fault disk.old);
   }

@@ -50,7 +50,7 @@ pub record IsStored (old new : Moment) (conn : ℕ) (calls : List Call) : Type 0
 -- A link was served by these rules, as one connection of this number: the bytes read are its frames, from the first one, none skipped;
 -- the calls on the spool and the bytes written are those that they ask for; where it ended with the input, the input was read to its
 -- end; and the note is that of the connection's ending.
-pub record IsServed (rules : Rules) (conn : ℕ) (link : LinkRun) (Made : List Call → Type 0) (note : Note) : Type 0 where
+pub record ServesLink (rules : Rules) (conn : ℕ) (link : LinkRun) (Made : List Call → Type 0) (note : Note) : Type 0 where
   pub attended : Attended
   pub note_is : note ≡ note_of_talk attended.talk
   pub serves : Serves (CarriedBy rules conn) link.given link.given_after link.left link.left_after link.taken link.taken_after Made attended
@@ -60,7 +60,7 @@ pub record IsServed (rules : Rules) (conn : ℕ) (link : LinkRun) (Made : List C
 -- these calls took a group of that id.
 pub record ServesInput (rules : Rules) (disk : DiskRun) (link : LinkRun) (note : Note) : Type 0 where
   pub conn : ℕ
-  pub served : IsServed rules conn link (λ calls. disk.tells → IsStored disk.old disk.new conn calls) note
+  pub served : ServesLink rules conn link (λ calls. disk.tells → IsStored disk.old disk.new conn calls) note
   pub acknowledged : (numbers : List ℕ) → disk.tells → Acknowledges rules.proto served.serves.text numbers
       → AckedIsDurable served.serves.calls disk.new numbers
   pub answered : disk.tells → AnswersAreDurable rules.proto (tokens_of rules) conn link.left_after served.serves.bytes served.serves.calls

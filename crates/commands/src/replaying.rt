@@ -6,7 +6,7 @@ ghost use Rattle.conn_serve.specs.Endings.{CountsFaults};
 ghost use Rattle.bridge_words.specs.declared.note.Note.TheVariants.{ReadFault, WriteFault};
 ghost use Rattle.bridge_parts.specs.Run.{disk_run, input_run, link_run, output_run};
 ghost use Rattle.commands.specs.Failed.{TellsDiskFault};
-ghost use Rattle.commands.specs.Replayed.{IsServed, IsReplayed, KeepsFrom};
+ghost use Rattle.commands.specs.Replayed.{ServesLink, IsReplayed, KeepsFrom};
 ghost use Rattle.commands.specs.SpoolRun.{spool_run};
 
 use crate::finished::Finished;
@@ -36,7 +36,7 @@ fn serve_link<D: Disk, L: Link>(
     ensures reads { CountsFaults (result.note ≡ ReadFault) (L.read_faults link.old) (L.read_faults link.new) }
     ensures writes { CountsFaults (result.note ≡ WriteFault) (L.write_faults link.old) (L.write_faults link.new) }
     ensures same { L.same link.old link.new }
-    ensures served { IsServed rules (run_of spool.memory * 2 ^ 32) (link_run L.given L.left L.taken link.old link.new)
+    ensures served { ServesLink rules (run_of spool.memory * 2 ^ 32) (link_run L.given L.left L.taken link.old link.new)
         (KeepsFrom (spool_run D.tells D.moment spool.memory spool.disk result.disk)) result.note }
 {
     let run = spool.run();

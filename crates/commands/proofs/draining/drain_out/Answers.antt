@@ -36,8 +36,13 @@ returns-in-Ok-clause-drained g c =
                 same = ap (λ b. b.source.now) still.0;
                 given = ap (λ b. g.S.Source.given b.source.now) still.0;
                 left = ap (λ b. g.S.Source.left b.source.now) still.0;
+                faults = ap (λ b. g.S.Source.read_faults b.source.now) still.0;
               },
-              record { same = ap (λ b. b.sink.now) still.0; taken = ap (λ b. g.K.Sink.taken b.sink.now) still.0 },
+              record {
+                same = ap (λ b. b.sink.now) still.0;
+                taken = ap (λ b. g.K.Sink.taken b.sink.now) still.0;
+                faults = ap (λ b. g.K.Sink.write_faults b.sink.now) still.0;
+              },
             ))
       ];
     }
@@ -45,4 +50,4 @@ returns-in-Ok-clause-drained g c =
 pub returns-in-Err-clause-drained : goal.returns-in-Err-clause-drained
 returns-in-Err-clause-drained g c = rw (c.of.ensures.note, c.recover_note.ensures, c.of.ensures.disk)
     (undrained _ _ _ c.in-Err.field-0.fault c.in-Err.ensures.calls c.in-Err.ensures.broken c.in-Err.ensures.any_moment
-    (record { same = refl; taken = refl }) refl _ (record { same = refl; given = refl; left = refl }) refl)
+    (record { same = refl; taken = refl; faults = refl }) _ (record { same = refl; given = refl; left = refl; faults = refl }))

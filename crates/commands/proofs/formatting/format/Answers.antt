@@ -13,11 +13,11 @@ returns-in-Err-WrongLength g c =
     let came = c.in-Err-WrongLength.ensures in
     let wrong = c.in-Err-WrongLength.field-0-is in
     wrong_length _ _ _ _ _ _ (rw wrong at came.length) (calls_as _ _ _ _ came.calls (λ by. absurd (cc)) (λ by. absurd (cc)))
-    came.unchanged (record { same = refl; taken = refl }) refl came.any_moment
+    came.unchanged (record { same = refl; taken = refl; faults = refl }) came.any_moment
 
 pub returns-in-Err-DiskFault : goal.returns-in-Err-DiskFault
 returns-in-Err-DiskFault g c =
     let came = c.in-Err-DiskFault.ensures in
     let failed = c.in-Err-DiskFault.field-0-is in
     disk_failed _ _ _ _ (rw failed at came.length) (calls_as _ _ _ _ came.calls (λ by. ap Err failed) (λ by. refl))
-    (record { same = refl; taken = refl }) refl came.any_moment
+    (record { same = refl; taken = refl; faults = refl }) came.any_moment

@@ -18,4 +18,4 @@ returns-in-Ok g c =
 pub returns-in-Err : goal.returns-in-Err
 returns-in-Err g c = rw (c.of-in-Err.ensures.note, c.recover_note.ensures, c.of-in-Err.ensures.disk)
     (unlisted _ _ _ c.in-Err.field-0.fault c.in-Err.ensures.calls c.in-Err.ensures.broken c.in-Err.ensures.any_moment
-    (record { same = refl; taken = refl }) refl)
+    (record { same = refl; taken = refl; faults = refl }))

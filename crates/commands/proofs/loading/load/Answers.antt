@@ -22,6 +22,6 @@ returns-in-Err g c =
     let few = c.requires.few in
     let memory = c.load_note.ensures ∙ ap note_of_load (only_memory c.args.proto c.args.number c.args.count few (can_load c.args.proto c.args.number c.args.count few) c.in-Err.fault c.in-Err.ensures.failed) in
     record {
-      writes = counts_none _ _ _ (λ by. cc) refl;
-      told = inr (record { memory = memory; silent = record { same = refl; taken = refl } });
+      writes = counts_none _ _ _ (λ by. cc memory) refl;
+      told = inr (record { memory = memory; silent = record { same = refl; taken = refl; faults = refl } });
     }

@@ -39,4 +39,4 @@ returns-in-Ok g c =
 pub returns-in-Err : goal.returns-in-Err
 returns-in-Err g c = rw (c.of.ensures.note, c.recover_note.ensures, c.of.ensures.disk)
     (undrained_to _ _ _ c.in-Err.field-0.fault c.in-Err.ensures.calls c.in-Err.ensures.broken c.in-Err.ensures.any_moment
-    (record { same = refl; taken = refl }) refl _ _ (record { same = refl; told = refl }))
+    (record { same = refl; taken = refl; faults = refl }) _ _ (record { same = refl; told = refl }))

@@ -23,7 +23,7 @@ returns-in-Err g c =
       writes = unopened_writes fault _ _ refl;
       replayed = inl (
         record { fault = fault; note_is = refl; why = c.in-Err.ensures.broken; any_moment = c.in-Err.ensures.any_moment },
-        record { same = refl; given = refl; left = refl },
-        record { same = refl; taken = refl },
+        record { same = refl; given = refl; left = refl; faults = refl },
+        record { same = refl; taken = refl; faults = refl },
       );
     })
