@@ -18,7 +18,13 @@ use std::sync::Wait;
 use std::thread::Threads;
 
 /// Does the command, which words ask for. What a command doesn't need is left alone: `serve` alone binds doors.
-pub(crate) fn do_command<D: Disk + Drop + Send, S: Source, K: Sink, N: Net + Send, R: Threads + Wait + Sync>(
+pub(crate) fn do_command<
+    D: Disk + Drop + Send,
+    S: Source,
+    K: Sink,
+    N: Net + Send,
+    R: Threads + Wait + Sync,
+>(
     rt: &R,
     alloc: Global,
     command: Command,
@@ -75,7 +81,14 @@ where
             place: Some(place),
         } => {
             let outward = outward_of(receiver);
-            let Finished { note, disk } = drain_to(alloc, &outward, place.as_str(), disk, output, net);
+            let Finished { note, disk } = drain_to(
+                alloc,
+                &outward,
+                place.as_str(),
+                disk,
+                output,
+                net,
+            );
             Ended::of(alloc, note, disk)
         }
         Command::Load {

@@ -97,12 +97,7 @@ fn print_left<D: Disk, K: Sink>(
 /// failed in this call. Where a write failed the first lines are written, the last one perhaps in part; where a
 /// call of the disk failed or no memory was found, the first lines, each whole. Nothing is written to the device:
 /// whatever a crash leaves of it is what it could leave before.
-pub fn list<D: Disk, K: Sink>(
-    alloc: Global,
-    disk: D,
-    output: &mut K,
-    form: ListForm,
-) -> Finished<D>
+pub fn list<D: Disk, K: Sink>(alloc: Global, disk: D, output: &mut K, form: ListForm) -> Finished<D>
     ensures { IsListed form (disk_run D.tells D.moment disk result.disk)
         (output_run K.taken K.write_faults output.old output.new) result.note }
 {

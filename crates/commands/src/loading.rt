@@ -43,13 +43,7 @@ fn print_loaded<K: Sink>(alloc: Global, output: &mut K, loaded: &Loaded) -> Note
 /// memory that confirms all, and prints the line that says how much it was. By each protocol it comes to its numbers unless no memory
 /// is found: all events were stored and are confirmed, and none is left. The note is `Fine`, `WriteFault` where a write of the line
 /// failed, or `NoMemory`.
-pub fn load<K: Sink>(
-    alloc: Global,
-    proto: Proto,
-    number: u32,
-    count: u32,
-    output: &mut K,
-) -> Note
+pub fn load<K: Sink>(alloc: Global, proto: Proto, number: u32, count: u32, output: &mut K) -> Note
     requires few { count ≤ 100000 }
 
     ensures { LoadIsTold proto number count (output_run K.taken K.write_faults output.old output.new) result }

@@ -37,14 +37,24 @@ returns-in-Replay-clause-done g c = rw (c.in-Replay.is, c.of-in-Replay.ensures.d
 
 pub returns-in-Drain-default-None-clause-done : goal.returns-in-Drain-default-None-clause-done
 returns-in-Drain-default-None-clause-done g c =
-    rw (c.in-Drain-default-None.is, c.in-Drain-default-None.field-1-is, c.of-in-Drain-default-None.ensures.disk,
-    c.of-in-Drain-default-None.ensures.note, c.of-in-Drain-default-None.ensures.doors)
+    rw (
+      c.in-Drain-default-None.is,
+      c.in-Drain-default-None.field-1-is,
+      c.of-in-Drain-default-None.ensures.disk,
+      c.of-in-Drain-default-None.ensures.note,
+      c.of-in-Drain-default-None.ensures.doors,
+    )
     (rw c.outward_of-outward.ensures at c.drain_out.ensures.drained, c.drain_out.ensures.told, refl)
 
 pub returns-in-Drain-default-Some-clause-done : goal.returns-in-Drain-default-Some-clause-done
 returns-in-Drain-default-Some-clause-done g c =
-    rw (c.in-Drain-default-Some.is, c.in-Drain-default-Some.field-1-is, c.of-in-Drain-default-Some.ensures.disk,
-    c.of-in-Drain-default-Some.ensures.note, c.of-in-Drain-default-Some.ensures.doors)
+    rw (
+      c.in-Drain-default-Some.is,
+      c.in-Drain-default-Some.field-1-is,
+      c.of-in-Drain-default-Some.ensures.disk,
+      c.of-in-Drain-default-Some.ensures.note,
+      c.of-in-Drain-default-Some.ensures.doors,
+    )
     (rw (c.outward_of-outward-in-Drain-default-Some.ensures, c.as_str.ensures) at c.drain_to.ensures, record { same = refl; given = refl; left = refl; faults = refl }, refl)
 
 pub returns-in-Load-clause-done : goal.returns-in-Load-clause-done

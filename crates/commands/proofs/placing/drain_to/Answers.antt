@@ -32,7 +32,7 @@ returns-in-Ok g c =
           dial = dial;
         }))
         | inr (more, inr there) ↦ inr (inr (was_placed tells _ _ old mid new memory doubt opened.opened opened.any_moment opened.sure more c.args.outward.now
-          c.args.place.now _ _ _ there))
+            c.args.place.now _ _ _ there))
       ]);
     }
 
