@@ -1,15 +1,15 @@
 //! The top call, over the device that the words want.
 ghost use Rattle.std.specs.Prelude.{◌≡◌, ◌⊎◌, map, string_bytes};
-ghost use Rattle.bridge_words.specs.declared.note.Note.TheVariants.{Usage, NoMemory};
+ghost use Rattle.notes.specs.declared.note.Note.TheVariants.{Usage, NoMemory};
 ghost use Rattle.bridge_words.specs.Words.{IsNoCommand};
 ghost use Rattle.bridge_core.specs.Failed.{TellsReadFault, TellsWriteFault, TellsDial};
 
 use bridge_core::bridge;
-use bridge_words::{Need, Note, need_of};
-use cli_parts::{Opening, Progress, Showing, Watched, open_text};
+use bridge_words::{Need, need_of};
+use cli_parts::{Opening, Progress, Watched, open_text};
 use edge_disk::{FileDisk, MemDisk, OpenFault};
 use edge_io::{Door, Net, Sink, Source};
-use std::io::IsTerminal;
+use notes::Note;
 use std::sync::Wait;
 use std::thread::Threads;
 
@@ -47,16 +47,6 @@ where
     }
 }
 
-// Whether somebody sees how far a command is: standard error is a terminal, and what the command prints doesn't come between.
-fn is_watched(rt: &HostRuntime, showing: Showing) -> bool {
-    let may_show = match showing {
-        Showing::Always => true,
-        Showing::Apart => !rt.stdout().is_terminal(),
-        Showing::Never => false,
-    };
-    may_show && rt.stderr().is_terminal()
-}
-
 /// Does what the words ask for, in threads of `threads` where that takes some, over the device that they want: `file`, opened
 /// or made, or one in memory without a byte where they want none. A `file` that can't be opened is a fault of the disk, and
 /// standard error says why in a line of its own. `list` shares `file` with others that list it; every other command has it
@@ -91,7 +81,7 @@ where
                 return Note::NoMemory;
             };
             let opened = FileDisk::open_locked(rt, file, opening.sharing);
-            let is_shown = is_watched(rt, opening.showing);
+            let is_shown = opening.showing.is_seen(rt);
             run_over(
                 rt, threads, file, words, opened, is_shown, input, output, net,
             )

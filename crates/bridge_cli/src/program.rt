@@ -1,65 +1,12 @@
-//! What the program was called with, and its streams.
+//! The program over its streams.
 use crate::device::run_words;
-use bridge_words::Note;
-use cli_parts::{print_line, print_note, print_wrong_words};
+use cli_parts::{Arguments, NoArguments, hold_streams, print_line, print_note, print_wrong_words};
 use edge_io::FileIo;
 use edge_net::TcpNet;
-use std::fs::{File, OpenOptions};
-use std::rt::Env;
+use notes::Note;
+use std::io;
 use std::sync::Wait;
 use std::thread::Threads;
-use std::{env, io};
-
-/// What the program was called with.
-#[derive(Drop)]
-struct Arguments {
-    /// The path of the device, or nothing.
-    file: String,
-    /// The words after it.
-    words: Vec<String>,
-}
-
-// Why there are no arguments.
-#[derive(Drop)]
-enum NoArguments {
-    // A word is no text in UTF-8.
-    NoText,
-    NoMemory,
-}
-
-// The arguments after the program's name. No FILE is no words.
-fn read_arguments(rt: &(impl Env + AllocGlobal)) -> Result<Arguments, NoArguments> {
-    let alloc = rt.alloc();
-    let args = match env::args(rt) {
-        Ok(args) => args,
-        Err(error) if error.kind() == io::ErrorKind::OutOfMemory => {
-            return Err(NoArguments::NoMemory);
-        }
-        Err(_) => return Err(NoArguments::NoText),
-    };
-    let mut file = String::new(alloc);
-    let mut words = Vec::new(alloc);
-    for (place, word) in args.enumerate() {
-        if place == 1 {
-            file = word;
-        } else if place > 1 && words.push(word).is_err() {
-            return Err(NoArguments::NoMemory);
-        }
-    }
-    Ok(Arguments { file, words })
-}
-
-// Takes the numbers of the standard streams that are closed, so that FILE isn't opened as one of them: a read of
-// such a stream then gives nothing, and a write to it fails.
-fn hold_streams(rt: &HostRuntime) -> [io::Result<File>; 3] {
-    let mut options = OpenOptions::new();
-    options.read(true);
-    [
-        options.open(rt, "/dev/null"),
-        options.open(rt, "/dev/null"),
-        options.open(rt, "/dev/null"),
-    ]
-}
 
 // Does what the program was called with, over standard input, standard output and the sockets of the system.
 fn run_arguments<R: Threads + Wait + Sync>(
@@ -87,7 +34,7 @@ fn run_arguments<R: Threads + Wait + Sync>(
 /// the words.
 pub fn run<R: Threads + Wait + Sync>(rt: &HostRuntime, threads: &R) -> Note {
     let _held = hold_streams(rt);
-    match read_arguments(rt) {
+    match Arguments::read(rt) {
         Ok(arguments) => {
             let note = run_arguments(rt, threads, &arguments);
             print_note(rt, note);

@@ -4,7 +4,7 @@ use Rattle.std.specs.Prelude.{Option, None, Some}
 use Rattle.edge_io.specs.declared.proto.Proto.{Proto}
 use Rattle.bridge_words.specs.declared.command.Command.{Command}
 use Rattle.bridge_words.specs.declared.command.Command.TheVariants.{Format, List as ListCommand, Replay, Drain, Load, Serve}
-use Rattle.bridge_words.specs.declared.note.Note.{Note}
+use Rattle.notes.specs.declared.note.Note.{Note}
 use Rattle.bridge_words.specs.Words.{IsCommand, IsNoCommand}
 use Rattle.bridge_parts.specs.Run.{DiskRun, OutputRun, Run, IsSilent}
 use Rattle.bridge_parts.specs.Written.{IsPrinted}

@@ -9,7 +9,7 @@ use Rattle.bridge_words.specs.declared.need.Need.{Need}
 use Rattle.bridge_words.specs.declared.need.Need.TheVariants.{NoCommand}
 use Rattle.bridge_words.specs.Words.{IsCommand, IsNoCommand, IsNeed}
 use Rattle.bridge_words.proofs.Once.{one_command}
-use Rattle.bridge_words.specs.declared.note.Note.{Note}
+use Rattle.notes.specs.declared.note.Note.{Note}
 use Rattle.bridge_parts.specs.Receivers.{outward_of}
 use Rattle.bridge_parts.specs.Run.{Run}
 use Rattle.bridge_core.specs.Failed.{AsksServe}

@@ -24,7 +24,7 @@ use Rattle.serve_laws.specs.Parts.{Part, AreParts}
 use Rattle.bridge_words.specs.declared.command.Command.{Command}
 use Rattle.bridge_words.specs.declared.command.Command.TheVariants.{Format, List as ListCommand, Replay, Drain, Load, Serve}
 use Rattle.bridge_words.specs.declared.command.Server.{Server}
-use Rattle.bridge_words.specs.declared.note.Note.{Note}
+use Rattle.notes.specs.declared.note.Note.{Note}
 use Rattle.bridge_serve.specs.Doors.{rules_of, AreAt, AreBound}
 use Rattle.bridge_serve.specs.Promised.{EachPart, TellsDurable}
 use Rattle.bridge_serve.specs.Served.{IsRun}

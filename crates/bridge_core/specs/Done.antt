@@ -2,8 +2,8 @@
 use Rattle.std.specs.Prelude.{◌≡◌, ◌≢◌, ℕ, ◌≤◌, [], None, Some}
 use Rattle.bridge_words.specs.declared.command.Command.{Command}
 use Rattle.bridge_words.specs.declared.command.Command.TheVariants.{Format, List as ListCommand, Replay, Drain, Load, Serve}
-use Rattle.bridge_words.specs.declared.note.Note.{Note}
-use Rattle.bridge_words.specs.declared.note.Note.TheVariants.{Usage, NoMemory, WrongLength, ReadFault, DiskFault}
+use Rattle.notes.specs.declared.note.Note.{Note}
+use Rattle.notes.specs.declared.note.Note.TheVariants.{Usage, NoMemory, WrongLength, ReadFault, DiskFault}
 use Rattle.bridge_parts.specs.Counted.{RoseBy, DiskRoseBy, WritesOfBoth}
 use Rattle.bridge_parts.specs.Receivers.{outward_of}
 use Rattle.bridge_parts.specs.Run.{Run, IsOffline, IsSilent, IsUngiven, IsUnused}

@@ -9,8 +9,8 @@ use Rattle.edge_io.specs.declared.proto.Proto.TheVariants.{Hec}
 use Rattle.bridge_words.specs.declared.command.Receiver.{Receiver}
 use Rattle.bridge_words.specs.declared.command.Command.TheVariants.{Replay, Drain, Load, Serve}
 use Rattle.bridge_words.specs.declared.command.Server.{Server}
-use Rattle.bridge_words.specs.declared.note.Note.{Note}
-use Rattle.bridge_words.specs.declared.note.Note.TheVariants.{ReadFault, WriteFault, DiskFault}
+use Rattle.notes.specs.declared.note.Note.{Note}
+use Rattle.notes.specs.declared.note.Note.TheVariants.{ReadFault, WriteFault, DiskFault}
 use Rattle.bridge_words.specs.Words.{IsCommand}
 use Rattle.bridge_parts.specs.Counted.{DiskRoseBy, WritesOfBoth}
 use Rattle.commands.specs.Failed.{TellsDiskFault, CountsWrites, TellsNetFault}

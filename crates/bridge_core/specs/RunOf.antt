@@ -1,8 +1,8 @@
 -- What a call of `bridge` did.
 use Rattle.std.specs.Prelude.{◌≡◌, ◌⊎◌, ℕ, List}
 use Rattle.bridge_words.specs.declared.command.Command.{Command}
-use Rattle.bridge_words.specs.declared.note.Note.{Note}
-use Rattle.bridge_words.specs.declared.note.Note.TheVariants.{Usage, NoMemory}
+use Rattle.notes.specs.declared.note.Note.{Note}
+use Rattle.notes.specs.declared.note.Note.TheVariants.{Usage, NoMemory}
 use Rattle.bridge_words.specs.Words.{IsCommand, IsNoCommand, IsSomeCommand}
 use Rattle.bridge_parts.specs.Run.{Run}
 use Rattle.bridge_core.specs.Failed.{TellsDisk, TellsReadFault, TellsWriteFault, TellsDial}

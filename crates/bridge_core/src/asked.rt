@@ -7,7 +7,7 @@ use bridge_words::Command;
 use std::alloc::Global;
 
 /// Why no command is asked for.
-#[derive(Clone, Copy, PartialEq, Eq, Debug)]
+#[derive(Clone, Copy, PartialEq, Eq)]
 pub(crate) enum Unasked {
     /// The words are no command.
     NoCommand,

@@ -1,6 +1,6 @@
 //! One function does each command.
 ghost use Rattle.std.specs.Prelude.{◌≡◌, map};
-ghost use Rattle.bridge_words.specs.Notes.{status_of};
+ghost use Rattle.notes.specs.Notes.{status_of};
 ghost use Rattle.bridge_parts.specs.Run.{disk_run, input_run, net_run, output_run, run_of};
 ghost use Rattle.bridge_core.specs.Asked.{IsAsked};
 ghost use Rattle.bridge_core.specs.Done.{Does};

@@ -1,8 +1,8 @@
 //! How a run ended.
 ghost use Rattle.std.specs.Prelude.{◌≡◌, []};
-ghost use Rattle.bridge_words.specs.Notes.{status_of};
+ghost use Rattle.notes.specs.Notes.{status_of};
 
-use bridge_words::Note;
+use notes::Note;
 use std::alloc::Global;
 
 /// How a run ended, and what it hands back.

@@ -1,6 +1,6 @@
 //! The top call: the words say which command it is.
 ghost use Rattle.std.specs.Prelude.{◌≡◌, map, string_bytes};
-ghost use Rattle.bridge_words.specs.Notes.{status_of};
+ghost use Rattle.notes.specs.Notes.{status_of};
 ghost use Rattle.bridge_parts.specs.Run.{disk_run, input_run, net_run, output_run, run_of};
 ghost use Rattle.bridge_core.specs.RunOf.{IsRunOf};
 ghost use Rattle.bridge_core.specs.Headline.{KeepsAcknowledged};
@@ -8,9 +8,9 @@ ghost use Rattle.bridge_core.specs.Headline.{KeepsAcknowledged};
 use crate::asked::{Unasked, asked_of};
 use crate::doing::do_command;
 use crate::ended::Ended;
-use bridge_words::Note;
 use edge_disk::Disk;
 use edge_io::{Door, Net, Sink, Source};
+use notes::Note;
 use std::alloc::Global;
 use std::sync::Wait;
 use std::thread::Threads;

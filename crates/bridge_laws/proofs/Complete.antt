@@ -3,7 +3,7 @@ use Rattle.std.proofs.Common.{◌≡◌, inl, inr, ℕ, List, refl, sym, ◌∙�
 use Rattle.std.specs.Prelude.{Option}
 use Rattle.spool_state.proofs.Laws.{stands_unbroken}
 use Rattle.bridge_words.specs.declared.command.Command.TheVariants.{Format, List as ListCommand, Load}
-use Rattle.bridge_words.specs.declared.note.Note.{Note}
+use Rattle.notes.specs.declared.note.Note.{Note}
 use Rattle.bridge_laws.specs.Complete.{NoneFailed, EndsWell, FormatEndsWell, ListEndsWell, LoadEndsWell}
 use Rattle.bridge_core.specs.Done.{Run}
 use Rattle.bridge_core.specs.RunOf.{IsRunOf}

@@ -16,7 +16,7 @@ use Rattle.forward_core.specs.declared.sent.Sent.{Sent}
 use Rattle.forward_core.specs.declared.sent.Sent.TheVariants as Ending
 use Rattle.forward_core.proofs.Counting.{left_count}
 use Rattle.bridge_words.specs.declared.command.Command.TheVariants.{Drain}
-use Rattle.bridge_words.specs.declared.note.Note.{Note}
+use Rattle.notes.specs.declared.note.Note.{Note}
 use Rattle.bridge_laws.specs.Complete.{NoneFailed}
 use Rattle.ending_laws.specs.Draining.{LeavesNothing, PeerAcknowledges, pending}
 use Rattle.bridge_laws.specs.CompleteDrain.{CanDrain, DrainEndsWell, DrainThereEndsWell, DrainsAll, HungUpNone, PeerHad}

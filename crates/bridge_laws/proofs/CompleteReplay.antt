@@ -16,8 +16,8 @@ use Rattle.hec_session.specs.declared.tokens.Tokens.{Tokens}
 use Rattle.desk_access.specs.Call.{Call, failures_of}
 use Rattle.conn_serve.specs.Serves.{CarriedAs}
 use Rattle.bridge_words.specs.declared.command.Command.TheVariants.{Replay}
-use Rattle.bridge_words.specs.declared.note.Note.{Note}
-use Rattle.bridge_words.specs.Notes.{note_of_talk}
+use Rattle.notes.specs.declared.note.Note.{Note}
+use Rattle.notes.specs.Notes.{note_of_talk}
 use Rattle.bridge_laws.specs.Complete.{NoneFailed}
 use Rattle.ending_laws.specs.Replaying.{EndsWhole, Gains, NoneIsRefused, Stores}
 use Rattle.bridge_laws.specs.CompleteReplay.{CanReplay, ReplayEndsWell, TakesAll, conn_in}

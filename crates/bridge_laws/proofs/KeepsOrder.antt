@@ -26,13 +26,13 @@ use Rattle.serve_forwarder.specs.declared.looking.Outcome.{Outcome}
 use Rattle.forward_core.specs.Calls.{AreOfSession, next_after}
 use Rattle.forward_core.specs.declared.outward.Outward.{Outward}
 use Rattle.forward_core.specs.declared.sent.Sent.{Sent}
-use Rattle.bridge_words.specs.declared.note.Note.{Note}
+use Rattle.notes.specs.declared.note.Note.{Note}
 use Rattle.bridge_parts.specs.Opened.{desk_in, IsUnopened}
 use Rattle.bridge_serve.specs.Opened.{IsOpenedOnly}
 use Rattle.bridge_serve.specs.Served.{RunsOver}
 use Rattle.commands.specs.Drained.{IsLooked, IsSent, IsSessionOver, IsUnread}
 use Rattle.commands.specs.Replayed.{IsStored}
-use Rattle.ending_laws.proofs.Ordinals.{desk_rules}
+use Rattle.bridge_parts.proofs.Desks.{desk_rules}
 use Rattle.bridge_laws.specs.InOrder.{IsInOrder}
 use Rattle.bridge_laws.proofs.InOrder.{Never, opening_keeps_order, opens_legal, still_in_order, stood_in_order}
 use Rattle.bridge_laws.proofs.OnlyCaller.{met_by}

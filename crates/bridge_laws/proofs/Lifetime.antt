@@ -3,7 +3,7 @@ use Rattle.std.proofs.Common.{◌≡◌, inl, inr, ℕ, List, [], ◌∷◌}
 use Rattle.std.specs.Prelude.{All}
 use Rattle.std.proofs.lemmas.List.Elements.{All-nil, All-cons}
 use Rattle.edge_disk.specs.Disk.{Moment}
-use Rattle.bridge_words.specs.declared.note.Note.{Note}
+use Rattle.notes.specs.declared.note.Note.{Note}
 use Rattle.bridge_laws.specs.InOrder.{HoldsInOrder}
 use Rattle.bridge_laws.specs.KeepsOrder.{AsksFormat, Keeps}
 use Rattle.bridge_laws.specs.Lifetime.{AnyWords, AreNext, FromFormat, IsCalled, IsNext, Telling}

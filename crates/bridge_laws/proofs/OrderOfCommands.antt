@@ -21,7 +21,7 @@ use Rattle.forward_core.specs.declared.outward.Outward.{Outward}
 use Rattle.bridge_words.specs.declared.command.Command.{Command}
 use Rattle.bridge_words.specs.declared.command.Command.TheVariants.{Format, List as ListCommand, Replay, Drain, Load, Serve}
 use Rattle.bridge_words.specs.declared.command.Server.{Server}
-use Rattle.bridge_words.specs.declared.note.Note.{Note}
+use Rattle.notes.specs.declared.note.Note.{Note}
 use Rattle.bridge_words.specs.Words.{IsCommand, IsNoCommand, IsSomeCommand}
 use Rattle.bridge_words.proofs.Once.{one_command}
 use Rattle.bridge_parts.specs.Receivers.{outward_of}

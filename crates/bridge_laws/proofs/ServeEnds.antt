@@ -15,7 +15,7 @@ use Rattle.serve_forwarder.specs.declared.looking.Outcome.{Outcome}
 use Rattle.serve_forwarder.specs.declared.looking.Outcome.TheVariants as outcome
 use Rattle.bridge_words.specs.declared.command.Command.TheVariants.{Serve}
 use Rattle.bridge_words.specs.declared.command.Server.{Server}
-use Rattle.bridge_words.specs.declared.note.Note.{Note}
+use Rattle.notes.specs.declared.note.Note.{Note}
 use Rattle.bridge_parts.specs.Refused.{note_of_recover}
 use Rattle.bridge_parts.specs.Written.{first_of}
 use Rattle.bridge_serve.specs.Noted.{note_of_look, note_of_run, note_of_workers}

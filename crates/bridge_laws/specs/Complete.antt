@@ -6,8 +6,8 @@ use Rattle.spool_state.specs.SpoolState.{SpoolState}
 use Rattle.spool_state.specs.Image.{slot_at, StandsFor}
 use Rattle.bridge_words.specs.declared.command.Command.TheVariants.{Format, List as ListCommand, Load}
 use Rattle.bridge_words.specs.declared.command.ListForm.{ListForm}
-use Rattle.bridge_words.specs.declared.note.Note.{Note}
-use Rattle.bridge_words.specs.declared.note.Note.TheVariants.{Fine, NoMemory}
+use Rattle.notes.specs.declared.note.Note.{Note}
+use Rattle.notes.specs.declared.note.Note.TheVariants.{Fine, NoMemory}
 use Rattle.bridge_words.specs.Words.{IsCommand}
 use Rattle.bridge_core.specs.Done.{Run}
 use Rattle.bridge_core.specs.RunOf.{IsRunOf}

@@ -10,8 +10,8 @@ use Rattle.spool_state.specs.Left.{left}
 use Rattle.forward_core.specs.Protocols.{settings_as}
 use Rattle.forward_core.specs.Settings.{Settings}
 use Rattle.bridge_words.specs.declared.command.Command.TheVariants.{Drain}
-use Rattle.bridge_words.specs.declared.note.Note.{Note}
-use Rattle.bridge_words.specs.declared.note.Note.TheVariants.{Fine, NoMemory}
+use Rattle.notes.specs.declared.note.Note.{Note}
+use Rattle.notes.specs.declared.note.Note.TheVariants.{Fine, NoMemory}
 use Rattle.bridge_words.specs.Words.{IsCommand}
 use Rattle.bridge_laws.specs.Complete.{NoneFailed}
 use Rattle.bridge_core.specs.Done.{Run}

@@ -9,8 +9,8 @@ use Rattle.spool_state.specs.Image.{StandsFor}
 use Rattle.spool_log.specs.declared.opening.Opening.TheVariants.{Raise}
 use Rattle.spool_log.specs.Opening.{opened}
 use Rattle.bridge_words.specs.declared.command.Command.TheVariants.{Replay}
-use Rattle.bridge_words.specs.declared.note.Note.{Note}
-use Rattle.bridge_words.specs.declared.note.Note.TheVariants.{Fine, NoMemory}
+use Rattle.notes.specs.declared.note.Note.{Note}
+use Rattle.notes.specs.declared.note.Note.TheVariants.{Fine, NoMemory}
 use Rattle.bridge_words.specs.Words.{IsCommand}
 use Rattle.bridge_laws.specs.Complete.{NoneFailed}
 use Rattle.bridge_core.specs.Done.{Run}

@@ -1,8 +1,8 @@
 -- A device from the call that made it a spool on: calls of `bridge` one after another, and crashes between them and within them.
 use Rattle.std.specs.Prelude.{◌≡◌, ◌⊎◌, List, [], ◌∷◌, ℕ, All}
 use Rattle.edge_disk.specs.Disk.{Moment}
-use Rattle.bridge_words.specs.declared.note.Note.{Note}
-use Rattle.bridge_words.specs.declared.note.Note.TheVariants.{Fine}
+use Rattle.notes.specs.declared.note.Note.{Note}
+use Rattle.notes.specs.declared.note.Note.TheVariants.{Fine}
 use Rattle.bridge_core.specs.Done.{Run}
 use Rattle.bridge_core.specs.RunOf.{IsRunOf}
 use Rattle.bridge_laws.specs.InOrder.{HoldsInOrder, HoldsNoDisorder}

@@ -11,7 +11,7 @@ use Rattle.serve_forwarder.specs.declared.looking.Outcome.{Outcome}
 use Rattle.serve_forwarder.specs.declared.looking.Outcome.TheVariants.{Unread, Held}
 use Rattle.bridge_words.specs.declared.command.Command.TheVariants.{Serve}
 use Rattle.bridge_words.specs.declared.command.Server.{Server}
-use Rattle.bridge_words.specs.declared.note.Note.{Note}
+use Rattle.notes.specs.declared.note.Note.{Note}
 use Rattle.bridge_words.specs.Words.{IsCommand}
 use Rattle.bridge_serve.specs.Doors.{SomeRose}
 use Rattle.bridge_serve.specs.Served.{IsRun}

@@ -2,7 +2,7 @@
 use Rattle.std.proofs.Common.{◌≡◌, refl}
 use Rattle.forward_core.specs.declared.sent.Sent.{Sent}
 use Rattle.forward_core.specs.declared.sent.Sent.TheVariants as Ending
-use Rattle.bridge_words.specs.declared.note.Note.{Note}
+use Rattle.notes.specs.declared.note.Note.{Note}
 use Rattle.bridge_parts.specs.Refused.{note_of_sent}
 
 pub sent_by_disk : (sent : Sent) → note_of_sent sent ≡ Note.DiskFault → sent ≡ Ending.DiskFault

@@ -1,7 +1,7 @@
 -- A print after what ended, and the note of both.
 use Rattle.std.proofs.Common.{◌≡◌, ◌⊎◌, inl, inr, ℕ, refl, sym, ◌∙◌, ap}
 use Rattle.conn_serve.specs.Endings.{CountsFaults}
-use Rattle.bridge_words.specs.declared.note.Note.{Note}
+use Rattle.notes.specs.declared.note.Note.{Note}
 use Rattle.bridge_parts.specs.Written.{first_of}
 use Rattle.bridge_parts.specs.Counted.{WroteAfter}
 

@@ -2,8 +2,8 @@
 use Rattle.std.specs.Prelude.{◌≡◌, ◌⊎◌, ℕ, ◌≤◌}
 use Rattle.foundation.specs.Faults.{Rose}
 use Rattle.edge_disk.specs.Disk.{Moment}
-use Rattle.bridge_words.specs.declared.note.Note.{Note}
-use Rattle.bridge_words.specs.declared.note.Note.TheVariants.{Fine, WriteFault}
+use Rattle.notes.specs.declared.note.Note.{Note}
+use Rattle.notes.specs.declared.note.Note.TheVariants.{Fine, WriteFault}
 
 -- the count didn't fall, and it rose where such a fault is reported
 pub record RoseBy (fault : Type 0) (before now : ℕ) : Type 0 where

@@ -7,7 +7,7 @@ use Rattle.spool_log.specs.declared.opening.Opening.TheVariants.{Raise}
 use Rattle.spool_log.specs.Opening.{IsRefusing, IsRefusedAs}
 use Rattle.hec_ids.specs.Rows as Ids
 use Rattle.desk_access.specs.Desk.{DeskState, desk_of}
-use Rattle.bridge_words.specs.declared.note.Note.{Note}
+use Rattle.notes.specs.declared.note.Note.{Note}
 use Rattle.bridge_parts.specs.Refused.{note_of_recover}
 
 -- the desk of a spool that was opened in this state: nothing is in doubt, and no id of its run was issued

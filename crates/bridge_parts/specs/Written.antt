@@ -1,8 +1,8 @@
 -- How much of a text was written, by the note.
 use Rattle.std.specs.Prelude.{◌≡◌, ℕ, ◌<◌, List, ◌++◌, length, Option}
 use Rattle.std.specs.Io.KnownBytes.{Appends}
-use Rattle.bridge_words.specs.declared.note.Note.{Note}
-use Rattle.bridge_words.specs.declared.note.Note.TheVariants.{Fine, NoMemory, WriteFault}
+use Rattle.notes.specs.declared.note.Note.{Note}
+use Rattle.notes.specs.declared.note.Note.TheVariants.{Fine, NoMemory, WriteFault}
 
 -- a front of the text was written
 pub record WritesFront (text : List ℕ) (old new : Option (List ℕ)) : Type 0 where

@@ -2,9 +2,9 @@
 ghost use Rattle.std.specs.Prelude.{◌≡◌};
 ghost use Rattle.bridge_parts.specs.Refused.{note_of_recover, note_of_pend, note_of_net, note_of_sent};
 
-use bridge_words::Note;
 use edge_io::NetFault;
 use forward_core::Sent;
+use notes::Note;
 use spool_log::{PendFault, RecoverFault};
 
 /// The note for a device that was not opened: it is no spool, it was opened or its register was written as often as it can be, a call

@@ -2,7 +2,7 @@
 ghost use Rattle.std.specs.Prelude.{◌≡◌};
 ghost use Rattle.bridge_parts.specs.Written.{first_of};
 
-use bridge_words::Note;
+use notes::Note;
 
 /// The note of two things that were done one after the other: that of the first, or where it is `Fine` that of the second.
 pub fn first_of(ended: Note, then: Note) -> Note

@@ -27,7 +27,7 @@ use Rattle.serve_forwarder.specs.declared.destination.Destination.{Destination}
 use Rattle.serve_forwarder.specs.declared.looking.Outcome.{Outcome}
 use Rattle.serve_forwarder.specs.Looks.{Found, Idle, Unread, Undialed, Held, Look, IsLook, AreLooks, IsToldBy, IsFound, outcome_of}
 use Rattle.serve_run.specs.Running.{Forwarded, HasForwarded}
-use Rattle.bridge_words.specs.declared.note.Note.{Note}
+use Rattle.notes.specs.declared.note.Note.{Note}
 use Rattle.bridge_parts.specs.Refused.{note_of_net, note_of_sent}
 use Rattle.bridge_parts.specs.Written.{first_of}
 use Rattle.bridge_parts.proofs.Endings.{sent_by_disk, sent_by_read, sent_by_write}

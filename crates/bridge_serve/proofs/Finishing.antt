@@ -15,7 +15,7 @@ use Rattle.serve_workers.specs.declared.worker.WorkerEnd.TheVariants as worker
 use Rattle.serve_workers.specs.declared.worker.WorkerReport.{WorkerReport}
 use Rattle.serve_laws.specs.Parts.{Part, IsPart, AreParts}
 use Rattle.serve_laws.proofs.Behind.{no_length}
-use Rattle.bridge_words.specs.declared.note.Note.{Note}
+use Rattle.notes.specs.declared.note.Note.{Note}
 use Rattle.bridge_serve.specs.Noted.{is_starved, is_refused, note_of_workers}
 use Rattle.bridge_serve.specs.Promised.{EachPart, GivesBack, IsServedOut}
 

@@ -2,7 +2,7 @@
 use Rattle.std.proofs.Common.{◌≡◌, List, ℕ, refl, subst}
 use Rattle.std.specs.Prelude.{Option}
 use Rattle.conn_serve.specs.Endings.{CountsFaults}
-use Rattle.bridge_words.specs.declared.note.Note.{Note}
+use Rattle.notes.specs.declared.note.Note.{Note}
 use Rattle.bridge_parts.specs.Written.{PrintsAfter}
 use Rattle.bridge_serve.specs.Noted.{PrintsLast}
 

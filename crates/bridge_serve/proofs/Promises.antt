@@ -39,7 +39,7 @@ use Rattle.session_laws.proofs.Coming.{comes}
 use Rattle.session_laws.proofs.Holding.{met_alone}
 use Rattle.session_laws.proofs.Knowing.{NoMarks, led_same}
 use Rattle.session_laws.proofs.Serving.{sessions_of_run}
-use Rattle.bridge_words.specs.declared.note.Note.{Note}
+use Rattle.notes.specs.declared.note.Note.{Note}
 use Rattle.bridge_parts.specs.Refused.{note_of_sent}
 use Rattle.bridge_serve.specs.Noted.{note_of_look, note_of_workers}
 use Rattle.bridge_serve.specs.Promised.{EachPart, HasSent, KnowsOnlyTold, Promises, looks_of}

@@ -7,8 +7,8 @@ use Rattle.serve_workers.specs.declared.worker.WorkerReport.{WorkerReport}
 use Rattle.serve_forwarder.specs.declared.looking.Outcome.{Outcome}
 use Rattle.serve_forwarder.specs.declared.looking.Outcome.TheVariants as outcome
 use Rattle.conn_serve.specs.Endings.{CountsFaults}
-use Rattle.bridge_words.specs.declared.note.Note.{Note}
-use Rattle.bridge_words.specs.declared.note.Note.TheVariants.{Fine, NoMemory, NetFault, WriteFault}
+use Rattle.notes.specs.declared.note.Note.{Note}
+use Rattle.notes.specs.declared.note.Note.TheVariants.{Fine, NoMemory, NetFault, WriteFault}
 use Rattle.bridge_parts.specs.Refused.{note_of_pend, note_of_net, note_of_sent}
 use Rattle.bridge_parts.specs.Written.{first_of, PrintsAfter}
 

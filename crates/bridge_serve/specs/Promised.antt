@@ -36,8 +36,8 @@ use Rattle.serve_laws.specs.Leaves.{IsDone, NoneIsLeftOn}
 use Rattle.serve_laws.specs.Last.{IsLastOfAll}
 use Rattle.session_laws.specs.Beside.{MarksAlone, history}
 use Rattle.session_laws.specs.Sessions.{SentBeside, IsToldIn, reach_of}
-use Rattle.bridge_words.specs.declared.note.Note.{Note}
-use Rattle.bridge_words.specs.declared.note.Note.TheVariants.{Fine, NoMemory}
+use Rattle.notes.specs.declared.note.Note.{Note}
+use Rattle.notes.specs.declared.note.Note.TheVariants.{Fine, NoMemory}
 use Rattle.bridge_serve.specs.Noted.{note_of_workers, talks_of}
 
 -- ---- of each worker

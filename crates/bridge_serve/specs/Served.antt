@@ -19,8 +19,8 @@ use Rattle.serve_forwarder.specs.declared.destination.Destination.{Destination}
 use Rattle.serve_forwarder.specs.declared.looking.Outcome.{Outcome}
 use Rattle.serve_run.specs.Running.{HasServed}
 use Rattle.bridge_words.specs.declared.command.Server.{Server}
-use Rattle.bridge_words.specs.declared.note.Note.{Note}
-use Rattle.bridge_words.specs.declared.note.Note.TheVariants.{NoMemory, NetFault}
+use Rattle.notes.specs.declared.note.Note.{Note}
+use Rattle.notes.specs.declared.note.Note.TheVariants.{NoMemory, NetFault}
 use Rattle.bridge_words.specs.Lines.{serve_line}
 use Rattle.bridge_parts.specs.Opened.{IsUnopened}
 use Rattle.bridge_parts.specs.Run.{DiskRun, NetRun, OutputRun, IsOffline, IsSilent}

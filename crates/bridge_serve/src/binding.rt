@@ -3,9 +3,10 @@ ghost use Rattle.std.specs.Prelude.{◌≡◌, ◌*◌, ◌≤◌, ◌++◌, map
 ghost use Rattle.edge_io.specs.Net.{SameHung, HasNetCause};
 ghost use Rattle.bridge_serve.specs.Doors.{rules_of, AddsDoors, AreBound};
 
-use bridge_words::{Place, Server};
+use bridge_words::Server;
 use conn_serve::Rules;
 use edge_io::{Door, Net, NetFault, Proto};
+use notes::Place;
 use serve_workers::Post;
 use std::alloc::{AllocError, Global};
 

@@ -8,7 +8,7 @@ use edge_disk::Disk;
 use spool_log::Spool;
 
 /// Two numbers of a spool. Those of two moments give what was taken and confirmed in between.
-#[derive(Clone, Copy, Debug, PartialEq, Eq)]
+#[derive(Clone, Copy, PartialEq, Eq)]
 pub(crate) struct Numbers {
     /// The number that the next entry gets. The first entry has 0.
     pub(crate) end: u64,

@@ -1,7 +1,7 @@
 //! How a server's run ended.
 ghost use Rattle.std.specs.Prelude.{◌≡◌, []};
 
-use bridge_words::Note;
+use notes::Note;
 use std::alloc::Global;
 
 /// How a server's run ended: why, the disk that was handed in, and the doors that served.

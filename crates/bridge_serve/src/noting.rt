@@ -4,7 +4,7 @@ ghost use Rattle.std.specs.List.{list_any};
 ghost use Rattle.bridge_serve.specs.Noted.{is_starved, is_refused, note_of_workers, note_of_look, note_of_run};
 
 use bridge_parts::{first_of, net_note, pend_note, sent_note};
-use bridge_words::Note;
+use notes::Note;
 use serve_forwarder::Outcome;
 use serve_workers::{WorkerEnd, WorkerReport};
 

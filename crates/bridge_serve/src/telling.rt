@@ -1,20 +1,21 @@
 //! The line that a run ends with.
 ghost use Rattle.std.specs.Prelude.{◌≡◌, ◌⊎◌, ◌≤◌, length};
 ghost use Rattle.conn_serve.specs.Endings.{CountsFaults};
-ghost use Rattle.bridge_words.specs.declared.note.Note.TheVariants.{WriteFault};
+ghost use Rattle.notes.specs.declared.note.Note.TheVariants.{WriteFault};
 ghost use Rattle.bridge_words.specs.Lines.{serve_line};
 ghost use Rattle.bridge_parts.specs.Counted.{WroteAfter};
 ghost use Rattle.bridge_parts.specs.Written.{IsPrinted};
 ghost use Rattle.bridge_serve.specs.Noted.{talks_of, PrintsLast};
 
 use bridge_parts::first_of;
-use bridge_words::{Note, serve_line};
+use bridge_words::serve_line;
 use edge_io::{Sink, write_whole};
+use notes::Note;
 use serve_workers::WorkerReport;
 use std::alloc::Global;
 
 /// What a run came to, in the numbers of its line.
-#[derive(Clone, Copy, Debug, PartialEq, Eq)]
+#[derive(Clone, Copy, PartialEq, Eq)]
 pub(crate) struct Summary {
     /// How many connections were served to their end and given back.
     pub(crate) talks: u64,

@@ -2,8 +2,8 @@
 
 use crate::parts::MEMORY;
 use crate::play::{Play, plain};
-use bridge_words::Note;
 use edge_disk::MemDisk;
+use notes::Note;
 use std::alloc::Global;
 use std::process::Abort;
 use std::sync::Wait;

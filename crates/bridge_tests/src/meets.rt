@@ -5,9 +5,9 @@ use crate::held_net::{HeldDoor, HeldNet, Talked};
 use crate::play::{formatted, words_of};
 use crate::script::{OPEN, OPENED};
 use bridge_core::{Ended, bridge};
-use bridge_words::Note;
 use edge_disk::MemDisk;
 use edge_io::{MemSink, MemSource};
+use notes::Note;
 use std::alloc::Global;
 use std::process::Abort;
 use std::sync::Wait;
@@ -202,8 +202,8 @@ fn check<R: Abort + Threads + Wait + Sync>(
         &mut output,
         &mut net,
     );
-    assert!(rt; output.taken() == line.as_bytes(), "{note:?}");
-    assert!(rt; note == Note::Fine, "{note:?}");
+    assert!(rt; output.taken() == line.as_bytes());
+    assert!(rt; note == Note::Fine);
     assert!(rt; are_served(&doors, answers));
 }
 

@@ -2,9 +2,9 @@
 
 use crate::parts::MEMORY;
 use bridge_core::{Ended, bridge};
-use bridge_words::Note;
 use edge_disk::MemDisk;
 use edge_io::{MemDoor, MemNet, MemScript, MemSink, MemSource};
+use notes::Note;
 use std::alloc::Global;
 use std::process::Abort;
 use std::sync::Wait;

@@ -5,9 +5,9 @@ use crate::parts::MEMORY;
 use crate::places::{EVENTS, WORDS};
 use crate::play::{Left, formatted, made, plain};
 use crate::talks::{are_kept, talks_end};
-use bridge_words::Note;
 use edge_disk::{Disk, MemDisk};
 use edge_io::{MemNet, MemSink, MemSource, Net, Sink};
+use notes::Note;
 use std::alloc::Global;
 use std::process::Abort;
 use std::sync::Wait;
@@ -205,22 +205,21 @@ const CALLS: [(&str, u64, u64); 14] = [
     ("disk", 30, 160),
 ];
 
-// A run in which that call fails: its note, and whether it left what it has to, and made the call or not as the counts say.
-fn run_failing<R: Abort + Threads + Wait + Sync>(
+// Whether a run in which that call fails left what it has to, and made the call or not as the counts say.
+fn is_right_failing<R: Abort + Threads + Wait + Sync>(
     rt: &R,
     alloc: Global,
     (object, number): (usize, u64),
     least: u64,
     most: u64,
-) -> (Note, bool) {
+) -> bool {
     let run = run(rt, alloc, Some((object, number)));
     let is_counted = if is_reached(object, &run) {
         number < most
     } else {
         number >= least
     };
-    let is_right = is_right(rt, alloc, object, number, &run);
-    (run.left.note, is_counted && is_right)
+    is_right(rt, alloc, object, number, &run) && is_counted
 }
 
 /// One call after another of each object fails, until one is none of the run's.
@@ -228,8 +227,8 @@ pub(crate) fn serve_places<R: Abort + Threads + Wait + Sync>(rt: &R, alloc: Glob
     assert!(rt; is_whole(&run(rt, alloc, None)));
     for (object, (name, least, most)) in CALLS.iter().enumerate() {
         for number in 0..=*most {
-            let (note, is_right) = run_failing(rt, alloc, (object, number), *least, *most);
-            assert!(rt; is_right, "{name} {number}: {note:?}");
+            let is_right = is_right_failing(rt, alloc, (object, number), *least, *most);
+            assert!(rt; is_right, "{name} {number}");
         }
     }
 }

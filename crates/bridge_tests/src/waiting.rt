@@ -3,12 +3,12 @@ ghost use Rattle.std.specs.Prelude.{◌≡◌, ◌≤◌, None, false, length};
 
 use crate::parts::MEMORY;
 use crate::script::{OPEN, OPENED};
-use bridge_words::Note;
 use conn_serve::{Rules, attend};
 use desk_access::{Access, Alone, Desk};
 use edge_disk::MemDisk;
 use edge_io::{Link, Object, Proto, ReadFault, Sink, Source, WriteFault};
 use hec_ids::Ids;
+use notes::Note;
 use spool_log::{Opening, Spool, format};
 use std::alloc::Global;
 use std::process::Abort;
@@ -156,7 +156,7 @@ fn spool(rt: &impl Abort, alloc: Global) -> Spool<MemDisk>
     ensures { result.doubt ≡ false }
 {
     let mut disk = MemDisk::plain(alloc, 16_384).expect(rt, MEMORY);
-    format(&mut disk, 1, 4096).expect(rt, "format");
+    format(&mut disk, 1, 4096).ok().expect(rt, "format");
     match Spool::recover(alloc, disk, Opening::Raise) {
         Ok(spool) => spool,
         Err(_) => rt.panic("recover"),
@@ -232,7 +232,7 @@ pub(crate) fn wait_for_answers(rt: &impl Abort, alloc: Global) {
                 }
                 _ => false,
             };
-            assert!(rt; is_right, "{note:?}");
+            assert!(rt; is_right);
         }
     }
 }

@@ -2,5 +2,4 @@ pub mod Grammar
 pub mod Values
 pub mod Words
 pub mod Wrong
-pub mod Notes
 pub mod Lines

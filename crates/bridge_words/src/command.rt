@@ -3,9 +3,9 @@ ghost use Rattle.std.specs.Prelude.{◌≡◌, Ok, Some, None, map, string_bytes
 ghost use Rattle.bridge_words.specs.declared.command.Command.{Command};
 ghost use Rattle.bridge_words.specs.Words.{IsCommand, IsNoCommand};
 
-use crate::Place;
 use crate::reading::{Unread, read};
 use edge_io::Proto;
+use notes::Place;
 use std::alloc::{AllocError, Global};
 
 /// How `list` prints an entry.

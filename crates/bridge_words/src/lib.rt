@@ -1,5 +1,5 @@
-//! The words of bridge: its commands as they stand on the command line, what is wrong with words that are none, why a
-//! run ended, and the lines that it prints. It does nothing with them. A command is found exactly where the words are
+//! The words of bridge: its commands as they stand on the command line, what is wrong with words that are none, and the
+//! lines that it prints. It does nothing with them. A command is found exactly where the words are
 //! one, and each text is the one that its definition has.
 #![tactic(auto)]
 
@@ -9,18 +9,13 @@ mod grammar;
 mod law;
 mod line;
 mod need;
-mod note;
 mod number;
-mod place;
 mod reading;
 mod server;
 mod values;
-mod why;
 
 pub use command::{Command, ListForm, Receiver, Relay, Server};
 pub use fault::{WordsFault, wrong_words};
 pub use law::{one_command, spelling};
 pub use line::{drain_line, entry_line, serve_line, spool_line};
 pub use need::{Need, need_of};
-pub use note::{Note, note_text};
-pub use place::Place;

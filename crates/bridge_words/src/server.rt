@@ -9,9 +9,10 @@ ghost use Rattle.bridge_words.specs.Wrong.{WrongDoors, WrongServe};
 use crate::fault::WordsFault;
 use crate::reading::{Unread, receiver_of};
 use crate::values::{forward_in, guid_for, number_or, place_for};
-use crate::{Command, Place, Relay, Server};
+use crate::{Command, Relay, Server};
 use clap::ArgMatches;
 use edge_io::Proto;
+use notes::Place;
 use std::alloc::Global;
 
 /// The places at which connections come in.

@@ -5,12 +5,13 @@ ghost use Rattle.bridge_words.specs.declared.reading.Unread.TheVariants.{Wrong};
 ghost use Rattle.bridge_words.specs.Values.{value_of, rows_in, guid, proto_at, form_at, number_within, must_be, may_be, is_else, place_for};
 ghost use Rattle.bridge_words.specs.Values.{proto_in, form_in, forward_in};
 
+use crate::ListForm;
 use crate::fault::WordsFault;
 use crate::number::number_within;
 use crate::reading::Unread;
-use crate::{ListForm, Place};
 use clap::ArgMatches;
 use edge_io::Proto;
+use notes::Place;
 use std::alloc::Global;
 use uuid::Uuid;
 

@@ -6,6 +6,7 @@ ghost use Rattle.cli_parts.specs.Opening.{open_text, IsList, AreList};
 use bridge_words::Command;
 use edge_disk::{OpenFault, Sharing};
 use std::alloc::{AllocError, Global};
+use std::io::IsTerminal;
 
 /// Where a command shows how far its reading of FILE is. Such a line goes to standard error, where that is a terminal.
 #[derive(Clone, Copy)]
@@ -16,6 +17,18 @@ pub enum Showing {
     Apart,
     /// Nowhere: nobody waits for the command's end.
     Never,
+}
+
+impl Showing {
+    /// Whether somebody sees how far a command is: standard error is a terminal, and what the command prints doesn't come between.
+    pub fn is_seen(self, rt: &HostRuntime) -> bool {
+        let may_show = match self {
+            Showing::Always => true,
+            Showing::Apart => !rt.stdout().is_terminal(),
+            Showing::Never => false,
+        };
+        may_show && rt.stderr().is_terminal()
+    }
 }
 
 /// How the words want a FILE that exists.

@@ -1,5 +1,5 @@
 //! The lines on standard error. A write that fails there is not reported.
-use bridge_words::{Note, note_text};
+use notes::{Note, note_text};
 use std::str;
 
 /// Prints a line.

@@ -1,9 +1,9 @@
 //! The exit status.
 ghost use Rattle.std.specs.Prelude.{◌≡◌};
 ghost use Rattle.std.specs.Process.{exit_status};
-ghost use Rattle.bridge_words.specs.Notes.{status_of};
+ghost use Rattle.notes.specs.Notes.{status_of};
 
-use bridge_words::Note;
+use notes::Note;
 use std::process::ExitCode;
 
 /// The exit code of a run that ended so: the note's status.

@@ -22,7 +22,7 @@ use Rattle.conn_serve.specs.Tokens.{tokens_of}
 use Rattle.conn_serve.proofs.Durable.{acked_durably, stored_durably}
 use Rattle.conn_serve.proofs.HecAcks.{told_is_taken}
 use Rattle.hec_session.specs.declared.tokens.Tokens.{Tokens}
-use Rattle.bridge_words.specs.declared.note.Note.{Note}
+use Rattle.notes.specs.declared.note.Note.{Note}
 use Rattle.bridge_parts.specs.Opened.{desk_in}
 use Rattle.bridge_parts.specs.Run.{LinkRun}
 use Rattle.commands.specs.Replayed.{ServesLink, IsStored, KeepsFrom, ServesInput}

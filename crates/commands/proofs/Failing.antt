@@ -14,8 +14,8 @@ use Rattle.desk_access.specs.Journal.{calls_by}
 use Rattle.conn_serve.specs.DiskFaults.{TellsFailures}
 use Rattle.conn_serve.specs.Serves.{CarriedAs}
 use Rattle.conn_serve.proofs.Failing.{disk_fault_is_told}
-use Rattle.bridge_words.specs.declared.note.Note.{Note}
-use Rattle.bridge_words.specs.Notes.{note_of_talk}
+use Rattle.notes.specs.declared.note.Note.{Note}
+use Rattle.notes.specs.Notes.{note_of_talk}
 use Rattle.commands.specs.Failed.{TellsDiskFault}
 
 pub talk_by_disk : (talk : Talk) → note_of_talk talk ≡ Note.DiskFault → talk ≡ Talk.DiskFault

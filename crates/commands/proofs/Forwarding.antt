@@ -27,7 +27,7 @@ use Rattle.forward_core.specs.declared.sent.Sent.{Sent}
 use Rattle.forward_core.specs.declared.sent.Sent.TheVariants as Ending
 use Rattle.conn_serve.specs.Endings.{CountsFaults}
 use Rattle.conn_serve.proofs.Faults.{counts_none}
-use Rattle.bridge_words.specs.declared.note.Note.{Note}
+use Rattle.notes.specs.declared.note.Note.{Note}
 use Rattle.bridge_parts.specs.Refused.{note_of_sent, note_of_recover}
 use Rattle.bridge_parts.specs.Opened.{desk_in}
 use Rattle.bridge_parts.specs.Pending.{pending_in}

@@ -8,8 +8,8 @@ use Rattle.spool_state.specs.Left.{NumberedEntry}
 use Rattle.spool_log.specs.declared.reading.numbered.Numbered.{Numbered}
 use Rattle.spool_log.specs.Outcome.{given_entries, AreNumbered}
 use Rattle.bridge_words.specs.declared.command.ListForm.{ListForm}
-use Rattle.bridge_words.specs.declared.note.Note.{Note}
-use Rattle.bridge_words.specs.declared.note.Note.TheVariants.{Fine}
+use Rattle.notes.specs.declared.note.Note.{Note}
+use Rattle.notes.specs.declared.note.Note.TheVariants.{Fine}
 use Rattle.commands.specs.Listed.{IsLine, ArePrinted}
 use Rattle.commands.proofs.Printing.{IsLimited, Gathered, gathered_line, printed_cut}
 use Rattle.commands.proofs.Rising.{after_last, after_append}

@@ -12,7 +12,7 @@ use Rattle.forward_core.specs.Turning.{IsHalt}
 use Rattle.forward_core.specs.declared.outward.Outward.{Outward}
 use Rattle.forward_core.specs.declared.sent.Sent.{Sent}
 use Rattle.forward_core.specs.declared.sent.Sent.TheVariants as Ending
-use Rattle.bridge_words.specs.declared.note.Note.{Note}
+use Rattle.notes.specs.declared.note.Note.{Note}
 use Rattle.bridge_parts.specs.Refused.{note_of_net, note_of_sent}
 use Rattle.commands.specs.Drained.{HasNotDialed}
 use Rattle.commands.specs.Sending.{IsSentOver, NewLink}

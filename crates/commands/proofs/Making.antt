@@ -8,7 +8,7 @@ use Rattle.spool_state.specs.Image.{slot_at, StandsFor}
 use Rattle.spool_state.specs.Empty.{empty_state}
 use Rattle.spool_log.specs.Making.Format.{CameOf, IsFormatStep}
 use Rattle.spool_log.specs.declared.making.formatting.FormatFault.TheVariants as fault
-use Rattle.bridge_words.specs.declared.note.Note.{Note}
+use Rattle.notes.specs.declared.note.Note.{Note}
 use Rattle.bridge_words.specs.Lines.{spool_line}
 use Rattle.bridge_parts.specs.Run.{DiskRun, OutputRun, IsSilent}
 use Rattle.bridge_parts.specs.Written.{IsPrinted}

@@ -13,7 +13,7 @@ use Rattle.forward_core.proofs.DropLaw.{told_is_gone}
 use Rattle.bridge_parts.specs.Opened.{desk_in}
 use Rattle.bridge_parts.specs.Run.{DiskRun, LinkRun}
 use Rattle.commands.specs.Drained.{IsOverSpool, IsSession, IsSessionOver, Tally}
-use Rattle.ending_laws.proofs.Ordinals.{desk_rules}
+use Rattle.bridge_parts.proofs.Desks.{desk_rules}
 
 pub session_over : (outward : Outward) (disk : DiskRun) (link : LinkRun) (tally : Tally) (sent : Sent)
     → IsSession outward link (IsOverSpool disk tally) sent → IsSessionOver outward disk link tally sent

@@ -12,8 +12,8 @@ use Rattle.event_map.proofs.Exact.{text_of-is, json_object_of-is, hec_object_of-
 use Rattle.spool_state.specs.Left.{NumberedEntry}
 use Rattle.bridge_words.specs.declared.command.ListForm.{ListForm}
 use Rattle.bridge_words.specs.declared.command.ListForm.TheVariants.{Plain, Text, JsonObject, HecObject}
-use Rattle.bridge_words.specs.declared.note.Note.{Note}
-use Rattle.bridge_words.specs.declared.note.Note.TheVariants.{Fine, NoMemory, WriteFault, DiskFault}
+use Rattle.notes.specs.declared.note.Note.{Note}
+use Rattle.notes.specs.declared.note.Note.TheVariants.{Fine, NoMemory, WriteFault, DiskFault}
 use Rattle.bridge_words.specs.Lines.{entry_line}
 use Rattle.bridge_parts.specs.Written.{WritesFront, IsCut}
 use Rattle.commands.specs.Listed.{IsLine, AreLines, PrintsFirst, ArePrinted}

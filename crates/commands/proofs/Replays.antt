@@ -14,8 +14,8 @@ use Rattle.desk_access.specs.History.{AllKept, Grows}
 use Rattle.desk_access.specs.Alone.{AloneView, IsAt, Ran}
 use Rattle.desk_access.specs.Journal.{calls_by}
 use Rattle.desk_access.proofs.Lasting.{image_kept}
-use Rattle.bridge_words.specs.declared.note.Note.{Note}
-use Rattle.bridge_words.specs.Notes.{note_of_talk}
+use Rattle.notes.specs.declared.note.Note.{Note}
+use Rattle.notes.specs.Notes.{note_of_talk}
 use Rattle.commands.specs.Refused.{IsRefusedFirst}
 use Rattle.bridge_parts.specs.Opened.{desk_in}
 use Rattle.commands.specs.Replayed.{Keeps, IsStored}

@@ -23,8 +23,8 @@ use Rattle.spool_log.specs.Outcome.{IsNotBroken, Pends, PendsFrom, given_entries
 use Rattle.conn_serve.specs.Endings.{CountsFaults}
 use Rattle.conn_serve.proofs.Faults.{counts_none}
 use Rattle.bridge_words.specs.declared.command.ListForm.{ListForm}
-use Rattle.bridge_words.specs.declared.note.Note.{Note}
-use Rattle.bridge_words.specs.declared.note.Note.TheVariants.{Fine}
+use Rattle.notes.specs.declared.note.Note.{Note}
+use Rattle.notes.specs.declared.note.Note.TheVariants.{Fine}
 use Rattle.bridge_parts.specs.Refused.{note_of_pend, note_of_recover}
 use Rattle.bridge_parts.specs.Run.{DiskRun, OutputRun, IsSilent}
 use Rattle.commands.specs.Listed.{ArePrinted, PrintsPart, IsUnreadable, IsPrintNote, IsListNote, Lists, IsListed}

@@ -19,8 +19,8 @@ use Rattle.forward_core.specs.Laws.{EndsOver, KnowsMarked, DropsTold}
 use Rattle.forward_core.specs.Turning.{IsHalt}
 use Rattle.forward_core.specs.Protocols.{EndsAs, HintsAs, settings_as}
 use Rattle.forward_core.specs.declared.outward.Outward.{Outward}
-use Rattle.bridge_words.specs.declared.note.Note.{Note}
-use Rattle.bridge_words.specs.declared.note.Note.TheVariants.{Fine, Usage, WrongLength, NoMemory, NetFault, ReadFault, WriteFault, DiskFault}
+use Rattle.notes.specs.declared.note.Note.{Note}
+use Rattle.notes.specs.declared.note.Note.TheVariants.{Fine, Usage, WrongLength, NoMemory, NetFault, ReadFault, WriteFault, DiskFault}
 use Rattle.bridge_words.specs.Lines.{drain_line}
 use Rattle.bridge_parts.specs.Counted.{RoseBy, WritesOfBoth}
 use Rattle.bridge_parts.specs.Refused.{note_of_recover, note_of_sent}

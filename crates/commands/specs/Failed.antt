@@ -5,8 +5,8 @@ use Rattle.conn_serve.specs.Endings.{CountsFaults}
 use Rattle.edge_io.specs.Net.{NetState}
 use Rattle.edge_disk.specs.Disk.{Moment}
 use Rattle.edge_disk.specs.Calls.{Calls}
-use Rattle.bridge_words.specs.declared.note.Note.{Note}
-use Rattle.bridge_words.specs.declared.note.Note.TheVariants.{NotSpool, Worn, NoMemory, WriteFault, DiskFault, NetFault}
+use Rattle.notes.specs.declared.note.Note.{Note}
+use Rattle.notes.specs.declared.note.Note.TheVariants.{NotSpool, Worn, NoMemory, WriteFault, DiskFault, NetFault}
 
 -- A call of the disk failed exactly where the note says so. There is one exception: the collector replies that the disk
 -- failed, and where that reply was cut short, the note says that a write failed.

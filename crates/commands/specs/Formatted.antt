@@ -6,8 +6,8 @@ use Rattle.edge_disk.specs.Calls.{Calls}
 use Rattle.edge_disk.specs.Disk.{Moment, LeavesOnly}
 use Rattle.spool_log.specs.Making.Format.{IsFormatStep}
 use Rattle.conn_serve.specs.Endings.{CountsFaults}
-use Rattle.bridge_words.specs.declared.note.Note.{Note}
-use Rattle.bridge_words.specs.declared.note.Note.TheVariants.{Fine, WrongLength, NoMemory, WriteFault, DiskFault}
+use Rattle.notes.specs.declared.note.Note.{Note}
+use Rattle.notes.specs.declared.note.Note.TheVariants.{Fine, WrongLength, NoMemory, WriteFault, DiskFault}
 use Rattle.bridge_words.specs.Lines.{spool_line}
 use Rattle.bridge_parts.specs.Run.{DiskRun, OutputRun, IsSilent}
 use Rattle.bridge_parts.specs.Written.{IsPrinted}

@@ -11,8 +11,8 @@ use Rattle.spool_state.specs.SpoolState.{SpoolState}
 use Rattle.spool_state.specs.Left.{NumberedEntry, left, left_from}
 use Rattle.spool_state.specs.Image.{StandsFor}
 use Rattle.spool_state.specs.Rules.{Breaks}
-use Rattle.bridge_words.specs.declared.note.Note.{Note}
-use Rattle.bridge_words.specs.declared.note.Note.TheVariants.{Fine, NotSpool, RunsSpent, Worn, NoMemory, WriteFault, DiskFault}
+use Rattle.notes.specs.declared.note.Note.{Note}
+use Rattle.notes.specs.declared.note.Note.TheVariants.{Fine, NotSpool, RunsSpent, Worn, NoMemory, WriteFault, DiskFault}
 use Rattle.bridge_words.specs.declared.command.ListForm.{ListForm}
 use Rattle.bridge_words.specs.declared.command.ListForm.TheVariants.{Plain, Text, JsonObject, HecObject}
 use Rattle.bridge_words.specs.Lines.{entry_line}

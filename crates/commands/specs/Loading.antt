@@ -7,9 +7,9 @@ use Rattle.load_run.specs.declared.loaded.LoadFault.{LoadFault}
 use Rattle.load_run.specs.declared.loaded.LoadFault.TheVariants as Load
 use Rattle.load_run.specs.Load.{IsLoaded}
 use Rattle.load_run.specs.Line.{load_line}
-use Rattle.ending_laws.specs.Loads.{AllConfirmed}
-use Rattle.bridge_words.specs.declared.note.Note.{Note}
-use Rattle.bridge_words.specs.Notes.{note_of_talk}
+use Rattle.load_laws.specs.Loads.{AllConfirmed}
+use Rattle.notes.specs.declared.note.Note.{Note}
+use Rattle.notes.specs.Notes.{note_of_talk}
 use Rattle.bridge_parts.specs.Refused.{note_of_sent}
 use Rattle.bridge_parts.specs.Run.{OutputRun, IsSilent}
 use Rattle.bridge_parts.specs.Written.{IsPrinted}

@@ -1,7 +1,7 @@
 -- Which notes refuse the words or the device.
 use Rattle.std.specs.Prelude.{ℕ}
-use Rattle.bridge_words.specs.declared.note.Note.{Note}
-use Rattle.bridge_words.specs.declared.note.Note.TheVariants.{Usage, WrongLength, RunsSpent, Worn}
+use Rattle.notes.specs.declared.note.Note.{Note}
+use Rattle.notes.specs.declared.note.Note.TheVariants.{Usage, WrongLength, RunsSpent, Worn}
 
 -- the words or the device were refused, before the input or the output was met
 abbrev pub IsRefusedFirst : Note → Type 0

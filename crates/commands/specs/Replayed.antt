@@ -16,9 +16,9 @@ use Rattle.conn_serve.specs.declared.rules.Rules.{Rules}
 use Rattle.conn_serve.specs.Endings.{CountsFaults}
 use Rattle.conn_serve.specs.Serves.{CarriedBy, Serves}
 use Rattle.conn_serve.specs.Tokens.{tokens_of}
-use Rattle.bridge_words.specs.declared.note.Note.{Note}
-use Rattle.bridge_words.specs.declared.note.Note.TheVariants.{ReadFault, WriteFault}
-use Rattle.bridge_words.specs.Notes.{note_of_talk}
+use Rattle.notes.specs.declared.note.Note.{Note}
+use Rattle.notes.specs.declared.note.Note.TheVariants.{ReadFault, WriteFault}
+use Rattle.notes.specs.Notes.{note_of_talk}
 use Rattle.bridge_parts.specs.Opened.{desk_in, IsUnopened}
 use Rattle.bridge_parts.specs.Reached.{Reaches}
 use Rattle.bridge_parts.specs.Run.{DiskRun, InputRun, LinkRun, OutputRun, both_run, IsSilent, IsUngiven}

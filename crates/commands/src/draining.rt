@@ -3,7 +3,7 @@ ghost use Rattle.std.specs.Prelude.{◌≡◌, ◌≢◌, ◌≤◌, ◌<◌, �
 ghost use Rattle.edge_disk.specs.Calls.{Calls};
 ghost use Rattle.spool_log.specs.Memory.{cursor_of, end_of};
 ghost use Rattle.conn_serve.specs.Endings.{CountsFaults};
-ghost use Rattle.bridge_words.specs.declared.note.Note.TheVariants.{Usage, WrongLength, ReadFault};
+ghost use Rattle.notes.specs.declared.note.Note.TheVariants.{Usage, WrongLength, ReadFault};
 ghost use Rattle.bridge_parts.specs.Run.{disk_run, input_run, link_run, output_run};
 ghost use Rattle.commands.specs.Drained.{IsDrained};
 ghost use Rattle.commands.specs.Failed.{CountsWrites};
@@ -13,10 +13,10 @@ ghost use Rattle.commands.specs.SpoolRun.{spool_run};
 use crate::finished::Finished;
 use crate::sending::{Sending, is_idle, send};
 use bridge_parts::{recover_note, sent_note};
-use bridge_words::Note;
 use edge_disk::Disk;
 use edge_io::{Both, Link, Net, Pause, Sink, Source};
 use forward_core::Outward;
+use notes::Note;
 use spool_log::{Opening, Refusal, Spool};
 use std::alloc::Global;
 

@@ -1,7 +1,7 @@
 //! How a command ended that binds no door.
 ghost use Rattle.std.specs.Prelude.{◌≡◌};
 
-use bridge_words::Note;
+use notes::Note;
 
 /// How a command ended that binds no door.
 #[derive(Drop)]

@@ -1,16 +1,17 @@
 //! The command `format`: a device is made an empty spool.
 ghost use Rattle.std.specs.Prelude.{◌≡◌, ◌≢◌};
 ghost use Rattle.conn_serve.specs.Endings.{CountsFaults};
-ghost use Rattle.bridge_words.specs.declared.note.Note.TheVariants.{WriteFault, DiskFault};
+ghost use Rattle.notes.specs.declared.note.Note.TheVariants.{WriteFault, DiskFault};
 ghost use Rattle.bridge_words.specs.Lines.{spool_line};
 ghost use Rattle.bridge_words.specs.Words.{IsSize};
 ghost use Rattle.bridge_parts.specs.Run.{disk_run, output_run};
 ghost use Rattle.bridge_parts.specs.Written.{IsPrinted};
 ghost use Rattle.commands.specs.Formatted.{IsFormatted};
 
-use bridge_words::{Note, spool_line};
+use bridge_words::spool_line;
 use edge_disk::Disk;
 use edge_io::{Sink, write_whole};
+use notes::Note;
 use spool_log::FormatFault;
 use std::alloc::Global;
 

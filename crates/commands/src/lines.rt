@@ -5,14 +5,15 @@ ghost use Rattle.foundation.specs.Faults.{HasCause};
 ghost use Rattle.spool_log.specs.Outcome.{given_entries, AreNumbered};
 ghost use Rattle.conn_serve.specs.Endings.{CountsFaults};
 ghost use Rattle.event_form.specs.Entry.{IsEntry};
-ghost use Rattle.bridge_words.specs.declared.note.Note.TheVariants.{WriteFault, DiskFault};
+ghost use Rattle.notes.specs.declared.note.Note.TheVariants.{WriteFault, DiskFault};
 ghost use Rattle.bridge_parts.specs.Written.{IsCut};
 ghost use Rattle.commands.specs.Listed.{IsLine, ArePrinted, IsPrintNote};
 
-use bridge_words::{ListForm, Note, entry_line};
+use bridge_words::{ListForm, entry_line};
 use edge_io::{Sink, Stopped, write_whole};
 use event_form::{Blob, Entry};
 use event_map::{as_hec_object, as_json_object, as_text};
+use notes::Note;
 use spool_log::Numbered;
 use std::alloc::{AllocError, Global};
 

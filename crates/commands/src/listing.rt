@@ -7,16 +7,17 @@ ghost use Rattle.edge_disk.specs.Disk.{LeavesOnly};
 ghost use Rattle.spool_log.specs.Memory.{end_of};
 ghost use Rattle.spool_log.specs.State.{view, IsIn};
 ghost use Rattle.conn_serve.specs.Endings.{CountsFaults};
-ghost use Rattle.bridge_words.specs.declared.note.Note.TheVariants.{Fine};
+ghost use Rattle.notes.specs.declared.note.Note.TheVariants.{Fine};
 ghost use Rattle.bridge_parts.specs.Run.{disk_run, output_run};
 ghost use Rattle.commands.specs.Listed.{ArePrinted, PrintsPart, IsPrintNote, IsListed};
 
 use crate::finished::Finished;
 use crate::lines::print_entries;
 use bridge_parts::{pend_note, recover_note};
-use bridge_words::{ListForm, Note};
+use bridge_words::ListForm;
 use edge_disk::Disk;
 use edge_io::Sink;
+use notes::Note;
 use spool_log::{Opening, Refusal, Spool};
 use std::alloc::Global;
 

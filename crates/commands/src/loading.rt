@@ -2,15 +2,15 @@
 ghost use Rattle.std.specs.Prelude.{◌≡◌, ◌≤◌, ◌⊎◌};
 ghost use Rattle.conn_serve.specs.Endings.{CountsFaults};
 ghost use Rattle.load_run.specs.Line.{load_line};
-ghost use Rattle.bridge_words.specs.declared.note.Note.TheVariants.{WriteFault};
+ghost use Rattle.notes.specs.declared.note.Note.TheVariants.{WriteFault};
 ghost use Rattle.bridge_parts.specs.Run.{output_run};
 ghost use Rattle.bridge_parts.specs.Written.{IsPrinted};
 ghost use Rattle.commands.specs.Loading.{note_of_load, LoadIsTold};
 
 use bridge_parts::sent_note;
-use bridge_words::Note;
 use edge_io::{Proto, Sink, write_whole};
 use load_run::{LoadFault, Loaded, load_line};
+use notes::Note;
 use std::alloc::Global;
 
 // The note for a load that came to no numbers: that of its replay or of its drain, or want of memory.

@@ -2,7 +2,7 @@
 ghost use Rattle.std.specs.Prelude.{◌≡◌, ◌≢◌, ◌⊎◌, ◌<◌, ℕ, false};
 ghost use Rattle.edge_disk.specs.Calls.{Calls};
 ghost use Rattle.conn_serve.specs.Endings.{CountsFaults};
-ghost use Rattle.bridge_words.specs.declared.note.Note.TheVariants.{Usage, WrongLength, WriteFault};
+ghost use Rattle.notes.specs.declared.note.Note.TheVariants.{Usage, WrongLength, WriteFault};
 ghost use Rattle.bridge_words.specs.Lines.{drain_line};
 ghost use Rattle.bridge_parts.specs.Counted.{RoseBy, WroteAfter, WritesOfBoth};
 ghost use Rattle.bridge_parts.specs.Refused.{note_of_sent};
@@ -16,10 +16,11 @@ ghost use Rattle.commands.specs.SpoolRun.{spool_run};
 use crate::finished::Finished;
 use crate::sending::{Sending, is_idle, send};
 use bridge_parts::{first_of, net_note, pending_count, recover_note, sent_note};
-use bridge_words::{Note, drain_line};
+use bridge_words::drain_line;
 use edge_disk::Disk;
 use edge_io::{Net, Sink, write_whole};
 use forward_core::{Outward, Sent};
+use notes::Note;
 use spool_log::{Opening, Refusal, Spool};
 use std::alloc::Global;
 

@@ -3,7 +3,7 @@ ghost use Rattle.std.specs.Prelude.{◌≡◌, ℕ, ◌*◌, ◌^◌, false};
 ghost use Rattle.edge_io.specs.declared.proto.Proto.{Proto};
 ghost use Rattle.spool_log.specs.Memory.{run_of};
 ghost use Rattle.conn_serve.specs.Endings.{CountsFaults};
-ghost use Rattle.bridge_words.specs.declared.note.Note.TheVariants.{ReadFault, WriteFault};
+ghost use Rattle.notes.specs.declared.note.Note.TheVariants.{ReadFault, WriteFault};
 ghost use Rattle.bridge_parts.specs.Run.{disk_run, input_run, link_run, output_run};
 ghost use Rattle.commands.specs.Failed.{TellsDiskFault};
 ghost use Rattle.commands.specs.Replayed.{ServesLink, IsReplayed, KeepsFrom};
@@ -11,12 +11,12 @@ ghost use Rattle.commands.specs.SpoolRun.{spool_run};
 
 use crate::finished::Finished;
 use bridge_parts::recover_note;
-use bridge_words::Note;
 use conn_serve::{Rules, attend};
 use desk_access::{Alone, Desk};
 use edge_disk::Disk;
 use edge_io::{Both, Link, Sink, Source};
 use hec_ids::Ids;
+use notes::Note;
 use spool_log::{Opening, Refusal, Spool};
 use std::alloc::Global;
 

@@ -2,7 +2,7 @@
 use edge_io::Proto;
 
 /// By which rules a connection is served.
-#[derive(Clone, Copy, Debug, PartialEq, Eq)]
+#[derive(Clone, Copy, PartialEq, Eq)]
 pub struct Rules {
     /// The protocol that its sender speaks.
     pub proto: Proto,

@@ -1,4 +1,5 @@
 //! All that holds of whole connections.
+use crate::ends::end_text;
 use crate::faults::a_failed_call_of_the_disk_ends_the_connection;
 use crate::fields::{bytes_of, check_form, numbers_of};
 use crate::harness::{check_bytes, repeated, serve};
@@ -20,7 +21,8 @@ fn check(rt: &impl Abort, alloc: Global, proto: Proto, row: &str, step: usize) {
     assert!(rt; step > 0, "no step");
     let left = serve(rt, alloc, proto, row, &[], 1, step).expect(rt, "not opened");
     let Attended { talk, taken } = left.attended;
-    let ended = format!(in alloc; "{talk:?}, {taken} taken").expect(rt, "memory");
+    let end = end_text(rt, alloc, talk);
+    let ended = format!(in alloc; "{end}, {taken} taken").expect(rt, "memory");
     check_bytes(rt, alloc, row, "ends", ended.as_bytes());
     check_bytes(rt, alloc, row, "out", &left.written);
     check_bytes(rt, alloc, row, "entries", &left.entries);
@@ -61,10 +63,7 @@ fn a_thousand_requests_are_answered(rt: &impl Abort, alloc: Global) {
     check_form(rt, row, WORDS, 1);
     let left = serve(rt, alloc, Proto::Hec, row, &[], 1000, 1000).expect(rt, "not opened");
     let Attended { talk, taken } = left.attended;
-    assert!(rt;
-        talk == Talk::Ended && taken == 1000,
-        "{talk:?}, {taken} taken"
-    );
+    assert!(rt; talk == Talk::Ended && taken == 1000, "{taken} taken");
     let written = repeated(rt, alloc, &bytes_of(rt, alloc, row, "out"), 1000);
     assert!(rt; left.written == written && left.count == 1000);
 }

@@ -90,7 +90,7 @@ fn takes_before(
     let (takes, field, next) = takes_of(rt, &numbers_of(rt, alloc, row, "taken"), taken);
     check_bytes(rt, alloc, row, field, &left.written);
     if talk != Talk::DiskFault {
-        assert!(rt; talk == Talk::Ended && takes == 2, "call {call}: {talk:?}");
+        assert!(rt; talk == Talk::Ended && takes == 2, "call {call}");
         return None;
     }
     assert!(rt;

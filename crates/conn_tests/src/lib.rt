@@ -6,6 +6,8 @@
 #[cfg(test)]
 mod connections;
 #[cfg(test)]
+mod ends;
+#[cfg(test)]
 mod faults;
 #[cfg(test)]
 mod fields;

@@ -1,7 +1,7 @@
 //! The numbers of a spool.
 
 /// What a spool has, in numbers: those that a call met, or that stood after it.
-#[derive(Clone, Copy, Debug, PartialEq, Eq)]
+#[derive(Clone, Copy, PartialEq, Eq)]
 pub struct Standing {
     /// The number of the first entry.
     pub base: u64,

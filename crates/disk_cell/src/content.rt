@@ -4,7 +4,7 @@ ghost use Rattle.std.specs.Prelude.{◌≤◌, length, vec_capacity};
 use known_numbers::Stretch;
 
 /// What a register holds.
-#[derive(Debug, Drop)]
+#[derive(Drop)]
 pub struct Content {
     /// The version of the layout in which it stands on the disk: 1 or 2.
     pub version: u8,

@@ -3,7 +3,7 @@ use edge_disk::DiskFault;
 use std::alloc::AllocError;
 
 /// Why no register was read.
-#[derive(Clone, Copy, Debug, PartialEq, Eq)]
+#[derive(Clone, Copy, PartialEq, Eq)]
 pub enum LoadFault {
     /// The cells break a rule of their layout. `at` is the offset on the device, in bytes, of the cell at
     /// fault: that of the first cell where none counts, else that of the cell that counts.
@@ -15,7 +15,7 @@ pub enum LoadFault {
 }
 
 /// Why a register was not written.
-#[derive(Clone, Copy, Debug, PartialEq, Eq)]
+#[derive(Clone, Copy, PartialEq, Eq)]
 pub enum SetFault {
     /// The register was written as often as it can be. `ordinal` is its ordinal, 2^63.
     Worn { ordinal: u64 },

@@ -17,7 +17,7 @@ use known_numbers::{MOST_STRETCHES, Stretch};
 use std::alloc::Global;
 
 /// What is known of a register on a disk. It is read by `load`, and changed by `set` alone.
-#[derive(Drop, Debug)]
+#[derive(Drop)]
 pub struct Register {
     /// The cell that counts.
     pub counting: Cell,

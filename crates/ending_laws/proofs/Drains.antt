@@ -28,7 +28,8 @@ use Rattle.forward_core.proofs.SendsLaw.{sends_left}
 use Rattle.ending_laws.specs.Draining.{LeavesNothing, PeerAcknowledges, pending}
 use Rattle.bridge_parts.specs.Opened.{desk_in}
 use Rattle.bridge_parts.specs.Reached.{Reaches}
-use Rattle.ending_laws.proofs.Ordinals.{desk_rules, not_by_desk, pending_count}
+use Rattle.bridge_parts.proofs.Desks.{desk_rules}
+use Rattle.ending_laws.proofs.Ordinals.{not_by_desk, pending_count}
 use Rattle.ending_laws.proofs.Session.{MayBe, session_ending}
 
 -- the entries of a list

@@ -21,8 +21,8 @@ use Rattle.desk_access.specs.Step.{Step, frames_of, calls_of}
 use Rattle.conn_serve.specs.Front.{IsFront}
 use Rattle.conn_serve.specs.Serves.{CarriedAs}
 use Rattle.conn_serve.proofs.Failing.{disk_fault_is_told}
-use Rattle.bridge_words.specs.declared.note.Note.{Note}
-use Rattle.bridge_words.specs.Notes.{note_of_talk}
+use Rattle.notes.specs.declared.note.Note.{Note}
+use Rattle.notes.specs.Notes.{note_of_talk}
 use Rattle.ending_laws.specs.Replaying.{AreFirstMoves, Gains, events_of}
 use Rattle.bridge_parts.specs.Opened.{desk_in}
 use Rattle.bridge_parts.specs.Reached.{Reaches}

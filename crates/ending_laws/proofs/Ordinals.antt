@@ -1,13 +1,12 @@
 -- A register that can be written once for each pending entry isn't worn by a session.
 use Rattle.std.proofs.Common.{◌≡◌, inl, inr, ℕ, ◌+◌, ◌-◌, ◌<◌, ◌≤◌, Bool, true, false, cond, nat_le, List, [], ◌∷◌, ◌++◌, length, refl, sym, ◌∙◌, ap, subst, arith, length-append}
 use Rattle.std.proofs.lemmas.Bool.{leb-false}
-use Rattle.std.proofs.lemmas.List.Elements.{All-nil, All-head, All-tail}
+use Rattle.std.proofs.lemmas.List.Elements.{All-head, All-tail}
 use Rattle.std.specs.Prelude.{Option, Ok, Err}
 use Rattle.std.specs.List.{All}
 use Rattle.known_numbers.specs.declared.stretch.Stretch.{Stretch}
 use Rattle.known_numbers.specs.Numbers.{AreApart, EndBy, Numbers, count_of, marked, IsSound as IsSoundKnown}
 use Rattle.known_numbers.proofs.Marking.{marked_ends, marked_rises, marked_sound}
-use Rattle.hec_ids.proofs.CallLaws.{opened_is_sound}
 use Rattle.spool_state.specs.Layout.{most_number}
 use Rattle.spool_state.specs.SpoolState.{SpoolState, end, numbers_of, IsSound}
 use Rattle.spool_state.specs.Change.{registered}
@@ -21,7 +20,6 @@ use Rattle.spool_log.specs.Stages.{known_stages, last_of, total_of}
 use Rattle.desk_access.specs.declared.standing.Standing.{Standing}
 use Rattle.desk_access.specs.Call.{Call, Record, AreBy, calls_of, failures_of, pends, marks}
 use Rattle.desk_access.specs.Desk.{DeskState, Answers, Goes}
-use Rattle.desk_access.specs.History.{IsDesk, IsLater}
 use Rattle.desk_access.specs.Journal.{calls_by, goes_parts}
 use Rattle.desk_access.proofs.Steps.{goes_later}
 use Rattle.forward_core.specs.Calls.{AreGranted, AreOfSession, next_after}
@@ -31,18 +29,9 @@ use Rattle.forward_core.specs.Session.{EndsRefused, IsRefusedWith}
 use Rattle.forward_core.specs.declared.sent.Sent.{Sent}
 use Rattle.forward_core.specs.declared.sent.Sent.TheVariants as Ending
 use Rattle.bridge_parts.specs.Opened.{desk_in}
+use Rattle.bridge_parts.proofs.Desks.{desk_rules}
 use Rattle.bridge_parts.proofs.Failures.{granted_failures}
 use Rattle.ending_laws.proofs.Desk.{by_parts, first_answers, found_is, no_doubt, stays_sure}
-
--- the desk of a spool that was opened keeps the rules
-pub desk_rules : (s : SpoolState) → IsSound s → IsDesk (desk_in s)
-desk_rules s sound = record {
-  sound = sound;
-  later = All-nil (IsLater s);
-  told = λ m n one other same. one ∙ sym other;
-  ids = opened_is_sound s.run 0 (omega (arith, sound.run)) (omega arith);
-  run = refl;
-}
 
 -- ---- how many numbers are known
 

@@ -1,3 +1,2 @@
 pub mod Replaying
 pub mod Draining
-pub mod Loads

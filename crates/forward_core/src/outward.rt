@@ -2,7 +2,7 @@
 use edge_io::Proto;
 
 /// How a session speaks to the peer: by which protocol, and what the collector's needs beside.
-#[derive(Clone, Copy, Debug, PartialEq, Eq)]
+#[derive(Clone, Copy, PartialEq, Eq)]
 pub struct Outward {
     /// The protocol.
     pub proto: Proto,

@@ -2,7 +2,7 @@
 use event_form::Why;
 
 /// How a session ended.
-#[derive(Clone, Copy, Debug, PartialEq, Eq)]
+#[derive(Clone, Copy, PartialEq, Eq)]
 pub enum Sent {
     /// All entries were sent and are acknowledged.
     Drained,

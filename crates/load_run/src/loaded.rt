@@ -3,7 +3,7 @@ use event_form::Talk;
 use forward_core::Sent;
 
 /// What a load came to, in numbers.
-#[derive(Clone, Copy, Debug, PartialEq, Eq)]
+#[derive(Clone, Copy, PartialEq, Eq)]
 pub struct Loaded {
     /// How many entries were taken into the spool.
     pub events: u64,
@@ -18,7 +18,7 @@ pub struct Loaded {
 }
 
 /// Why a load came to no numbers.
-#[derive(Clone, Copy, Debug, PartialEq, Eq)]
+#[derive(Clone, Copy, PartialEq, Eq)]
 pub enum LoadFault {
     /// The connection by which the stream was replayed ended so.
     Replayed { talk: Talk },

@@ -1,4 +1,5 @@
 //! Whole sessions of the senders: what each writes to a peer and tells of it, whatever the peer answers.
+mod ends;
 mod entries;
 pub(crate) mod hec;
 pub(crate) mod lumber;

@@ -1,9 +1,9 @@
 //! Where a server forwards to.
-use bridge_words::Place;
 use forward_core::Outward;
+use notes::Place;
 
 /// Where a server forwards to, and how it speaks there.
-#[derive(Drop, Debug)]
+#[derive(Drop)]
 pub struct Destination {
     /// The place that is dialed for each session.
     pub place: Place,

@@ -1,4 +1,5 @@
-//! The forwarder of a server: it sends what the shared desk holds on to one place, in order, while others store there.
+//! The sending side of a server, its forwarder: it sends what the shared desk holds on to one place, in order, while others store
+//! there.
 //!
 //! [`look`] asks the desk whether an entry is pending, that is one that isn't known as confirmed. Where one is, it dials the place,
 //! holds one session over the link, and hangs it up. [`forward_beside`] looks again and again until a flag is set. `IsLook` says what

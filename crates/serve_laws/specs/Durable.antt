@@ -38,7 +38,7 @@ pub record IsLinkDurable (log : List Record) (number : ℕ) (now : Moment) (rule
   pub acked : (numbers : List ℕ) → Acknowledges rules.proto one.text numbers → AckedIsDurable one.calls now numbers
   pub answers : (served : IsServed rules one)
       → AnswersAreDurable rules.proto (tokens_of rules) one.conn one.left one.bytes one.calls one.text one.talk served now
-          (IsToldDurably log number now)
+      (IsToldDurably log number now)
 
 -- So it is of a connection that a door reports, by what was written to it.
 pub record IsTalkDurable (log : List Record) (number : ℕ) (now : Moment) (rules : Rules) (told : Talked) : Type 0 where

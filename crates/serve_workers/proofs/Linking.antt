@@ -25,7 +25,7 @@ use Rattle.conn_serve.specs.Lumber.{lumberjack}
 use Rattle.conn_serve.specs.Hec.{hec}
 use Rattle.conn_serve.specs.Tokens.{tokens_of}
 use Rattle.conn_serve.specs.Serves.{CarriedAs, CarriedBy, Serves}
-use Rattle.bridge_words.specs.Notes.{status_of, note_of_talk}
+use Rattle.notes.specs.Notes.{status_of, note_of_talk}
 use Rattle.serve_workers.specs.Served.{Served, AtDoor, Tells, TellsMore, RisesBy, by_read, by_write}
 use Rattle.serve_workers.proofs.Joining.{tells_none, rises_none, rose_none}
 

@@ -9,7 +9,7 @@ use Rattle.desk_access.specs.Call.{Call}
 use Rattle.desk_access.specs.Endings.{IsAtEndOfInput}
 use Rattle.conn_serve.specs.declared.rules.Rules.{Rules}
 use Rattle.conn_serve.specs.Serves.{CarriedBy}
-use Rattle.bridge_words.specs.Notes.{status_of, note_of_talk}
+use Rattle.notes.specs.Notes.{status_of, note_of_talk}
 
 -- A link that was served: the number of its connection, the calls made for it on the desk, the bytes read, the bytes that its input
 -- has left unread, where it says so, the text written, and the ending.

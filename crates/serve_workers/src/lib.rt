@@ -1,5 +1,5 @@
-//! The workers of a server. Each owns a door, where connections come in, and has a pass of the desk that all share: it accepts a
-//! link, serves it to its end by the rules of its place, gives it back to the door, and goes on with the next.
+//! The receiving side of a server: its workers. Each owns a door, where connections come in, and has a pass of the desk that all
+//! share: it accepts a link, serves it to its end by the rules of its place, gives it back to the door, and goes on with the next.
 //!
 //! [`hire`] gives doors and passes to workers and reserves the memory that they need. [`Hired::work`] runs them, each in a thread of
 //! its own where one can be made, and returns once all have ended. [`Hired::dismiss`] hands back their doors, their passes and what

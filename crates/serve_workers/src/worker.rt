@@ -3,17 +3,17 @@ ghost use Rattle.std.specs.Prelude.{◌≡◌, ◌^◌, ◌<◌, ◌≤◌, [], 
 ghost use Rattle.serve_workers.specs.Works.{first_conn, ServesLink, Stops, Worked};
 ghost use Rattle.serve_workers.specs.Crews.{IsReady};
 
-use bridge_words::Note;
 use conn_serve::{Rules, attend};
 use desk_access::Access;
 use edge_disk::Disk;
 use edge_io::Door;
+use notes::Note;
 use spool_turns::{Naming, Seated};
 use std::alloc::Global;
 use std::sync::Wait;
 
 /// Why a worker ended.
-#[derive(Clone, Copy, Debug, PartialEq, Eq)]
+#[derive(Clone, Copy, PartialEq, Eq)]
 pub enum WorkerEnd {
     /// Its door is shut for good, and no link waits there.
     Shut,
@@ -27,7 +27,7 @@ pub enum WorkerEnd {
 }
 
 /// What a worker reports when it has ended.
-#[derive(Clone, Copy, Debug, PartialEq, Eq)]
+#[derive(Clone, Copy, PartialEq, Eq)]
 pub struct WorkerReport {
     /// Why it ended.
     pub end: WorkerEnd,

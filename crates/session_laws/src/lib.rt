@@ -1,4 +1,5 @@
-//! What holds of a forwarder's sessions on a desk that others call too: each sent exactly what was left.
+//! What a server means for the peer that it forwards to: of a forwarder's sessions on a desk that others call too each sent exactly
+//! what was left.
 //!
 //! Between the calls of a session there are those of other callers, which take entries, read and ask, but mark and confirm nothing.
 //! The laws say of such a session what those of `forward_core` say of one on a desk with a single caller.

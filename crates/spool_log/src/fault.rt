@@ -6,10 +6,9 @@ use disk_cell::{LoadFault, SetFault};
 use edge_disk::DiskFault;
 use spool_slots::ScanFault;
 use std::alloc::AllocError;
-use thiserror::Error;
 
 /// The numbers of the entries that were taken.
-#[derive(Clone, Copy, Debug, PartialEq, Eq)]
+#[derive(Clone, Copy, PartialEq, Eq)]
 pub struct Receipt {
     /// The number of the first.
     pub first: u64,
@@ -18,76 +17,58 @@ pub struct Receipt {
 }
 
 /// Why a group of entries was not taken. After all but `DiskFault` the spool has what it had.
-#[derive(Clone, Copy, Debug, PartialEq, Eq, Error)]
+#[derive(Clone, Copy, PartialEq, Eq)]
 pub enum TakeFault {
     /// The group needs `need` bytes, and an empty slot has room for `most`, which is less.
-    #[error("the group needs {need} bytes, and a slot has room for {most}")]
     TooLarge { need: u64, most: u64 },
     /// Numbers end at 2^63, and with this group the end, which is `end`, would pass that.
-    #[error("{end} entries were numbered, and the group has too many")]
     Spent { end: u64 },
     /// The group needs `need` bytes, the active slot has room for `room`, which is less, and no slot is free.
-    #[error("the group needs {need} bytes, {room} are free")]
     Full { need: u64, room: u64 },
     /// The device read as no spool. `at` is the offset of the first byte, field, slot or group at fault.
-    #[error("the device is no spool at {at}")]
     NotSpool { at: u64 },
     /// No memory was found to read the device again.
-    #[error("no memory")]
     NoMemory,
     /// A call of the disk failed. Whether the group was stored is found out by the next call.
-    #[error("the disk failed")]
     DiskFault,
 }
 
 /// Why entries were not read, or the device not read again.
-#[derive(Clone, Copy, Debug, PartialEq, Eq, Error)]
+#[derive(Clone, Copy, PartialEq, Eq)]
 pub enum PendFault {
     /// The device read as no spool. `at` is the offset of the first byte, field, slot or group at fault.
-    #[error("the device is no spool at {at}")]
     NotSpool { at: u64 },
     /// A call of the disk failed.
-    #[error("the disk failed")]
     DiskFault,
     /// No memory was found.
-    #[error("no memory")]
     NoMemory,
 }
 
 /// Why numbers were not made known as confirmed.
-#[derive(Clone, Copy, Debug, PartialEq, Eq, Error)]
+#[derive(Clone, Copy, PartialEq, Eq)]
 pub enum ConfirmFault {
     /// The register was written as often as it can be. `ordinal` is its ordinal, 2^63.
-    #[error("the register was written {ordinal} times")]
     Worn { ordinal: u64 },
     /// The device read as no spool. `at` is the offset of the first byte, field, slot or group at fault.
-    #[error("the device is no spool at {at}")]
     NotSpool { at: u64 },
     /// A call of the disk failed. Whether the numbers are known is found out by the next call.
-    #[error("the disk failed")]
     DiskFault,
     /// No memory was found to read the device again.
-    #[error("no memory")]
     NoMemory,
 }
 
 /// Why a device was not opened.
-#[derive(Clone, Copy, Debug, PartialEq, Eq, Error)]
+#[derive(Clone, Copy, PartialEq, Eq)]
 pub enum RecoverFault {
     /// The device read as no spool. `at` is the offset of the first byte, field, slot or group at fault.
-    #[error("the device is no spool at {at}")]
     NotSpool { at: u64 },
     /// The spool was opened for storing as often as it can be: `run` is 2,097,151.
-    #[error("run {run} was the last")]
     RunsSpent { run: u32 },
     /// The register was written as often as it can be. `ordinal` is its ordinal, 2^63.
-    #[error("the register was written {ordinal} times")]
     Worn { ordinal: u64 },
     /// A call of the disk failed.
-    #[error("the disk failed")]
     DiskFault,
     /// No memory was found.
-    #[error("no memory")]
     NoMemory,
 }
 

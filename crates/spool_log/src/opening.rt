@@ -3,7 +3,7 @@ mod mend;
 pub(crate) mod recover;
 
 /// How a device is opened.
-#[derive(Clone, Copy, Debug, PartialEq, Eq)]
+#[derive(Clone, Copy, PartialEq, Eq)]
 pub enum Opening {
     /// As it is.
     Keep,

@@ -3,7 +3,7 @@ use edge_disk::DiskFault;
 use std::alloc::AllocError;
 
 /// Why a group was not added.
-#[derive(Clone, Copy, Debug, PartialEq, Eq)]
+#[derive(Clone, Copy, PartialEq, Eq)]
 pub enum SlotFault {
     /// The group needs `need` bytes and the slot has room for `room`, which is less. No call was made.
     NoRoom { need: u64, room: u64 },
@@ -23,7 +23,7 @@ impl From<DiskFault> for SlotFault {
 }
 
 /// Why a slot was not read.
-#[derive(Clone, Copy, Debug, PartialEq, Eq)]
+#[derive(Clone, Copy, PartialEq, Eq)]
 pub enum ScanFault {
     /// At this offset of the device an open gate stands, and after it no group that ends with its closing
     /// gate inside the slot and holds exactly its count of entries, at least one.

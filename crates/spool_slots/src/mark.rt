@@ -2,7 +2,7 @@
 
 /// Entry `number` begins at offset `at` of the slot, with `rest` entries of its group left. Where `rest`
 /// is 0 a gate stands there: that of the entry's group, or the closed gate after the slot's last one.
-#[derive(Clone, Copy, Debug, PartialEq, Eq)]
+#[derive(Clone, Copy, PartialEq, Eq)]
 pub struct Mark {
     /// The entry's number.
     pub number: u64,

@@ -15,7 +15,7 @@ use event_form::Entry;
 use std::alloc::Global;
 
 /// Some entries of a slot, in order.
-#[derive(Drop, Debug)]
+#[derive(Drop)]
 pub struct Part {
     /// The entries, the one of the lowest number first.
     pub entries: Vec<Entry>,

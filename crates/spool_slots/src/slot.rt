@@ -13,7 +13,7 @@ use edge_disk::{Disk, DiskFault, close_gate, write_behind};
 /// What memory knows of a slot whose gate is open. `begin` and `scan` give one, and `append_entries` keeps
 /// it true; each later call is given the same device. It is plain numbers, which may be copied: after a
 /// `shut` that failed, its caller still answers by them.
-#[derive(Clone, Copy, Debug)]
+#[derive(Clone, Copy)]
 pub struct Slot {
     /// The offset on the device at which it begins, in bytes.
     pub at: u64,

@@ -3,9 +3,10 @@ ghost use Rattle.std.specs.Prelude.{◌≡◌, ◌<◌, false, IfOk, All, vec_le
 ghost use Rattle.event_form.specs.Entry.{IsEntry};
 ghost use Rattle.spool_log.specs.Changing.Mark.{EndsBy};
 
+use crate::faults::fault_text;
 use crate::made::{entry_named, name_of};
 use crate::script::Step;
-use crate::words::{are, number, numbers, shown, word};
+use crate::words::{are, number, numbers, word};
 use edge_disk::MemDisk;
 use event_form::Entry;
 use known_numbers::Stretch;
@@ -71,7 +72,7 @@ fn say_take(rt: &impl Abort, alloc: Global, spool: &mut Spool<MemDisk>, spelled:
         Ok(receipt) => {
             format!(in alloc; "taken {} {}", receipt.first, receipt.count).expect(rt, "memory")
         }
-        Err(fault) => shown(rt, alloc, &fault),
+        Err(fault) => fault_text(rt, alloc, &fault),
     }
 }
 
@@ -115,7 +116,7 @@ fn confirm(rt: &impl Abort, spool: &mut Spool<MemDisk>, upto: &str) -> Result<()
 fn say_known(rt: &impl Abort, alloc: Global, answer: Result<(), ConfirmFault>) -> String {
     match answer {
         Ok(()) => String::from_str(alloc, "done").expect(rt, "memory"),
-        Err(fault) => shown(rt, alloc, &fault),
+        Err(fault) => fault_text(rt, alloc, &fault),
     }
 }
 
@@ -152,7 +153,7 @@ pub(crate) fn pending_of(
     most: u32,
 ) -> Vec<Numbered> {
     let from = from.min(spool.end());
-    spool.pending(from, most).expect(rt, "entries")
+    spool.pending(from, most).ok().expect(rt, "entries")
 }
 
 /// What is pending from a number on, at most so many: the number of each entry, its kind and the length of

@@ -11,6 +11,8 @@ mod desk;
 #[cfg(test)]
 mod devices;
 #[cfg(test)]
+mod faults;
+#[cfg(test)]
 mod free_slot;
 #[cfg(test)]
 mod groups;

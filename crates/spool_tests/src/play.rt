@@ -1,9 +1,10 @@
 //! What a script works on: the bytes of a device, and the spool that is open over them.
 use crate::calls::{opened, opening_of, recovered, say_pending, with_stretches};
+use crate::faults::fault_text;
 use crate::script::Step;
 use crate::slots::benches::Bench;
 use crate::slots::registers::put_cell;
-use crate::words::{bytes_of, copied, is_told, number, numbers, shown, word};
+use crate::words::{bytes_of, copied, is_told, number, numbers, word};
 use edge_disk::{Crash, MemDisk};
 use spool_log::{FormatFault, Opening, Spool, format};
 use std::alloc::Global;
@@ -64,7 +65,9 @@ pub(crate) fn formatted(
 pub(crate) fn plain(rt: &impl Abort, alloc: Global, slots: u64, size: u64) -> MemDisk {
     assert!(rt; slots <= 9 && size <= 1_000_000);
     let mut disk = MemDisk::plain(alloc, 12_288 + slots * size).expect(rt, "memory");
-    formatted(rt, &mut disk, slots, size).expect(rt, "a new device");
+    formatted(rt, &mut disk, slots, size)
+        .ok()
+        .expect(rt, "a new device");
     disk
 }
 
@@ -114,7 +117,7 @@ fn opens(rt: &impl Abort, alloc: Global, play: &mut Play, step: Step<'_>) -> boo
     match recovered(alloc, disk, opening_of(rt, name)) {
         Ok(spool) => runs(rt, play, spool, step.want),
         Err(refusal) => {
-            shown(rt, alloc, &refusal.fault).as_str() == step.want
+            fault_text(rt, alloc, &refusal.fault).as_str() == step.want
                 && refusal.disk.bytes() == play.device.as_slice()
         }
     }

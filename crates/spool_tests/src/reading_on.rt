@@ -34,7 +34,7 @@ fn counted(rt: &impl Abort, alloc: Global, size: u64) -> Spool<CountingDisk<MemD
 // Stores an event of 100 bytes, in a group of its own.
 fn store(rt: &impl Abort, alloc: Global, spool: &mut Spool<CountingDisk<MemDisk>>) {
     let group = [event_of(rt, alloc, 7, 1, 100)];
-    spool.take(&group).expect(rt, "take");
+    spool.take(&group).ok().expect(rt, "take");
 }
 
 // How many of at most so many entries are given from a number on.
@@ -45,12 +45,12 @@ fn given(
     most: u32,
 ) -> usize {
     let from = number.min(spool.end());
-    spool.pending(from, most).expect(rt, "pending").len()
+    spool.pending(from, most).ok().expect(rt, "pending").len()
 }
 
 fn confirm(rt: &impl Abort, spool: &mut Spool<CountingDisk<MemDisk>>) {
     let end = spool.end();
-    spool.confirm(end).expect(rt, "confirm");
+    spool.confirm(end).ok().expect(rt, "confirm");
 }
 
 // Forwards one event more as a server does: it looks in vain, and once the event is stored it looks and reads for

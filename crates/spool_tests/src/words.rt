@@ -1,6 +1,6 @@
 //! Words, numbers and bytes, as the scripts spell them.
+use crate::faults::{Spelled, fault_text};
 use std::alloc::Global;
-use std::fmt::Debug;
 use std::process::Abort;
 
 /// The first word of a text, and what follows the space after it.
@@ -36,21 +36,16 @@ pub(crate) fn are(words: &str, numbers: &[u64]) -> bool {
     left.next().is_none()
 }
 
-/// What `{:?}` makes of a value.
-pub(crate) fn shown(rt: &impl Abort, alloc: Global, value: &impl Debug) -> String {
-    format!(in alloc; "{value:?}").expect(rt, "memory")
-}
-
 /// Whether an answer is told so: `done` or the fault.
 pub(crate) fn is_told(
     rt: &impl Abort,
     alloc: Global,
-    answer: &Result<(), impl Debug>,
+    answer: &Result<(), impl Spelled>,
     want: &str,
 ) -> bool {
     match answer {
         Ok(()) => want == "done",
-        Err(fault) => shown(rt, alloc, fault).as_str() == want,
+        Err(fault) => fault_text(rt, alloc, fault).as_str() == want,
     }
 }
 

@@ -1,7 +1,7 @@
 //! Calls of the table of ids, as rows have them.
 use crate::hec::id_rows::TABLES;
 use crate::spelling::shown;
-use hec_ids::Ids;
+use hec_ids::{Ids, IssueFault};
 use std::alloc::Global;
 use std::process::Abort;
 
@@ -20,6 +20,17 @@ fn channel_of(rt: &impl Abort, name: &str) -> u128 {
     } else {
         name.parse::<u128>().expect(rt, "a channel")
     }
+}
+
+// What `issue` answers, as text.
+fn issued(rt: &impl Abort, alloc: Global, answer: Result<u64, IssueFault>) -> String {
+    let text = match answer {
+        Ok(id) => format!(in alloc; "Ok({id})"),
+        Err(IssueFault::NoMore { run }) => format!(in alloc; "Err(NoMore {{ run: {run} }})"),
+        Err(IssueFault::Busy { held }) => format!(in alloc; "Err(Busy {{ held: {held} }})"),
+        Err(IssueFault::NoMemory) => String::from_str(alloc, "Err(NoMemory)"),
+    };
+    text.expect(rt, "memory")
 }
 
 // What `ask` tells of one id.
@@ -56,7 +67,7 @@ fn answer(
     number: u64,
 ) -> String {
     match name {
-        "issue" => shown(rt, alloc, &ids.issue(channel)),
+        "issue" => issued(rt, alloc, ids.issue(channel)),
         "ask_at_once" => shown(rt, alloc, &asked_at_once(ids, channel)),
         "settle" => shown(rt, alloc, &ids.settle(channel, number)),
         "forget" => shown(rt, alloc, &ids.forget(channel, number)),

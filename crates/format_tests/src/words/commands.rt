@@ -1,5 +1,6 @@
 //! How commands are told.
-use bridge_words::{Command, ListForm, Need, Place, Receiver, Server};
+use bridge_words::{Command, ListForm, Need, Receiver, Server};
+use notes::Place;
 use std::alloc::Global;
 use std::process::Abort;
 

@@ -1,6 +1,7 @@
 //! Why a run ended, and the lines that are printed.
-use bridge_words::{Note, drain_line, entry_line, note_text, serve_line, spool_line};
+use bridge_words::{drain_line, entry_line, serve_line, spool_line};
 use event_form::{Blob, Entry, Event, Origin, Why};
+use notes::{Note, note_text};
 use std::alloc::{AllocError, Global};
 use std::process::Abort;
 

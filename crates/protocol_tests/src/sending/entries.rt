@@ -31,7 +31,8 @@ fn entry(rt: &impl Abort, alloc: Global, origin: Origin, text: &[u8], times: usi
     for _ in 0..times {
         bytes.extend_from_slice(text).expect(rt, "memory");
     }
-    read_entry(alloc, &bytes).expect(rt, "an entry").entry
+    let took = read_entry(alloc, &bytes).ok().expect(rt, "an entry");
+    took.entry
 }
 
 /// The entry at a place.

@@ -3,6 +3,7 @@ ghost use Rattle.std.specs.Prelude.{◌≡◌, ◌≤◌, length, All, IfOk};
 ghost use Rattle.event_form.specs.Event.{IsEvent};
 ghost use Rattle.event_form.specs.declared.turn.Turn.TheVariants.{Need};
 
+use super::ends::write_end;
 use super::entries::{Entries, next_batch};
 use event_form::{Entry, Turn};
 use std::alloc::{AllocError, Global};
@@ -96,8 +97,8 @@ impl Session {
             Turn::Confirmed { upto } => self.known(rt, None, *upto),
             Turn::Also { from, to } => self.known(rt, Some(*from), *to),
             Turn::Wait => {}
-            _ => {
-                write!(self.turns, "{turn:?}").expect(rt, "memory");
+            end => {
+                write_end(rt, &mut self.turns, end);
                 return false;
             }
         }

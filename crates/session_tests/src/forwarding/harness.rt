@@ -2,6 +2,7 @@
 ghost use Rattle.std.specs.Prelude.{◌≡◌, ◌<◌, ◌≤◌, ◌^◌};
 ghost use Rattle.event_form.specs.Entry.{IsEntry};
 
+use crate::forwarding::ends::end_text;
 use crate::forwarding::fields::{number, numbers, said};
 use desk_access::{Access, Alone, Desk};
 use edge_disk::MemDisk;
@@ -159,7 +160,7 @@ pub(crate) fn session(
     let polls = number(said(row, "polls", ""));
     let (sent, pauses) = sent(alloc, proto, polls, &mut access, &mut source, &mut sink);
     Some(Left {
-        ends: format!(in alloc; "{sent:?}").expect(rt, "memory"),
+        ends: end_text(rt, alloc, sent),
         written: sink.taken().to_vec(alloc).expect(rt, "memory"),
         numbers: waiting(rt, alloc, &mut access),
         pauses,

@@ -61,6 +61,6 @@ pub(crate) fn check_apart(rt: &impl Abort, alloc: Global) {
         confirmed: standing.cursor,
         left: standing.end.wrapping_sub(standing.cursor),
     };
-    let wanted = load(alloc, Proto::Relp, 1, 2).expect(rt, "a load");
-    assert_eq!(rt; found, wanted);
+    let wanted = load(alloc, Proto::Relp, 1, 2).ok().expect(rt, "a load");
+    assert!(rt; found == wanted);
 }

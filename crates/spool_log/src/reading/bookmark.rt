@@ -6,7 +6,7 @@ use spool_slots::Mark;
 /// Two marks in the open slot with an ordinal: where the last reading of its entries began, and where it
 /// ended. From the one the entries are read again, from the other those after them, and none of the slot's
 /// heads is passed over before. Where there is no such slot any more it says nothing.
-#[derive(Clone, Copy, Debug, PartialEq, Eq)]
+#[derive(Clone, Copy, PartialEq, Eq)]
 pub struct Bookmark {
     /// The ordinal of the slot.
     pub ordinal: u64,

@@ -62,7 +62,7 @@ fn finds(
     want: &str,
 ) -> bool {
     let from = from.min(alone.end());
-    let given = alone.pending(from, 10).expect(rt, "entries");
+    let given = alone.pending(from, 10).ok().expect(rt, "entries");
     let mut numbers = Vec::new(alloc);
     for one in &given {
         numbers.push(one.number).expect(rt, "memory");
@@ -98,7 +98,7 @@ fn id_says(rt: &impl Abort, alone: &mut Alone<MemDisk>, step: Step<'_>) -> bool 
         _ => panic!(rt; "no such channel"),
     };
     if step.name == "issue" {
-        let id = alone.issue(channel).expect(rt, "an id");
+        let id = alone.issue(channel).ok().expect(rt, "an id");
         return are(step.want, &[id]);
     }
     let told = tells(rt, alone, step.name, channel, number(rt, id));
@@ -119,7 +119,7 @@ fn takes(
     } else {
         alone.take(&[one])
     };
-    let receipt = answer.expect(rt, "a receipt");
+    let receipt = answer.ok().expect(rt, "a receipt");
     [receipt.first, receipt.count]
 }
 

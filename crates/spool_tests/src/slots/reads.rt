@@ -1,8 +1,9 @@
 //! What is read of a slot, and how often the disk is read for it.
+use crate::faults::fault_text;
 use crate::script::Step;
 use crate::slots::benches::{Bench, fits};
 use crate::slots::counting_disk::CountingDisk;
-use crate::words::{are, copied, number, shown, word};
+use crate::words::{are, copied, number, word};
 use edge_disk::MemDisk;
 use spool_slots::{Mark, ScanFault, Slot, Window};
 use std::alloc::Global;
@@ -40,7 +41,7 @@ fn is_found(
     match found {
         Ok(Some(slot)) => is_slot(&slot, want),
         Ok(None) => want == "closed",
-        Err(fault) => shown(rt, alloc, &fault).as_str() == want,
+        Err(fault) => fault_text(rt, alloc, &fault).as_str() == want,
     }
 }
 
@@ -81,7 +82,7 @@ fn read_units(
 ) -> Mark {
     assert!(rt; fits(slot, &disk.disk));
     let part = slot.read_part(alloc, disk, window, mark, most);
-    let part = part.expect(rt, "part");
+    let part = part.ok().expect(rt, "part");
     for entry in &part.entries {
         units.push(entry.unit).expect(rt, "memory");
     }
@@ -99,7 +100,9 @@ fn passed(
     let start = slot.start();
     assert!(rt; fits(slot, &disk.disk));
     assert!(rt; number >= start.number && number <= slot.first + slot.count);
-    slot.pass(disk, window, start, number).expect(rt, "pass")
+    slot.pass(disk, window, start, number)
+        .ok()
+        .expect(rt, "pass")
 }
 
 // The units of all entries from a number on, read in parts of so many, at most 1000.
@@ -137,7 +140,7 @@ pub(crate) fn costs(rt: &impl Abort, alloc: Global, bench: &Bench, step: Step<'_
 fn told_from(rt: &impl Abort, alloc: Global, bench: &Bench, number: u64, most: u64) -> String {
     let mut disk = counting(rt, alloc, bench.disk.bytes());
     let units = units_from(rt, alloc, &mut disk, &bench.slot, number, most);
-    shown(rt, alloc, &units)
+    format!(in alloc; "{units:?}").expect(rt, "memory")
 }
 
 /// `NUMBER LEAST MOST`: whether the units of the entries from a number on are these in parts of each of these sizes.

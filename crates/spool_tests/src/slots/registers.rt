@@ -3,9 +3,10 @@ ghost use Rattle.std.specs.Prelude.{◌≡◌, ◌≤◌, length};
 ghost use Rattle.edge_disk.specs.Disk.{IsSettled};
 ghost use Rattle.edge_disk.specs.MemDisk.{mem_moment};
 
+use crate::faults::fault_text;
 use crate::play::put;
 use crate::stops::{CRASHES, Change, change_of};
-use crate::words::{are, copied, numbers, shown};
+use crate::words::{are, copied, numbers};
 use disk_cell::{Content, Register, SetFault, Stretch};
 use edge_disk::{Crash, MemDisk};
 use std::alloc::Global;
@@ -166,7 +167,7 @@ pub(crate) fn is_register(rt: &impl Abort, alloc: Global, disk: &mut MemDisk, wa
     assert!(rt; disk.bytes().len() >= 12_288);
     match Register::load(alloc, disk) {
         Ok(register) => is_content(register.value(), register.ordinal(), want),
-        Err(fault) => shown(rt, alloc, &fault).as_str() == want,
+        Err(fault) => fault_text(rt, alloc, &fault).as_str() == want,
     }
 }
 

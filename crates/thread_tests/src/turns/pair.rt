@@ -8,7 +8,7 @@ use crate::turns::crew::first_conn;
 use crate::turns::taking::{entry, take_next};
 use desk_access::{Access, Desk};
 use edge_disk::MemDisk;
-use spool_log::{Numbered, PendFault};
+use spool_log::{Numbered, PendFault, Receipt, TakeFault};
 use spool_turns::{Naming, Opened, Pass, Seated, Shared, Unnamed};
 use std::alloc::Global;
 use std::fmt::Debug;
@@ -24,9 +24,21 @@ fn say(rt: &impl Abort, said: &mut String, answer: &impl Debug) {
     writeln!(said, "{answer:?}").expect(rt, "memory");
 }
 
+// Adds a line with what a take answered.
+fn say_take(rt: &impl Abort, said: &mut String, answer: Result<Receipt, TakeFault>) {
+    let written = match answer {
+        Ok(Receipt { first, count }) => {
+            writeln!(said, "Ok(Receipt {{ first: {first}, count: {count} }})")
+        }
+        Err(TakeFault::DiskFault) => writeln!(said, "Err(DiskFault)"),
+        Err(_) => writeln!(said, "another fault"),
+    };
+    written.expect(rt, "memory");
+}
+
 // Adds a line for each entry: its number, its connection and its index.
 fn say_places(rt: &impl Abort, said: &mut String, given: Result<Vec<Numbered>, PendFault>) {
-    for Numbered { number, entry } in &given.expect(rt, "the entries") {
+    for Numbered { number, entry } in &given.ok().expect(rt, "the entries") {
         writeln!(said, "{number} {} {}", entry.conn, entry.index).expect(rt, "memory");
     }
 }
@@ -44,8 +56,8 @@ fn store_one<A: Access>(rt: &impl Abort, said: &mut String, access: &mut A, conn
 {
     let alloc = *said.allocator();
     let only = entry(alloc, conn, 0).expect(rt, "memory");
-    say(rt, said, &take_next(access, conn, 0, &[only]));
-    let id = access.issue(CHANNEL).expect(rt, "an id");
+    say_take(rt, said, take_next(access, conn, 0, &[only]));
+    let id = access.issue(CHANNEL).ok().expect(rt, "an id");
     say(rt, said, &id);
     say(rt, said, &asked(access, id));
     id
@@ -61,7 +73,7 @@ fn store_two<A: Access>(rt: &impl Abort, said: &mut String, access: &mut A, conn
     let alloc = *said.allocator();
     let first = entry(alloc, conn, 0).expect(rt, "memory");
     let second = entry(alloc, conn, 1).expect(rt, "memory");
-    say(rt, said, &take_next(access, conn, 0, &[first, second]));
+    say_take(rt, said, take_next(access, conn, 0, &[first, second]));
 }
 
 // The other reads all entries, confirms so many, and asks for the id.

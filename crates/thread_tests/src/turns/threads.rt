@@ -47,7 +47,7 @@ pub(crate) fn have_taken<R: Abort + Threads + Wait + Sync>(
     let mut shift = work_together(rt, alloc, desk, seats, TAKES).expect(rt, "memory");
     let spool = &mut shift.desk.spool;
     let end = spool.end();
-    let given = spool.pending(0, 10_000).expect(rt, "the entries");
+    let given = spool.pending(0, 10_000).ok().expect(rt, "the entries");
     shift.taken == u64::from(seats) * TAKES
         && end == shift.taken
         && in_order(spool.run(), &given) == Some(counts)

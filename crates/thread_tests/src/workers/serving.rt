@@ -8,7 +8,7 @@ use crate::workers::rows::{Case, DOORS, LINKS, Link, STARVED, STEP};
 use conn_serve::Rules;
 use edge_disk::MemDisk;
 use edge_io::{Door, Finished, MemDoor, MemLink, MemSink, MemSource};
-use serve_workers::{Post, WorkerReport};
+use serve_workers::{Post, WorkerEnd, WorkerReport};
 use spool_log::Numbered;
 use std::alloc::Global;
 use std::process::Abort;
@@ -115,6 +115,16 @@ fn waiting(door: &mut MemDoor) -> usize {
     many
 }
 
+// How a worker ended, as the rows spell it.
+fn end_name(end: WorkerEnd) -> &'static str {
+    match end {
+        WorkerEnd::Shut => "Shut",
+        WorkerEnd::Enough => "Enough",
+        WorkerEnd::AcceptFault => "AcceptFault",
+        WorkerEnd::NoMemory => "NoMemory",
+    }
+}
+
 // Adds a line with what came of a worker at that door, of which the links are as they are due.
 fn say_worker(
     rt: &impl Abort,
@@ -133,7 +143,8 @@ fn say_worker(
     );
     let told = talks.len();
     let left = waiting(door);
-    writeln!(said, "{:?} {} {told} {left}", report.end, report.finished).expect(rt, "memory");
+    let end = end_name(report.end);
+    writeln!(said, "{end} {} {told} {left}", report.finished).expect(rt, "memory");
 }
 
 // What workers at those doors left, a line for each; and how many entries the spool has.
@@ -145,7 +156,7 @@ fn said(
 ) -> String {
     let mut said = String::new(alloc);
     let spool = &mut served.desk.spool;
-    let entries = spool.pending(0, 1000).expect(rt, "the entries");
+    let entries = spool.pending(0, 1000).ok().expect(rt, "the entries");
     for (worker, report) in served.reports.iter().enumerate() {
         let place = *places.get(worker).expect(rt, "a place for each worker");
         let door = served

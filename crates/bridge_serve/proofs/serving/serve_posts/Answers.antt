@@ -1,7 +1,7 @@
 use Rattle.std.proofs.Common.{◌≡◌, ◌≤◌, ◌∙◌, inl, inr, length, map, refl, sym, ap, subst, arith}
 use Rattle.std.proofs.lemmas.List.{length-map}
 use Rattle.conn_serve.proofs.Faults.{counts_none}
-use Rattle.bridge_words.specs.declared.note.Note.{Note}
+use Rattle.notes.specs.declared.note.Note.{Note}
 use Rattle.bridge_parts.specs.Counted.{DiskRoseBy}
 use Rattle.bridge_serve.proofs.Ran.{known, disk_rose, read_rose, dials, writes_rose, ran_at}
 use Rattle.bridge_serve.proofs.serving.serve_posts.Goals as goal

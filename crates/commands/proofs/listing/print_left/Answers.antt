@@ -1,7 +1,7 @@
 use Rattle.std.proofs.Common.{[], ◌∙◌, refl, arith}
 use Rattle.edge_disk.proofs.Calls.{calls_none, calls_as, calls_on}
 use Rattle.edge_disk.proofs.Moments.{started}
-use Rattle.bridge_words.specs.declared.note.Note.TheVariants.{Fine}
+use Rattle.notes.specs.declared.note.Note.TheVariants.{Fine}
 use Rattle.commands.proofs.Printing.{printed_none}
 use Rattle.commands.proofs.Sure.{read_on, parts_on, parts_end}
 use Rattle.commands.proofs.listing.print_left.Goals as goal

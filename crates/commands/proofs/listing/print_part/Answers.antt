@@ -5,8 +5,8 @@ use Rattle.spool_state.specs.Left.{left_from}
 use Rattle.spool_log.specs.Outcome.{given_entries}
 use Rattle.spool_log.specs.declared.reading.numbered.Numbered.{Numbered}
 use Rattle.conn_serve.proofs.Faults.{counts_as}
-use Rattle.bridge_words.specs.declared.note.Note.{Note}
-use Rattle.bridge_words.specs.declared.note.Note.TheVariants.{Fine}
+use Rattle.notes.specs.declared.note.Note.{Note}
+use Rattle.notes.specs.declared.note.Note.TheVariants.{Fine}
 use Rattle.commands.specs.Listed.{ArePrinted}
 use Rattle.commands.proofs.Rising.{left_limits}
 use Rattle.commands.proofs.Given.{last_given}

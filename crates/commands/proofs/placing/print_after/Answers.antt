@@ -1,5 +1,5 @@
 use Rattle.std.proofs.Common.{◌≡◌, ◌∙◌, ap}
-use Rattle.bridge_words.specs.declared.note.Note.{Note}
+use Rattle.notes.specs.declared.note.Note.{Note}
 use Rattle.bridge_parts.specs.Refused.{note_of_sent}
 use Rattle.bridge_parts.specs.Written.{first_of}
 use Rattle.bridge_parts.proofs.Firsts.{wrote_after, fine_or_fault, note_of_both}

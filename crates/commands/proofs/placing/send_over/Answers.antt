@@ -1,7 +1,7 @@
 use Rattle.std.proofs.Common.{◌≡◌, ◌-◌, ◌∙◌, List, ℕ, sym, ap, subst}
 use Rattle.edge_io.specs.Net.{NetState}
 use Rattle.edge_io.specs.Counts.{Gains}
-use Rattle.bridge_words.specs.declared.note.Note.{Note}
+use Rattle.notes.specs.declared.note.Note.{Note}
 use Rattle.bridge_words.specs.Lines.{drain_line}
 use Rattle.commands.specs.Drained.{PrintsOf}
 use Rattle.bridge_parts.specs.Pending.{pending_in}

@@ -3,7 +3,7 @@ use Rattle.std.specs.Prelude.{Bool}
 use Rattle.edge_io.specs.declared.proto.Proto.TheVariants.{Hec}
 use Rattle.hec_ids.specs.Rows.{opened}
 use Rattle.spool_log.specs.State.{view, IsIn}
-use Rattle.bridge_words.specs.Notes.{note_of_talk}
+use Rattle.notes.specs.Notes.{note_of_talk}
 use Rattle.conn_serve.specs.Serves.{CarriedAs}
 use Rattle.conn_serve.specs.Tokens.{tokens_of}
 use Rattle.conn_serve.proofs.Faults.{counts_as}

@@ -2,7 +2,7 @@ use Rattle.std.proofs.Common.{◌≡◌, [], ◌∷◌, ◌∙◌, refl, sym, ap
 use Rattle.std.specs.Prelude.{Option, Some, None, IfSome, IfNone}
 use Rattle.edge_io.specs.Told.{IsFresh, IsToldAs}
 use Rattle.edge_io.specs.Door.{TakesLink, SameLinks}
-use Rattle.bridge_words.specs.Notes.{status_of}
+use Rattle.notes.specs.Notes.{status_of}
 use Rattle.serve_workers.proofs.Joining.{tells_none}
 use Rattle.serve_workers.proofs.Linking.{link_of, tells_one, link_at_door, idle_at_door}
 use Rattle.serve_workers.proofs.worker.serve_next.Goals as goal

@@ -1,9 +1,0 @@
-use Rattle.ending_laws.proofs.LoadSure.{all_confirmed, only_memory}
-use Rattle.ending_laws.proofs.LoadWell.{can_load}
-use Rattle.ending_laws.proofs.laws.load_comes_to_its_numbers.Goals as goal
-
-pub returns : goal.returns
-returns c proto number count few = (
-  all_confirmed proto number count few (can_load proto number count few),
-  only_memory proto number count few (can_load proto number count few),
-)
