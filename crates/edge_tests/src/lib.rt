@@ -4,6 +4,8 @@
 #![tactic(auto)]
 
 #[cfg(test)]
+mod accepts;
+#[cfg(test)]
 mod bytes;
 #[cfg(test)]
 mod disks;
@@ -16,6 +18,10 @@ mod nets;
 #[cfg(test)]
 mod sockets;
 #[cfg(test)]
+mod staged;
+#[cfg(test)]
 mod streams;
 #[cfg(test)]
 mod tests;
+#[cfg(test)]
+mod waits;
