@@ -22,10 +22,10 @@ from project import TOP, BadEdit
 
 KIT = os.path.dirname(os.path.dirname(os.path.realpath(shutil.which("rt") or "rt")))
 # What a check takes of memory, at most, as far as is known.
-MEMORY = 4_000_000_000
+MEMORY = 3_000_000_000
 # A message on a goal in a proof file, and what is said of a function at the end of a check.
 IN_FILE = re.compile(r"(?:\./)?proofs/(?P<path>\S+)/\w+\.antt:\d+:\d+: error: `(?P<goal>[^`]*)`: (?P<why>.*)")
-AT_PLACE = re.compile(r"note: (?P<file>src/\S+\.rt):(?P<line>\d+):\d+: [^`]*\(`(?P<goal>[^`]*)`\)")
+AT_PLACE = re.compile(r"note: (?P<file>src/\S+\.rt):(?P<line>\d+):\d+: .*?\(`(?P<goal>[^`]*)`\)")
 OF_FUNCTION = re.compile(r"fn (?P<crate>\w+)::(?P<path>\S+): (?P<said>.*)")
 # A proof file that names what an edit took away shows nothing of the contract.
 NAMES = re.compile(r"has no field|is not in scope|has no `|was not admitted")
