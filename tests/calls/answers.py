@@ -51,10 +51,17 @@ def talks_of(calls):
             opened[call.fd].came += call.data
         elif call.kind == "send":
             begun[call.fd] = number
-        elif call.kind == "sent" and call.result > 0:
+        elif call.kind == "sent" and call.result <= 0:
+            del begun[call.fd]
+        elif call.kind == "sent":
             opened[call.fd].sent.append((begun[call.fd], calls[begun[call.fd]].data[: call.result]))
+            del begun[call.fd]
         elif call.kind == "close":
             del opened[call.fd]
+    # (a send that a kill cut off may have come to the peer all the same)
+    for fd, number in begun.items():
+        if fd in opened:
+            opened[fd].sent.append((number, calls[number].data))
     for talk in talks:
         talk.place = place_of(talk.came)
     return talks

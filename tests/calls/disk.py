@@ -2,6 +2,7 @@
 import hashlib
 import http.client
 import random
+import socket
 import subprocess
 import time
 from dataclasses import dataclass
@@ -9,8 +10,9 @@ from dataclasses import dataclass
 import calling
 import serving
 from answers import acknowledged
-from platter import Platter, healing_faults, is_bad_sync, is_good_sync
+from platter import Platter, is_bad_sync, is_good_sync
 from serving import ACK_TOKEN, TOKEN, HecLink, LumberLink, RelpLink, names_in, text_of
+from spool import NotSpool, read_spool
 
 EIO, ENOSPC = 5, 28
 # For events of so many bytes: how large the slots are, so that some events fill one.
@@ -21,7 +23,8 @@ class Feed:
     """A sender by one protocol, which sends an event, or two as one window or request, until it is acknowledged."""
 
     def __init__(self, server, protocol, length):
-        self.port, self.protocol, self.length, self.links, self.next = server.ports[protocol], protocol, length, {}, 0
+        self.server, self.port, self.protocol, self.length = server, server.ports[protocol], protocol, length
+        self.links, self.next = {}, 0
 
     def link(self, word):
         makes = {"relp": lambda: RelpLink(self.port), "lumberjack": lambda: LumberLink(self.port)}
@@ -42,6 +45,8 @@ class Feed:
         self.next += count
         word = (TOKEN, ACK_TOKEN)[self.next // count % 2] if self.protocol == "hec" else ""
         for _ in range(tries):
+            if self.server.child.poll() is not None:
+                break
             try:
                 link = self.link(word)
                 if self.protocol == "relp":
@@ -59,12 +64,25 @@ class Feed:
 
 @dataclass
 class Run:
-    """A server under the library: the calls, FILE before them, whether all was acknowledged to the sender, and standard error."""
+    """A server under the library: the calls, FILE before them, whether all was acknowledged to the sender, how the server ended, and
+    standard error."""
 
     calls: list
     before: bytes
     is_stored: bool
+    status: int
     errors: str
+
+
+def is_up(server, port):
+    """Whether the server listens there; it may have ended instead."""
+    while server.child.poll() is None:
+        try:
+            socket.create_connection(("127.0.0.1", port), 5).close()
+            return True
+        except OSError:
+            time.sleep(0.005)
+    return False
 
 
 def serve(program, library, folder, protocol, length, plan=(), tries=8, stores=4):
@@ -75,28 +93,35 @@ def serve(program, library, folder, protocol, length, plan=(), tries=8, stores=4
     seen = calling.Seen(library, folder, server.spool, plan)
     server.start("--workers", "2", places=[protocol], environment=seen.environment)
     feed = Feed(server, protocol, length)
-    done = [feed.store(tries) for _ in range(stores)]
+    done = is_up(server, feed.port) and [feed.store(tries) for _ in range(stores)]
     status, errors = server.kill()
     feed.drop()
-    return Run(seen.calls(), before, all(done) and status == -9, errors)
+    return Run(seen.calls(), before, bool(done) and all(done), status, errors)
 
 
 class Lister:
-    """What `list` says of an image, which it is asked once."""
+    """What is in an image: by spool.py, and of some of them by `list` too."""
 
     def __init__(self, program, folder):
-        self.program, self.path, self.known = program, f"{folder}/image", {}
+        self.program, self.path, self.known, self.listed = program, f"{folder}/image", {}, 0
 
     def names(self, image):
-        """The names of the events in it; or None and what was said, where `list` refuses it."""
+        """The names of the events in it, in order; or None and why it is no spool."""
         key = hashlib.sha256(image).digest()
         if key not in self.known:
-            with open(self.path, "wb") as file:
-                file.write(image)
-            done = subprocess.run([self.program, self.path, "list", "--as", "relp"], capture_output=True, check=False)
-            said = done.stderr.decode().strip()
-            self.known[key] = (set(names_in(done.stdout.split(b"\n"))) if done.returncode == 0 else None, said)
+            try:
+                self.known[key] = names_in(read_spool(image)), ""
+            except NotSpool as error:
+                self.known[key] = None, str(error)
         return self.known[key]
+
+    def list(self, image):
+        """What `list` prints of it: the same names, or None and what is said."""
+        self.listed += 1
+        with open(self.path, "wb") as file:
+            file.write(image)
+        done = subprocess.run([self.program, self.path, "list", "--as", "relp"], capture_output=True, check=False)
+        return (names_in(done.stdout.split(b"\n")), "") if done.returncode == 0 else (None, done.stderr.decode().strip())
 
 
 def half(seed):
@@ -105,22 +130,33 @@ def half(seed):
     return lambda page: chance.random() < 0.5
 
 
-def cut_faults(run, lister, since=0, puts=lambda page: False):
-    """What is wrong with what power cuts leave: each event that was acknowledged before the cut is in it, and `list` reads it. The
-    cuts lie at the end of each time between two syncs after the first `since` ones, when of the pages that were written since none,
-    all or some had come to the disk. Of a sync that fails `puts` says which pages it had put there."""
-    acks, platter, faults, syncs = acknowledged(run.calls), Platter(run.before), [], 0
+def cuts(run, since, puts):
+    """Power cuts, one after another, each as the number of the next call and what is left on the disk: at the end of each time between
+    two syncs after the first `since` ones, where of the pages that were written since none or some had come to the disk. Of a sync
+    that fails `puts` says which pages it had put there."""
+    platter, syncs = Platter(run.before), 0
     for number, call in enumerate([*run.calls, calling.Call("sync", -1, 0, 1, 0, 0, b"")]):
         if is_good_sync(call) or is_bad_sync(call):
-            due = {name for at, name in acks if at < number}
-            for put in (lambda page: False, lambda page: True, half(number)) if syncs >= since else ():
-                names, said = lister.names(platter.after_cut(put))
-                if names is None:
-                    faults.append(f"a cut at call {number}: list: {said}")
-                elif not due <= names:
-                    faults.append(f"a cut at call {number}: {len(due - names)} of {len(due)} acknowledged events are missing")
+            if syncs >= since:
+                yield number, platter.after_cut()
+                yield number, platter.after_cut(half(number))
             syncs += 1
         platter.see(call, puts)
+
+
+def cut_faults(run, lister, since=0, puts=lambda page: False, most_listed=3):
+    """What is wrong with what power cuts leave: each event that was acknowledged before the cut is in it. So many of them, the last
+    one among these, are shown to `list` too, which has to read the same."""
+    acks, faults, left = acknowledged(run.calls), [], list(cuts(run, since, puts))
+    shown = set(random.Random(since).sample(range(len(left)), min(most_listed, len(left))))
+    for place, (number, image) in enumerate(left):
+        due, (names, said) = {name for at, name in acks if at < number}, lister.names(image)
+        if names is None:
+            faults.append(f"a cut at call {number}: not a spool: {said}")
+        elif not due <= set(names):
+            faults.append(f"a cut at call {number}: {len(due - set(names))} of {len(due)} acknowledged events are missing")
+        if place in shown and (listed := lister.list(image))[0] != names:
+            faults.append(f"a cut at call {number}: list reads {listed}, and {names} is due")
     return faults
 
 

@@ -193,14 +193,18 @@ def silent_senders(check, program, library, folder):
     """A sender that says nothing any more doesn't keep its worker."""
     server, seen = start(program, library, folder, shorten=1000)
     silent = RelpLink(server.ports["relp"])
-    since = time.monotonic()
-    link = RelpLink(server.ports["relp"], 10)
-    link.store(b"hello")
+    since, is_served = time.monotonic(), False
+    try:
+        link = RelpLink(server.ports["relp"], 10)
+        link.store(b"hello")
+        link.drop()
+        is_served = True
+    except OSError:
+        pass
     took = time.monotonic() - since
-    link.drop()
     status, _ = server.kill()
     silent.drop()
-    check("a silent sender: the next one is served", status == -9 and took >= 0.5, (status, took))
+    check("a silent sender: the next one is served", is_served and status == -9 and took >= 0.5, (is_served, status, took))
     calls = seen.calls()
     accepted = [(number, call.result) for number, call in enumerate(calls) if call.kind == "accept" and call.result >= 0]
     for number, fd in accepted:
