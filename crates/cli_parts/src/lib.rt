@@ -1,7 +1,8 @@
-//! What the program does around its one call: how FILE is opened, what is shown of a command's progress, the lines on standard
-//! error, and the exit status.
+//! What the program does around its one call: how FILE is opened, what is shown of a command's progress and of FILE's
+//! health, the lines on standard error, and the exit status.
 #![tactic(auto)]
 
+mod health;
 mod opening;
 mod progress;
 mod report;

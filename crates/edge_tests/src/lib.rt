@@ -14,6 +14,8 @@ mod marks;
 #[cfg(test)]
 mod nets;
 #[cfg(test)]
+mod ranges;
+#[cfg(test)]
 mod sockets;
 #[cfg(test)]
 mod streams;
