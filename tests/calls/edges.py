@@ -11,7 +11,7 @@ import time
 import calling
 import serving
 from platter import is_good_sync
-from serving import LumberLink, RelpLink, RelpReceiver, text_of
+from serving import HecLink, LumberLink, RelpLink, RelpReceiver, text_of
 
 GIB = 1 << 30
 SLOTS_AT = 12288
@@ -135,7 +135,8 @@ def accepts(check, program, library, folder):
         status, _ = server.kill()
         calls = seen.calls()
         check(f"accept, {name}: the place goes on serving", is_served and status == -9, status)
-        waits = [call.at // 1000000 for call in calls if call.kind == "sleep"]
+        steps = [call for call in calls if call.kind in ("accept", "sleep")]
+        waits = [wait.at // 1000000 for step, wait in zip(steps, steps[1:]) if step.error == error and wait.kind == "sleep"]
         check(f"accept, {name}: it waits a tenth of a second at first", waits[:1] == [100], waits[:3])
         check(f"accept, {name}: it waits a second at most, and once for each", len(waits) == count and set(waits[9:]) == {1000}, waits[:12])
         said = [call.at for call in calls if call.kind == "say" and call.data.endswith(b"\n")]
@@ -152,7 +153,7 @@ def accepts(check, program, library, folder):
 def interrupted(check, program, library, folder):
     """A call on a socket that a signal interrupted is tried again."""
     words = [calling.fails(call, at, errno.EINTR, at + 2) for call in ("recv", "send") for at in (1, 6)]
-    for place, make in ("relp", RelpLink), ("lumberjack", LumberLink):
+    for place, make in ("relp", RelpLink), ("lumberjack", LumberLink), ("hec", HecLink):
         server, seen = start(program, library, folder, words, places=(place,))
         try:
             link = make(server.ports[place], 10)
