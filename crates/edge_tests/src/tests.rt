@@ -1,5 +1,5 @@
 //! All that holds of bytes, numbers, streams, nets and disks.
-use crate::{bytes, disks, files, marks, nets, ranges, sockets, streams};
+use crate::{accepts, bytes, disks, files, marks, nets, ranges, sockets, streams, waits};
 use std::alloc::Global;
 use std::process::Abort;
 
@@ -34,4 +34,6 @@ fn edges(rt: HostRuntime) {
     nets_and_disks(&rt, alloc);
     files::files_are_disks(&rt, &rt);
     sockets::sockets_are_links(&rt, &rt);
+    waits::links_wait_for_a_while(&rt, &rt);
+    accepts::accepts_fail_and_pass(&rt, alloc, &rt);
 }
