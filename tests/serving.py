@@ -77,13 +77,14 @@ class Server:
             os.remove(self.spool)
         subprocess.run([program, self.spool, "format", str(slots), str(size)], check=True, stdout=subprocess.DEVNULL)
 
-    def start(self, *words, places=("relp", "lumberjack", "hec"), to=None):
-        """Starts it at these places, forwarding to the port `to` where there is one."""
+    def start(self, *words, places=("relp", "lumberjack", "hec"), to=None, environment=None):
+        """Starts it at these places, forwarding to the port `to` where there is one, with this environment or that of the caller."""
         said = [word for place in places for word in (f"--{place}", f"127.0.0.1:{self.ports[place]}")]
         if to is not None:
             said += ["--forward", "relp", "--to", f"127.0.0.1:{to}"]
         command = [self.program, self.spool, "serve", *said, "--token", TOKEN, "--ack-token", ACK_TOKEN, *words]
-        self.child = subprocess.Popen(command, stdin=subprocess.DEVNULL, stdout=subprocess.PIPE, stderr=subprocess.PIPE)
+        pipes = {"stdin": subprocess.DEVNULL, "stdout": subprocess.PIPE, "stderr": subprocess.PIPE}
+        self.child = subprocess.Popen(command, env=environment, **pipes)
 
     def finish(self, seconds=60):
         """Its status, what it printed, and its errors, once it ended. It is killed where it doesn't in that time."""

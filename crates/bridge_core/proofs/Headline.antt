@@ -28,8 +28,9 @@ use Rattle.notes.specs.declared.note.Note.{Note}
 use Rattle.bridge_serve.specs.Doors.{rules_of, AreAt, AreBound}
 use Rattle.bridge_serve.specs.Promised.{EachPart, TellsDurable}
 use Rattle.bridge_serve.specs.Served.{IsRun}
-use Rattle.bridge_core.specs.Replayed.{IsReplayed}
-use Rattle.bridge_core.specs.Done.{Run, IsUndone, Does}
+use Rattle.bridge_parts.specs.Run.{Run, both_run}
+use Rattle.commands.specs.Replayed.{ServesInput}
+use Rattle.bridge_core.specs.Done.{IsUndone, Does}
 use Rattle.bridge_core.specs.RunOf.{IsRunOf}
 use Rattle.bridge_core.specs.Headline.{AnswersAreKept, IsKept, InputIsKept, TalksAreKept, AcknowledgedIsKept, KeepsAcknowledged}
 
@@ -51,10 +52,9 @@ module _ (tokens : Tokens) (conn : ℕ) (left : Option (List ℕ)) (b : List ℕ
   answers_beside log number Hec carried acked answers = record { stored = answers.stored; told = λ channel id says. let t = answers.told channel id says in (t.group, t.of_id, t.durable) }
 
 -- the input, where it was served
-input_kept : (proto : Proto) (token ack_token : Option ℕ) (run : Run) (note : Note) → run.tells
-    → IsReplayed proto (record { token = token; ack_token = ack_token }) run.tells run.disk run.disk_after run.given run.given_after run.left run.left_after run.taken run.taken_after note
-    → InputIsKept (record { proto = proto; token = token; ack_token = ack_token }) run
-input_kept proto token ack_token run note told replayed =
+input_kept : (rules : Rules) (run : Run) (note : Note) → run.disk.tells → ServesInput rules run.disk (both_run run.input run.output) note
+    → InputIsKept rules run
+input_kept rules run note told replayed =
     let serves = replayed.served.serves in
     let talk = replayed.served.attended.talk in
     record {
@@ -64,11 +64,11 @@ input_kept proto token ack_token run note told replayed =
       read = serves.read;
       wrote = serves.wrote;
       kept = record {
-        left = run.left_after;
+        left = run.input.left_after;
         calls = serves.calls;
         talk = talk;
         carried = serves.carried;
-        answers = answers_alone (record { token = token; ack_token = ack_token }) replayed.conn run.left_after serves.bytes serves.calls serves.text talk run.disk_after proto serves.carried
+        answers = answers_alone (tokens_of rules) replayed.conn run.input.left_after serves.bytes serves.calls serves.text talk run.disk.new rules.proto serves.carried
             (λ numbers says. replayed.acknowledged numbers told says) (replayed.answered told);
       };
     }
@@ -149,27 +149,35 @@ ruled_bound server doors rules b =
 
 -- ---- the command
 
-server_kept : (server : Server) (run : Run) (note : Note) → run.tells
-    → IsRun server run.tells run.disk run.disk_after run.net run.net_after run.doors_after run.writes run.writes_after run.taken run.taken_after note → All (TalksAreKept server run.disk_after) run.doors_after
+server_kept : (server : Server) (run : Run) (note : Note) → run.disk.tells
+    → IsRun server run.disk.tells run.disk.old run.disk.new run.net.old run.net.new run.doors run.output.faults run.output.faults_after run.output.taken run.output.taken_after note
+    → All (TalksAreKept server run.disk.new) run.doors
 server_kept server run note told ran =
     let over = ran.ran.over in
     let promises = ran.ran.promises in
     let opened = over.opened told in
-    doors_kept server over.served.log run.disk_after over.run server.talks 0 ran.rules ran.doors run.doors_after ran.ran.reports promises.parts promises.are_parts (promises.told opened.0 opened.1)
+    doors_kept server over.served.log run.disk.new over.run server.talks 0 ran.rules ran.doors run.doors ran.ran.reports promises.parts promises.are_parts (promises.told opened.0 opened.1)
     (ruled_bound server ran.doors ran.rules ran.bound) (fresh_bound server ran.doors ran.rules ran.bound)
 
-done_kept : (command : Command) (run : Run) (note : Note) → run.tells → IsUndone run note ⊎ Does command run note → AcknowledgedIsKept command run
+none_kept : (server : Server) (run : Run) → run.doors ≡ [] → All (TalksAreKept server run.disk.new) run.doors
+none_kept server run none = All-same (TalksAreKept server run.disk.new) run.doors [] none (All-nil (TalksAreKept server run.disk.new))
+
+done_kept : (command : Command) (run : Run) (note : Note) → run.disk.tells → IsUndone run note ⊎ Does command run note → AcknowledgedIsKept command run
 done_kept (Format slots size) run note told done = tt
 done_kept (ListCommand form) run note told done = tt
 done_kept (Drain receiver place) run note told done = tt
 done_kept (Load proto number count) run note told done = tt
-done_kept (Replay proto token ack_token) run note told (inl undone) = inl undone.1.silent.taken
-done_kept (Replay proto token ack_token) run note told (inr (inl unopened)) = inl unopened.1.taken
-done_kept (Replay proto token ack_token) run note told (inr (inr replayed)) = inr (input_kept proto token ack_token run note told replayed)
-done_kept (Serve server) run note told (inl undone) = All-same (TalksAreKept server run.disk_after) run.doors_after [] undone.1.doors (All-nil (TalksAreKept server run.disk_after))
-done_kept (Serve server) run note told (inr (inl unopened, ungiven)) = All-same (TalksAreKept server run.disk_after) run.doors_after [] unopened.3 (All-nil (TalksAreKept server run.disk_after))
-done_kept (Serve server) run note told (inr (inr (inl unserved), ungiven)) = All-same (TalksAreKept server run.disk_after) run.doors_after [] unserved.1 (All-nil (TalksAreKept server run.disk_after))
-done_kept (Serve server) run note told (inr (inr (inr ran), ungiven)) = server_kept server run note told ran
+done_kept (Replay proto token ack_token) run note told (inl undone) = inl undone.1.output.taken
+done_kept (Replay proto token ack_token) run note told (inr does) = elim does.0.replayed [
+  | inl unopened ↦ inl unopened.2.taken
+  | inr replayed ↦ inr (input_kept (record { proto = proto; token = token; ack_token = ack_token }) run note told replayed)
+]
+done_kept (Serve server) run note told (inl undone) = none_kept server run undone.1.doors
+done_kept (Serve server) run note told (inr does) = elim does.0 [
+  | inl unopened ↦ none_kept server run unopened.2
+  | inr (inl unserved) ↦ none_kept server run unserved.1
+  | inr (inr ran) ↦ server_kept server run note told ran
+]
 
 pub keeps_acknowledged : (words : List (List ℕ)) (run : Run) (note : Note) → IsRunOf words run note → KeepsAcknowledged words run
 keeps_acknowledged words run note is command asks told = done_kept command run note told (is.done command asks)

@@ -1,15 +1,4 @@
-pub mod Printing
-pub mod Rising
-pub mod Given
-pub mod Sure
-pub mod Failing
-pub mod Replays
-pub mod Forwarding
-pub mod Sessions
-pub mod Over
-pub mod Firsts
-pub mod Hanging
-pub mod Durable
 pub mod Doing
 pub mod Running
 pub mod Headline
+pub mod Alone

@@ -5,24 +5,19 @@ use Rattle.conn_serve.specs.Endings.{CountsFaults}
 use Rattle.edge_io.specs.Net.{NetState}
 use Rattle.edge_io.specs.declared.proto.Proto.{Proto}
 use Rattle.edge_disk.specs.Disk.{Moment}
-use Rattle.edge_disk.specs.Calls.{Calls}
 use Rattle.edge_io.specs.declared.proto.Proto.TheVariants.{Hec}
 use Rattle.bridge_words.specs.declared.command.Receiver.{Receiver}
 use Rattle.bridge_words.specs.declared.command.Command.TheVariants.{Replay, Drain, Load, Serve}
 use Rattle.bridge_words.specs.declared.command.Server.{Server}
 use Rattle.notes.specs.declared.note.Note.{Note}
-use Rattle.notes.specs.declared.note.Note.TheVariants.{NotSpool, Worn, NoMemory, ReadFault, WriteFault, DiskFault, NetFault}
+use Rattle.notes.specs.declared.note.Note.TheVariants.{ReadFault, WriteFault, DiskFault}
 use Rattle.bridge_words.specs.Words.{IsCommand}
 use Rattle.bridge_parts.specs.Counted.{DiskRoseBy, WritesOfBoth}
+use Rattle.commands.specs.Failed.{TellsDiskFault, CountsWrites, TellsNetFault}
 
 -- the words ask for a replay of the collector's requests
 abbrev pub AsksCollector : List (List ℕ) → Type 0
 AsksCollector words = (token : Option ℕ) × (ack_token : Option ℕ) × IsCommand (Replay Hec token ack_token) words
-
--- A call of the disk failed exactly where the note says so. There is one exception: the collector replies that the disk
--- failed, and where that reply was cut short, the note says that a write failed.
-abbrev pub TellsDiskFault : Type 0 → Note → Moment → Moment → Type 0
-TellsDiskFault collector note old new = Calls (note ≡ DiskFault) old new ⊎ (collector × (note ≡ WriteFault) × Calls (Unit {0}) old new)
 
 -- the words forward entries: to the output, or to a place
 abbrev pub AsksStream : List (List ℕ) → Type 0
@@ -41,20 +36,6 @@ AsksLoad words = (proto : Proto) × (number : ℕ) × (count : ℕ) × IsCommand
 -- the words serve many senders
 abbrev pub AsksServe : List (List ℕ) → Type 0
 AsksServe words = (server : Server) × IsCommand (Serve server) words
-
--- want of memory, or a refusal of the spool: it may have come after a write that failed
-abbrev pub IsHaltNote : Note → Type 0
-IsHaltNote DiskFault = Unit {0}
-IsHaltNote (NotSpool at) = Unit {0}
-IsHaltNote (Worn ordinal) = Unit {0}
-IsHaltNote NoMemory = Unit {0}
-IsHaltNote note = ⊥
-
--- Where entries are forwarded to the output: a write of it failed where the note says so, and else only before a halt.
-pub record CountsWrites (note : Note) (before now : ℕ) : Type 0 where
-  pub later : before ≤ now
-  pub cause : note ≡ WriteFault → Rose 1 before now
-  pub quiet : (note ≡ WriteFault → ⊥) → (IsHaltNote note → ⊥) → now ≡ before
 
 -- Where entries are forwarded to a place: the failed read that the note reports was one of a link that was hung up.
 pub record ReadsOfLink (note : Note) (before now hung_before hung_now : ℕ) : Type 0 where
@@ -80,10 +61,6 @@ TellsWriteFault words note before now net net' =
     CountsFaults (note ≡ WriteFault) before now
     ⊎ ((AsksStream words × CountsWrites note before now)
     ⊎ ((AsksPlace words ⊎ AsksServe words) × WritesOfBoth note before now net.write_faults net'.write_faults))
-
--- A dial failed exactly where the note says so.
-abbrev pub TellsNetFault : Note → NetState → NetState → Type 0
-TellsNetFault note net net' = CountsFaults (note ≡ NetFault) net.net_faults net'.net_faults
 
 -- The same of any words, but where many senders are served: there a bind or a dial may have failed where the note says something
 -- else, and the note may report an accept.

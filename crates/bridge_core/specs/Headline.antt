@@ -20,7 +20,7 @@ use Rattle.bridge_words.specs.declared.command.Command.TheVariants.{Replay, Serv
 use Rattle.bridge_words.specs.declared.command.Server.{Server}
 use Rattle.bridge_words.specs.Words.{IsCommand}
 use Rattle.bridge_serve.specs.Doors.{rules_of}
-use Rattle.bridge_core.specs.Done.{Run}
+use Rattle.bridge_parts.specs.Run.{Run}
 
 -- Whatever the text of a connection acknowledges is durable: by RELP the transactions that are answered 200, and by Lumberjack the
 -- sequence numbers of its acks, as the sender reads them; by the collector what its replies say, by the steps that wrote them: the group
@@ -49,9 +49,9 @@ pub record InputIsKept (rules : Rules) (run : Run) : Type 0 where
   pub conn : ℕ
   pub bytes : List ℕ
   pub text : List ℕ
-  pub read : Appends run.given run.given_after bytes
-  pub wrote : Appends run.taken run.taken_after text
-  pub kept : IsKept rules run.disk_after conn bytes text
+  pub read : Appends run.input.given run.input.given_after bytes
+  pub wrote : Appends run.output.taken run.output.taken_after text
+  pub kept : IsKept rules run.disk.new conn bytes text
 
 -- each connection that the door tells, by the bytes that it tells were read and written
 abbrev pub TalksAreKept : Server → Moment → DoorState → Type 0
@@ -62,10 +62,10 @@ TalksAreKept server now door =
 -- that is nothing; by `serve` in what each door that comes back tells was written to each of its connections.
 abbrev pub AcknowledgedIsKept : Command → Run → Type 0
 AcknowledgedIsKept (Replay proto token ack_token) run =
-    (run.taken_after ≡ run.taken) ⊎ InputIsKept (record { proto = proto; token = token; ack_token = ack_token }) run
-AcknowledgedIsKept (Serve server) run = All (TalksAreKept server run.disk_after) run.doors_after
+    (run.output.taken_after ≡ run.output.taken) ⊎ InputIsKept (record { proto = proto; token = token; ack_token = ack_token }) run
+AcknowledgedIsKept (Serve server) run = All (TalksAreKept server run.disk.new) run.doors
 AcknowledgedIsKept command run = Unit {0}
 
 -- So it is for the words of each command, where the disk tells what it reads.
 abbrev pub KeepsAcknowledged : List (List ℕ) → Run → Type 0
-KeepsAcknowledged words run = (command : Command) → IsCommand command words → run.tells → AcknowledgedIsKept command run
+KeepsAcknowledged words run = (command : Command) → IsCommand command words → run.disk.tells → AcknowledgedIsKept command run

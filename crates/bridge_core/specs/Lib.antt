@@ -1,11 +1,5 @@
 pub mod Asked
 pub mod Failed
-pub mod Formatted
-pub mod Listed
-pub mod Replayed
-pub mod Drained
-pub mod Sending
-pub mod Loading
 pub mod Done
 pub mod RunOf
 pub mod Headline

@@ -34,20 +34,3 @@ impl<D, P> Ended<D, P> {
         }
     }
 }
-
-/// How a command ended that binds no door, and the disk that was handed in.
-#[derive(Drop)]
-pub(crate) struct Finished<D> {
-    pub(crate) note: Note,
-    pub(crate) disk: D,
-}
-
-impl<D> Finished<D> {
-    /// A command that ended so.
-    pub(crate) fn of(note: Note, disk: D) -> Finished<D>
-        ensures note { result.note ≡ note }
-        ensures disk { result.disk ≡ disk }
-    {
-        Finished { note, disk }
-    }
-}

@@ -4,15 +4,8 @@
 #![tactic(auto)]
 
 mod asked;
-mod draining;
+mod doing;
 mod ended;
-mod formatting;
-mod lines;
-mod listing;
-mod loading;
-mod placing;
-mod replaying;
-mod sending;
 mod top;
 
 pub use ended::Ended;

@@ -1,27 +1,13 @@
-//! The top call: the words say which command it is, and one function does each.
-ghost use Rattle.std.specs.Prelude.{◌≡◌, ◌⊎◌, ℕ, [], Option, map, string_bytes};
-ghost use Rattle.edge_io.specs.declared.proto.Proto.{Proto};
-ghost use Rattle.bridge_words.specs.declared.command.Command.TheVariants.{Replay};
-ghost use Rattle.notes.specs.declared.note.Note.TheVariants.{Usage, NoMemory, WrongLength};
+//! The top call: the words say which command it is.
+ghost use Rattle.std.specs.Prelude.{◌≡◌, map, string_bytes};
 ghost use Rattle.notes.specs.Notes.{status_of};
-ghost use Rattle.bridge_words.specs.Words.{IsCommand, IsNoCommand};
-ghost use Rattle.bridge_core.specs.Failed.{AsksStream, AsksPlace, AsksDrain, AsksLoad, AsksServe};
-ghost use Rattle.bridge_core.specs.Done.{IsRefusedFirst};
-ghost use Rattle.bridge_core.specs.RunOf.{run_of, IsRunOf};
+ghost use Rattle.bridge_parts.specs.Run.{disk_run, input_run, net_run, output_run, run_of};
+ghost use Rattle.bridge_core.specs.RunOf.{IsRunOf};
 ghost use Rattle.bridge_core.specs.Headline.{KeepsAcknowledged};
 
 use crate::asked::{Unasked, asked_of};
-use crate::draining::drain_out;
-use crate::ended::{Ended, Finished};
-use crate::formatting::format;
-use crate::listing::list;
-use crate::loading::load;
-use crate::placing::drain_to;
-use crate::replaying::replay;
-use bridge_parts::outward_of;
-use bridge_serve::{Over, serve};
-use bridge_words::Command;
-use conn_serve::Rules;
+use crate::doing::do_command;
+use crate::ended::Ended;
 use edge_disk::Disk;
 use edge_io::{Door, Net, Sink, Source};
 use notes::Note;
@@ -75,107 +61,21 @@ where
     N::L: Send,
     ensures status { result.status ≡ status_of result.note }
 
-    // The words, and what is left alone.
-    ensures usage { result.note ≡ Usage → IsNoCommand (map string_bytes words.now) }
-    ensures no_command { IsNoCommand (map string_bytes words.now) → (result.note ≡ Usage) ⊎ (result.note ≡ NoMemory) }
-    ensures wrong_length { (have want : ℕ) → result.note ≡ WrongLength have want → result.disk ≡ disk }
-    ensures disk_unused { AsksLoad (map string_bytes words.now) → result.disk ≡ disk }
-    ensures doors { (AsksServe (map string_bytes words.now) → ⊥) → result.doors.items ≡ [] }
-    ensures unused { IsRefusedFirst result.note → (AsksDrain (map string_bytes words.now) → ⊥) → (AsksServe (map string_bytes words.now) → ⊥)
-        → (input.new ≡ input.old) × (output.new ≡ output.old) }
-    ensures unread { ((proto : Proto) (token ack_token : Option ℕ) → IsCommand (Replay proto token ack_token) (map string_bytes words.now) → ⊥)
-        → (AsksStream (map string_bytes words.now) → ⊥) → input.new ≡ input.old }
-    ensures net_unused { (AsksDrain (map string_bytes words.now) → ⊥) → (AsksServe (map string_bytes words.now) → ⊥) → net.new ≡ net.old }
-    ensures net_undialed { (AsksPlace (map string_bytes words.now) → ⊥) → (AsksServe (map string_bytes words.now) → ⊥) → N.told net.new ≡ N.told net.old }
-
-    // What was done, and what failed meanwhile.
+    // What was done, what was left alone, and what failed meanwhile.
     ensures run { IsRunOf (map string_bytes words.now)
-        (run_of D.tells D.moment S.given S.left S.read_faults K.taken K.write_faults N.told N.P.told
-        disk result.disk input.old input.new output.old output.new net.old net.new result.doors.items)
-        result.note }
+        (run_of (disk_run D.tells D.moment disk result.disk) (input_run S.given S.left S.read_faults input.old input.new)
+        (output_run K.taken K.write_faults output.old output.new) (net_run N.told net.old net.new)
+        (map (λ (door : _). N.P.told door) result.doors.items)) result.note }
 
     // What was acknowledged to a sender is not lost, whatever the note.
     ensures acknowledged { KeepsAcknowledged (map string_bytes words.now)
-        (run_of D.tells D.moment S.given S.left S.read_faults K.taken K.write_faults N.told N.P.told
-        disk result.disk input.old input.new output.old output.new net.old net.new result.doors.items) }
+        (run_of (disk_run D.tells D.moment disk result.disk) (input_run S.given S.left S.read_faults input.old input.new)
+        (output_run K.taken K.write_faults output.old output.new) (net_run N.told net.old net.new)
+        (map (λ (door : _). N.P.told door) result.doors.items)) }
 {
-    let mut disk = disk;
     match asked_of(alloc, words) {
+        Ok(command) => do_command(rt, alloc, command, disk, input, output, net),
         Err(Unasked::NoCommand) => Ended::of(alloc, Note::Usage, disk),
         Err(Unasked::NoMemory) => Ended::of(alloc, Note::NoMemory, disk),
-        Ok(Command::Format { slots, size }) => {
-            let note = format(alloc, &mut disk, output, slots, size);
-            Ended::of(alloc, note, disk)
-        }
-        Ok(Command::List { form }) => {
-            let Finished { note, disk } = list(alloc, disk, output, form);
-            Ended::of(alloc, note, disk)
-        }
-        Ok(
-            Command::Replay {
-                proto,
-                token,
-                ack_token,
-            },
-        ) => {
-            let rules = Rules {
-                proto,
-                token,
-                ack_token,
-            };
-            let Finished { note, disk } = replay(alloc, rules, disk, input, output);
-            Ended::of(alloc, note, disk)
-        }
-        Ok(
-            Command::Drain {
-                receiver,
-                place: None,
-            },
-        ) => {
-            let Finished { note, disk } = drain_out(
-                alloc,
-                &outward_of(receiver),
-                disk,
-                input,
-                output,
-                net,
-            );
-            Ended::of(alloc, note, disk)
-        }
-        Ok(
-            Command::Drain {
-                receiver,
-                place: Some(place),
-            },
-        ) => {
-            let Finished { note, disk } = drain_to(
-                alloc,
-                &outward_of(receiver),
-                place.as_str(),
-                disk,
-                output,
-                net,
-            );
-            Ended::of(alloc, note, disk)
-        }
-        Ok(
-            Command::Load {
-                proto,
-                number,
-                count,
-            },
-        ) => {
-            let note = load(alloc, proto, number, count, output);
-            Ended::of(alloc, note, disk)
-        }
-        Ok(Command::Serve { server }) => {
-            let Over { note, disk, doors } = serve(rt, alloc, server, disk, output, net);
-            Ended {
-                status: note.status(),
-                note,
-                disk,
-                doors,
-            }
-        }
     }
 }

@@ -30,8 +30,9 @@ use Rattle.notes.specs.declared.note.Note.{Note}
 use Rattle.bridge_parts.specs.Opened.{desk_in, IsUnopened}
 use Rattle.bridge_serve.specs.Opened.{IsOpenedOnly}
 use Rattle.bridge_serve.specs.Served.{RunsOver}
-use Rattle.bridge_core.specs.Drained.{IsLooked, IsSent, IsSessionOver, IsUnread}
-use Rattle.bridge_core.specs.Replayed.{IsStored}
+use Rattle.bridge_parts.specs.Run.{LinkRun}
+use Rattle.commands.specs.Drained.{IsLooked, IsSent, IsSessionOver, IsUnread, Tally}
+use Rattle.commands.specs.Replayed.{IsStored}
 use Rattle.bridge_parts.proofs.Desks.{desk_rules}
 use Rattle.bridge_laws.specs.InOrder.{IsInOrder}
 use Rattle.bridge_laws.proofs.InOrder.{Never, opening_keeps_order, opens_legal, still_in_order, stood_in_order}
@@ -114,11 +115,12 @@ module _ (P : List ℕ → Type 0) (holds : (s : SpoolState) (c : List ℕ) → 
   pub looked : (Is : SpoolState → Type 0) → IsLooked Is old new → LeavesOnly P old new
   looked Is is = unwritten is.any_moment
 
-  pub unread : (tells : Type 0) (note : Note) → IsUnread tells old new note → tells → LeavesOnly P old new
-  unread tells note is told = unwritten (is.any_moment told)
+  pub unread : (tells same : Type 0) (note : Note) → IsUnread (record { tells = tells; old = old; new = new; same = same }) note → tells → LeavesOnly P old new
+  unread tells same note is told = unwritten (is.any_moment told)
 
-  sent_on : (start until : ℕ) (calls : List Call) (confirmed remaining : ℕ) → IsSent old new start until calls confirmed remaining → AreOfSession until start calls → LeavesOnly P old new
-  sent_on start until calls confirmed remaining is session =
+  sent_on : (tells same : Type 0) (tally : Tally) (start until : ℕ) (calls : List Call)
+      → IsSent (record { tells = tells; old = old; new = new; same = same }) tally start until calls → AreOfSession until start calls → LeavesOnly P old new
+  sent_on tells same tally start until calls is session =
       let made = calls_by 0 calls is.reached.records is.reached.by in
       let none = subst (AllWritten Never) (sym made) (session_takes_none until start calls session) in
       weaker _ P old new is.any_moment (λ c h. elim h [
@@ -128,8 +130,8 @@ module _ (P : List ℕ → Type 0) (holds : (s : SpoolState) (c : List ℕ) → 
             holds state.0 c state.1 state.2
       ])
 
-  pub session : (outward : Outward) (tells : Type 0) (given given' left left' written written' : Option (List ℕ)) (confirmed remaining : ℕ) (sent : Sent)
-      → IsSessionOver outward tells old new given given' left left' written written' confirmed remaining sent → tells → LeavesOnly P old new
-  session outward tells given given' left left' written written' confirmed remaining sent is told =
+  pub session : (outward : Outward) (tells same : Type 0) (link : LinkRun) (tally : Tally) (sent : Sent)
+      → IsSessionOver outward (record { tells = tells; old = old; new = new; same = same }) link tally sent → tells → LeavesOnly P old new
+  session outward tells same link tally sent is told =
       let forwards = is.session.forwards in
-      sent_on is.session.start is.session.until forwards.calls confirmed remaining (forwards.made told) forwards.ended.session
+      sent_on tells same tally is.session.start is.session.until forwards.calls (forwards.made told) forwards.ended.session

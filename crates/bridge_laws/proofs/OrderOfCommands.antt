@@ -15,7 +15,9 @@ use Rattle.hec_session.specs.declared.tokens.Tokens.{Tokens}
 use Rattle.desk_access.specs.Batch.{Belongs}
 use Rattle.desk_access.specs.Call.{Call}
 use Rattle.conn_serve.specs.Done.{AreBytes}
+use Rattle.conn_serve.specs.declared.rules.Rules.{Rules}
 use Rattle.conn_serve.specs.Serves.{CarriedAs}
+use Rattle.conn_serve.specs.Tokens.{tokens_of}
 use Rattle.spool_turns.specs.Replays.{MayMake}
 use Rattle.forward_core.specs.declared.outward.Outward.{Outward}
 use Rattle.bridge_words.specs.declared.command.Command.{Command}
@@ -25,10 +27,12 @@ use Rattle.notes.specs.declared.note.Note.{Note}
 use Rattle.bridge_words.specs.Words.{IsCommand, IsNoCommand, IsSomeCommand}
 use Rattle.bridge_words.proofs.Once.{one_command}
 use Rattle.bridge_parts.specs.Receivers.{outward_of}
-use Rattle.bridge_core.specs.Done.{Run, Does, DoesStream, DoesPlace, IsUndone}
+use Rattle.bridge_parts.specs.Run.{Run, both_run}
+use Rattle.bridge_core.specs.Done.{Does, IsUndone}
 use Rattle.bridge_core.specs.RunOf.{IsRunOf}
-use Rattle.bridge_core.specs.Formatted.{IsFormatted}
-use Rattle.bridge_core.specs.Replayed.{IsReplayed}
+use Rattle.commands.specs.Drained.{SendsThere, Streams}
+use Rattle.commands.specs.Formatted.{Formats}
+use Rattle.commands.specs.Replayed.{ServesInput}
 use Rattle.bridge_serve.specs.Served.{IsServed}
 use Rattle.bridge_laws.specs.InOrder.{IsInOrder, HoldsInOrder, HoldsNoDisorder, DeskOpensLegal}
 use Rattle.bridge_laws.specs.KeepsOrder.{AsksFormat, EachCommandKeepsOrder, Keeps}
@@ -73,44 +77,47 @@ replay_may Relp tokens run conn left b calls text talk bytes belongs c = relp_ma
 replay_may Lumberjack tokens run conn left b calls text talk bytes belongs c = lumber_may run conn left b calls text talk bytes belongs c
 replay_may Hec tokens run conn left b calls text talk bytes belongs c = hec_may tokens run conn left b calls text talk belongs c
 
-module _ (run : Run) (told : run.tells) (lawful : IsLawful run.disk) (P : List ℕ → Type 0) (holds : (s : SpoolState) (c : List ℕ) → StandsFor s c → IsInOrder s → P c) (held : (s : SpoolState) (c : List ℕ) → StandsFor s c → P c → IsInOrder s)
-    (before : (c : List ℕ) → run.disk.image c → P c) where
-  by_stream : (outward : Outward) (note : Note) → DoesStream outward run note → LeavesOnly P run.disk run.disk_after
-  by_stream outward note (inl done) = unread P holds held run.disk run.disk_after lawful before run.tells note done.0 told
-  by_stream outward note (inr (inl done)) = looked P holds held run.disk run.disk_after lawful before _ (done.0 told)
-  by_stream outward note (inr (inr done)) = session P holds held run.disk run.disk_after lawful before outward run.tells _ _ _ _ _ _ done.confirmed done.remaining done.sent done.session told
+module _ (run : Run) (told : run.disk.tells) (lawful : IsLawful run.disk.old) (P : List ℕ → Type 0) (holds : (s : SpoolState) (c : List ℕ) → StandsFor s c → IsInOrder s → P c) (held : (s : SpoolState) (c : List ℕ) → StandsFor s c → P c → IsInOrder s)
+    (before : (c : List ℕ) → run.disk.old.image c → P c) where
+  by_stream : (outward : Outward) (note : Note) → Streams outward run.disk run.input run.output note → LeavesOnly P run.disk.old run.disk.new
+  by_stream outward note (inl done) = unread P holds held run.disk.old run.disk.new lawful before run.disk.tells run.disk.same note done.0 told
+  by_stream outward note (inr (inl done)) = looked P holds held run.disk.old run.disk.new lawful before _ (done.0 told)
+  by_stream outward note (inr (inr done)) =
+      session P holds held run.disk.old run.disk.new lawful before outward run.disk.tells run.disk.same (both_run run.input run.output) done.tally done.sent done.session told
 
-  by_place : (outward : Outward) (place : List ℕ) (note : Note) → DoesPlace outward place run note → LeavesOnly P run.disk run.disk_after
-  by_place outward place note (inl done) = unread P holds held run.disk run.disk_after lawful before run.tells note done.0 told
-  by_place outward place note (inr (_, inl done)) = looked P holds held run.disk run.disk_after lawful before _ (done.idle told)
-  by_place outward place note (inr (_, inr (inl done))) = looked P holds held run.disk run.disk_after lawful before _ (done.pending told)
-  by_place outward place note (inr (_, inr (inr done))) = session P holds held run.disk run.disk_after lawful before outward run.tells _ _ _ _ _ _ done.confirmed done.remaining done.sent done.session told
+  by_place : (outward : Outward) (place : List ℕ) (note : Note) → SendsThere outward place run.disk run.net run.output note → LeavesOnly P run.disk.old run.disk.new
+  by_place outward place note (inl done) = unread P holds held run.disk.old run.disk.new lawful before run.disk.tells run.disk.same note done.0 told
+  by_place outward place note (inr (inl done)) = looked P holds held run.disk.old run.disk.new lawful before _ (done.idle told)
+  by_place outward place note (inr (inr (inl done))) = looked P holds held run.disk.old run.disk.new lawful before _ (done.pending told)
+  by_place outward place note (inr (inr (inr done))) =
+      session P holds held run.disk.old run.disk.new lawful before outward run.disk.tells run.disk.same done.link done.tally done.sent done.session told
 
-  by_serve : (server : Server) (note : Note) → IsServed run.net_same server run.tells run.disk run.disk_after run.net run.net_after run.doors_after run.writes run.writes_after run.taken run.taken_after note → LeavesOnly P run.disk run.disk_after
-  by_serve server note (inl done) = unopened P holds held run.disk run.disk_after lawful before run.tells note done.0 told
-  by_serve server note (inr (inl done)) = opened_only P holds held run.disk run.disk_after lawful before (done.0.opened told)
-  by_serve server note (inr (inr done)) = served P holds held run.disk run.disk_after lawful before run.tells _ _ _ _ _ _ _ _ _ _ _ done.ran.over told
+  by_serve : (server : Server) (note : Note) → IsServed server run.disk run.output run.net run.doors note → LeavesOnly P run.disk.old run.disk.new
+  by_serve server note (inl done) = unopened P holds held run.disk.old run.disk.new lawful before run.disk.tells note done.0 told
+  by_serve server note (inr (inl done)) = opened_only P holds held run.disk.old run.disk.new lawful before (done.0.opened told)
+  by_serve server note (inr (inr done)) = served P holds held run.disk.old run.disk.new lawful before run.disk.tells _ _ _ _ _ _ _ _ _ _ _ done.ran.over told
 
-  by_replay : (proto : Proto) (tokens : Tokens) (note : Note) → IsReplayed proto tokens run.tells run.disk run.disk_after run.given run.given_after run.left run.left_after run.taken run.taken_after note
-      → LeavesOnly P run.disk run.disk_after
-  by_replay proto tokens note done =
+  by_replay : (rules : Rules) (note : Note) → ServesInput rules run.disk (both_run run.input run.output) note → LeavesOnly P run.disk.old run.disk.new
+  by_replay rules note done =
       let serves = done.served.serves in
       let is = serves.made told in
-      stored P holds held run.disk run.disk_after lawful before done.conn serves.calls is (replay_may proto tokens (is.state.run + 1) done.conn run.left_after serves.bytes serves.calls serves.text _ serves.are_bytes (first_conn (is.state.run + 1) done.conn is.conn_is) serves.carried)
+      stored P holds held run.disk.old run.disk.new lawful before done.conn serves.calls is (replay_may rules.proto (tokens_of rules) (is.state.run + 1) done.conn run.input.left_after serves.bytes serves.calls serves.text _ serves.are_bytes (first_conn (is.state.run + 1) done.conn is.conn_is) serves.carried)
 
-  module _ (same : run.disk_same → LeavesOnly run.disk.image run.disk run.disk_after) (words : List (List ℕ)) (note : Note) (whole : IsRunOf words run note) where
-    as_before : run.disk_same → LeavesOnly P run.disk run.disk_after
-    as_before is = unwritten P holds held run.disk run.disk_after lawful before (same is)
+  module _ (same : run.disk.same → LeavesOnly run.disk.old.image run.disk.old run.disk.new) (words : List (List ℕ)) (note : Note) (whole : IsRunOf words run note) where
+    as_before : run.disk.same → LeavesOnly P run.disk.old run.disk.new
+    as_before is = unwritten P holds held run.disk.old run.disk.new lawful before (same is)
 
-    by_command : (command : Command) → IsCommand command words → (AsksFormat words → ⊥) → IsUndone run note ⊎ Does command run note → LeavesOnly P run.disk run.disk_after
-    by_command command asks never (inl undone) = as_before undone.1.disk
+    by_command : (command : Command) → IsCommand command words → (AsksFormat words → ⊥) → IsUndone run note ⊎ Does command run note → LeavesOnly P run.disk.old run.disk.new
+    by_command command asks never (inl undone) = as_before undone.1.disk.same
     by_command (Format slots size) asks never (inr does) = absurd (never (slots, size, asks))
-    by_command (ListCommand form) asks never (inr does) = unwritten P holds held run.disk run.disk_after lawful before (does.1 told).1
-    by_command (Replay proto token ack_token) asks never (inr (inl unopen)) = unopened P holds held run.disk run.disk_after lawful before run.tells note unopen.0 told
-    by_command (Replay proto token ack_token) asks never (inr (inr replayed)) = by_replay proto _ note replayed
-    by_command (Drain receiver None) asks never (inr does) = by_stream (outward_of receiver) note does
-    by_command (Drain receiver (Some place)) asks never (inr does) = by_place (outward_of receiver) place note does
-    by_command (Load proto number count) asks never (inr does) = as_before does.1.disk
+    by_command (ListCommand form) asks never (inr does) = unwritten P holds held run.disk.old run.disk.new lawful before (does.0.any_moment told)
+    by_command (Replay proto token ack_token) asks never (inr does) = elim does.0.replayed [
+      | inl unopen ↦ unopened P holds held run.disk.old run.disk.new lawful before run.disk.tells note unopen.0 told
+      | inr replayed ↦ by_replay (record { proto = proto; token = token; ack_token = ack_token }) note replayed
+    ]
+    by_command (Drain receiver None) asks never (inr does) = by_stream (outward_of receiver) note does.0.drained
+    by_command (Drain receiver (Some place)) asks never (inr does) = by_place (outward_of receiver) place note does.0.drained
+    by_command (Load proto number count) asks never (inr does) = as_before does.1.same
     by_command (Serve server) asks never (inr does) = by_serve server note does.0
 
 -- ---- all of them
@@ -123,37 +130,37 @@ is_format command = ⊥
 not_format : (command : Command) (words : List (List ℕ)) → (is_format command → ⊥) → IsCommand command words → AsksFormat words → ⊥
 not_format command words other asks (slots, size, is) = other (subst is_format (sym (one_command command (Format slots size) words asks is)) tt)
 
-module _ (run : Run) (lawful : run.tells → IsLawful run.disk) (same : run.tells → run.disk_same → LeavesOnly run.disk.image run.disk run.disk_after)
-    (words : List (List ℕ)) (note : Note) (whole : IsRunOf words run note) (told : run.tells) where
+module _ (run : Run) (lawful : run.disk.tells → IsLawful run.disk.old) (same : run.disk.tells → run.disk.same → LeavesOnly run.disk.old.image run.disk.old run.disk.new)
+    (words : List (List ℕ)) (note : Note) (whole : IsRunOf words run note) (told : run.disk.tells) where
   -- `format` is the one call during which a crash may leave no spool
-  none_by : IsSomeCommand words ⊎ (IsNoCommand words ⊎ IsUndone run note) → Keeps HoldsNoDisorder run.disk run.disk_after
-  none_by (inr (inr undone)) before = unwritten HoldsNoDisorder holds_none none_held run.disk run.disk_after (lawful told) before (same told undone.1.disk)
-  none_by (inr (inl none)) before = unwritten HoldsNoDisorder holds_none none_held run.disk run.disk_after (lawful told) before (same told (whole.unchanged none).disk)
+  none_by : IsSomeCommand words ⊎ (IsNoCommand words ⊎ IsUndone run note) → Keeps HoldsNoDisorder run.disk.old run.disk.new
+  none_by (inr (inr undone)) before = unwritten HoldsNoDisorder holds_none none_held run.disk.old run.disk.new (lawful told) before (same told undone.1.disk.same)
+  none_by (inr (inl none)) before = unwritten HoldsNoDisorder holds_none none_held run.disk.old run.disk.new (lawful told) before (same told (whole.unchanged none).disk.same)
   none_by (inl (command, asks)) before = by command asks (whole.done command asks) where
-    by : (c : Command) → IsCommand c words → IsUndone run note ⊎ Does c run note → LeavesOnly HoldsNoDisorder run.disk run.disk_after
-    by c is (inl undone) = unwritten HoldsNoDisorder holds_none none_held run.disk run.disk_after (lawful told) before (same told undone.1.disk)
-    by (Format slots size) is (inr does) = weaker (IsFormatStep slots size run.disk) HoldsNoDisorder run.disk run.disk_after (does.1 told) (while_formatted slots size run.disk before)
+    by : (c : Command) → IsCommand c words → IsUndone run note ⊎ Does c run note → LeavesOnly HoldsNoDisorder run.disk.old run.disk.new
+    by c is (inl undone) = unwritten HoldsNoDisorder holds_none none_held run.disk.old run.disk.new (lawful told) before (same told undone.1.disk.same)
+    by (Format slots size) is (inr does) = weaker (IsFormatStep slots size run.disk.old) HoldsNoDisorder run.disk.old run.disk.new (does.0.any_moment told) (while_formatted slots size run.disk.old before)
     by c is (inr does) = by_command run told (lawful told) HoldsNoDisorder holds_none none_held before (same told) words note whole c is (not_format c words (λ never. never) is) (inr does)
 
-  some_by : IsSomeCommand words ⊎ (IsNoCommand words ⊎ IsUndone run note) → (AsksFormat words → ⊥) → Keeps HoldsInOrder run.disk run.disk_after
-  some_by (inr (inr undone)) never before = unwritten HoldsInOrder holds_some some_held run.disk run.disk_after (lawful told) before (same told undone.1.disk)
-  some_by (inr (inl none)) never before = unwritten HoldsInOrder holds_some some_held run.disk run.disk_after (lawful told) before (same told (whole.unchanged none).disk)
+  some_by : IsSomeCommand words ⊎ (IsNoCommand words ⊎ IsUndone run note) → (AsksFormat words → ⊥) → Keeps HoldsInOrder run.disk.old run.disk.new
+  some_by (inr (inr undone)) never before = unwritten HoldsInOrder holds_some some_held run.disk.old run.disk.new (lawful told) before (same told undone.1.disk.same)
+  some_by (inr (inl none)) never before = unwritten HoldsInOrder holds_some some_held run.disk.old run.disk.new (lawful told) before (same told (whole.unchanged none).disk.same)
   some_by (inl (command, asks)) never before =
       by_command run told (lawful told) HoldsInOrder holds_some some_held before (same told) words note whole command asks never (whole.done command asks)
 
   -- `format` that ended well
-  formatted : (slots size : ℕ) (n : Note) → n ≡ Note.Fine → IsFormatted slots size run.tells run.disk run.disk_after run.taken run.taken_after n → (c : List ℕ) → run.disk_after.image c → HoldsInOrder c
+  formatted : (slots size : ℕ) (n : Note) → n ≡ Note.Fine → Formats slots size run.disk run.output n → (c : List ℕ) → run.disk.new.image c → HoldsInOrder c
   formatted slots size n fine is c image =
-      let made = subst (IsFormatted slots size run.tells run.disk run.disk_after run.taken run.taken_after) fine is in
+      let made = subst (Formats slots size run.disk run.output) fine is in
       (empty_state slots size, made.empty told c image, empty_is_in_order slots size)
 
-  made_by : AsksFormat words → note ≡ Note.Fine → (c : List ℕ) → run.disk_after.image c → HoldsInOrder c
+  made_by : AsksFormat words → note ≡ Note.Fine → (c : List ℕ) → run.disk.new.image c → HoldsInOrder c
   made_by (slots, size, asks) fine c image = elim (whole.done (Format slots size) asks) [
     | inl undone ↦ absurd (cc (fine, undone.0))
-    | inr does ↦ formatted slots size note fine does.0 c image
+    | inr does ↦ formatted slots size note fine does.0.formatted c image
   ]
 
-pub each_command_keeps_order : (run : Run) → (run.tells → IsLawful run.disk) → (run.tells → run.disk_same → LeavesOnly run.disk.image run.disk run.disk_after) → EachCommandKeepsOrder run
+pub each_command_keeps_order : (run : Run) → (run.disk.tells → IsLawful run.disk.old) → (run.disk.tells → run.disk.same → LeavesOnly run.disk.old.image run.disk.old run.disk.new) → EachCommandKeepsOrder run
 each_command_keeps_order run lawful same words note whole told = record {
   none = none_by run lawful same words note whole told whole.which;
   some = some_by run lawful same words note whole told whole.which;

@@ -21,7 +21,8 @@ use Rattle.bridge_parts.specs.Written.{first_of}
 use Rattle.bridge_serve.specs.Noted.{note_of_look, note_of_run, note_of_workers}
 use Rattle.bridge_serve.proofs.Causes.{workers_tell}
 use Rattle.bridge_laws.specs.Complete.{NoneFailed, EndsWell}
-use Rattle.bridge_core.specs.Done.{Run, IsUndone, Does}
+use Rattle.bridge_parts.specs.Run.{Run}
+use Rattle.bridge_core.specs.Done.{IsUndone, Does}
 use Rattle.bridge_core.specs.RunOf.{IsRunOf}
 use Rattle.bridge_laws.proofs.Complete.{not_disk, not_read, not_write}
 use Rattle.bridge_laws.specs.ServeEnds.{Ran, IsStopped, GoesWell, IsUnhindered, ServeEndsWell}
@@ -30,13 +31,13 @@ use Rattle.bridge_laws.specs.ServeEnds.{Ran, IsStopped, GoesWell, IsUnhindered, 
 
 module _ (server : Server) (words : List (List ℕ)) (run : Run) (note : Note) (is : IsRunOf words run note) (none : NoneFailed run) where
   -- a device that can be opened is refused for want of memory alone
-  unopened_well : (s : SpoolState) → StandsFor s run.disk.reads → CanOpen Raise s → (fault : RecoverFault) → note ≡ note_of_recover fault → IsRefusedAs Raise run.disk.reads fault → EndsWell note
-  unopened_well s stands can (Recover.NotSpool at) same breaks = absurd (stands_unbroken s run.disk.reads stands at breaks)
+  unopened_well : (s : SpoolState) → StandsFor s run.disk.old.reads → CanOpen Raise s → (fault : RecoverFault) → note ≡ note_of_recover fault → IsRefusedAs Raise run.disk.old.reads fault → EndsWell note
+  unopened_well s stands can (Recover.NotSpool at) same breaks = absurd (stands_unbroken s run.disk.old.reads stands at breaks)
   unopened_well s stands can (Recover.RunsSpent n) same (t, is_in, spent) =
-      let one : t.run ≡ s.run = ap (λ (x : SpoolState). x.run) (one_state t s run.disk.reads is_in stands) in
+      let one : t.run ≡ s.run = ap (λ (x : SpoolState). x.run) (one_state t s run.disk.old.reads is_in stands) in
       absurd (omega (arith, spent.2, one, can.0))
   unopened_well s stands can (Recover.Worn ordinal) same (t, is_in, worn) =
-      let one : t.ordinal ≡ s.ordinal = ap (λ (x : SpoolState). x.ordinal) (one_state t s run.disk.reads is_in stands) in
+      let one : t.ordinal ≡ s.ordinal = ap (λ (x : SpoolState). x.ordinal) (one_state t s run.disk.old.reads is_in stands) in
       absurd (omega (arith, worn.3, one, can.1))
   unopened_well s stands can Recover.DiskFault same why = absurd (not_disk words run note is none same)
   unopened_well s stands can Recover.NoMemory same why = inr same
@@ -85,11 +86,11 @@ module _ (server : Server) (words : List (List ℕ)) (run : Run) (note : Note) (
     | inr (inr memory) ↦ inr memory
   ]
 
-  by_done : (s : SpoolState) → run.tells → StandsFor s run.disk.reads → CanOpen Raise s → (done : IsUndone run note ⊎ Does (Serve server) run note) → IsUnhindered server run note done → EndsWell note
+  by_done : (s : SpoolState) → run.disk.tells → StandsFor s run.disk.old.reads → CanOpen Raise s → (done : IsUndone run note ⊎ Does (Serve server) run note) → IsUnhindered server run note done → EndsWell note
   by_done s tells stands can (inl undone) well = inr undone.0
-  by_done s tells stands can (inr (inl unopened, ungiven)) well = unopened_well s stands can unopened.0.fault unopened.0.note_is (unopened.0.why tells)
-  by_done s tells stands can (inr (inr (inl unserved), ungiven)) well = elim unserved.0.why [ inl memory ↦ inr memory | inr unbound ↦ absurd (none.dials unbound.1) ]
-  by_done s tells stands can (inr (inr (inr ran), ungiven)) well = ran_well ran well
+  by_done s tells stands can (inr (inl unopened, ungiven, told)) well = unopened_well s stands can unopened.0.fault unopened.0.note_is (unopened.0.why tells)
+  by_done s tells stands can (inr (inr (inl unserved), ungiven, told)) well = elim unserved.0.why [ inl memory ↦ inr memory | inr unbound ↦ absurd (none.dials unbound.1) ]
+  by_done s tells stands can (inr (inr (inr ran), ungiven, told)) well = ran_well ran well
 
 pub serve_ends_well : (run : Run) → ServeEndsWell run
 serve_ends_well run server words note s is none asks tells stands can well = by_done server words run note is none s tells stands can (is.done (Serve server) asks) well

@@ -9,7 +9,7 @@ use Rattle.bridge_words.specs.declared.command.ListForm.{ListForm}
 use Rattle.notes.specs.declared.note.Note.{Note}
 use Rattle.notes.specs.declared.note.Note.TheVariants.{Fine, NoMemory}
 use Rattle.bridge_words.specs.Words.{IsCommand}
-use Rattle.bridge_core.specs.Done.{Run}
+use Rattle.bridge_parts.specs.Run.{Run}
 use Rattle.bridge_core.specs.RunOf.{IsRunOf}
 
 -- the count of faults didn't rise, and could have: it doesn't stand at the end of its type
@@ -18,12 +18,12 @@ DidNotRise before now = Rose 1 before now → ⊥
 
 -- No call failed: no count of the disk, the input, the output or the net rose.
 pub record NoneFailed (run : Run) : Type 0 where
-  pub calls : DidNotRise run.disk.faults run.disk_after.faults
-  pub reads : DidNotRise run.reads run.reads_after
-  pub writes : DidNotRise run.writes run.writes_after
-  pub link_reads : DidNotRise run.net.read_faults run.net_after.read_faults
-  pub link_writes : DidNotRise run.net.write_faults run.net_after.write_faults
-  pub dials : DidNotRise run.net.net_faults run.net_after.net_faults
+  pub calls : DidNotRise run.disk.old.faults run.disk.new.faults
+  pub reads : DidNotRise run.input.faults run.input.faults_after
+  pub writes : DidNotRise run.output.faults run.output.faults_after
+  pub link_reads : DidNotRise run.net.old.read_faults run.net.new.read_faults
+  pub link_writes : DidNotRise run.net.old.write_faults run.net.new.write_faults
+  pub dials : DidNotRise run.net.old.net_faults run.net.new.net_faults
 
 -- all was done, unless no memory was found
 abbrev pub EndsWell : Note → Type 0
@@ -33,13 +33,13 @@ EndsWell note = (note ≡ Fine) ⊎ (note ≡ NoMemory)
 abbrev pub FormatEndsWell : Run → Type 0
 FormatEndsWell run =
     (slots size : ℕ) (words : List (List ℕ)) (note : Note) → IsRunOf words run note → NoneFailed run
-    → IsCommand (Format slots size) words → run.disk.size ≡ slot_at size slots → EndsWell note
+    → IsCommand (Format slots size) words → run.disk.old.size ≡ slot_at size slots → EndsWell note
 
 -- And `list` does on a device that stands for a spool.
 abbrev pub ListEndsWell : Run → Type 0
 ListEndsWell run =
     (form : ListForm) (words : List (List ℕ)) (note : Note) (s : SpoolState) → IsRunOf words run note → NoneFailed run
-    → IsCommand (ListCommand form) words → run.tells → StandsFor s run.disk.reads → EndsWell note
+    → IsCommand (ListCommand form) words → run.disk.tells → StandsFor s run.disk.old.reads → EndsWell note
 
 -- And `load` does by each protocol.
 abbrev pub LoadEndsWell : Run → Type 0

@@ -2,7 +2,7 @@
 use Rattle.bridge_laws.specs.Complete.{FormatEndsWell, ListEndsWell, LoadEndsWell}
 use Rattle.bridge_laws.specs.CompleteDrain.{DrainEndsWell, DrainThereEndsWell}
 use Rattle.bridge_laws.specs.CompleteReplay.{ReplayEndsWell}
-use Rattle.bridge_core.specs.Done.{Run}
+use Rattle.bridge_parts.specs.Run.{Run}
 
 -- of one call of `bridge`, of which this was told
 pub record EachEndsWell (run : Run) : Type 0 where

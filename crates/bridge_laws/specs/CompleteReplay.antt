@@ -13,17 +13,17 @@ use Rattle.notes.specs.declared.note.Note.{Note}
 use Rattle.notes.specs.declared.note.Note.TheVariants.{Fine, NoMemory}
 use Rattle.bridge_words.specs.Words.{IsCommand}
 use Rattle.bridge_laws.specs.Complete.{NoneFailed}
-use Rattle.bridge_core.specs.Done.{Run}
+use Rattle.bridge_parts.specs.Run.{Run}
 use Rattle.bridge_core.specs.RunOf.{IsRunOf}
 use Rattle.ending_laws.specs.Replaying.{NoneIsRefused, EndsWhole, Stores, Gains}
 
 -- The device stands for that state, which can be opened for storing, and the input has these bytes, which are not too many.
 pub record CanReplay (run : Run) (s : SpoolState) (b : List ℕ) : Type 0 where
-  pub told : run.tells
-  pub stands : StandsFor s run.disk.reads
+  pub told : run.disk.tells
+  pub stands : StandsFor s run.disk.old.reads
   pub runs : s.run < most_run
   pub ordinals : s.ordinal < most_number
-  pub input : run.left ≡ Some b
+  pub input : run.input.left ≡ Some b
   pub short : length b < 2 ^ 40
 
 -- the number of the connection that `replay` serves over a spool in that state
@@ -33,7 +33,7 @@ conn_in s = (s.run + 1) * 2 ^ 32
 -- the input's events were added to the spool, unless no memory was found
 abbrev pub TakesAll : Proto → Tokens → Run → SpoolState → List ℕ → Note → Type 0
 TakesAll proto tokens run s b note =
-    (note ≡ NoMemory) ⊎ ((note ≡ Fine) × ((events : List Event) × Stores proto tokens b events × Gains (opened Raise s) run.disk_after events))
+    (note ≡ NoMemory) ⊎ ((note ≡ Fine) × ((events : List Event) × Stores proto tokens b events × Gains (opened Raise s) run.disk.new events))
 
 -- Where no call failed, `replay` ends well if the bytes end with a frame, and no group and no id is refused that they bring.
 abbrev pub ReplayEndsWell : Run → Type 0

@@ -5,7 +5,7 @@ use Rattle.bridge_words.specs.declared.command.Command.TheVariants.{Format}
 use Rattle.notes.specs.declared.note.Note.{Note}
 use Rattle.notes.specs.declared.note.Note.TheVariants.{Fine}
 use Rattle.bridge_words.specs.Words.{IsCommand}
-use Rattle.bridge_core.specs.Done.{Run}
+use Rattle.bridge_parts.specs.Run.{Run}
 use Rattle.bridge_core.specs.RunOf.{IsRunOf}
 use Rattle.bridge_laws.specs.InOrder.{HoldsInOrder, HoldsNoDisorder}
 
@@ -20,12 +20,12 @@ AsksFormat words = (slots : ℕ) × (size : ℕ) × IsCommand (Format slots size
 -- What a call leaves of the order of a spool's entries.
 pub record KeepsOrder (words : List (List ℕ)) (run : Run) (note : Note) : Type 0 where
   -- A crash leaves no spool that is out of order.
-  pub none : Keeps HoldsNoDisorder run.disk run.disk_after
+  pub none : Keeps HoldsNoDisorder run.disk.old run.disk.new
   -- It leaves a spool in order where it left one before, but for `format`, during which a crash may leave no spool.
-  pub some : (AsksFormat words → ⊥) → Keeps HoldsInOrder run.disk run.disk_after
+  pub some : (AsksFormat words → ⊥) → Keeps HoldsInOrder run.disk.old run.disk.new
   -- `format` that ended well leaves a spool in order, whatever the device had.
-  pub made : AsksFormat words → note ≡ Fine → (c : List ℕ) → run.disk_after.image c → HoldsInOrder c
+  pub made : AsksFormat words → note ≡ Fine → (c : List ℕ) → run.disk.new.image c → HoldsInOrder c
 
 -- Each call keeps the order, whatever its words and its note are.
 abbrev pub EachCommandKeepsOrder : Run → Type 0
-EachCommandKeepsOrder run = (words : List (List ℕ)) (note : Note) → IsRunOf words run note → run.tells → KeepsOrder words run note
+EachCommandKeepsOrder run = (words : List (List ℕ)) (note : Note) → IsRunOf words run note → run.disk.tells → KeepsOrder words run note

@@ -6,3 +6,4 @@ pub mod ServeEnds
 pub mod InOrder
 pub mod KeepsOrder
 pub mod Lifetime
+pub mod LeavesAlone

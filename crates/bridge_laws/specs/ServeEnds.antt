@@ -16,13 +16,14 @@ use Rattle.bridge_words.specs.Words.{IsCommand}
 use Rattle.bridge_serve.specs.Doors.{SomeRose}
 use Rattle.bridge_serve.specs.Served.{IsRun}
 use Rattle.bridge_laws.specs.Complete.{NoneFailed, EndsWell}
-use Rattle.bridge_core.specs.Done.{Run, IsUndone, Does}
+use Rattle.bridge_parts.specs.Run.{Run}
+use Rattle.bridge_core.specs.Done.{IsUndone, Does}
 use Rattle.bridge_core.specs.RunOf.{IsRunOf}
 
 -- The server ran for these words, as its contract tells.
 abbrev pub Ran : Server → Run → Note → Type 0
 Ran server run note =
-    IsRun server run.tells run.disk run.disk_after run.net run.net_after run.doors_after run.writes run.writes_after run.taken run.taken_after note
+    IsRun server run.disk.tells run.disk.old run.disk.new run.net.old run.net.new run.doors run.output.faults run.output.faults_after run.output.taken run.output.taken_after note
 
 -- What stopped the last look at what is pending, where that was neither a call that failed nor want of memory: what the peer
 -- answered, or the state of the spool.
@@ -39,20 +40,20 @@ IsStopped last = ⊥
 
 -- No accept failed at a door of that run, and its last look was not stopped.
 pub record GoesWell (server : Server) (run : Run) (note : Note) (ran : Ran server run note) : Type 0 where
-  pub accepts : SomeRose ran.doors run.doors_after → ⊥
+  pub accepts : SomeRose ran.doors run.doors → ⊥
   pub last : IsStopped ran.ran.last → ⊥
 
 -- What the contract tells of the call, where it tells of a run, went well.
 abbrev pub IsUnhindered : (server : Server) (run : Run) (note : Note) → IsUndone run note ⊎ Does (Serve server) run note → Type 0
 IsUnhindered server run note (inl undone) = Unit {0}
-IsUnhindered server run note (inr (inl unopened, ungiven)) = Unit {0}
-IsUnhindered server run note (inr (inr (inl unserved), ungiven)) = Unit {0}
-IsUnhindered server run note (inr (inr (inr ran), ungiven)) = GoesWell server run note ran
+IsUnhindered server run note (inr (inl unopened, ungiven, tells)) = Unit {0}
+IsUnhindered server run note (inr (inr (inl unserved), ungiven, tells)) = Unit {0}
+IsUnhindered server run note (inr (inr (inr ran), ungiven, tells)) = GoesWell server run note ran
 
 -- Where no call failed, `serve` ends well on a device that stands for a spool which can be opened for storing, if what it then
 -- did went well.
 abbrev pub ServeEndsWell : Run → Type 0
 ServeEndsWell run =
     (server : Server) (words : List (List ℕ)) (note : Note) (s : SpoolState) (is : IsRunOf words run note) → NoneFailed run
-    → (asks : IsCommand (Serve server) words) → run.tells → StandsFor s run.disk.reads → CanOpen Raise s
+    → (asks : IsCommand (Serve server) words) → run.disk.tells → StandsFor s run.disk.old.reads → CanOpen Raise s
     → IsUnhindered server run note (is.done (Serve server) asks) → EndsWell note

@@ -1,5 +1,6 @@
 //! When each command has to end well, from the contract of `bridge` alone. The functions do nothing: each has a law as its contract.
-ghost use Rattle.bridge_core.specs.RunOf.{run_of};
+ghost use Rattle.std.specs.Prelude.{map};
+ghost use Rattle.bridge_parts.specs.Run.{disk_run, input_run, net_run, output_run, run_of};
 ghost use Rattle.bridge_laws.specs.CompleteCommands.{EachEndsWell};
 ghost use Rattle.bridge_laws.specs.ServeEnds.{ServeEndsWell};
 
@@ -30,8 +31,9 @@ pub fn each_command_ends_well<D: Disk, S: Source, K: Sink, N: Net>(
     _net_after: &N,
     _doors_after: &Vec<N::P>,
 )
-    ensures { EachEndsWell (run_of D.tells D.moment S.given S.left S.read_faults K.taken K.write_faults N.told N.P.told
-        _disk.now _disk_after.now _input.now _input_after.now _output.now _output_after.now _net.now _net_after.now _doors_after.now.items) }
+    ensures { EachEndsWell (run_of (disk_run D.tells D.moment _disk.now _disk_after.now)
+        (input_run S.given S.left S.read_faults _input.now _input_after.now) (output_run K.taken K.write_faults _output.now _output_after.now)
+        (net_run N.told _net.now _net_after.now) (map (λ (door : _). N.P.told door) _doors_after.now.items)) }
 {}
 
 /// `serve` ends well where no call failed and nothing stands in its way: only want of memory can take the place of that.
@@ -53,6 +55,7 @@ pub fn serve_ends_well<D: Disk, S: Source, K: Sink, N: Net>(
     _net_after: &N,
     _doors_after: &Vec<N::P>,
 )
-    ensures { ServeEndsWell (run_of D.tells D.moment S.given S.left S.read_faults K.taken K.write_faults N.told N.P.told
-        _disk.now _disk_after.now _input.now _input_after.now _output.now _output_after.now _net.now _net_after.now _doors_after.now.items) }
+    ensures { ServeEndsWell (run_of (disk_run D.tells D.moment _disk.now _disk_after.now)
+        (input_run S.given S.left S.read_faults _input.now _input_after.now) (output_run K.taken K.write_faults _output.now _output_after.now)
+        (net_run N.told _net.now _net_after.now) (map (λ (door : _). N.P.told door) _doors_after.now.items)) }
 {}

@@ -1,9 +1,10 @@
 //! What follows for the order of a spool's entries, from the contract of `bridge` alone. The functions do nothing: each has a law
 //! as its contract.
-ghost use Rattle.bridge_core.specs.RunOf.{run_of};
+ghost use Rattle.std.specs.Prelude.{map};
+ghost use Rattle.bridge_parts.specs.Run.{disk_run, input_run, net_run, output_run, run_of};
 ghost use Rattle.bridge_laws.specs.InOrder.{DeskOpensLegal, EmptyIsInOrder, OpeningKeepsOrder};
 ghost use Rattle.bridge_laws.specs.KeepsOrder.{EachCommandKeepsOrder};
-ghost use Rattle.bridge_laws.specs.Lifetime.{OrderHolds};
+ghost use Rattle.bridge_laws.specs.Lifetime.{OrderHolds, telling};
 
 use edge_disk::Disk;
 use edge_io::{Net, Sink, Source};
@@ -41,8 +42,9 @@ pub fn each_command_keeps_order<D: Disk, S: Source, K: Sink, N: Net>(
     _net_after: &N,
     _doors_after: &Vec<N::P>,
 )
-    ensures { EachCommandKeepsOrder (run_of D.tells D.moment S.given S.left S.read_faults K.taken K.write_faults N.told N.P.told
-        _disk.now _disk_after.now _input.now _input_after.now _output.now _output_after.now _net.now _net_after.now _doors_after.now.items) }
+    ensures { EachCommandKeepsOrder (run_of (disk_run D.tells D.moment _disk.now _disk_after.now)
+        (input_run S.given S.left S.read_faults _input.now _input_after.now) (output_run K.taken K.write_faults _output.now _output_after.now)
+        (net_run N.told _net.now _net_after.now) (map (λ (door : _). N.P.told door) _doors_after.now.items)) }
 {}
 
 /// From a call of `format` that ended well on, a crash leaves no spool of the device that is out of order, where `bridge` alone writes
@@ -58,5 +60,6 @@ pub fn order_holds_from_format<D: Disk, S: Source, K: Sink, N: Net>(
     _net: &N,
     _doors: &Vec<N::P>,
 )
-    ensures { OrderHolds D.moment (run_of D.tells D.moment S.given S.left S.read_faults K.taken K.write_faults N.told N.P.told) }
+    ensures { OrderHolds D.moment (telling (disk_run D.tells D.moment) (input_run S.given S.left S.read_faults)
+        (output_run K.taken K.write_faults) (net_run N.told) N.P.told) }
 {}

@@ -5,3 +5,4 @@ pub mod Opened
 pub mod Reached
 pub mod Counted
 pub mod Pending
+pub mod Run

@@ -23,6 +23,7 @@ use Rattle.notes.specs.declared.note.Note.{Note}
 use Rattle.notes.specs.declared.note.Note.TheVariants.{NoMemory, NetFault}
 use Rattle.bridge_words.specs.Lines.{serve_line}
 use Rattle.bridge_parts.specs.Opened.{IsUnopened}
+use Rattle.bridge_parts.specs.Run.{DiskRun, NetRun, OutputRun, IsOffline, IsSilent}
 use Rattle.bridge_serve.specs.Doors.{AreBound, destination_of, SomeRose}
 use Rattle.bridge_serve.specs.Noted.{IsNoteOf, note_of_run, talks_of, PrintsLast}
 use Rattle.bridge_serve.specs.Opened.{IsOpenedDesk, opened_at, desk_over, IsOpenedOnly}
@@ -89,12 +90,10 @@ pub record IsRun (server : Server) (tells : Type 0) (old new : Moment) (net net'
   pub bound : AreBound server doors rules
   pub ran : IsRunAt server.talks (destination_of server.forward) tells old new net net' rules doors doors' writes writes' taken taken' note
 
--- What was done: the device was not opened, and then no door was bound and nothing was dialed; or no worker began; or the server
--- ran. `Same` says that the net is the very net that was given: no place was bound at it, and none was dialed. `writes writes'` are
--- the output's counts of writes that failed.
-abbrev pub IsServed : (Same : Type 0) → Server → (tells : Type 0) → Moment → Moment → NetState → NetState → List DoorState
-    → (writes writes' : ℕ) → Option (List ℕ) → Option (List ℕ) → Note → Type 0
-IsServed Same server tells old new net net' doors' writes writes' taken taken' note =
-    (IsUnopened tells old new note × Same × (net' ≡ net) × (doors' ≡ []) × (taken' ≡ taken))
-    ⊎ ((IsUnserved tells old new net net' taken taken' note × (doors' ≡ []))
-    ⊎ IsRun server tells old new net net' doors' writes writes' taken taken' note)
+-- What was done: the device was not opened, and then no door was bound, nothing was dialed and nothing was printed; or no worker began; or
+-- the server ran.
+abbrev pub IsServed : Server → DiskRun → OutputRun → NetRun → List DoorState → Note → Type 0
+IsServed server disk output net doors' note =
+    (IsUnopened disk.tells disk.old disk.new note × IsOffline net × (doors' ≡ []) × IsSilent output)
+    ⊎ ((IsUnserved disk.tells disk.old disk.new net.old net.new output.taken output.taken_after note × (doors' ≡ []))
+    ⊎ IsRun server disk.tells disk.old disk.new net.old net.new doors' output.faults output.faults_after output.taken output.taken_after note)

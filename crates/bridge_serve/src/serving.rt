@@ -7,6 +7,7 @@ ghost use Rattle.bridge_words.specs.Lines.{serve_line};
 ghost use Rattle.bridge_words.specs.Words.{HasRelayPolls};
 ghost use Rattle.bridge_parts.specs.Counted.{RoseBy, DiskRoseBy, WroteAfter, WritesOfBoth};
 ghost use Rattle.bridge_parts.specs.Pending.{pending_in};
+ghost use Rattle.bridge_parts.specs.Run.{disk_run, net_run, output_run};
 ghost use Rattle.bridge_serve.specs.Doors.{destination_of};
 ghost use Rattle.bridge_serve.specs.Noted.{note_of_run, talks_of, PrintsLast};
 ghost use Rattle.bridge_serve.specs.Opened.{IsOpenedFrom};
@@ -173,9 +174,8 @@ where
     ensures writes { WritesOfBoth result.note (K.write_faults output.old) (K.write_faults output.new) (N.told net.old).write_faults
         (N.told net.new).write_faults }
     ensures dials { (N.told net.old).net_faults ≤ (N.told net.new).net_faults }
-    ensures served { IsServed (net.new ≡ net.old) server D.tells (D.moment disk) (D.moment result.disk) (N.told net.old) (N.told net.new)
-        (map (λ (door : _). N.P.told door) result.doors.items) (K.write_faults output.old) (K.write_faults output.new)
-        (K.taken output.old) (K.taken output.new) result.note }
+    ensures served { IsServed server (disk_run D.tells D.moment disk result.disk) (output_run K.taken K.write_faults output.old output.new)
+        (net_run N.told net.old net.new) (map (λ (door : _). N.P.told door) result.doors.items) result.note }
 {
     let before = Snapshot::of(&disk);
     let spool = match Spool::recover(alloc, disk, Opening::Raise) {

@@ -1,8 +1,9 @@
-//! What the program does around its one call: what it was called with, how FILE is opened, what is shown of a command's progress, the
-//! lines on standard error, and the exit status.
+//! What the program does around its one call: what it was called with, how FILE is opened, what is shown of a command's progress and
+//! of FILE's health, the lines on standard error, and the exit status.
 #![tactic(auto)]
 
 mod arguments;
+mod health;
 mod opening;
 mod progress;
 mod report;

@@ -1,4 +1,5 @@
-//! How far a command is, for a user who waits.
+//! How far a command is, for a user who waits, and FILE as it is watched meanwhile.
+use crate::health::{Call, HealthLines};
 use edge_disk::{Disk, DiskFault};
 use std::time::Instant;
 
@@ -48,17 +49,24 @@ impl<'a> Progress<'a> {
     }
 }
 
-/// A disk, and how far its reading is. All else is as the disk has it.
+/// A disk, how far its reading is, and whether its calls succeed: standard error says so once where one fails, and
+/// once where the disk is well again. All else is as the disk has it.
 #[derive(Drop)]
 pub struct Watched<'a, D> {
     disk: D,
     progress: Progress<'a>,
+    health: HealthLines<'a>,
 }
 
 impl<'a, D: Disk> Watched<'a, D> {
     /// The disk, with the progress of the command that reads it.
     pub fn new(disk: D, progress: Progress<'a>) -> Watched<'a, D> {
-        Watched { disk, progress }
+        let health = HealthLines::new(progress.rt);
+        Watched {
+            disk,
+            progress,
+            health,
+        }
     }
 }
 
@@ -83,14 +91,20 @@ impl<D: Disk> Disk for Watched<'_, D> {
 
     fn read_at(&mut self, at: u64, buf: &mut [u8]) -> Result<(), DiskFault> {
         self.progress.count(buf.len());
-        self.disk.read_at(at, buf)
+        let outcome = self.disk.read_at(at, buf);
+        self.health.saw(Call::Read { at }, &outcome);
+        outcome
     }
 
     fn write_at(&mut self, at: u64, piece: &[u8]) -> Result<(), DiskFault> {
-        self.disk.write_at(at, piece)
+        let outcome = self.disk.write_at(at, piece);
+        self.health.saw(Call::Write, &outcome);
+        outcome
     }
 
     fn sync(&mut self) -> Result<(), DiskFault> {
-        self.disk.sync()
+        let outcome = self.disk.sync();
+        self.health.saw(Call::Sync, &outcome);
+        outcome
     }
 }

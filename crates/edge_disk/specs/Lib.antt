@@ -7,4 +7,5 @@ pub mod HeldLaws
 pub mod CallPlan
 pub mod Crashing
 pub mod MemDisk
+pub mod ByteRange
 pub mod FileDisk

@@ -3,23 +3,24 @@
 ghost use Rattle.std.specs.Prelude.{◌≡◌, ◌⊎◌, ◌<◌, ◌^◌, IfOk};
 ghost use Rattle.foundation.specs.Faults.{HasCause};
 
+use crate::opening::{open_file, set_length, sync_folder};
+use crate::tracked_file::TrackedFile;
 use crate::{Disk, DiskFault, OpenFault, Sharing};
-use std::fs::{File, OpenOptions};
+use std::fs::File;
 use std::io;
-use std::os::unix::fs::FileExt;
-use std::path::Path;
 
-/// A file as a disk. Its length is the file's as it was opened. A read at which the file has become
-/// shorter is a fault.
+/// A file or a block device as a disk. Its length is the file's as it was opened. A read, a write or a sync at
+/// which the file has become shorter is a fault.
+///
+/// After a sync or a write that failed, each call first makes good what was written since the last good sync,
+/// and is a fault while that fails.
 ///
 /// While it is open the file is locked, so that no two programs change one disk. The lock is the system's
 /// advisory one on the whole file: it ends with the value, and with the process however that ends.
 #[derive(Drop)]
 pub struct FileDisk {
-    file: File,
-    len: u64,
+    file: TrackedFile,
     faults: u64,
-    ghost fits: { len < 2 ^ 64 },
 }
 
 impl FileDisk {
@@ -36,9 +37,10 @@ impl FileDisk {
         }
     }
 
-    /// Opens the file, or makes it, for this program alone. A file that is new or empty gets the length of
-    /// `len` zero bytes; the bytes and the length of any other stay. The file's name in its folder is made
-    /// durable.
+    /// Opens the file, or makes it, for this program alone. A file that is made is its owner's alone to read and
+    /// write (mode 0600); the mode of any other stays. A file that is new or empty gets the length of `len` zero
+    /// bytes; the bytes and the length of any other stay, as does a block device's. The file's name in its folder
+    /// is made durable, and where the path is a symbolic link's, that of the file that it leads to.
     pub fn make(rt: &HostRuntime, path: &str, len: u64) -> Result<FileDisk, DiskFault>
         ensures faults { IfOk result (λ disk. (file_moment disk).faults ≡ 0) }
         ensures size { IfOk result (λ disk. (file_moment disk).size ≡ len ⊎ 0 < (file_moment disk).size) }
@@ -76,56 +78,12 @@ impl FileDisk {
 
 fn disk_of(file: File, len: u64) -> FileDisk
     ensures faults { result.faults ≡ 0 }
-    ensures len { result.len ≡ len }
+    ensures len { result.file.len ≡ len }
 {
     FileDisk {
-        file,
-        len,
+        file: TrackedFile::new(file, len),
         faults: 0,
     }
-}
-
-// The file, locked, and its length.
-fn open_file(
-    rt: &HostRuntime,
-    path: &str,
-    create: bool,
-    sharing: Sharing,
-) -> Result<(File, u64), OpenFault> {
-    let mut options = OpenOptions::new();
-    options.read(true);
-    options.write(true);
-    options.create(create);
-    let file = options.open(rt, path)?;
-    match sharing {
-        Sharing::Exclusive => file.try_lock()?,
-        Sharing::Shared => file.try_lock_shared()?,
-    }
-    let len = file.metadata()?.len();
-    Ok((file, len))
-}
-
-// Gives a file of `size` bytes that is empty the length `len`, and returns which length it has.
-fn set_length(file: &File, size: u64, len: u64) -> io::Result<u64>
-    ensures { IfOk result (λ now. now ≡ len ⊎ 0 < now) }
-{
-    if size > 0 {
-        return Ok(size);
-    }
-    file.set_len(len)?;
-    file.sync_all()?;
-    Ok(len)
-}
-
-// The name of a file that was made is durable only once its folder is synced.
-fn sync_folder(rt: &HostRuntime, path: &str) -> io::Result<()> {
-    let folder = match Path::new(path).parent() {
-        Some(folder) if !folder.as_str().is_empty() => folder,
-        _ => Path::new("."),
-    };
-    let mut options = OpenOptions::new();
-    options.read(true);
-    options.open(rt, folder)?.sync_all()
 }
 
 // Counts a failure.
@@ -152,28 +110,28 @@ impl Disk for FileDisk {
 
     ghost reads_too = { λ d images. images };
 
-    ghost fits = { λ d. d.fits };
+    ghost fits = { λ d. d.file.fits };
 
     ghost lawful = { λ d tells. absurd tells };
 
     ghost stands_in = { λ d t c tells. absurd tells };
 
     fn len(&self) -> u64 {
-        self.len
+        self.file.len()
     }
 
     fn read_at(&mut self, at: u64, buf: &mut [u8]) -> Result<(), DiskFault> {
-        let outcome = self.file.read_exact_at(buf, at);
+        let outcome = self.file.read_at(at, buf);
         count(outcome, &mut self.faults)
     }
 
     fn write_at(&mut self, at: u64, piece: &[u8]) -> Result<(), DiskFault> {
-        let outcome = self.file.write_all_at(piece, at);
+        let outcome = self.file.write_at(at, piece);
         count(outcome, &mut self.faults)
     }
 
     fn sync(&mut self) -> Result<(), DiskFault> {
-        let outcome = self.file.sync_data();
+        let outcome = self.file.sync();
         count(outcome, &mut self.faults)
     }
 }

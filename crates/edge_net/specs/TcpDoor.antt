@@ -5,7 +5,7 @@ use Rattle.edge_io.specs.Door.{DoorState}
 use Rattle.edge_net.specs.declared.door.TcpDoor.{TcpDoor}
 
 -- what it tells: its place and its counts of faults
-abbrev pub state_of : TcpDoor → DoorState
+abbrev pub state_of : {R : Type 0} → TcpDoor R → DoorState
 state_of door = record {
   place = Some (string_bytes door.place);
   waiting = None;

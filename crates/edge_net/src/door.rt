@@ -1,38 +1,82 @@
 //! A door over TCP.
 ghost use Rattle.std.specs.Prelude.{◌≡◌};
 
-use crate::TcpLink;
+use crate::accepting::next_connection;
+use crate::roll::{Place, Roll};
+use crate::{TcpLink, Waits};
 use edge_io::{AcceptFault, Door, Proto};
 use std::alloc::AllocError;
-use std::io::{self, ErrorKind};
+use std::io;
 use std::net::{TcpListener, TcpStream};
+use std::rt::Clock;
+use std::sync::Arc;
 
-// How many connections one accept tries, the last one among them.
-const MOST_TRIES: u32 = 1_000;
+/// What the doors of one place share.
+#[derive(Drop)]
+pub(crate) struct Shared<'a, R> {
+    /// The clock and standard error.
+    pub(crate) rt: &'a R,
+    /// How long they and their links wait.
+    pub(crate) waits: Waits,
+    /// The place itself.
+    pub(crate) place: Arc<Place>,
+    /// All places of the net.
+    pub(crate) roll: Arc<Roll>,
+}
+
+impl<'a, R> Shared<'a, R> {
+    /// The same for another door.
+    pub(crate) fn try_clone(&self) -> Result<Shared<'a, R>, AllocError> {
+        Ok(Shared {
+            rt: self.rt,
+            waits: self.waits,
+            place: Arc::try_clone(&self.place)?,
+            roll: Arc::try_clone(&self.roll)?,
+        })
+    }
+}
+
+impl<R: Clock + Eprint> Shared<'_, R> {
+    // Notes that a door begins, and waits until all have, for as long as the first accept of a door may.
+    fn begin(&self) {
+        self.place.begin();
+        self.roll.wait_for_all(self.rt, self.waits.roll);
+    }
+
+    // The next connection of the socket. The error is one that lasts.
+    fn next_stream(&self, listener: &TcpListener) -> io::Result<TcpStream> {
+        let place = self.place.name.as_str();
+        next_connection(self.rt, listener, place, &self.place.reported)
+    }
+}
 
 /// A socket that listens. It tells its place, counts its errors, and tells nothing of its links. It is never shut
 /// for good: an accept waits for the next connection.
 #[derive(Drop)]
-pub struct TcpDoor {
+pub struct TcpDoor<'a, R> {
     place: String,
     listener: TcpListener,
+    shared: Shared<'a, R>,
+    has_begun: bool,
     accept_errors: u64,
     read_errors: u64,
     write_errors: u64,
 }
 
-impl TcpDoor {
+impl<'a, R> TcpDoor<'a, R> {
     ghost use Rattle.std.specs.String.{string_bytes};
     ghost use Rattle.edge_io.specs.Door.{IsNewDoor};
     ghost use Rattle.edge_net.specs.TcpDoor.{state_of};
 
     /// A door over the socket, which was bound at that place.
-    pub(crate) fn at(listener: TcpListener, place: String) -> TcpDoor
+    pub(crate) fn at(listener: TcpListener, place: String, shared: Shared<'a, R>) -> TcpDoor<'a, R>
         ensures { IsNewDoor (string_bytes place) (state_of result) }
     {
         TcpDoor {
             place,
             listener,
+            shared,
+            has_begun: false,
             accept_errors: 0,
             read_errors: 0,
             write_errors: 0,
@@ -40,52 +84,26 @@ impl TcpDoor {
     }
 }
 
-// Whether an error of an accept is one of the connection that was to be accepted, or of the call alone: the peer went, its
-// network can't be reached, a firewall forbids it, or the call was interrupted. The socket that listens is well then, and
-// the next connection may be accepted. Want of descriptors or memory is none, nor is an error without a kind of its own.
-fn is_passing(kind: ErrorKind) -> bool {
-    matches!(
-        kind,
-        ErrorKind::Interrupted
-            | ErrorKind::ConnectionAborted
-            | ErrorKind::ConnectionReset
-            | ErrorKind::ConnectionRefused
-            | ErrorKind::NotConnected
-            | ErrorKind::TimedOut
-            | ErrorKind::HostUnreachable
-            | ErrorKind::NetworkUnreachable
-            | ErrorKind::NetworkDown
-            | ErrorKind::PermissionDenied
-            | ErrorKind::Unsupported
-    )
-}
-
-// Accepts the next connection that is still there, and passes over those whose own error came first.
-fn next_stream(listener: &TcpListener) -> io::Result<TcpStream> {
-    for _ in 1..MOST_TRIES {
-        match listener.accept() {
-            Ok((stream, _)) => return Ok(stream),
-            Err(error) if is_passing(error.kind()) => {}
-            Err(error) => return Err(error),
-        }
-    }
-    let (stream, _) = listener.accept()?;
-    Ok(stream)
-}
-
-impl Door for TcpDoor {
+impl<R: Clock + Eprint> Door for TcpDoor<'_, R> {
     ghost use Rattle.edge_net.specs.TcpDoor.{state_of};
 
     type L = TcpLink;
 
     ghost told = { λ door. state_of door };
 
-    /// Accepts the next connection. One that fails by itself, as where its peer went before it was accepted, is passed
-    /// over and counts nothing, up to 999 of them in a call. Every other error of the system is a fault, as where no
-    /// descriptor or no memory is left for a connection.
+    /// Accepts the next connection. An error that passes is waited out and counts nothing, whether it is the connection's own, as
+    /// where its peer went before it was accepted, or want of descriptors or memory; standard error says so, once a minute at
+    /// most for a place. An error that lasts is a fault: the socket can't accept.
+    ///
+    /// The first accept waits until all doors of the net have begun, for three seconds at most, and then reports the places
+    /// of those that have not: the system refused them a thread.
     fn accept(&mut self) -> Result<Option<TcpLink>, AcceptFault> {
-        match next_stream(&self.listener) {
-            Ok(stream) => Ok(Some(TcpLink::accepted(stream))),
+        if !self.has_begun {
+            self.has_begun = true;
+            self.shared.begin();
+        }
+        match self.shared.next_stream(&self.listener) {
+            Ok(stream) => Ok(Some(TcpLink::accepted(stream, self.shared.waits))),
             Err(_) => {
                 self.accept_errors = self.accept_errors.saturating_add(1);
                 Err(AcceptFault)
@@ -94,12 +112,12 @@ impl Door for TcpDoor {
     }
 
     /// Counts the connection's errors, and closes it so that its peer gets what was written last. For that it waits until the
-    /// peer closes it too: little more than a second where that one is silent, and less than two minutes where it goes on sending.
+    /// peer closes it too: little more than a second where that one is silent, and two seconds at most where it goes on sending.
     /// It takes no memory.
     fn give_back(&mut self, link: TcpLink, _: Proto, _: u64, _: u8) -> Result<(), AllocError> {
         self.read_errors = self.read_errors.saturating_add(link.read_errors());
         self.write_errors = self.write_errors.saturating_add(link.write_errors());
-        link.close();
+        link.close(self.shared.rt);
         Ok(())
     }
 }

@@ -1,10 +1,16 @@
 //! A connection over TCP.
-ghost use Rattle.std.specs.Prelude.{◌≡◌};
+ghost use Rattle.std.specs.Prelude.{◌≡◌, ◌≤◌, length, IfOk};
 
+use crate::Waits;
 use crate::closing::close_after_peer;
 use edge_io::{Link, Object, ReadFault, Sink, Source, WriteFault};
-use std::io::{Read, Write};
+use std::io::{self, ErrorKind, Read, Write};
 use std::net::TcpStream;
+use std::rt::Clock;
+use std::time::Duration;
+
+// How many times a call is made, where signals interrupt it each time.
+const MOST_TRIES: u32 = 1_000;
 
 /// A connection over TCP, that was dialed or accepted. It counts its errors and tells no bytes. The link may be
 /// read and written by another thread than the one that made it.
@@ -16,19 +22,33 @@ pub struct TcpLink {
     write_errors: u64,
 }
 
+/// What the system has set for the socket of a link.
+#[derive(Clone, Copy, Debug, PartialEq, Eq)]
+pub struct LinkSettings {
+    /// Each write goes out at once, and none is held back until more is written.
+    pub is_prompt: bool,
+    /// How long a read waits for the peer, or for as long as it likes.
+    pub read_wait: Option<Duration>,
+    /// How long a write waits for the peer, or for as long as it likes.
+    pub write_wait: Option<Duration>,
+}
+
 impl TcpLink {
     ghost use Rattle.std.specs.Prelude.{Some, None};
     ghost use Rattle.std.specs.Option.{option_map};
     ghost use Rattle.std.specs.String.{string_bytes};
     ghost use Rattle.edge_net.specs.TcpLink.{place_of, read_errors_of, write_errors_of, IsUnfailed};
 
-    // A link over the stream. An answer isn't held back until more is written; where the system doesn't grant
-    // that, the link is slower and else the same.
-    fn over(stream: TcpStream, place: Option<String>) -> TcpLink
+    // A link over the stream, of which a read or a write waits for its peer for as long as `wait` at most. An answer isn't held
+    // back until more is written; where the system doesn't grant that, the link is slower and else the same. The system grants a
+    // wait above 0 to any socket.
+    fn over(stream: TcpStream, place: Option<String>, wait: Duration) -> TcpLink
         ensures unfailed { IsUnfailed result }
         ensures place { place_of result ≡ option_map string_bytes place }
     {
         let _ = stream.set_nodelay(true);
+        let _ = stream.set_read_timeout(Some(wait));
+        let _ = stream.set_write_timeout(Some(wait));
         TcpLink {
             place,
             stream,
@@ -38,19 +58,28 @@ impl TcpLink {
     }
 
     /// The link of a connection that was accepted.
-    pub(crate) fn accepted(stream: TcpStream) -> TcpLink
+    pub(crate) fn accepted(stream: TcpStream, waits: Waits) -> TcpLink
         ensures unfailed { IsUnfailed result }
         ensures place { place_of result ≡ None }
     {
-        TcpLink::over(stream, None)
+        TcpLink::over(stream, None, waits.accepted)
     }
 
     /// The link of a connection that was dialed at that place.
-    pub(crate) fn dialed(stream: TcpStream, place: String) -> TcpLink
+    pub(crate) fn dialed(stream: TcpStream, place: String, waits: Waits) -> TcpLink
         ensures unfailed { IsUnfailed result }
         ensures place { place_of result ≡ Some (string_bytes place) }
     {
-        TcpLink::over(stream, Some(place))
+        TcpLink::over(stream, Some(place), waits.dialed)
+    }
+
+    /// What the system has set for the link's socket. The error is the system's.
+    pub fn settings(&self) -> io::Result<LinkSettings> {
+        Ok(LinkSettings {
+            is_prompt: self.stream.nodelay()?,
+            read_wait: self.stream.read_timeout()?,
+            write_wait: self.stream.write_timeout()?,
+        })
     }
 
     /// How many reads have failed.
@@ -69,9 +98,36 @@ impl TcpLink {
 
     /// Closes the connection so that its peer gets what was written last. What the peer still sends meanwhile is dropped, and
     /// counts as unread.
-    pub(crate) fn close(self) {
-        close_after_peer(self.stream)
+    pub(crate) fn close(self, rt: &impl Clock) {
+        close_after_peer(rt, self.stream)
     }
+}
+
+// A read of the stream, which is tried again where a signal interrupts it.
+fn read_on(stream: &mut TcpStream, buf: &mut [u8]) -> io::Result<usize>
+    ensures bound { IfOk result (λ n. n ≤ length buf.new) }
+    ensures len { length buf.new ≡ length buf.old }
+{
+    for _ in 1..MOST_TRIES {
+        match stream.read(buf) {
+            Err(error) if error.kind() == ErrorKind::Interrupted => {}
+            outcome => return outcome,
+        }
+    }
+    stream.read(buf)
+}
+
+// A write to the stream, which is tried again where a signal interrupts it.
+fn write_on(stream: &mut TcpStream, piece: &[u8]) -> io::Result<usize>
+    ensures bound { IfOk result (λ n. n ≤ length piece.now) }
+{
+    for _ in 1..MOST_TRIES {
+        match stream.write(piece) {
+            Err(error) if error.kind() == ErrorKind::Interrupted => {}
+            outcome => return outcome,
+        }
+    }
+    stream.write(piece)
 }
 
 impl Object for TcpLink {
@@ -98,10 +154,11 @@ impl Source for TcpLink {
 
     ghost read_apart_trans = { λ x y z p q. (Prim.cc, Prim.cc) };
 
-    /// A read of the socket, which may wait for the peer. The end of input is the peer's: it has shut its side. Each error of it
-    /// is a fault, an interrupted call's too.
+    /// A read of the socket, which waits for the peer for as long as the link's bound. The end of input is the peer's: it has shut
+    /// its side. A call that a signal interrupts is made again, up to 1,000 times. Each other error is a fault, and so is a wait in
+    /// vain.
     fn read(&mut self, buf: &mut [u8]) -> Result<usize, ReadFault> {
-        match self.stream.read(buf) {
+        match read_on(&mut self.stream, buf) {
             Ok(n) => Ok(n),
             Err(_) => {
                 self.read_errors = self.read_errors.saturating_add(1);
@@ -125,10 +182,11 @@ impl Sink for TcpLink {
 
     ghost apart_trans = { λ x y z p q. (Prim.cc, Prim.cc) };
 
-    /// A write to the socket, which may wait for a peer that doesn't read. Each error of it is a fault, and so is 0 bytes for a
-    /// piece that isn't empty.
+    /// A write to the socket, which waits for a peer that doesn't read for as long as the link's bound. A call that a signal
+    /// interrupts is made again, up to 1,000 times. Each other error is a fault, and so are a wait in vain and 0 bytes for a piece
+    /// that isn't empty.
     fn write(&mut self, piece: &[u8]) -> Result<usize, WriteFault> {
-        match self.stream.write(piece) {
+        match write_on(&mut self.stream, piece) {
             Ok(n) if n > 0 || piece.is_empty() => Ok(n),
             _ => {
                 self.write_errors = self.write_errors.saturating_add(1);
@@ -153,4 +211,4 @@ trait Movable: Send {}
 
 impl Movable for TcpLink {}
 
-impl Movable for crate::TcpDoor {}
+impl<R: Sync> Movable for crate::TcpDoor<'_, R> {}

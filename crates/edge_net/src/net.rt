@@ -3,13 +3,19 @@ ghost use Rattle.std.specs.Prelude.{◌≡◌, IfOk, All, length};
 ghost use Rattle.edge_io.specs.Door.{IsNewDoor};
 ghost use Rattle.edge_net.specs.TcpDoor.{state_of as door_state};
 
-use crate::{TcpDoor, TcpLink};
+use crate::door::Shared;
+use crate::roll::{Place, Roll};
+use crate::{TcpDoor, TcpLink, Waits};
 use edge_io::{Net, NetFault, Object, Pause};
-use std::alloc::Global;
-use std::net::{self, TcpListener, TcpStream};
+use std::alloc::{AllocError, Global};
+use std::net::{self, TcpListener, TcpStream, ToSocketAddrs};
 use std::rt::Clock;
-use std::thread;
+use std::sync::Arc;
 use std::time::Duration;
+use std::{io, thread};
+
+// At which pause the places that lack a thread are reported. Each is a second.
+const ROLL_PAUSE: u32 = 3;
 
 /// The sockets of the system. A place is an address of IP or the name of a host, a colon and a port. A bind listens
 /// at the first of the host's addresses that can be bound, a dial connects to the first that answers.
@@ -17,6 +23,11 @@ use std::time::Duration;
 pub struct TcpNet<'a, R> {
     alloc: Global,
     rt: &'a R,
+    waits: Waits,
+    // The places that were bound, once one was.
+    roll: Option<Arc<Roll>>,
+    places: usize,
+    pauses: u32,
     errors: u64,
     read_errors: u64,
     write_errors: u64,
@@ -26,13 +37,24 @@ impl<'a, R> TcpNet<'a, R> {
     ghost use Rattle.std.specs.Prelude.{None};
     ghost use Rattle.edge_net.specs.TcpNet.{state_of};
 
-    /// A net with no error so far.
+    /// A net with no error so far, whose links wait as those of the program.
     pub fn new(alloc: Global, rt: &'a R) -> TcpNet<'a, R>
+        ensures { state_of result ≡ record { hung = None; net_faults = 0; read_faults = 0; write_faults = 0 } }
+    {
+        TcpNet::with_waits(alloc, rt, Waits::standard())
+    }
+
+    /// A net with no error so far, whose doors and links wait so long.
+    pub fn with_waits(alloc: Global, rt: &'a R, waits: Waits) -> TcpNet<'a, R>
         ensures { state_of result ≡ record { hung = None; net_faults = 0; read_faults = 0; write_faults = 0 } }
     {
         TcpNet {
             alloc,
             rt,
+            waits,
+            roll: None,
+            places: 0,
+            pauses: 0,
             errors: 0,
             read_errors: 0,
             write_errors: 0,
@@ -48,14 +70,21 @@ impl<R> Object for TcpNet<'_, R> {
     ghost same_trans = { λ _ _ _ _ _. tt };
 }
 
-impl<R: Clock> Pause for TcpNet<'_, R> {
+impl<R: Clock + Eprint> Pause for TcpNet<'_, R> {
     ghost use Rattle.edge_net.specs.TcpNet.{state_of};
 
     ghost pause_apart = { λ x y. state_of y ≡ state_of x };
 
-    /// Sleeps for a second.
+    /// Sleeps for a second. The third pause also reports the places that lack a thread, as where those who accept wait
+    /// for this thread to end.
     fn pause(&mut self) {
-        thread::sleep(self.rt, Duration::from_secs(1))
+        thread::sleep(self.rt, Duration::from_secs(1));
+        self.pauses = self.pauses.saturating_add(1);
+        if self.pauses == ROLL_PAUSE
+            && let Some(roll) = &self.roll
+        {
+            roll.report_missing(self.rt);
+        }
     }
 
     ghost pause_refl = { λ _. Prim.cc };
@@ -64,41 +93,95 @@ impl<R: Clock> Pause for TcpNet<'_, R> {
 }
 
 // So many doors over the one socket: each accepts the connections that the others don't.
-fn doors_over(
+fn doors_over<'a, R>(
     alloc: Global,
     listener: &TcpListener,
     place: &str,
     count: usize,
-) -> Result<Vec<TcpDoor>, NetFault>
+    shared: &Shared<'a, R>,
+) -> Result<Vec<TcpDoor<'a, R>>, NetFault>
     ensures count { IfOk result (λ made. length made.items ≡ count) }
     ensures fresh { IfOk result (λ made. All (λ door. IsNewDoor place.now (door_state door)) made.items) }
 {
     let mut made = Vec::with_capacity(alloc, count)?;
     'doors: while made.len() < count {
         let name = String::from_str(alloc, place)?;
-        let Ok(shared) = listener.try_clone() else {
+        let theirs = shared.try_clone()?;
+        let Ok(socket) = listener.try_clone() else {
             return Err(NetFault::Fault);
         };
-        made.push_reserved(TcpDoor::at(shared, name));
+        made.push_reserved(TcpDoor::at(socket, name, theirs));
     }
     Ok(made)
 }
 
-impl<R: net::Net<Stream = TcpStream, Listener = TcpListener> + Clock> Net for TcpNet<'_, R> {
+// Connects to the first of the host's addresses that answers, and waits for each for as long as `wait` at most.
+fn connected<R: net::Net<Stream = TcpStream>>(
+    rt: &R,
+    place: &str,
+    wait: Duration,
+) -> io::Result<Option<TcpStream>> {
+    for address in place.to_socket_addrs(rt)? {
+        if let Ok(stream) = TcpStream::connect_timeout(rt, &address, wait) {
+            return Ok(Some(stream));
+        }
+    }
+    Ok(None)
+}
+
+impl<'a, R> TcpNet<'a, R> {
+    ghost use Rattle.edge_net.specs.TcpNet.{state_of};
+
+    // The roll of the net, made where there is none.
+    fn roll(&mut self) -> Result<Arc<Roll>, AllocError>
+        ensures { state_of self.new ≡ state_of self.old }
+    {
+        if self.roll.is_none() {
+            self.roll = Some(Arc::new(self.alloc, Roll::new(self.alloc)?)?);
+        }
+        match &self.roll {
+            Some(roll) => Arc::try_clone(roll),
+            None => Err(AllocError),
+        }
+    }
+
+    // What the doors of a place share, which is entered in the roll.
+    fn shared(&mut self, place: &str, doors: u32) -> Result<Shared<'a, R>, AllocError>
+        ensures { state_of self.new ≡ state_of self.old }
+    {
+        let roll = self.roll()?;
+        let name = String::from_str(self.alloc, place)?;
+        let place = Arc::new(self.alloc, Place::with_doors(name, u64::from(doors)))?;
+        roll.enter(self.places, Arc::try_clone(&place)?);
+        self.places = self.places.saturating_add(1);
+        Ok(Shared {
+            rt: self.rt,
+            waits: self.waits,
+            place,
+            roll,
+        })
+    }
+}
+
+impl<'a, R: net::Net<Stream = TcpStream, Listener = TcpListener> + Clock + Eprint> Net
+    for TcpNet<'a, R> {
     ghost use Rattle.edge_net.specs.TcpNet.{state_of};
 
     type L = TcpLink;
 
-    type P = TcpDoor;
+    type P = TcpDoor<'a, R>;
 
     ghost told = { λ net. state_of net };
 
     ghost has_room = { λ _. Unit {0} };
 
     /// Listens at the place, with one socket for all the doors. A port that is taken is a fault.
-    fn bind(&mut self, place: &str, doors: u32) -> Result<Vec<TcpDoor>, NetFault> {
+    fn bind(&mut self, place: &str, doors: u32) -> Result<Vec<TcpDoor<'a, R>>, NetFault> {
         let made = match TcpListener::bind(self.rt, place) {
-            Ok(listener) => doors_over(self.alloc, &listener, place, doors as usize),
+            Ok(listener) => {
+                let shared = self.shared(place, doors)?;
+                doors_over(self.alloc, &listener, place, doors as usize, &shared)
+            }
             Err(_) => Err(NetFault::Fault),
         };
         match made {
@@ -111,12 +194,12 @@ impl<R: net::Net<Stream = TcpStream, Listener = TcpListener> + Clock> Net for Tc
         }
     }
 
-    /// Connects to the place. A peer that doesn't listen is a fault.
+    /// Connects to the place. A peer that doesn't listen is a fault, and so is one that doesn't answer in time.
     fn dial(&mut self, place: &str) -> Result<TcpLink, NetFault> {
         let name = String::from_str(self.alloc, place)?;
-        match TcpStream::connect(self.rt, place) {
-            Ok(stream) => Ok(TcpLink::dialed(stream, name)),
-            Err(_) => {
+        match connected(self.rt, place, self.waits.dialed) {
+            Ok(Some(stream)) => Ok(TcpLink::dialed(stream, name, self.waits)),
+            Ok(None) | Err(_) => {
                 self.errors = self.errors.saturating_add(1);
                 Err(NetFault::Fault)
             }

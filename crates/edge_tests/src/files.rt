@@ -1,7 +1,10 @@
 //! Disks that are files.
 use edge_disk::{Disk, FileDisk, OpenFault, Sharing};
+use std::env;
+use std::fs::{self, Permissions};
+use std::os::unix::fs::{PermissionsExt, symlink};
 use std::process::{self, Abort};
-use std::{env, fs};
+use std::rt::Files;
 
 // The name of a file of this process.
 fn file_name(rt: &impl Abort, host: &HostRuntime) -> String {
@@ -98,6 +101,65 @@ fn a_file_is_shared(rt: &impl Abort, host: &HostRuntime, path: &str) {
     assert!(rt; matches!(gone, Err(OpenFault::NotFound)));
 }
 
+// Which of the bits that say who may do what with a file are set.
+fn mode_of(rt: &impl Abort, host: &HostRuntime, path: &str) -> u32 {
+    let metadata = fs::metadata(host, path).expect(rt, "metadata");
+    metadata.permissions().mode() & 0o777
+}
+
+// A file that is made is its owner's alone, and one that was there keeps its mode.
+fn a_file_is_its_owners_alone(rt: &impl Abort, host: &HostRuntime, path: &str) {
+    drop(FileDisk::make(host, path, 2).expect(rt, "make"));
+    assert!(rt; mode_of(rt, host, path) == 0o600);
+    let shared = Permissions::from_mode(0o640);
+    host.set_permissions(path, shared)
+        .expect(rt, "set permissions");
+    drop(FileDisk::make(host, path, 2).expect(rt, "make again"));
+    assert!(rt; mode_of(rt, host, path) == 0o640);
+    fs::remove_file(host, path).expect(rt, "remove");
+}
+
+// A write doesn't make a file longer again that somebody shortened, and no sync of it succeeds. Once it has its
+// length again, all that was written since the last good sync is written back as a read gives it.
+fn a_file_that_shrank_is_a_fault(rt: &impl Abort, host: &HostRuntime, path: &str) {
+    let mut disk = FileDisk::make(host, path, 4).expect(rt, "make");
+    assert!(rt; disk.write_at(1, &[2, 3]).is_ok());
+    fs::write(host, path, b"\x09".as_slice()).expect(rt, "shorten");
+    assert!(rt; disk.write_at(2, &[5]).is_err() && holds(rt, host, path, &[9]));
+    assert!(rt; disk.sync().is_err() && holds(rt, host, path, &[9]));
+    let mut buf = [0; 4];
+    // After that sync nothing is done before what was written is good.
+    assert!(rt; disk.read_at(0, &mut buf[..1]).is_err());
+    assert!(rt; disk.write_at(0, &[5]).is_err() && holds(rt, host, path, &[9]));
+    fs::write(host, path, b"\x09\x08\x07\x06".as_slice()).expect(rt, "lengthen");
+    assert!(rt; disk.read_at(0, &mut buf).is_ok() && buf == [9, 8, 7, 6]);
+    assert!(rt; disk.write_at(0, &[5]).is_ok() && disk.sync().is_ok());
+    drop(disk);
+    assert!(rt; holds(rt, host, path, &[5, 8, 7, 6]));
+    fs::remove_file(host, path).expect(rt, "remove");
+}
+
+// A symbolic link stands for the file that it leads to, which is made where it isn't there.
+fn a_link_is_its_target(rt: &impl Abort, host: &HostRuntime, path: &str) {
+    let folder = format!(in host.alloc(); "{path}_folder").expect(rt, "memory");
+    let target = format!(in host.alloc(); "{folder}/target").expect(rt, "memory");
+    fs::create_dir(host, folder.as_str()).expect(rt, "a folder");
+    symlink(host, target.as_str(), path).expect(rt, "a link");
+    let mut disk = FileDisk::make(host, path, 2).expect(rt, "make");
+    assert!(rt; disk.write_at(0, &[6, 7]).is_ok() && disk.sync().is_ok());
+    assert!(rt;
+        holds(rt, host, target.as_str(), &[6, 7]) && mode_of(rt, host, target.as_str()) == 0o600
+    );
+    assert!(rt; is_in_use(FileDisk::open_locked(host, target.as_str(), Sharing::Exclusive)));
+    drop(disk);
+    fs::remove_file(host, target.as_str()).expect(rt, "remove the target");
+    fs::remove_dir(host, folder.as_str()).expect(rt, "remove the folder");
+    // Where its folder is gone, nothing is made.
+    let made = FileDisk::make_locked(host, path, 2);
+    assert!(rt; matches!(made, Err(OpenFault::NotFound)));
+    fs::remove_file(host, path).expect(rt, "remove the link");
+}
+
 /// Files in the folder for temporary files, and one that is made by its name alone, in the current folder.
 pub(crate) fn files_are_disks(rt: &impl Abort, host: &HostRuntime) {
     let name = file_name(rt, host);
@@ -106,6 +168,9 @@ pub(crate) fn files_are_disks(rt: &impl Abort, host: &HostRuntime) {
     a_length_is_set_where_there_is_none(rt, host, &path);
     a_file_in_use_is_not_opened(rt, host, &path);
     a_file_is_shared(rt, host, &path);
+    a_file_is_its_owners_alone(rt, host, &path);
+    a_file_that_shrank_is_a_fault(rt, host, &path);
+    a_link_is_its_target(rt, host, &path);
     check_made(rt, host, &name, 2, [0, 0]);
     fs::remove_file(host, name.as_str()).expect(rt, "remove");
 }

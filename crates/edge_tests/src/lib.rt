@@ -4,6 +4,8 @@
 #![tactic(auto)]
 
 #[cfg(test)]
+mod accepts;
+#[cfg(test)]
 mod bytes;
 #[cfg(test)]
 mod disks;
@@ -14,8 +16,14 @@ mod marks;
 #[cfg(test)]
 mod nets;
 #[cfg(test)]
+mod ranges;
+#[cfg(test)]
 mod sockets;
+#[cfg(test)]
+mod staged;
 #[cfg(test)]
 mod streams;
 #[cfg(test)]
 mod tests;
+#[cfg(test)]
+mod waits;

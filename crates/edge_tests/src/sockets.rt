@@ -1,6 +1,6 @@
 //! Links, doors and a net over the loopback's sockets.
 use edge_io::{Door, Net, NetFault, Pause, Proto, ReadFault, Sink, Source, Stopped, write_whole};
-use edge_net::{TcpDoor, TcpLink, TcpNet};
+use edge_net::{TcpDoor, TcpLink, TcpNet, Waits};
 use std::net::TcpListener;
 use std::process::Abort;
 use std::rt::Clock;
@@ -8,17 +8,17 @@ use std::thread::{self, Threads};
 use std::time::{Duration, Instant};
 
 // A port of the loopback at which nobody listens.
-fn free_place(rt: &impl Abort, host: &HostRuntime) -> String {
+pub(crate) fn free_place(rt: &impl Abort, host: &HostRuntime) -> String {
     let listener = TcpListener::bind(host, "127.0.0.1:0").expect(rt, "a free port");
     let place = listener.local_addr().expect(rt, "an address");
     format!(in host.alloc(); "{place}").expect(rt, "memory")
 }
 
 // A link that is dialed at the place, and the link that the door accepts for it.
-fn pair(
+pub(crate) fn pair(
     rt: &impl Abort,
     net: &mut TcpNet<'_, HostRuntime>,
-    door: &mut TcpDoor,
+    door: &mut TcpDoor<'_, HostRuntime>,
     place: &str,
 ) -> (TcpLink, TcpLink) {
     let near = net.dial(place).expect(rt, "a port that listens");
@@ -27,7 +27,11 @@ fn pair(
 }
 
 // A door that is bound at the place.
-fn bound(rt: &impl Abort, net: &mut TcpNet<'_, HostRuntime>, place: &str) -> TcpDoor {
+pub(crate) fn bound<'a>(
+    rt: &impl Abort,
+    net: &mut TcpNet<'a, HostRuntime>,
+    place: &str,
+) -> TcpDoor<'a, HostRuntime> {
     let mut doors = net.bind(place, 1).expect(rt, "a free port");
     doors.pop().expect(rt, "one door")
 }
@@ -99,7 +103,7 @@ fn a_peer_that_resets_is_a_fault(rt: &impl Abort, net: &mut TcpNet<'_, HostRunti
 fn a_silent_peer_is_given_up(
     rt: &(impl Abort + Clock),
     net: &mut TcpNet<'_, HostRuntime>,
-    door: &mut TcpDoor,
+    door: &mut TcpDoor<'_, HostRuntime>,
     place: &str,
 ) {
     let (mut silent, unread) = pair(rt, net, door, place);
@@ -119,7 +123,7 @@ fn sends_then_hears(mut link: TcpLink, piece: &[u8]) -> (bool, bool, Result<usiz
 }
 
 // Whether an answer goes over the link, of which nothing is read, and the link is given back after it.
-fn answers_and_gives_back(mut door: TcpDoor, mut link: TcpLink) -> bool {
+fn answers_and_gives_back(mut door: TcpDoor<'_, HostRuntime>, mut link: TcpLink) -> bool {
     let answered = write_whole(&mut link, b"answer").is_ok();
     let given = door.give_back(link, Proto::Hec, 0, 66).is_ok();
     answered && given
@@ -176,7 +180,12 @@ pub(crate) fn sockets_are_links(
     rt: &(impl Abort + AllocGlobal + Clock + Sync + Threads),
     host: &HostRuntime,
 ) {
-    let mut net = TcpNet::new(rt.alloc(), host);
+    // The doors of a place don't wait long for each other.
+    let waits = Waits {
+        roll: Duration::from_millis(20),
+        ..Waits::standard()
+    };
+    let mut net = TcpNet::with_waits(rt.alloc(), host, waits);
     links_are_dialed_accepted_read_and_written(rt, &mut net, &free_place(rt, host));
     a_port_that_is_taken_is_a_fault(rt, &mut net, &free_place(rt, host));
     a_place_that_nobody_serves_is_a_fault(rt, &mut net, &free_place(rt, host));

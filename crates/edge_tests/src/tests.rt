@@ -1,5 +1,5 @@
 //! All that holds of bytes, numbers, streams, nets and disks.
-use crate::{bytes, disks, files, marks, nets, sockets, streams};
+use crate::{accepts, bytes, disks, files, marks, nets, ranges, sockets, streams, waits};
 use std::alloc::Global;
 use std::process::Abort;
 
@@ -23,6 +23,8 @@ fn nets_and_disks(rt: &impl Abort, alloc: Global) {
     disks::calls_fail_by_their_numbers(rt, alloc);
     disks::gates_open_and_close_on_a_plain_disk(rt, alloc);
     disks::a_call_without_memory_changes_nothing(rt, alloc);
+    ranges::ranges_are_what_was_written(rt);
+    ranges::ranges_have_room_for_64(rt);
 }
 
 #[test]
@@ -32,4 +34,6 @@ fn edges(rt: HostRuntime) {
     nets_and_disks(&rt, alloc);
     files::files_are_disks(&rt, &rt);
     sockets::sockets_are_links(&rt, &rt);
+    waits::links_wait_for_a_while(&rt, &rt);
+    accepts::accepts_fail_and_pass(&rt, alloc, &rt);
 }

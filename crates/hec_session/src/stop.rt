@@ -3,7 +3,7 @@ use crate::code::HecCode;
 use std::alloc::AllocError;
 
 /// Why no further check is made.
-#[derive(Clone, Copy, PartialEq, Eq)]
+#[derive(Clone, Copy, PartialEq, Eq, Debug)]
 pub enum Stop {
     /// The request is answered by this code.
     Answer(HecCode),

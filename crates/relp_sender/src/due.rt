@@ -1,7 +1,7 @@
 //! What is due.
 
 /// What is due.
-#[derive(Clone, Copy, PartialEq, Eq)]
+#[derive(Clone, Copy, PartialEq, Eq, Debug)]
 pub(crate) enum Due {
     /// Nothing: the peer ended the session.
     Stopped,

@@ -18,10 +18,9 @@ returns-in-Err-clause-served g c =
         why = λ tells. c.in-Err.ensures.broken tells;
         any_moment = λ tells. rw disk (c.in-Err.ensures.any_moment tells);
       },
-      refl,
-      refl,
+      record { same = refl; told = refl },
       ap (map (λ (door : _). g.N.P.Door.told door)) c.unserved.ensures.doors,
-      refl,
+      record { same = refl; taken = refl; faults = refl },
     )
 
 pub serve_posts-requires-clause-opened : goal.serve_posts-requires-clause-opened

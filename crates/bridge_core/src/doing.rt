@@ -1,0 +1,112 @@
+//! One function does each command.
+ghost use Rattle.std.specs.Prelude.{◌≡◌, map};
+ghost use Rattle.notes.specs.Notes.{status_of};
+ghost use Rattle.bridge_parts.specs.Run.{disk_run, input_run, net_run, output_run, run_of};
+ghost use Rattle.bridge_core.specs.Asked.{IsAsked};
+ghost use Rattle.bridge_core.specs.Done.{Does};
+
+use crate::ended::Ended;
+use bridge_parts::outward_of;
+use bridge_serve::{Over, serve};
+use bridge_words::Command;
+use commands::{Finished, drain_out, drain_to, format, list, load, replay};
+use conn_serve::Rules;
+use edge_disk::Disk;
+use edge_io::{Door, Net, Sink, Source};
+use std::alloc::Global;
+use std::sync::Wait;
+use std::thread::Threads;
+
+/// Does the command, which words ask for. What a command doesn't need is left alone: `serve` alone binds doors.
+pub(crate) fn do_command<
+    D: Disk + Drop + Send,
+    S: Source,
+    K: Sink,
+    N: Net + Send,
+    R: Threads + Wait + Sync,
+>(
+    rt: &R,
+    alloc: Global,
+    command: Command,
+    disk: D,
+    input: &mut S,
+    output: &mut K,
+    net: &mut N,
+) -> Ended<D, N::P>
+where
+    N::P: Drop + Send,
+    <N::P as Door>::L: Send,
+    N::L: Send,
+    requires asked { IsAsked command }
+
+    ensures status { result.status ≡ status_of result.note }
+    ensures done { Does command
+        (run_of (disk_run D.tells D.moment disk result.disk) (input_run S.given S.left S.read_faults input.old input.new)
+        (output_run K.taken K.write_faults output.old output.new) (net_run N.told net.old net.new)
+        (map (λ (door : _). N.P.told door) result.doors.items)) result.note }
+{
+    match command {
+        Command::Format { slots, size } => {
+            let mut disk = disk;
+            let note = format(alloc, &mut disk, output, slots, size);
+            Ended::of(alloc, note, disk)
+        }
+        Command::List { form } => {
+            let Finished { note, disk } = list(alloc, disk, output, form);
+            Ended::of(alloc, note, disk)
+        }
+        Command::Replay {
+            proto,
+            token,
+            ack_token,
+        } => {
+            let rules = Rules {
+                proto,
+                token,
+                ack_token,
+            };
+            let Finished { note, disk } = replay(alloc, rules, disk, input, output);
+            Ended::of(alloc, note, disk)
+        }
+        Command::Drain {
+            receiver,
+            place: None,
+        } => {
+            let outward = outward_of(receiver);
+            let Finished { note, disk } = drain_out(alloc, &outward, disk, input, output, net);
+            Ended::of(alloc, note, disk)
+        }
+        Command::Drain {
+            receiver,
+            place: Some(place),
+        } => {
+            let outward = outward_of(receiver);
+            let Finished { note, disk } = drain_to(
+                alloc,
+                &outward,
+                place.as_str(),
+                disk,
+                output,
+                net,
+            );
+            Ended::of(alloc, note, disk)
+        }
+        Command::Load {
+            proto,
+            number,
+            count,
+        } => {
+            let note = load(alloc, proto, number, count, output);
+            Ended::of(alloc, note, disk)
+        }
+        Command::Serve { server } => {
+            let Over { note, disk, doors } = serve(rt, alloc, server, disk, output, net);
+            Ended {
+                status: note.status(),
+                note,
+                disk,
+                doors,
+            }
+        }
+    }
+}

@@ -1,0 +1,13 @@
+pub mod Printing
+pub mod Making
+pub mod Rising
+pub mod Given
+pub mod Sure
+pub mod Failing
+pub mod Replays
+pub mod Forwarding
+pub mod Sessions
+pub mod Over
+pub mod Firsts
+pub mod Hanging
+pub mod Durable

@@ -1,0 +1,82 @@
+//! The command `drain`: the entries that aren't known as confirmed are forwarded, over the spool that the device holds.
+ghost use Rattle.std.specs.Prelude.{◌≡◌, ◌≢◌, ◌≤◌, ◌<◌, ℕ, false};
+ghost use Rattle.edge_disk.specs.Calls.{Calls};
+ghost use Rattle.spool_log.specs.Memory.{cursor_of, end_of};
+ghost use Rattle.conn_serve.specs.Endings.{CountsFaults};
+ghost use Rattle.notes.specs.declared.note.Note.TheVariants.{Usage, WrongLength, ReadFault};
+ghost use Rattle.bridge_parts.specs.Run.{disk_run, input_run, link_run, output_run};
+ghost use Rattle.commands.specs.Drained.{IsDrained};
+ghost use Rattle.commands.specs.Failed.{CountsWrites};
+ghost use Rattle.commands.specs.Sending.{IsSentOut};
+ghost use Rattle.commands.specs.SpoolRun.{spool_run};
+
+use crate::finished::Finished;
+use crate::sending::{Sending, is_idle, send};
+use bridge_parts::{recover_note, sent_note};
+use edge_disk::Disk;
+use edge_io::{Both, Link, Net, Pause, Sink, Source};
+use forward_core::Outward;
+use notes::Note;
+use spool_log::{Opening, Refusal, Spool};
+use std::alloc::Global;
+
+// Forwards the entries over the link, unless none is pending.
+fn send_out<D: Disk, L: Link, Z: Pause>(
+    alloc: Global,
+    outward: &Outward,
+    spool: Spool<D>,
+    link: &mut L,
+    rest: &mut Z,
+) -> Finished<D>
+    requires sure { spool.doubt ≡ false }
+    requires polls { 0 < outward.now.polls }
+
+    ensures known { (result.note ≢ Usage) × ((have want : ℕ) → result.note ≢ WrongLength have want) }
+    ensures calls { Calls (result.note ≡ Note.DiskFault) (D.moment spool.disk) (D.moment result.disk) }
+    ensures reads { CountsFaults (result.note ≡ ReadFault) (L.read_faults link.old) (L.read_faults link.new) }
+    ensures writes { CountsWrites result.note (L.write_faults link.old) (L.write_faults link.new) }
+    ensures dials { result.note ≢ Note.NetFault }
+    ensures paused { Z.pause_apart rest.old rest.new }
+    ensures idle { end_of spool.memory ≤ cursor_of spool.memory
+        → (link.new ≡ link.old) × (result.note ≡ Note.Fine) × (result.disk ≡ spool.disk) }
+    ensures sent { cursor_of spool.memory < end_of spool.memory
+        → IsSentOut outward.now (spool_run D.tells D.moment spool.memory spool.disk result.disk)
+        (link_run L.given L.left L.taken link.old link.new) result.note }
+{
+    if is_idle(&spool) {
+        return Finished::of(Note::Fine, spool.into_disk());
+    }
+    let Sending { sent, spool } = send(alloc, outward, spool, link, rest);
+    Finished::of(sent_note(sent), spool.into_disk())
+}
+
+/// Forwards the entries that aren't known as confirmed by these settings: what is sent is written to the output, and the peer's
+/// replies are read from the input. The net only waits, where the protocol asks again after a while.
+///
+/// Where none is pending nothing is read or written, and the note is `Fine`. `NotSpool` comes where the device breaks a rule of the
+/// layout, with the offset of the first one, and then nothing is read or written. Else the note is that of the session's ending.
+pub fn drain_out<D: Disk, S: Source, K: Sink, N: Net>(
+    alloc: Global,
+    outward: &Outward,
+    disk: D,
+    input: &mut S,
+    output: &mut K,
+    net: &mut N,
+) -> Finished<D>
+    requires polls { 0 < outward.now.polls }
+
+    ensures told { N.told net.new ≡ N.told net.old }
+    ensures drained { IsDrained outward.now (disk_run D.tells D.moment disk result.disk)
+        (input_run S.given S.left S.read_faults input.old input.new) (output_run K.taken K.write_faults output.old output.new) result.note }
+{
+    match Spool::recover(alloc, disk, Opening::Keep) {
+        Ok(spool) => {
+            let mut link = Both {
+                source: &mut *input,
+                sink: &mut *output,
+            };
+            send_out(alloc, outward, spool, &mut link, net)
+        }
+        Err(Refusal { fault, disk }) => Finished::of(recover_note(fault), disk),
+    }
+}

@@ -1,0 +1,23 @@
+//! The commands that serve no network: `format`, `list`, `replay`, `drain` over the streams and to a place, and `load`.
+//!
+//! Each is a function over a disk, an input, an output and a net, of which it takes those that it needs. `specs/` says what each does
+//! of what these tell before the call and after it: `IsFormatted`, `IsListed`, `IsReplayed`, `IsDrained`, `IsLoaded`.
+#![tactic(auto)]
+
+mod draining;
+mod finished;
+mod formatting;
+mod lines;
+mod listing;
+mod loading;
+mod placing;
+mod replaying;
+mod sending;
+
+pub use draining::drain_out;
+pub use finished::Finished;
+pub use formatting::format;
+pub use listing::list;
+pub use loading::load;
+pub use placing::drain_to;
+pub use replaying::replay;

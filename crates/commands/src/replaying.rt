@@ -1,0 +1,78 @@
+//! The command `replay`: the input is served as one connection, over the spool that the device holds.
+ghost use Rattle.std.specs.Prelude.{◌≡◌, ℕ, ◌*◌, ◌^◌, false};
+ghost use Rattle.edge_io.specs.declared.proto.Proto.{Proto};
+ghost use Rattle.spool_log.specs.Memory.{run_of};
+ghost use Rattle.conn_serve.specs.Endings.{CountsFaults};
+ghost use Rattle.notes.specs.declared.note.Note.TheVariants.{ReadFault, WriteFault};
+ghost use Rattle.bridge_parts.specs.Run.{disk_run, input_run, link_run, output_run};
+ghost use Rattle.commands.specs.Failed.{TellsDiskFault};
+ghost use Rattle.commands.specs.Replayed.{ServesLink, IsReplayed, KeepsFrom};
+ghost use Rattle.commands.specs.SpoolRun.{spool_run};
+
+use crate::finished::Finished;
+use bridge_parts::recover_note;
+use conn_serve::{Rules, attend};
+use desk_access::{Alone, Desk};
+use edge_disk::Disk;
+use edge_io::{Both, Link, Sink, Source};
+use hec_ids::Ids;
+use notes::Note;
+use spool_log::{Opening, Refusal, Spool};
+use std::alloc::Global;
+
+/// How many connections a run has numbers for.
+const CONNECTIONS: u64 = 1 << 32;
+
+// Serves the link by these rules, as the first connection of the spool's run.
+fn serve_link<D: Disk, L: Link>(
+    alloc: Global,
+    rules: Rules,
+    spool: Spool<D>,
+    link: &mut L,
+) -> Finished<D>
+    requires sure { spool.doubt ≡ false }
+
+    ensures calls { TellsDiskFault (rules.proto ≡ Proto.Hec) result.note (D.moment spool.disk) (D.moment result.disk) }
+    ensures reads { CountsFaults (result.note ≡ ReadFault) (L.read_faults link.old) (L.read_faults link.new) }
+    ensures writes { CountsFaults (result.note ≡ WriteFault) (L.write_faults link.old) (L.write_faults link.new) }
+    ensures same { L.same link.old link.new }
+    ensures served { ServesLink rules (run_of spool.memory * 2 ^ 32) (link_run L.given L.left L.taken link.old link.new)
+        (KeepsFrom (spool_run D.tells D.moment spool.memory spool.disk result.disk)) result.note }
+{
+    let run = spool.run();
+    let conn = u64::from(run) * CONNECTIONS;
+    let ids = Ids::new(alloc, run, 0);
+    let mut access = Alone::new(Desk { spool, ids });
+    let attended = attend(alloc, link, &rules, &mut access, conn);
+    let desk = access.into_desk();
+    Finished::of(Note::of_talk(attended.talk), desk.spool.into_disk())
+}
+
+/// Serves the input as one connection by the protocol and the tokens of these rules, over the spool that the device
+/// holds, of which the run is raised by one first. The connection has the number run * 2^32.
+///
+/// Where the device can't be opened nothing is read or written: `NotSpool` comes exactly where it breaks a
+/// rule of the layout, with the offset of the first one; then `RunsSpent` exactly where the run is 2,097,151;
+/// then `Worn` exactly where the register was written 2^63 times. Else the note is that of the connection's
+/// ending.
+pub fn replay<D: Disk, S: Source, K: Sink>(
+    alloc: Global,
+    rules: Rules,
+    disk: D,
+    input: &mut S,
+    output: &mut K,
+) -> Finished<D>
+    ensures { IsReplayed rules (disk_run D.tells D.moment disk result.disk)
+        (input_run S.given S.left S.read_faults input.old input.new) (output_run K.taken K.write_faults output.old output.new) result.note }
+{
+    match Spool::recover(alloc, disk, Opening::Raise) {
+        Ok(spool) => {
+            let mut link = Both {
+                source: &mut *input,
+                sink: &mut *output,
+            };
+            serve_link(alloc, rules, spool, &mut link)
+        }
+        Err(Refusal { fault, disk }) => Finished::of(recover_note(fault), disk),
+    }
+}

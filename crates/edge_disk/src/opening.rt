@@ -1,0 +1,76 @@
+//! How a file is opened as a disk: its lock, its length, and its name in its folder.
+ghost use Rattle.std.specs.Prelude.{◌≡◌, ◌⊎◌, ◌<◌, IfOk};
+
+use crate::tracked_file::end_of;
+use crate::{OpenFault, Sharing};
+use std::fs::{self, File, OpenOptions};
+use std::io;
+use std::os::unix::fs::{FileTypeExt, OpenOptionsExt};
+use std::path::Path;
+
+// Who may read and write a file that is made: its owner alone, since it holds what senders log.
+const MODE: u32 = 0o600;
+
+/// The file, locked, and its length in bytes. It is made where it isn't there and `create` says so; then only
+/// its owner may read and write it, from the first moment on.
+pub(crate) fn open_file(
+    rt: &HostRuntime,
+    path: &str,
+    create: bool,
+    sharing: Sharing,
+) -> Result<(File, u64), OpenFault> {
+    let mut options = OpenOptions::new();
+    options.read(true);
+    options.write(true);
+    options.create(create);
+    options.mode(MODE);
+    let mut file = options.open(rt, path)?;
+    match sharing {
+        Sharing::Exclusive => file.try_lock()?,
+        Sharing::Shared => file.try_lock_shared()?,
+    }
+    let len = len_of(&mut file)?;
+    Ok((file, len))
+}
+
+// A block device's metadata has no length.
+fn len_of(file: &mut File) -> io::Result<u64> {
+    let metadata = file.metadata()?;
+    if metadata.file_type().is_block_device() {
+        return end_of(file);
+    }
+    Ok(metadata.len())
+}
+
+/// Gives a file of `size` bytes that is empty the length `len`, and returns which length it has. A block
+/// device has a length of its own.
+pub(crate) fn set_length(file: &File, size: u64, len: u64) -> io::Result<u64>
+    ensures { IfOk result (λ now. now ≡ len ⊎ 0 < now) }
+{
+    if size > 0 {
+        return Ok(size);
+    }
+    file.set_len(len)?;
+    file.sync_all()?;
+    Ok(len)
+}
+
+/// Makes the name of a file durable, which it is only once its folder is synced. Where the name is a symbolic
+/// link's, the folder is that of the file that the link leads to: that is where a file was made.
+pub(crate) fn sync_folder(rt: &HostRuntime, path: &str) -> io::Result<()> {
+    if fs::symlink_metadata(rt, path)?.is_symlink() {
+        let target = Path::new(path).canonicalize(rt)?;
+        return sync_folder_of(rt, target.as_path());
+    }
+    sync_folder_of(rt, Path::new(path))
+}
+
+fn sync_folder_of(rt: &HostRuntime, path: Path<'_>) -> io::Result<()> {
+    let folder = match path.parent() {
+        Some(folder) if !folder.as_str().is_empty() => folder,
+        _ => Path::new("."),
+    };
+    let mut options = OpenOptions::new();
+    options.read(true);
+    options.open(rt, folder)?.sync_all()
+}

@@ -1,0 +1,119 @@
+//! Which places have their workers. Each worker begins with an accept, in a thread of its own where the system grants one; where it
+//! refuses one, that worker begins only once another one has ended, and its place is served late.
+use std::alloc::{AllocError, Global};
+use std::rt::Clock;
+use std::sync::atomic::{AtomicBool, AtomicU64, Ordering};
+use std::sync::{Arc, OnceLock};
+use std::thread;
+use std::time::Duration;
+
+// How many places are on a roll at most. The program has at most 64 workers, and each place has one of them or more.
+const MOST_PLACES: usize = 64;
+
+// How long a look at the roll waits before the next one, in milliseconds.
+const LOOK_MILLIS: u64 = 10;
+
+/// A place that is listened at, as its doors share it.
+#[derive(Drop)]
+pub(crate) struct Place {
+    /// Its name, for the lines on standard error.
+    pub(crate) name: String,
+    /// When an accept that failed there was reported last, in whole seconds of the clock and one more; 0 for never.
+    pub(crate) reported: AtomicU64,
+    // How many doors it has.
+    doors: u64,
+    // How many of them have begun to accept.
+    begun: AtomicU64,
+}
+
+impl Place {
+    /// A place with so many doors, none of which has begun.
+    pub(crate) fn with_doors(name: String, doors: u64) -> Place {
+        Place {
+            name,
+            reported: AtomicU64::new(0),
+            doors,
+            begun: AtomicU64::new(0),
+        }
+    }
+
+    /// Notes that one more of its doors begins.
+    pub(crate) fn begin(&self) {
+        let _ = self.begun.fetch_add(1, Ordering::SeqCst);
+    }
+
+    // How many of its doors have not begun.
+    fn missing(&self) -> u64 {
+        self.doors.saturating_sub(self.begun.load(Ordering::SeqCst))
+    }
+}
+
+/// The places of a net, in the order in which they were bound, and whether it was reported which of them lack a thread.
+#[derive(Drop)]
+pub(crate) struct Roll {
+    places: Vec<OnceLock<Arc<Place>>>,
+    is_reported: AtomicBool,
+}
+
+impl Roll {
+    /// A roll with no place, and room for 64.
+    pub(crate) fn new(alloc: Global) -> Result<Roll, AllocError> {
+        let mut places = Vec::with_capacity(alloc, MOST_PLACES)?;
+        for _ in 0..MOST_PLACES {
+            places.push(OnceLock::new())?;
+        }
+        Ok(Roll {
+            places,
+            is_reported: AtomicBool::new(false),
+        })
+    }
+
+    /// Enters the place as the one with that number. A number above those of the roll has no entry.
+    pub(crate) fn enter(&self, number: usize, place: Arc<Place>) {
+        if let Some(entry) = self.places.get(number) {
+            let _ = entry.try_set(place);
+        }
+    }
+
+    // Whether each door of each place has begun.
+    fn is_whole(&self) -> bool {
+        for entry in &self.places {
+            if let Some(place) = entry.get()
+                && place.missing() > 0
+            {
+                return false;
+            }
+        }
+        true
+    }
+
+    /// Waits until each door has begun, for as long as `most` at most, and reports those that have not then.
+    pub(crate) fn wait_for_all(&self, rt: &(impl Clock + Eprint), most: Duration) {
+        for _ in 0..most.as_millis() / u128::from(LOOK_MILLIS) {
+            if self.is_whole() {
+                return;
+            }
+            thread::sleep(rt, Duration::from_millis(LOOK_MILLIS));
+        }
+        self.report_missing(rt);
+    }
+
+    /// Prints a line for each place of which a door has not begun, the first time that there is one. A write that fails there is
+    /// not reported.
+    pub(crate) fn report_missing(&self, rt: &impl Eprint) {
+        if self.is_whole() || self.is_reported.swap(true, Ordering::SeqCst) {
+            return;
+        }
+        for entry in &self.places {
+            if let Some(place) = entry.get() {
+                let missing = place.missing();
+                if missing > 0 {
+                    let (name, doors) = (&place.name, place.doors);
+                    let _ = eprintln!(rt;
+                        "bridge: {name}: no thread for {missing} of {doors} workers; served late"
+                    );
+                }
+            }
+        }
+    }
+}

@@ -1,0 +1,191 @@
+//! Accepts that fail, and doors that nobody serves, by a clock and a standard error in memory.
+use crate::sockets::free_place;
+use crate::staged::Staged;
+use edge_io::{Door, Net, Pause};
+use edge_net::{TcpNet, Waits, next_connection};
+use std::alloc::Global;
+use std::cell::Cell;
+use std::io;
+use std::net::{OpenListener, SocketAddr};
+use std::process::Abort;
+use std::sync::atomic::AtomicU64;
+
+// The numbers of Linux for errors that pass, of the connection that was to be accepted or of the system.
+const PASSING: [i32; 19] = [
+    1, // EPERM
+    11, // EAGAIN
+    12, // ENOMEM
+    23, // ENFILE
+    24, // EMFILE
+    71, // EPROTO
+    92, // ENOPROTOOPT
+    100, // ENETDOWN
+    101, // ENETUNREACH
+    103, // ECONNABORTED
+    104, // ECONNRESET
+    105, // ENOBUFS
+    107, // ENOTCONN
+    110, // ETIMEDOUT
+    111, // ECONNREFUSED
+    112, // EHOSTDOWN
+    113, // EHOSTUNREACH
+    5, // EIO
+    64, // ENONET
+];
+
+// How long each of these is waited out, in milliseconds.
+const WAITED: [u64; 19] = [
+    100, 200, 400, 800, 1_000, 1_000, 1_000, 1_000, 1_000, 1_000, 1_000, 1_000, 1_000, 1_000,
+    1_000, 1_000, 1_000, 1_000, 1_000,
+];
+
+// The numbers of those that last.
+const LASTING: [i32; 6] = [
+    9, // EBADF
+    14, // EFAULT
+    22, // EINVAL
+    38, // ENOSYS
+    88, // ENOTSOCK
+    95, // EOPNOTSUPP
+];
+
+// A socket that fails by these errors, one at each accept, and then accepts: how many accepts there were is the stream.
+#[derive(Drop)]
+struct Failing {
+    errors: &'static [i32],
+    accepts: Cell<usize>,
+}
+
+impl Failing {
+    fn by(errors: &'static [i32]) -> Failing {
+        Failing {
+            errors,
+            accepts: Cell::new(0),
+        }
+    }
+}
+
+impl OpenListener for Failing {
+    type Stream = usize;
+
+    fn accept(&self) -> io::Result<(usize, SocketAddr)> {
+        let before = self.accepts.get();
+        self.accepts.set(before.saturating_add(1));
+        match self.errors.get(before) {
+            Some(code) => Err(io::Error::from_raw_os_error(*code)),
+            None => match "127.0.0.1:1".parse() {
+                Ok(peer) => Ok((before, peer)),
+                Err(_) => Err(io::Error::from_raw_os_error(9)),
+            },
+        }
+    }
+}
+
+fn errors_that_pass_are_waited_out(rt: &impl Abort, staged: &Staged<'_>) {
+    let reported = AtomicU64::new(0);
+    let accepted = next_connection(staged, &Failing::by(&PASSING), "p:1", &reported);
+    assert!(rt; accepted.ok() == Some(19));
+    assert!(rt; staged.take_sleeps(rt).as_slice() == WAITED.as_slice());
+    let lines = staged.take_lines(rt);
+    let [line] = lines.as_slice() else {
+        panic!(rt; "one line within a minute");
+    };
+    assert!(rt;
+        line.starts_with("bridge: p:1: can't accept a connection: "),
+        "{line}"
+    );
+    assert!(rt; line.ends_with(" (os error 1); waiting"), "{line}");
+}
+
+fn a_line_is_printed_once_a_minute(rt: &impl Abort, staged: &Staged<'_>) {
+    let reported = AtomicU64::new(0);
+    for (millis, count) in [(0, 1), (58_000, 0), (2_000, 0), (2_000, 1), (30_000, 0)] {
+        staged.pass(millis);
+        let accepted = next_connection(staged, &Failing::by(&[24]), "p:1", &reported);
+        assert!(rt; accepted.ok() == Some(1));
+        assert!(rt; staged.take_lines(rt).len() == count, "after {millis}");
+    }
+    // each accept begins with the short wait
+    assert!(rt; staged.take_sleeps(rt).as_slice() == [100; 5].as_slice());
+}
+
+fn errors_that_last_are_faults(rt: &impl Abort, staged: &Staged<'_>) {
+    let reported = AtomicU64::new(0);
+    for (place, code) in LASTING.iter().enumerate() {
+        let Some(errors) = LASTING.get(place..) else {
+            panic!(rt; "a place in the list");
+        };
+        let accepted = next_connection(staged, &Failing::by(errors), "p:1", &reported);
+        let number = accepted.err().and_then(|error| error.raw_os_error());
+        assert!(rt; number == Some(*code), "{code}");
+    }
+    assert!(rt; staged.take_sleeps(rt).is_empty() && staged.take_lines(rt).is_empty());
+}
+
+// Binds two doors at the one place and a door at the other, and accepts at the first: the lines that say which lack a thread.
+fn doors_that_nobody_serves_are_reported(
+    rt: &impl Abort,
+    alloc: Global,
+    host: &HostRuntime,
+    staged: &Staged<'_>,
+) {
+    let (one, other) = (free_place(rt, host), free_place(rt, host));
+    let mut net = TcpNet::with_waits(alloc, staged, Waits::standard());
+    let mut doors = net.bind(one.as_str(), 2).expect(rt, "a free port");
+    let served = net.bind(other.as_str(), 1).expect(rt, "a free port");
+    let first = net.dial(one.as_str()).expect(rt, "a port that listens");
+    let mut door = doors.pop().expect(rt, "two doors");
+    assert!(rt; matches!(door.accept(), Ok(Some(_))));
+    // by looks of 10 milliseconds
+    assert!(rt; staged.take_sleeps(rt).as_slice() == [10; 300].as_slice());
+    let lines = staged.take_lines(rt);
+    let [here, there] = lines.as_slice() else {
+        panic!(rt; "a line for each place");
+    };
+    let tail = ": no thread for 1 of 2 workers; served late";
+    assert!(rt;
+        here.contains(one.as_str()) && here.ends_with(tail),
+        "{here}"
+    );
+    let tail = ": no thread for 1 of 1 workers; served late";
+    assert!(rt;
+        there.contains(other.as_str()) && there.ends_with(tail),
+        "{there}"
+    );
+    // once, and at no later accept or pause
+    net.hang_up(first);
+    for _ in 0..4 {
+        net.pause();
+    }
+    assert!(rt; staged.take_sleeps(rt).as_slice() == [1_000; 4].as_slice());
+    assert!(rt; staged.take_lines(rt).is_empty());
+    drop((doors, served));
+}
+
+// A thread that forwards and waits before any door was served says so at its third pause.
+fn a_net_reports_doors_that_wait_for_it(
+    rt: &impl Abort,
+    alloc: Global,
+    host: &HostRuntime,
+    staged: &Staged<'_>,
+) {
+    let place = free_place(rt, host);
+    let mut net = TcpNet::with_waits(alloc, staged, Waits::standard());
+    let doors = net.bind(place.as_str(), 1).expect(rt, "a free port");
+    for count in [0, 0, 1, 0] {
+        net.pause();
+        assert!(rt; staged.take_lines(rt).len() == count);
+    }
+    drop(doors);
+}
+
+/// Each with the lines and sleeps of its own.
+pub(crate) fn accepts_fail_and_pass(rt: &impl Abort, alloc: Global, host: &HostRuntime) {
+    let staged = Staged::over(alloc, host);
+    errors_that_pass_are_waited_out(rt, &staged);
+    a_line_is_printed_once_a_minute(rt, &staged);
+    errors_that_last_are_faults(rt, &staged);
+    doors_that_nobody_serves_are_reported(rt, alloc, host, &staged);
+    let _ = staged.take_sleeps(rt);
+    a_net_reports_doors_that_wait_for_it(rt, alloc, host, &staged);
+}

@@ -1,0 +1,235 @@
+"""FILE as the system keeps it, and sockets whose calls fail or never answer."""
+import errno
+import os
+import re
+import socket
+import stat
+import struct
+import subprocess
+import time
+
+import calling
+import serving
+from platter import is_good_sync
+from serving import HecLink, LumberLink, RelpLink, RelpReceiver, text_of
+
+GIB = 1 << 30
+SLOTS_AT = 12288
+OPEN = b"1 open 50 relp_version=0\nrelp_software=a,1,b\ncommands=syslog\n"
+# Errors of an accept that pass, and some that can't.
+PASSING = (errno.EPROTO, errno.EHOSTDOWN, errno.ENOBUFS, errno.ENFILE, errno.EMFILE, errno.ENOMEM)
+LASTING = (errno.EBADF, errno.EINVAL, errno.ENOTSOCK, errno.EOPNOTSUPP)
+
+
+def format_under(program, library, folder, path, slots, size):
+    """Formats a spool under the library. Gives its status and the calls."""
+    seen = calling.Seen(library, folder, path, name="format")
+    done = subprocess.run([program, path, "format", str(slots), str(size)], env=seen.environment, capture_output=True, check=False)
+    return done.returncode, seen.calls()
+
+
+def node_of(path):
+    seen = os.stat(path)
+    return f"{seen.st_dev} {seen.st_ino}".encode()
+
+
+def syncs_folder(calls, folder):
+    """Whether the folder was synced after the call that may have made FILE, the last that opens a path to write."""
+    made = max((number for number, call in enumerate(calls) if call.kind == "open" and call.asked & os.O_CREAT), default=len(calls))
+    return any(call.kind == "sync" and call.result == 0 and call.data == node_of(folder) for call in calls[made:])
+
+
+def formats(check, program, library, folder):
+    """FILE's name is durable, it is nobody else's to read, and a link is followed."""
+    old = os.umask(0)
+    try:
+        status, calls = format_under(program, library, folder, f"{folder}/plain", 2, 4096)
+    finally:
+        os.umask(old)
+    check("format: status", status == 0, status)
+    check("format: the folder is synced", syncs_folder(calls, folder))
+    check("format: FILE is synced after its length was set", [call.kind for call in calls if call.kind in ("resize", "sync")][:2] == ["resize", "sync"])
+    mode = stat.S_IMODE(os.stat(f"{folder}/plain").st_mode)
+    check("format: FILE's mode", mode == 0o600, oct(mode))
+    made = [oct(call.at) for call in calls if call.kind == "open" and call.asked & os.O_CREAT]
+    check("format: FILE is made with that mode", made == ["0o600"], made)
+    os.makedirs(f"{folder}/far/away")
+    os.makedirs(f"{folder}/near")
+    for name, target in ("absolute", f"{folder}/far/away/one"), ("relative", "../far/away/two"):
+        link = f"{folder}/near/{name}"
+        os.symlink(target, link)
+        status, calls = format_under(program, library, folder, link, 2, 4096)
+        check(f"format by a link, {name}: status", status == 0, status)
+        check(f"format by a link, {name}: the target's folder is synced", syncs_folder(calls, f"{folder}/far/away"))
+
+
+def beyond_4_gib(check, program, library, folder):
+    """What is stored in a slot beyond 4 GiB is written there, and nothing in front of it."""
+    path, slot = f"{folder}/large", SLOTS_AT + 4 * GIB
+    status, _ = format_under(program, library, folder, path, 5, GIB)
+    check("4 GiB: status", status == 0, status)
+    with open(path, "r+b") as file:
+        head = os.pread(file.fileno(), 17, SLOTS_AT)
+        check("4 GiB: the first slot is open", head[:1] == b"\1", head)
+        # (the same spool with its first entry in the last slot)
+        os.pwrite(file.fileno(), bytes(18), SLOTS_AT)
+        os.pwrite(file.fileno(), head, slot)
+    seen = calling.Seen(library, folder, path, name="large")
+    text = text_of("relp", 1)
+    done = subprocess.run([program, path, "replay", "relp"], input=OPEN + b"2 syslog %d %s\n" % (len(text), text), env=seen.environment, capture_output=True, check=False)
+    check("4 GiB: the event is acknowledged", done.returncode == 0 and b"2 rsp 6 200 OK" in done.stdout, done)
+    written = [call for call in seen.calls() if call.kind == "write" and text in call.data]
+    check("4 GiB: it is written there", [call.at // slot for call in written] == [1], [call.at for call in written])
+    with open(path, "rb") as file:
+        check("4 GiB: it stands there", text in os.pread(file.fileno(), 4096, slot))
+        check("4 GiB: nothing stands in front of it", not any(os.pread(file.fileno(), 8192, at).strip(b"\0") for at in (SLOTS_AT, SLOTS_AT + GIB)))
+    done = subprocess.run([program, path, "list", "--as", "relp"], capture_output=True, check=False)
+    check("4 GiB: it is listed", done.stdout == text + b"\n", done)
+    os.remove(path)
+
+
+def shrunk(check, program, library, folder):
+    """A FILE that became shorter than it was as it was opened is a disk that fails, and isn't extended."""
+    path = f"{folder}/shrunk"
+    format_under(program, library, folder, path, 2, 4096)
+    for length in (SLOTS_AT + 10, 4096):
+        with open(path, "r+b") as file:
+            file.truncate(SLOTS_AT + 2 * 4096)
+        format_under(program, library, folder, path, 2, 4096)
+        pipes = {"stdin": subprocess.PIPE, "stdout": subprocess.PIPE, "stderr": subprocess.PIPE}
+        with subprocess.Popen([program, path, "replay", "relp"], **pipes) as child:
+            child.stdin.write(OPEN)
+            child.stdin.flush()
+            opened = child.stdout.read(len(b"1 rsp 66 ")) == b"1 rsp 66 "
+            os.truncate(path, length)
+            out, err = child.communicate(b"2 syslog 5 hello\n", timeout=30)
+        check(f"a FILE that shrank to {length}: status", opened and child.returncode == 73, (opened, child.returncode, err))
+        check(f"a FILE that shrank to {length}: no acknowledgment", b"2 rsp" not in out, out)
+        check(f"a FILE that shrank to {length}: it isn't extended", os.stat(path).st_size == length, os.stat(path).st_size)
+
+
+# ---- sockets
+
+
+def start(program, library, folder, plan=(), shorten=1, words=("--workers", "1"), places=("relp",), to=None):
+    """A server under the library, and where its calls are written down."""
+    server = serving.Server(program, folder)
+    seen = calling.Seen(library, folder, server.spool, plan, shorten)
+    server.start(*words, places=places, to=to, environment=seen.environment)
+    return server, seen
+
+
+def accepts(check, program, library, folder):
+    """Errors of an accept that pass are waited out, and said once a minute at most; others end the server."""
+    count = 240
+    for error in PASSING:
+        name = errno.errorcode[error]
+        server, seen = start(program, library, folder, [calling.fails("accept", 1, error, count)], 1000)
+        try:
+            link = RelpLink(server.ports["relp"], 10)
+            link.store(b"hello")
+            is_served = True
+            link.drop()
+        except OSError:
+            is_served = False
+        status, _ = server.kill()
+        calls = seen.calls()
+        check(f"accept, {name}: the place goes on serving", is_served and status == -9, status)
+        steps = [call for call in calls if call.kind in ("accept", "sleep")]
+        waits = [wait.at // 1000000 for step, wait in zip(steps, steps[1:]) if step.error == error and wait.kind == "sleep"]
+        check(f"accept, {name}: it waits a tenth of a second at first", waits[:1] == [100], waits[:3])
+        check(f"accept, {name}: it waits a second at most, and once for each", len(waits) == count and set(waits[9:]) == {1000}, waits[:12])
+        said = [call.at for call in calls if call.kind == "say" and call.data.endswith(b"\n")]
+        minutes = sum(waits) / 60000
+        check(f"accept, {name}: it is said", len(said) >= 2, said)
+        check(f"accept, {name}: once a minute at most", len(said) <= minutes + 1 and all(b - a >= 59 for a, b in zip(said, said[1:])), said)
+    for error in LASTING:
+        server, seen = start(program, library, folder, [calling.fails("accept", 1, error, 1000000)], 1000)
+        status, _, errors = server.finish(20)
+        tries = sum(call.kind == "accept" for call in seen.calls())
+        check(f"accept, {errno.errorcode[error]}: it ends", status == 74 and "net fault" in errors and tries == 1, (status, errors, tries))
+
+
+def interrupted(check, program, library, folder):
+    """A call on a socket that a signal interrupted is tried again."""
+    words = [calling.fails(call, at, errno.EINTR, at + 2) for call in ("recv", "send") for at in (1, 6)]
+    for place, make in ("relp", RelpLink), ("lumberjack", LumberLink), ("hec", HecLink):
+        server, seen = start(program, library, folder, words, places=(place,))
+        try:
+            link = make(server.ports[place], 10)
+            for number in range(4):
+                text = text_of(place, number)
+                link.store(text if place == "relp" else [text])
+            link.link.close()
+            is_stored = True
+        except OSError:
+            is_stored = False
+        server.kill()
+        calls = seen.calls()
+        met = {call.kind for call in calls if call.error == errno.EINTR}
+        accepted = sum(call.kind == "accept" and call.result >= 0 for call in calls)
+        check(f"interrupted, {place}: it was", met == {"recv", "sent"}, met)
+        check(f"interrupted, {place}: all is served on one connection", is_stored and accepted == 1, (is_stored, accepted))
+
+
+def options_of(calls, fd, since):
+    """What was set of a socket after that call, up to its close."""
+    found = {}
+    for call in calls[since + 1 :]:
+        if call.fd == fd and call.kind == "close":
+            break
+        if call.fd == fd and call.kind == "option" and call.result == 0:
+            level, name, value = map(int, call.data.split())
+            found.setdefault((level, name), value)
+    return found
+
+
+def check_options(check, name, found, seconds):
+    times = [found.get((socket.SOL_SOCKET, option), 0) / 1000000 for option in (socket.SO_RCVTIMEO, socket.SO_SNDTIMEO)]
+    check(f"{name}: its reads and writes wait {seconds} s at most", times == [seconds, seconds], times)
+    check(f"{name}: nothing is held back", found.get((socket.IPPROTO_TCP, socket.TCP_NODELAY)) == 1, found)
+
+
+def silent_senders(check, program, library, folder):
+    """A sender that says nothing any more doesn't keep its worker."""
+    server, seen = start(program, library, folder, shorten=1000)
+    silent = RelpLink(server.ports["relp"])
+    since, is_served = time.monotonic(), False
+    try:
+        link = RelpLink(server.ports["relp"], 10)
+        link.store(b"hello")
+        link.drop()
+        is_served = True
+    except OSError:
+        pass
+    took = time.monotonic() - since
+    status, _ = server.kill()
+    silent.drop()
+    check("a silent sender: the next one is served", is_served and status == -9 and took >= 0.5, (is_served, status, took))
+    calls = seen.calls()
+    accepted = [(number, call.result) for number, call in enumerate(calls) if call.kind == "accept" and call.result >= 0]
+    for number, fd in accepted:
+        check_options(check, "a sender's connection", options_of(calls, fd, number), 600)
+
+
+def silent_receiver(check, program, library, folder):
+    """A receiver that says nothing any more is dialed again."""
+    with socket.create_server(("127.0.0.1", 0)) as mute:
+        server, seen = start(program, library, folder, shorten=1000, to=mute.getsockname()[1])
+        link = RelpLink(server.ports["relp"])
+        link.store(b"hello")
+        mute.settimeout(20)
+        peers = []
+        try:
+            peers = [mute.accept()[0] for _ in range(3)]
+        except OSError:
+            pass
+        check("a silent receiver: it is dialed again", len(peers) == 3, len(peers))
+        link.drop()
+        check("a silent receiver: the server goes on", server.kill()[0] == -9)
+        for peer in peers:
+            peer.close()
+    calls = seen.calls()
+    dialed = [(number, call.fd) for number, call in enumerate(calls) if call.kind == "dial" and call.result == 0]
+    for number, fd in dialed[:2]:
+        check_options(check, "a receiver's connection", options_of(calls, fd, number), 90)
