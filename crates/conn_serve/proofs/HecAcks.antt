@@ -14,7 +14,7 @@ use Rattle.hec_session.specs.declared.act.HecAct.{HecAct}
 use Rattle.hec_session.specs.declared.act.HecAct.TheVariants.{StoreThenSay, SayThenStore, Ask, Say}
 use Rattle.hec_session.specs.declared.tokens.Tokens.{Tokens}
 use Rattle.hec_session.proofs.EventLaws.{some_events}
-use Rattle.desk_access.specs.Call.{Call, takes, pends, confirms, marks, counts, issues, settles, forgets, asks, AreBy}
+use Rattle.desk_access.specs.Call.{Call, takes, issues, settles, forgets, asks, AreBy}
 use Rattle.desk_access.specs.Carried.{EndsAtMove, Ending}
 use Rattle.desk_access.specs.Groups.{Group, groups_of}
 use Rattle.desk_access.specs.Legal.{IsStored}
