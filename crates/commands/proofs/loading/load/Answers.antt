@@ -1,8 +1,8 @@
 use Rattle.std.proofs.Common.{inl, inr, refl, ◌∙◌, ap}
 use Rattle.conn_serve.proofs.Faults.{counts_none}
 use Rattle.commands.specs.Loading.{note_of_load}
-use Rattle.load_laws.proofs.LoadSure.{all_confirmed, only_memory}
-use Rattle.load_laws.proofs.LoadWell.{can_load}
+use Rattle.load_laws.proofs.Sure.{all_confirmed, only_memory}
+use Rattle.load_laws.proofs.Well.{can_load}
 use Rattle.commands.proofs.loading.load.Goals as goal
 
 pub returns-in-Ok : goal.returns-in-Ok
