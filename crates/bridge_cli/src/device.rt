@@ -7,11 +7,35 @@ ghost use Rattle.bridge_core.specs.Failed.{TellsReadFault, TellsWriteFault, Tell
 use bridge_core::bridge;
 use bridge_words::{Need, need_of};
 use cli_parts::{Opening, Progress, Watched, open_text};
-use edge_disk::{FileDisk, MemDisk, OpenFault};
+use edge_disk::{Disk, FileDisk, MemDisk, OpenFault};
 use edge_io::{Door, Net, Sink, Source};
 use notes::Note;
+use std::alloc::Global;
 use std::sync::Wait;
 use std::thread::Threads;
+
+// Runs the words over the disk, and tells how that ended.
+fn run_on<D: Disk + Drop + Send, S: Source, K: Sink, N: Net + Send, R: Threads + Wait + Sync>(
+    threads: &R,
+    alloc: Global,
+    words: &[String],
+    disk: D,
+    input: &mut S,
+    output: &mut K,
+    net: &mut N,
+) -> Note
+where
+    N::P: Drop + Send,
+    <N::P as Door>::L: Send,
+    N::L: Send,
+    ensures usage { result ≡ Usage → IsNoCommand (map string_bytes words.now) }
+    ensures no_command { IsNoCommand (map string_bytes words.now) → result ≡ Usage ⊎ result ≡ NoMemory }
+    ensures reads { TellsReadFault (map string_bytes words.now) result (S.read_faults input.old) (S.read_faults input.new) (N.told net.old) (N.told net.new) }
+    ensures writes { TellsWriteFault (map string_bytes words.now) result (K.write_faults output.old) (K.write_faults output.new) (N.told net.old) (N.told net.new) }
+    ensures dials { TellsDial (map string_bytes words.now) result (N.told net.old) (N.told net.new) }
+{
+    bridge(threads, alloc, words, disk, input, output, net).note
+}
 
 // Runs the words over the file as a disk, where it was opened, and else says why it wasn't. Its reading may be shown.
 fn run_over<S: Source, K: Sink, N: Net + Send, R: Threads + Wait + Sync>(
@@ -37,7 +61,7 @@ where
     match opened {
         Ok(disk) => {
             let disk = Watched::new(disk, Progress::new(rt, is_shown));
-            bridge(threads, rt.alloc(), words, disk, input, output, net).note
+            run_on(threads, rt.alloc(), words, disk, input, output, net)
         }
         Err(fault) => {
             let why = open_text(fault);
@@ -87,7 +111,7 @@ where
             )
         }
         Ok(Need::NoCommand | Need::Nothing) => match MemDisk::plain(alloc, 0) {
-            Ok(disk) => bridge(threads, alloc, words, disk, input, output, net).note,
+            Ok(disk) => run_on(threads, alloc, words, disk, input, output, net),
             Err(_) => Note::NoMemory,
         },
         Err(_) => Note::NoMemory,

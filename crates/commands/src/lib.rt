@@ -1,7 +1,8 @@
 //! The commands that serve no network: `format`, `list`, `replay`, `drain` over the streams and to a place, and `load`.
 //!
 //! Each is a function over a disk, an input, an output and a net, of which it takes those that it needs. `specs/` says what each does
-//! of what these tell before the call and after it: `IsFormatted`, `IsListed`, `IsReplayed`, `IsDrained`, `IsLoaded`.
+//! of what these tell before the call and after it: `IsFormatted`, `IsListed`, `IsReplayed`, `IsDrained`,
+//! `IsDrainedTo`, `LoadIsTold`.
 #![tactic(auto)]
 
 mod draining;
