@@ -5,12 +5,17 @@ import shutil
 import subprocess
 from dataclasses import dataclass
 
+PROBE = {"input": b"#include <dlfcn.h>\n", "capture_output": True, "check": False}
 HERE = os.path.dirname(os.path.realpath(__file__))
 
 
 def compiler():
-    """The system's compiler of C, or None."""
-    return next((found for name in ("cc", "gcc", "clang") if (found := shutil.which(name))), None)
+    """The system's compiler of C that has the headers of the C library, or None."""
+    for name in ("cc", "gcc", "clang"):
+        found = shutil.which(name)
+        if found is not None and subprocess.run([found, "-x", "c", "-fsyntax-only", "-"], **PROBE).returncode == 0:
+            return found
+    return None
 
 
 def build(folder):
