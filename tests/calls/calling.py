@@ -1,5 +1,6 @@
 """The library that sees and fails the calls of a program: how it is built, a program is started under it, and what it wrote down is
 read. See calls.c for its words."""
+import glob
 import os
 import shutil
 import subprocess
@@ -21,8 +22,9 @@ def compiler():
 def build(folder):
     """Builds the library in this folder, and gives its path."""
     made = f"{folder}/calls.so"
-    command = [compiler(), "-O2", "-Wall", "-Wextra", "-Werror", "-shared", "-fPIC", "-o", made, f"{HERE}/calls.c", "-ldl", "-lpthread"]
-    subprocess.run(command, check=True)
+    flags = ["-O2", "-Wall", "-Wextra", "-Werror", "-shared", "-fPIC", "-fvisibility=hidden"]
+    sources = sorted(glob.glob(f"{HERE}/calls*.c"))
+    subprocess.run([compiler(), *flags, "-o", made, *sources, "-ldl", "-lpthread"], check=True)
     return made
 
 
