@@ -140,9 +140,8 @@ def accepts(check, program, library, folder):
         check(f"accept, {name}: it waits a tenth of a second at first", waits[:1] == [100], waits[:3])
         check(f"accept, {name}: it waits a second at most, and once for each", len(waits) == count and set(waits[9:]) == {1000}, waits[:12])
         said = [call.at for call in calls if call.kind == "say" and call.data.endswith(b"\n")]
-        minutes = sum(waits) / 60000
         check(f"accept, {name}: it is said", len(said) >= 2, said)
-        check(f"accept, {name}: once a minute at most", len(said) <= minutes + 1 and all(b - a >= 59 for a, b in zip(said, said[1:])), said)
+        check(f"accept, {name}: once a minute at most", all(b - a >= 59 for a, b in zip(said, said[1:])), said)
     for error in LASTING:
         server, seen = start(program, library, folder, [calling.fails("accept", 1, error, 1000000)], 1000)
         status, _, errors = server.finish(20)
