@@ -67,12 +67,14 @@ def wait_until(holds, seconds):
 
 
 class Server:
-    """bridge over one spool, and its ports: `relp`, `lumberjack` and `hec`."""
+    """bridge over one spool, and its ports: `relp`, `lumberjack` and `hec`. The spool is made anew, unless `slots` is None."""
 
     def __init__(self, program, folder, slots=8, size=4194304):
         self.program, self.folder, self.child = program, folder, None
         self.ports = dict(zip(("relp", "lumberjack", "hec"), free_ports(3)))
         self.spool = f"{folder}/spool"
+        if slots is None:
+            return
         if os.path.exists(self.spool):
             os.remove(self.spool)
         subprocess.run([program, self.spool, "format", str(slots), str(size)], check=True, stdout=subprocess.DEVNULL)

@@ -1,23 +1,30 @@
 """The library that sees and fails the calls of a program: how it is built, a program is started under it, and what it wrote down is
 read. See calls.c for its words."""
+import glob
 import os
 import shutil
 import subprocess
 from dataclasses import dataclass
 
+PROBE = {"input": b"#include <dlfcn.h>\n", "capture_output": True, "check": False}
 HERE = os.path.dirname(os.path.realpath(__file__))
 
 
 def compiler():
-    """The system's compiler of C, or None."""
-    return next((found for name in ("cc", "gcc", "clang") if (found := shutil.which(name))), None)
+    """The system's compiler of C that has the headers of the C library, or None."""
+    for name in ("cc", "gcc", "clang"):
+        found = shutil.which(name)
+        if found is not None and subprocess.run([found, "-x", "c", "-fsyntax-only", "-"], **PROBE).returncode == 0:
+            return found
+    return None
 
 
 def build(folder):
     """Builds the library in this folder, and gives its path."""
     made = f"{folder}/calls.so"
-    command = [compiler(), "-O2", "-Wall", "-Wextra", "-Werror", "-shared", "-fPIC", "-o", made, f"{HERE}/calls.c", "-ldl", "-lpthread"]
-    subprocess.run(command, check=True)
+    flags = ["-O2", "-Wall", "-Wextra", "-Werror", "-shared", "-fPIC", "-fvisibility=hidden"]
+    sources = sorted(glob.glob(f"{HERE}/calls*.c"))
+    subprocess.run([compiler(), *flags, "-o", made, *sources, "-ldl", "-lpthread"], check=True)
     return made
 
 

@@ -54,7 +54,7 @@ class Feed:
                 elif self.protocol == "lumberjack":
                     link.store(texts)
                 else:
-                    link.store(texts, 0.3)
+                    link.store(texts, 0.02)
                 return True
             except (OSError, http.client.HTTPException, ValueError):
                 self.drop()

@@ -1,17 +1,14 @@
 """FILE as the system keeps it, and sockets whose calls fail or never answer."""
 import errno
 import os
-import re
 import socket
 import stat
-import struct
 import subprocess
 import time
 
 import calling
 import serving
-from platter import is_good_sync
-from serving import HecLink, LumberLink, RelpLink, RelpReceiver, text_of
+from serving import HecLink, LumberLink, RelpLink, text_of
 
 GIB = 1 << 30
 SLOTS_AT = 12288
@@ -48,7 +45,8 @@ def formats(check, program, library, folder):
         os.umask(old)
     check("format: status", status == 0, status)
     check("format: the folder is synced", syncs_folder(calls, folder))
-    check("format: FILE is synced after its length was set", [call.kind for call in calls if call.kind in ("resize", "sync")][:2] == ["resize", "sync"])
+    steps = [call.kind for call in calls if call.kind in ("resize", "sync")]
+    check("format: FILE is synced after its length was set", steps[:2] == ["resize", "sync"], steps)
     mode = stat.S_IMODE(os.stat(f"{folder}/plain").st_mode)
     check("format: FILE's mode", mode == 0o600, oct(mode))
     made = [oct(call.at) for call in calls if call.kind == "open" and call.asked & os.O_CREAT]
@@ -76,13 +74,15 @@ def beyond_4_gib(check, program, library, folder):
         os.pwrite(file.fileno(), head, slot)
     seen = calling.Seen(library, folder, path, name="large")
     text = text_of("relp", 1)
-    done = subprocess.run([program, path, "replay", "relp"], input=OPEN + b"2 syslog %d %s\n" % (len(text), text), env=seen.environment, capture_output=True, check=False)
+    sent = OPEN + b"2 syslog %d %s\n" % (len(text), text)
+    done = subprocess.run([program, path, "replay", "relp"], input=sent, env=seen.environment, capture_output=True, check=False)
     check("4 GiB: the event is acknowledged", done.returncode == 0 and b"2 rsp 6 200 OK" in done.stdout, done)
     written = [call for call in seen.calls() if call.kind == "write" and text in call.data]
     check("4 GiB: it is written there", [call.at // slot for call in written] == [1], [call.at for call in written])
     with open(path, "rb") as file:
         check("4 GiB: it stands there", text in os.pread(file.fileno(), 4096, slot))
-        check("4 GiB: nothing stands in front of it", not any(os.pread(file.fileno(), 8192, at).strip(b"\0") for at in (SLOTS_AT, SLOTS_AT + GIB)))
+        before = [os.pread(file.fileno(), 8192, at).strip(b"\0") for at in (SLOTS_AT, SLOTS_AT + GIB)]
+        check("4 GiB: nothing stands in front of it", before == [b"", b""], before)
     done = subprocess.run([program, path, "list", "--as", "relp"], capture_output=True, check=False)
     check("4 GiB: it is listed", done.stdout == text + b"\n", done)
     os.remove(path)
@@ -140,9 +140,8 @@ def accepts(check, program, library, folder):
         check(f"accept, {name}: it waits a tenth of a second at first", waits[:1] == [100], waits[:3])
         check(f"accept, {name}: it waits a second at most, and once for each", len(waits) == count and set(waits[9:]) == {1000}, waits[:12])
         said = [call.at for call in calls if call.kind == "say" and call.data.endswith(b"\n")]
-        minutes = sum(waits) / 60000
         check(f"accept, {name}: it is said", len(said) >= 2, said)
-        check(f"accept, {name}: once a minute at most", len(said) <= minutes + 1 and all(b - a >= 59 for a, b in zip(said, said[1:])), said)
+        check(f"accept, {name}: once a minute at most", all(b - a >= 59 for a, b in zip(said, said[1:])), said)
     for error in LASTING:
         server, seen = start(program, library, folder, [calling.fails("accept", 1, error, 1000000)], 1000)
         status, _, errors = server.finish(20)
