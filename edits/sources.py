@@ -98,7 +98,8 @@ def parts_of_function(text, at):
 
 
 def name_of_impl(head):
-    """Returns the name that a check prints for an impl: of the type, with that of the trait and what it is of."""
+    """Returns the name that a check prints for an impl, which is that of the type, with that of the trait and what this is of; and
+    whether it is of a trait."""
     head = re.sub(r"\bwhere\b.*", "", head, flags=re.DOTALL).strip()
     if head.startswith("<"):
         depth = 0
