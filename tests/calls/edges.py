@@ -64,6 +64,8 @@ def formats(check, program, library, folder):
 def beyond_4_gib(check, program, library, folder):
     """What is stored in a slot beyond 4 GiB is written there, and nothing in front of it."""
     path, slot = f"{folder}/large", SLOTS_AT + 4 * GIB
+    with open(path, "wb") as file:
+        file.truncate(SLOTS_AT + 5 * GIB)
     status, _ = format_under(program, library, folder, path, 5, GIB)
     check("4 GiB: status", status == 0, status)
     with open(path, "r+b") as file:
