@@ -48,6 +48,23 @@ def read(crate, path):
         return it.read()
 
 
+@functools.lru_cache(maxsize=None)
+def homes_of(crate):
+    """Returns the modules that declare each type of the crate, by its name."""
+    found = {}
+    for path in files_of(crate, "src"):
+        for name in re.findall(r"\b(?:struct|enum)\s+(\w+)", sources.without_comments(read(crate, path))):
+            found.setdefault(name, []).append(sources.module_of(path))
+    return found
+
+
+def printed(crate, function):
+    """Returns the path under which a check knows a function: a method stands in the module of its type, wherever its impl is."""
+    *module, name = function.split("::")
+    homes = homes_of(crate).get(module[-1], []) if module else []
+    return "::".join([*homes[0], module[-1], name]) if len(homes) == 1 else function
+
+
 def sum_of(*parts):
     return hashlib.sha256(repr(parts).encode()).hexdigest()[:16]
 

@@ -135,7 +135,8 @@ def functions_of(text, path=()):
             if not block:
                 at = end_of_group(text, place)
                 continue
-            name, states = name_of_impl(block["impl"]) if block["impl"] is not None else (block["trait"] or block["mod"], bool(block["trait"]))
+            named = block["trait"] or block["mod"]
+            name, states = (named, bool(block["trait"])) if named else name_of_impl(block["impl"])
             blocks.append((place, name, states))
             at = place + 1
         elif sign == "}":
@@ -197,7 +198,8 @@ def without_unused(text):
     """Returns the text with each import as a line of its own, and without those that only a body needed."""
     rest = IMPORT.sub("", text)
     brought = [names_in(it["tree"]) for it in IMPORT.finditer(text)]
-    used = sorted(f"use {path} as {name};" for names in brought for name, path in names.items() if name == "*" or re.search(rf"\b{name}\b", rest))
+    is_used = lambda name: name == "*" or re.search(rf"\b{name}\b", rest)
+    used = sorted(f"use {path} as {name};" for names in brought for name, path in names.items() if is_used(name))
     return " ".join([*used, rest])
 
 

@@ -92,6 +92,12 @@ def judge(edit, functions, found):
     return Result(False, f"NOT TRIED: the check could not tell: {'; '.join(ended)[:300]}")
 
 
+def run(words, folder):
+    """Runs a command in the folder, and returns what came of it, with all that it said as one text."""
+    how = {"stdin": subprocess.DEVNULL, "stdout": subprocess.PIPE, "stderr": subprocess.STDOUT, "text": True, "errors": "replace"}
+    return subprocess.run(words, cwd=folder, check=False, **how)
+
+
 class Libraries:
     """A copy of crates in which the kit proves them, so that it builds their libraries; what it proved on this machine it takes."""
 
@@ -108,7 +114,7 @@ class Libraries:
             few.writelines(line for line in whole if re.match(r"\s*(\w*)", line)[1] in names)
         shutil.copy(f"{TOP}/HANDLES", self.root)
         say(f"edits: the proofs of {len(names)} crates")
-        ran = subprocess.run(["rt", "ci"], cwd=self.root, stdin=subprocess.DEVNULL, stdout=subprocess.PIPE, stderr=subprocess.STDOUT, text=True, errors="replace")
+        ran = run(["rt", "ci"], self.root)
         self.proved = {it for it in names if os.path.isfile(f"{self.library(it)}/format")}
         if ran.returncode:
             say("\n".join(ran.stdout.rstrip().split("\n")[-20:]))
@@ -157,7 +163,7 @@ def rounds_of(edits):
 def check(libraries, crate, texts, functions, kept):
     """Checks these functions, or all where None is among them, in a copy of the crate with these texts, over what is kept of its other
     rounds."""
-    asked = sorted(functions) if None not in functions else []
+    asked = sorted({project.printed(crate, it) for it in functions}) if None not in functions else []
     with tempfile.TemporaryDirectory(prefix="bridge-edit-") as copy:
         shutil.copytree(f"{libraries.root}/crates/{crate}", copy, ignore=shutil.ignore_patterns("out"), dirs_exist_ok=True)
         for path, text in texts.items():
@@ -166,7 +172,7 @@ def check(libraries, crate, texts, functions, kept):
         for _ in range(len(asked) + 2):
             only = [word for it in asked for word in ("--only", it)]
             words = [f"{KIT}/bin/rattle", "check", *libraries.words(crate), "--incremental", kept, *only]
-            ran = subprocess.run(words, cwd=copy, stdin=subprocess.DEVNULL, stdout=subprocess.PIPE, stderr=subprocess.STDOUT, text=True, errors="replace")
+            ran = run(words, copy)
             missing = NO_FUNCTION.search(ran.stdout)
             if missing and missing[1] in asked and missing[1].count("::") > 1:
                 asked[asked.index(missing[1])] = "::".join(missing[1].split("::")[-2:])
