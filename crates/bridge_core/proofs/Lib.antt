@@ -1,4 +1,4 @@
-pub mod Doing
+pub mod OneCommand
 pub mod Running
 pub mod Headline
 pub mod Alone

@@ -28,7 +28,7 @@ use Rattle.load_run.specs.Line.{load_line}
 use Rattle.bridge_core.specs.Failed.{ReadsOfLink, TellsDisk, TellsReadFault, TellsWriteFault, TellsDial}
 use Rattle.bridge_core.specs.Done.{IsUntouched, Does}
 use Rattle.bridge_core.specs.RunOf.{IsRunOf}
-use Rattle.bridge_core.proofs.Doing.{does_as, no_asked}
+use Rattle.bridge_core.proofs.OneCommand.{does_as, no_asked}
 
 -- ---- counts that stay
 

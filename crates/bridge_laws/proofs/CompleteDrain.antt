@@ -29,7 +29,7 @@ use Rattle.bridge_parts.specs.Receivers.{outward_of}
 use Rattle.bridge_parts.specs.Refused.{note_of_sent}
 use Rattle.bridge_parts.specs.Reached.{Reaches}
 use Rattle.bridge_parts.specs.Written.{IsPrinted}
-use Rattle.bridge_core.proofs.Doing.{is_serve}
+use Rattle.bridge_core.proofs.OneCommand.{is_serve}
 use Rattle.bridge_laws.proofs.Complete.{not_disk, not_read, not_write, not_dial}
 use Rattle.ending_laws.proofs.Endings.{kept}
 use Rattle.ending_laws.proofs.Ordinals.{pending_count}

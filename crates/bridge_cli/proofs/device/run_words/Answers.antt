@@ -1,4 +1,4 @@
-use Rattle.bridge_core.proofs.Doing.{needs_device}
+use Rattle.bridge_core.proofs.OneCommand.{needs_device}
 use Rattle.bridge_cli.proofs.device.run_words.Goals as goal
 
 pub returns-in-Ok-Make-clause-no_command : goal.returns-in-Ok-Make-clause-no_command

@@ -1,6 +1,6 @@
 use Rattle.std.proofs.Common.{refl, ap, map}
 use Rattle.edge_io.specs.Net.{NetState}
-use Rattle.bridge_core.proofs.Doing.{has_polls}
+use Rattle.bridge_core.proofs.OneCommand.{has_polls}
 use Rattle.bridge_core.proofs.doing.do_command.Goals as goal
 
 -- ---- what the words can name
