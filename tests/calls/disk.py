@@ -14,7 +14,6 @@ from platter import Platter, is_bad_sync, is_good_sync
 from serving import ACK_TOKEN, TOKEN, HecLink, LumberLink, RelpLink, names_in, text_of
 from spool import NotSpool, read_spool
 
-EIO, ENOSPC = 5, 28
 # For events of so many bytes: how large the slots are, so that some events fill one.
 SLOT_SIZES = {100: 4096, 9000: 40960, 100000: 262144}
 
@@ -27,6 +26,7 @@ class Feed:
         self.links, self.next = {}, 0
 
     def link(self, word):
+        """The connection for this token, or the only one."""
         makes = {"relp": lambda: RelpLink(self.port), "lumberjack": lambda: LumberLink(self.port)}
         if word not in self.links:
             self.links[word] = makes[self.protocol]() if self.protocol in makes else HecLink(self.port, token=word)
@@ -34,7 +34,10 @@ class Feed:
 
     def drop(self):
         for link in self.links.values():
-            link.drop() if self.protocol == "relp" else link.close()
+            if self.protocol == "relp":
+                link.drop()
+            else:
+                link.close()
         self.links.clear()
 
     def store(self, tries):

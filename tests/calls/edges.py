@@ -26,6 +26,7 @@ def format_under(program, library, folder, path, slots, size):
 
 
 def node_of(path):
+    """The file or folder of this path, as a sync is written down with it."""
     seen = os.stat(path)
     return f"{seen.st_dev} {seen.st_ino}".encode()
 
@@ -186,6 +187,7 @@ def options_of(calls, fd, since):
 
 
 def check_options(check, name, found, seconds):
+    """Checks what was set of a socket: how long it waits for its peer, and that small writes aren't held back."""
     times = [found.get((socket.SOL_SOCKET, option), 0) / 1000000 for option in (socket.SO_RCVTIMEO, socket.SO_SNDTIMEO)]
     check(f"{name}: its reads and writes wait {seconds} s at most", times == [seconds, seconds], times)
     check(f"{name}: nothing is held back", found.get((socket.IPPROTO_TCP, socket.TCP_NODELAY)) == 1, found)

@@ -1,6 +1,8 @@
 """What a disk holds, reckoned from the calls that a program made on FILE, as Linux keeps it: a write changes pages in memory, which are
 dirty then; a sync that succeeds puts the dirty pages on the disk; and a sync that fails marks them clean, so that no later sync puts
 them there unless they are written again. What a read gives is what the memory holds, whatever the disk does."""
+from errno import EINTR
+
 PAGE = 4096
 
 
@@ -86,6 +88,3 @@ def healing_faults(calls, image):
                 faults.append(f"call {number}: a sync without {unsynced} having been written back")
             unsynced, healing, read, rewritten = [], False, [], []
     return faults
-
-
-EINTR = 4
