@@ -33,7 +33,7 @@ pub fn drain(rt: &HostRuntime, proto: Proto, form: Form, events: u32) -> anyhow:
     let ending = forward(alloc, &mut link, &outward, &mut desk, &mut NoRest);
     let time = start.elapsed(rt)?;
     if ending != Sent::Drained || confirmed(&desk) != u64::from(events) {
-        bail!("{ending:?}, {} of {events} confirmed", confirmed(&desk));
+        bail!("{} of {events} confirmed", confirmed(&desk));
     }
     Ok(Session {
         time,

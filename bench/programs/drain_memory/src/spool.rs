@@ -78,15 +78,15 @@ fn empty_desk(alloc: Global) -> anyhow::Result<Desk<MemDisk>>
     ensures ids { IfOk result (λ desk. HoldsNone (run_of desk.spool.memory) desk.ids) }
 {
     let mut disk = MemDisk::plain(alloc, 12_288 + u64::from(SLOTS) * SIZE)?;
-    if let Err(fault) = format(&mut disk, SLOTS, SIZE) {
-        bail!("format: {fault:?}");
+    if format(&mut disk, SLOTS, SIZE).is_err() {
+        bail!("no empty spool");
     }
     match Spool::recover(alloc, disk, Opening::Raise) {
         Ok(spool) => {
             let ids = Ids::new(alloc, spool.run(), 0);
             Ok(Desk { spool, ids })
         }
-        Err(refusal) => bail!("recover: {:?}", refusal.fault),
+        Err(_) => bail!("the spool was not opened"),
     }
 }
 
@@ -94,8 +94,8 @@ fn empty_desk(alloc: Global) -> anyhow::Result<Desk<MemDisk>>
 fn fill(alloc: Global, form: Form, events: u32, desk: &mut Alone<MemDisk>) -> anyhow::Result<()> {
     for index in 0..events {
         let entry = entry(alloc, form, u64::from(index))?;
-        if let Err(fault) = desk.take(&[entry]) {
-            bail!("take: {fault:?}");
+        if desk.take(&[entry]).is_err() {
+            bail!("entry {index} was not taken");
         }
     }
     Ok(())

@@ -17,12 +17,12 @@ pub fn empty_disk(alloc: Global) -> Result<MemDisk, AllocError> {
 /// A disk made an empty spool, and opened for storing.
 pub fn empty_spool(alloc: Global) -> anyhow::Result<Spool<MemDisk>> {
     let mut disk = empty_disk(alloc)?;
-    if let Err(fault) = format(&mut disk, SLOTS, SIZE) {
-        bail!("format: {fault:?}");
+    if format(&mut disk, SLOTS, SIZE).is_err() {
+        bail!("no empty spool");
     }
     match Spool::recover(alloc, disk, Opening::Raise) {
         Ok(spool) => Ok(spool),
-        Err(refusal) => bail!("recover: {:?}", refusal.fault),
+        Err(_) => bail!("the spool was not opened"),
     }
 }
 

@@ -62,7 +62,7 @@ fn carry(
     let Desk { spool, .. } = alone.into_desk();
     let events = u64::from(requests) * u64::from(GROUP);
     if attended.talk != Talk::Ended || attended.taken != events {
-        bail!("{attended:?}");
+        bail!("{} events were taken", attended.taken);
     }
     if spool.end() != events || link.sink.answers() != u64::from(requests) {
         bail!("{} entries, {} answers", spool.end(), link.sink.answers());
@@ -79,7 +79,7 @@ fn cut(alloc: Global, body: &[u8]) -> anyhow::Result<()> {
                     bail!("another count of pieces");
                 }
             }
-            Err(fault) => bail!("{fault:?}"),
+            Err(_) => bail!("a body was refused"),
         }
     }
     Ok(())

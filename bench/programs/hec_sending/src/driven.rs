@@ -98,7 +98,7 @@ impl Driven {
         let mut sender = HecSender::new(alloc, 1, 2, 60);
         match sender.turn()? {
             Turn::Need => {}
-            turn => bail!("{turn:?}"),
+            _ => bail!("another turn"),
         }
         sender.give(0, entries);
         Ok(Driven {

@@ -39,7 +39,7 @@ fn send_request(rt: &HostRuntime, kind: Kind) -> anyhow::Result<(Duration, usize
             Turn::Wait => driven.feed(REPLY)?,
             Turn::Confirmed { .. } => {}
             Turn::Need => return Ok((start.elapsed(rt)?, written)),
-            turn => bail!("{turn:?}"),
+            _ => bail!("another turn"),
         }
     }
     bail!("the session has no end")

@@ -120,7 +120,7 @@ impl Looking {
                     bail!("{taken} bytes taken");
                 }
             }
-            Err(FeedFault::Fault(fault)) => bail!("feed: {fault:?}"),
+            Err(FeedFault::Fault(_)) => bail!("feed: a fault of the stream"),
             Err(FeedFault::NoMemory) => bail!("feed: no memory"),
         }
         Ok(())

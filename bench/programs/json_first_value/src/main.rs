@@ -71,7 +71,7 @@ fn measure(rt: &HostRuntime, bytes: &[u8], rounds: u32) -> anyhow::Result<(f64, 
         let span = black_box(first_value(bytes, 0));
         ours = ours.min(start.elapsed(rt)?);
         if span.map(|span| span.end) != Ok(bytes.len()) {
-            bail!("first_value: {span:?}");
+            bail!("first_value: another span");
         }
         let start = Instant::now(rt)?;
         let objects: Vec<Passed> = serde_json::from_slice(rt.alloc(), bytes)?;

@@ -101,7 +101,7 @@ impl Driven {
         let mut sender = LumberSender::new(alloc);
         match sender.turn()? {
             Turn::Need => {}
-            turn => bail!("{turn:?}"),
+            _ => bail!("another turn"),
         }
         sender.give(0, entries);
         Ok(Driven {

@@ -34,7 +34,7 @@ fn send_window(rt: &HostRuntime, kind: Kind) -> anyhow::Result<(Duration, usize)
             Turn::Wait => driven.feed(&ack)?,
             Turn::Confirmed { .. } => {}
             Turn::Need => return Ok((start.elapsed(rt)?, written)),
-            turn => bail!("{turn:?}"),
+            _ => bail!("another turn"),
         }
     }
     bail!("the window has no end")

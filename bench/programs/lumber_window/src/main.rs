@@ -101,7 +101,7 @@ impl Looking {
                     bail!("{taken} bytes taken");
                 }
             }
-            Err(fault) => bail!("feed: {fault:?}"),
+            Err(_) => bail!("feed: the piece was refused"),
         }
         for _ in 0..u32::MAX {
             let Some(frame) = self.window.next() else {

@@ -61,7 +61,7 @@ impl Feeding {
         self.left -= piece.len();
         match self.reader.feed(piece) {
             Ok(()) => {}
-            Err(fault) => bail!("feed: {fault:?}"),
+            Err(_) => bail!("feed: the piece was refused"),
         }
         for _ in 0..PIECE {
             let Some(frame) = self.reader.take() else {

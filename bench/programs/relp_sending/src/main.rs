@@ -194,7 +194,7 @@ fn drain(
                 fed = *end;
             }
             Turn::Done => return Ok(known),
-            turn => bail!("{turn:?}"),
+            _ => bail!("another turn"),
         }
     }
     bail!("no end")

@@ -65,7 +65,7 @@ impl Feeding {
         self.left -= piece.len();
         match self.reader.feed(piece) {
             Ok(()) => {}
-            Err(fault) => bail!("feed: {fault:?}"),
+            Err(_) => bail!("feed: the piece was refused"),
         }
         for _ in 0..MOST_FRAMES {
             let Some(frame) = self.reader.take() else {
@@ -110,7 +110,7 @@ impl Looking {
                     bail!("{taken} bytes taken");
                 }
             }
-            Err(fault) => bail!("feed: {fault:?}"),
+            Err(_) => bail!("feed: the piece was refused"),
         }
         for _ in 0..MOST_FRAMES {
             let Some(frame) = self.window.next() else {

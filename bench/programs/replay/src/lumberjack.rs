@@ -78,7 +78,7 @@ impl Looking {
                     bail!("{taken} bytes taken");
                 }
             }
-            Err(fault) => bail!("feed: {fault:?}"),
+            Err(_) => bail!("feed: the piece was refused"),
         }
         for _ in 0..PIECE {
             match self.window.next() {

@@ -66,7 +66,7 @@ fn carry(rt: &HostRuntime, stream: &Stream, spool: Spool<MemDisk>) -> anyhow::Re
     let Desk { spool, .. } = alone.into_desk();
     let held = spool.end();
     if attended.talk != Talk::Ended || attended.taken != u64::from(stream.events) {
-        bail!("{attended:?}");
+        bail!("{} events were taken", attended.taken);
     }
     if held != u64::from(stream.events) || link.sink.answers() != stream.answers {
         bail!("{held} entries, {} answers", link.sink.answers());

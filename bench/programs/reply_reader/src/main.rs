@@ -74,7 +74,7 @@ impl Hearing {
         self.left -= piece.len();
         match self.reader.feed(piece) {
             Ok(()) => Ok(()),
-            Err(FeedFault::Fault(fault)) => bail!("feed: {fault:?}"),
+            Err(FeedFault::Fault(_)) => bail!("feed: a fault of the stream"),
             Err(FeedFault::NoMemory) => bail!("feed: no memory"),
         }
     }

@@ -81,15 +81,15 @@ fn desk_on<D: Disk + Drop>(alloc: Global, mut disk: D) -> anyhow::Result<Desk<D>
     ensures sure { IfOk result (λ desk. desk.spool.doubt ≡ false) }
     ensures ids { IfOk result (λ desk. HoldsNone (run_of desk.spool.memory) desk.ids) }
 {
-    if let Err(fault) = format(&mut disk, SLOTS, SIZE) {
-        bail!("format: {fault:?}");
+    if format(&mut disk, SLOTS, SIZE).is_err() {
+        bail!("no empty spool");
     }
     match Spool::recover(alloc, disk, Opening::Raise) {
         Ok(spool) => {
             let ids = Ids::new(alloc, spool.run(), 0);
             Ok(Desk { spool, ids })
         }
-        Err(refusal) => bail!("recover: {:?}", refusal.fault),
+        Err(_) => bail!("the spool was not opened"),
     }
 }
 
