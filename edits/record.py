@@ -3,7 +3,7 @@ import os
 
 import project
 
-FILE = f"{project.HERE}/tried"
+FILE, UNTRIED = f"{project.HERE}/tried", f"{project.HERE}/untried"
 HEAD = """\
 # What each harmful edit under edits/ came to when it was last tried: its name, the sum of what that verdict was made from, and the
 # goal that refused it. Written by edits/try, never by hand.
@@ -31,6 +31,24 @@ def save(rows):
         it.write(HEAD)
         it.writelines(f"{name} {sum} {goal}\n" for name, (sum, goal) in sorted(rows.items()))
     os.replace(f"{FILE}.new", FILE)
+
+
+def untried():
+    """Returns the names of the edits that have no record yet, since none was tried since the record began; the list only shrinks."""
+    if not os.path.isfile(UNTRIED):
+        return set()
+    with open(UNTRIED, encoding="utf-8") as it:
+        return {line.strip() for line in it if line.strip() and not line.startswith("#")}
+
+
+def drop_untried(rows):
+    """Takes from the list of the untried those that have a record now."""
+    if os.path.isfile(UNTRIED):
+        with open(UNTRIED, encoding="utf-8") as it:
+            lines = [line for line in it if line.strip() not in rows]
+        with open(f"{UNTRIED}.new", "w", encoding="utf-8") as it:
+            it.writelines(lines)
+        os.replace(f"{UNTRIED}.new", UNTRIED)
 
 
 def judged(edits, rows):
