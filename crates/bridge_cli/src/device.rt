@@ -6,7 +6,7 @@ ghost use Rattle.bridge_core.specs.Failed.{TellsReadFault, TellsWriteFault, Tell
 
 use bridge_core::bridge;
 use bridge_words::{Need, need_of};
-use cli_parts::{Opening, Progress, Watched, open_text};
+use cli_parts::{Opening, Progress, Watched, make_disk, open_text};
 use edge_disk::{Disk, FileDisk, MemDisk, OpenFault};
 use edge_io::{Door, Net, Sink, Source};
 use notes::Note;
@@ -97,7 +97,7 @@ where
     let alloc = rt.alloc();
     match need_of(alloc, words) {
         Ok(Need::Make { len }) => {
-            let opened = FileDisk::make_locked(rt, file, len);
+            let opened = make_disk(rt, file, len);
             run_over(rt, threads, file, words, opened, false, input, output, net)
         }
         Ok(Need::Existing) => {

@@ -123,8 +123,10 @@ fn a_file_is_its_owners_alone(rt: &impl Abort, host: &HostRuntime, path: &str) {
 // length again, all that was written since the last good sync is written back as a read gives it.
 fn a_file_that_shrank_is_a_fault(rt: &impl Abort, host: &HostRuntime, path: &str) {
     let mut disk = FileDisk::make(host, path, 4).expect(rt, "make");
+    assert!(rt; disk.len() == 4);
     assert!(rt; disk.write_at(1, &[2, 3]).is_ok());
     fs::write(host, path, b"\x09".as_slice()).expect(rt, "shorten");
+    assert!(rt; disk.len() == 4);
     assert!(rt; disk.write_at(2, &[5]).is_err() && holds(rt, host, path, &[9]));
     assert!(rt; disk.sync().is_err() && holds(rt, host, path, &[9]));
     let mut buf = [0; 4];
@@ -132,6 +134,7 @@ fn a_file_that_shrank_is_a_fault(rt: &impl Abort, host: &HostRuntime, path: &str
     assert!(rt; disk.read_at(0, &mut buf[..1]).is_err());
     assert!(rt; disk.write_at(0, &[5]).is_err() && holds(rt, host, path, &[9]));
     fs::write(host, path, b"\x09\x08\x07\x06".as_slice()).expect(rt, "lengthen");
+    assert!(rt; disk.len() == 4);
     assert!(rt; disk.read_at(0, &mut buf).is_ok() && buf == [9, 8, 7, 6]);
     assert!(rt; disk.write_at(0, &[5]).is_ok() && disk.sync().is_ok());
     drop(disk);
@@ -146,6 +149,7 @@ fn a_link_is_its_target(rt: &impl Abort, host: &HostRuntime, path: &str) {
     fs::create_dir(host, folder.as_str()).expect(rt, "a folder");
     symlink(host, target.as_str(), path).expect(rt, "a link");
     let mut disk = FileDisk::make(host, path, 2).expect(rt, "make");
+    assert!(rt; disk.len() == 2);
     assert!(rt; disk.write_at(0, &[6, 7]).is_ok() && disk.sync().is_ok());
     assert!(rt;
         holds(rt, host, target.as_str(), &[6, 7]) && mode_of(rt, host, target.as_str()) == 0o600
