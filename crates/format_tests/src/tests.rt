@@ -2,7 +2,7 @@
 use crate::json::brackets::{ARRAYS, DEPTHS, NEXT, OBJECTS};
 use crate::json::scalars::{CHARACTERS, LITERALS, NUMBERS, STRINGS, WHITE_SPACE};
 use crate::json::{nexts, objects, values};
-use crate::words::notes;
+use crate::words::note_texts;
 use crate::words::rows::{COMMANDS, NO_COMMANDS};
 use crate::words::rows_of_drain::{DRAINS, NO_DRAINS};
 use crate::words::rows_of_replay::{NO_REPLAYS, REPLAYS};
@@ -52,6 +52,6 @@ fn events_and_their_forms(rt: HostRuntime) {
         words::check(&rt, alloc, table);
     }
     words::fault_texts(&rt);
-    notes::texts(&rt, alloc);
-    notes::lines(&rt, alloc);
+    note_texts::texts(&rt, alloc);
+    note_texts::lines(&rt, alloc);
 }

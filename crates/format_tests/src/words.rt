@@ -1,6 +1,6 @@
 //! The words of bridge's command line, and the texts that it prints.
 pub mod commands;
-pub mod notes;
+pub mod note_texts;
 pub mod rows;
 pub mod rows_of_drain;
 pub mod rows_of_replay;
