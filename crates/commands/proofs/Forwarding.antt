@@ -192,14 +192,8 @@ is_pending cursor last = elim (cases_lt cursor last) [ inl lt ↦ inl lt | inr g
 -- ---- over a device
 
 -- A spool that was opened from a device as it is, of which what is asked was done.
-module _ (tells same same' : Type 0) (old mid new : Moment) (memory : Memory) (doubt : Bool)
-    (opens : tells → (s : SpoolState) × Opens Keep s old.reads (view memory doubt mid)) (first : tells → LeavesOnly old.image old mid) where
-  abbrev device : DiskRun
-  device = record { tells = tells; old = old; new = new; same = same }
-
-  abbrev over : SpoolRun
-  over = record { memory = memory; disk = record { tells = tells; old = mid; new = new; same = same' } }
-
+module _ (tells : Type 0) (old mid new : Moment) (memory : Memory) (doubt : Bool)
+    (opens : tells → (s : SpoolState) × Opens Keep s old.reads (view memory doubt mid)) where
   -- nothing was pending, and nothing was done to it
   pub was_idle : end_of memory ≤ cursor_of memory → (tells → LeavesOnly old.image old new) → tells → IsLooked IsIdle old new
   was_idle none still told =
@@ -210,7 +204,13 @@ module _ (tells same same' : Type 0) (old mid new : Moment) (memory : Memory) (d
   had_more more still told =
       let found = opens told in looked_more found.0 old new (cursor_of memory) (end_of memory) found.1.stood (still told) (seen found.0 _ found.1.reached) more
 
-  module _ (sure : doubt ≡ false) (more : cursor_of memory < end_of memory) where
+  module _ (same same' : Type 0) (first : tells → LeavesOnly old.image old mid) (sure : doubt ≡ false) (more : cursor_of memory < end_of memory) where
+    abbrev device : DiskRun
+    device = record { tells = tells; old = old; new = new; same = same }
+
+    abbrev over : SpoolRun
+    over = record { memory = memory; disk = record { tells = tells; old = mid; new = new; same = same' } }
+
     -- a session was held over it
     pub was_sent : (outward : Outward) (link : LinkRun) (remaining : ℕ) (sent : Sent) → IsSession outward link (SendsFrom over remaining) sent
         → IsSessionOver outward device link (record { confirmed = pending_in memory - remaining; remaining = remaining }) sent

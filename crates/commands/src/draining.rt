@@ -2,30 +2,62 @@
 ghost use Rattle.std.specs.Prelude.{◌≡◌, ◌≢◌, ◌≤◌, ◌<◌, ℕ, false};
 ghost use Rattle.edge_disk.specs.Calls.{Calls};
 ghost use Rattle.spool_log.specs.Memory.{cursor_of, end_of};
+ghost use Rattle.forward_core.specs.Forwarded as sending;
+ghost use Rattle.forward_core.specs.Turning.{IsHalt};
+ghost use Rattle.forward_core.specs.declared.sent.Sent.TheVariants as Ending;
 ghost use Rattle.conn_serve.specs.Endings.{CountsFaults};
 ghost use Rattle.notes.specs.declared.note.Note.TheVariants.{Usage, WrongLength, ReadFault};
-ghost use Rattle.bridge_parts.specs.Run.{disk_run, input_run, link_run, output_run};
-ghost use Rattle.commands.specs.Drained.{IsDrained};
+ghost use Rattle.bridge_parts.specs.Pending.{pending_in};
+ghost use Rattle.bridge_parts.specs.Run.{both_run, disk_run, input_run, output_run};
+ghost use Rattle.commands.specs.Drained.{IsDrained, IsSession};
 ghost use Rattle.commands.specs.Failed.{CountsWrites};
-ghost use Rattle.commands.specs.Sending.{IsSentOut};
+ghost use Rattle.commands.specs.Sending.{IsSentOut, SendsFrom};
 ghost use Rattle.commands.specs.SpoolRun.{spool_run};
 
 use crate::finished::Finished;
 use crate::sending::{Sending, is_idle, send};
 use bridge_parts::{recover_note, sent_note};
 use edge_disk::Disk;
-use edge_io::{Both, Link, Net, Pause, Sink, Source};
+use edge_io::{Both, Net, Pause, Sink, Source};
 use forward_core::Outward;
 use notes::Note;
 use spool_log::{Opening, Refusal, Spool};
 use std::alloc::Global;
 
-// Forwards the entries over the link, unless none is pending.
-fn send_out<D: Disk, L: Link, Z: Pause>(
+// Holds one session over the input and the output.
+fn send_both<D: Disk, S: Source, K: Sink, Z: Pause>(
     alloc: Global,
     outward: &Outward,
     spool: Spool<D>,
-    link: &mut L,
+    input: &mut S,
+    output: &mut K,
+    rest: &mut Z,
+) -> Sending<D>
+    requires sure { spool.doubt ≡ false }
+    requires polls { 0 < outward.now.polls }
+
+    ensures calls { Calls (result.sent ≡ Ending.DiskFault) (D.moment spool.disk) (D.moment result.spool.disk) }
+    ensures reads { sending.CountsFaults (result.sent ≡ Ending.ReadFault) (S.read_faults input.old) (S.read_faults input.new) }
+    ensures writes { sending.CountsWrites (result.sent ≡ Ending.WriteFault) (IsHalt result.sent) (K.write_faults output.old) (K.write_faults output.new) }
+    ensures paused { Z.pause_apart rest.old rest.new }
+    ensures session { IsSession outward.now (both_run (input_run S.given S.left S.read_faults input.old input.new)
+        (output_run K.taken K.write_faults output.old output.new))
+        (SendsFrom (spool_run D.tells D.moment spool.memory spool.disk result.spool.disk) (pending_in result.spool.memory)) result.sent }
+{
+    let mut link = Both {
+        source: &mut *input,
+        sink: &mut *output,
+    };
+    send(alloc, outward, spool, &mut link, rest)
+}
+
+// Forwards the entries over the input and the output, unless none is pending.
+fn send_out<D: Disk, S: Source, K: Sink, Z: Pause>(
+    alloc: Global,
+    outward: &Outward,
+    spool: Spool<D>,
+    input: &mut S,
+    output: &mut K,
     rest: &mut Z,
 ) -> Finished<D>
     requires sure { spool.doubt ≡ false }
@@ -33,20 +65,21 @@ fn send_out<D: Disk, L: Link, Z: Pause>(
 
     ensures known { (result.note ≢ Usage) × ((have want : ℕ) → result.note ≢ WrongLength have want) }
     ensures calls { Calls (result.note ≡ Note.DiskFault) (D.moment spool.disk) (D.moment result.disk) }
-    ensures reads { CountsFaults (result.note ≡ ReadFault) (L.read_faults link.old) (L.read_faults link.new) }
-    ensures writes { CountsWrites result.note (L.write_faults link.old) (L.write_faults link.new) }
+    ensures reads { CountsFaults (result.note ≡ ReadFault) (S.read_faults input.old) (S.read_faults input.new) }
+    ensures writes { CountsWrites result.note (K.write_faults output.old) (K.write_faults output.new) }
     ensures dials { result.note ≢ Note.NetFault }
     ensures paused { Z.pause_apart rest.old rest.new }
     ensures idle { end_of spool.memory ≤ cursor_of spool.memory
-        → (link.new ≡ link.old) × (result.note ≡ Note.Fine) × (result.disk ≡ spool.disk) }
+        → (input.new ≡ input.old) × (output.new ≡ output.old) × (result.note ≡ Note.Fine) × (result.disk ≡ spool.disk) }
     ensures sent { cursor_of spool.memory < end_of spool.memory
         → IsSentOut outward.now (spool_run D.tells D.moment spool.memory spool.disk result.disk)
-        (link_run L.given L.left L.taken link.old link.new) result.note }
+        (both_run (input_run S.given S.left S.read_faults input.old input.new)
+        (output_run K.taken K.write_faults output.old output.new)) result.note }
 {
     if is_idle(&spool) {
         return Finished::of(Note::Fine, spool.into_disk());
     }
-    let Sending { sent, spool } = send(alloc, outward, spool, link, rest);
+    let Sending { sent, spool } = send_both(alloc, outward, spool, input, output, rest);
     Finished::of(sent_note(sent), spool.into_disk())
 }
 
@@ -70,13 +103,7 @@ pub fn drain_out<D: Disk, S: Source, K: Sink, N: Net>(
         (input_run S.given S.left S.read_faults input.old input.new) (output_run K.taken K.write_faults output.old output.new) result.note }
 {
     match Spool::recover(alloc, disk, Opening::Keep) {
-        Ok(spool) => {
-            let mut link = Both {
-                source: &mut *input,
-                sink: &mut *output,
-            };
-            send_out(alloc, outward, spool, &mut link, net)
-        }
+        Ok(spool) => send_out(alloc, outward, spool, input, output, net),
         Err(Refusal { fault, disk }) => Finished::of(recover_note(fault), disk),
     }
 }

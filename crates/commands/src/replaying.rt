@@ -4,7 +4,7 @@ ghost use Rattle.edge_io.specs.declared.proto.Proto.{Proto};
 ghost use Rattle.spool_log.specs.Memory.{run_of};
 ghost use Rattle.conn_serve.specs.Endings.{CountsFaults};
 ghost use Rattle.notes.specs.declared.note.Note.TheVariants.{ReadFault, WriteFault};
-ghost use Rattle.bridge_parts.specs.Run.{disk_run, input_run, link_run, output_run};
+ghost use Rattle.bridge_parts.specs.Run.{both_run, disk_run, input_run, link_run, output_run};
 ghost use Rattle.commands.specs.Failed.{TellsDiskFault};
 ghost use Rattle.commands.specs.Replayed.{ServesLink, IsReplayed, KeepsFrom};
 ghost use Rattle.commands.specs.SpoolRun.{spool_run};
@@ -48,6 +48,30 @@ fn serve_link<D: Disk, L: Link>(
     Finished::of(Note::of_talk(attended.talk), desk.spool.into_disk())
 }
 
+// Serves the input by these rules, as the first connection of the spool's run.
+fn serve_input<D: Disk, S: Source, K: Sink>(
+    alloc: Global,
+    rules: Rules,
+    spool: Spool<D>,
+    input: &mut S,
+    output: &mut K,
+) -> Finished<D>
+    requires sure { spool.doubt ≡ false }
+
+    ensures calls { TellsDiskFault (rules.proto ≡ Proto.Hec) result.note (D.moment spool.disk) (D.moment result.disk) }
+    ensures reads { CountsFaults (result.note ≡ ReadFault) (S.read_faults input.old) (S.read_faults input.new) }
+    ensures writes { CountsFaults (result.note ≡ WriteFault) (K.write_faults output.old) (K.write_faults output.new) }
+    ensures served { ServesLink rules (run_of spool.memory * 2 ^ 32) (both_run (input_run S.given S.left S.read_faults input.old input.new)
+        (output_run K.taken K.write_faults output.old output.new))
+        (KeepsFrom (spool_run D.tells D.moment spool.memory spool.disk result.disk)) result.note }
+{
+    let mut link = Both {
+        source: &mut *input,
+        sink: &mut *output,
+    };
+    serve_link(alloc, rules, spool, &mut link)
+}
+
 /// Serves the input as one connection by the protocol and the tokens of these rules, over the spool that the device
 /// holds, of which the run is raised by one first. The connection has the number run * 2^32.
 ///
@@ -66,13 +90,7 @@ pub fn replay<D: Disk, S: Source, K: Sink>(
         (input_run S.given S.left S.read_faults input.old input.new) (output_run K.taken K.write_faults output.old output.new) result.note }
 {
     match Spool::recover(alloc, disk, Opening::Raise) {
-        Ok(spool) => {
-            let mut link = Both {
-                source: &mut *input,
-                sink: &mut *output,
-            };
-            serve_link(alloc, rules, spool, &mut link)
-        }
+        Ok(spool) => serve_input(alloc, rules, spool, input, output),
         Err(Refusal { fault, disk }) => Finished::of(recover_note(fault), disk),
     }
 }

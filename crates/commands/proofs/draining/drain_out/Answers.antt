@@ -25,24 +25,20 @@ returns-in-Ok-clause-drained g c =
       writes = did.writes;
       dials = did.dials;
       drained = elim (is_pending (cursor_of memory) (end_of memory)) [
-        | inl more ↦ inr (inr (was_streamed tells _ _ old mid new memory doubt opened.opened opened.any_moment opened.sure more c.args.outward.now _ _ (did.sent more)))
+        | inl more ↦ inr (inr (was_streamed tells old mid new memory doubt opened.opened _ _ opened.any_moment opened.sure more c.args.outward.now _ _ (did.sent more)))
         | inr none ↦
             let still = did.idle none in
             inr (inl (
-              was_idle tells _ _ old mid new memory doubt opened.opened opened.any_moment none
-                  (λ told. subst (λ (d : _). LeavesOnly old.image old (g.D.Disk.moment d)) (sym still.2) (opened.any_moment told)),
-              still.1,
+              was_idle tells old mid new memory doubt opened.opened none
+                  (λ told. subst (λ (d : _). LeavesOnly old.image old (g.D.Disk.moment d)) (sym still.3) (opened.any_moment told)),
+              still.2,
               record {
-                same = ap (λ b. b.source.now) still.0;
-                given = ap (λ b. g.S.Source.given b.source.now) still.0;
-                left = ap (λ b. g.S.Source.left b.source.now) still.0;
-                faults = ap (λ b. g.S.Source.read_faults b.source.now) still.0;
+                same = still.0;
+                given = ap (λ s. g.S.Source.given s) still.0;
+                left = ap (λ s. g.S.Source.left s) still.0;
+                faults = ap (λ s. g.S.Source.read_faults s) still.0;
               },
-              record {
-                same = ap (λ b. b.sink.now) still.0;
-                taken = ap (λ b. g.K.Sink.taken b.sink.now) still.0;
-                faults = ap (λ b. g.K.Sink.write_faults b.sink.now) still.0;
-              },
+              record { same = still.1; taken = ap (λ k. g.K.Sink.taken k) still.1; faults = ap (λ k. g.K.Sink.write_faults k) still.1 },
             ))
       ];
     }

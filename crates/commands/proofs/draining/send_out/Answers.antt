@@ -13,13 +13,13 @@ returns-clause-idle g c = λ none.
 
 pub returns-clause-sent : goal.returns-clause-sent
 returns-clause-sent g c = λ more.
-    let spool = c.send-sent.result.spool in
+    let spool = c.send_both-sent.result.spool in
     let disk = sym (c.of-2.ensures.disk ∙ c.into_disk-2.ensures) in
     record {
-      sent = c.send-sent.result.sent;
+      sent = c.send_both-sent.result.sent;
       note_is = c.of-2.ensures.note ∙ c.sent_note.ensures;
       remaining = pending_in spool.memory;
-      session = session_as c.args.outward.now _ _ _ c.send-sent.result.sent (λ start until calls made s tells held.
+      session = session_as c.args.outward.now _ _ _ c.send_both-sent.result.sent (λ start until calls made s tells held.
           subst (λ (d : _). Sends s (disk_run g.D.Disk.tells g.D.Disk.moment c.args.spool.disk d) (pending_in spool.memory) start until calls) disk
-          (made s tells held)) c.send-sent.ensures.session;
+          (made s tells held)) c.send_both-sent.ensures.session;
     }

@@ -12,8 +12,8 @@ pub returns-in-Err-WrongLength : goal.returns-in-Err-WrongLength
 returns-in-Err-WrongLength g c =
     let came = c.in-Err-WrongLength.ensures in
     let wrong = c.in-Err-WrongLength.field-0-is in
-    wrong_length _ _ _ _ _ _ (rw wrong at came.length) (calls_as _ _ _ _ came.calls (λ by. absurd (cc)) (λ by. absurd (cc)))
-    came.unchanged (record { same = refl; taken = refl; faults = refl }) came.any_moment
+    rw wrong (wrong_length _ _ _ _ _ _ (rw wrong at came.length) (calls_as _ _ _ _ came.calls (λ by. absurd (cc)) (λ by. absurd (cc)))
+    came.unchanged (record { same = refl; taken = refl; faults = refl }) came.any_moment)
 
 pub returns-in-Err-DiskFault : goal.returns-in-Err-DiskFault
 returns-in-Err-DiskFault g c =

@@ -22,16 +22,16 @@ returns-in-Ok g c =
       dials = did.dials;
       drained = inr (elim did.placed [
         | inl (none, still, says) ↦ inl (record {
-          idle = was_idle tells _ _ old mid new memory doubt opened.opened opened.any_moment none
+          idle = was_idle tells old mid new memory doubt opened.opened none
               (λ told. subst (λ (d : _). LeavesOnly old.image old (g.D.Disk.moment d)) (sym still) (opened.any_moment told));
           says = says;
         })
         | inr (more, inl (still, dial)) ↦ inr (inl (record {
-          pending = had_more tells _ _ old mid new memory doubt opened.opened opened.any_moment more
+          pending = had_more tells old mid new memory doubt opened.opened more
               (λ told. subst (λ (d : _). LeavesOnly old.image old (g.D.Disk.moment d)) (sym still) (opened.any_moment told));
           dial = dial;
         }))
-        | inr (more, inr there) ↦ inr (inr (was_placed tells _ _ old mid new memory doubt opened.opened opened.any_moment opened.sure more c.args.outward.now
+        | inr (more, inr there) ↦ inr (inr (was_placed tells old mid new memory doubt opened.opened _ _ opened.any_moment opened.sure more c.args.outward.now
             c.args.place.now _ _ _ there))
       ]);
     }

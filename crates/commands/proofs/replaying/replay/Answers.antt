@@ -6,12 +6,12 @@ use Rattle.commands.proofs.replaying.replay.Goals as goal
 
 pub returns-in-Ok : goal.returns-in-Ok
 returns-in-Ok g c = record {
-  calls = tells_on _ _ _ _ _ _ c.in-Ok.ensures.calls (λ none. none) c.serve_link.ensures.calls;
-  reads = c.serve_link.ensures.reads;
-  writes = c.serve_link.ensures.writes;
+  calls = tells_on _ _ _ _ _ _ c.in-Ok.ensures.calls (λ none. none) c.serve_input.ensures.calls;
+  reads = c.serve_input.ensures.reads;
+  writes = c.serve_input.ensures.writes;
   replayed = inr (serves_input c.args.rules g.D.Disk.tells _ _ (g.D.Disk.moment c.args.disk) (g.D.Disk.moment c.in-Ok.spool.disk)
-      (g.D.Disk.moment c.serve_link.result.disk) c.in-Ok.spool.memory c.in-Ok.spool.doubt c.in-Ok.ensures.sure c.in-Ok.ensures.opened
-      c.in-Ok.ensures.any_moment _ _ c.serve_link.ensures.served);
+      (g.D.Disk.moment c.serve_input.result.disk) c.in-Ok.spool.memory c.in-Ok.spool.doubt c.in-Ok.ensures.sure c.in-Ok.ensures.opened
+      c.in-Ok.ensures.any_moment _ _ c.serve_input.ensures.served);
 }
 
 pub returns-in-Err : goal.returns-in-Err
