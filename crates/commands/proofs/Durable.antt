@@ -53,10 +53,10 @@ answers_are_durable Hec tokens conn left b calls text talk old new carried store
     }
 
 -- A link that was served over a spool, which was opened from a device.
-module _ (rules : Rules) (tells same same' : Type 0) (old mid new : Moment) (memory : Memory) (doubt : Bool) (sure : doubt ≡ false)
+module _ (rules : Rules) (tells same : Type 0) (old mid new : Moment) (memory : Memory) (doubt : Bool) (sure : doubt ≡ false)
     (opens : tells → (s : SpoolState) × Opens Raise s old.reads (view memory doubt mid)) (first : tells → LeavesOnly (IsOpening Raise old) old mid) where
   stored_so : (calls : List Call)
-      → KeepsFrom (record { memory = memory; disk = record { tells = tells; old = mid; new = new; same = same' } }) calls → tells
+      → KeepsFrom (record { memory = memory; disk = record { tells = tells; old = mid; new = new; same = same } }) calls → tells
       → IsStored old new (run_of memory * 2 ^ 32) calls
   stored_so calls made told =
       let found = opens told in
@@ -66,7 +66,7 @@ module _ (rules : Rules) (tells same same' : Type 0) (old mid new : Moment) (mem
 
   pub serves_input : (link : LinkRun) (note : Note)
       → ServesLink rules (run_of memory * 2 ^ 32) link
-      (KeepsFrom (record { memory = memory; disk = record { tells = tells; old = mid; new = new; same = same' } })) note
+      (KeepsFrom (record { memory = memory; disk = record { tells = tells; old = mid; new = new; same = same } })) note
       → ServesInput rules (record { tells = tells; old = old; new = new; same = same }) link note
   serves_input link note served =
       let serves = served.serves in

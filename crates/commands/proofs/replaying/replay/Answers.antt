@@ -9,7 +9,7 @@ returns-in-Ok g c = record {
   calls = tells_on _ _ _ _ _ _ c.in-Ok.ensures.calls (λ none. none) c.serve_input.ensures.calls;
   reads = c.serve_input.ensures.reads;
   writes = c.serve_input.ensures.writes;
-  replayed = inr (serves_input c.args.rules g.D.Disk.tells _ _ (g.D.Disk.moment c.args.disk) (g.D.Disk.moment c.in-Ok.spool.disk)
+  replayed = inr (serves_input c.args.rules g.D.Disk.tells _ (g.D.Disk.moment c.args.disk) (g.D.Disk.moment c.in-Ok.spool.disk)
       (g.D.Disk.moment c.serve_input.result.disk) c.in-Ok.spool.memory c.in-Ok.spool.doubt c.in-Ok.ensures.sure c.in-Ok.ensures.opened
       c.in-Ok.ensures.any_moment _ _ c.serve_input.ensures.served);
 }
