@@ -11,15 +11,15 @@ format-note-requires g c = (rw c.in-Format.is at c.requires.asked).1.asks.in_ran
 pub load-note-requires : goal.load-note-requires
 load-note-requires g c = record { few = (rw c.in-Load.is at c.requires.asked).1.asks.few }
 
-pub drain_out-requires : goal.drain_out-requires
-drain_out-requires g c =
-    let asked = rw (c.in-Drain-default-None.is, c.in-Drain-default-None.field-1-is) at c.requires.asked in
+pub drain_out-note-requires : goal.drain_out-note-requires
+drain_out-note-requires g c =
+    let asked = rw (c.in-Drain-default-None.is, c.in-Drain-default-None.place-is) at c.requires.asked in
     record { polls = rw c.outward_of-outward.ensures (has_polls c.in-Drain-default-None.receiver _ _ asked.1) }
 
-pub drain_to-requires : goal.drain_to-requires
-drain_to-requires g c =
-    let asked = rw (c.in-Drain-default-Some.is, c.in-Drain-default-Some.field-1-is) at c.requires.asked in
-    record { polls = rw c.outward_of-outward.ensures (has_polls c.in-Drain-default-Some.receiver _ _ asked.1) }
+pub drain_to-note-requires : goal.drain_to-note-requires
+drain_to-note-requires g c =
+    let asked = rw (c.in-Drain-default-Some.is, c.in-Drain-default-Some.place-is) at c.requires.asked in
+    record { polls = rw c.outward_of-outward-in-Drain-default-Some.ensures (has_polls c.in-Drain-default-Some.receiver _ _ asked.1) }
 
 -- ---- what was done
 
@@ -29,33 +29,33 @@ returns-in-Format-clause-done g c = rw (c.in-Format.is, c.of.ensures.disk, c.of.
 
 pub returns-in-List-clause-done : goal.returns-in-List-clause-done
 returns-in-List-clause-done g c = rw (c.in-List.is, c.of-in-List.ensures.disk, c.of-in-List.ensures.note, c.of-in-List.ensures.doors)
-    (c.list.ensures, record { same = refl; given = refl; left = refl; faults = refl }, record { same = refl; told = refl }, refl)
+    (c.list-note.ensures, record { same = refl; given = refl; left = refl; faults = refl }, record { same = refl; told = refl }, refl)
 
 pub returns-in-Replay-clause-done : goal.returns-in-Replay-clause-done
 returns-in-Replay-clause-done g c = rw (c.in-Replay.is, c.of-in-Replay.ensures.disk, c.of-in-Replay.ensures.note, c.of-in-Replay.ensures.doors)
-    (c.replay.ensures, record { same = refl; told = refl }, refl)
+    (c.replay-note.ensures, record { same = refl; told = refl }, refl)
 
 pub returns-in-Drain-default-None-clause-done : goal.returns-in-Drain-default-None-clause-done
 returns-in-Drain-default-None-clause-done g c =
     rw (
       c.in-Drain-default-None.is,
-      c.in-Drain-default-None.field-1-is,
+      c.in-Drain-default-None.place-is,
       c.of-in-Drain-default-None.ensures.disk,
       c.of-in-Drain-default-None.ensures.note,
       c.of-in-Drain-default-None.ensures.doors,
     )
-    (rw c.outward_of-outward.ensures at c.drain_out.ensures.drained, c.drain_out.ensures.told, refl)
+    (rw c.outward_of-outward.ensures at c.drain_out-note.ensures.drained, c.drain_out-note.ensures.told, refl)
 
 pub returns-in-Drain-default-Some-clause-done : goal.returns-in-Drain-default-Some-clause-done
 returns-in-Drain-default-Some-clause-done g c =
     rw (
       c.in-Drain-default-Some.is,
-      c.in-Drain-default-Some.field-1-is,
+      c.in-Drain-default-Some.place-is,
       c.of-in-Drain-default-Some.ensures.disk,
       c.of-in-Drain-default-Some.ensures.note,
       c.of-in-Drain-default-Some.ensures.doors,
     )
-    (rw (c.outward_of-outward-in-Drain-default-Some.ensures, c.as_str.ensures) at c.drain_to.ensures, record { same = refl; given = refl; left = refl; faults = refl }, refl)
+    (rw (c.outward_of-outward-in-Drain-default-Some.ensures, c.as_str.ensures) at c.drain_to-note.ensures, record { same = refl; given = refl; left = refl; faults = refl }, refl)
 
 pub returns-in-Load-clause-done : goal.returns-in-Load-clause-done
 returns-in-Load-clause-done g c = rw (c.in-Load.is, c.of-in-Load.ensures.disk, c.of-in-Load.ensures.note, c.of-in-Load.ensures.doors)
@@ -63,7 +63,7 @@ returns-in-Load-clause-done g c = rw (c.in-Load.is, c.of-in-Load.ensures.disk, c
 
 pub returns-in-Serve-clause-done : goal.returns-in-Serve-clause-done
 returns-in-Serve-clause-done g c =
-    let served = c.serve.ensures in
+    let served = c.serve-note.ensures in
     rw c.in-Serve.is (
       served.served,
       record { same = refl; given = refl; left = refl; faults = refl },

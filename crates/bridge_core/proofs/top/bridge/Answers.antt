@@ -3,9 +3,6 @@ use Rattle.bridge_core.proofs.Headline.{keeps_acknowledged}
 use Rattle.bridge_core.proofs.Running.{ran_as, ran_none, ran_unread}
 use Rattle.bridge_core.proofs.top.bridge.Goals as goal
 
-pub do_command-requires : goal.do_command-requires
-do_command-requires g c = record { asked = (_, c.in-Ok.ensures.command) }
-
 pub returns-in-Ok-clause-run : goal.returns-in-Ok-clause-run
 returns-in-Ok-clause-run g c = ran_as _ _ _ c.in-Ok.command c.in-Ok.ensures.command c.do_command.ensures.done
 
