@@ -9,7 +9,7 @@ use crate::{Disk, DiskFault, OpenFault, Sharing};
 use std::fs::File;
 use std::io;
 
-/// A file or a block device as a disk. Its length is the file's as it was opened. A read, a write or a sync at
+/// A file or a block device as a disk. Its length is the file's as it was opened. A read or a write at
 /// which the file has become shorter is a fault.
 ///
 /// After a sync or a write that failed, each call first makes good what was written since the last good sync,

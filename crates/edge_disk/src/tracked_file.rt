@@ -146,10 +146,7 @@ impl TrackedFile {
         ensures failing { OnErr result (self.new.is_failing ≡ true) }
         ensures kept { OnErr result (self.new.unsynced ≡ self.old.unsynced) }
     {
-        let synced = match self.check_len() {
-            Ok(()) => self.file.sync_data(),
-            Err(error) => Err(error),
-        };
+        let synced = self.file.sync_data();
         self.is_failing = synced.is_err();
         if synced.is_ok() {
             self.unsynced.clear();

@@ -119,8 +119,8 @@ fn a_file_is_its_owners_alone(rt: &impl Abort, host: &HostRuntime, path: &str) {
     fs::remove_file(host, path).expect(rt, "remove");
 }
 
-// A write doesn't make a file longer again that somebody shortened, and no sync of it succeeds. Once it has its
-// length again, all that was written since the last good sync is written back as a read gives it.
+// A write doesn't make a file longer again that somebody shortened: it is a fault, and so is a read of what is gone. A sync
+// doesn't look at the length. Once the file has its length again it is read and written as before.
 fn a_file_that_shrank_is_a_fault(rt: &impl Abort, host: &HostRuntime, path: &str) {
     let mut disk = FileDisk::make(host, path, 4).expect(rt, "make");
     assert!(rt; disk.len() == 4);
@@ -128,10 +128,9 @@ fn a_file_that_shrank_is_a_fault(rt: &impl Abort, host: &HostRuntime, path: &str
     fs::write(host, path, b"\x09".as_slice()).expect(rt, "shorten");
     assert!(rt; disk.len() == 4);
     assert!(rt; disk.write_at(2, &[5]).is_err() && holds(rt, host, path, &[9]));
-    assert!(rt; disk.sync().is_err() && holds(rt, host, path, &[9]));
     let mut buf = [0; 4];
-    // After that sync nothing is done before what was written is good.
-    assert!(rt; disk.read_at(0, &mut buf[..1]).is_err());
+    assert!(rt; disk.read_at(0, &mut buf).is_err() && disk.read_at(0, &mut buf[..1]).is_ok());
+    assert!(rt; disk.sync().is_ok() && holds(rt, host, path, &[9]));
     assert!(rt; disk.write_at(0, &[5]).is_err() && holds(rt, host, path, &[9]));
     fs::write(host, path, b"\x09\x08\x07\x06".as_slice()).expect(rt, "lengthen");
     assert!(rt; disk.len() == 4);
