@@ -2,7 +2,7 @@
 use edge_disk::DiskFault;
 
 /// A call of FILE.
-#[derive(Clone, Copy, Debug, PartialEq, Eq)]
+#[derive(Clone, Copy, PartialEq, Eq)]
 pub(crate) enum Call {
     /// A read of the bytes from this offset on.
     Read { at: u64 },
@@ -13,7 +13,7 @@ pub(crate) enum Call {
 }
 
 /// Whether the calls of FILE succeed, as far as they show it.
-#[derive(Clone, Copy, Debug, PartialEq, Eq)]
+#[derive(Clone, Copy, PartialEq, Eq)]
 enum Health {
     /// None has failed, or one succeeded that shows that FILE is well again.
     Well,

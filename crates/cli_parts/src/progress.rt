@@ -1,4 +1,6 @@
 //! How far a command is, for a user who waits, and FILE as it is watched meanwhile.
+ghost use Rattle.std.specs.Prelude.{◌≡◌};
+
 use crate::health::{Call, HealthLines};
 use edge_disk::{Disk, DiskFault};
 use std::time::Instant;
@@ -60,13 +62,22 @@ pub struct Watched<'a, D> {
 
 impl<'a, D: Disk> Watched<'a, D> {
     /// The disk, with the progress of the command that reads it.
-    pub fn new(disk: D, progress: Progress<'a>) -> Watched<'a, D> {
+    pub fn new(disk: D, progress: Progress<'a>) -> Watched<'a, D>
+        ensures { result.disk ≡ disk }
+    {
         let health = HealthLines::new(progress.rt);
         Watched {
             disk,
             progress,
             health,
         }
+    }
+
+    /// The disk, which is watched no more.
+    pub fn into_disk(self) -> D
+        ensures { result ≡ self.entry.disk }
+    {
+        self.disk
     }
 }
 

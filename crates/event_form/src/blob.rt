@@ -4,7 +4,7 @@ ghost use Rattle.std.specs.Prelude.{◌≡◌};
 use std::marker::Model;
 
 /// Bytes on the heap. Contracts see them as a list of numbers below 256.
-#[derive(Drop, Debug)]
+#[derive(Drop)]
 pub struct Blob {
     bytes: Vec<u8>,
 }

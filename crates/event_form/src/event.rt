@@ -2,7 +2,7 @@
 use crate::Blob;
 
 /// By which protocol, and in which of its forms, an event came.
-#[derive(Clone, Copy, PartialEq, Eq, Debug)]
+#[derive(Clone, Copy, PartialEq, Eq)]
 pub enum Origin {
     /// The body of a RELP `syslog` frame.
     Relp,
@@ -18,14 +18,14 @@ pub enum Origin {
 
 /// An event. Its text has at most `MOST_TEXT` bytes; that of a `LumberData` event is at most
 /// `MOST_PAIRS` whole pairs.
-#[derive(Drop, Debug)]
+#[derive(Drop)]
 pub struct Event {
     pub origin: Origin,
     pub text: Blob,
 }
 
 /// An event as the spool keeps it.
-#[derive(Drop, Debug)]
+#[derive(Drop)]
 pub struct Entry {
     /// The number of the connection that it came by.
     pub conn: u64,

@@ -2,7 +2,7 @@
 use std::alloc::AllocError;
 
 /// Why a reader did not take a piece of its stream.
-#[derive(Drop, PartialEq, Eq, Debug)]
+#[derive(Drop, PartialEq, Eq)]
 pub enum FeedFault<F> {
     /// The stream breaks a rule of its format. The reader answers the same from then on.
     Fault(F),

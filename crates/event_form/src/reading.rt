@@ -11,14 +11,14 @@ use crate::{Blob, Entry, Event, HEAD_BYTES, MOST_TEXT, Origin};
 use std::alloc::{AllocError, Global};
 
 /// An entry that was read, and how many bytes it took.
-#[derive(Drop, Debug)]
+#[derive(Drop)]
 pub struct Took {
     pub entry: Entry,
     pub used: usize,
 }
 
 /// Why no entry was read.
-#[derive(Clone, Copy, PartialEq, Eq, Debug)]
+#[derive(Clone, Copy, PartialEq, Eq)]
 pub enum EntryFault {
     /// No entry's text begins the bytes. The first rule that they break, in this order and each as soon
     /// as its bytes are there, gives the place: 0 where the first byte is no origin; 25 where the length

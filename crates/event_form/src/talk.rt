@@ -2,7 +2,7 @@
 
 /// Why bytes are no stream of their protocol. RELP has the first five, Lumberjack `Version` to `TooMany`
 /// and `TooLong`, HTTP `BadHead` to `BadChunk` and `TooLong`.
-#[derive(Clone, Copy, Debug, PartialEq, Eq)]
+#[derive(Clone, Copy, PartialEq, Eq)]
 pub enum Why {
     /// A digit is due and isn't there, or a number has too many.
     Digits,
@@ -35,7 +35,7 @@ pub enum Why {
 }
 
 /// How a connection ended. Offsets count its bytes from 0, needs and rooms count bytes of a slot.
-#[derive(Clone, Copy, Debug, PartialEq, Eq)]
+#[derive(Clone, Copy, PartialEq, Eq)]
 pub enum Talk {
     /// The input was read to its end, at a frame's end.
     Ended,
@@ -70,7 +70,7 @@ pub enum Talk {
 }
 
 /// What came of one connection.
-#[derive(Clone, Copy, Debug, PartialEq, Eq)]
+#[derive(Clone, Copy, PartialEq, Eq)]
 pub struct Attended {
     /// How it ended.
     pub talk: Talk,

@@ -4,7 +4,7 @@ use crate::talk::Why;
 
 /// What a sender of events does next, or how its session ended. Entries have the numbers under which they
 /// were given to it.
-#[derive(Drop, Debug)]
+#[derive(Drop)]
 pub enum Turn {
     /// These bytes are to be written to the peer. They aren't empty.
     Write(Blob),

@@ -3,7 +3,7 @@ use std::alloc::{AllocError, AllocFailed};
 
 /// Why an event body or a raw body isn't taken: the first event at fault, in the order of the body.
 /// Events are counted from 0.
-#[derive(Clone, Copy, PartialEq, Eq, Debug)]
+#[derive(Clone, Copy, PartialEq, Eq)]
 pub enum BodyFault {
     /// The body has no event.
     NoData,
@@ -43,7 +43,7 @@ impl<T: Drop> From<AllocFailed<T>> for BodyFault {
 }
 
 /// Why an ack query isn't taken.
-#[derive(Clone, Copy, PartialEq, Eq, Debug)]
+#[derive(Clone, Copy, PartialEq, Eq)]
 pub enum AckFault {
     /// The body isn't an object whose last member `acks` is an array of at most 10,000 whole numbers from 0
     /// to 2^64 - 1.

@@ -1,18 +1,14 @@
 //! Why no id was issued.
 use std::alloc::AllocError;
-use thiserror::Error;
 
 /// Why no id was issued. Nothing is changed then.
-#[derive(Clone, Copy, Debug, PartialEq, Eq, Error)]
+#[derive(Clone, Copy, PartialEq, Eq)]
 pub enum IssueFault {
     /// The last id of the run, whose number is `run`, was issued.
-    #[error("run {run} has no more ids")]
     NoMore { run: u32 },
     /// The channel holds `held` ids, 10,000; or it holds none, and `held` channels, 1,000, hold some.
-    #[error("{held} are held")]
     Busy { held: u32 },
     /// No memory was found.
-    #[error("no memory")]
     NoMemory,
 }
 

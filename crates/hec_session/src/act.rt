@@ -3,7 +3,7 @@ use crate::say::HecSay;
 use event_form::Event;
 
 /// What is done for a request.
-#[derive(Drop, Debug)]
+#[derive(Drop)]
 pub enum HecAct {
     /// The events are stored, and once they are durable `success_body` without an id is the answer.
     StoreThenSay { events: Vec<Event> },

@@ -5,7 +5,7 @@ ghost use Rattle.hec_session.specs.Codes.{number_of, status_of, text_of};
 
 /// Why a request is answered as it is: Splunk's possible error codes ("Troubleshoot HTTP Event Collector"),
 /// and two of this project's own, 404 and 405.
-#[derive(Clone, Copy, PartialEq, Eq, Debug)]
+#[derive(Clone, Copy, PartialEq, Eq)]
 pub enum HecCode {
     /// 0: the events are stored, or will be.
     Success,

@@ -5,7 +5,7 @@ ghost use Rattle.hec_session.specs.Checks.{is_events_path, is_lines_path, is_ack
 use crate::code::HecCode;
 
 /// What an event body holds.
-#[derive(Clone, Copy, PartialEq, Eq, Debug)]
+#[derive(Clone, Copy, PartialEq, Eq)]
 pub enum Form {
     /// Event objects.
     Objects,
@@ -14,7 +14,7 @@ pub enum Form {
 }
 
 /// What is at a path.
-#[derive(Clone, Copy, PartialEq, Eq, Debug)]
+#[derive(Clone, Copy, PartialEq, Eq)]
 pub enum Endpoint {
     /// Events are taken.
     Events(Form),

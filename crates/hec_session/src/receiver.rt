@@ -16,7 +16,7 @@ use std::alloc::{AllocError, Global};
 use std::marker::Model;
 
 /// A receiver of Splunk's HTTP Event Collector. Contracts see its two tokens.
-#[derive(Drop, Debug)]
+#[derive(Drop)]
 pub struct HecCore {
     tokens: Tokens,
 }

@@ -6,7 +6,7 @@ use crate::code::HecCode;
 
 /// A reply: its status (RFC 9110, section 15), the number of its code, and the number of the event at
 /// fault, counted from 0, where there is one.
-#[derive(Clone, Copy, PartialEq, Eq, Debug)]
+#[derive(Clone, Copy, PartialEq, Eq)]
 pub struct HecSay {
     pub status: u16,
     pub code: u16,

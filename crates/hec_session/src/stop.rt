@@ -3,7 +3,7 @@ use crate::code::HecCode;
 use std::alloc::AllocError;
 
 /// Why no further check is made.
-#[derive(Clone, Copy, PartialEq, Eq, Debug)]
+#[derive(Clone, Copy, PartialEq, Eq)]
 pub enum Stop {
     /// The request is answered by this code.
     Answer(HecCode),

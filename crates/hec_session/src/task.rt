@@ -14,7 +14,7 @@ use crate::tokens::{Grant, Tokens, guid};
 use std::alloc::Global;
 
 /// What is to be done with a request's body.
-#[derive(Clone, Copy, PartialEq, Eq, Debug)]
+#[derive(Clone, Copy, PartialEq, Eq)]
 pub enum Task {
     /// Its events are stored, and then Success is answered.
     Store(Form),

@@ -12,14 +12,14 @@ use std::alloc::{AllocError, Global};
 use uuid::Uuid;
 
 /// The tokens of a receiver: one without acks, and one that uses them.
-#[derive(Clone, Copy, Debug)]
+#[derive(Clone, Copy)]
 pub struct Tokens {
     pub token: Option<u128>,
     pub ack_token: Option<u128>,
 }
 
 /// What a token grants.
-#[derive(Clone, Copy, PartialEq, Eq, Debug)]
+#[derive(Clone, Copy, PartialEq, Eq)]
 pub enum Grant {
     /// Success is answered once the events are durable.
     WithoutAcks,

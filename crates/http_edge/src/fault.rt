@@ -1,7 +1,7 @@
 //! Where a stream breaks the rules of requests, and why.
 
 /// Which rule a request breaks.
-#[derive(Clone, Copy, PartialEq, Eq, Debug)]
+#[derive(Clone, Copy, PartialEq, Eq)]
 pub enum HttpWhy {
     /// The first 16,384 bytes begin no head of at most 64 fields (RFC 9112, sections 2 to 5).
     BadHead,
@@ -19,7 +19,7 @@ pub enum HttpWhy {
 /// A fault: its offset in the stream, counted from 0, and which rule is broken. The offset is that of the
 /// request's first byte; of a bad chunk it is that of the chunk line's first byte, of the byte after the
 /// chunk's data, or of the trailer's first byte.
-#[derive(Clone, Copy, PartialEq, Eq, Debug)]
+#[derive(Clone, Copy, PartialEq, Eq)]
 pub struct HttpFault {
     pub at: u64,
     pub why: HttpWhy,

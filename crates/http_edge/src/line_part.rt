@@ -6,7 +6,7 @@ use crate::limits::MOST_FIELDS;
 use httparse::{is_header_name_token, is_header_value_token};
 
 /// How far a field line, or the empty line after the fields, has been read.
-#[derive(Clone, Copy, PartialEq, Eq, Debug)]
+#[derive(Clone, Copy, PartialEq, Eq)]
 pub enum LinePart {
     Begin,
     /// CR alone.
@@ -20,7 +20,7 @@ pub enum LinePart {
 }
 
 /// How far the field lines of a head, and the empty line after them, have been read.
-#[derive(Clone, Copy, PartialEq, Eq, Debug)]
+#[derive(Clone, Copy, PartialEq, Eq)]
 pub struct LinesPart {
     /// How many field lines are whole.
     pub count: usize,

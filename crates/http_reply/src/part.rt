@@ -9,7 +9,7 @@ use http_edge::{LinesPart, MOST_FIELDS, NO_LINES, after_line};
 use httparse::is_header_value_token;
 
 /// How far a head has been read that isn't whole.
-#[derive(Clone, Copy, PartialEq, Eq, Debug)]
+#[derive(Clone, Copy, PartialEq, Eq)]
 pub enum HeadPart {
     /// Empty lines, or nothing.
     Blank,

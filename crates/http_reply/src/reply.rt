@@ -5,7 +5,7 @@ ghost use Rattle.http_reply.specs.Sizes.{is_interim};
 use event_form::Blob;
 
 /// A whole reply.
-#[derive(Drop, Debug)]
+#[derive(Drop)]
 pub struct HttpReply {
     /// The status code (RFC 9112, section 4), 0 to 999, and none of 100 to 199.
     pub status: u16,

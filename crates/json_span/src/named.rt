@@ -13,7 +13,7 @@ use crate::scan::{first_value, value_within};
 use crate::span::Span;
 
 /// An object, and the value of its first member of a name, if it has one. Both are offsets of the same bytes.
-#[derive(Clone, Copy, PartialEq, Eq, Debug)]
+#[derive(Clone, Copy, PartialEq, Eq)]
 pub struct Named {
     pub object: Span,
     pub value: Option<Span>,

@@ -12,7 +12,7 @@ use std::alloc::{AllocError, Global};
 
 /// A member of an object (RFC 8259, section 4): the spans of its name, with the quotes round it, and of
 /// its value, as offsets of the same bytes as the object's.
-#[derive(Clone, Copy, PartialEq, Eq, Debug)]
+#[derive(Clone, Copy, PartialEq, Eq)]
 pub struct Member {
     pub name: Span,
     pub value: Span,

@@ -2,14 +2,14 @@
 
 /// The bytes from `start` up to `end`, as offsets from the first of all bytes; the byte at `end` is
 /// the first after it.
-#[derive(Clone, Copy, PartialEq, Eq, Debug)]
+#[derive(Clone, Copy, PartialEq, Eq)]
 pub struct Span {
     pub start: usize,
     pub end: usize,
 }
 
 /// Why no value was found. Places are offsets from the first of all bytes.
-#[derive(Clone, Copy, PartialEq, Eq, Debug)]
+#[derive(Clone, Copy, PartialEq, Eq)]
 pub enum JsonFault {
     /// The bytes end before a value does: more bytes can make one.
     Cut,

@@ -9,7 +9,7 @@ use std::marker::Model;
 
 /// Which numbers are known: all below a cursor, and those of at most 240 stretches above it. The stretches
 /// are in order, none is empty, and none touches another or the cursor.
-#[derive(Debug, Drop)]
+#[derive(Drop)]
 pub struct KnownNumbers {
     cursor: u64,
     /// There is room for 240, so that no call but `reserve` takes memory.

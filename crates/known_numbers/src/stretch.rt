@@ -4,7 +4,7 @@
 pub const MOST_STRETCHES: usize = 240;
 
 /// The numbers from `from` up to and without `to`. Where `to` isn't above `from` it is empty.
-#[derive(Clone, Copy, Debug, PartialEq, Eq)]
+#[derive(Clone, Copy, PartialEq, Eq)]
 pub struct Stretch {
     /// The first number.
     pub from: u64,

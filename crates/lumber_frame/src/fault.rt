@@ -1,7 +1,7 @@
 //! Where a stream breaks the layout, and why.
 
 /// Which rule a field breaks.
-#[derive(Clone, Copy, PartialEq, Eq, Debug)]
+#[derive(Clone, Copy, PartialEq, Eq)]
 pub enum LumberWhy {
     /// The version isn't the byte `2`.
     Version,
@@ -19,7 +19,7 @@ pub enum LumberWhy {
 
 /// A fault: the offset in the stream of the first byte of the first whole field that breaks a rule,
 /// counted from 0, and which rule.
-#[derive(Clone, Copy, PartialEq, Eq, Debug)]
+#[derive(Clone, Copy, PartialEq, Eq)]
 pub struct LumberFault {
     pub at: u64,
     pub why: LumberWhy,

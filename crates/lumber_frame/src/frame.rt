@@ -2,7 +2,7 @@
 use event_form::Blob;
 
 /// A frame. A window size is at most 65,536; a text has at most 131,072 bytes.
-#[derive(Drop, Debug)]
+#[derive(Drop)]
 pub enum LumberFrame {
     /// `W`: how many data frames the writer sends before it waits for their acknowledgment.
     Window { size: u32 },

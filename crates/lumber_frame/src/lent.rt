@@ -13,7 +13,7 @@ use std::alloc::{AllocError, Global};
 
 /// A writer's frame in a window: `LumberFrame` without its own text. Acknowledgments don't come from a
 /// writer.
-#[derive(Clone, Copy, Debug)]
+#[derive(Clone, Copy)]
 pub enum LumberRef<'a> {
     /// `W`: how many data frames the writer sends before it waits for their acknowledgment.
     Window { size: u32 },

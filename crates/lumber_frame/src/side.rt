@@ -1,7 +1,7 @@
 //! Whose end of the connection reads.
 
 /// Whose end of the connection reads.
-#[derive(Clone, Copy, PartialEq, Eq, Debug)]
+#[derive(Clone, Copy, PartialEq, Eq)]
 pub enum Side {
     /// It reads a writer's frames: `W`, `D` and `J`.
     Receiver,

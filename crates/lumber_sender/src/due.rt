@@ -1,7 +1,7 @@
 //! What is due.
 
 /// What is due, where no entry waits to be written.
-#[derive(Clone, Copy, PartialEq, Eq, Debug)]
+#[derive(Clone, Copy, PartialEq, Eq)]
 pub(crate) enum Due {
     /// Nothing: the receiver sent a frame that may not come.
     Stopped,

@@ -6,7 +6,7 @@ ghost use Rattle.lumber_sender.specs.Hearing.{IsHeard};
 use lumber_frame::LumberFrame;
 
 /// What a frame of the receiver does.
-#[derive(Clone, Copy, PartialEq, Eq, Debug)]
+#[derive(Clone, Copy, PartialEq, Eq)]
 pub(crate) enum Heard {
     /// Nothing: what it acknowledges is acknowledged already.
     Nothing,

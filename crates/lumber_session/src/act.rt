@@ -2,7 +2,7 @@
 use event_form::{Event, Origin};
 
 /// What a frame asks for.
-#[derive(Drop, Debug)]
+#[derive(Drop)]
 pub enum LumberAct {
     /// Nothing.
     Nothing,
@@ -21,7 +21,7 @@ pub enum LumberAct {
 
 /// What a frame that a window lends asks for: a [`LumberAct`] whose event has its text in the window. It
 /// owns no memory.
-#[derive(Clone, Copy, Debug)]
+#[derive(Clone, Copy)]
 pub enum LumberActRef<'a> {
     /// Nothing.
     Nothing,

@@ -1,7 +1,7 @@
 //! What is due.
 
 /// What is due.
-#[derive(Clone, Copy, PartialEq, Eq, Debug)]
+#[derive(Clone, Copy, PartialEq, Eq)]
 pub(crate) enum Due {
     /// Nothing: the peer ended the session.
     Stopped,

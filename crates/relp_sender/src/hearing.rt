@@ -9,7 +9,7 @@ use relp_frame::Frame;
 use std::collections::VecDeque;
 
 /// What a frame of the peer does.
-#[derive(Clone, Copy, PartialEq, Eq, Debug)]
+#[derive(Clone, Copy, PartialEq, Eq)]
 pub(crate) enum Heard {
     /// Nothing: it answers no frame that is unanswered.
     Ignored,

@@ -1,7 +1,7 @@
 //! How far a session is, and why the peer ended it.
 
 /// How far a session is.
-#[derive(Clone, Copy, PartialEq, Eq, Debug)]
+#[derive(Clone, Copy, PartialEq, Eq)]
 pub enum Stage {
     /// Nothing was written.
     Fresh,
@@ -14,7 +14,7 @@ pub enum Stage {
 }
 
 /// Why the peer ended a session.
-#[derive(Clone, Copy, PartialEq, Eq, Debug)]
+#[derive(Clone, Copy, PartialEq, Eq)]
 pub enum Stop {
     /// It hinted that it closes the session.
     Hint,

@@ -3,7 +3,7 @@ use event_form::{Blob, Event};
 
 /// What is done for a frame. Each text is the canonical spelling of one frame of the receiver, or
 /// of two, and is written as it is.
-#[derive(Drop, Debug)]
+#[derive(Drop)]
 pub enum RelpAct {
     /// The event is to be stored. Once it is durable, `stored_reply` of this transaction number is
     /// the answer.
@@ -18,7 +18,7 @@ pub enum RelpAct {
 
 /// What is done for a frame that a window lends: a [`RelpAct`] whose event has its text in the
 /// window, and whose answer isn't spelled yet. It owns no memory. `write_answer` spells the answer.
-#[derive(Clone, Copy, Debug)]
+#[derive(Clone, Copy)]
 pub enum RelpActRef<'a> {
     /// The event with this text is to be stored. The answer is for when it is durable.
     Store { text: &'a [u8], txnr: u32 },

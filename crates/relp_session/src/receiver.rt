@@ -22,7 +22,7 @@ use std::marker::Model;
 
 /// The receiver's side of one session (rsyslog's RELP specification, COMMAND SEMANTICS). Contracts
 /// see how far the session is.
-#[derive(Drop, Debug)]
+#[derive(Drop)]
 pub struct RelpCore {
     state: State,
 }

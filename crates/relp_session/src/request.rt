@@ -7,7 +7,7 @@ ghost use Rattle.relp_session.specs.Request.{Asks, lines, speaks, states_version
 use relp_frame::Frame;
 
 /// What a frame asks for.
-#[derive(Clone, Copy, PartialEq, Eq, Debug)]
+#[derive(Clone, Copy, PartialEq, Eq)]
 pub enum Request {
     /// To open the session, in the version that is spoken here.
     Open,

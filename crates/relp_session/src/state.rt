@@ -6,7 +6,7 @@ use crate::request::Request;
 
 /// How far a session is (rsyslog's RELP specification, COMMAND SEMANTICS, "open" and "close"): the
 /// client opens it once, and closes it once.
-#[derive(Clone, Copy, PartialEq, Eq, Debug)]
+#[derive(Clone, Copy, PartialEq, Eq)]
 pub enum State {
     /// No `open` was accepted so far.
     Unopened,
