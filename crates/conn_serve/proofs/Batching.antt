@@ -23,6 +23,7 @@ use Rattle.desk_access.specs.Step.{Step, frames_of, calls_of, count}
 use Rattle.desk_access.specs.Protocol.{AreMoves}
 use Rattle.conn_serve.specs.Relp.{entry_of}
 use Rattle.conn_serve.specs.Lumber.{lumberjack, entries_of, StoresGroup, EndsAtGroup}
+use Rattle.conn_serve.specs.Handled.{Handled}
 use Rattle.conn_serve.specs.LumberServing.{Handles, stages, last_behind}
 use Rattle.desk_access.proofs.Moves.{frames_then}
 use Rattle.conn_serve.proofs.Handling.{handled_none, handled_hold, handled_push}
@@ -179,6 +180,13 @@ module _ (conn : ℕ) (core : Core) (entries entries' : List Entry) (last last' 
           last_is = λ some. absurd (omega (arith, some));
           limits = All-nil IsFrameEntry;
         }
+
+    pub handled_batch : (calls : List Call) (text : List ℕ) → StoresGroup entries' last' calls text → Handled (lumberjack conn) (frames ++ f ∷ []) (called ++ calls) (said ++ text)
+    handled_batch calls text stores =
+        let step : Step LumberFrame = record { frames = h.handled.held ++ f ∷ []; calls = calls; text = text } in
+        let there : StoresGroup (entries_of conn (count (calls_of h.handled.steps)) events) (last_seq events) calls text =
+        subst (λ (n : ℕ). StoresGroup (entries_of conn (count (calls_of h.handled.steps)) events) n calls text) last_staged (subst (λ (g : List Entry). StoresGroup g last' calls text) group_is stores) in
+        handled_push (lumberjack conn) frames called said h.handled f step refl (batch, there) (nowhere_none (frames_of (h.handled.steps ++ step ∷ [])))
 
     pub handles_stop : (late : List Call) (part : List ℕ) (talk : Talk) → EndsAtGroup entries' last' late part talk → (lumberjack conn).Stops h.handled.steps h.handled.held f late part talk
     handles_stop late part talk e =

@@ -14,9 +14,10 @@ use Rattle.hec_session.specs.declared.act.HecAct.{HecAct}
 use Rattle.hec_session.specs.declared.act.HecAct.TheVariants.{StoreThenSay, SayThenStore, Ask, Say}
 use Rattle.hec_session.specs.declared.tokens.Tokens.{Tokens}
 use Rattle.hec_session.proofs.EventLaws.{some_events}
-use Rattle.desk_access.specs.Call.{Call, takes, issues, settles, forgets, asks, AreBy}
+use Rattle.desk_access.specs.Call.{Call, takes, issues, settles, forgets, asks, Record, AreBy}
 use Rattle.desk_access.specs.Carried.{EndsAtMove, Ending}
-use Rattle.desk_access.specs.Groups.{Group, groups_of}
+use Rattle.desk_access.specs.Desk.{DeskState, Goes}
+use Rattle.desk_access.specs.Groups.{Group, IsOfId, groups_of}
 use Rattle.desk_access.specs.Legal.{IsStored}
 use Rattle.desk_access.specs.Protocol.{AreMoves}
 use Rattle.desk_access.specs.Settled.{AllSettleStored}
@@ -114,7 +115,7 @@ settle_then own [] ys p q = subst (λ (l : List Call). AllSettleStored l ys) (ap
 settle_then own (x ∷ xs) ys p q = (p.0, settle_then (own ++ x ∷ []) xs ys p.1 (subst (λ (l : List Call). AllSettleStored l ys) (sym (append_assoc own (x ∷ []) xs)) q))
 
 -- the first of the calls
-settle_first : (own xs ys : List Call) → AllSettleStored own (xs ++ ys) → AllSettleStored own xs
+pub settle_first : (own xs ys : List Call) → AllSettleStored own (xs ++ ys) → AllSettleStored own xs
 settle_first own [] ys p = tt
 settle_first own (x ∷ xs) ys p = (p.0, settle_first (own ++ x ∷ []) xs ys p.1)
 
@@ -211,12 +212,19 @@ settled_is_stored tokens conn left b calls text talk c =
 
 -- ---- an id that is told true
 
+-- where a question among the calls was answered so
+pub told_among : (calls : List Call) → AllSettleStored [] calls → (x z : DeskState) (number : ℕ) (records : List Record) → x.ids.held ≡ [] → Goes x records z → AreBy number calls records
+    → (first more : List Call) (channel id : ℕ) (ids : List ℕ) (known : List Bool) (k : ℕ) → calls ≡ first ++ asks channel ids known ∷ more → k < length ids → get_or ids k 0 ≡ id → get_or known k false ≡ true
+    → (group : Group) × Contains (groups_of calls) group × IsOfId id group
+told_among calls settled x z number records none goes by first more channel id ids known k parts short is_id told =
+    let stored = settle_first [] first (asks channel ids known ∷ more) (subst (AllSettleStored []) parts settled) in
+    let taken = told_was_own x z number first more records channel ids known k none goes (subst (λ (l : List Call). AreBy number l records) parts by) stored short told in
+    let g = stored_group first id (subst (IsStored first) is_id taken) in
+    let groups : groups_of calls ≡ groups_of first ++ groups_of (asks channel ids known ∷ more) = ap groups_of parts ∙ groups_then first (asks channel ids known ∷ more) in
+    (g.0, subst (λ (l : List Group). Contains l g.0) (sym groups) (Contains-append_left (groups_of first) (groups_of (asks channel ids known ∷ more)) g.0 g.1), g.2)
+
 pub told_is_taken : ToldIsTaken
 told_is_taken tokens conn left b calls text talk c x z number records none goes by channel id (made, said, is_said, (ids, known, closing, k, asked, answered, short, is_id, told)) =
     let w = said_lies_whole tokens conn left b calls text talk c made said is_said in
     let parts : calls ≡ w.first ++ asks channel ids known ∷ w.more = w.calls_are ∙ ap (λ (l : List Call). w.first ++ (l ++ w.more)) asked in
-    let stored = settle_first [] w.first (asks channel ids known ∷ w.more) (subst (AllSettleStored []) parts (settled_is_stored tokens conn left b calls text talk c)) in
-    let taken = told_was_own x z number w.first w.more records channel ids known k none goes (subst (λ (l : List Call). AreBy number l records) parts by) stored short told in
-    let g = stored_group w.first id (subst (IsStored w.first) is_id taken) in
-    let groups : groups_of calls ≡ groups_of w.first ++ groups_of (asks channel ids known ∷ w.more) = ap groups_of parts ∙ groups_then w.first (asks channel ids known ∷ w.more) in
-    (g.0, subst (λ (l : List Group). Contains l g.0) (sym groups) (Contains-append_left (groups_of w.first) (groups_of (asks channel ids known ∷ w.more)) g.0 g.1), g.2)
+    told_among calls (settled_is_stored tokens conn left b calls text talk c) x z number records none goes by w.first w.more channel id ids known k parts short is_id told

@@ -66,7 +66,7 @@ module _ (conn index : ℕ) (events : Vec Event) (closing : Bool) where
   abbrev late_take : TakeFault → List Call
   late_take fault = takes_all conn index 0 events.items (Err fault) ∷ []
 
-  take_ends : (fault : TakeFault) (part : List ℕ) → part ≡ refusal fault → EndsAtAct conn index (StoreThenSay events) closing (late_take fault) part (talk_of fault)
+  pub take_ends : (fault : TakeFault) (part : List ℕ) → part ≡ refusal fault → EndsAtAct conn index (StoreThenSay events) closing (late_take fault) part (talk_of fault)
   take_ends (TooLarge need most) part same = inl (TooLarge need most, refl, same, refl)
   take_ends (Spent end) part same = inl (Spent end, refl, same, refl)
   take_ends (Full need room) part same = inl (Full need room, refl, same, refl)
@@ -94,7 +94,7 @@ module _ (conn index channel : ℕ) (events : Vec Event) (closing : Bool) where
   abbrev late_issue : IssueFault → List Call
   late_issue fault = issues channel (Err fault) ∷ []
 
-  issue_ends : (fault : IssueFault) (part : List ℕ) → part ≡ unissued fault → EndsAtAct conn index (SayThenStore channel events) closing (late_issue fault) part (talk_of_issue fault)
+  pub issue_ends : (fault : IssueFault) (part : List ℕ) → part ≡ unissued fault → EndsAtAct conn index (SayThenStore channel events) closing (late_issue fault) part (talk_of_issue fault)
   issue_ends (issue.NoMore run) part same = inl (issue.NoMore run, refl, same, refl)
   issue_ends (issue.Busy held) part same = inl (issue.Busy held, refl, same, refl)
   issue_ends issue.NoMemory part same = inr (inl (issue.NoMemory, refl, same, refl))
@@ -128,7 +128,7 @@ module _ (conn index channel : ℕ) (events : Vec Event) (closing : Bool) where
           is = (id, receipt, unsettled, ap (λ (l : List Call). issues channel (Ok id) ∷ l) calls, text);
         }
 
-  unstored_ends : (id : ℕ) (fault : TakeFault) (held : Bool) (late : List Call) (part : List ℕ) → late ≡ issues channel (Ok id) ∷ takes_all conn index id events.items (Err fault) ∷ forgets channel id held ∷ [] → part ≡ success (Some id) closing
+  pub unstored_ends : (id : ℕ) (fault : TakeFault) (held : Bool) (late : List Call) (part : List ℕ) → late ≡ issues channel (Ok id) ∷ takes_all conn index id events.items (Err fault) ∷ forgets channel id held ∷ [] → part ≡ success (Some id) closing
       → EndsAtAct conn index (SayThenStore channel events) closing late part (talk_of fault)
   unstored_ends id (TooLarge need most) held late part calls text = inr (id, TooLarge need most, held, calls, text, refl)
   unstored_ends id (Spent end) held late part calls text = inr (id, Spent end, held, calls, text, refl)

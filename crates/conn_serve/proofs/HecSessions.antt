@@ -1,13 +1,21 @@
 -- How a session of the collector goes on, and how it ends.
-use Rattle.std.proofs.Common.{◌≡◌, ◌≢◌, inl, inr, ℕ, zero, suc, ◌+◌, ◌*◌, ◌^◌, ◌<◌, ◌≤◌, ◌∙◌, Bool, true, false, List, [], ◌∷◌, ◌++◌, Option, Some, None, length, take, drop, refl, sym, ap, subst, arith, append_assoc, length-append}
+use Rattle.std.proofs.Common.{◌≡◌, ◌≢◌, inl, inr, ℕ, zero, suc, ◌+◌, ◌*◌, ◌^◌, ◌<◌, ◌≤◌, ◌∙◌, ◌⊎◌, Bool, true, false, List, [], ◌∷◌, ◌++◌, Option, Some, None, length, take, drop, refl, sym, ap, subst, arith, append_assoc, length-append}
 use Rattle.std.proofs.lemmas.List.{append-nil, take-append-drop}
-use Rattle.std.specs.Prelude.{Ok, Err}
+use Rattle.std.specs.Prelude.{Ok, Err, All}
+use Rattle.std.proofs.lemmas.List.Elements.{All-nil, All-cons}
 use Rattle.std.specs.Io.KnownBytes.{IsAtEnd}
 use Rattle.event_form.specs.declared.feed_fault.FeedFault.{FeedFault}
 use Rattle.event_form.specs.declared.feed_fault.FeedFault.TheVariants as feed
 use Rattle.event_form.specs.declared.talk.Talk.{Talk}
 use Rattle.event_form.specs.declared.talk.Talk.TheVariants as talk
 use Rattle.http_edge.specs.declared.fault.HttpFault.{HttpFault}
+use Rattle.http_edge.specs.declared.request.HttpRequest.{HttpRequest}
+use Rattle.http_edge.specs.Fields.{closes}
+use Rattle.hec_session.specs.Acts.{IsAct}
+use Rattle.hec_ids.specs.declared.fault.IssueFault.{IssueFault}
+use Rattle.hec_ids.specs.declared.fault.IssueFault.TheVariants as issue
+use Rattle.spool_log.specs.declared.fault.TakeFault.{TakeFault}
+use Rattle.spool_log.specs.declared.fault.TakeFault.TheVariants.{DiskFault}
 use Rattle.http_edge.specs.declared.request.HttpItem.{HttpItem}
 use Rattle.http_edge.specs.declared.request.HttpItem.TheVariants.{Continue, Request}
 use Rattle.http_edge.specs.Lending.{GivesItem}
@@ -20,7 +28,7 @@ use Rattle.hec_session.proofs.EventLaws.{few_events}
 use Rattle.hec_session.specs.declared.act.HecAct.{HecAct}
 use Rattle.hec_session.specs.declared.act.HecAct.TheVariants.{StoreThenSay, SayThenStore, Ask, Say}
 use Rattle.hec_session.specs.declared.tokens.Tokens.{Tokens}
-use Rattle.desk_access.specs.Call.{Call}
+use Rattle.desk_access.specs.Call.{Call, forgets}
 use Rattle.desk_access.specs.Step.{Step, frames_of, calls_of, count}
 use Rattle.desk_access.specs.Protocol.{Protocol, AreMoves}
 use Rattle.desk_access.specs.Carried.{IsOver, Carried}
@@ -31,8 +39,13 @@ use Rattle.conn_serve.specs.declared.hec.asked.Asked.TheVariants.{Leave, Act}
 use Rattle.conn_serve.specs.Done.{Done, Leads, SoFar, Anyway}
 use Rattle.conn_serve.specs.Endings.{MayEnd}
 use Rattle.conn_serve.specs.Handled.{Handled, Served, Closing}
-use Rattle.conn_serve.specs.Hec.{hec, reply, AreTold, CarriesItem, EndsAtAct, IsCut, IsDone, SaysLast, StopsAtItem, entries_of}
-use Rattle.conn_serve.specs.HecServing.{Carries, Halts, HaltsAtItem, IsAsked, ReadsBy}
+use Rattle.conn_serve.specs.Hec.{hec, reply, success, AreTold, CarriesItem, EndsAtAct, IsCut, IsDone, IsRefused, SaysLast, takes_all, talk_of_issue, StopsAtItem, entries_of}
+use Rattle.conn_serve.specs.HecServing.{Carries, Halts, HaltsAtItem, IsAsked, IsSayable, IsSayableFor, ReadsBy}
+use Rattle.conn_serve.specs.Relp.{talk_of}
+use Rattle.conn_serve.specs.Says.{CouldEnd, PromisesNothing}
+use Rattle.conn_serve.proofs.Faults.{fault_at_move}
+use Rattle.conn_serve.proofs.Saying.{has_carried}
+use Rattle.conn_serve.proofs.HecActing.{take_ends, issue_ends, unstored_ends}
 use Rattle.hec_session.specs.declared.code.HecCode.TheVariants.{InvalidFormat}
 use Rattle.conn_serve.proofs.Handling.{handled_none, handled_push, carried_unread, carried_too_much, carried_starved, carried_at, carried_over, carried_instead}
 use Rattle.conn_serve.proofs.HecEntries.{count_entries}
@@ -110,6 +123,53 @@ count_moves tokens conn before (s ∷ steps) m =
     let move = m.0 in
     omega (arith, count_then s.calls (calls_of steps), count_item tokens conn _ move.0 s.calls s.text move.2, ap length move.1, length-append s.frames (frames_of steps), count_moves tokens conn (before ++ s ∷ []) steps m.1)
 
+issue_at_move : (fault : IssueFault) → IsAtMove (talk_of_issue fault)
+issue_at_move (issue.NoMore run) = tt
+issue_at_move (issue.Busy held) = tt
+issue_at_move issue.NoMemory = tt
+
+-- ---- what may be said for an item is what it is carried by, or ends the connection, perhaps after calls that promise nothing
+
+abbrev Ends : Tokens → ℕ → ℕ → HttpItem → List Call → List ℕ → Type 0
+Ends tokens conn n i calls text = (over : Talk) × (late : List Call) × All PromisesNothing late × IsAtMove over × StopsAtItem tokens conn n i (calls ++ late) text over
+
+module _ (tokens : Tokens) (conn n : ℕ) (r : HttpRequest) (calls : List Call) (text : List ℕ) where
+  at_once : (act : HecAct) → IsAct tokens r act → (over : Talk) → IsAtMove over → EndsAtAct conn n act (closes r) calls text over → Ends tokens conn n (Request r) calls text
+  at_once act is over move ends = (over, [], All-nil PromisesNothing, move, subst (λ (l : List Call). StopsAtItem tokens conn n (Request r) l text over) (sym (append-nil calls)) (act, is, ends))
+
+  done_parts : (act : HecAct) → IsAct tokens r act → (b : Bool) → closes r ≡ b → IsDone conn n act b calls text → CarriesItem tokens conn n (Request r) calls text ⊎ Ends tokens conn n (Request r) calls text
+  done_parts act is false stays done = inl (act, is, stays, done)
+  done_parts act is true last done = inr (at_once act is talk.Closed tt (last, done))
+
+  refused_parts : (act : HecAct) → IsAct tokens r act → (over : Talk) → IsRefused conn n act calls text over → Ends tokens conn n (Request r) calls text
+  refused_parts (Say say) is over refused = absurd refused
+  refused_parts (StoreThenSay events) is over (fault, made, said, ends) =
+      at_once (StoreThenSay events) is (talk_of fault) (fault_at_move fault) (subst (λ (l : List Call). EndsAtAct conn n (StoreThenSay events) (closes r) l text (talk_of fault)) (sym made) (take_ends conn n events (closes r) fault text said))
+  refused_parts (SayThenStore channel events) is over (fault, made, said, ends) =
+      at_once (SayThenStore channel events) is (talk_of_issue fault) (issue_at_move fault) (subst (λ (l : List Call). EndsAtAct conn n (SayThenStore channel events) (closes r) l text (talk_of_issue fault)) (sym made) (issue_ends conn n channel events (closes r) fault text said))
+  refused_parts (Ask channel ids) is over refused = absurd refused
+
+  said_parts : (act : HecAct) → IsAct tokens r act → (closing : Bool) → closing ≡ closes r → IsSayable conn n act closing calls text → CarriesItem tokens conn n (Request r) calls text ⊎ Ends tokens conn n (Request r) calls text
+  said_parts (SayThenStore channel events) is closing last (inl (id, made, said)) =
+      let fault : TakeFault = DiskFault in
+      let late : List Call = takes_all conn n id events.items (Err fault) ∷ forgets channel id true ∷ [] in
+      let ends = unstored_ends conn n channel events (closes r) id fault true (calls ++ late) text (ap (λ (l : List Call). l ++ late) made) (said ∙ ap (success (Some id)) last) in
+      inr (talk.DiskFault, late, All-cons PromisesNothing (takes_all conn n id events.items (Err fault)) (forgets channel id true ∷ []) tt (All-cons PromisesNothing (forgets channel id true) [] tt (All-nil PromisesNothing)), tt, (SayThenStore channel events, is, ends))
+  said_parts (SayThenStore channel events) is closing last (inr refused) = inr (refused_parts (SayThenStore channel events) is refused.0 refused.1)
+  said_parts (Say say) is closing last (inl done) = done_parts (Say say) is (closes r) refl (subst (λ (b : Bool). IsDone conn n (Say say) b calls text) last done)
+  said_parts (Say say) is closing last (inr refused) = inr (refused_parts (Say say) is refused.0 refused.1)
+  said_parts (StoreThenSay events) is closing last (inl done) = done_parts (StoreThenSay events) is (closes r) refl (subst (λ (b : Bool). IsDone conn n (StoreThenSay events) b calls text) last done)
+  said_parts (StoreThenSay events) is closing last (inr refused) = inr (refused_parts (StoreThenSay events) is refused.0 refused.1)
+  said_parts (Ask channel ids) is closing last (inl done) = done_parts (Ask channel ids) is (closes r) refl (subst (λ (b : Bool). IsDone conn n (Ask channel ids) b calls text) last done)
+  said_parts (Ask channel ids) is closing last (inr refused) = inr (refused_parts (Ask channel ids) is refused.0 refused.1)
+
+say_parts : (tokens : Tokens) (conn n : ℕ) (i : HttpItem) (asked : Asked) → IsAsked tokens i asked → (calls : List Call) (text : List ℕ) → IsSayableFor conn n asked calls text
+    → CarriesItem tokens conn n i calls text ⊎ Ends tokens conn n i calls text
+say_parts tokens conn n Continue Leave is calls text due = inl due
+say_parts tokens conn n Continue (Act act closing) is calls text due = absurd is
+say_parts tokens conn n (Request r) Leave is calls text due = absurd is
+say_parts tokens conn n (Request r) (Act act closing) is calls text due = said_parts tokens conn n r calls text act is.0 closing is.1 due
+
 module _ (tokens : Tokens) (conn : ℕ) where
   abbrev p : Protocol HttpItem
   p = hec tokens conn
@@ -180,6 +240,34 @@ module _ (tokens : Tokens) (conn : ℕ) where
             | inr stops ↦ inr (subst (λ (m : ℕ). StopsAtItem tokens conn m i d.calls d.text over) (counted ∙ ap count h.made) stops)
           ]);
     }
+
+  -- ---- what may be said
+
+  -- The text that may be said for an item is what a connection has carried that ends there.
+  pub due_carried : (n : ℕ) (w w' : Window) (met : Met) (i : HttpItem) (asked : Asked) → GivesItem w i w' → IsAsked tokens i asked → (k : ℕ) → k ≡ conn → (calls : List Call) (text : List ℕ)
+      → IsSayableFor k n asked calls text → Leads n (ServedBy w met) (CouldEnd (Carried p)) calls text
+  due_carried n w w' met i asked g is_asked k same calls text due = λ fed called said counted s more.
+      let h = s.handled in
+      let front = by_told w met fed s.frames s.reads in
+      let next = by_told w' met fed (s.frames ++ i ∷ []) (by_next w w' met i g fed s.frames s.reads) in
+      let index = counted ∙ ap count h.made in
+      elim (say_parts tokens conn n i asked is_asked calls text (subst (λ (m : ℕ). IsSayableFor m n asked calls text) same due)) [
+        | inl carries ↦
+            let step : Step HttpItem = record { frames = i ∷ []; calls = calls; text = text } in
+            let move : CarriesItem tokens conn (count (calls_of h.steps)) i calls text = subst (λ (m : ℕ). CarriesItem tokens conn m i calls text) index carries in
+            let pushed = handled_push p s.frames called said h i step (ap (λ (l : List HttpItem). l ++ i ∷ []) (sym h.kept)) (i, refl, move) refl in
+            has_carried (Carried p) None (fed ++ more) talk.NoMemory _ _
+            (carried_starved p None (fed ++ more) (s.frames ++ i ∷ []) next.0 (called ++ calls) (said ++ text) pushed (told_more fed (s.frames ++ i ∷ []) next.0 more next.1))
+        | inr ends ↦ record {
+          left = None;
+          talk = ends.0;
+          late = ends.1;
+          nothing = ends.2;
+          carried = subst (λ (l : List Call). Carried p None (fed ++ more) l (said ++ text) ends.0) (sym (append_assoc called calls ends.1))
+              (carried_at p None (fed ++ more) s.frames front.0 called said h (told_more fed s.frames front.0 more front.1) i next.0 (calls ++ ends.1) text ends.0 ends.3 (told_more fed (s.frames ++ i ∷ []) next.0 more next.1)
+              (inr (subst (λ (m : ℕ). StopsAtItem tokens conn m i (calls ++ ends.1) text ends.0) index ends.4)));
+        }
+      ]
 
   -- ---- the bytes are at their end, or have a fault
 

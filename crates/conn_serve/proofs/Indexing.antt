@@ -36,6 +36,11 @@ of_then conn index [] ys p q = subst (λ (i : ℕ). AreOfConn conn i ys) (omega 
 of_then conn index (x ∷ xs) ys p q =
     (p.0, of_then conn (index + length (taken_by x)) xs ys p.1 (subst (λ (i : ℕ). AreOfConn conn i ys) (omega (arith, length-append (taken_by x) (taken_of xs))) q))
 
+-- the first of the calls
+pub of_first : (conn index : ℕ) (xs ys : List Call) → AreOfConn conn index (xs ++ ys) → AreOfConn conn index xs
+of_first conn index [] ys are = tt
+of_first conn index (x ∷ xs) ys are = (are.0, of_first conn (index + length (taken_by x)) xs ys are.1)
+
 -- ---- the calls of one step
 
 module _ (conn index : ℕ) where

@@ -1,6 +1,7 @@
 pub mod Acting
 pub mod Faults
 mod Leading
+mod Saying
 mod Fronts
 mod Handling
 mod Batching
@@ -22,3 +23,5 @@ pub mod HecAcks
 pub mod Durable
 pub mod Failing
 pub mod Indexing
+pub mod Late
+mod Sayable

@@ -21,9 +21,10 @@ use Rattle.desk_access.specs.Call.{Call, takes, taken_of, TookSurely}
 use Rattle.conn_serve.specs.Groups.{IsFrameEntry}
 use Rattle.conn_serve.specs.Done.{Done, Leads, SoFar}
 use Rattle.conn_serve.specs.Relp.{talk_of}
-use Rattle.conn_serve.specs.Lumber.{StoresGroup, EndsAtGroup, entries_of}
+use Rattle.conn_serve.specs.Lumber.{lumberjack, StoresGroup, EndsAtGroup, entries_of}
+use Rattle.conn_serve.specs.Handled.{Handled}
 use Rattle.conn_serve.specs.LumberServing.{Handles, HaltsAtFrame, stages, last_behind}
-use Rattle.conn_serve.proofs.Batching.{next_conn, entries_count, entries_next, handles_few, handles_on, handles_batch, handles_stop, now_staged}
+use Rattle.conn_serve.proofs.Batching.{next_conn, entries_count, entries_next, handles_few, handles_on, handled_batch, handles_batch, handles_stop, now_staged}
 
 -- after a group that was taken, the next one may be
 pub may_behind : (may : ℕ → ℕ → Type 0) (conn index n : ℕ) (es : List Entry) (receipt : Receipt) → may conn (index + length (taken_of (takes es (Ok receipt) ∷ []))) → n ≡ index + length es → may conn n
@@ -83,6 +84,12 @@ module _ (n conn : ℕ) (core core' : Core) (entries entries' : List Entry) (las
         (subst (λ (l : List ℕ). Handles conn core' entries' last' (frames ++ f ∷ []) called l) (sym (append-nil said))
         (handles_on conn core entries entries' last last' n frames called said f act h (tells frames h.behind) counted entries_are last_is core' (behind frames h.behind) (due ∙ on) on (limits h.limits)));
   }
+
+  -- a batch ends with it, and this is due
+  pub batch_due : commits act ≡ true → (calls : List Call) (text : List ℕ) → StoresGroup entries' last' calls text
+      → (frames : List LumberFrame) → Leads n (λ fed called said. Handles conn core entries last frames called said) (λ fed called said. Handled (lumberjack conn) (frames ++ f ∷ []) called said) calls text
+  batch_due due calls text stores frames = λ fed called said counted h.
+      handled_batch conn core entries entries' last last' n frames called said f act h (tells frames h.behind) counted entries_are last_is due calls text stores
 
   module _ (due : commits act ≡ true) (ran : List Call → Type 0) (w w' : Option (List ℕ)) (n' : ℕ) where
     -- a batch ends with it, and was stored and acknowledged

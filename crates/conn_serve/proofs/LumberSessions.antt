@@ -1,5 +1,5 @@
 -- How a session of Lumberjack goes on, and how it ends.
-use Rattle.std.proofs.Common.{◌≡◌, inl, inr, ℕ, ◌+◌, ◌^◌, ◌<◌, ◌≤◌, ◌∙◌, List, [], ◌∷◌, ◌++◌, Option, length, refl, sym, ap, subst, arith, append_assoc, length-append}
+use Rattle.std.proofs.Common.{◌≡◌, inl, inr, ℕ, ◌+◌, ◌^◌, ◌<◌, ◌≤◌, ◌∙◌, List, [], ◌∷◌, ◌++◌, Option, None, length, refl, sym, ap, subst, arith, append_assoc, length-append}
 use Rattle.event_form.specs.declared.event.Entry.{Entry}
 use Rattle.event_form.specs.declared.talk.Talk.{Talk}
 use Rattle.event_form.specs.declared.talk.Talk.TheVariants.{NoMemory}
@@ -23,7 +23,9 @@ use Rattle.desk_access.specs.Carried.{Carried}
 use Rattle.desk_access.specs.Endings.{IsAtMove}
 use Rattle.desk_access.proofs.Moves.{count_then}
 use Rattle.conn_serve.specs.Lumber.{lumberjack, entries_of, StoresGroup, EndsAtGroup, StoresLast}
-use Rattle.conn_serve.specs.Handled.{Served, Closing, ReadBy}
+use Rattle.conn_serve.specs.Handled.{Handled, Served, Closing, ReadBy}
+use Rattle.conn_serve.specs.Says.{CouldEnd}
+use Rattle.conn_serve.proofs.Saying.{has_carried}
 use Rattle.conn_serve.specs.Done.{Done, Leads, SoFar, Anyway}
 use Rattle.conn_serve.specs.LumberServing.{Handles, HaltsAtFrame}
 use Rattle.conn_serve.proofs.Handling.{handled_none, carried_starved, carried_at, carried_over, carried_instead}
@@ -158,6 +160,15 @@ module _ (ran : List Call → Type 0) (written written' : Option (List ℕ)) (n 
           | inr stops ↦ inr (stops s.frames called said counted s.handled)
         ]);
   }
+
+-- A text that is due for the next frame is what a connection has carried that ends there.
+pub due_carried : (n conn : ℕ) (w w' : Window LumberFault) (core : Core) (entries : List Entry) (last : ℕ) (fault : Option LumberFault) (f : LumberFrame) → Gives receiver (Spells Receiver) w f w' → (calls : List Call) (text : List ℕ)
+    → ((frames : List LumberFrame) → Leads n (λ fed called said. Handles conn core entries last frames called said) (λ fed called said. Handled (lumberjack conn) (frames ++ f ∷ []) called said) calls text)
+    → Leads n (Served (Handles conn core entries last) (ReadBy receiver (Spells Receiver) w fault)) (CouldEnd (Carried (lumberjack conn))) calls text
+due_carried n conn w w' core entries last fault f g calls text due = λ fed called said counted s more.
+    let next = windowed.front_next (kind conn core entries last) w fault None fed called said s more f w' g in
+    has_carried (Carried (lumberjack conn)) None (fed ++ more) NoMemory _ _
+    (carried_starved (lumberjack conn) None (fed ++ more) (s.frames ++ f ∷ []) next.0 (called ++ calls) (said ++ text) (due s.frames fed called said counted s.handled) next.1)
 
 -- ---- where the input is over
 

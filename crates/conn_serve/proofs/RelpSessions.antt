@@ -1,8 +1,14 @@
 -- How a session of RELP goes on, and how it ends.
-use Rattle.std.proofs.Common.{◌≡◌, inl, inr, ℕ, ◌^◌, ◌<◌, ◌≤◌, ◌∙◌, List, [], ◌∷◌, ◌++◌, Option, length, refl, sym, ap, subst, arith, append_assoc, length-append}
+use Rattle.std.proofs.Common.{◌≡◌, inl, inr, ℕ, ◌^◌, ◌<◌, ◌≤◌, ◌∙◌, List, [], ◌∷◌, ◌++◌, ◌⊎◌, Option, None, length, refl, sym, ap, subst, arith, append_assoc, length-append}
+use Rattle.std.specs.Prelude.{Err}
 use Rattle.std.proofs.lemmas.List.{append-nil}
 use Rattle.event_form.specs.declared.talk.Talk.{Talk}
-use Rattle.event_form.specs.declared.talk.Talk.TheVariants.{NoMemory}
+use Rattle.event_form.specs.declared.talk.Talk.TheVariants.{NoMemory, Closed}
+use Rattle.event_form.specs.declared.event.Event.{Event}
+use Rattle.spool_log.specs.declared.fault.TakeFault.{TakeFault}
+use Rattle.spool_log.specs.declared.fault.TakeFault.TheVariants as take
+use Rattle.spool_log.specs.Changing.Take.{IsRefusal}
+use Rattle.relp_session.specs.Answer.{IsAnswer, hint}
 use Rattle.event_form.specs.declared.talk.Why.{Why}
 use Rattle.relp_frame.specs.declared.frame.Frame.{Frame}
 use Rattle.relp_frame.specs.declared.fault.RelpFault.{RelpFault}
@@ -21,12 +27,15 @@ use Rattle.desk_access.specs.Protocol.{AreMoves}
 use Rattle.desk_access.specs.Carried.{Carried}
 use Rattle.desk_access.specs.Endings.{IsAtMove}
 use Rattle.desk_access.proofs.Moves.{count_then}
-use Rattle.conn_serve.specs.Relp.{relp, Carries, CarriesFrame, StopsAtFrame}
+use Rattle.conn_serve.specs.Relp.{relp, Carries, CarriesFrame, StopsAtFrame, EndsAtAct, IsDue, one_take, talk_of}
+use Rattle.conn_serve.specs.Says.{CouldEnd}
+use Rattle.conn_serve.proofs.Faults.{fault_at_move}
 use Rattle.conn_serve.specs.Handled.{Served, Closing, ReadBy}
 use Rattle.conn_serve.specs.Done.{Done, Leads, SoFar, Anyway}
-use Rattle.conn_serve.specs.RelpServing.{Handles, HaltsAtFrame}
+use Rattle.conn_serve.specs.RelpServing.{Handles, HaltsAtFrame, IsDueAt}
 use Rattle.conn_serve.proofs.Handling.{handled_none, handled_push, carried_starved, carried_at, carried_over}
 use Rattle.conn_serve.proofs.Leading.{done_start}
+use Rattle.conn_serve.proofs.Saying.{has_carried}
 use Rattle.conn_serve.proofs.Windowed.{Laws, Framed, Kind, read_next}
 use Rattle.conn_serve.proofs.Windowed as windowed
 
@@ -158,6 +167,45 @@ module _ (ran : List Call → Type 0) (written written' : Option (List ℕ)) (n 
               (subst (λ (x : State). StopsAtFrame conn x n f d.calls d.text talk) (s.handled.state_is ∙ now) (subst (λ (c : ℕ). StopsAtFrame c state n f d.calls d.text talk) same stops)))
         ]);
   }
+
+-- the hint after a refusal is an ending
+refused_ends : (conn index : ℕ) (event : Event) (txnr : ℕ) (fault : TakeFault) (late : List Call) (part : List ℕ) → IsRefusal fault → late ≡ one_take conn index txnr event (Err fault) → part ≡ hint
+    → EndsAtAct conn index (Store event txnr) late part (talk_of fault)
+refused_ends conn index event txnr (take.TooLarge need most) late part r made is = (take.TooLarge need most, made, refl, is)
+refused_ends conn index event txnr (take.Spent at) late part r made is = (take.Spent at, made, refl, is)
+refused_ends conn index event txnr (take.Full need room) late part r made is = (take.Full need room, made, refl, is)
+refused_ends conn index event txnr (take.NotSpool at) late part r made is = absurd r
+refused_ends conn index event txnr take.NoMemory late part r made is = absurd r
+refused_ends conn index event txnr take.DiskFault late part r made is = absurd r
+
+-- a text that is due is that of the act carried out, or of an ending at it
+due_parts : (conn index : ℕ) (act : RelpAct) (calls : List Call) (text : List ℕ) → IsDue conn index act calls text
+    → Carries conn index act calls text ⊎ ((talk : Talk) × IsAtMove talk × EndsAtAct conn index act calls text talk)
+due_parts conn index (Store event txnr) calls text (inl took) = inl took
+due_parts conn index (Store event txnr) calls text (inr refused) = inr (talk_of refused.0, fault_at_move refused.0, refused_ends conn index event txnr refused.0 calls text refused.1 refused.2 refused.3)
+due_parts conn index (Say answer) calls text is = inl is
+due_parts conn index (End answer) calls text is = inr (Closed, tt, (ap End (sym is.1), is.0))
+
+-- A text that is due for the next frame is what a connection has carried that ends there.
+pub due_carried : (n conn : ℕ) (w w' : Window RelpFault) (state : State) (fault : Option RelpFault) (f : Frame) → Gives stream.relp IsSpelling w f w' → (calls : List Call) (text : List ℕ) → IsDueAt conn state n f calls text
+    → Leads n (Served (Handles conn state) (ReadBy stream.relp IsSpelling w fault)) (CouldEnd (Carried (relp conn))) calls text
+due_carried n conn w w' state fault f g calls text due = λ fed called said counted s more.
+    let h = s.handled.handled in
+    let now : state_after s.frames ≡ state_after (frames_of h.steps) = ap state_after (h.whole ∙ ap (λ (l : List Frame). frames_of h.steps ++ l) h.kept ∙ append-nil (frames_of h.steps)) in
+    let front = windowed.front_more (kind conn state) w fault None fed called said s more in
+    let next = windowed.front_next (kind conn state) w fault None fed called said s more f w' g in
+    let answers : IsAnswer (state_after (frames_of h.steps)) f due.0 = subst (λ (x : State). IsAnswer x f due.0) (s.handled.state_is ∙ now) due.1 in
+    let index = counted ∙ ap count h.made in
+    elim (due_parts conn n due.0 calls text due.2) [
+      | inl carries ↦
+          let step : Step Frame = record { frames = f ∷ []; calls = calls; text = text } in
+          let move : CarriesFrame conn (state_after (frames_of h.steps)) (count (calls_of h.steps)) f calls text = (due.0, answers, subst (λ (i : ℕ). Carries conn i due.0 calls text) index carries) in
+          let pushed = handled_push (relp conn) s.frames called said h f step (ap (λ (l : List Frame). l ++ f ∷ []) (sym h.kept)) (f, refl, move) refl in
+          has_carried (Carried (relp conn)) None (fed ++ more) NoMemory _ _ (carried_starved (relp conn) None (fed ++ more) (s.frames ++ f ∷ []) next.0 (called ++ calls) (said ++ text) pushed next.1)
+      | inr ends ↦
+          has_carried (Carried (relp conn)) None (fed ++ more) ends.0 _ _ (carried_at (relp conn) None (fed ++ more) s.frames front.0 called said h front.1 f next.0 calls text ends.0 ends.1 next.1
+          (inr (due.0, answers, subst (λ (i : ℕ). EndsAtAct conn i due.0 calls text ends.0) index ends.2)))
+    ]
 
 -- nothing is left to be done where the input is over
 pub finished : (conn : ℕ) (state : State) (left : Option (List ℕ)) (over : Talk) (fed : List ℕ) (called : List Call) (said : List ℕ) → Closing (relp conn) (Handles conn state) left over fed called said → Carried (relp conn) left fed (called ++ []) (said ++ []) over

@@ -88,6 +88,10 @@ piece_adds x y len l more = omega (arith, more, length-take len l)
 pub piece_size : (len : ℕ) (a b : List ℕ) → len ≤ length a → length (take len (a ++ b)) ≡ len
 piece_size len a b fits = omega (arith, fits, length-take len (a ++ b), length-append a b)
 
+-- what was read is the front of the buffer, whatever follows there
+pub appends_first : (given given' : Option (List ℕ)) (len : ℕ) (a b : List ℕ) → len ≤ length a → Appends given given' (take len a) → Appends given given' (take len (a ++ b))
+appends_first given given' len a b fits read = subst (Appends given given') (sym (take-append-le len a b fits)) read
+
 -- a piece was read, and this was done with it
 pub turn_read : (ran : List Call → Type 0) (given given' given'' left left' left'' written written' written'' : Option (List ℕ)) (n n' len : ℕ) (a b : List ℕ) (Is : List ℕ → List Call → List ℕ → Type 0)
     → len ≤ length a → Appends given given' (take len a) → given'' ≡ given' → Consumes left left' (take len a) → left'' ≡ left' → AreBytes (take len (a ++ b)) → written' ≡ written → Done ran written' written'' n n' (Is (take len (a ++ b)))

@@ -13,19 +13,20 @@ use Rattle.http_edge.specs.Lending.{GivesItem}
 use Rattle.http_edge.specs.Window.{Window, Reads, held_of}
 use Rattle.hec_session.specs.Acts.{IsAct, IsSound}
 use Rattle.hec_session.specs.declared.act.HecAct.{HecAct}
+use Rattle.hec_session.specs.declared.act.HecAct.TheVariants.{SayThenStore}
 use Rattle.hec_session.specs.declared.code.HecCode.{HecCode}
 use Rattle.hec_session.specs.declared.code.HecCode.TheVariants.{InvalidFormat, ServerBusy, ServerError}
 use Rattle.hec_session.specs.declared.tokens.Tokens.{Tokens}
 use Rattle.spool_log.specs.declared.fault.Receipt.{Receipt}
 use Rattle.spool_log.specs.declared.fault.TakeFault.{TakeFault}
-use Rattle.desk_access.specs.Call.{Call, settles}
+use Rattle.desk_access.specs.Call.{Call, issues, settles}
 use Rattle.desk_access.specs.Protocol.{IsNothing}
 use Rattle.conn_serve.specs.declared.hec.asked.Asked.{Asked}
 use Rattle.conn_serve.specs.declared.hec.asked.Asked.TheVariants.{Leave, Act}
 use Rattle.conn_serve.specs.declared.hec.last.LastReply.{LastReply}
 use Rattle.conn_serve.specs.declared.hec.last.LastReply.TheVariants.{Busy, Failed, Malformed}
 use Rattle.conn_serve.specs.Relp.{talk_of}
-use Rattle.conn_serve.specs.Hec.{IsDone, EndsAtAct, StopsAtItem, IsCut, takes_all, continued, success}
+use Rattle.conn_serve.specs.Hec.{IsDone, IsRefused, EndsAtAct, StopsAtItem, IsCut, takes_all, continued, success}
 
 -- The window has read these items, but for those that wait, and met this. Where it found no memory, it has read the
 -- first of the bytes.
@@ -97,3 +98,17 @@ FailsUnder conn index id events closing talk calls text =
     (IsNothing calls text × (talk ≡ NoMemory))
     ⊎ (((calls ≡ []) × IsCut (success (Some id) closing) text × (talk ≡ WriteFault))
     ⊎ ((fault : TakeFault) × (calls ≡ takes_all conn index id events (Err fault) ∷ []) × (text ≡ success (Some id) closing) × (talk ≡ talk_of fault)))
+
+-- The text may be said for an act once these calls were made: it is what is said where all is done, or where it was refused. An id is
+-- said as soon as it is issued, before its events are taken.
+abbrev pub IsSayable : ℕ → ℕ → HecAct → Bool → List Call → List ℕ → Type 0
+IsSayable conn index (SayThenStore channel events) closing calls text =
+    ((id : ℕ) × (calls ≡ issues channel (Ok id) ∷ []) × (text ≡ success (Some id) closing))
+    ⊎ ((talk : Talk) × IsRefused conn index (SayThenStore channel events) calls text talk)
+IsSayable conn index act closing calls text =
+    IsDone conn index act closing calls text ⊎ ((talk : Talk) × IsRefused conn index act calls text talk)
+
+-- the same of an item that asks for this
+abbrev pub IsSayableFor : ℕ → ℕ → Asked → List Call → List ℕ → Type 0
+IsSayableFor conn index Leave calls text = (calls ≡ []) × (text ≡ continued)
+IsSayableFor conn index (Act act closing) calls text = IsSayable conn index act closing calls text

@@ -10,9 +10,11 @@ pub mod Hec
 pub mod Tokens
 pub mod HecServing
 pub mod Serves
+pub mod Says
 pub mod Groups
 pub mod Acked
 pub mod HecAcked
 pub mod Durable
 pub mod DiskFaults
 pub mod Numbering
+pub mod Sayable

@@ -4,7 +4,7 @@ use Rattle.event_form.specs.declared.talk.Talk.{Talk}
 use Rattle.event_form.specs.declared.talk.Talk.TheVariants.{WriteFault, NoMemory}
 use Rattle.relp_frame.specs.declared.frame.Frame.{Frame}
 use Rattle.relp_session.specs.declared.act.RelpAct.{RelpAct}
-use Rattle.relp_session.specs.Answer.{hint}
+use Rattle.relp_session.specs.Answer.{IsAnswer, hint}
 use Rattle.relp_session.specs.declared.state.State.{State}
 use Rattle.relp_session.specs.Session.{state_after}
 use Rattle.spool_log.specs.declared.fault.TakeFault.{TakeFault}
@@ -12,12 +12,16 @@ use Rattle.spool_log.specs.Changing.Take.{IsRefusal}
 use Rattle.desk_access.specs.Call.{Call}
 use Rattle.desk_access.specs.Protocol.{IsNothing}
 use Rattle.conn_serve.specs.Handled.{Handled}
-use Rattle.conn_serve.specs.Relp.{relp, talk_of, last_text, EndsAtAct, StopsAtFrame}
+use Rattle.conn_serve.specs.Relp.{relp, talk_of, last_text, IsDue, EndsAtAct, StopsAtFrame}
 
 -- after these frames the session is that far, and they were served by these calls and this text
 pub record Handles (conn : ℕ) (state : State) (frames : List Frame) (calls : List Call) (text : List ℕ) : Type 0 where
   pub handled : Handled (relp conn) frames calls text
   pub state_is : state ≡ state_after frames
+
+-- the text that is due for a frame, once these calls were made
+abbrev pub IsDueAt : ℕ → State → ℕ → Frame → List Call → List ℕ → Type 0
+IsDueAt conn state index f calls text = (act : RelpAct) × IsAnswer state f act × IsDue conn index act calls text
 
 -- a take was answered with this fault: what is written then, and how the connection ends
 abbrev pub EndsByFault : TakeFault → List ℕ → Talk → Type 0

@@ -1,9 +1,10 @@
 //! How a session gets the bytes of its connection.
-ghost use Rattle.std.specs.Prelude.{◌≡◌, ◌⊎◌, ◌+◌, ◌<◌, ◌≤◌, ◌^◌, ℕ, List, Option, length, IfOk, IfErr, OnOk, IsErrOf};
-ghost use Rattle.std.specs.Io.KnownBytes.{IsAtEnd};
+ghost use Rattle.std.specs.Prelude.{◌≡◌, ◌⊎◌, ◌+◌, ◌<◌, ◌≤◌, ◌^◌, ℕ, List, ◌++◌, Option, None, length, IfOk, IfErr, OnOk, IsErrOf};
+ghost use Rattle.std.specs.Io.KnownBytes.{Appends, IsAtEnd};
 ghost use Rattle.desk_access.specs.Endings.{IsAtMove};
-ghost use Rattle.conn_serve.specs.Done.{AreBytes, Done, LeadsOn, SoFar, Turn, told};
+ghost use Rattle.conn_serve.specs.Done.{AreBytes, Done, Leads, LeadsOn, SoFar, Turn, told};
 ghost use Rattle.conn_serve.specs.Endings.{CountsFaults, MayEnd};
+ghost use Rattle.conn_serve.specs.Says.{HasCarried, MaySay};
 
 use crate::connection::Connection;
 use crate::session::Session;
@@ -16,8 +17,9 @@ use std::alloc::Global;
 pub const PIECE: usize = 8192;
 
 /// Takes in a piece that was read, to its end: feeds as much of it as there is room for and serves the
-/// frames that are whole by then, in turn. The error is the ending of the connection. That each number of
-/// the piece is below 256, which its type says, is a clause for the caller.
+/// frames that are whole by then, in turn. What it writes for them, a connection may have written that has
+/// read the whole piece and ends there. The error is the ending of the connection. That each number of the
+/// piece is below 256, which its type says, is a clause for the caller.
 pub fn take_in<L: Link, A: Access, S: Session>(
     alloc: Global,
     link: &mut L,
@@ -30,6 +32,9 @@ pub fn take_in<L: Link, A: Access, S: Session>(
     requires fits { S.extent session.old + length piece.now ≤ 2 ^ 40 }
     requires so_far { SoFar (S.served connection.old.number session.old) connection.old.taken (length piece.now) }
     requires may { A.may_take access.old connection.old.number connection.old.taken }
+    requires says { MaySay (A.ran access.old) (L.permits link.old) (L.taken link.old) (Leads connection.old.taken
+        (S.served connection.old.number session.old)
+        (λ fed. HasCarried (S.carried (S.tokens session.old) connection.old.number) (fed ++ piece.now))) }
 
     ensures goes { OnOk result (Done (λ calls. A.ran access.old calls access.new) (L.taken link.old) (L.taken link.new)
         connection.old.taken connection.new.taken (LeadsOn connection.old.taken piece.now (S.served connection.old.number session.old)
@@ -57,7 +62,7 @@ pub fn take_in<L: Link, A: Access, S: Session>(
 }
 
 /// Reads once, at most `room` bytes, and takes in what came. Answers how many bytes it was; 0 is the end
-/// of the input. The error is the ending of the connection.
+/// of the input. `says` is of each piece that the read may bring. The error is the ending of the connection.
 pub fn turn<L: Link, A: Access, S: Session>(
     alloc: Global,
     link: &mut L,
@@ -72,6 +77,10 @@ pub fn turn<L: Link, A: Access, S: Session>(
     requires fits { S.extent session.old + room ≤ 2 ^ 40 }
     requires so_far { SoFar (S.served connection.old.number session.old) connection.old.taken room }
     requires may { A.may_take access.old connection.old.number connection.old.taken }
+    requires says { (read : L) (piece : List ℕ) → L.same link.old read → Appends (L.given link.old) (L.given read) piece
+        → MaySay (A.ran access.old) (L.permits read) (L.taken link.old) (Leads connection.old.taken
+        (S.served connection.old.number session.old)
+        (λ fed. HasCarried (S.carried (S.tokens session.old) connection.old.number) (fed ++ piece))) }
     requires may_end { MayEnd (S.served connection.old.number session.old) (S.carried (S.tokens session.old) connection.old.number) }
 
     ensures room { IfOk result (λ len. len ≤ room) }
@@ -95,6 +104,7 @@ pub fn turn<L: Link, A: Access, S: Session>(
     ensures reads { CountsFaults (IsErrOf result Talk.ReadFault) (L.read_faults link.old) (L.read_faults link.new) }
     ensures writes { CountsFaults (IsErrOf result Talk.WriteFault) (L.write_faults link.old) (L.write_faults link.new) }
     ensures same { L.same link.old link.new }
+    ensures lasts { L.taken link.old ≡ None → L.taken link.new ≡ None }
 {
     let mut buf = [0; PIECE];
     let len = match link.read(&mut buf[..room]) {

@@ -3,6 +3,7 @@ ghost use Rattle.conn_serve.specs.Acked.{AckedIsTaken, AcksAreOfGroups};
 ghost use Rattle.conn_serve.specs.DiskFaults.{DiskFaultIsTold};
 ghost use Rattle.conn_serve.specs.HecAcked.{SaidLiesWhole, AcknowledgedIsTaken, SettledIsStored, ToldIsTaken};
 ghost use Rattle.conn_serve.specs.Numbering.{CallsAreOfConn};
+ghost use Rattle.conn_serve.specs.Sayable.{SayableIsTaken, SayableGroupIsTaken, SayableIdIsTaken, SayableIsSettled, SayableIsOfConn};
 
 /// Whatever a sender finds acknowledged by whole frames at the front of the text of its connection was taken: the
 /// numbers are those of the first groups that were taken, one each, in order. By RELP a `rsp` frame that says `200 OK`
@@ -40,4 +41,15 @@ pub fn disk_fault_is_told()
 /// go on from those that were taken before.
 pub fn calls_are_of_conn()
     ensures { CallsAreOfConn }
+{}
+
+/// Whatever a connection may write once these calls were made, it acknowledges what they took, and no call that is still
+/// to come. So the laws above hold at each write, and not at the ending alone: of the numbers that are acknowledged, of a
+/// collector's replies, of where an id is settled, and of whose entries were taken.
+pub fn what_may_be_said_is_taken()
+    ensures acked { SayableIsTaken }
+    ensures groups { SayableGroupIsTaken }
+    ensures told { SayableIdIsTaken }
+    ensures settled { SayableIsSettled }
+    ensures own { SayableIsOfConn }
 {}

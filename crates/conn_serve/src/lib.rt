@@ -4,7 +4,7 @@
 //!
 //! The one contract is `Carried`: the bytes read are frames, none skipped, and a tail; the calls on the
 //! desk and the bytes written are those that the protocol's table gives for these frames, in order, and
-//! then what belongs to the ending.
+//! then what belongs to the ending. It holds at the ending, and at each write before it of what could be one.
 #![tactic(auto)]
 
 mod connection;
@@ -20,7 +20,7 @@ mod talk;
 
 pub use laws::{
     acked_is_taken, acks_are_of_groups, calls_are_of_conn, disk_fault_is_told,
-    replies_acknowledge_what_was_taken,
+    replies_acknowledge_what_was_taken, what_may_be_said_is_taken,
 };
 pub use rules::Rules;
 pub use serve::attend;

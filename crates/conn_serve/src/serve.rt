@@ -1,10 +1,11 @@
 //! Serving one connection.
 ghost use Rattle.std.specs.Prelude.{◌≡◌, ◌≢◌, ◌⊎◌, ◌+◌, ◌<◌, ◌≤◌, ◌^◌, ℕ, List, [], length, Option, IfSome, IfNone};
-ghost use Rattle.std.specs.Io.KnownBytes.{IsAtEnd};
+ghost use Rattle.std.specs.Io.KnownBytes.{Appends, IsAtEnd};
 ghost use Rattle.desk_access.specs.Call.{Call};
 ghost use Rattle.desk_access.specs.Endings.{IsByFault, IsAtEndOfInput};
 ghost use Rattle.conn_serve.specs.Done.{Done, Leads, SoFar};
 ghost use Rattle.conn_serve.specs.Endings.{MayEnd, CountsFaults};
+ghost use Rattle.conn_serve.specs.Says.{HasCarried, MaySay};
 ghost use Rattle.conn_serve.specs.Serves.{CarriedBy, Serves};
 
 use crate::connection::Connection;
@@ -51,6 +52,9 @@ fn close<L: Link, A: Access, S: Session>(
     requires so_far { SoFar (S.served connection.old.number session.old) connection.old.taken 0 }
     requires may { A.may_take access.old connection.old.number connection.old.taken }
     requires only { IsByFault over ⊎ IsAtEndOfInput over }
+    requires says { MaySay (A.ran access.old) (L.permits link.old) (L.taken link.old) (λ calls text. (left : Option (List ℕ))
+        → Leads connection.old.taken (S.closing connection.old.number session.old left over)
+        (HasCarried (S.carried (S.tokens session.old) connection.old.number)) calls text) }
 
     ensures closes { Done (λ calls. A.ran access.old calls access.new) (L.taken link.old) (L.taken link.new)
         connection.old.taken connection.new.taken (λ calls text. (left : Option (List ℕ)) → Leads connection.old.taken
@@ -83,6 +87,9 @@ fn run<L: Link, A: Access, S: Session>(
     requires may_end { MayEnd (S.served connection.old.number session.old) (S.carried (S.tokens session.old) connection.old.number) }
     requires first { connection.old.taken ≡ 0 }
     requires may { A.may_take access.old connection.old.number 0 }
+    requires says { (read : L) (bytes : List ℕ) → L.same link.old read → Appends (L.given link.old) (L.given read) bytes
+        → MaySay (A.ran access.old) (L.permits read) (L.taken link.old)
+        (HasCarried (S.carried (S.tokens session.old) connection.old.number) bytes) }
 
     ensures serves { Serves (S.carried (S.tokens session.old) connection.old.number) (L.given link.old) (L.given link.new) (L.left link.old) (L.left link.new)
         (L.taken link.old) (L.taken link.new) (λ calls. A.ran access.old calls access.new) (record { talk = result; taken = connection.new.taken }) }
@@ -110,6 +117,12 @@ fn run<L: Link, A: Access, S: Session>(
 /// connection's number in the spool; its entries are counted from 0. Each text is written as one piece.
 /// `carried` says which bytes were read, each a number below 256, which calls were made on the desk, which
 /// bytes were written, and how many entries were taken.
+///
+/// `says` is the leave to write, which the caller gives: once these bytes were read from the link and these calls
+/// made on the desk, the link may take what a connection by these rules has written by then that ends there, at once
+/// or after calls that promise nothing (`HasCarried`). No other text is written, also where `attend` never returns:
+/// no answer before the calls that it goes with were made and so answered, none to a frame that wasn't read, and
+/// none twice.
 ///
 /// - RELP, as rsyslog's RELP specification, version 0, has it: a `syslog` is taken into the spool as one
 ///   group of one entry, and answered once it is durable. The unit of an entry is its frame's transaction
@@ -141,6 +154,8 @@ pub fn attend<L: Link, A: Access>(
     conn: u64,
 ) -> Attended
     requires may { A.may_take access.old conn 0 }
+    requires says { (read : L) (bytes : List ℕ) → L.same link.old read → Appends (L.given link.old) (L.given read) bytes
+        → MaySay (A.ran access.old) (L.permits read) (L.taken link.old) (HasCarried (CarriedBy rules.now conn) bytes) }
 
     ensures carried { Serves (CarriedBy rules.now conn) (L.given link.old) (L.given link.new) (L.left link.old) (L.left link.new)
         (L.taken link.old) (L.taken link.new) (λ calls. A.ran access.old calls access.new) result }

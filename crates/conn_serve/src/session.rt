@@ -8,6 +8,7 @@ ghost use Rattle.desk_access.specs.Call.{Call};
 ghost use Rattle.desk_access.specs.Endings.{IsAtMove, IsByFault, IsAtEndOfInput};
 ghost use Rattle.conn_serve.specs.Done.{Done, Leads, SoFar, Anyway};
 ghost use Rattle.conn_serve.specs.Endings.{MayEnd, CountsFaults};
+ghost use Rattle.conn_serve.specs.Says.{CouldEnd, HasCarried, MaySay};
 
 use crate::connection::Connection;
 use desk_access::Access;
@@ -54,7 +55,8 @@ pub trait Session {
         ensures fed { (number : ℕ) (fed : List ℕ) (calls : List Call) (text : List ℕ)
             → served number self.old fed calls text → served number self.new (fed ++ take result piece.now) calls text };
 
-    /// Serves all whole frames that wait. The error is the ending of the connection.
+    /// Serves all whole frames that wait. It writes only what a connection may have written that ends there. The error
+    /// is the ending of the connection.
     fn serve<L: Link, A: Access>(
         &mut self,
         alloc: Global,
@@ -64,6 +66,8 @@ pub trait Session {
     ) -> Result<(), Talk>
         requires so_far { SoFar (served connection.old.number self.old) connection.old.taken 0 }
         requires may { A.may_take access.old connection.old.number connection.old.taken }
+        requires says { MaySay (A.ran access.old) (L.permits link.old) (L.taken link.old) (Leads connection.old.taken
+            (served connection.old.number self.old) (CouldEnd (carried (tokens self.old) connection.old.number))) }
 
         ensures goes { OnOk result (Done (λ calls. A.ran access.old calls access.new) (L.taken link.old) (L.taken link.new)
             connection.old.taken connection.new.taken (Leads connection.old.taken (served connection.old.number self.old)
@@ -98,7 +102,8 @@ pub trait Session {
         ensures only { IsAtEndOfInput result };
 
     /// The input is over, and would end the connection with `over`: does what is still to be done for that, as a
-    /// last batch or a reply. The error is the ending of the connection in place of it.
+    /// last batch or a reply, and writes only what belongs to it. The error is the ending of the connection in place
+    /// of it.
     fn finish<L: Link, A: Access>(
         &mut self,
         link: &mut L,
@@ -108,6 +113,9 @@ pub trait Session {
     ) -> Result<(), Talk>
         requires so_far { SoFar (served connection.old.number self.old) connection.old.taken 0 }
         requires may { A.may_take access.old connection.old.number connection.old.taken }
+        requires says { MaySay (A.ran access.old) (L.permits link.old) (L.taken link.old) (λ calls text. (left : Option (List ℕ))
+            → Leads connection.old.taken (closing connection.old.number self.old left over)
+            (HasCarried (carried (tokens self.old) connection.old.number)) calls text) }
 
         ensures goes { OnOk result (Done (λ calls. A.ran access.old calls access.new) (L.taken link.old) (L.taken link.new)
             connection.old.taken connection.new.taken (λ calls text. (left : Option (List ℕ)) → Leads connection.old.taken

@@ -2,6 +2,7 @@
 ghost use Rattle.std.specs.Prelude.{◌≡◌, ◌<◌, ◌≤◌, ℕ, length, take, OnOk, IsErr, IfErr};
 ghost use Rattle.std.specs.Io.KnownBytes.{Appends};
 ghost use Rattle.event_form.specs.declared.talk.Talk.TheVariants.{WriteFault};
+ghost use Rattle.edge_io.specs.Told.{MayFollow};
 ghost use Rattle.conn_serve.specs.Endings.{CountsFaults};
 ghost use Rattle.conn_serve.specs.Relp.{talk_of};
 
@@ -23,9 +24,11 @@ pub fn talk_of(fault: TakeFault) -> Talk
     }
 }
 
-/// Writes one text. The error is `WriteFault`: a write failed, and the first bytes of the text were
-/// written, not all.
+/// Writes one text, which the link may take. The error is `WriteFault`: a write failed, and the first bytes of
+/// the text were written, not all.
 pub fn say<L: Link>(link: &mut L, text: &[u8]) -> Result<(), Talk>
+    requires permitted { MayFollow (L.permits link.old) (L.taken link.old) text.now }
+
     ensures whole { OnOk result (Appends (L.taken link.old) (L.taken link.new) text.now) }
     ensures part { IfErr result (λ talk. (talk ≡ WriteFault)
         × ((k : ℕ) × (k < length text.now) × Appends (L.taken link.old) (L.taken link.new) (take k text.now))) }

@@ -1,5 +1,6 @@
 -- How what a source, a sink or a link tells of its bytes goes on, call after call. `None` tells nothing.
 use Rattle.std.specs.Prelude.{◌≡◌, ◌+◌, ◌-◌, ◌≤◌, length, ℕ, List, [], ◌++◌, take, drop, Option, None, Some, refl}
+use Rattle.edge_io.specs.Told.{Lasts, MayFollow}
 use Rattle.std.specs.Io.KnownBytes.{Appends, Keeps, Consumes, IsAtEnd}
 use Rattle.std.proofs.Common.{sym, ◌∙◌, ap, subst, append_assoc, append-nil, arith, length-append}
 use Rattle.std.proofs.Math.Seq.{take-add}
@@ -40,6 +41,12 @@ pub appends_on : (a b c : Option (List ℕ)) (piece : List ℕ) (i n : ℕ) → 
 appends_on a b c piece i n p q =
     let same : take n (take (length piece - i) (drop i piece)) ≡ take n (drop i piece) = ap (take n) (take_rest piece i) in
     appends_more a b c piece i n p (subst (Appends b c) same q)
+
+-- what may follow goes on, once its first bytes were taken
+pub may_follow_on : (P Q : List ℕ → Type 0) (a b : Option (List ℕ)) (xs ys : List ℕ) → Lasts P a Q b → Appends a b xs → MayFollow P a (xs ++ ys) → MayFollow Q b ys
+may_follow_on P Q None b xs ys stay p may = subst (λ (o : Option (List ℕ)). MayFollow Q o ys) (sym (stay.1 refl)) tt
+may_follow_on P Q (Some us) None xs ys stay p may = absurd p
+may_follow_on P Q (Some us) (Some vs) xs ys stay p may = subst (λ (l : List ℕ). Q l) (sym (ap (λ l. l ++ ys) p ∙ append_assoc us xs ys)) (stay.0 (us ++ (xs ++ ys)) may)
 
 -- no read
 pub consumes_none : (a : Option (List ℕ)) → Consumes a a []

@@ -1,5 +1,5 @@
 -- Doors that are taken from a place, and the doors that are left at the places.
-use Rattle.std.proofs.Common.{◌≡◌, ◌≢◌, ◌+◌, ◌<◌, ◌≤◌, ℕ, Bool, true, false, cond, zero, suc, List, [], ◌∷◌, ◌++◌, take, drop, length, get_or, remove, ltb, Option, Some, None, sym, ◌∙◌, refl, ap, subst, All, map, arith}
+use Rattle.std.proofs.Common.{◌≡◌, ◌≢◌, ◌+◌, ◌<◌, ◌≤◌, ℕ, Bool, true, false, cond, zero, suc, List, [], ◌∷◌, ◌++◌, take, drop, length, get_or, remove, ltb, Option, Some, None, sym, ◌∙◌, refl, ap, subst, All, map, inl, inr, arith}
 use Rattle.std.specs.List.{position, position_or_len}
 use Rattle.std.specs.Str.{bytes_eq}
 use Rattle.std.specs.String.{string_bytes}
@@ -8,15 +8,21 @@ use Rattle.std.proofs.lemmas.List.Sums.{fails_before_first}
 use Rattle.std.proofs.lemmas.Slice.Eq.{bytes_eq-Decides}
 use Rattle.std.proofs.lemmas.Bool.{false_from_ne_true, ltb-false}
 use Rattle.std.proofs.Math.ListN.{set}
+use Rattle.std.proofs.lemmas.Result.{err_from_is_err_and}
 use Rattle.std.proofs.lemmas.List.{drop-drop, get_or-drop, nil_from_length, length-take}
 use Rattle.std.proofs.lemmas.List.Elements.{all_zip_more, length_all_zip, All-cons, All-head, All-tail, All-take}
-use Rattle.std.specs.Prelude.{Result, IfOk, OnOk, OnErr}
+use Rattle.std.specs.Prelude.{Result, Err, IsErrAnd, IfOk, OnOk, OnErr}
 use Rattle.std.specs.Global.{Vec}
 use Rattle.std.specs.declared.alloc.AllocError.{AllocError}
 use Rattle.edge_io.specs.Told.{IsToldAs}
 use Rattle.edge_io.specs.Door.{IsNewDoor, DoorState}
 use Rattle.edge_io.specs.MemDoor.{IsBoundAs, IsUntouched, state_of, accepted_of, talks_of, talked_of}
 use Rattle.edge_io.specs.MemPlace.{AreBoundAs, LosesDoors, is_named, doors_at, TakesDoors}
+use Rattle.edge_io.specs.MemNet.{calls_of, places_of, scripts_of, BindsExactly}
+use Rattle.edge_io.specs.Script.{IsFailing, Advances}
+use Rattle.edge_io.specs.declared.mem_net.MemNet.{MemNet}
+use Rattle.edge_io.specs.declared.net_fault.NetFault.{NetFault}
+use Rattle.edge_io.specs.declared.net_fault.NetFault.TheVariants.{NoMemory}
 use Rattle.edge_io.specs.declared.mem_door.MemDoor.{MemDoor}
 use Rattle.edge_io.specs.declared.mem_place.MemPlace.{MemPlace}
 
@@ -127,3 +133,22 @@ bound_are_new name count places bound are = new_doors name (take count (doors_at
 
 pub bound_count : (name : List ℕ) (count : ℕ) (doors bound : List MemDoor) → AreBoundAs name (take count doors) bound → count ≤ length doors → length bound ≡ count
 bound_count name count doors bound are enough = omega (arith, length_all_zip (IsBoundAs name) (take count doors) bound are, length-take {A = MemDoor})
+
+-- a bind that isn't to fail and ends for want of memory, where enough doors are left
+pub bind_starved : (name : List ℕ) (count : ℕ) (old new : MemNet) (result : Result (Vec MemDoor) NetFault) → IsErrAnd result (λ f. f ≡ NoMemory)
+    → (IsFailing (calls_of old) → ⊥) → count ≤ length (doors_at name (places_of old)) → LosesDoors (doors_at name (places_of old)) (doors_at name (places_of new))
+    → ((other : List ℕ) → other ≢ name → doors_at other (places_of new) ≡ doors_at other (places_of old))
+    → new.faults ≡ old.faults → Advances (calls_of old) (calls_of new) → scripts_of new ≡ scripts_of old → BindsExactly name count old new result
+bind_starved name count old new result is runs enough lost others counts advances scripts =
+    let p = err_from_is_err_and result is in
+    let none : result ≡ Err NoMemory = p.1 ∙ ap Err p.2 in rw none record {
+      fails = (λ e. absurd cc, λ h. absurd (elim h [ inl f ↦ runs f | inr few ↦ omega (arith, few, enough) ]));
+      gives = tt;
+      left = tt;
+      lost = lost;
+      unchanged = λ e. absurd cc;
+      others = others;
+      counts = counts;
+      advances = advances;
+      scripts = scripts;
+    }

@@ -1,7 +1,8 @@
 -- What a door tells, and what its calls do to that.
-use Rattle.std.specs.Prelude.{◌≡◌, ℕ, List, [], Option, Some, length}
+use Rattle.std.specs.Prelude.{◌≡◌, ℕ, ◌+◌, List, [], Option, Some, None, Result, Ok, Err, length}
 use Rattle.edge_io.specs.Told.{IsToldAs, IsOneMore}
 use Rattle.edge_io.specs.declared.proto.Proto.{Proto}
+use Rattle.edge_io.specs.declared.door.AcceptFault.{AcceptFault}
 
 -- A connection that was served and given back: its protocol and its number, the bytes read from it and written to it,
 -- the status of its ending, and how many bytes were left unread.
@@ -61,3 +62,10 @@ pub record IsNewDoor (at : List ℕ) (door : DoorState) : Type 0 where
   pub place : IsToldAs door.place at
   pub accepted : IsToldAs door.accepted 0
   pub talks : IsToldAs door.talks []
+
+-- What may be written to the links to come stays so over an accept: the one that came after `k + 1` links comes after `k` once a link
+-- was given.
+abbrev pub StaysPermitted : {L : Type 0} → Result (Option L) AcceptFault → (ℕ → List ℕ → List ℕ → Type 0) → (ℕ → List ℕ → List ℕ → Type 0) → Type 0
+StaysPermitted (Ok (Some link)) old new = (k : ℕ) (read text : List ℕ) → old (k + 1) read text → new k read text
+StaysPermitted (Ok None) old new = (k : ℕ) (read text : List ℕ) → old k read text → new k read text
+StaysPermitted (Err fault) old new = (k : ℕ) (read text : List ℕ) → old k read text → new k read text

@@ -5,7 +5,7 @@ use Rattle.std.specs.Global.{Vec}
 use Rattle.std.specs.String.{string_bytes}
 use Rattle.std.specs.Vec.{vec_capacity}
 use Rattle.edge_io.specs.Counts.{one_more}
-use Rattle.edge_io.specs.Net.{HungUp, NetState}
+use Rattle.edge_io.specs.Net.{Bound, HungUp, NetState}
 use Rattle.edge_io.specs.Script.{IsFailing, Advances}
 use Rattle.edge_io.specs.MemPlace.{doors_at, AreBoundAs, LosesDoors}
 use Rattle.edge_io.specs.MemScript.{is_for, IsOfScript}
@@ -16,8 +16,13 @@ use Rattle.edge_io.specs.declared.mem_link.MemLink.{MemLink}
 use Rattle.edge_io.specs.declared.mem_door.MemDoor.{MemDoor}
 use Rattle.edge_io.specs.declared.mem_place.MemPlace.{MemPlace}
 use Rattle.edge_io.specs.declared.mem_script.MemScript.{MemScript}
+use Rattle.edge_io.specs.declared.mem_net.BoundDoors.{BoundDoors}
 use Rattle.edge_io.specs.declared.mem_net.Hung.{Hung}
 use Rattle.edge_io.specs.declared.mem_net.MemNet.{MemNet}
+
+-- what is told of doors that were bound together
+abbrev pub bound_of : BoundDoors → Bound
+bound_of one = record { place = string_bytes one.place; doors = one.doors }
 
 -- what is told of a link that was hung up
 abbrev pub hung_of : Hung → HungUp
@@ -38,9 +43,14 @@ scripts_of net = net.scripts.items
 abbrev pub hung_up_of : MemNet → List HungUp
 hung_up_of net = map hung_of net.hung.items
 
+-- the doors that were bound
+abbrev pub bound_by : MemNet → List Bound
+bound_by net = map bound_of net.bound.items
+
 -- what it tells
 abbrev pub state_of : MemNet → NetState
 state_of net = record {
+  bound = Some (bound_by net);
   hung = Some (hung_up_of net);
   net_faults = net.faults;
   read_faults = net.read_faults;

@@ -1,5 +1,5 @@
 -- What a net tells, and what its calls do to that.
-use Rattle.std.specs.Prelude.{◌≡◌, ◌⊎◌, ◌≤◌, ℕ, List, Option, Some, Result, Ok, Err, length}
+use Rattle.std.specs.Prelude.{◌≡◌, ◌⊎◌, ◌≤◌, ℕ, List, [], ◌∷◌, ◌++◌, Option, Some, None, Result, Ok, Err, length}
 use Rattle.foundation.specs.Faults.{Rose}
 use Rattle.edge_io.specs.Told.{IsToldAs, Adds}
 use Rattle.edge_io.specs.declared.net_fault.NetFault.{NetFault}
@@ -13,13 +13,25 @@ pub record HungUp : Type 0 where
   pub written : List ℕ
   pub left : ℕ
 
--- What a net tells: the links that were hung up. Its counts of faults are of its binds and dials, and of the reads and the
+-- Doors that were bound together: their place, and how many they are.
+pub record Bound : Type 0 where
+  pub place : List ℕ
+  pub doors : ℕ
+
+-- What a net tells: the doors that were bound, and the links that were hung up. Its counts of faults are of its binds and dials, and of the reads and the
 -- writes of the links hung up.
 pub record NetState : Type 0 where
+  pub bound : Option (List Bound)
   pub hung : Option (List HungUp)
   pub net_faults : ℕ
   pub read_faults : ℕ
   pub write_faults : ℕ
+
+-- The doors that were bound are one more entry in what is told; where none were, that is as before.
+abbrev pub AddsBound : {T : Type 0} → List ℕ → ℕ → Result T NetFault → Option (List Bound) → Option (List Bound) → Type 0
+AddsBound place doors (Err _) old new = new ≡ old
+AddsBound place doors (Ok made) None new = new ≡ None
+AddsBound place doors (Ok made) (Some old) new = new ≡ Some (old ++ record { place = place; doors = doors } ∷ [])
 
 -- what a bind or a dial leaves
 pub record SameHung (old new : NetState) : Type 0 where

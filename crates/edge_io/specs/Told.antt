@@ -31,3 +31,12 @@ IsFresh (Some list) given taken left = (given ≡ Some []) × (taken ≡ Some []
 abbrev pub IsDialed : {A : Type 0} → Option A → Option (List ℕ) → List ℕ → Type 0
 IsDialed None dialed place = IsToldAs dialed place
 IsDialed (Some list) dialed place = dialed ≡ Some place
+
+-- the piece may follow what is told: with it the whole is one of the texts permitted
+abbrev pub MayFollow : (List ℕ → Type 0) → Option (List ℕ) → List ℕ → Type 0
+MayFollow Permits None piece = Unit {0}
+MayFollow Permits (Some before) piece = Permits (before ++ piece)
+
+-- what was permitted stays so, and where nothing was told nothing is
+abbrev pub Lasts : (List ℕ → Type 0) → Option (List ℕ) → (List ℕ → Type 0) → Option (List ℕ) → Type 0
+Lasts Permits told Permits' told' = ((text : List ℕ) → Permits text → Permits' text) × (told ≡ None → told' ≡ None)

@@ -1,5 +1,6 @@
 //! A link of two halves.
-ghost use Rattle.std.specs.Prelude.{◌≡◌, None};
+ghost use Rattle.std.specs.Prelude.{◌≡◌, None, refl};
+ghost use Rattle.std.proofs.Common.{◌∙◌};
 
 use crate::{Link, Object, ReadFault, Sink, Source, WriteFault};
 
@@ -45,11 +46,15 @@ impl<S: Source, K: Sink> Sink for Both<S, K> {
 
     ghost write_faults = { λ both. K.write_faults both.sink };
 
-    ghost write_apart = { λ x y. y.source ≡ x.source };
+    ghost write_apart = { λ x y. (y.source ≡ x.source) × K.write_apart x.sink y.sink };
 
-    ghost apart_refl = { λ _. Prim.cc };
+    ghost permits = { λ both. K.permits both.sink };
 
-    ghost apart_trans = { λ x y z p q. Prim.cc };
+    ghost permits_last = { λ x y apart. K.permits_last x.sink y.sink apart.1 };
+
+    ghost apart_refl = { λ x. (refl, K.apart_refl x.sink) };
+
+    ghost apart_trans = { λ x y z p q. (q.0 ∙ p.0, K.apart_trans x.sink y.sink z.sink p.1 q.1) };
 
     fn write(&mut self, piece: &[u8]) -> Result<usize, WriteFault> {
         self.sink.write(piece)
@@ -61,5 +66,5 @@ impl<S: Source, K: Sink> Link for Both<S, K> {
 
     ghost reads_keep = { λ x y same. (Prim.cc, Prim.cc, Prim.cc) };
 
-    ghost writes_keep = { λ x y same. (Prim.cc, Prim.cc, Prim.cc, Prim.cc) };
+    ghost writes_keep = { λ x y apart. let same = apart.0 in (Prim.cc, Prim.cc, Prim.cc, Prim.cc) };
 }

@@ -1,9 +1,10 @@
 //! Where links come in.
-ghost use Rattle.std.specs.Prelude.{◌≡◌, OnOk, OnErr, IfOk, IfSome, IfNone};
+ghost use Rattle.std.specs.Prelude.{◌≡◌, ℕ, List, OnOk, OnErr, IfOk, IfSome, IfNone};
+ghost use Rattle.std.specs.Io.KnownBytes.{Appends};
 ghost use Rattle.foundation.specs.Faults.{HasCause};
 ghost use Rattle.edge_io.specs.Counts.{Gains};
 ghost use Rattle.edge_io.specs.Told.{IsToldAs, IsFresh, Adds};
-ghost use Rattle.edge_io.specs.Door.{DoorState, TakesLink, SameLinks, SameTalks, SameDoor, IsTalk};
+ghost use Rattle.edge_io.specs.Door.{DoorState, TakesLink, SameLinks, SameTalks, SameDoor, IsTalk, StaysPermitted};
 
 use crate::{Link, Proto};
 use std::alloc::AllocError;
@@ -23,6 +24,9 @@ pub trait Door {
     /// What the door tells.
     ghost told: { Self → DoorState };
 
+    /// What may be written to the link that it gives after so many others, by what was read from that link.
+    ghost permits: { Self → ℕ → List ℕ → List ℕ → Type 0 };
+
     /// Waits for a link and accepts it. `None`: the door is shut for good, as no link waits. A link that is
     /// given counts as accepted, waits no more, and has given and taken no byte. After a fault no link
     /// was accepted, and the door's own count of faults has risen.
@@ -34,6 +38,9 @@ pub trait Door {
             × SameLinks (told self.old) (told self.new))) }
         ensures err { OnErr result (SameLinks (told self.old) (told self.new)) }
         ensures rest { SameTalks (told self.old) (told self.new) }
+        ensures permits { IfOk result (λ o. IfSome o (λ link. (now : Self.L) (read text : List ℕ) → Self.L.same link now
+            → Appends (Self.L.given link) (Self.L.given now) read → permits self.old 0 read text → Self.L.permits now text)) }
+        ensures stays { StaysPermitted result (permits self.old) (permits self.new) }
         ensures cause { HasCause (told self.old).accept_faults (told self.new).accept_faults result };
 
     /// Takes a link that was served, of which `proto` is the protocol, `conn` the connection's number and
@@ -53,5 +60,6 @@ pub trait Door {
         ensures err { OnErr result ((told self.new).talks ≡ (told self.old).talks) }
         ensures reads { Gains (Self.L.read_faults link) (told self.old).read_faults (told self.new).read_faults }
         ensures writes { Gains (Self.L.write_faults link) (told self.old).write_faults (told self.new).write_faults }
+        ensures stays { (k : ℕ) (read text : List ℕ) → permits self.old k read text → permits self.new k read text }
         ensures rest { SameDoor (told self.old) (told self.new) };
 }

@@ -106,16 +106,20 @@ fn write_through<T: Write>(inner: &mut T, piece: &[u8]) -> io::Result<usize>
 }
 
 impl<T: Write + Drop> Sink for FileIo<T> {
-    ghost use Rattle.std.specs.Prelude.{◌<◌, None};
+    ghost use Rattle.std.specs.Prelude.{refl, ◌<◌, None};
     ghost use Rattle.foundation.specs.Faults.{HasCause};
     ghost use Rattle.edge_io.specs.Counts.{CountsFault};
     ghost use Rattle.edge_io.specs.FileIo.{inner_of, read_errors_of, write_errors_of};
 
     ghost taken = { λ _. None };
 
+    ghost permits = { λ _ _. Unit {0} };
+
     ghost write_faults = { λ file. write_errors_of file };
 
     ghost write_apart = { λ x y. read_errors_of y ≡ read_errors_of x };
+
+    ghost permits_last = { λ _ _ _. (λ _ _. tt, λ _. refl) };
 
     ghost apart_refl = { λ _. Prim.cc };
 

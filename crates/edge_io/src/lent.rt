@@ -34,9 +34,13 @@ impl<S: Source> Source for &mut S {
 impl<K: Sink> Sink for &mut K {
     ghost taken = { λ k. K.taken k.now };
 
+    ghost permits = { λ k. K.permits k.now };
+
     ghost write_faults = { λ k. K.write_faults k.now };
 
     ghost write_apart = { λ x y. K.write_apart x.now y.now };
+
+    ghost permits_last = { λ x y. K.permits_last x.now y.now };
 
     ghost apart_refl = { λ x. K.apart_refl x.now };
 

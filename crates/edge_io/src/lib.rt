@@ -34,7 +34,7 @@ pub use file_io::FileIo;
 pub use link::Link;
 pub use mem_door::{Finished, MemDoor};
 pub use mem_link::MemLink;
-pub use mem_net::{Hung, MemNet};
+pub use mem_net::{BoundDoors, Hung, MemNet};
 pub use mem_place::MemPlace;
 pub use mem_script::MemScript;
 pub use mem_sink::MemSink;

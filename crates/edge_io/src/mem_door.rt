@@ -10,7 +10,7 @@ use std::alloc::{AllocError, Global};
 use std::collections::VecDeque;
 
 /// A connection that was served and given back to a door in memory.
-#[derive(Debug, Drop)]
+#[derive(Drop)]
 pub struct Finished {
     /// Its protocol.
     pub proto: Proto,
@@ -107,6 +107,8 @@ impl Door for MemDoor {
     type L = MemLink;
 
     ghost told = { λ door. state_of door };
+
+    ghost permits = { λ _ _ _ _. Unit {0} };
 
     /// The accept fails exactly where its number is listed, and else gives the first of the links that wait.
     fn accept(&mut self) -> Result<Option<MemLink>, AcceptFault>

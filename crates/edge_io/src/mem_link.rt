@@ -135,9 +135,13 @@ impl Sink for MemLink {
 
     ghost taken = { λ link. Some (taken_of (sink_of link)) };
 
+    ghost permits = { λ _ _. Unit {0} };
+
     ghost write_faults = { λ link. faults_of (sink_of link) };
 
     ghost write_apart = { λ x y. (source_of y ≡ source_of x) × (place_of y ≡ place_of x) };
+
+    ghost permits_last = { λ _ _ _. (λ _ _. tt, λ none. absurd Prim.cc) };
 
     ghost apart_refl = { λ _. (Prim.cc, Prim.cc) };
 

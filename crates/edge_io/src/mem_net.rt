@@ -10,7 +10,7 @@ use crate::{MemDoor, MemLink, MemPlace, MemScript, Net, NetFault, Object, Pause}
 use std::alloc::{AllocError, Global};
 
 /// A link that was hung up by a net in memory.
-#[derive(Debug, Drop)]
+#[derive(Drop)]
 pub struct Hung {
     /// The place at which it was dialed.
     pub place: String,
@@ -22,6 +22,15 @@ pub struct Hung {
     pub left: u64,
 }
 
+/// Doors that a net in memory bound together.
+#[derive(Drop)]
+pub struct BoundDoors {
+    /// Their place.
+    pub place: String,
+    /// How many they are.
+    pub doors: u32,
+}
+
 /// A net that binds the doors that it was made with and dials links by scripts, and whose binds and dials fail at
 /// the calls that it was given. It tells all.
 #[derive(Drop)]
@@ -30,6 +39,7 @@ pub struct MemNet {
     places: Vec<MemPlace>,
     scripts: Vec<MemScript>,
     calls: Script,
+    bound: Vec<BoundDoors>,
     hung: Vec<Hung>,
     open: usize,
     faults: u64,
@@ -81,7 +91,7 @@ impl MemNet {
     ghost use Rattle.std.specs.Prelude.{Some, [], map};
     ghost use Rattle.foundation.specs.Faults.{Rose};
     ghost use Rattle.edge_io.specs.Script.{call_number, failing_numbers};
-    ghost use Rattle.edge_io.specs.MemNet.{calls_of, places_of, scripts_of, hung_of, hung_up_of, state_of, fault_counted};
+    ghost use Rattle.edge_io.specs.MemNet.{calls_of, places_of, scripts_of, bound_of, bound_by, hung_of, hung_up_of, state_of, fault_counted};
 
     /// A net that binds these doors and dials links by these scripts. Where two have one place, the first counts.
     /// `failing` lists the numbers, from 0, of the calls of `bind` and `dial` that fail, in any order. Such a call
@@ -94,7 +104,7 @@ impl MemNet {
     ) -> MemNet
         ensures places { places_of result ≡ doors.items }
         ensures scripts { scripts_of result ≡ scripts.items }
-        ensures told { state_of result ≡ record { hung = Some []; net_faults = 0; read_faults = 0; write_faults = 0 } }
+        ensures told { state_of result ≡ record { bound = Some []; hung = Some []; net_faults = 0; read_faults = 0; write_faults = 0 } }
         ensures failing { failing_numbers (calls_of result) ≡ failing.items }
         ensures first { call_number (calls_of result) ≡ 0 }
     {
@@ -103,12 +113,20 @@ impl MemNet {
             places: doors,
             scripts,
             calls: Script::of(failing),
+            bound: Vec::new(alloc),
             hung: Vec::new(alloc),
             open: 0,
             faults: 0,
             read_faults: 0,
             write_faults: 0,
         }
+    }
+
+    /// The doors that were bound, in order.
+    pub fn bound(&self) -> &[BoundDoors]
+        ensures { bound_by self.now ≡ map bound_of result.now }
+    {
+        &self.bound
     }
 
     /// The links that were hung up, in order.
@@ -154,7 +172,7 @@ impl Net for MemNet {
     ghost use Rattle.edge_io.specs.Counts.{Gains};
     ghost use Rattle.edge_io.specs.Told.{IsFresh, IsDialed};
     ghost use Rattle.edge_io.specs.Door.{IsNewDoor};
-    ghost use Rattle.edge_io.specs.Net.{SameHung, HasNetCause, AddsHung, IsHungUp};
+    ghost use Rattle.edge_io.specs.Net.{AddsBound, SameHung, HasNetCause, AddsHung, IsHungUp};
     ghost use Rattle.edge_io.specs.MemLink.{place_of as link_place, source_of, sink_of};
     ghost use Rattle.edge_io.specs.MemSource.{given_of, left_of, faults_of as link_read_faults};
     ghost use Rattle.edge_io.specs.MemSink.{taken_of, faults_of as link_write_faults};
@@ -167,6 +185,12 @@ impl Net for MemNet {
 
     ghost told = { λ net. state_of net };
 
+    ghost may_bind = { λ _. Unit {0} };
+
+    ghost may_dial = { λ _. Unit {0} };
+
+    ghost permits = { λ _ _ _ _ _. Unit {0} };
+
     ghost has_room = { λ net. has_room_for_one net };
 
     /// The first `doors` doors that are left at the place. After want of memory some of them may be gone.
@@ -174,6 +198,7 @@ impl Net for MemNet {
         ensures count { IfOk result (λ made. length made.items ≡ doors) }
         ensures fresh { IfOk result (λ made. All (λ door. IsNewDoor place.now (door_state door)) made.items) }
         ensures cause { HasNetCause (state_of self.old).net_faults (state_of self.new).net_faults result }
+        ensures bound { AddsBound place.now doors result (state_of self.old).bound (state_of self.new).bound }
         ensures rest { SameHung (state_of self.old) (state_of self.new) }
         ensures exact { BindsExactly place.now doors self.old self.new result }
     {
@@ -182,10 +207,14 @@ impl Net for MemNet {
             self.count_fault();
             return Err(NetFault::Fault);
         }
-        match bind_at(&mut self.places, self.alloc, place, count) {
-            Ok(bound) => Ok(bound),
-            Err(_) => Err(NetFault::NoMemory),
-        }
+        let bound = BoundDoors {
+            place: String::from_str(self.alloc, place)?,
+            doors,
+        };
+        self.bound.reserve(1)?;
+        let made = bind_at(&mut self.places, self.alloc, place, count)?;
+        self.bound.push_reserved(bound);
+        Ok(made)
     }
 
     /// A link with the script of the place. The dial takes the memory for telling that the link was hung up.
@@ -195,6 +224,7 @@ impl Net for MemNet {
             (Some (given_of (source_of link))) (Some (taken_of (sink_of link))) (Some (left_of (source_of link)))) }
         ensures room { OnOk result (has_room_for_one self.new) }
         ensures cause { HasNetCause (state_of self.old).net_faults (state_of self.new).net_faults result }
+        ensures bound { (state_of self.new).bound ≡ (state_of self.old).bound }
         ensures rest { SameHung (state_of self.old) (state_of self.new) }
         ensures exact { DialsExactly place.now self.old self.new result }
     {
@@ -220,6 +250,7 @@ impl Net for MemNet {
         ensures reads { Gains (link_read_faults (source_of link)) (state_of self.old).read_faults (state_of self.new).read_faults }
         ensures writes { Gains (link_write_faults (sink_of link)) (state_of self.old).write_faults (state_of self.new).write_faults }
         ensures quiet { (state_of self.new).net_faults ≡ (state_of self.old).net_faults }
+        ensures bound { (state_of self.new).bound ≡ (state_of self.old).bound }
         ensures setup { SameSetup self.old self.new }
     {
         let used = link.used();
@@ -236,6 +267,8 @@ impl Net for MemNet {
             self.hung.push_reserved(hung);
         }
     }
+
+    ghost dialed_is_free = { λ _ _. tt };
 
     ghost pauses_keep = { λ x y same. Prim.cc };
 

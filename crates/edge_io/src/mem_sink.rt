@@ -84,9 +84,13 @@ impl Sink for MemSink {
 
     ghost taken = { λ sink. Some (taken_of sink) };
 
+    ghost permits = { λ _ _. Unit {0} };
+
     ghost write_faults = { λ sink. faults_of sink };
 
     ghost write_apart = { λ _ _. Unit {0} };
+
+    ghost permits_last = { λ _ _ _. (λ _ _. tt, λ none. absurd Prim.cc) };
 
     ghost apart_refl = { λ _. tt };
 

@@ -1,14 +1,14 @@
 //! Doors that are bound and links that are dialed.
-ghost use Rattle.std.specs.Prelude.{◌≡◌, IfOk, OnOk, length, All};
+ghost use Rattle.std.specs.Prelude.{◌≡◌, ℕ, List, Some, IfOk, OnOk, length, slice_get, All};
 ghost use Rattle.edge_io.specs.Counts.{Gains};
 ghost use Rattle.edge_io.specs.Told.{IsFresh, IsDialed};
 ghost use Rattle.edge_io.specs.Door.{IsNewDoor};
-ghost use Rattle.edge_io.specs.Net.{NetState, SameHung, HasNetCause, AddsHung, IsHungUp};
+ghost use Rattle.edge_io.specs.Net.{NetState, AddsBound, SameHung, HasNetCause, AddsHung, IsHungUp};
 
 use crate::{Door, Link, NetFault, Pause};
 
-/// An object that binds doors, and dials links and hangs them up. It may tell which links were hung up;
-/// one that tells nothing, as the sockets of a system, has `None` for them.
+/// An object that binds doors, and dials links and hangs them up. It may tell which doors were bound and which links
+/// were hung up; one that tells nothing, as the sockets of a system, has `None` for them.
 pub trait Net: Pause {
     /// The links that are dialed.
     type L: Link;
@@ -19,26 +19,42 @@ pub trait Net: Pause {
     /// What the net tells.
     ghost told: { Self → NetState };
 
+    /// Doors may be bound at that place.
+    ghost may_bind: { List ℕ → Type 0 };
+
+    /// That place may be dialed.
+    ghost may_dial: { List ℕ → Type 0 };
+
+    /// What may be written to a link that came in at that place: by the number of its door among those that were bound there
+    /// together, the number of the link at its door, both from 0, and by what was read from it.
+    ghost permits: { List ℕ → ℕ → ℕ → List ℕ → List ℕ → Type 0 };
+
     /// The net has room to tell of one link more that is hung up. A dial makes it.
     ghost has_room: { Self → Type 0 };
 
     /// Binds `doors` doors at the place, which serve it together. Each is new: no link was accepted, and none
-    /// was given back. `Fault` comes only where the net's own count of faults rose in this call.
+    /// was given back. After a fault none is bound. `Fault` comes only where the net's own count of faults rose in this call.
     fn bind(&mut self, place: &str, doors: u32) -> Result<Vec<Self::P>, NetFault>
+        requires named { may_bind place.now }
         ensures count { IfOk result (λ made. length made.items ≡ doors) }
+        ensures permits { IfOk result (λ made. (i : ℕ) (door : Self.P) → slice_get made.items i ≡ Some door
+            → (k : ℕ) (read text : List ℕ) → permits place.now i k read text → Self.P.permits door k read text) }
         ensures fresh { IfOk result (λ made. All (λ door. IsNewDoor place.now (Self.P.told door)) made.items) }
         ensures cause { HasNetCause (told self.old).net_faults (told self.new).net_faults result }
+        ensures bound { AddsBound place.now doors result (told self.old).bound (told self.new).bound }
         ensures rest { SameHung (told self.old) (told self.new) }
         ensures same { Self.same self.old self.new };
 
     /// Dials the place: the link has given and taken no byte. `Fault` comes only where the net's own count of
     /// faults rose in this call.
     fn dial(&mut self, place: &str) -> Result<Self::L, NetFault>
+        requires named { may_dial place.now }
         ensures place { IfOk result (λ link. IsDialed (told self.old).hung (Self.L.dialed link) place.now) }
         ensures fresh { IfOk result (λ link. IsFresh (told self.old).hung
             (Self.L.given link) (Self.L.taken link) (Self.L.left link)) }
         ensures room { OnOk result (has_room self.new) }
         ensures cause { HasNetCause (told self.old).net_faults (told self.new).net_faults result }
+        ensures bound { (told self.new).bound ≡ (told self.old).bound }
         ensures rest { SameHung (told self.old) (told self.new) }
         ensures same { Self.same self.old self.new };
 
@@ -51,7 +67,11 @@ pub trait Net: Pause {
         ensures reads { Gains (Self.L.read_faults link) (told self.old).read_faults (told self.new).read_faults }
         ensures writes { Gains (Self.L.write_faults link) (told self.old).write_faults (told self.new).write_faults }
         ensures quiet { (told self.new).net_faults ≡ (told self.old).net_faults }
+        ensures bound { (told self.new).bound ≡ (told self.old).bound }
         ensures same { Self.same self.old self.new };
+
+    /// Any text may be written to a link that was dialed.
+    ghost dialed_is_free: { (link : Self.L) (text : List ℕ) → Self.L.permits link text };
 
     /// A pause changes nothing that the net tells.
     ghost pauses_keep: { (x y : Self) → Self.pause_apart x y → told y ≡ told x };

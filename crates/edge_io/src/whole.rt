@@ -2,6 +2,7 @@
 ghost use Rattle.std.specs.Prelude.{◌<◌, take, length, IfErr, OnOk};
 ghost use Rattle.std.specs.Io.KnownBytes.{Appends};
 ghost use Rattle.foundation.specs.Faults.{HasCause};
+ghost use Rattle.edge_io.specs.Told.{MayFollow};
 
 use crate::Sink;
 
@@ -12,11 +13,13 @@ pub struct Stopped {
     pub sent: usize,
 }
 
-/// Writes the whole piece, in as many writes as the sink needs. It takes no memory.
+/// Writes the whole piece, which the sink may take, in as many writes as the sink needs. It takes no memory.
 ///
 /// `Ok`: the whole piece was taken and no write failed. `Stopped`: a write failed, so the sink's count of
 /// faults has risen, and exactly the first `sent` bytes of the piece were taken.
 pub fn write_whole<K: Sink>(sink: &mut K, piece: &[u8]) -> Result<(), Stopped>
+    requires permitted { MayFollow (K.permits sink.old) (K.taken sink.old) piece.now }
+
     ensures whole { OnOk result (Appends (K.taken sink.old) (K.taken sink.new) piece.now) }
     ensures part { IfErr result (λ stopped. (stopped.sent < length piece.now)
         × Appends (K.taken sink.old) (K.taken sink.new) (take stopped.sent piece.now)) }

@@ -91,6 +91,8 @@ impl<R: Clock + Eprint> Door for TcpDoor<'_, R> {
 
     ghost told = { λ door. state_of door };
 
+    ghost permits = { λ _ _ _ _. Unit {0} };
+
     /// Accepts the next connection. An error that passes is waited out and counts nothing, whether it is the connection's own, as
     /// where its peer went before it was accepted, or want of descriptors or memory; standard error says so, once a minute at
     /// most for a place. An error that lasts is a fault: the socket can't accept.

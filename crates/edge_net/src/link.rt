@@ -169,14 +169,18 @@ impl Source for TcpLink {
 }
 
 impl Sink for TcpLink {
-    ghost use Rattle.std.specs.Prelude.{None};
+    ghost use Rattle.std.specs.Prelude.{None, refl};
     ghost use Rattle.edge_net.specs.TcpLink.{place_of, read_errors_of, write_errors_of};
 
     ghost taken = { λ _. None };
 
+    ghost permits = { λ _ _. Unit {0} };
+
     ghost write_faults = { λ link. write_errors_of link };
 
     ghost write_apart = { λ x y. (read_errors_of y ≡ read_errors_of x) × (place_of y ≡ place_of x) };
+
+    ghost permits_last = { λ _ _ _. (λ _ _. tt, λ _. refl) };
 
     ghost apart_refl = { λ _. (Prim.cc, Prim.cc) };
 

@@ -39,14 +39,14 @@ impl<'a, R> TcpNet<'a, R> {
 
     /// A net with no error so far, whose links wait as those of the program.
     pub fn new(alloc: Global, rt: &'a R) -> TcpNet<'a, R>
-        ensures { state_of result ≡ record { hung = None; net_faults = 0; read_faults = 0; write_faults = 0 } }
+        ensures { state_of result ≡ record { bound = None; hung = None; net_faults = 0; read_faults = 0; write_faults = 0 } }
     {
         TcpNet::with_waits(alloc, rt, Waits::standard())
     }
 
     /// A net with no error so far, whose doors and links wait so long.
     pub fn with_waits(alloc: Global, rt: &'a R, waits: Waits) -> TcpNet<'a, R>
-        ensures { state_of result ≡ record { hung = None; net_faults = 0; read_faults = 0; write_faults = 0 } }
+        ensures { state_of result ≡ record { bound = None; hung = None; net_faults = 0; read_faults = 0; write_faults = 0 } }
     {
         TcpNet {
             alloc,
@@ -173,6 +173,12 @@ impl<'a, R: net::Net<Stream = TcpStream, Listener = TcpListener> + Clock + Eprin
 
     ghost told = { λ net. state_of net };
 
+    ghost may_bind = { λ _. Unit {0} };
+
+    ghost may_dial = { λ _. Unit {0} };
+
+    ghost permits = { λ _ _ _ _ _. Unit {0} };
+
     ghost has_room = { λ _. Unit {0} };
 
     /// Listens at the place, with one socket for all the doors. A port that is taken is a fault.
@@ -212,6 +218,8 @@ impl<'a, R: net::Net<Stream = TcpStream, Listener = TcpListener> + Clock + Eprin
         self.read_errors = self.read_errors.saturating_add(link.read_errors());
         self.write_errors = self.write_errors.saturating_add(link.write_errors());
     }
+
+    ghost dialed_is_free = { λ _ _. tt };
 
     ghost pauses_keep = { λ x y same. same };
 

@@ -14,7 +14,7 @@ const DIALED_SECONDS: u64 = 90;
 const ROLL_SECONDS: u64 = 3;
 
 /// How long the calls of a net wait, and those of its doors and links.
-#[derive(Clone, Copy, Debug, PartialEq, Eq)]
+#[derive(Clone, Copy, PartialEq, Eq)]
 pub struct Waits {
     /// How long a read or a write of a link that was accepted waits for its peer. It is above 0.
     pub accepted: Duration,

@@ -1,3 +1,4 @@
+pub mod Free
 pub mod Joining
 pub mod CallLists
 pub mod Numbered

@@ -1,5 +1,5 @@
 //! Forwarding what a desk holds.
-ghost use Rattle.std.specs.Prelude.{◌≡◌, ◌<◌, ℕ};
+ghost use Rattle.std.specs.Prelude.{◌≡◌, ◌<◌, ℕ, List};
 ghost use Rattle.forward_core.specs.Forwarded.{Asked, CountsFaults, CountsWrites, Forwards};
 ghost use Rattle.forward_core.specs.Protocols.{EndsAs, HintsAs, settings_as};
 ghost use Rattle.forward_core.specs.Turning.{IsHalt};
@@ -18,7 +18,8 @@ use std::alloc::Global;
 
 /// Sends the entries from the desk's cursor to its end, as both stand at its start, to the peer of the link, in the
 /// order of their numbers, and marks those that the peer acknowledges as known. Entries that are known already are
-/// passed over. They are read in batches of 128.
+/// passed over. They are read in batches of 128. Any text may be written to links of this type, as to those
+/// that a net dials.
 ///
 /// What is acknowledged is marked before each read of the peer's bytes, before each reading of entries, and at each
 /// ending but want of memory and a refusal by the desk. A mark that is refused at an ending is the ending in its place.
@@ -40,6 +41,7 @@ pub fn forward<L: Link, A: Access, Z: Pause>(
     access: &mut A,
     rest: &mut Z,
 ) -> Sent
+    requires free { (link : L) (text : List ℕ) → L.permits link text }
     requires polls { 0 < outward.now.polls }
     requires may { A.may_confirm access.old }
 

@@ -1,5 +1,5 @@
 //! One session: what is done for each turn of the sender.
-ghost use Rattle.std.specs.Prelude.{◌≡◌, ◌<◌, ◌≤◌, ◌^◌, ◌∷◌, [], false, IfErr, IfNone, IfSome, OnOk, IsErrAnd, IsErrOf};
+ghost use Rattle.std.specs.Prelude.{◌≡◌, ◌<◌, ◌≤◌, ◌^◌, ◌∷◌, [], ℕ, List, false, IfErr, IfNone, IfSome, OnOk, IsErrAnd, IsErrOf};
 ghost use Rattle.forward_core.specs.Acting.{GoesOn};
 ghost use Rattle.forward_core.specs.Course.{below, work_left};
 ghost use Rattle.forward_core.specs.Forwarded.{CountsFaults, CountsWrites, Forwards};
@@ -48,6 +48,7 @@ fn step<L: Link, A: Access, Z: Pause, S: Outgoing>(
     course: &mut Course,
     total: &mut u64,
 ) -> Result<(), Sent>
+    requires free { (link : L) (text : List ℕ) → L.permits link text }
     requires may { A.may_confirm access.old }
     requires end { course.old.end ≤ A.end_known access.old }
     requires agrees { Agrees (S.given sender.old) (S.told sender.old) (S.first sender.old) (S.finished sender.old) course.old }
@@ -108,6 +109,7 @@ pub(crate) fn run<L: Link, A: Access, Z: Pause, S: Outgoing>(
     sender: &mut S,
     course: &mut Course,
 ) -> Sent
+    requires free { (link : L) (text : List ℕ) → L.permits link text }
     requires may { A.may_confirm access.old }
     requires end { course.old.end ≤ A.end_known access.old }
     requires given { course.old.given ≡ 0 }

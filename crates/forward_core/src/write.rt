@@ -1,5 +1,5 @@
 //! Writing to the peer.
-ghost use Rattle.std.specs.Prelude.{◌≡◌, ◌<◌, ◌≤◌, ◌∷◌, [], ℕ, length, take, IfErr, OnOk, IsErrOf, IsErrAnd};
+ghost use Rattle.std.specs.Prelude.{◌≡◌, ◌<◌, ◌≤◌, ◌∷◌, [], ℕ, List, length, take, IfErr, OnOk, IsErrOf, IsErrAnd};
 ghost use Rattle.std.specs.Io.KnownBytes.{Appends};
 ghost use Rattle.desk_access.specs.Call.{Call};
 ghost use Rattle.forward_core.specs.Forwarded.{CountsWrites};
@@ -13,13 +13,14 @@ use crate::sent::Sent;
 use desk_access::Access;
 use edge_io::{Link, write_whole};
 
-/// Writes a text. The error is the ending: a write failed, and what is told was marked, or that was refused.
+/// Writes a text to a link that takes any. The error is the ending: a write failed, and what is told was marked, or that was refused.
 pub(crate) fn write<L: Link, A: Access>(
     link: &mut L,
     access: &mut A,
     course: &mut Course,
     text: &[u8],
 ) -> Result<(), Sent>
+    requires free { (link : L) (text : List ℕ) → L.permits link text }
     requires may { A.may_confirm access.old }
     requires end { course.old.end ≤ A.end_known access.old }
 

@@ -55,9 +55,13 @@ impl Sink for Catch {
 
     ghost taken = { λ catch. Some (taken_of catch.sink) };
 
+    ghost permits = { λ _ _. Unit {0} };
+
     ghost write_faults = { λ catch. faults_of catch.sink };
 
     ghost write_apart = { λ _ _. Unit {0} };
+
+    ghost permits_last = { λ _ _ _. (λ _ _. tt, λ none. absurd Prim.cc) };
 
     ghost apart_refl = { λ _. tt };
 

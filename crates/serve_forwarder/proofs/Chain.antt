@@ -120,6 +120,26 @@ looks_keep_counts start outward place (look ∷ looks) pass pass' net net' a =
     let more = looks_keep_counts start outward place looks a.0 pass' a.1 net' a.3 in
     record { net_faults = omega (arith, here.net_faults, more.net_faults); reads = omega (arith, here.reads, more.reads); writes = omega (arith, here.writes, more.writes) }
 
+-- ---- doors
+
+found_binds_none : (place : List ℕ) (found : Found) (net net' : NetState) → IsToldBy place found net net' → net'.bound ≡ net.bound
+found_binds_none place Idle net net' t = ap (λ (n : NetState). n.bound) t
+found_binds_none place (Unread _) net net' t = ap (λ (n : NetState). n.bound) t
+found_binds_none place (Undialed why) net net' t = t.2
+found_binds_none place (Held one) net net' t = t.bound
+
+-- a look binds no door
+pub look_binds_none : (start : DeskState → Type 0) (outward : Outward) (place : List ℕ) (look : Look) (pass pass' : Known) (net net' : NetState)
+    → IsLook start outward place look pass pass' net net' → net'.bound ≡ net.bound
+look_binds_none start outward place look pass pass' net net' l = found_binds_none place look.found net net' l.told
+
+-- nor do looks one after another
+pub looks_bind_none : (start : DeskState → Type 0) (outward : Outward) (place : List ℕ) (looks : List Look) (pass pass' : Known) (net net' : NetState)
+    → AreLooks start outward place looks pass pass' net net' → net'.bound ≡ net.bound
+looks_bind_none start outward place [] pass pass' net net' a = ap (λ (n : NetState). n.bound) a.1
+looks_bind_none start outward place (look ∷ looks) pass pass' net net' a =
+    looks_bind_none start outward place looks a.0 pass' a.1 net' a.3 ∙ look_binds_none start outward place look pass a.0 net a.1 a.2
+
 -- ---- ends of input
 
 none_left : (left : Option (List ℕ)) (rest : List ℕ) → left ≡ Some rest → IsAtEnd left → length rest ≡ 0

@@ -70,13 +70,13 @@ session_of start until bytes calls text left sent = record { start = start; unti
 
 -- The net before the dial, after it, after the session, in which it was only paused, and after the link was hung up.
 pub hangs_up : (place : List ℕ) (one : Session) (old after paused new : NetState) (HasRoom : Type 0) (dialed dialed' given given' left taken taken' : Option (List ℕ)) (m n m' n' : ℕ)
-    → SameHung old after → after.net_faults ≡ old.net_faults → paused ≡ after → HasRoom
+    → SameHung old after → after.net_faults ≡ old.net_faults → after.bound ≡ old.bound → paused ≡ after → HasRoom
     → IsDialed old.hung dialed place → dialed' ≡ dialed → IsFresh old.hung given taken left
     → Appends given given' one.bytes → Consumes left one.left one.bytes → Appends taken taken' one.text
     → CountsFaults (one.sent ≡ ReadFault) m n → CountsWrites (one.sent ≡ WriteFault) (IsHalt one.sent) m' n'
     → AddsHung HasRoom paused.hung new.hung (IsHungUp dialed' given' taken' one.left) → Gains n paused.read_faults new.read_faults → Gains n' paused.write_faults new.write_faults → new.net_faults ≡ paused.net_faults
-    → HangsUp place one old new
-hangs_up place one old after paused new HasRoom dialed dialed' given given' left taken taken' m n m' n' rest quiet pauses room there same fresh read consumed wrote reads writes adds gains gains' kept =
+    → new.bound ≡ paused.bound → HangsUp place one old new
+hangs_up place one old after paused new HasRoom dialed dialed' given given' left taken taken' m n m' n' rest quiet unbound pauses room there same fresh read consumed wrote reads writes adds gains gains' kept binds =
     let hung = ap (λ (t : NetState). t.hung) pauses ∙ rest.hung in
     let adds_there = subst (λ (d : Option (List ℕ)). AddsHung HasRoom paused.hung new.hung (IsHungUp d given' taken' one.left)) same adds in
     record {
@@ -84,4 +84,5 @@ hangs_up place one old after paused new HasRoom dialed dialed' given given' left
       reads = link_counts (one.sent ≡ ReadFault) n m old.read_faults paused.read_faults new.read_faults (ap (λ (t : NetState). t.read_faults) pauses ∙ rest.read_faults) reads.cause gains;
       writes = link_counts (one.sent ≡ WriteFault) n' m' old.write_faults paused.write_faults new.write_faults (ap (λ (t : NetState). t.write_faults) pauses ∙ rest.write_faults) writes.cause gains';
       net_faults = kept ∙ ap (λ (t : NetState). t.net_faults) pauses ∙ quiet;
+      bound = binds ∙ ap (λ (t : NetState). t.bound) pauses ∙ unbound;
     }

@@ -30,6 +30,11 @@ abbrev pub LooksKeepCounts : (DeskState → Type 0) → Type 0
 LooksKeepCounts start = (outward : Outward) (place : List ℕ) (looks : List Look) (pass pass' : Known) (net net' : NetState)
     → AreLooks start outward place looks pass pass' net net' → KeepsCounts net net'
 
+-- what the net tells of the doors that were bound stays
+abbrev pub LooksBindNone : (DeskState → Type 0) → Type 0
+LooksBindNone start = (outward : Outward) (place : List ℕ) (looks : List Look) (pass pass' : Known) (net net' : NetState)
+    → AreLooks start outward place looks pass pass' net net' → net'.bound ≡ net.bound
+
 -- Where a session ended as the peer closed it, the peer's bytes say so, or no byte of its link is left unread.
 abbrev pub ClosedIsReadOut : (DeskState → Type 0) → Type 0
 ClosedIsReadOut start = (outward : Outward) (place : List ℕ) (one : Session) (told : HungUp) (pass pass' : Known)

@@ -66,9 +66,11 @@ IsFound start outward given (Unread fault) pass pass' = (given ≡ Err fault) ×
 IsFound start outward given (Undialed _) pass pass' = IsPending given × (pass' ≡ pass)
 IsFound start outward given (Held one) pass pass' = IsPending given × IsHeld start outward one pass pass'
 
--- A dial failed: no link is added to those hung up, and the count of binds and dials that failed rose, unless memory was wanting.
+-- A dial failed: no link is added to those hung up, and the count of binds and dials that failed rose, unless memory was wanting. No
+-- door was bound.
 abbrev pub FailsDial : NetFault → NetState → NetState → Type 0
-FailsDial fault net net' = SameHung net net' × HasNetCause {T = Unit {0}} net.net_faults net'.net_faults (Err fault)
+FailsDial fault net net' =
+    SameHung net net' × HasNetCause {T = Unit {0}} net.net_faults net'.net_faults (Err fault) × (net'.bound ≡ net.bound)
 
 -- What the net reports more after a look: nothing where nothing was dialed, and of a session its link.
 abbrev pub IsToldBy : List ℕ → Found → NetState → NetState → Type 0

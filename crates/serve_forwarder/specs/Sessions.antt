@@ -68,9 +68,10 @@ pub record RoseBy (fault : Type 0) (before now : ℕ) : Type 0 where
   pub cause : fault → Rose 1 before now
 
 -- The link of a session was dialed at the place and is hung up. Its reads and writes that failed are added to the net's counts, and
--- the count of binds and dials that failed stays.
+-- the count of binds and dials that failed stays. No door was bound.
 pub record HangsUp (place : List ℕ) (one : Session) (net net' : NetState) : Type 0 where
   pub hung : Adds net.hung net'.hung (TellsSession place one)
   pub reads : RoseBy (one.sent ≡ ReadFault) net.read_faults net'.read_faults
   pub writes : RoseBy (one.sent ≡ WriteFault) net.write_faults net'.write_faults
   pub net_faults : net'.net_faults ≡ net.net_faults
+  pub bound : net'.bound ≡ net.bound

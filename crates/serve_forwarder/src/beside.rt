@@ -16,7 +16,8 @@ use std::sync::atomic::{AtomicBool, Ordering};
 /// read before each look, so that a session that has begun is held to its end.
 ///
 /// After a session that ended as `Drained` (all entries up to its end were sent, and the peer acknowledged them) it looks again at
-/// once. After any other outcome, as where nothing is pending, it pauses first, for as long as `net` says.
+/// once. After any other outcome, as where nothing is pending, it pauses first, for as long as `net` says. The destination's place is
+/// one that may be dialed.
 pub fn forward_beside<N: Net, D: Disk, J: Naming, R: Wait>(
     alloc: Global,
     destination: &Destination,
@@ -26,6 +27,7 @@ pub fn forward_beside<N: Net, D: Disk, J: Naming, R: Wait>(
 )
     requires confirms { seated.old.pass.number + 1 ≡ J.seats }
     requires polls { 0 < destination.now.outward.polls }
+    requires named { N.may_dial destination.now.place }
 
     ensures { (looks : List Look) × AreLooks J.start destination.now.outward destination.now.place looks seated.old.pass seated.new.pass
         (N.told net.old) (N.told net.new) }

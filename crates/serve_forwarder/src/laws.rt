@@ -1,5 +1,5 @@
 //! What holds of looks and of their sessions. These functions do nothing: each has a law as its contract.
-ghost use Rattle.serve_forwarder.specs.Laws.{ClosedIsReadOut, LooksCall, LooksKeepCounts, LooksTell};
+ghost use Rattle.serve_forwarder.specs.Laws.{ClosedIsReadOut, LooksBindNone, LooksCall, LooksKeepCounts, LooksTell};
 
 use spool_turns::Naming;
 
@@ -18,6 +18,11 @@ pub fn looks_tell_their_sessions<J: Naming>()
 /// Over looks no count of faults of the net falls. So a fault that one of them met is still counted after the last.
 pub fn looks_keep_counts<J: Naming>()
     ensures { LooksKeepCounts J.start }
+{}
+
+/// Looks bind no door: what the net tells of the doors that were bound is as before.
+pub fn looks_bind_none<J: Naming>()
+    ensures { LooksBindNone J.start }
 {}
 
 /// Where a session ended as `PeerClosed`, the bytes read have a frame by which the peer says that it closes the session, as a peer of

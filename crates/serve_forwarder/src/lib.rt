@@ -14,7 +14,7 @@ mod looking;
 pub use beside::forward_beside;
 pub use destination::Destination;
 pub use laws::{
-    closed_links_are_read_out, looks_are_of_their_calls, looks_keep_counts,
+    closed_links_are_read_out, looks_are_of_their_calls, looks_bind_none, looks_keep_counts,
     looks_tell_their_sessions,
 };
 pub use looking::{Outcome, look};

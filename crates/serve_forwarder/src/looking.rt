@@ -35,6 +35,7 @@ fn hold<N: Net, A: Access>(
 ) -> Result<Sent, NetFault>
     requires confirms { A.may_confirm access.old }
     requires polls { 0 < destination.now.outward.polls }
+    requires named { N.may_dial destination.now.place }
 
     ensures held { IfOk result (λ sent. (one : Session) × IsHeldBy A.ran A.cursor_known A.end_known A.seen destination.now.outward one access.old access.new
         × HangsUp destination.now.place one (N.told net.old) (N.told net.new) × (sent ≡ one.sent)) }
@@ -53,8 +54,8 @@ fn hold<N: Net, A: Access>(
 /// session over the link, which sends from the desk's cursor up to its end, and hangs the link up. It waits until the session has
 /// ended.
 ///
-/// The pass is the one that may confirm, which has the greatest number. `polls` of the destination, above 0, is how often at most a
-/// collector is asked whether a request is acknowledged.
+/// The pass is the one that may confirm, which has the greatest number. The destination's place is one that may be dialed. `polls` of
+/// the destination, above 0, is how often at most a collector is asked whether a request is acknowledged.
 ///
 /// Where the desk is in doubt, as after a call of the disk that failed, the question first finds out what the disk holds. `Unread`
 /// comes where the desk refuses the question, `Undialed` where the dial fails or finds no memory. At each outcome but `Held` the
@@ -67,6 +68,7 @@ pub fn look<N: Net, D: Disk, J: Naming, R: Wait>(
 ) -> Outcome
     requires confirms { seated.old.pass.number + 1 ≡ J.seats }
     requires polls { 0 < destination.now.outward.polls }
+    requires named { N.may_dial destination.now.place }
 
     ensures { (one : Look) × IsLook J.start destination.now.outward destination.now.place one seated.old.pass seated.new.pass (N.told net.old) (N.told net.new)
         × (result ≡ outcome_of one.found) }

@@ -3,6 +3,7 @@ use Rattle.std.proofs.Common.{◌≡◌, ℕ, ◌+◌, ◌<◌, ◌==◌, Bool, 
 use Rattle.std.specs.Prelude.{Some}
 use Rattle.std.specs.List.{All, AllZip}
 use Rattle.std.proofs.lemmas.Bool.{eqb-true}
+use Rattle.std.proofs.lemmas.List.{append-nil}
 use Rattle.std.proofs.lemmas.List.Elements.{All-nil, All-cons, All-head, All-tail}
 use Rattle.event_form.specs.declared.event.Entry.{Entry}
 use Rattle.event_form.specs.declared.talk.Talk.{Talk}
@@ -10,6 +11,8 @@ use Rattle.edge_io.specs.Door.{Talked}
 use Rattle.edge_io.specs.declared.proto.Proto.{Proto}
 use Rattle.edge_io.specs.declared.proto.Proto.TheVariants.{Relp, Lumberjack, Hec}
 use Rattle.edge_disk.specs.Disk.{Moment}
+use Rattle.spool_state.specs.Image.{StandsFor}
+use Rattle.spool_state.specs.SpoolState.{SpoolState}
 use Rattle.desk_access.specs.Call.{Call, asks, Record, own_of, calls_of}
 use Rattle.desk_access.specs.Desk.{DeskState, Goes}
 use Rattle.desk_access.specs.Durable.{IsToldTrue, KeepsCalls}
@@ -26,10 +29,12 @@ use Rattle.conn_serve.specs.Acked.{Acknowledges}
 use Rattle.conn_serve.specs.Durable.{AnswersAreDurable}
 use Rattle.conn_serve.specs.HecAcked.{TellsTrue}
 use Rattle.conn_serve.specs.Hec.{hec}
+use Rattle.conn_serve.specs.Says.{PromisesNothing}
 use Rattle.conn_serve.specs.Serves.{CarriedAs}
 use Rattle.conn_serve.specs.Tokens.{tokens_of}
 use Rattle.conn_serve.proofs.Durable.{acked_durably, stored_durably}
 use Rattle.conn_serve.proofs.HecAcks.{said_lies_whole}
+use Rattle.conn_serve.proofs.Late.{asks_late, kept_late}
 use Rattle.desk_access.specs.Carried.{Carried}
 use Rattle.serve_workers.specs.Served.{Served, calls_in, IsServed, AreServed, Tells, TellsMore}
 use Rattle.serve_laws.specs.Durable.{IsToldDurably, IsLinkDurable, IsTalkDurable}
@@ -96,45 +101,88 @@ module _ (x y : DeskState) (confirming : ℕ) (log : List Record) (rules : IsDes
         whole = λ large added adds. id_whole x.spool.run found.0 id log before (one ∷ after) g.0 added parts g.1 g.2 large legal adds;
       }
 
-  -- one for which a reply of a connection was, whose calls are among the caller's
-  told_durably : (number : ℕ) (first behind : List Call) (tokens : Tokens) (conn : ℕ) (left : Option (List ℕ)) (b : List ℕ) (calls : List Call) (text : List ℕ) (talk : Talk) (carried : Carried (hec tokens conn) left b calls text talk)
-      → own_of number log ≡ first ++ (calls ++ behind) → (channel id : ℕ) → TellsTrue carried channel id → IsToldDurably log number now channel id
-  told_durably number first behind tokens conn left b calls text talk carried own channel id (made, said, is_said, (ids, known, closing, k, asked, answered, short, is_id, told)) =
-      let w = said_lies_whole tokens conn left b calls text talk carried made said is_said in
+  -- One for which a reply of a connection was. Its calls are among the caller's, but for those that promise nothing, which it may not
+  -- have made yet.
+  told_durably : (number : ℕ) (first made late behind : List Call) (tokens : Tokens) (conn : ℕ) (left : Option (List ℕ)) (b : List ℕ) (calls : List Call) (text : List ℕ) (talk : Talk) (carried : Carried (hec tokens conn) left b calls text talk)
+      → own_of number log ≡ first ++ (made ++ behind) → calls ≡ made ++ late → All PromisesNothing late
+      → (channel id : ℕ) → TellsTrue carried channel id → IsToldDurably log number now channel id
+  told_durably number first made late behind tokens conn left b calls text talk carried own are nothing channel id (done, said, is_said, (ids, known, closing, k, asked, answered, short, is_id, told)) =
+      let w = said_lies_whole tokens conn left b calls text talk carried done said is_said in
       let call = asks channel ids known in
-      let parts : own_of number log ≡ (first ++ w.first) ++ call ∷ (w.more ++ behind) =
-      own ∙ ap (λ (l : List Call). first ++ (l ++ behind)) (w.calls_are ∙ ap (λ (l : List Call). w.first ++ (l ++ w.more)) asked)
-      ∙ ap (λ (l : List Call). first ++ l) (append_assoc w.first (call ∷ w.more) behind)
-      ∙ sym (append_assoc first w.first (call ∷ (w.more ++ behind))) in
-      let p = place_of number log (first ++ w.first) call (w.more ++ behind) parts in
+      let stands : made ++ late ≡ w.first ++ call ∷ w.more = sym are ∙ w.calls_are ∙ ap (λ (l : List Call). w.first ++ (l ++ w.more)) asked in
+      let there = asks_late made late w.first w.more channel ids known nothing stands in
+      let parts : own_of number log ≡ (first ++ w.first) ++ call ∷ (there.0 ++ behind) =
+      own ∙ ap (λ (l : List Call). first ++ (l ++ behind)) there.1 ∙ ap (λ (l : List Call). first ++ l) (append_assoc w.first (call ∷ there.0) behind)
+      ∙ sym (append_assoc first w.first (call ∷ (there.0 ++ behind))) in
+      let p = place_of number log (first ++ w.first) call (there.0 ++ behind) parts in
       told_at number channel id p.before p.one p.after ids known k p.parts p.by p.is short is_id told
 
   -- ---- a link
 
-  answers : (number : ℕ) (first behind : List Call) (proto : Proto) (tokens : Tokens) (conn : ℕ) (left : Option (List ℕ)) (b : List ℕ) (calls : List Call) (text : List ℕ) (talk : Talk) (carried : CarriedAs proto tokens conn left b calls text talk)
-      → own_of number log ≡ first ++ (calls ++ behind) → KeepsCalls now calls → AnswersAreDurable proto tokens conn left b calls text talk carried now (IsToldDurably log number now)
-  answers number first behind Relp tokens conn left b calls text talk carried own kept = tt
-  answers number first behind Lumberjack tokens conn left b calls text talk carried own kept = tt
-  answers number first behind Hec tokens conn left b calls text talk carried own kept = record {
+  answers : (number : ℕ) (first made late behind : List Call) (proto : Proto) (tokens : Tokens) (conn : ℕ) (left : Option (List ℕ)) (b : List ℕ) (calls : List Call) (text : List ℕ) (talk : Talk) (carried : CarriedAs proto tokens conn left b calls text talk)
+      → own_of number log ≡ first ++ (made ++ behind) → calls ≡ made ++ late → All PromisesNothing late → KeepsCalls now calls
+      → AnswersAreDurable proto tokens conn left b calls text talk carried now (IsToldDurably log number now)
+  answers number first made late behind Relp tokens conn left b calls text talk carried own are nothing kept = tt
+  answers number first made late behind Lumberjack tokens conn left b calls text talk carried own are nothing kept = tt
+  answers number first made late behind Hec tokens conn left b calls text talk carried own are nothing kept = record {
     stored = stored_durably tokens conn left b calls text talk now carried kept;
-    told = told_durably number first behind tokens conn left b calls text talk carried own;
+    told = told_durably number first made late behind tokens conn left b calls text talk carried own are nothing;
   }
 
-  link_durable : (number : ℕ) (first behind : List Call) (by : Rules) (one : Served) → IsServed by one → own_of number log ≡ first ++ (one.calls ++ behind) → IsLinkDurable log number now by one
-  link_durable number first behind by one served own =
+  -- A link of which all calls were made, but for those that promise nothing.
+  pub link_durable : (number : ℕ) (first made late behind : List Call) (by : Rules) (one : Served) → IsServed by one
+      → own_of number log ≡ first ++ (made ++ behind) → one.calls ≡ made ++ late → All PromisesNothing late → IsLinkDurable log number now by one
+  link_durable number first made late behind by one served own are nothing =
       let kept = keeps_some now (calls_of log) one.calls
-      (λ s k. (kept_parts s one.calls behind (kept_parts s first (one.calls ++ behind) (subst (AllKept s) own (own_kept s number log k))).1).0) keeps in
+      (λ s k. subst (AllKept s) (sym are)
+      (kept_late s made late nothing (kept_parts s made behind (kept_parts s first (made ++ behind) (subst (AllKept s) own (own_kept s number log k))).1).0)) keeps in
       record {
         served = served;
         acked = λ numbers says. acked_durably by.proto (tokens_of by) one.conn one.left one.bytes one.calls one.text one.talk now numbers served kept says;
-        answers = λ carried. answers number first behind by.proto (tokens_of by) one.conn one.left one.bytes one.calls one.text one.talk carried own kept;
+        answers = λ carried. answers number first made late behind by.proto (tokens_of by) one.conn one.left one.bytes one.calls one.text one.talk carried own are nothing kept;
       }
 
   pub links_durable : (number : ℕ) (before : List Call) (by : Rules) (conn : ℕ) (links : List Served) → AreServed by conn links → own_of number log ≡ before ++ calls_in links → All (IsLinkDurable log number now by) links
   links_durable number before by conn [] served own = All-nil (IsLinkDurable log number now by)
   links_durable number before by conn (one ∷ links) served own =
-      All-cons (IsLinkDurable log number now by) one links (link_durable number before (calls_in links) by one served.1 own)
+      All-cons (IsLinkDurable log number now by) one links
+      (link_durable number before one.calls [] (calls_in links) by one served.1 own (sym (append-nil one.calls)) (All-nil PromisesNothing))
       (links_durable number (before ++ one.calls) by (conn + 1) links served.2 (own ∙ sym (append_assoc before one.calls (calls_in links))))
+
+-- ---- a link for which nothing was made yet
+
+not_empty : (first : List Call) (call : Call) (rest : List Call) → [] ≡ first ++ call ∷ rest → ⊥
+not_empty [] call rest is = cc is
+not_empty (one ∷ first) call rest is = cc is
+
+told_of_none : (log : List Record) (number : ℕ) (now : Moment) (tokens : Tokens) (conn : ℕ) (left : Option (List ℕ)) (b : List ℕ) (calls : List Call) (text : List ℕ) (talk : Talk)
+    (carried : Carried (hec tokens conn) left b calls text talk) → All PromisesNothing calls → (channel id : ℕ) → TellsTrue carried channel id → IsToldDurably log number now channel id
+told_of_none log number now tokens conn left b calls text talk carried nothing channel id (done, said, is_said, (ids, known, closing, k, asked, answered, short, is_id, told)) =
+    let w = said_lies_whole tokens conn left b calls text talk carried done said is_said in
+    let there = asks_late [] calls w.first w.more channel ids known nothing
+    (w.calls_are ∙ ap (λ (l : List Call). w.first ++ (l ++ w.more)) asked) in
+    absurd (not_empty w.first (asks channel ids known) there.0 there.1)
+
+answers_of_none : (log : List Record) (number : ℕ) (now : Moment) (proto : Proto) (tokens : Tokens) (conn : ℕ) (left : Option (List ℕ)) (b : List ℕ) (calls : List Call) (text : List ℕ) (talk : Talk)
+    (carried : CarriedAs proto tokens conn left b calls text talk) → All PromisesNothing calls → KeepsCalls now calls
+    → AnswersAreDurable proto tokens conn left b calls text talk carried now (IsToldDurably log number now)
+answers_of_none log number now Relp tokens conn left b calls text talk carried nothing kept = tt
+answers_of_none log number now Lumberjack tokens conn left b calls text talk carried nothing kept = tt
+answers_of_none log number now Hec tokens conn left b calls text talk carried nothing kept = record {
+  stored = stored_durably tokens conn left b calls text talk now carried kept;
+  told = told_of_none log number now tokens conn left b calls text talk carried nothing;
+}
+
+-- its text acknowledges nothing, whatever the spool for which a crash leaves the disk
+pub none_durable : (log : List Record) (number : ℕ) (now : Moment) (by : Rules) (one : Served) → IsServed by one → All PromisesNothing one.calls
+    → ((c : List ℕ) → now.image c → (s : SpoolState) × StandsFor s c) → IsLinkDurable log number now by one
+none_durable log number now by one served nothing stands =
+    let kept : KeepsCalls now one.calls = λ c image. let found = stands c image in (found.0, found.1, kept_late found.0 [] one.calls nothing tt) in
+    record {
+      served = served;
+      acked = λ numbers says. acked_durably by.proto (tokens_of by) one.conn one.left one.bytes one.calls one.text one.talk now numbers served kept says;
+      answers = λ carried. answers_of_none log number now by.proto (tokens_of by) one.conn one.left one.bytes one.calls one.text one.talk carried nothing kept;
+    }
 
 -- ---- what a door reports
 

@@ -12,3 +12,4 @@ pub mod Whole
 pub mod Taken
 pub mod Runs
 pub mod Last
+pub mod Saying

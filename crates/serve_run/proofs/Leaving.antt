@@ -2,7 +2,7 @@
 use Rattle.std.proofs.Common.{◌≡◌, ℕ, zero, suc, ◌+◌, ◌<◌, Bool, arith, List, [], ◌∷◌, ◌++◌, ◌∙◌, length, length-append, refl, sym, ap, subst, inl, inr, eq-eqb}
 use Rattle.std.specs.Prelude.{All, if◌then◌else◌}
 use Rattle.std.proofs.lemmas.List.Elements.{All-head, All-tail}
-use Rattle.desk_access.specs.Call.{Call, Record, own_of}
+use Rattle.desk_access.specs.Call.{Record, own_of}
 use Rattle.spool_turns.specs.Passes.{Known, Stands}
 use Rattle.spool_turns.specs.Replays.{HasNumber}
 use Rattle.serve_workers.specs.Crews.{AreNew}

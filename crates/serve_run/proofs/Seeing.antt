@@ -1,6 +1,6 @@
 -- A pass that has met others, and the numbers of passes that looked.
 use Rattle.std.proofs.Common.{◌≡◌, ℕ, List, [], ◌∷◌, ◌++◌, ◌∙◌, append_assoc, refl, sym, ap}
-use Rattle.std.specs.Prelude.{All, Result}
+use Rattle.std.specs.Prelude.{Result}
 use Rattle.std.proofs.lemmas.List.Elements.{All-nil, All-push, All-weaker}
 use mathlib.Core.List.{IsPrefix}
 use Rattle.edge_io.specs.Net.{NetState}
@@ -10,7 +10,7 @@ use Rattle.desk_access.specs.Desk.{DeskState}
 use Rattle.forward_core.specs.declared.outward.Outward.{Outward}
 use Rattle.spool_turns.specs.Passes.{Known}
 use Rattle.spool_turns.specs.Own.{prefix_self}
-use Rattle.serve_forwarder.specs.Looks.{Found, Idle, Unread, Undialed, Held, Look, IsFound, IsLook, AreLooks}
+use Rattle.serve_forwarder.specs.Looks.{Found, Idle, Unread, Undialed, Held, Look, IsFound, AreLooks}
 use Rattle.serve_run.specs.Running.{HasMet}
 
 prefix_then : {A : Type 0} (xs ys zs : List A) → IsPrefix xs ys → IsPrefix ys zs → IsPrefix xs zs

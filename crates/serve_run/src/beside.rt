@@ -28,7 +28,8 @@ struct Forwarding<'a, N: Net, D: Disk, J: Naming, R: Wait> {
 impl<'a, N: Net, D: Disk + Drop, J: Naming, R: Wait> Task for Forwarding<'a, N, D, J, R> {
     type Output = (&'a mut N, Pass<J>);
 
-    ghost can_run = { λ t. (t.seated.pass.number + 1 ≡ J.seats) × (0 < t.destination.now.outward.polls) };
+    ghost can_run = { λ t. (t.seated.pass.number + 1 ≡ J.seats) × (0 < t.destination.now.outward.polls)
+        × N.may_dial t.destination.now.place };
 
     ghost leaves = { λ t r. (r.0.ghost_name ≡ t.net.ghost_name)
         × ((looks : List Look) × AreLooks J.start t.destination.now.outward t.destination.now.place looks t.seated.pass r.1
@@ -81,6 +82,7 @@ where
     requires talks { talks ≤ 2 ^ 26 }
     requires confirms { seated.pass.number + 1 ≡ J.seats }
     requires polls { 0 < destination.now.outward.polls }
+    requires named { N.may_dial destination.now.place }
 
     ensures worked { HaveWorked J.start J.run talks hired.entry.rules hired.entry.doors hired.entry.passes
         (map (λ (door : _). P.told door) result.1.doors.items) result.1.passes.items result.1.reports.items }

@@ -38,6 +38,7 @@ pub(crate) fn look_again<N: Net, D: Disk, J: Naming, R: Wait>(
 ) -> Outcome
     requires confirms { forwarder.old.pass.number + 1 ≡ J.seats }
     requires polls { 0 < destination.now.outward.polls }
+    requires named { N.may_dial destination.now.place }
 
     ensures looked { (met : Known) × (one : Look) × HasMet workers.old.items forwarder.old.pass met
         × IsLook J.start destination.now.outward destination.now.place one met forwarder.new.pass (N.told net.old) (N.told net.new)

@@ -1,13 +1,15 @@
 //! Serving and forwarding over one desk, from the opened desk to the closed one.
-ghost use Rattle.std.specs.Prelude.{◌≡◌, ◌+◌, ◌<◌, ◌^◌, ◌≤◌, [], length, map, IfOk, IfErr, IfSome, option_copied, vec_len};
+ghost use Rattle.std.specs.Prelude.{◌≡◌, ℕ, ◌+◌, ◌<◌, ◌^◌, ◌≤◌, [], length, map, slice_get, vec_len};
+ghost use Rattle.std.specs.Prelude.{Some, IfOk, IfErr, IfSome, option_copied};
 ghost use Rattle.std.specs.Vec.{vec_capacity};
-ghost use Rattle.spool_turns.specs.Replays.{desk_at};
+ghost use Rattle.spool_turns.specs.Replays.{IsReal, desk_at};
+ghost use Rattle.serve_workers.specs.Works.{first_conn};
 ghost use Rattle.serve_workers.specs.Crews.{AreNew, HaveWorked};
+ghost use Rattle.serve_workers.specs.Answering.{MayAnswer};
 ghost use Rattle.serve_run.specs.Running.{Forwarded, HasRun, HasServed, HasNotServed};
 
 use crate::beside::work_and_forward;
 use crate::meeting::look_again;
-use crate::working::work_alone;
 use desk_access::Desk;
 use edge_disk::Disk;
 use edge_io::{Door, Net};
@@ -72,6 +74,7 @@ where
     requires talks { talks ≤ 2 ^ 26 }
     requires confirms { seated.pass.number + 1 ≡ J.seats }
     requires polls { 0 < destination.now.outward.polls }
+    requires named { N.may_dial destination.now.place }
 
     ensures worked { HaveWorked J.start J.run talks hired.entry.rules hired.entry.doors hired.entry.passes
         (map (λ (door : _). P.told door) result.0.crew.doors.items) result.0.crew.passes.items result.0.crew.reports.items }
@@ -118,6 +121,7 @@ where
     requires talks { talks ≤ 2 ^ 26 }
     requires confirms { (seated.pass.number + 1 ≡ J.seats) × (seated.pass.own ≡ []) }
     requires polls { IfSome destination (λ d. 0 < d.now.outward.polls) }
+    requires named { IfSome destination (λ d. N.may_dial d.now.place) }
 
     ensures worked { HaveWorked J.start J.run talks hired.entry.rules hired.entry.doors hired.entry.passes
         (map (λ (door : _). P.told door) result.0.crew.doors.items) result.0.crew.passes.items result.0.crew.reports.items }
@@ -132,7 +136,7 @@ where
         None => {
             let Seated { pass, .. } = seated;
             let ran = CrewAndLook {
-                crew: work_alone(rt, alloc, talks, hired),
+                crew: hired.work(rt, alloc, talks),
                 last: None,
             };
             (ran, pass)
@@ -166,7 +170,10 @@ where
     requires many { (vec_len passes ≡ vec_len posts + 1) × (vec_len posts ≤ 64) × (J.seats ≡ vec_len posts + 1) }
     requires new { AreNew 0 passes.items }
     requires talks { talks ≤ 2 ^ 26 }
+    requires says { (i : ℕ) (post : _) → slice_get posts.items i ≡ Some post
+        → MayAnswer (IsReal D.Disk J.start J.run J.seats J.began) J.start (first_conn J.run i) (P.permits post.door) post.rules }
     requires polls { IfSome destination (λ d. 0 < d.now.outward.polls) }
+    requires named { IfSome destination (λ d. N.may_dial d.now.place) }
 
     ensures many { IfOk result (λ ran. (vec_len ran.crew.doors ≡ vec_len posts) × (vec_len ran.crew.reports ≡ vec_len posts)) }
     ensures ran { IfOk result (λ ran. HasRun J.start J.run talks (map (λ (post : _). post.rules) posts.items) (map (λ (post : _). P.told post.door) posts.items)
@@ -207,6 +214,9 @@ where
 /// `opened` has one pass for each worker, in the order of the doors, of which there are at most 64, and after them one for the
 /// forwarder. None of them has made a call. `polls` of the destination is above 0. The error is want of memory before a worker began:
 /// it gives back the posts as they were and the desk, on which no call was made.
+///
+/// `says` is all the leave that it has to write to a sender: each door permits, link by link, what may be said once it is stored
+/// (`MayAnswer`). It dials the destination's place and no other, by `named`.
 pub fn serve<
     P: Door + Drop + Send,
     D: Disk + Drop + Send,
@@ -230,7 +240,10 @@ where
     requires many { (vec_len opened.passes ≡ vec_len posts + 1) × (vec_len posts ≤ 64) × (J.seats ≡ vec_len posts + 1) }
     requires new { AreNew 0 opened.passes.items }
     requires talks { talks ≤ 2 ^ 26 }
+    requires says { (i : ℕ) (post : _) → slice_get posts.items i ≡ Some post
+        → MayAnswer (IsReal D.Disk J.start J.run J.seats J.began) J.start (first_conn J.run i) (P.permits post.door) post.rules }
     requires polls { IfSome destination (λ d. 0 < d.now.outward.polls) }
+    requires named { IfSome destination (λ d. N.may_dial d.now.place) }
 
     ensures many { IfOk result (λ served. (vec_len served.doors ≡ vec_len posts) × (vec_len served.reports ≡ vec_len posts)) }
     ensures served { IfOk result (λ served. HasServed D.tells J.start J.run J.seats J.began talks (map (λ (post : _). post.rules) posts.items)

@@ -1,4 +1,4 @@
-//! Workers that work until they have ended, alone or beside a task.
+//! Workers that work until they have ended, beside a task.
 ghost use Rattle.std.specs.Prelude.{◌≡◌, ◌^◌, ◌<◌, ◌≤◌, length, map, vec_len};
 ghost use Rattle.std.specs.Vec.{vec_capacity};
 ghost use Rattle.serve_workers.specs.Crews.{AreNew, HaveWorked};
@@ -28,29 +28,6 @@ pub(crate) trait Task {
     fn run(self) -> Self::Output
         requires { can_run self }
         ensures { leaves self result };
-}
-
-/// Has the workers work until all have ended, and dismisses them. It answers what they leave.
-pub(crate) fn work_alone<
-    P: Door + Drop + Send,
-    D: Disk + Drop + Send,
-    J: Naming + Send + Sync,
-    R: Threads + Wait + Sync,
->(rt: &R, alloc: Global, talks: u32, hired: Hired<'_, P, D, J, R>) -> Crew<P, J>
-where
-    P::L: Send,
-    requires new { AreNew 0 hired.passes }
-    requires talks { talks ≤ 2 ^ 26 }
-
-    ensures worked { HaveWorked J.start J.run talks hired.entry.rules hired.entry.doors hired.entry.passes
-        (map (λ (door : _). P.told door) result.doors.items) result.passes.items result.reports.items }
-    ensures many { (vec_len result.doors ≡ length hired.entry.passes) × (vec_len result.passes ≡ length hired.entry.passes)
-        × (vec_len result.reports ≡ length hired.entry.passes) }
-    ensures room { vec_len result.passes < vec_capacity result.passes }
-{
-    let mut hired = hired;
-    hired.work(rt, alloc, talks);
-    hired.dismiss()
 }
 
 /// Has the workers work, and the task done beside them in a thread of its own. Where no thread can be made the task comes last, once
@@ -98,7 +75,7 @@ where
                 × (vec_len result.reports ≡ length hired.entry.passes) }
             ensures room { vec_len result.passes < vec_capacity result.passes }
         {
-            let crew = work_alone(rt, alloc, talks, hired);
+            let crew = hired.work(rt, alloc, talks);
             ended.store(true, Ordering::SeqCst);
             crew
         },

@@ -160,3 +160,23 @@ works_enough start run rules many talks old new pass pass' all w =
       accept_faults = record { later = omega (arith, w.accept_faults); cause = λ (is : Enough ≡ AcceptFault). absurd (cc); quiet = λ none. w.accept_faults };
       disk_faults = disk_faults rules (first_conn run pass.number) (w.finished ++ []) at_door.served;
     }
+
+-- ---- the calls alone, of calls of which more is known
+
+door_plain : (rules : Rules) (first : ℕ) (old new : DoorState) (made more : List Call → Type 0) (links told : List Served) → AtDoor rules first old new (λ calls. made calls × more calls) links told → AtDoor rules first old new made links told
+door_plain rules first old new made more links told d = record {
+  calls = d.calls.0;
+  served = d.served;
+  talks = d.talks;
+  place = d.place;
+  waiting = d.waiting;
+  accepted = d.accepted;
+  reads = d.reads;
+  writes = d.writes;
+}
+
+pub serves_plain : (rules : Rules) (conn : ℕ) (old new : DoorState) (made more : List Call → Type 0) → ServesLink rules conn old new (λ calls. made calls × more calls) → ServesLink rules conn old new made
+serves_plain rules conn old new made more s = (s.0, door_plain rules conn old new made more _ _ s.1, s.2)
+
+pub stops_plain : (rules : Rules) (conn : ℕ) (old new : DoorState) (made more : List Call → Type 0) (end : WorkerEnd) → Stops rules conn old new (λ calls. made calls × more calls) end → Stops rules conn old new made end
+stops_plain rules conn old new made more end s = record { late = s.late; at_door = door_plain rules conn old new made more _ _ s.at_door; ends = s.ends; accept_faults = s.accept_faults }

@@ -106,6 +106,13 @@ new_at number (x ∷ xs) [] k d new lt = absurd (omega (arith, lt))
 new_at number (x ∷ xs) (pass ∷ passes) zero d new lt = (omega (arith, new.0), new.1)
 new_at number (x ∷ xs) (pass ∷ passes) (suc k) d new lt = let rest = new_at (number + 1) xs passes k d new.2 (omega (arith, lt)) in (omega (arith, rest.0), rest.1)
 
+-- the post at a place
+pub first_at : {X Y : Type 0} (xs : List X) (ys : List Y) (k : ℕ) (d : X × Y) → k < length (zip xs ys) → slice_get xs k ≡ Some (get_or (zip xs ys) k d).0
+first_at [] ys k d lt = absurd (omega (arith, lt))
+first_at (x ∷ xs) [] k d lt = absurd (omega (arith, lt))
+first_at (x ∷ xs) (y ∷ ys) zero d lt = refl
+first_at (x ∷ xs) (y ∷ ys) (suc k) d lt = first_at xs ys k d (omega (arith, lt))
+
 -- ---- what a function has of each, by another function
 
 map_of : {X Y Z : Type 0} (f : X → Y) (h : Y → Z) (xs : List X) → map h (map f xs) ≡ map (λ x. h (f x)) xs

@@ -26,12 +26,11 @@ IsReady number pass = (number ≡ pass.number) × (number < 64) × (pass.own ≡
 abbrev pub IsRoom : {X : Type 0} → ℕ → Vec X → Type 0
 IsRoom many v = (v.items ≡ []) × (vec_len v ≡ 0) × (many ≤ vec_capacity v)
 
--- Workers in their order: the rules of each, what its door reports, what its pass knows, and its own report.
+-- Workers in their order: the rules of each, what its door reports, and what its pass knows.
 pub record Roster : Type 0 where
   pub rules : List Rules
   pub doors : List DoorState
   pub passes : List Known
-  pub reports : List WorkerReport
 
 -- Each worker has ended, and did what `Worked` says. All lists are in the workers' order: the rules, the doors and the passes as they
 -- were before, the doors and the passes as they are after, and the reports.

@@ -1,3 +1,4 @@
 pub mod Served
 pub mod Works
 pub mod Crews
+pub mod Answering

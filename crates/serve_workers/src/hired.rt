@@ -1,8 +1,10 @@
 //! Workers that are hired: they have their doors and passes, and room is reserved for all that they leave.
-ghost use Rattle.std.specs.Prelude.{◌≡◌, ℕ, ◌^◌, ◌<◌, ◌≤◌, map, length, All, IfOk, IfErr, vec_len, slice_index_or};
+ghost use Rattle.std.specs.Prelude.{◌≡◌, ℕ, ◌^◌, ◌<◌, ◌≤◌, Some, map, length, All, IfOk, IfErr, vec_len, slice_get, slice_index_or};
 ghost use Rattle.std.specs.Vec.{vec_capacity};
-ghost use Rattle.serve_workers.specs.Works.{Worked};
+ghost use Rattle.spool_turns.specs.Replays.{IsReal};
+ghost use Rattle.serve_workers.specs.Works.{Worked, first_conn};
 ghost use Rattle.serve_workers.specs.Crews.{AreNew, IsReady, IsRoom, HaveWorked};
+ghost use Rattle.serve_workers.specs.Answering.{MayAnswer};
 
 use crate::crew::{Crew, NoCrew, Post, Room, dismissed, room_for};
 use crate::worker::{Worker, WorkerEnd, WorkerReport};
@@ -14,8 +16,8 @@ use std::marker::Model;
 use std::sync::Wait;
 use std::thread::{Threads, for_each_mut};
 
-/// Workers, each at its door with its pass, and room for what they leave. A contract sees them as a `Roster`: the rules, doors, passes
-/// and reports of all, in their order. Before [`Hired::work`] the reports mean nothing.
+/// Workers, each at its door with its pass, and room for what they leave. A contract sees them as a `Roster`: the rules, doors and
+/// passes of all, in their order. None of them has begun.
 #[derive(Drop)]
 pub struct Hired<'a, P: Door, D: Disk, J: Naming, R: Wait> {
     workers: Vec<Worker<'a, P, D, J, R>>,
@@ -24,7 +26,10 @@ pub struct Hired<'a, P: Door, D: Disk, J: Naming, R: Wait> {
 
 impl<'a, P: Door, D: Disk, J: Naming, R: Wait> Model for Hired<'a, P, D, J, R> {
     ghost use Rattle.std.specs.Prelude.{◌+◌, map, All, vec_len};
+    ghost use Rattle.spool_turns.specs.Replays.{IsReal};
+    ghost use Rattle.serve_workers.specs.Works.{first_conn};
     ghost use Rattle.serve_workers.specs.Crews.{Roster, IsAtDesk, IsRoom};
+    ghost use Rattle.serve_workers.specs.Answering.{MayAnswer};
 
     ghost Value = { Roster };
 
@@ -32,11 +37,13 @@ impl<'a, P: Door, D: Disk, J: Naming, R: Wait> Model for Hired<'a, P, D, J, R> {
       rules = map (λ (worker : _). worker.rules) h.workers.items;
       doors = map (λ (worker : _). P.told worker.door) h.workers.items;
       passes = map (λ (worker : _). worker.seated.pass) h.workers.items;
-      reports = map (λ (worker : _). worker.report) h.workers.items;
     } };
 
     ghost invariant = { λ h. All (λ (worker : _). IsAtDesk worker.number worker.seated.pass) h.workers.items
-        × IsRoom (vec_len h.workers) h.crew.doors × IsRoom (vec_len h.workers + 1) h.crew.passes × IsRoom (vec_len h.workers) h.crew.reports };
+        × All (λ (worker : _). MayAnswer (IsReal D.Disk J.start J.run J.seats J.began) J.start (first_conn J.run worker.number)
+        (P.permits worker.door) worker.rules) h.workers.items
+        × IsRoom (vec_len h.workers) h.crew.doors × IsRoom (vec_len h.workers + 1) h.crew.passes
+        × IsRoom (vec_len h.workers) h.crew.reports };
 }
 
 // Makes the workers in the room for them: each has the post and the pass at its place, and that place as its number. None has begun.
@@ -50,7 +57,11 @@ fn placed<'a, P: Door + Drop, D: Disk, J: Naming, R: Wait>(
     requires room { IsRoom (vec_len posts) workers }
     requires many { (vec_len passes ≡ vec_len posts) × (vec_len posts ≤ 64) }
     requires new { AreNew 0 passes.items }
+    requires says { (i : ℕ) (post : _) → slice_get posts.items i ≡ Some post
+        → MayAnswer (IsReal D.Disk J.start J.run J.seats J.began) J.start (first_conn J.run i) (P.permits post.door) post.rules }
 
+    ensures says { All (λ (worker : _). MayAnswer (IsReal D.Disk J.start J.run J.seats J.began) J.start (first_conn J.run worker.number)
+        (P.permits worker.door) worker.rules) result.items }
     ensures ready { All (λ (worker : _). IsReady worker.number worker.seated.pass) result.items }
     ensures doors { map (λ (worker : _). worker.door) result.items ≡ map (λ (post : _). post.door) posts.items }
     ensures rules { map (λ (worker : _). worker.rules) result.items ≡ map (λ (post : _). post.rules) posts.items }
@@ -85,6 +96,8 @@ where
     P::L: Send,
     requires ready { All (λ (worker : _). IsReady worker.number worker.seated.pass) workers.old }
     requires talks { talks ≤ 2 ^ 26 }
+    requires says { All (λ (worker : _). MayAnswer (IsReal D.Disk J.start J.run J.seats J.began) J.start (first_conn J.run worker.number)
+        (P.permits worker.door) worker.rules) workers.old }
 
     ensures worked { (k : ℕ) (d : _) → k < length workers.old → Worked J.start J.run (slice_index_or workers.old k d).rules talks
         (P.told (slice_index_or workers.old k d).door) (P.told (slice_index_or workers.new k d).door)
@@ -97,7 +110,9 @@ where
         workers,
         threads,
         &|_, worker: &mut Worker<'_, P, D, J, R>|
-            requires { IsReady worker.now.number worker.now.seated.pass × (talks ≤ 2 ^ 26) }
+            requires ready { IsReady worker.now.number worker.now.seated.pass × (talks ≤ 2 ^ 26) }
+            requires says { MayAnswer (IsReal D.Disk J.start J.run J.seats J.began) J.start (first_conn J.run worker.now.number)
+                (P.permits worker.now.door) worker.now.rules }
             ensures worked { Worked J.start J.run worker.entry.now.rules talks (P.told worker.entry.now.door) (P.told worker.exit.now.door)
                 worker.entry.now.seated.pass worker.exit.now.seated.pass worker.exit.now.report }
             ensures number { worker.exit.now.number ≡ worker.entry.now.number }
@@ -106,10 +121,11 @@ where
 }
 
 /// Hires a worker for each of the posts, at most 64, and gives it the pass at the same place. There are as many passes as posts; they
-/// have made no call and are numbered from 0 on, and each worker has the number of its pass.
+/// have made no call and are numbered from 0 on, and each worker has the number of its pass. The door of each post permits, link by
+/// link, what may be said once it is stored (`MayAnswer`).
 ///
 /// All memory that it takes to give back doors, passes and reports is reserved here, and room for one pass more: so once workers are
-/// hired, [`Hired::dismiss`] gives all of them back. The error is want of memory, and gives back posts and passes as they were.
+/// hired, [`Hired::work`] gives all of them back. The error is want of memory, and gives back posts and passes as they were.
 pub fn hire<'a, P: Door + Drop, D: Disk, J: Naming, R: Wait>(
     rt: &'a R,
     alloc: Global,
@@ -119,6 +135,8 @@ pub fn hire<'a, P: Door + Drop, D: Disk, J: Naming, R: Wait>(
 ) -> Result<Hired<'a, P, D, J, R>, NoCrew<P, J>>
     requires many { (vec_len passes ≡ vec_len posts) × (vec_len posts ≤ 64) }
     requires new { AreNew 0 passes.items }
+    requires says { (i : ℕ) (post : _) → slice_get posts.items i ≡ Some post
+        → MayAnswer (IsReal D.Disk J.start J.run J.seats J.began) J.start (first_conn J.run i) (P.permits post.door) post.rules }
 
     ensures rules { IfOk result (λ hired. hired.rules ≡ map (λ (post : _). post.rules) posts.items) }
     ensures doors { IfOk result (λ hired. hired.doors ≡ map (λ (post : _). P.told post.door) posts.items) }
@@ -144,34 +162,24 @@ where
     P::L: Send,
 {
     /// Has each worker serve the links of its door, one after another, in a thread of its own where one can be made. It returns once
-    /// all have ended. `HaveWorked` says what each did.
+    /// all have ended, and hands back the doors, the passes and the reports, each in the order of the workers. `HaveWorked` says what
+    /// each did. The list of passes has room for one more, as that of a forwarder. Nothing is allocated for the lists.
     ///
     /// A worker ends once its door is shut for good and no link waits there (a listening socket is never shut), once it has served
     /// `talks` links, which are at most 2^26, at an accept that fails, or where no memory is found to give a link back. Its report
     /// says which of these it was.
-    pub fn work(&mut self, rt: &R, alloc: Global, talks: u32)
-        requires new { AreNew 0 self.old.passes }
+    pub fn work(self, rt: &R, alloc: Global, talks: u32) -> Crew<P, J>
+        requires new { AreNew 0 self.passes }
         requires talks { talks ≤ 2 ^ 26 }
 
-        ensures worked { HaveWorked J.start J.run talks self.old.rules self.old.doors self.old.passes self.new.doors self.new.passes self.new.reports }
-        ensures many { length self.new.passes ≡ length self.old.passes }
-    {
-        work_all(rt, alloc, &mut self.workers, talks);
-    }
-}
-
-impl<'a, P: Door + Drop, D: Disk, J: Naming, R: Wait> Hired<'a, P, D, J, R> {
-    /// Hands back the doors, the passes and the reports, each in the order of the workers. The list of passes has room for one more,
-    /// as that of a forwarder. Nothing is allocated.
-    pub fn dismiss(self) -> Crew<P, J>
-        ensures doors { map (λ (door : _). P.told door) result.doors.items ≡ self.entry.doors }
-        ensures passes { result.passes.items ≡ self.entry.passes }
-        ensures reports { result.reports.items ≡ self.entry.reports }
+        ensures worked { HaveWorked J.start J.run talks self.entry.rules self.entry.doors self.entry.passes
+            (map (λ (door : _). P.told door) result.doors.items) result.passes.items result.reports.items }
         ensures many { (vec_len result.doors ≡ length self.entry.passes) × (vec_len result.passes ≡ length self.entry.passes)
             × (vec_len result.reports ≡ length self.entry.passes) }
         ensures room { vec_len result.passes < vec_capacity result.passes }
     {
-        let Hired { workers, crew } = self;
+        let Hired { mut workers, crew } = self;
+        work_all(rt, alloc, &mut workers, talks);
         dismissed(workers, crew)
     }
 }

@@ -1,7 +1,11 @@
 //! A worker at its door.
-ghost use Rattle.std.specs.Prelude.{◌≡◌, ◌^◌, ◌<◌, ◌≤◌, [], OnOk, IfErr};
+ghost use Rattle.std.specs.Prelude.{◌≡◌, ◌+◌, ◌^◌, ◌<◌, ◌≤◌, ℕ, List, [], Some, OnOk, IfErr};
+ghost use Rattle.conn_serve.specs.Serves.{CarriedBy};
+ghost use Rattle.conn_serve.specs.Says.{HasCarried, MaySay};
+ghost use Rattle.spool_turns.specs.Replays.{IsReal};
 ghost use Rattle.serve_workers.specs.Works.{first_conn, ServesLink, Stops, Worked};
 ghost use Rattle.serve_workers.specs.Crews.{IsReady};
+ghost use Rattle.serve_workers.specs.Answering.{MayAnswer};
 
 use conn_serve::{Rules, attend};
 use desk_access::Access;
@@ -56,9 +60,12 @@ fn serve_next<P: Door, A: Access>(
     conn: u64,
 ) -> Result<(), WorkerEnd>
     requires may { A.may_take access.old conn 0 }
+    requires says { (bytes : List ℕ)
+        → MaySay (A.ran access.old) (P.permits door.old 0 bytes) (Some []) (HasCarried (CarriedBy rules.now conn) bytes) }
 
     ensures serves { OnOk result (ServesLink rules.now conn (P.told door.old) (P.told door.new) (λ calls. A.ran access.old calls access.new)) }
     ensures stops { IfErr result (Stops rules.now conn (P.told door.old) (P.told door.new) (λ calls. A.ran access.old calls access.new)) }
+    ensures stays { OnOk result ((k : ℕ) (read text : List ℕ) → P.permits door.old (k + 1) read text → P.permits door.new k read text) }
 {
     let mut link = match door.accept() {
         Ok(Some(link)) => link,
@@ -86,8 +93,10 @@ fn serve_all<P: Door, D: Disk, J: Naming, R: Wait>(
     requires first { first ≡ first_conn J.run seated.old.pass.number }
     requires ready { IsReady seated.old.pass.number seated.old.pass }
     requires talks { talks ≤ 2 ^ 26 }
+    requires says { MayAnswer (IsReal D.Disk J.start J.run J.seats J.began) J.start (first_conn J.run seated.old.pass.number)
+        (P.permits door.old) rules.now }
 
-    ensures { Worked J.start J.run rules.now talks (P.told door.old) (P.told door.new) seated.old.pass seated.new.pass result }
+    ensures worked { Worked J.start J.run rules.now talks (P.told door.old) (P.told door.new) seated.old.pass seated.new.pass result }
 {
     for talk in 0..talks {
         if let Err(end) = serve_next(alloc, door, rules, seated, first + u64::from(talk)) {
@@ -109,6 +118,8 @@ impl<'a, P: Door, D: Disk, J: Naming, R: Wait> Worker<'a, P, D, J, R> {
     pub(crate) fn work(&mut self, alloc: Global, talks: u32)
         requires ready { IsReady self.old.number self.old.seated.pass }
         requires talks { talks ≤ 2 ^ 26 }
+        requires says { MayAnswer (IsReal D.Disk J.start J.run J.seats J.began) J.start (first_conn J.run self.old.number)
+            (P.permits self.old.door) self.old.rules }
 
         ensures worked { Worked J.start J.run self.old.rules talks (P.told self.old.door) (P.told self.new.door) self.old.seated.pass
             self.new.seated.pass self.new.report }

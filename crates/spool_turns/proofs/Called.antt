@@ -87,6 +87,13 @@ module _ (tells : Type 0) (start : DeskState → Type 0) (run seats : ℕ) (bega
   pub calls_after : (v : Known) (it : Me ℕ View) → known_of m ≡ v → it ≡ pass_of (after_call (facts_in wrote.0) (caller_in wrote.0) (record_of call new)) → Calls start run seats v call (known_of (pass_in it.0))
   calls_after v it was is = subst (λ (x : Known × Me ℕ View). Calls start run seats x.0 call (known_of (pass_in x.1.0))) (λ j. (was j, sym (pass_is it is) j)) calls_here
 
+  -- the journal that the pass has then seen led to where the desk is, and each call of it is one that its caller might make
+  pub real_after : (v : Known) (it : Me ℕ View) → v ≡ known_of (pass_in it.0) → it ≡ pass_of (after_call (facts_in wrote.0) (caller_in wrote.0) (record_of call new))
+      → Replays tells start run began v.seen new × Met run (seats - 1) [] v.seen
+  real_after v it was is = subst (λ (x : Known). Replays tells start run began x.seen new × Met run (seats - 1) [] x.seen) (sym was)
+      (subst (λ (x : Me ℕ View). Replays tells start run began (known_of (pass_in x.0)).seen new × Met run (seats - 1) [] (known_of (pass_in x.0)).seen) (sym (pass_is it is))
+      (after, met_after))
+
 -- one pass more
 pub fresh-more : (number count end_known cursor_known : ℕ) → fresh number (count + 1) end_known cursor_known ≡ fresh number count end_known cursor_known ++ known (number + count) [] [] end_known cursor_known ∷ []
 fresh-more number zero end_known cursor_known = ap (λ (j : ℕ). known j [] [] end_known cursor_known ∷ []) (omega arith)

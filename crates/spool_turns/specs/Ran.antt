@@ -97,6 +97,14 @@ ran_more start a b c calls more p q = record {
   first_lawful = more_first start a b c calls more p q;
 }
 
+-- what is real after calls, one after another
+pub none_real : (P : Type 0) → 0 < length {A = Call} [] → P
+none_real P some = absurd (omega (arith, some))
+
+pub more_real : (start : DeskState → Type 0) (b c : Known) (calls more : List Call) (P : List Record → Type 0) → Ran start b more c → (0 < length calls → P b.seen) → (0 < length more → P c.seen) → 0 < length (calls ++ more) → P c.seen
+more_real start b c calls [] P q first second some = subst P (sym (q.quiet refl)) (first (omega (arith, some, length-append calls [])))
+more_real start b c calls (call ∷ more) P q first second some = second (omega arith)
+
 -- one call
 pub ran_one : (start : DeskState → Type 0) (run seats : ℕ) (a : Known) (call : Call) (b : Known) → Calls start run seats a call b → Ran start a (call ∷ []) b
 ran_one start run seats a call b p = record {

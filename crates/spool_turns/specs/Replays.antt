@@ -10,7 +10,8 @@ use Rattle.desk_access.specs.declared.desk.Desk.{Desk}
 use Rattle.desk_access.specs.Call.{Call, Record, own_of, calls_of, failures_of}
 use Rattle.desk_access.specs.Desk.{DeskState, Goes, Stood}
 use Rattle.desk_access.specs.History.{IsDesk, Was}
-use Rattle.desk_access.specs.Alone.{AloneView, alone_view, IsAt}
+use Rattle.desk_access.specs.declared.alone.Alone.{Alone}
+use Rattle.desk_access.specs.Alone.{AloneView, alone_view, alone_at, IsAt}
 use Rattle.desk_access.specs.Legal.{May, Met, AddsGroups, IsOfRun, IsLegal}
 use Rattle.spool_turns.specs.Passes.{Known, Stands}
 use Rattle.spool_turns.specs.OwnEntries.{groups_by, AddsOwn}
@@ -48,6 +49,12 @@ pub record Replays (tells : Type 0) (start : DeskState → Type 0) (run : ℕ) (
   pub cause : Rose (failures_of (calls_of log)) began.faults new.spool.moment.faults
   pub quiet : failures_of (calls_of log) ≡ 0 → new.spool.moment.faults ≡ began.faults
   pub size : new.spool.moment.size ≡ began.size
+
+-- The journal was really made: each of its calls is one that its caller might make, and there is a desk to which it led. Where the type
+-- of disk is left open, such a desk can only be one that the program had.
+abbrev pub IsReal : {D : Type 0} (disks : Ghosts D) → (DeskState → Type 0) → ℕ → ℕ → Moment → List Record → Type 0
+IsReal {D} disks start run seats began log =
+    (a : Alone D disks) × Replays disks.tells start run began log (alone_at a) × Met run (seats - 1) [] log
 
 -- each of these calls is one that the caller of that number may make after its earlier ones
 abbrev pub MayMake : ℕ → ℕ → ℕ → List Call → List Call → Type 0

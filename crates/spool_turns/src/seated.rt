@@ -22,17 +22,19 @@ pub struct Seated<'a, D: Disk, J: Naming, R: Wait> {
 }
 
 impl<'a, D: Disk, J: Naming, R: Wait> Access for Seated<'a, D, J, R> {
-    ghost use Rattle.std.specs.Prelude.{◌≡◌, ◌+◌};
+    ghost use Rattle.std.specs.Prelude.{◌≡◌, ◌+◌, ◌<◌, length};
     ghost use Rattle.desk_access.specs.History.{IsDesk};
     ghost use Rattle.desk_access.specs.Legal.{IsNext, IsUnused, IsStored};
-    ghost use Rattle.spool_turns.specs.Ran.{Ran, ran_none, ran_more, ran_seen, ran_lawful};
+    ghost use Rattle.spool_turns.specs.Replays.{IsReal};
+    ghost use Rattle.spool_turns.specs.Ran.{Ran, ran_none, ran_more, none_real, more_real, ran_seen, ran_lawful};
     ghost use Rattle.spool_turns.specs.Ran.{ran_next, ran_issued, ran_unused, ran_stored, ran_still_stored, ran_confirms};
 
     ghost number = { λ a. a.pass.number };
 
     ghost seen = { λ a x journal. J.start x × IsDesk x × (journal ≡ a.pass.seen) };
 
-    ghost ran = { λ a calls b. Ran J.start a.pass calls b.pass };
+    ghost ran = { λ a calls b. Ran J.start a.pass calls b.pass
+        × (0 < length calls → IsReal ⟦<D as Disk>⟧ J.start J.run J.seats J.began b.pass.seen) };
 
     ghost may_take = { λ a conn index. IsNext J.run a.pass.number a.pass.own conn index };
 
@@ -95,25 +97,28 @@ impl<'a, D: Disk, J: Naming, R: Wait> Access for Seated<'a, D, J, R> {
             .ask(self.rt, &mut self.pass, channel, ids, known);
     }
 
-    ghost ran_none = { λ a. ran_none J.start a.pass };
+    ghost ran_none = { λ a. (ran_none J.start a.pass, none_real (IsReal ⟦<D as Disk>⟧ J.start J.run J.seats J.began a.pass.seen)) };
 
-    ghost ran_more = { λ a b c calls more p q. ran_more J.start a.pass b.pass c.pass calls more p q };
+    ghost ran_more = { λ a b c calls more p q. (
+      ran_more J.start a.pass b.pass c.pass calls more p.0 q.0,
+      more_real J.start b.pass c.pass calls more (IsReal ⟦<D as Disk>⟧ J.start J.run J.seats J.began) q.0 p.1 q.1,
+    ) };
 
-    ghost seen_more = { λ a b calls x journal ran seen. ran_seen J.start a.pass b.pass calls x journal ran seen };
+    ghost seen_more = { λ a b calls x journal ran seen. ran_seen J.start a.pass b.pass calls x journal ran.0 seen };
 
-    ghost seen_lawful = { λ a b calls x journal ran some seen. ran_lawful J.start a.pass b.pass calls x journal ran some seen };
+    ghost seen_lawful = { λ a b calls x journal ran some seen. ran_lawful J.start a.pass b.pass calls x journal ran.0 some seen };
 
-    ghost known_rises = { λ a b calls ran. (ran.end_known, ran.cursor_known) };
+    ghost known_rises = { λ a b calls ran. (ran.0.end_known, ran.0.cursor_known) };
 
-    ghost may_take_more = { λ a b calls conn index ran sure all may. ran_next J.start J.run a.pass b.pass calls conn index ran sure all may };
+    ghost may_take_more = { λ a b calls conn index ran sure all may. ran_next J.start J.run a.pass b.pass calls conn index ran.0 sure all may };
 
-    ghost may_use_issued = { λ a b channel id ran. ran_issued J.start a.pass b.pass channel id ran };
+    ghost may_use_issued = { λ a b channel id ran. ran_issued J.start a.pass b.pass channel id ran.0 };
 
-    ghost may_use_more = { λ a b calls id ran unused may. ran_unused J.start a.pass b.pass calls id ran unused may };
+    ghost may_use_more = { λ a b calls id ran unused may. ran_unused J.start a.pass b.pass calls id ran.0 unused may };
 
-    ghost may_settle_taken = { λ a b group receipt id ran some units. ran_stored J.start a.pass b.pass group receipt id ran some units };
+    ghost may_settle_taken = { λ a b group receipt id ran some units. ran_stored J.start a.pass b.pass group receipt id ran.0 some units };
 
-    ghost may_settle_more = { λ a b calls id ran may. ran_still_stored J.start a.pass b.pass calls id ran may };
+    ghost may_settle_more = { λ a b calls id ran may. ran_still_stored J.start a.pass b.pass calls id ran.0 may };
 
-    ghost may_confirm_more = { λ a b calls ran may. ran_confirms J.start J.seats a.pass b.pass calls ran may };
+    ghost may_confirm_more = { λ a b calls ran may. ran_confirms J.start J.seats a.pass b.pass calls ran.0 may };
 }

@@ -10,7 +10,7 @@ ghost use Rattle.desk_access.specs.Batch.{MayTake, MayUse};
 ghost use Rattle.desk_access.specs.Desk.{DeskState};
 ghost use Rattle.desk_access.specs.Legal.{IsNext, IsUnused, IsStored};
 ghost use Rattle.spool_turns.specs.Passes.{Calls, IsAsked, LeadsBelow};
-ghost use Rattle.spool_turns.specs.Replays.{Closes, desk_at};
+ghost use Rattle.spool_turns.specs.Replays.{Closes, IsReal, desk_at};
 
 use crate::naming::Naming;
 use crate::pass::Pass;
@@ -55,6 +55,7 @@ impl<D: Disk, J: Naming> Shared<D, J> {
         requires units { MayUse (IsUnused pass.old.own) entries.now }
 
         ensures call { Calls J.start J.run J.seats pass.old (takes entries.now result) pass.new }
+        ensures real { IsReal ⟦<D as Disk>⟧ J.start J.run J.seats J.began pass.new.seen }
         ensures receipt { IfOk result (λ receipt. (receipt.count ≡ length entries.now) × (receipt.first + receipt.count ≤ 2 ^ 63)) }
     {
         self.turn.lock(rt).take(&self.table.shared, pass, entries)
@@ -71,6 +72,7 @@ impl<D: Disk, J: Naming> Shared<D, J> {
         requires number { from ≤ pass.old.end_known }
 
         ensures call { Calls J.start J.run J.seats pass.old (pends from most (listed result)) pass.new }
+        ensures real { IsReal ⟦<D as Disk>⟧ J.start J.run J.seats J.began pass.new.seen }
         ensures few { IfOk result (λ given. length given.items ≤ most) }
         ensures numbered { IfOk result (λ given. AreNumbered 0 (2 ^ 63) given.items) }
     {
@@ -89,7 +91,8 @@ impl<D: Disk, J: Naming> Shared<D, J> {
         requires caller { pass.old.number + 1 ≡ J.seats }
         requires number { upto ≤ pass.old.end_known }
 
-        ensures { Calls J.start J.run J.seats pass.old (confirms upto result) pass.new }
+        ensures call { Calls J.start J.run J.seats pass.old (confirms upto result) pass.new }
+        ensures real { IsReal ⟦<D as Disk>⟧ J.start J.run J.seats J.began pass.new.seen }
     {
         self.turn.lock(rt).confirm(&self.table.shared, pass, upto)
     }
@@ -104,14 +107,16 @@ impl<D: Disk, J: Naming> Shared<D, J> {
         requires caller { pass.old.number + 1 ≡ J.seats }
         requires numbers { All (EndsBy pass.old.end_known) known.now }
 
-        ensures { Calls J.start J.run J.seats pass.old (marks known.now result) pass.new }
+        ensures call { Calls J.start J.run J.seats pass.old (marks known.now result) pass.new }
+        ensures real { IsReal ⟦<D as Disk>⟧ J.start J.run J.seats J.began pass.new.seen }
     {
         self.turn.lock(rt).mark(&self.table.shared, pass, known)
     }
 
     /// How many numbers above the cursor are known as confirmed.
     pub fn known_count<R: Wait>(&self, rt: &R, pass: &mut Pass<J>) -> u64
-        ensures { Calls J.start J.run J.seats pass.old (counts result) pass.new }
+        ensures call { Calls J.start J.run J.seats pass.old (counts result) pass.new }
+        ensures real { IsReal ⟦<D as Disk>⟧ J.start J.run J.seats J.began pass.new.seen }
     {
         self.turn.lock(rt).known_count(&self.table.shared, pass)
     }
@@ -123,7 +128,8 @@ impl<D: Disk, J: Naming> Shared<D, J> {
         pass: &mut Pass<J>,
         channel: u128,
     ) -> Result<u64, IssueFault>
-        ensures { Calls J.start J.run J.seats pass.old (issues channel result) pass.new }
+        ensures call { Calls J.start J.run J.seats pass.old (issues channel result) pass.new }
+        ensures real { IsReal ⟦<D as Disk>⟧ J.start J.run J.seats J.began pass.new.seen }
     {
         self.turn.lock(rt).issue(&self.table.shared, pass, channel)
     }
@@ -132,7 +138,8 @@ impl<D: Disk, J: Naming> Shared<D, J> {
     pub fn settle<R: Wait>(&self, rt: &R, pass: &mut Pass<J>, channel: u128, id: u64) -> bool
         requires taken { IsStored pass.old.own id }
 
-        ensures { Calls J.start J.run J.seats pass.old (settles channel id result) pass.new }
+        ensures call { Calls J.start J.run J.seats pass.old (settles channel id result) pass.new }
+        ensures real { IsReal ⟦<D as Disk>⟧ J.start J.run J.seats J.began pass.new.seen }
     {
         self.turn
             .lock(rt)
@@ -141,7 +148,8 @@ impl<D: Disk, J: Naming> Shared<D, J> {
 
     /// Forgets an id, settled or not, and says whether the channel held it.
     pub fn forget<R: Wait>(&self, rt: &R, pass: &mut Pass<J>, channel: u128, id: u64) -> bool
-        ensures { Calls J.start J.run J.seats pass.old (forgets channel id result) pass.new }
+        ensures call { Calls J.start J.run J.seats pass.old (forgets channel id result) pass.new }
+        ensures real { IsReal ⟦<D as Disk>⟧ J.start J.run J.seats J.began pass.new.seen }
     {
         self.turn
             .lock(rt)
@@ -162,6 +170,7 @@ impl<D: Disk, J: Naming> Shared<D, J> {
         requires distinct { IsDistinct nat_eq ids.now }
 
         ensures call { Calls J.start J.run J.seats pass.old (asks channel ids.now known.new) pass.new }
+        ensures real { IsReal ⟦<D as Disk>⟧ J.start J.run J.seats J.began pass.new.seen }
         ensures held { (x : DeskState) → J.start x → IsAsked x channel ids.now known.new pass.new.seen }
         ensures stored { (x : DeskState) → J.start x → (k : ℕ) → k < length ids.now → get_or known.new k false ≡ true
             → (caller : ℕ) × IsStored (own_of caller pass.new.seen) (get_or ids.now k 0) }

@@ -9,7 +9,7 @@ ghost use Rattle.desk_access.specs.Batch.{MayTake, MayUse};
 ghost use Rattle.desk_access.specs.Desk.{DeskState};
 ghost use Rattle.desk_access.specs.Legal.{IsNext, IsUnused, IsStored};
 ghost use Rattle.spool_turns.specs.Passes.{Calls, IsAsked};
-ghost use Rattle.spool_turns.specs.Replays.{Closes, desk_at};
+ghost use Rattle.spool_turns.specs.Replays.{Closes, IsReal, desk_at};
 
 use crate::naming::Naming;
 use crate::pass::Pass;
@@ -63,6 +63,7 @@ impl<D: Disk, J: Naming> Turn<D, J> {
         requires units { MayUse (IsUnused pass.old.own) entries.now }
 
         ensures call { Calls J.start J.run J.seats pass.old (takes entries.now result) pass.new }
+        ensures real { IsReal ⟦<D as Disk>⟧ J.start J.run J.seats J.began pass.new.seen }
         ensures receipt { IfOk result (λ receipt. (receipt.count ≡ length entries.now) × (receipt.first + receipt.count ≤ 2 ^ 63)) }
     {
         admit(steps, &mut self.locked, &mut pass.seat);
@@ -89,6 +90,7 @@ impl<D: Disk, J: Naming> Turn<D, J> {
         requires number { from ≤ pass.old.end_known }
 
         ensures call { Calls J.start J.run J.seats pass.old (pends from most (listed result)) pass.new }
+        ensures real { IsReal ⟦<D as Disk>⟧ J.start J.run J.seats J.began pass.new.seen }
         ensures few { IfOk result (λ given. length given.items ≤ most) }
         ensures numbered { IfOk result (λ given. AreNumbered 0 (2 ^ 63) given.items) }
     {
@@ -115,7 +117,8 @@ impl<D: Disk, J: Naming> Turn<D, J> {
         requires caller { pass.old.number + 1 ≡ J.seats }
         requires number { upto ≤ pass.old.end_known }
 
-        ensures { Calls J.start J.run J.seats pass.old (confirms upto result) pass.new }
+        ensures call { Calls J.start J.run J.seats pass.old (confirms upto result) pass.new }
+        ensures real { IsReal ⟦<D as Disk>⟧ J.start J.run J.seats J.began pass.new.seen }
     {
         admit(steps, &mut self.locked, &mut pass.seat);
         let answer = self.alone.confirm(upto);
@@ -140,7 +143,8 @@ impl<D: Disk, J: Naming> Turn<D, J> {
         requires caller { pass.old.number + 1 ≡ J.seats }
         requires numbers { All (EndsBy pass.old.end_known) known.now }
 
-        ensures { Calls J.start J.run J.seats pass.old (marks known.now result) pass.new }
+        ensures call { Calls J.start J.run J.seats pass.old (marks known.now result) pass.new }
+        ensures real { IsReal ⟦<D as Disk>⟧ J.start J.run J.seats J.began pass.new.seen }
     {
         admit(steps, &mut self.locked, &mut pass.seat);
         let answer = self.alone.mark(known);
@@ -158,7 +162,8 @@ impl<D: Disk, J: Naming> Turn<D, J> {
     pub(crate) fn known_count(&mut self, steps: &Steps, pass: &mut Pass<J>) -> u64
         requires table { (steps.now.table_id ≡ J.table) × (steps.now.table_id.words ≡ 4) }
 
-        ensures { Calls J.start J.run J.seats pass.old (counts result) pass.new }
+        ensures call { Calls J.start J.run J.seats pass.old (counts result) pass.new }
+        ensures real { IsReal ⟦<D as Disk>⟧ J.start J.run J.seats J.began pass.new.seen }
     {
         admit(steps, &mut self.locked, &mut pass.seat);
         let answer = self.alone.known_count();
@@ -181,7 +186,8 @@ impl<D: Disk, J: Naming> Turn<D, J> {
     ) -> Result<u64, IssueFault>
         requires table { (steps.now.table_id ≡ J.table) × (steps.now.table_id.words ≡ 4) }
 
-        ensures { Calls J.start J.run J.seats pass.old (issues channel result) pass.new }
+        ensures call { Calls J.start J.run J.seats pass.old (issues channel result) pass.new }
+        ensures real { IsReal ⟦<D as Disk>⟧ J.start J.run J.seats J.began pass.new.seen }
     {
         admit(steps, &mut self.locked, &mut pass.seat);
         let answer = self.alone.issue(channel);
@@ -206,7 +212,8 @@ impl<D: Disk, J: Naming> Turn<D, J> {
         requires table { (steps.now.table_id ≡ J.table) × (steps.now.table_id.words ≡ 4) }
         requires taken { IsStored pass.old.own id }
 
-        ensures { Calls J.start J.run J.seats pass.old (settles channel id result) pass.new }
+        ensures call { Calls J.start J.run J.seats pass.old (settles channel id result) pass.new }
+        ensures real { IsReal ⟦<D as Disk>⟧ J.start J.run J.seats J.began pass.new.seen }
     {
         admit(steps, &mut self.locked, &mut pass.seat);
         let answer = self.alone.settle(channel, id);
@@ -230,7 +237,8 @@ impl<D: Disk, J: Naming> Turn<D, J> {
     ) -> bool
         requires table { (steps.now.table_id ≡ J.table) × (steps.now.table_id.words ≡ 4) }
 
-        ensures { Calls J.start J.run J.seats pass.old (forgets channel id result) pass.new }
+        ensures call { Calls J.start J.run J.seats pass.old (forgets channel id result) pass.new }
+        ensures real { IsReal ⟦<D as Disk>⟧ J.start J.run J.seats J.began pass.new.seen }
     {
         admit(steps, &mut self.locked, &mut pass.seat);
         let answer = self.alone.forget(channel, id);
@@ -258,6 +266,7 @@ impl<D: Disk, J: Naming> Turn<D, J> {
         requires distinct { IsDistinct nat_eq ids.now }
 
         ensures call { Calls J.start J.run J.seats pass.old (asks channel ids.now known.new) pass.new }
+        ensures real { IsReal ⟦<D as Disk>⟧ J.start J.run J.seats J.began pass.new.seen }
         ensures held { (x : DeskState) → J.start x → IsAsked x channel ids.now known.new pass.new.seen }
         ensures stored { (x : DeskState) → J.start x → (k : ℕ) → k < length ids.now → get_or known.new k false ≡ true
             → (caller : ℕ) × IsStored (own_of caller pass.new.seen) (get_or ids.now k 0) }

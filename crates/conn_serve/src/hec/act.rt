@@ -10,7 +10,8 @@ ghost use Rattle.desk_access.specs.Endings.{IsAtMove};
 ghost use Rattle.conn_serve.specs.Done.{Done};
 ghost use Rattle.conn_serve.specs.Endings.{CountsFaults};
 ghost use Rattle.conn_serve.specs.Hec.{IsDone};
-ghost use Rattle.conn_serve.specs.HecServing.{Carries, Halts, HaltsAtAct, IsSoundAsked};
+ghost use Rattle.conn_serve.specs.Says.{MaySay};
+ghost use Rattle.conn_serve.specs.HecServing.{Carries, Halts, HaltsAtAct, IsSayable, IsSayableFor, IsSoundAsked};
 
 use super::asked::Asked;
 use super::ids::say_then_store;
@@ -38,6 +39,8 @@ fn store_then_say<L: Link, A: Access>(
     requires within { AreWithinLimits events.items }
     requires early { connection.old.taken + 10000 < 2 ^ 63 }
     requires may { A.may_take access.old connection.old.number connection.old.taken }
+    requires says { MaySay (A.ran access.old) (L.permits link.old) (L.taken link.old)
+        (IsSayable connection.old.number connection.old.taken (StoreThenSay events) closing) }
 
     ensures goes { OnOk result (Done (λ calls. A.ran access.old calls access.new) (L.taken link.old) (L.taken link.new)
         connection.old.taken connection.new.taken (IsDone connection.old.number connection.old.taken (StoreThenSay events) closing)) }
@@ -93,6 +96,8 @@ fn answer<L: Link, A: Access>(
 ) -> Result<(), Talk>
     requires asked { AreAsked ids.items }
     requires may { A.may_take access.old connection.now.number connection.now.taken }
+    requires says { MaySay (A.ran access.old) (L.permits link.old) (L.taken link.old)
+        (IsSayable connection.now.number connection.now.taken (Ask channel ids) closing) }
 
     ensures goes { OnOk result (Done (λ calls. A.ran access.old calls access.new) (L.taken link.old) (L.taken link.new)
         connection.now.taken connection.now.taken (IsDone connection.now.number connection.now.taken (Ask channel ids) closing)) }
@@ -124,6 +129,8 @@ fn say_code<L: Link, A: Access>(
     closing: bool,
 ) -> Result<(), Talk>
     requires reply { IsReply reply }
+    requires says { MaySay (A.ran access.now) (L.permits link.old) (L.taken link.old)
+        (IsSayable connection.now.number connection.now.taken (Say reply) closing) }
 
     ensures goes { OnOk result (Done (λ calls. A.ran access.now calls access.now) (L.taken link.old) (L.taken link.new)
         connection.now.taken connection.now.taken (IsDone connection.now.number connection.now.taken (Say reply) closing)) }
@@ -153,6 +160,8 @@ fn carry_out<L: Link, A: Access>(
     requires sound { IsSound act }
     requires early { connection.old.taken + 10000 < 2 ^ 63 }
     requires may { A.may_take access.old connection.old.number connection.old.taken }
+    requires says { MaySay (A.ran access.old) (L.permits link.old) (L.taken link.old)
+        (IsSayable connection.old.number connection.old.taken act closing) }
 
     ensures goes { OnOk result (Done (λ calls. A.ran access.old calls access.new) (L.taken link.old) (L.taken link.new)
         connection.old.taken connection.new.taken (IsDone connection.old.number connection.old.taken act closing)) }
@@ -194,6 +203,8 @@ pub fn serve_item<L: Link, A: Access>(
     requires sound { IsSoundAsked asked }
     requires early { connection.old.taken + 10000 < 2 ^ 63 }
     requires may { A.may_take access.old connection.old.number connection.old.taken }
+    requires says { MaySay (A.ran access.old) (L.permits link.old) (L.taken link.old)
+        (IsSayableFor connection.old.number connection.old.taken asked) }
 
     ensures goes { OnOk result (Done (λ calls. A.ran access.old calls access.new) (L.taken link.old) (L.taken link.new)
         connection.old.taken connection.new.taken (Carries connection.old.number connection.old.taken asked)) }

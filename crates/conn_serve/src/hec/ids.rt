@@ -1,7 +1,8 @@
 //! Events that are stored under an acknowledgement id.
-ghost use Rattle.std.specs.Prelude.{◌≡◌, ◌≢◌, ◌+◌, ◌<◌, ◌^◌, Bool, [], ◌∷◌, length, All, Ok, Err, OnOk, OnErr, IfErr, IsErrOf};
+ghost use Rattle.std.specs.Prelude.{◌≡◌, ◌≢◌, ◌+◌, ◌<◌, ◌^◌, Bool, [], ◌∷◌, length, All, Some, Ok, Err, OnOk, OnErr, IfErr, IsErrOf};
 ghost use Rattle.event_form.specs.Entry.{IsEntry};
 ghost use Rattle.event_form.specs.declared.talk.Talk.TheVariants.{WriteFault};
+ghost use Rattle.edge_io.specs.Told.{MayFollow};
 ghost use Rattle.hec_session.specs.Acts.{AreWithinLimits};
 ghost use Rattle.hec_session.specs.declared.act.HecAct.TheVariants.{SayThenStore};
 ghost use Rattle.spool_log.specs.declared.fault.Receipt.{Receipt};
@@ -12,8 +13,9 @@ ghost use Rattle.desk_access.specs.Call.{takes, settles};
 ghost use Rattle.desk_access.specs.Endings.{IsAtMove};
 ghost use Rattle.conn_serve.specs.Done.{Done};
 ghost use Rattle.conn_serve.specs.Endings.{CountsFaults};
-ghost use Rattle.conn_serve.specs.Hec.{IsDone};
-ghost use Rattle.conn_serve.specs.HecServing.{HaltsAtAct, StoresUnder, FailsUnder};
+ghost use Rattle.conn_serve.specs.Hec.{IsDone, success};
+ghost use Rattle.conn_serve.specs.HecServing.{HaltsAtAct, IsSayable, StoresUnder, FailsUnder};
+ghost use Rattle.conn_serve.specs.Says.{MaySay};
 
 use super::last::refuse_id;
 use super::replies::make_success;
@@ -61,7 +63,8 @@ fn take_and_settle<A: Access>(
 }
 
 // Says an id that was issued, takes its events, and settles it: in this order, so that it is never told before
-// they are durable. The error is the ending of the connection; the id is to be forgotten then.
+// they are durable. That an id was issued promises nothing yet, so it may be said before. The error is the ending
+// of the connection; the id is to be forgotten then.
 fn store_under<L: Link, A: Access>(
     alloc: Global,
     link: &mut L,
@@ -77,6 +80,7 @@ fn store_under<L: Link, A: Access>(
     requires early { connection.old.taken + 10000 < 2 ^ 63 }
     requires may { A.may_take access.old connection.old.number connection.old.taken }
     requires issued { A.may_use access.old id }
+    requires permitted { MayFollow (L.permits link.old) (L.taken link.old) (success (Some id) closing) }
 
     ensures goes { OnOk result (Done (λ calls. A.ran access.old calls access.new) (L.taken link.old) (L.taken link.new)
         connection.old.taken connection.new.taken (StoresUnder connection.old.number connection.old.taken channel id events.items closing)) }
@@ -116,6 +120,8 @@ pub fn say_then_store<L: Link, A: Access>(
     requires within { AreWithinLimits events.items }
     requires early { connection.old.taken + 10000 < 2 ^ 63 }
     requires may { A.may_take access.old connection.old.number connection.old.taken }
+    requires says { MaySay (A.ran access.old) (L.permits link.old) (L.taken link.old)
+        (IsSayable connection.old.number connection.old.taken (SayThenStore channel events) closing) }
 
     ensures goes { OnOk result (Done (λ calls. A.ran access.old calls access.new) (L.taken link.old) (L.taken link.new)
         connection.old.taken connection.new.taken (IsDone connection.old.number connection.old.taken (SayThenStore channel events) closing)) }

@@ -3,6 +3,7 @@ ghost use Rattle.std.specs.Prelude.{◌≡◌, ℕ, List, None, true};
 ghost use Rattle.std.specs.Io.KnownBytes.{Appends};
 ghost use Rattle.event_form.specs.declared.talk.Talk.TheVariants.{WriteFault};
 ghost use Rattle.desk_access.specs.Endings.{IsAtMove};
+ghost use Rattle.edge_io.specs.Told.{MayFollow};
 ghost use Rattle.conn_serve.specs.Endings.{CountsFaults};
 ghost use Rattle.conn_serve.specs.Hec.{reply, refusal, unissued, talk_of_issue};
 ghost use Rattle.conn_serve.specs.HecServing.{EndsSaying, code_of};
@@ -64,6 +65,7 @@ impl LastReply {
 fn say_last<L: Link>(link: &mut L, last: LastReply, over: Talk) -> Talk
     requires ends { IsAtMove over }
     requires other { over ≡ WriteFault → ⊥ }
+    requires permitted { MayFollow (L.permits link.old) (L.taken link.old) (reply (code_of last) None true) }
 
     ensures ends { (part : List ℕ) × Appends (L.taken link.old) (L.taken link.new) part × EndsSaying (reply (code_of last) None true) over part result }
     ensures only { IsAtMove result }
@@ -80,6 +82,8 @@ fn say_last<L: Link>(link: &mut L, last: LastReply, over: Talk) -> Talk
 /// Ends the connection by a take that wasn't answered Ok, before which nothing was said: 503 where there is no
 /// room, 500 where the disk failed or the device is no spool, and nothing for want of memory.
 pub fn refuse<L: Link>(link: &mut L, fault: TakeFault) -> Talk
+    requires permitted { MayFollow (L.permits link.old) (L.taken link.old) (refusal fault) }
+
     ensures ends { (part : List ℕ) × Appends (L.taken link.old) (L.taken link.new) part × EndsSaying (refusal fault) (talk_of fault) part result }
     ensures only { IsAtMove result }
     ensures writes { CountsFaults (result ≡ WriteFault) (L.write_faults link.old) (L.write_faults link.new) }
@@ -100,6 +104,8 @@ pub fn refuse<L: Link>(link: &mut L, fault: TakeFault) -> Talk
 /// Ends the connection by an id that wasn't issued: 503 where the table of ids is full, or the ids of the run are
 /// spent, and nothing for want of memory.
 pub fn refuse_id<L: Link>(link: &mut L, fault: IssueFault) -> Talk
+    requires permitted { MayFollow (L.permits link.old) (L.taken link.old) (unissued fault) }
+
     ensures ends { (part : List ℕ) × Appends (L.taken link.old) (L.taken link.new) part × EndsSaying (unissued fault) (talk_of_issue fault) part result }
     ensures only { IsAtMove result }
     ensures writes { CountsFaults (result ≡ WriteFault) (L.write_faults link.old) (L.write_faults link.new) }

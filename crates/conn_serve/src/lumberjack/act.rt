@@ -9,7 +9,9 @@ ghost use Rattle.lumber_session.specs.Lent.{act_lent};
 ghost use Rattle.lumber_session.specs.Counting.{IsBehind};
 ghost use Rattle.desk_access.specs.Batch.{AreNext};
 ghost use Rattle.desk_access.specs.Call.{Call};
-ghost use Rattle.conn_serve.specs.Lumber.{StoresGroup, EndsAtGroup, entries_of};
+ghost use Rattle.conn_serve.specs.Handled.{Handled};
+ghost use Rattle.conn_serve.specs.Says.{MaySay};
+ghost use Rattle.conn_serve.specs.Lumber.{lumberjack, StoresGroup, EndsAtGroup, entries_of};
 ghost use Rattle.conn_serve.specs.Groups.{IsFrameEntry};
 ghost use Rattle.conn_serve.specs.Done.{Done, Leads, SoFar};
 ghost use Rattle.conn_serve.specs.Endings.{CountsFaults};
@@ -79,6 +81,8 @@ pub fn commit<L: Link, A: Access>(
     requires next { AreNext connection.old.number connection.old.taken staged.old.entries.items }
     requires early { connection.old.taken + length staged.old.entries.items < 2 ^ 63 }
     requires may { A.may_take access.old connection.old.number connection.old.taken }
+    requires says { MaySay (A.ran access.old) (L.permits link.old) (L.taken link.old)
+        (StoresGroup staged.old.entries.items staged.old.last) }
 
     ensures goes { OnOk result (Done (λ calls. A.ran access.old calls access.new) (L.taken link.old) (L.taken link.new)
         connection.old.taken connection.new.taken (StoresGroup staged.old.entries.items staged.old.last)) }
@@ -118,6 +122,10 @@ pub fn serve_frame<L: Link, A: Access>(
         × Handles connection.old.number core.old staged.old.entries.items staged.old.last frames called said) connection.old.taken 0 }
     requires early { connection.old.taken + length staged.old.entries.items < 2 ^ 62 }
     requires may { A.may_take access.old connection.old.number connection.old.taken }
+    requires says { MaySay (A.ran access.old) (L.permits link.old) (L.taken link.old)
+        (λ calls text. (frames : List LumberFrame) → Leads connection.old.taken
+        (λ fed called said. Handles connection.old.number core.old staged.old.entries.items staged.old.last frames called said)
+        (λ fed called said. Handled (lumberjack connection.old.number) (frames ++ frame_lent lent ∷ []) called said) calls text) }
 
     ensures goes { OnOk result (Done (λ calls. A.ran access.old calls access.new) (L.taken link.old) (L.taken link.new)
         connection.old.taken connection.new.taken (λ calls text. (frames : List LumberFrame) → Leads connection.old.taken

@@ -13,6 +13,7 @@ ghost use Rattle.desk_access.specs.Endings.{IsAtMove};
 ghost use Rattle.conn_serve.specs.Lumber.{lumberjack};
 ghost use Rattle.conn_serve.specs.Done.{Anyway, Done, Leads, SoFar};
 ghost use Rattle.conn_serve.specs.Endings.{CountsFaults};
+ghost use Rattle.conn_serve.specs.Says.{CouldEnd, MaySay};
 ghost use Rattle.conn_serve.specs.Tokens.{no_tokens};
 ghost use Rattle.conn_serve.specs.Handled.{Served, Closing, ReadBy, IsIdle, GivesNext};
 ghost use Rattle.conn_serve.specs.LumberServing.{Handles};
@@ -51,6 +52,11 @@ fn serve_next<L: Link, A: Access>(
         × Handles connection.old.number core.old staged.old.entries.items staged.old.last frames called said) connection.old.taken 0 }
     requires early { connection.old.taken + length staged.old.entries.items < 2 ^ 62 }
     requires may { A.may_take access.old connection.old.number connection.old.taken }
+    requires says { MaySay (A.ran access.old) (L.permits link.old) (L.taken link.old)
+        (λ calls text. (fault : Option TheFault) → Leads connection.old.taken
+        (Served (Handles connection.old.number core.old staged.old.entries.items staged.old.last)
+        (ReadBy receiver (Spells Receiver) window.old fault))
+        (CouldEnd (Carried (lumberjack connection.old.number))) calls text) }
 
     ensures goes { (fault : Option TheFault) → OnOk result (Done (λ calls. A.ran access.old calls access.new) (L.taken link.old) (L.taken link.new)
         connection.old.taken connection.new.taken (Leads connection.old.taken

@@ -7,16 +7,18 @@ ghost use Rattle.event_form.specs.declared.talk.Talk.TheVariants.{WriteFault};
 ghost use Rattle.relp_frame.specs.Machine.{frame};
 ghost use Rattle.relp_frame.specs.declared.frame.Frame.{Frame};
 ghost use Rattle.relp_frame.specs.Spelling.{IsFrame};
-ghost use Rattle.relp_session.specs.Answer.{IsSound, stored};
+ghost use Rattle.relp_session.specs.Answer.{IsSound, hint, stored};
 ghost use Rattle.relp_session.specs.Row.{act_lent, answer_text};
 ghost use Rattle.relp_session.specs.Session.{state_after};
 ghost use Rattle.relp_session.specs.declared.act.RelpAct.TheVariants.{Store};
 ghost use Rattle.spool_log.specs.Changing.Take.{IsRefusal};
-ghost use Rattle.conn_serve.specs.Relp.{Carries, CarriesFrame};
+ghost use Rattle.edge_io.specs.Told.{MayFollow};
+ghost use Rattle.conn_serve.specs.Relp.{Carries, CarriesFrame, IsDue};
+ghost use Rattle.conn_serve.specs.Says.{MaySay};
 ghost use Rattle.conn_serve.specs.Done.{Done};
 ghost use Rattle.conn_serve.specs.Endings.{CountsFaults};
 ghost use Rattle.desk_access.specs.Endings.{IsAtMove};
-ghost use Rattle.conn_serve.specs.RelpServing.{EndsByFault, HaltsAtAct, HaltsAtFrame};
+ghost use Rattle.conn_serve.specs.RelpServing.{EndsByFault, HaltsAtAct, HaltsAtFrame, IsDueAt};
 
 use super::texts::Texts;
 use crate::connection::{Connection, entry_of, take_group};
@@ -41,6 +43,8 @@ fn is_refusal(fault: TakeFault) -> bool
 
 // Ends the connection by a take that wasn't answered Ok: after a refusal the hint is written first.
 fn end_by<L: Link>(link: &mut L, texts: &mut Texts, fault: TakeFault) -> Talk
+    requires permitted { IsRefusal fault → MayFollow (L.permits link.old) (L.taken link.old) hint }
+
     ensures ends { (part : List ℕ) × Appends (L.taken link.old) (L.taken link.new) part × EndsByFault fault part result }
     ensures only { IsAtMove result }
     ensures writes { CountsFaults (result ≡ WriteFault) (L.write_faults link.old) (L.write_faults link.new) }
@@ -73,6 +77,8 @@ fn store<L: Link, A: Access>(
     requires spelled { texts.old.answer.items ≡ stored txnr }
     requires early { connection.old.taken < 2 ^ 62 }
     requires may { A.may_take access.old connection.old.number connection.old.taken }
+    requires says { MaySay (A.ran access.old) (L.permits link.old) (L.taken link.old)
+        (IsDue connection.old.number connection.old.taken (Store (record { origin = Relp; text = text.now }) txnr)) }
 
     ensures goes { OnOk result (Done (λ calls. A.ran access.old calls access.new) (L.taken link.old) (L.taken link.new)
         connection.old.taken connection.new.taken (Carries connection.old.number connection.old.taken
@@ -116,6 +122,8 @@ fn carry_out<L: Link, A: Access>(
     requires spelled { texts.old.answer.items ≡ answer_text act }
     requires early { connection.old.taken < 2 ^ 62 }
     requires may { A.may_take access.old connection.old.number connection.old.taken }
+    requires says { MaySay (A.ran access.old) (L.permits link.old) (L.taken link.old)
+        (IsDue connection.old.number connection.old.taken (act_lent act)) }
 
     ensures goes { OnOk result (Done (λ calls. A.ran access.old calls access.new) (L.taken link.old) (L.taken link.new)
         connection.old.taken connection.new.taken (Carries connection.old.number connection.old.taken (act_lent act.entry))) }
@@ -152,6 +160,8 @@ pub fn serve_frame<L: Link, A: Access>(
     requires frame { IsFrame (frame lent.txnr lent.command.now lent.body.now) }
     requires early { connection.old.taken < 2 ^ 62 }
     requires may { A.may_take access.old connection.old.number connection.old.taken }
+    requires says { MaySay (A.ran access.old) (L.permits link.old) (L.taken link.old)
+        (IsDueAt connection.old.number core.old connection.old.taken (frame lent.txnr lent.command.now lent.body.now)) }
 
     ensures goes { OnOk result (Done (λ calls. A.ran access.old calls access.new) (L.taken link.old) (L.taken link.new)
         connection.old.taken connection.new.taken (CarriesFrame connection.old.number core.old connection.old.taken

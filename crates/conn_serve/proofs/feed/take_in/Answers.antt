@@ -5,6 +5,8 @@ use Rattle.conn_serve.specs.Done.{Anyway, SoFar}
 use Rattle.conn_serve.proofs.Feeding.{on_start, on_fed, on_then, on_halts, on_is, goes_as, halts_as}
 use Rattle.conn_serve.proofs.Leading.{so_far_fed, so_far_less, so_far_then}
 use Rattle.conn_serve.proofs.Faults.{counts_fine, counts_passed, err_of, quiet_fine}
+use Rattle.conn_serve.specs.Says.{CouldEnd}
+use Rattle.conn_serve.proofs.Saying.{says_as, says_on}
 use Rattle.conn_serve.proofs.feed.take_in.Goals as goal
 
 pub loop-fed-init : goal.loop-fed-init
@@ -35,6 +37,24 @@ serve-requires-clause-so_far g c =
     let on = λ (b : List ℕ) (cs : _) (t : List ℕ) (s : _). subst (λ (v : List ℕ). g.S.Session.served number c.feed-fed.new.self (b ++ take n v) cs t) left (c.feed-fed.ensures.fed number b cs t s) in
     subst (λ (k : ℕ). SoFar (g.S.Session.served k c.feed-fed.new.self) l.connection.taken 0) (sym inv.same_number)
     (so_far_fed _ _ 0 (take n rest) (g.S.Session.served number l.session) _ on (omega (arith, length-take-le n rest within, length-drop l.fed piece, inv.within, within)) inv.so_far)
+
+pub serve-requires-clause-says : goal.serve-requires-clause-says
+serve-requires-clause-says g c =
+    let l = c.loop-fed in
+    let inv = l.invariant in
+    let piece = c.args.piece.now in
+    let number = c.args.connection.now.number in
+    let rest = drop l.fed piece in
+    let left : take (length piece - l.fed) rest ≡ rest = take_all (length piece - l.fed) rest (omega (arith, length-drop l.fed piece)) in
+    let n = c.feed-fed.result in
+    let on = λ (b : List ℕ) (cs : _) (t : List ℕ) (s : _). subst (λ (v : List ℕ). g.S.Session.served number c.feed-fed.new.self (b ++ take n v) cs t) left (c.feed-fed.ensures.fed number b cs t s) in
+    let from = g.S.Session.served number c.args.session.now in
+    let mid = g.S.Session.served number c.feed-fed.new.self in
+    let fed = on_fed _ _ _ _ _ (take l.fed piece) (take n rest) from (g.S.Session.served number l.session) mid on inv.done in
+    let parts : (take l.fed piece ++ take n rest) ++ drop (l.fed + n) piece ≡ piece = ap (λ (v : List ℕ). v ++ drop (l.fed + n) piece) (sym (take-add l.fed n piece)) ∙ take-append-drop (l.fed + n) piece in
+    says_as g.A.Access.ran l.access (g.L.Sink.permits l.link) (g.L.Sink.taken l.link) l.connection.taken (λ k. g.S.Session.served k c.feed-fed.new.self) (λ t k. CouldEnd (g.S.Session.carried t k)) _ _ _ _ inv.same_number (c.feed-fed.ensures.tokens ∙ inv.same_tokens)
+    (says_on g.A.Access.ran c.args.access.now l.access g.met.A.Access.ran_more (g.L.Sink.permits c.args.link.now) (g.L.Sink.permits l.link) (g.L.Sink.taken c.args.link.now) (g.L.Sink.taken l.link) (g.met.L.Sink.permits_last _ _ inv.apart)
+    (g.S.Session.carried (g.S.Session.tokens c.args.session.now) number) _ _ (take l.fed piece ++ take n rest) (drop (l.fed + n) piece) piece parts from mid fed c.requires.says)
 
 pub loop-fed-preserved : goal.loop-fed-preserved
 loop-fed-preserved g c =

@@ -1,9 +1,10 @@
-use Rattle.std.proofs.Common.{rules, ◌≤◌, ◌∙◌, inl, inr, refl, sym, subst}
+use Rattle.std.proofs.Common.{rules, take, ◌≤◌, ◌∙◌, inl, inr, refl, sym, subst}
 use Rattle.std.specs.Io.KnownBytes.{IsAtEnd}
 use Rattle.desk_access.specs.Endings.{IsAtMove}
 use Rattle.conn_serve.proofs.Faults.{counts_fine, counts_other, counts_passed, quiet_fine}
 use Rattle.conn_serve.proofs.Leading.{done_map, so_far_less}
-use Rattle.conn_serve.proofs.Running.{piece_adds, piece_few, piece_fits, piece_size, turn_read, turn_unread}
+use Rattle.conn_serve.proofs.Running.{appends_first, piece_adds, piece_few, piece_fits, piece_size, turn_read, turn_unread}
+use Rattle.conn_serve.proofs.Saying.{says_read}
 use Rattle.conn_serve.proofs.feed.turn.Goals as goal
 
 pub returns-in-Err : goal.returns-in-Err
@@ -26,6 +27,7 @@ returns-in-Err g c =
       reads = record { later = read.cause.later; cause = λ is. read.cause.failed refl; quiet = λ none. absurd (none refl) };
       writes = counts_other _ _ _ _ _ (λ is. cc) keeps.1;
       same = read.same;
+      lasts = λ none. keeps.0 ∙ none;
     }
 
 pub take_in-requires : goal.take_in-requires
@@ -36,6 +38,8 @@ take_in-requires g c =
       fits = piece_fits _ _ _ _ _ few c.requires.fits;
       so_far = so_far_less _ _ _ _ (piece_few _ _ _ few) c.requires.so_far;
       may = c.requires.may;
+      says = says_read (g.A.Access.ran c.args.access.now) (g.L.Sink.permits c.read.new.self) (g.L.Sink.taken c.args.link.now) (g.L.Sink.taken c.read.new.self) _ (g.met.L.Link.reads_keep _ _ c.in-Ok.ensures.apart).0
+          (c.requires.says c.read.new.self (take c.in-Ok.len _) c.in-Ok.ensures.same (appends_first _ _ _ _ _ c.in-Ok.ensures.bound c.in-Ok.ensures.given));
     }
 
 pub returns-in-Ok-take_in-clause-room : goal.returns-in-Ok-take_in-clause-room
@@ -84,6 +88,11 @@ returns-in-Ok-take_in-clause-writes g c =
 pub returns-in-Ok-take_in-clause-same : goal.returns-in-Ok-take_in-clause-same
 returns-in-Ok-take_in-clause-same g c = g.L.Object.same_trans _ _ _ c.in-Ok.ensures.same c.in-Ok-take_in.ensures.same
 
+pub returns-in-Ok-take_in-clause-lasts : goal.returns-in-Ok-take_in-clause-lasts
+returns-in-Ok-take_in-clause-lasts g c =
+    let keeps = g.met.L.Link.reads_keep _ _ c.in-Ok.ensures.apart in
+    λ none. (g.met.L.Sink.permits_last _ _ c.in-Ok-take_in.ensures.apart).1 (keeps.0 ∙ none)
+
 pub returns-in-Err-take_in : goal.returns-in-Err-take_in
 returns-in-Err-take_in g c =
     let read = c.in-Ok.ensures in
@@ -106,4 +115,5 @@ returns-in-Err-take_in g c =
       reads = counts_other _ _ _ _ _ (λ is. subst IsAtMove is call.only) (kept.2 ∙ read.cause.quiet refl);
       writes = counts_passed _ _ _ _ _ _ _ keeps.1 call.writes;
       same = g.L.Object.same_trans _ _ _ read.same call.same;
+      lasts = λ none. (g.met.L.Sink.permits_last _ _ call.apart).1 (keeps.0 ∙ none);
     }

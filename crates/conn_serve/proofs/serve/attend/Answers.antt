@@ -31,6 +31,7 @@ run-requires g c =
       may_end = windowed.may_end (relp_sessions.kind c.args.conn session.core) session.window session.fault (ap (λ (w : Window RelpFault). w.whole) new.window) new.fault;
       first = refl;
       may = c.requires.may;
+      says = rw c.in-Relp.is at c.requires.says;
     }
 
 pub run-requires-in-Ok-new : goal.run-requires-in-Ok-new
@@ -46,6 +47,7 @@ run-requires-in-Ok-new g c =
       may_end = windowed.may_end (lumber_sessions.kind c.args.conn session.core session.staged.entries.items session.staged.last) session.window session.fault (ap (λ (w : Window LumberFault). w.whole) new.window) new.fault;
       first = refl;
       may = c.requires.may;
+      says = rw c.in-Lumberjack.is at c.requires.says;
     }
 
 pub run-requires-in-Ok-new-2 : goal.run-requires-in-Ok-new-2
@@ -61,6 +63,7 @@ run-requires-in-Ok-new-2 g c =
       may_end = hec_sessions.may_end session.core c.args.conn session.window session.met none new.met;
       first = refl;
       may = c.requires.may;
+      says = rw (c.in-Hec.is, ← new.core) at c.requires.says;
     }
 
 pub returns-in-Ok : goal.returns-in-Ok

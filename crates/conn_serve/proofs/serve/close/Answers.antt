@@ -8,6 +8,7 @@ finish-requires g c =
     record {
       so_far = c.requires.so_far;
       may = c.requires.may;
+      says = c.requires.says;
     }
 
 pub returns-in-Ok : goal.returns-in-Ok

@@ -1,9 +1,12 @@
-use Rattle.std.proofs.Common.{ℕ, ◌∙◌, sym, subst, arith}
+use Rattle.edge_io.proofs.Known.{appends_then}
+use Rattle.std.proofs.Common.{◌++◌, ℕ, ◌∙◌, sym, subst, arith}
 use Rattle.hec_session.specs.declared.tokens.Tokens.{Tokens}
 use Rattle.conn_serve.specs.Done.{told}
 use Rattle.conn_serve.specs.Endings.{MayEnd}
 use Rattle.conn_serve.proofs.Running.{progress_turn, serves_as, serves_turn, serves_close, so_far_of}
 use Rattle.conn_serve.proofs.Faults.{counts_from, counts_none, counts_told, quiet_fine}
+use Rattle.conn_serve.specs.Says.{HasCarried}
+use Rattle.conn_serve.proofs.Saying.{says_as, says_since}
 use Rattle.conn_serve.proofs.serve.run.Goals as goal
 
 pub turn-requires-clause-so_far : goal.turn-requires-clause-so_far
@@ -17,6 +20,40 @@ turn-requires-clause-may_end g c =
     let number = c.args.connection.now.number in
     subst (λ (n : ℕ). MayEnd (g.S.Session.served n l.session) (g.S.Session.carried (g.S.Session.tokens l.session) n)) (sym l.invariant.same_number)
     (subst (λ (t : Tokens). MayEnd (g.S.Session.served number l.session) (g.S.Session.carried t number)) (sym l.invariant.same_tokens) l.invariant.may_end)
+
+pub turn-requires-clause-says : goal.turn-requires-clause-says
+turn-requires-clause-says g c =
+    let l = c.loop-total in
+    let inv = l.invariant in
+    let p = inv.progress in
+    let number = c.args.connection.now.number in
+    let tokens = g.S.Session.tokens c.args.session.now in
+    let start = told (g.L.Source.given c.args.link.now) (g.L.Source.left c.args.link.now) (g.L.Sink.taken c.args.link.now) in
+    λ read piece same given.
+    says_as g.A.Access.ran l.access (g.L.Sink.permits read) (g.L.Sink.taken l.link) l.connection.taken (λ k. g.S.Session.served k l.session) (λ t k fed. HasCarried (g.S.Session.carried t k) (fed ++ piece)) _ _ _ _ inv.same_number inv.same_tokens
+    (says_since g.A.Access.ran c.args.access.now l.access g.met.A.Access.ran_more (g.L.Sink.permits read) (g.L.Sink.permits read) (g.L.Sink.taken c.args.link.now) (g.L.Sink.taken l.link) (λ text may. may, inv.lasts)
+    (λ fed. HasCarried (g.S.Session.carried tokens number) (fed ++ piece)) (HasCarried (g.S.Session.carried tokens number) (p.bytes ++ piece))
+    l.connection.taken p.bytes p.calls p.text (g.S.Session.served number l.session) (λ calls text e. e) p.made p.wrote p.counted p.served
+    (c.requires.says read (p.bytes ++ piece) (g.L.Object.same_trans _ _ _ inv.same same) (appends_then _ _ _ p.bytes piece p.read given)))
+
+pub close-requires-clause-says : goal.close-requires-clause-says
+close-requires-clause-says g c =
+    let l = c.loop-total in
+    let inv = l.invariant in
+    let start = told (g.L.Source.given c.args.link.now) (g.L.Source.left c.args.link.now) (g.L.Sink.taken c.args.link.now) in
+    let went = c.in-Ok.ensures in
+    let now = c.turn.new in
+    let number = c.args.connection.now.number in
+    let left = g.L.Source.left now.link in
+    let p = progress_turn start _ (told (g.L.Source.given now.link) left (g.L.Sink.taken now.link)) _ _ (λ calls. g.A.Access.ran c.args.access.now calls now.access)
+    (λ xs ys p q. g.met.A.Access.ran_more _ _ _ xs ys p q) _ _ _ _ _ inv.same_number (λ k. g.S.Session.served k l.session) (λ k. g.S.Session.served k now.session) c.in-Ok.len inv.progress went.goes in
+    let tokens = g.S.Session.tokens c.args.session.now in
+    let says = says_as g.A.Access.ran now.access (g.L.Sink.permits now.link) (g.L.Sink.taken now.link) now.connection.taken (λ k. g.S.Session.closing k now.session left c.in-Some.talk) (λ t k. HasCarried (g.S.Session.carried t k)) _ _ _ _ (went.number ∙ inv.same_number) (went.tokens ∙ inv.same_tokens)
+    (says_since g.A.Access.ran c.args.access.now now.access g.met.A.Access.ran_more (g.L.Sink.permits now.link) (g.L.Sink.permits now.link) (g.L.Sink.taken c.args.link.now) (g.L.Sink.taken now.link) (λ text may. may, λ none. went.lasts (inv.lasts none))
+    (HasCarried (g.S.Session.carried tokens number)) (HasCarried (g.S.Session.carried tokens number) p.bytes)
+    now.connection.taken p.bytes p.calls p.text (g.S.Session.closing number now.session left c.in-Some.talk) (λ calls text e. e) p.made p.wrote p.counted
+    (c.in-Some.ensures.closing number left p.bytes p.calls p.text went.end p.served) (c.requires.says now.link p.bytes (g.L.Object.same_trans _ _ _ inv.same went.same) p.read)) in
+    λ at calls text made goes. says at calls text made (goes left)
 
 pub close-requires-clause-so_far : goal.close-requires-clause-so_far
 close-requires-clause-so_far g c =
@@ -47,6 +84,7 @@ loop-total-preserved g c =
       extent = omega (arith, inv.extent, went.extent);
       below = omega (arith, inv.below, went.room, c.min-room.ensures);
       same = g.L.Object.same_trans _ _ _ inv.same went.same;
+      lasts = λ none. went.lasts (inv.lasts none);
       reads = quiet_fine _ _ _ _ _ went.reads ∙ inv.reads;
       writes = quiet_fine _ _ _ _ _ went.writes ∙ inv.writes;
     }

@@ -1,4 +1,4 @@
-use Rattle.std.proofs.Common.{◌-◌, ◌≡◌, ◌≤◌}
+use Rattle.std.proofs.Common.{None, ◌-◌, ◌≡◌, ◌≤◌}
 use Rattle.conn_serve.specs.Done.{told}
 use Rattle.conn_serve.specs.Endings.{MayEnd}
 use Rattle.conn_serve.proofs.Running.{Progress}
@@ -20,6 +20,7 @@ invariant-loop-total g l =
       extent : g.S.Session.extent l.session ≤ l.total;
       below : l.total ≤ 1099511627776;
       same : g.L.Object.same l.fn.link l.link;
+      lasts : g.L.Sink.taken l.fn.link ≡ None → g.L.Sink.taken l.link ≡ None;
       reads : g.L.Source.read_faults l.link ≡ g.L.Source.read_faults l.fn.link;
       writes : g.L.Sink.write_faults l.link ≡ g.L.Sink.write_faults l.fn.link;
     }

@@ -8,6 +8,9 @@ use Rattle.load_run.proofs.Sessions.{drains_of}
 use Rattle.load_run.proofs.Unfailing.{sent_unfailing}
 use Rattle.load_run.proofs.draining.drain.Goals as goal
 
+pub forward-sent-requires-clause-free : goal.forward-sent-requires-clause-free
+forward-sent-requires-clause-free c = λ link text. tt
+
 pub returns-clause-drains : goal.returns-clause-drains
 returns-clause-drains c =
     λ x at. let told = c.forward-sent.ensures.forwards in

@@ -7,6 +7,9 @@ use Rattle.load_run.proofs.Sessions.{replays_of}
 use Rattle.load_run.proofs.Unfailing.{talk_unfailing}
 use Rattle.load_run.proofs.replaying.replay.Goals as goal
 
+pub attend-attended-requires-clause-says : goal.attend-attended-requires-clause-says
+attend-attended-requires-clause-says c = λ read bytes same given now calls text made goes. tt
+
 pub returns-clause-replays : goal.returns-clause-replays
 returns-clause-replays c =
     λ x at. replays_of (λ calls. LeadsTo x calls (alone_at c.attend-attended.new.access)) _ c.rules.result c.args.proto _ _ _ _ _ _ c.attend-attended.result c.args.stream.items c.taken.result.now _

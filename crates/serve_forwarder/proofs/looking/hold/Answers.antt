@@ -17,6 +17,6 @@ returns-clause-held g c =
       one,
       record { begun = forwards.2; asked = forwards.3; made = by.made; ended = by.ended },
       hangs_up c.args.destination.now.place one (told c.args.net.now) (told c.dial.new.self) (told c.forward-sent.new.rest) (told c.hang_up.new.self) _ _ _ _ _ _ _ _ _ _ _ _
-          dial.rest dial.cause pauses room there c.forward-sent.ensures.dialed dial.fresh by.read by.consumed by.wrote c.forward-sent.ensures.reads c.forward-sent.ensures.writes hung.adds hung.reads hung.writes hung.quiet,
+          dial.rest dial.cause dial.bound pauses room there c.forward-sent.ensures.dialed dial.fresh by.read by.consumed by.wrote c.forward-sent.ensures.reads c.forward-sent.ensures.writes hung.adds hung.reads hung.writes hung.quiet hung.bound,
       refl,
     )

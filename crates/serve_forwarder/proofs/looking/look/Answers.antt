@@ -9,7 +9,7 @@ use Rattle.serve_forwarder.proofs.looking.look.Goals as goal
 pub returns-in-Err : goal.returns-in-Err
 returns-in-Err g c = (
   record { given = Err c.in-Err.fault; found = Unread c.in-Err.fault },
-  record { asked = c.pending.new.self.pass; asks = c.in-Err.ensures.ran; found = (refl, refl); told = refl },
+  record { asked = c.pending.new.self.pass; asks = c.in-Err.ensures.ran.0; found = (refl, refl); told = refl },
   refl,
 )
 
@@ -18,7 +18,7 @@ returns-then-is_empty g c =
     let given = c.in-Ok.given in
     let none = none_given given c.is_empty.result c.is_empty.ensures c.if-is_empty.true in (
       record { given = Ok given.items; found = Idle },
-      record { asked = c.pending.new.self.pass; asks = c.in-Ok.ensures.ran; found = (ap (λ l. Ok l) none, refl {a = c.pending.new.self.pass}); told = refl {a = g.N.Net.told c.args.net.now} },
+      record { asked = c.pending.new.self.pass; asks = c.in-Ok.ensures.ran.0; found = (ap (λ l. Ok l) none, refl {a = c.pending.new.self.pass}); told = refl {a = g.N.Net.told c.args.net.now} },
       refl,
     )
 
@@ -32,21 +32,21 @@ returns-in-Ok-hold g c =
       record { given = Ok given.items; found = Held held.0 },
       record {
         asked = c.pending.new.self.pass;
-        asks = c.in-Ok.ensures.ran;
+        asks = c.in-Ok.ensures.ran.0;
         found = (
           some,
           record {
             begun = by.begun.pass;
             asked = record {
               between = asked.between.pass;
-              cursor_ran = asked.cursor_ran;
+              cursor_ran = asked.cursor_ran.0;
               cursor = asked.cursor;
               cursor_seen = asked.cursor_seen;
-              end_ran = asked.end_ran;
+              end_ran = asked.end_ran.0;
               end_is = asked.end_is;
               end_seen = asked.end_seen;
             };
-            made = by.made;
+            made = by.made.0;
             ended = by.ended;
           },
         );
@@ -61,6 +61,6 @@ returns g c =
     let some = some_given given c.is_empty.result c.is_empty.ensures c.if-is_empty.false in
     let undialed = c.in-Err-hold.ensures.undialed in (
       record { given = Ok given.items; found = Undialed c.in-Err-hold.fault },
-      record { asked = c.pending.new.self.pass; asks = c.in-Ok.ensures.ran; found = (some, λ i. (undialed.0 i).pass); told = undialed.1 },
+      record { asked = c.pending.new.self.pass; asks = c.in-Ok.ensures.ran.0; found = (some, λ i. (undialed.0 i).pass); told = undialed.1 },
       refl,
     )

@@ -1,4 +1,4 @@
-use Rattle.std.proofs.Common.{◌≡◌, List, [], length, ap, sym, ◌∙◌, subst, arith}
+use Rattle.std.proofs.Common.{◌≡◌, List, length, ap, sym, subst, arith}
 use Rattle.desk_access.specs.Call.{Record}
 use Rattle.spool_turns.specs.Passes.{Known}
 use Rattle.spool_turns.specs.Replays.{Closes, desk_at}

@@ -1,9 +1,13 @@
-use Rattle.std.proofs.Common.{arith, ◌∷◌, [], length, length-append, refl, ap, ◌∙◌}
+use Rattle.std.proofs.Common.{ℕ, arith, ◌∷◌, [], length, length-append, refl, sym, ap, subst, ◌∙◌}
+use Rattle.std.specs.Prelude.{Some}
 use Rattle.std.proofs.lemmas.Iterator.{YieldsList-from_zip}
 use Rattle.std.proofs.lemmas.Iterator.Adapters.{YieldsList-from_vec}
 use Rattle.std.proofs.lemmas.Iterator.Consumers.{YieldsList-turn, YieldsList-end}
+use Rattle.spool_turns.specs.Replays.{IsReal}
+use Rattle.serve_workers.specs.Works.{first_conn}
 use Rattle.serve_workers.specs.Crews.{IsReady}
-use Rattle.serve_workers.proofs.Placing.{firsts, seconds, zip_few, pushed, ready_pushed, new_at}
+use Rattle.serve_workers.specs.Answering.{MayAnswer}
+use Rattle.serve_workers.proofs.Placing.{firsts, seconds, zip_few, pushed, ready_pushed, new_at, first_at}
 use Rattle.serve_workers.proofs.hired.placed.Goals as goal
 
 pub overflow_add-number : goal.overflow_add-number
@@ -31,11 +35,16 @@ loop-post-preserved g c =
     let many = zip_few c.args.posts.items c.args.passes.items in
     let at = new_at 0 c.args.posts.items c.args.passes.items (length c.loop-post.yielded) (c.in-Some.post, c.in-Some.pass) c.requires.new turn.0 in
     let ready : IsReady c.loop-post.number c.in-Some.pass = (omega (arith, i.number, ap (λ z. z.1.number) turn.1, at.0), omega (arith, turn.0, many, c.args.posts.ok.0, c.requires.many.1, i.number), ap (λ z. z.1.own) turn.1 ∙ at.1) in
+    let naming = g.J.Naming in
+    let real = IsReal g.D.Disk naming.start naming.run naming.seats naming.began in
+    let post = first_at c.args.posts.items c.args.passes.items (length c.loop-post.yielded) (c.in-Some.post, c.in-Some.pass) turn.0 ∙ ap (λ z. Some z.0) (sym turn.1) in
+    let says = subst (λ (n : ℕ). MayAnswer real naming.start (first_conn naming.run n) (g.P.Door.permits c.in-Some.post.door) c.in-Some.post.rules) (sym i.number) (c.requires.says (length c.loop-post.yielded) c.in-Some.post post) in
     record {
       doors = pushed (λ w. w.door) (λ y. y.0.door) _ _ _ c.loop-post.yielded (c.in-Some.post, c.in-Some.pass) p.items i.doors refl;
       rules = pushed (λ w. w.rules) (λ y. y.0.rules) _ _ _ c.loop-post.yielded (c.in-Some.post, c.in-Some.pass) p.items i.rules refl;
       passes = pushed (λ w. w.seated.pass) (λ y. y.1) _ _ _ c.loop-post.yielded (c.in-Some.post, c.in-Some.pass) p.items i.passes refl;
       ready = ready_pushed (λ w. IsReady w.number w.seated.pass) _ _ _ p.items i.ready ready;
+      says = ready_pushed (λ w. MayAnswer real naming.start (first_conn naming.run w.number) (g.P.Door.permits w.door) w.rules) _ _ _ p.items i.says says;
       many = omega (arith, p.len, i.many, length-append c.loop-post.yielded ((c.in-Some.post, c.in-Some.pass) ∷ []));
       number = omega (arith, i.number, length-append c.loop-post.yielded ((c.in-Some.post, c.in-Some.pass) ∷ []));
       room = omega (arith, p.capacity, i.room);

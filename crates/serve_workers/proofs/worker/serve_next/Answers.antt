@@ -1,7 +1,8 @@
-use Rattle.std.proofs.Common.{◌≡◌, [], ◌∷◌, ◌∙◌, refl, sym, ap, subst, arith}
-use Rattle.std.specs.Prelude.{Option, Some, None, IfSome, IfNone}
-use Rattle.edge_io.specs.Told.{IsFresh, IsToldAs}
-use Rattle.edge_io.specs.Door.{TakesLink, SameLinks}
+use Rattle.std.specs.Io.KnownBytes.{Appends}
+use Rattle.std.proofs.Common.{◌≡◌, ℕ, List, ◌++◌, [], ◌∷◌, ◌∙◌, refl, sym, ap, subst, arith}
+use Rattle.std.specs.Prelude.{Option, Some, None, Ok, IfSome, IfNone}
+use Rattle.edge_io.specs.Told.{IsFresh, IsToldAs, MayFollow}
+use Rattle.edge_io.specs.Door.{TakesLink, SameLinks, StaysPermitted}
 use Rattle.notes.specs.Notes.{status_of}
 use Rattle.serve_workers.proofs.Joining.{tells_none}
 use Rattle.serve_workers.proofs.Linking.{link_of, tells_one, link_at_door, idle_at_door}
@@ -82,3 +83,23 @@ returns-in-Err-give_back-clause-stops g c =
       ends = refl;
       accept_faults = record { later = omega (arith, same); cause = λ is. absurd (cc); quiet = λ none. same };
     }
+
+-- to a new link a text may be written that may stand alone
+fresh_follows : {A : Type 0} (told : Option A) (given taken left : Option (List ℕ)) (P : List ℕ → Type 0) (text : List ℕ) → IsFresh told given taken left → P text → MayFollow P taken text
+fresh_follows None given None left P text fresh may = tt
+fresh_follows None given (Some ws) left P text fresh may = subst (λ (l : List ℕ). P (l ++ text)) (sym fresh.1) may
+fresh_follows (Some list) given taken left P text fresh may = subst (λ (o : Option (List ℕ)). MayFollow P o text) (sym fresh.1) may
+
+pub attend-attended-requires-clause-says : goal.attend-attended-requires-clause-says
+attend-attended-requires-clause-says g c =
+    let old = g.P.Door.told c.args.door.now in
+    let link = c.in-Ok-Some.link in
+    let fresh = at_some _ link (λ l. IsFresh old.talks (g.P.L.Source.given l) (g.P.L.Sink.taken l) (g.P.L.Source.left l)) c.in-Ok-Some.field-0-is c.in-Ok-Some.ensures.fresh in
+    let permits = at_some _ link (λ l. (now : _) (read text : List ℕ) → g.P.L.Object.same l now → Appends (g.P.L.Source.given l) (g.P.L.Source.given now) read
+    → g.P.Door.permits c.args.door.now 0 read text → g.P.L.Sink.permits now text) c.in-Ok-Some.field-0-is c.in-Ok-Some.ensures.permits in
+    λ read bytes same given now calls text made is. fresh_follows old.talks _ _ _ (g.P.L.Sink.permits read) text fresh (permits read bytes text same given (c.requires.says bytes now calls text made is))
+
+pub returns-in-Ok-clause-stays : goal.returns-in-Ok-clause-stays
+returns-in-Ok-clause-stays g c =
+    let stays = subst (λ o. StaysPermitted (Ok o) (g.P.Door.permits c.args.door.now) (g.P.Door.permits c.accept.new.self)) c.in-Ok-Some.field-0-is c.in-Ok-Some.ensures.stays in
+    λ k read text may. c.in-Ok.ensures.stays k read text (stays k read text may)

@@ -63,3 +63,12 @@ returns-in-Ok-make_answers-clause-same g c = c.say.ensures.same
 
 pub returns-in-Ok-make_answers-clause-apart : goal.returns-in-Ok-make_answers-clause-apart
 returns-in-Ok-make_answers-clause-apart g c = c.say.ensures.apart
+
+pub say-requires : goal.say-requires
+say-requires g c =
+    let known = c.in-Ok.known.items in
+    let calls = asks c.args.channel c.args.ids.items known ∷ [] in
+    let made = subst (λ (l : List ℕ). g.A.Access.ran c.args.access.now (asks c.args.channel l known ∷ []) c.ask_each.new.access) c.deref.ensures.value c.in-Ok.ensures.asked in
+    let text : c.as_slice.result.now ≡ answers c.args.ids.items known c.args.closing =
+    c.as_slice.ensures.value ∙ c.in-Ok-make_answers.ensures.text ∙ ap (λ (l : List ℕ). answers l c.deref-3.result.now c.args.closing) c.deref-2.ensures.value ∙ ap (λ (l : List Bool). answers c.args.ids.items l c.args.closing) c.deref-3.ensures.value in
+    record { permitted = c.requires.says _ calls _ made (inl (known, refl, text)) }

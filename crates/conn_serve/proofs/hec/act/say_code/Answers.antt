@@ -33,3 +33,9 @@ returns-in-Err g c =
       same = g.L.Object.same_refl _;
       apart = g.met.L.Sink.apart_refl _;
     }
+
+pub say-requires : goal.say-requires
+say-requires g c =
+    let coded = c.requires.reply.coded in
+    let text : c.as_slice.result.now ≡ reply coded.0 c.args.reply.event c.args.closing = c.as_slice.ensures.value ∙ c.in-Ok.ensures.text coded.0 coded.1 in
+    record { permitted = c.requires.says _ [] _ (g.met.A.Access.ran_none _) (inl (coded.0, coded.1, refl, text)) }

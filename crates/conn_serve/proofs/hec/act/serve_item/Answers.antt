@@ -53,3 +53,9 @@ returns-in-Err-clause-same g c = c.in-Err.ensures.same
 
 pub returns-in-Err-clause-apart : goal.returns-in-Err-clause-apart
 returns-in-Err-clause-apart g c = c.in-Err.ensures.apart
+
+pub say-requires : goal.say-requires
+say-requires g c = record { permitted = c.requires.says _ [] continued (g.met.A.Access.ran_none _) (rw c.in-Leave.is (refl, refl)) }
+
+pub carry_out-requires-clause-says : goal.carry_out-requires-clause-says
+carry_out-requires-clause-says g c = rw c.in-Act.is at c.requires.says

@@ -1,4 +1,4 @@
-use Rattle.std.proofs.Common.{rules, ◌≡◌, ◌+◌, List, [], ◌∷◌, None, length, inl, refl, sym, ap, subst, arith, length-append, ◌∙◌}
+use Rattle.std.proofs.Common.{rules, ◌≡◌, ◌+◌, List, [], ◌∷◌, None, length, inl, inr, refl, sym, ap, subst, arith, length-append, ◌∙◌}
 use Rattle.std.specs.Prelude.{Ok, Err}
 use Rattle.std.specs.List.{All}
 use Rattle.event_form.specs.declared.event.Entry.{Entry}
@@ -9,6 +9,7 @@ use Rattle.desk_access.specs.Call.{takes}
 use Rattle.desk_access.specs.Step.{count}
 use Rattle.conn_serve.specs.declared.connection.Connection.{Connection}
 use Rattle.conn_serve.specs.Groups.{IsFrameEntry}
+use Rattle.conn_serve.specs.Relp.{talk_of}
 use Rattle.conn_serve.specs.Hec.{entries_of, success}
 use Rattle.conn_serve.proofs.Acting.{done_nothing, err_then}
 use Rattle.conn_serve.proofs.HecActing.{ok_any, refused_take, said_part}
@@ -113,3 +114,18 @@ returns-in-Ok-take_group-clause-same g c = c.say.ensures.same
 
 pub returns-in-Ok-take_group-clause-apart : goal.returns-in-Ok-take_group-clause-apart
 returns-in-Ok-take_group-clause-apart g c = c.say.ensures.apart
+
+pub say-requires : goal.say-requires
+say-requires g c =
+    let connection = c.args.connection.now in
+    let receipt = c.in-Ok-take_group.field-0 in
+    let is : c.deref.result.now ≡ entries_of connection.number connection.taken 0 c.args.events.items = search rules in
+    let text : c.as_slice.result.now ≡ success None c.args.closing = search rules in
+    record { permitted = c.requires.says _ (takes c.deref.result.now (Ok receipt) ∷ []) _ c.in-Ok-take_group.ensures.ran (inl (receipt, ap (λ (l : List Entry). takes l (Ok receipt) ∷ []) is, text)) }
+
+pub refuse-requires : goal.refuse-requires
+refuse-requires g c =
+    let connection = c.args.connection.now in
+    let fault = c.in-Err-take_group.fault in
+    let is : c.deref.result.now ≡ entries_of connection.number connection.taken 0 c.args.events.items = search rules in
+    record { permitted = c.requires.says _ (takes c.deref.result.now (Err fault) ∷ []) _ c.in-Err-take_group.ensures.ran (inr (talk_of fault, (fault, ap (λ (l : List Entry). takes l (Err fault) ∷ []) is, refl, refl))) }

@@ -1,4 +1,7 @@
-use Rattle.std.proofs.Common.{◌++◌, refl}
+use Rattle.std.proofs.Common.{◌++◌, [], ◌∷◌, inl, inr, refl}
+use Rattle.std.specs.Prelude.{Ok, Err}
+use Rattle.desk_access.specs.Call.{issues}
+use Rattle.conn_serve.specs.Hec.{talk_of_issue}
 use Rattle.conn_serve.proofs.HecActing.{forgotten, may_same, none_sure, none_conn, refused_issue, stored_under}
 use Rattle.conn_serve.proofs.Faults.{counts_err}
 use Rattle.conn_serve.proofs.hec.ids.say_then_store.Goals as goal
@@ -50,3 +53,11 @@ returns-in-Err-store_under g c =
       same = c.in-Err-store_under.ensures.same;
       apart = c.in-Err-store_under.ensures.apart;
     }
+
+pub refuse_id-requires : goal.refuse_id-requires
+refuse_id-requires g c =
+    let fault = c.in-Err.fault in
+    record { permitted = c.requires.says _ (issues c.args.channel (Err fault) ∷ []) _ c.in-Err.ensures (inr (talk_of_issue fault, (fault, refl, refl, refl))) }
+
+pub store_under-requires-clause-permitted : goal.store_under-requires-clause-permitted
+store_under-requires-clause-permitted g c = c.requires.says _ (issues c.args.channel (Ok c.in-Ok.id) ∷ []) _ c.in-Ok.ensures (inl (c.in-Ok.id, refl, refl))

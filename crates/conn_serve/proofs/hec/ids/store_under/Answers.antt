@@ -1,4 +1,5 @@
-use Rattle.std.proofs.Common.{rules, ◌≡◌, Some, length, inl, refl, sym, ap, subst, arith, ◌∙◌}
+use Rattle.edge_io.specs.Told.{MayFollow}
+use Rattle.std.proofs.Common.{rules, ◌≡◌, ℕ, List, Some, length, inl, refl, sym, ap, subst, arith, ◌∙◌}
 use Rattle.std.specs.Prelude.{Err}
 use Rattle.desk_access.specs.Batch.{AreNext, AreOfUnit}
 use Rattle.conn_serve.specs.declared.connection.Connection.{Connection}
@@ -99,3 +100,8 @@ returns-in-Ok-say g c =
       same = c.in-Ok-say.ensures.same;
       apart = c.in-Ok-say.ensures.apart;
     }
+
+pub say-requires : goal.say-requires
+say-requires g c =
+    let text : c.as_slice.result.now ≡ success (Some c.args.id) c.args.closing = search rules in
+    record { permitted = subst (λ (t : List ℕ). MayFollow (g.L.Sink.permits c.args.link.now) (g.L.Sink.taken c.args.link.now) t) (sym text) c.requires.permitted }

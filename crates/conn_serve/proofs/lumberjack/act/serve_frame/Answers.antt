@@ -2,7 +2,7 @@ use Rattle.std.proofs.Common.{◌∙◌, inl, refl, sym, arith, subst}
 use Rattle.lumber_frame.specs.Lent.{frame_lent}
 use Rattle.lumber_session.specs.Lent.{act_lent}
 use Rattle.conn_serve.proofs.Acting.{done_nothing, err_then}
-use Rattle.conn_serve.proofs.LumberActing.{staged_few, staged_next, frame_on, frame_batch, frame_halt, batch_then}
+use Rattle.conn_serve.proofs.LumberActing.{batch_due, staged_few, staged_next, frame_on, frame_batch, frame_halt, batch_then}
 use Rattle.conn_serve.proofs.Faults.{counts_fine, counts_other, err_of, memory_is_whole}
 use Rattle.desk_access.specs.Endings.{IsAtMove}
 use Rattle.conn_serve.proofs.lumberjack.act.serve_frame.Goals as goal
@@ -21,6 +21,13 @@ commit-requires-clause-next g c =
     let staged = c.in_ok-stage.ensures in
     staged_next c.args.connection.now.taken c.args.connection.now.number c.args.core.now c.step_lent-act.new.self c.args.staged.now.entries.items c.stage.new.staged.entries.items c.args.staged.now.last c.stage.new.staged.last (frame_lent c.args.lent)
     (act_lent c.step_lent-act.result) c.step_lent-act.ensures.act staged.entries staged.last c.requires.so_far
+
+pub commit-requires-clause-says : goal.commit-requires-clause-says
+commit-requires-clause-says g c =
+    let staged = c.in_ok-stage.ensures in
+    λ now calls text made stores. c.requires.says now calls text made (batch_due c.args.connection.now.taken c.args.connection.now.number c.args.core.now c.step_lent-act.new.self c.args.staged.now.entries.items
+    c.stage.new.staged.entries.items c.args.staged.now.last c.stage.new.staged.last (frame_lent c.args.lent) (act_lent c.step_lent-act.result) c.step_lent-act.ensures.act staged.entries staged.last
+    (sym staged.commits ∙ c.if-branch.true) calls text stores)
 
 pub returns-in_err-stage : goal.returns-in_err-stage
 returns-in_err-stage g c =

@@ -5,8 +5,15 @@ use Rattle.lumber_frame.specs.Window.{Gives}
 use Rattle.stream_grammar.specs.Reading.{Window}
 use Rattle.lumber_frame.specs.declared.fault.LumberFault.{LumberFault}
 use Rattle.conn_serve.proofs.Faults.{counts_fine, counts_passed, err_of, quiet_fine}
-use Rattle.conn_serve.proofs.LumberSessions.{fewer, served_frame, served_halt, served_still}
+use Rattle.conn_serve.proofs.LumberSessions.{due_carried, fewer, served_frame, served_halt, served_still}
 use Rattle.conn_serve.proofs.lumberjack.session.serve_next.Goals as goal
+
+pub serve_frame-requires-clause-says : goal.serve_frame-requires-clause-says
+serve_frame-requires-clause-says g c =
+    let after = c.next.follows.lender-at-none in
+    let gives = subst (λ lent. Gives c.args.window.now lent after) c.in-Some.is c.next.follows.holds-at-none in
+    λ now calls text made due. c.requires.says now calls text made (λ fault. due_carried c.args.connection.now.taken c.args.connection.now.number c.args.window.now after c.args.core.now c.args.staged.now.entries.items
+    c.args.staged.now.last fault (frame_lent c.in-Some.lent) gives calls text due)
 
 pub returns-in_default : goal.returns-in_default
 returns-in_default g c =

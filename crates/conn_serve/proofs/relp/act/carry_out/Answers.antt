@@ -1,4 +1,4 @@
-use Rattle.std.proofs.Common.{◌∙◌, inl, inr, refl, ap}
+use Rattle.std.proofs.Common.{◌∙◌, [], inl, inr, refl, ap}
 use Rattle.std.specs.Prelude.{Err}
 use Rattle.relp_session.specs.Row.{act_lent, answer_text}
 use Rattle.conn_serve.proofs.Acting.{done_nothing, ok_then, said, closed, unsaid}
@@ -14,7 +14,18 @@ store-requires g c =
       spelled = c.requires.spelled ∙ ap answer_text c.in-Store.is;
       early = c.requires.early;
       may = c.requires.may;
+      says = rw c.in-Store.is at c.requires.says;
     }
+
+pub say-requires : goal.say-requires
+say-requires g c =
+    let text = c.deref.ensures.value ∙ c.requires.spelled ∙ ap answer_text c.in-Say.is in
+    record { permitted = c.requires.says _ [] _ (g.met.A.Access.ran_none _) (rw c.in-Say.is (refl, text)) }
+
+pub say-requires-in-Close : goal.say-requires-in-Close
+say-requires-in-Close g c =
+    let text = c.deref-in-Close.ensures.value ∙ c.requires.spelled ∙ ap answer_text c.in-Close.is in
+    record { permitted = c.requires.says _ [] _ (g.met.A.Access.ran_none _) (rw c.in-Close.is (refl, text)) }
 
 pub returns-in-Store : goal.returns-in-Store
 returns-in-Store g c =

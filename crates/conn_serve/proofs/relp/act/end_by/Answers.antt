@@ -1,4 +1,7 @@
-use Rattle.std.proofs.Common.{refl, ◌∙◌, sym, subst}
+use Rattle.std.proofs.Common.{rules, ◌≡◌, ℕ, List, refl, ◌∙◌, sym, subst}
+use Rattle.edge_io.specs.Told.{MayFollow}
+use Rattle.relp_session.specs.Answer.{hint}
+use Rattle.spool_log.specs.Changing.Take.{IsRefusal}
 use Rattle.conn_serve.proofs.Faults.{counts_from, counts_none, fault_at_move, fault_is_whole, memory_is_whole}
 use Rattle.desk_access.specs.Endings.{IsAtMove}
 use Rattle.conn_serve.proofs.relp.act.end_by.Goals as goal
@@ -44,3 +47,9 @@ returns-in-Ok-clause-same g c = c.in-Ok.ensures.same
 
 pub returns-in-Ok-clause-apart : goal.returns-in-Ok-clause-apart
 returns-in-Ok-clause-apart g c = c.in-Ok.ensures.apart
+
+pub say-requires : goal.say-requires
+say-requires g c =
+    let refused : IsRefusal c.args.fault = search rules in
+    let text : c.deref.result.now ≡ hint = search rules in
+    record { permitted = subst (λ (t : List ℕ). MayFollow (g.L.Sink.permits c.args.link.now) (g.L.Sink.taken c.args.link.now) t) (sym text) (c.requires.permitted refused) }

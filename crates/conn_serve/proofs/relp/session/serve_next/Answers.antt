@@ -6,7 +6,7 @@ use Rattle.relp_frame.proofs.WriteLaws.{spelling_fits}
 use Rattle.stream_grammar.specs.Reading.{Window}
 use Rattle.relp_frame.specs.declared.fault.RelpFault.{RelpFault}
 use Rattle.conn_serve.proofs.Faults.{counts_fine, counts_passed, err_of, quiet_fine}
-use Rattle.conn_serve.proofs.RelpSessions.{fewer, served_frame, served_halt, served_still}
+use Rattle.conn_serve.proofs.RelpSessions.{due_carried, fewer, served_frame, served_halt, served_still}
 use Rattle.conn_serve.proofs.relp.session.serve_next.Goals as goal
 
 pub serve_frame-requires-clause-frame : goal.serve_frame-requires-clause-frame
@@ -14,6 +14,13 @@ serve_frame-requires-clause-frame g c =
     let after = c.next.follows.lender-at-none in
     let gives = subst (λ lent. LendsFirst c.args.window.now lent after) c.in-Some.is c.next.follows.holds-at-none in
     spelling_fits _ gives.text gives.spelled
+
+pub serve_frame-requires-clause-says : goal.serve_frame-requires-clause-says
+serve_frame-requires-clause-says g c =
+    let after = c.next.follows.lender-at-none in
+    let gives = subst (λ lent. LendsFirst c.args.window.now lent after) c.in-Some.is c.next.follows.holds-at-none in
+    λ now calls text made due. c.requires.says now calls text made
+    (λ fault. due_carried _ c.args.connection.now.number c.args.window.now after c.args.core.now fault (frame c.in-Some.lent.txnr c.in-Some.lent.command.now c.in-Some.lent.body.now) gives calls text due)
 
 pub returns-in_default : goal.returns-in_default
 returns-in_default g c =

@@ -1,7 +1,10 @@
 use Rattle.std.proofs.Common.{◌≡◌, map, length, sym, ap, ◌∙◌, arith, subst}
 use Rattle.std.specs.Prelude.{All}
+use Rattle.spool_turns.specs.Replays.{IsReal}
+use Rattle.serve_workers.specs.Works.{first_conn}
 use Rattle.serve_workers.specs.Crews.{AreNew, IsReady}
-use Rattle.serve_workers.proofs.Placing.{have_worked, all_ready, written_back}
+use Rattle.serve_workers.specs.Answering.{MayAnswer}
+use Rattle.serve_workers.proofs.Placing.{have_worked, all_ready, told_same, written_back}
 use Rattle.serve_workers.proofs.hired.Hired.work.Goals as goal
 
 pub work_all-requires-clause-ready : goal.work_all-requires-clause-ready
@@ -9,11 +12,18 @@ work_all-requires-clause-ready g c κs within =
     let new = subst (AreNew 0) (sym (ap (λ r. r.passes) c.self.view_is)) c.requires.new in
     subst (All (λ w. IsReady w.number w.seated.pass)) (sym c.deref_mut.ensures.value) (all_ready (λ w. w.number) (λ w. w.seated.pass) 0 _ c.self.invariant.0 new)
 
+pub work_all-requires-clause-says : goal.work_all-requires-clause-says
+work_all-requires-clause-says g c κs within =
+    let naming = g.J.Naming in
+    let real = IsReal g.D.Disk naming.start naming.run naming.seats naming.began in
+    subst (All (λ w. MayAnswer real naming.start (first_conn naming.run w.number) (g.P.Door.permits w.door) w.rules)) (sym c.deref_mut.ensures.value) c.self.invariant.1
+
 pub returns-clause-worked : goal.returns-clause-worked
 returns-clause-worked g c =
     let told = g.P.Door.told in
     let value = c.deref_mut.ensures.value in
     let was = c.self.view_is in
+    let left = c.dismissed.ensures in
     let xs = c.deref_mut.result.now in
     let ys = c.work_all.new.workers in
     let many : c.self.inside.workers.len ≡ length ys = omega (arith, c.work_all.auto.workers, c.deref_mut.ensures.len) in
@@ -22,6 +32,6 @@ returns-clause-worked g c =
     (ap (map (λ w. w.rules)) value ∙ ap (λ r. r.rules) was)
     (ap (map (λ w. told w.door)) value ∙ ap (λ r. r.doors) was)
     (ap (map (λ w. w.seated.pass)) value ∙ ap (λ r. r.passes) was)
-    (ap (map (λ w. told w.door)) (sym back))
-    (ap (map (λ w. w.seated.pass)) (sym back))
-    (ap (map (λ w. w.report)) (sym back))
+    (ap (map (λ w. told w.door)) (sym back) ∙ told_same (λ w. w.door) told _ c.dismissed.result.doors.items (sym left.doors))
+    (ap (map (λ w. w.seated.pass)) (sym back) ∙ sym left.passes)
+    (ap (map (λ w. w.report)) (sym back) ∙ sym left.reports)

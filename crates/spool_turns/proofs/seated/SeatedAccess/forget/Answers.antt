@@ -2,4 +2,4 @@ use Rattle.spool_turns.specs.Ran.{ran_one}
 use Rattle.spool_turns.proofs.seated.SeatedAccess.forget.Goals as goal
 
 pub returns : goal.returns
-returns g c = ran_one g.J.Naming.start _ _ _ _ _ c.forget.ensures
+returns g c = (ran_one g.J.Naming.start _ _ _ _ _ c.forget.ensures.call, λ some. c.forget.ensures.real)

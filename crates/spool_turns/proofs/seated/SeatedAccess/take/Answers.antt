@@ -2,4 +2,4 @@ use Rattle.spool_turns.specs.Ran.{ran_one}
 use Rattle.spool_turns.proofs.seated.SeatedAccess.take.Goals as goal
 
 pub returns-clause-ran : goal.returns-clause-ran
-returns-clause-ran g c = ran_one g.J.Naming.start _ _ _ _ _ c.take.ensures.call
+returns-clause-ran g c = (ran_one g.J.Naming.start _ _ _ _ _ c.take.ensures.call, λ some. c.take.ensures.real)

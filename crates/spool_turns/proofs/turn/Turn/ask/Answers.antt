@@ -1,5 +1,6 @@
-use Rattle.std.proofs.Common.{◌∙◌}
-use Rattle.spool_turns.proofs.Called.{turn_after, pass_after, calls_after}
+use Rattle.std.proofs.Common.{◌∙◌, refl}
+use Rattle.spool_turns.specs.Passes.{known_of, pass_in}
+use Rattle.spool_turns.proofs.Called.{turn_after, pass_after, calls_after, real_after}
 use Rattle.spool_turns.proofs.Closing.{told_stored, asked_held}
 use Rattle.spool_turns.proofs.turn.Turn.ask.Goals as goal
 
@@ -28,6 +29,15 @@ returns-clause-call g c =
     let p = c.publish.ensures in
     let e = c.add_record.ensures in
     calls_after _ _ _ _ _ _ _ _ _ _ _ _ _ i.1 i.2 i.3 tt h.locked h.knew c.ask.ensures.makes p.run (p.kept _) p.exact p.locked _ _ c.pass.view_is e.pass
+
+pub returns-clause-real : goal.returns-clause-real
+returns-clause-real g c =
+    let i = c.self.invariant in
+    let h = c.admit.ensures in
+    let p = c.publish.ensures in
+    let e = c.add_record.ensures in
+    let real = real_after _ _ _ _ _ _ _ _ _ _ _ _ _ i.1 i.2 i.3 tt h.locked h.knew c.ask.ensures.makes p.run (p.kept _) p.exact p.locked (known_of (pass_in c.add_record.result.me.0)) c.add_record.result.me refl e.pass in
+    (c.publish.new.alone, real.0, real.1)
 
 pub returns-clause-stored : goal.returns-clause-stored
 returns-clause-stored g c = λ x s. told_stored g.D.Disk.tells g.J.Naming.start g.J.Naming.run g.J.Naming.seats _ _ _ _ _ (returns-clause-call g c) x s (c.self.invariant.2.begins x s)

@@ -1,6 +1,6 @@
-use Rattle.std.proofs.Common.{◌∙◌, ◌≡◌, ◌+◌, sym, subst, arith}
-use Rattle.spool_turns.specs.Passes.{Known}
-use Rattle.spool_turns.proofs.Called.{turn_after, pass_after, calls_after}
+use Rattle.std.proofs.Common.{◌∙◌, ◌≡◌, ◌+◌, sym, subst, arith, refl}
+use Rattle.spool_turns.specs.Passes.{Known, known_of, pass_in}
+use Rattle.spool_turns.proofs.Called.{turn_after, pass_after, calls_after, real_after}
 use Rattle.spool_turns.proofs.turn.Turn.mark.Goals as goal
 
 pub invariant_of-self : goal.invariant_of-self
@@ -21,10 +21,19 @@ invariant_of-pass g c =
     let after = pass_after _ _ _ _ _ _ _ _ _ _ _ _ _ i.1 i.2 i.3 (omega (arith, subst (λ (k : Known). k.number + 1 ≡ g.J.Naming.seats) (sym c.pass.view_is) c.requires.caller)) h.locked h.knew c.mark-answer.ensures.makes p.run (p.kept _) p.exact p.locked _ e.pass in
     (e.tables.1 ∙ p.table ∙ h.tables.0 ∙ i.0, after.0, after.1)
 
-pub returns : goal.returns
-returns g c =
+pub returns-clause-call : goal.returns-clause-call
+returns-clause-call g c =
     let i = c.self.invariant in
     let h = c.admit.ensures in
     let p = c.publish.ensures in
     let e = c.add_record.ensures in
     calls_after _ _ _ _ _ _ _ _ _ _ _ _ _ i.1 i.2 i.3 (omega (arith, subst (λ (k : Known). k.number + 1 ≡ g.J.Naming.seats) (sym c.pass.view_is) c.requires.caller)) h.locked h.knew c.mark-answer.ensures.makes p.run (p.kept _) p.exact p.locked _ _ c.pass.view_is e.pass
+
+pub returns-clause-real : goal.returns-clause-real
+returns-clause-real g c =
+    let i = c.self.invariant in
+    let h = c.admit.ensures in
+    let p = c.publish.ensures in
+    let e = c.add_record.ensures in
+    let real = real_after _ _ _ _ _ _ _ _ _ _ _ _ _ i.1 i.2 i.3 (omega (arith, subst (λ (k : Known). k.number + 1 ≡ g.J.Naming.seats) (sym c.pass.view_is) c.requires.caller)) h.locked h.knew c.mark-answer.ensures.makes p.run (p.kept _) p.exact p.locked (known_of (pass_in c.add_record.result.me.0)) c.add_record.result.me refl e.pass in
+    (c.publish.new.alone, real.0, real.1)

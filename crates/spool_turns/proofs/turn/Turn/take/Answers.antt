@@ -1,8 +1,8 @@
-use Rattle.std.proofs.Common.{◌∙◌, sym, subst}
+use Rattle.std.proofs.Common.{◌∙◌, refl, sym, subst}
 use Rattle.desk_access.specs.Batch.{MayTake, MayUse}
 use Rattle.desk_access.specs.Legal.{IsNext, IsUnused}
-use Rattle.spool_turns.specs.Passes.{Known}
-use Rattle.spool_turns.proofs.Called.{turn_after, pass_after, calls_after}
+use Rattle.spool_turns.specs.Passes.{Known, known_of, pass_in}
+use Rattle.spool_turns.proofs.Called.{turn_after, pass_after, calls_after, real_after}
 use Rattle.spool_turns.proofs.turn.Turn.take.Goals as goal
 
 pub invariant_of-self : goal.invariant_of-self
@@ -33,3 +33,13 @@ returns-clause-call g c =
     let e = c.add_record.ensures in
     let may = subst (λ (k : Known). MayTake (IsNext g.J.Naming.run k.number k.own) c.args.entries.now × MayUse (IsUnused k.own) c.args.entries.now) (sym c.pass.view_is) (c.requires.next, c.requires.units) in
     calls_after _ _ _ _ _ _ _ _ _ _ _ _ _ i.1 i.2 i.3 may h.locked h.knew c.take-answer.ensures.makes p.run (p.kept _) p.exact p.locked _ _ c.pass.view_is e.pass
+
+pub returns-clause-real : goal.returns-clause-real
+returns-clause-real g c =
+    let i = c.self.invariant in
+    let h = c.admit.ensures in
+    let p = c.publish.ensures in
+    let e = c.add_record.ensures in
+    let may = subst (λ (k : Known). MayTake (IsNext g.J.Naming.run k.number k.own) c.args.entries.now × MayUse (IsUnused k.own) c.args.entries.now) (sym c.pass.view_is) (c.requires.next, c.requires.units) in
+    let real = real_after _ _ _ _ _ _ _ _ _ _ _ _ _ i.1 i.2 i.3 may h.locked h.knew c.take-answer.ensures.makes p.run (p.kept _) p.exact p.locked (known_of (pass_in c.add_record.result.me.0)) c.add_record.result.me refl e.pass in
+    (c.publish.new.alone, real.0, real.1)

@@ -4,7 +4,10 @@ use Rattle.event_form.specs.declared.talk.Talk.TheVariants.{Fault}
 use Rattle.event_form.specs.declared.talk.Why.{Why}
 use Rattle.hec_session.specs.declared.code.HecCode.TheVariants.{InvalidFormat}
 use Rattle.desk_access.specs.Endings.{IsAtMove}
-use Rattle.conn_serve.specs.Hec.{reply}
+use Rattle.edge_io.specs.Told.{MayFollow}
+use Rattle.desk_access.specs.Carried.{Carried}
+use Rattle.conn_serve.proofs.Saying.{has_carried}
+use Rattle.conn_serve.specs.Hec.{hec, reply}
 use Rattle.conn_serve.proofs.Acting.{done_nothing, err_then, ok_then}
 use Rattle.conn_serve.proofs.HecActing.{said_whole}
 use Rattle.conn_serve.proofs.HecSessions.{finished, finished_said, finished_unsaid}
@@ -33,3 +36,11 @@ returns-clause-halts g c =
           finished_unsaid c.args.self.now.core c.args.connection.now.number left c.args.over fed called said k _ _ c.in-Fault.is (take h.1.0 written) talk (subst IsAtMove (sym h.0) tt) h.0
           (h.1.0, subst (λ (l : List ℕ). h.1.0 < length l) c.text.ensures h.1.1, ap (take h.1.0) c.text.ensures);
     })
+
+pub say-requires : goal.say-requires
+say-requires g c =
+    let tokens = c.args.self.now.core in
+    let number = c.args.connection.now.number in
+    let permitted = c.requires.says _ [] (reply InvalidFormat None true) (g.met.A.Access.ran_none _) (λ left fed called said counted k.
+    has_carried (Carried (hec tokens number)) left fed c.args.over _ _ (finished_said tokens number left c.args.over fed called said k _ _ c.in-Fault.is)) in
+    record { permitted = subst (λ (t : List ℕ). MayFollow (g.L.Sink.permits c.args.link.now) (g.L.Sink.taken c.args.link.now) t) (sym c.text.ensures) permitted }

@@ -7,8 +7,10 @@ use Rattle.conn_serve.specs.Done.{Anyway}
 use Rattle.conn_serve.specs.Handled.{Handled, Served}
 use Rattle.conn_serve.specs.Hec.{hec}
 use Rattle.conn_serve.specs.HecServing.{GivesAsked, ReadsBy}
+use Rattle.conn_serve.specs.Says.{CouldEnd}
+use Rattle.conn_serve.proofs.Saying.{says_then}
 use Rattle.conn_serve.proofs.Leading.{done_start, done_then, done_ends, so_far_then}
-use Rattle.conn_serve.proofs.HecSessions.{ends_starved, served_item, served_halt, served_same, so_far_few}
+use Rattle.conn_serve.proofs.HecSessions.{due_carried, ends_starved, served_item, served_halt, served_same, so_far_few}
 use Rattle.conn_serve.proofs.Faults.{counts_fine, counts_other, counts_passed, err_of, memory_is_whole, quiet_fine}
 use Rattle.desk_access.specs.Endings.{IsAtMove}
 use Rattle.conn_serve.proofs.hec.session.HecSessionSession.serve.Goals as goal
@@ -32,6 +34,18 @@ serve_item-requires-clause-early g c =
     let l = c.loop-asked in
     let was = c.args.self.now in
     so_far_few was.core c.args.connection.now.number l.self.window was.met l.connection.taken 0 l.invariant.so_far
+
+pub serve_item-requires-clause-says : goal.serve_item-requires-clause-says
+serve_item-requires-clause-says g c =
+    let l = c.loop-asked in
+    let inv = l.invariant in
+    let was = c.args.self.now in
+    let number = c.args.connection.now.number in
+    let after = c.next_asked.new.window in
+    let given = subst (λ (core : Tokens). GivesAsked core l.self.window (Some c.in-Some.asked) after) inv.same_core (subst (λ (next : Option Asked). GivesAsked l.self.core l.self.window next after) c.in-Some.is c.in_ok-asked.ensures.gives) in
+    let says = says_then g.A.Access.ran c.args.access.now l.access g.met.A.Access.ran_more _ _ _ _ (g.met.L.Sink.permits_last _ _ inv.apart) (CouldEnd (Carried (hec was.core number))) _ _ _
+    (Served (Handled (hec was.core number)) (ReadsBy l.self.window was.met)) inv.done c.requires.says in
+    λ now calls text made due. says now calls text made (due_carried was.core number l.connection.taken l.self.window after was.met given.0 c.in-Some.asked given.1 given.2 l.connection.number inv.same_number calls text due)
 
 pub loop-asked-preserved : goal.loop-asked-preserved
 loop-asked-preserved g c =

@@ -1,5 +1,8 @@
 use Rattle.std.proofs.Common.{rules, arith}
 use Rattle.conn_serve.proofs.Acting.{done_nothing, ok_then, err_both, none_by}
+use Rattle.desk_access.specs.Carried.{Carried}
+use Rattle.conn_serve.specs.Lumber.{lumberjack}
+use Rattle.conn_serve.proofs.Saying.{has_carried}
 use Rattle.conn_serve.proofs.Leading.{done_map}
 use Rattle.conn_serve.proofs.Batching.{handles_few, handles_next}
 use Rattle.conn_serve.proofs.LumberSessions.{so_far_few, finished_none, finished_batch, finished_halt}
@@ -32,3 +35,10 @@ returns-clause-halts g c =
     let now = c.args.self.now in
     err_both c.commit.result _ _ _ c.commit.ensures.halts c.commit.ensures.only (λ talk d at. done_map _ _ _ _ _ _ _ d (λ late part ends left fed called said counted k.
     finished_halt c.args.connection.now.number now.core now.staged.entries.items now.staged.last left c.args.over fed called said k late part talk at (search rules) ends))
+
+pub commit-requires-clause-says : goal.commit-requires-clause-says
+commit-requires-clause-says g c =
+    let session = c.args.self.now in
+    λ now calls text made stores. c.requires.says now calls text made (λ left fed called said counted k.
+    has_carried (Carried (lumberjack c.args.connection.now.number)) left fed c.args.over _ _
+    (finished_batch c.args.connection.now.number session.core session.staged.entries.items session.staged.last left c.args.over fed called said k calls text (search rules) stores))

@@ -1,10 +1,12 @@
-use Rattle.std.proofs.Common.{◌∙◌, refl, arith}
+use Rattle.std.proofs.Common.{ℕ, ◌∙◌, refl, subst, arith}
 use Rattle.lumber_frame.specs.declared.side.Side.TheVariants.{Receiver}
 use Rattle.lumber_frame.specs.Reading.{receiver}
 use Rattle.lumber_frame.specs.Spelling.{Spells}
 use Rattle.desk_access.specs.Carried.{Carried}
 use Rattle.conn_serve.specs.Lumber.{lumberjack}
-use Rattle.conn_serve.specs.Done.{Anyway}
+use Rattle.conn_serve.specs.Done.{Anyway, Leads}
+use Rattle.conn_serve.specs.Says.{CouldEnd}
+use Rattle.conn_serve.proofs.Saying.{says_then}
 use Rattle.conn_serve.specs.Handled.{Served, ReadBy}
 use Rattle.conn_serve.specs.LumberServing.{Handles}
 use Rattle.conn_serve.proofs.Faults.{counts_fine, counts_passed, err_of, quiet_fine}
@@ -34,6 +36,17 @@ pub serve_next-requires-clause-so_far : goal.serve_next-requires-clause-so_far
 serve_next-requires-clause-so_far g c =
     let l = c.frames in
     so_far_handles _ _ _ _ _ _ _ _ l.connection.number l.invariant.same_number l.invariant.so_far
+
+pub serve_next-requires-clause-says : goal.serve_next-requires-clause-says
+serve_next-requires-clause-says g c =
+    let l = c.frames in
+    let inv = l.invariant in
+    let now = l.self in
+    let number = c.args.connection.now.number in
+    let says = says_then g.A.Access.ran c.args.access.now l.access g.met.A.Access.ran_more _ _ _ _ (g.met.L.Sink.permits_last _ _ inv.apart) (CouldEnd (Carried (lumberjack number))) _ _ _
+    (Served (Handles number now.core now.staged.entries.items now.staged.last) (ReadBy receiver (Spells Receiver) now.window now.fault)) inv.done c.requires.says in
+    λ at calls text made goes. says at calls text made (subst (λ (k : ℕ). Leads l.connection.taken (Served (Handles k now.core now.staged.entries.items now.staged.last) (ReadBy receiver (Spells Receiver) now.window now.fault))
+    (CouldEnd (Carried (lumberjack k))) calls text) inv.same_number (goes now.fault))
 
 pub frames-preserved : goal.frames-preserved
 frames-preserved g c =

@@ -1,9 +1,11 @@
-use Rattle.std.proofs.Common.{◌∙◌, refl, arith}
+use Rattle.std.proofs.Common.{ℕ, ◌∙◌, refl, subst, arith}
 use Rattle.relp_frame.specs.Reading as stream
 use Rattle.relp_frame.specs.Spelling.{IsSpelling}
 use Rattle.desk_access.specs.Carried.{Carried}
 use Rattle.conn_serve.specs.Relp.{relp}
-use Rattle.conn_serve.specs.Done.{Anyway}
+use Rattle.conn_serve.specs.Done.{Anyway, Leads}
+use Rattle.conn_serve.specs.Says.{CouldEnd}
+use Rattle.conn_serve.proofs.Saying.{says_then}
 use Rattle.conn_serve.specs.Handled.{Served, ReadBy}
 use Rattle.conn_serve.specs.RelpServing.{Handles}
 use Rattle.conn_serve.proofs.Faults.{counts_fine, counts_passed, err_of, quiet_fine}
@@ -27,6 +29,16 @@ pub serve_next-requires-clause-early : goal.serve_next-requires-clause-early
 serve_next-requires-clause-early g c =
     let l = c.frames in
     omega (arith, so_far_few c.args.connection.now.number l.self.window l.self.core l.self.fault l.connection.taken 0 l.invariant.so_far)
+
+pub serve_next-requires-clause-says : goal.serve_next-requires-clause-says
+serve_next-requires-clause-says g c =
+    let l = c.frames in
+    let inv = l.invariant in
+    let number = c.args.connection.now.number in
+    let says = says_then g.A.Access.ran c.args.access.now l.access g.met.A.Access.ran_more _ _ _ _ (g.met.L.Sink.permits_last _ _ inv.apart) (CouldEnd (Carried (relp number))) _ _ _
+    (Served (Handles number l.self.core) (ReadBy stream.relp IsSpelling l.self.window l.self.fault)) inv.done c.requires.says in
+    λ now calls text made goes. says now calls text made (subst (λ (k : ℕ). Leads l.connection.taken (Served (Handles k l.self.core) (ReadBy stream.relp IsSpelling l.self.window l.self.fault))
+    (CouldEnd (Carried (relp k))) calls text) inv.same_number (goes l.self.fault))
 
 pub frames-preserved : goal.frames-preserved
 frames-preserved g c =

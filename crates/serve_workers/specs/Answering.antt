@@ -1,0 +1,18 @@
+-- What the links of a door may be answered.
+use Rattle.std.specs.Prelude.{ℕ, ◌+◌, ◌^◌, ◌<◌, List, length}
+use Rattle.desk_access.specs.Call.{Call, Record}
+use Rattle.desk_access.specs.Desk.{DeskState}
+use Rattle.conn_serve.specs.declared.rules.Rules.{Rules}
+use Rattle.conn_serve.specs.Serves.{CarriedBy}
+use Rattle.conn_serve.specs.Says.{HasCarried}
+use Rattle.spool_turns.specs.Passes.{Known}
+use Rattle.spool_turns.specs.Ran.{Ran}
+
+-- A text may be written to the link that the door gives after `k` others, of which these bytes were read, once a pass of the desk made
+-- the calls that go with it: those of the connection whose number is `k` above the first one, by these rules. What the pass has seen
+-- then is a journal that was really made.
+abbrev pub MayAnswer : (List Record → Type 0) → (DeskState → Type 0) → ℕ → (ℕ → List ℕ → List ℕ → Type 0) → Rules → Type 0
+MayAnswer IsReal start first Permits rules =
+    (k : ℕ) (pass pass' : Known) (bytes : List ℕ) (calls : List Call) (text : List ℕ)
+    → k < 2 ^ 26 → Ran start pass calls pass' → (0 < length calls → IsReal pass'.seen)
+    → HasCarried (CarriedBy rules (first + k)) bytes calls text → Permits k bytes text
