@@ -21,6 +21,8 @@ import sources
 from project import TOP, BadEdit
 
 KIT = os.path.dirname(os.path.dirname(os.path.realpath(shutil.which("rt") or "rt")))
+# What the kit runs a program on once it is built.
+OF_RUN = ("args", "stdin", "stdout", "status")
 # What a check takes of memory, at most, as far as is known.
 MEMORY = 3_000_000_000
 # A message on a goal in a proof file, and what is said of a function at the end of a check.
@@ -110,12 +112,15 @@ class Libraries:
             for part in project.PARTS:
                 if os.path.isdir(f"{TOP}/crates/{name}/{part}"):
                     shutil.copytree(f"{TOP}/crates/{name}/{part}", f"{self.root}/crates/{name}/{part}")
+            for part in OF_RUN:
+                if os.path.isfile(f"{TOP}/crates/{name}/{part}"):
+                    shutil.copy(f"{TOP}/crates/{name}/{part}", f"{self.root}/crates/{name}")
         with open(f"{TOP}/crates.txt", encoding="utf-8") as whole, open(f"{self.root}/crates.txt", "w", encoding="utf-8") as few:
             few.writelines(line for line in whole if re.match(r"\s*(\w*)", line)[1] in names)
         shutil.copy(f"{TOP}/HANDLES", self.root)
         say(f"edits: the proofs of {len(names)} crates")
         ran = run(["rt", "ci"], self.root)
-        self.proved = {it for it in names if os.path.isfile(f"{self.library(it)}/format")}
+        self.proved = {it for it in names if os.path.isfile(f"{self.library(it)}/format") or os.path.isfile(f"{self.root}/crates/{it}/out/{it}")}
         if ran.returncode:
             say("\n".join(ran.stdout.rstrip().split("\n")[-20:]))
 
@@ -127,7 +132,8 @@ class Libraries:
         of_kit = ["std", *[it for it in project.uses()[crate] if it not in project.uses()]]
         named = [(it, f"{KIT}/rlibs/{it}.rlib") for it in of_kit]
         named += [(it, self.library(it)) for it in project.uses()[crate] if it in project.uses()]
-        words = ["--crate-name", crate, "src/lib.rt", "-L", f"dependency={KIT}/rlibs"]
+        root = "src/lib.rt" if os.path.isfile(f"{TOP}/crates/{crate}/src/lib.rt") else "src/main.rt"
+        words = ["--crate-name", crate, root, "-L", f"dependency={KIT}/rlibs"]
         words += [word for name, place in named for word in ("--extern", f"{name}={place}")]
         words += [word for it in project.below(crate) for word in ("-L", f"dependency={os.path.dirname(self.library(it))}")]
         return [*words, "--antt-project", f"{KIT}/rattle/logic/antt-project.json", "--logic-built", f"{KIT}/logic_built", "--jobs", "1"]

@@ -1,10 +1,17 @@
 //! The top call, over the device that the words want.
-ghost use Rattle.std.specs.Prelude.{◌≡◌, ◌⊎◌, map, string_bytes};
-ghost use Rattle.notes.specs.declared.note.Note.TheVariants.{Usage, NoMemory};
-ghost use Rattle.bridge_words.specs.Words.{IsNoCommand};
+ghost use Rattle.std.specs.Prelude.{◌≡◌, ◌≢◌, ◌⊎◌, ℕ, List, map, string_bytes};
+ghost use Rattle.notes.specs.declared.note.Note.TheVariants.{Usage, NoMemory, DiskFault};
+ghost use Rattle.bridge_words.specs.declared.need.Need.{Need};
+ghost use Rattle.bridge_words.specs.declared.need.Need.TheVariants.{Existing};
+ghost use Rattle.bridge_words.specs.Words.{IsNeed, IsNoCommand};
+ghost use Rattle.bridge_parts.specs.Run.{disk_run, input_run, net_run, output_run, run_of};
 ghost use Rattle.bridge_core.specs.Failed.{TellsReadFault, TellsWriteFault, TellsDial};
+ghost use Rattle.bridge_core.specs.Headline.{KeepsPromises};
+ghost use Rattle.bridge_core.specs.Leave.{ForWords, MayAnswer, MayBind, MayDial, MayPrint, MayReplay, MayTake, WasRead};
+ghost use Rattle.cli_parts.specs.declared.progress.Watched.{Watched};
+ghost use Rattle.edge_disk.specs.declared.file.FileDisk.{FileDisk};
 
-use bridge_core::bridge;
+use bridge_core::{Ended, bridge};
 use bridge_words::{Need, need_of};
 use cli_parts::{Opening, Progress, Watched, make_disk, open_text};
 use edge_disk::{Disk, FileDisk, MemDisk, OpenFault};
@@ -14,61 +21,89 @@ use std::alloc::Global;
 use std::sync::Wait;
 use std::thread::Threads;
 
-// Runs the words over the disk, and tells how that ended.
-fn run_on<D: Disk + Drop + Send, S: Source, K: Sink, N: Net + Send, R: Threads + Wait + Sync>(
-    threads: &R,
-    alloc: Global,
-    words: &[String],
-    disk: D,
-    input: &mut S,
-    output: &mut K,
-    net: &mut N,
-) -> Note
-where
-    N::P: Drop + Send,
-    <N::P as Door>::L: Send,
-    N::L: Send,
-    ensures usage { result ≡ Usage → IsNoCommand (map string_bytes words.now) }
-    ensures no_command { IsNoCommand (map string_bytes words.now) → result ≡ Usage ⊎ result ≡ NoMemory }
-    ensures reads { TellsReadFault (map string_bytes words.now) result (S.read_faults input.old) (S.read_faults input.new) (N.told net.old) (N.told net.new) }
-    ensures writes { TellsWriteFault (map string_bytes words.now) result (K.write_faults output.old) (K.write_faults output.new) (N.told net.old) (N.told net.new) }
-    ensures dials { TellsDial (map string_bytes words.now) result (N.told net.old) (N.told net.new) }
-{
-    bridge(threads, alloc, words, disk, input, output, net).note
-}
-
-// Runs the words over the file as a disk, where it was opened, and else says why it wasn't. Its reading may be shown.
-fn run_over<S: Source, K: Sink, N: Net + Send, R: Threads + Wait + Sync>(
+// Runs the words over the disk, which is watched meanwhile. Its reading may be shown. What was done is what `bridge` does, and nothing
+// else: of the disk, of the streams and of the net.
+fn run_over<D: Disk + Drop + Send, S: Source, K: Sink, N: Net + Send, R: Threads + Wait + Sync>(
     rt: &HostRuntime,
     threads: &R,
-    file: &str,
     words: &[String],
-    opened: Result<FileDisk, OpenFault>,
+    disk: D,
     is_shown: bool,
     input: &mut S,
     output: &mut K,
     net: &mut N,
+) -> Ended<D, N::P>
+where
+    N::P: Drop + Send,
+    <N::P as Door>::L: Send,
+    N::L: Send,
+    requires answers { ForWords (map string_bytes words.now) (MayAnswer D.tells D.moment disk N.permits) }
+    requires binds { ForWords (map string_bytes words.now) (MayBind N.may_bind) }
+    requires dials { ForWords (map string_bytes words.now) (MayDial N.may_dial) }
+    requires replays { ForWords (map string_bytes words.now)
+        (MayReplay D.tells D.moment disk (WasRead S.same S.given input.old) (MayTake K.same K.taken K.permits output.old)) }
+    requires prints { ForWords (map string_bytes words.now) (MayPrint ((sink : K) (text : List ℕ) → K.permits sink text)) }
+
+    ensures run { (before : Watched D) × (after : Watched D) × (before.disk ≡ disk) × (after.disk ≡ result.disk)
+        × KeepsPromises (map string_bytes words.now)
+        (run_of (disk_run D.tells (λ (watched : Watched D). D.moment watched.disk) before after)
+        (input_run S.given S.left S.read_faults input.old input.new) (output_run K.taken K.write_faults output.old output.new)
+        (net_run N.told net.old net.new) (map (λ (door : _). N.P.told door) result.doors.items)) result.note }
+{
+    let disk = Watched::new(disk, Progress::new(rt, is_shown));
+    let Ended {
+        status,
+        note,
+        disk,
+        doors,
+    } = bridge(threads, rt.alloc(), words, disk, input, output, net);
+    Ended {
+        status,
+        note,
+        disk: disk.into_disk(),
+        doors,
+    }
+}
+
+// Runs words that want no device, over one in memory without a byte.
+fn run_bare<S: Source, K: Sink, N: Net + Send, R: Threads + Wait + Sync>(
+    threads: &R,
+    alloc: Global,
+    words: &[String],
+    input: &mut S,
+    output: &mut K,
+    net: &mut N,
 ) -> Note
 where
     N::P: Drop + Send,
     <N::P as Door>::L: Send,
     N::L: Send,
+    requires need { (need : Need) × IsNeed (map string_bytes words.now) need × (need ≢ Existing) }
+    requires binds { ForWords (map string_bytes words.now) (MayBind N.may_bind) }
+    requires dials { ForWords (map string_bytes words.now) (MayDial N.may_dial) }
+    requires prints { ForWords (map string_bytes words.now) (MayPrint ((sink : K) (text : List ℕ) → K.permits sink text)) }
+
     ensures usage { result ≡ Usage → IsNoCommand (map string_bytes words.now) }
-    ensures reads { TellsReadFault (map string_bytes words.now) result (S.read_faults input.old) (S.read_faults input.new) (N.told net.old) (N.told net.new) }
-    ensures writes { TellsWriteFault (map string_bytes words.now) result (K.write_faults output.old) (K.write_faults output.new) (N.told net.old) (N.told net.new) }
+    ensures no_command { IsNoCommand (map string_bytes words.now) → result ≡ Usage ⊎ result ≡ NoMemory }
+    ensures reads { TellsReadFault (map string_bytes words.now) result (S.read_faults input.old) (S.read_faults input.new)
+        (N.told net.old) (N.told net.new) }
+    ensures writes { TellsWriteFault (map string_bytes words.now) result (K.write_faults output.old) (K.write_faults output.new)
+        (N.told net.old) (N.told net.new) }
     ensures dials { TellsDial (map string_bytes words.now) result (N.told net.old) (N.told net.new) }
 {
-    match opened {
-        Ok(disk) => {
-            let disk = Watched::new(disk, Progress::new(rt, is_shown));
-            run_on(threads, rt.alloc(), words, disk, input, output, net)
-        }
-        Err(fault) => {
-            let why = open_text(fault);
-            let _ = eprintln!(rt; "bridge: {file}: {why}");
-            Note::DiskFault
-        }
+    match MemDisk::plain(alloc, 0) {
+        Ok(disk) => bridge(threads, alloc, words, disk, input, output, net).note,
+        Err(_) => Note::NoMemory,
     }
+}
+
+// Says why the file wasn't opened.
+fn refuse(rt: &HostRuntime, file: &str, fault: OpenFault) -> Note
+    ensures { result ≡ DiskFault }
+{
+    let why = open_text(fault);
+    let _ = eprintln!(rt; "bridge: {file}: {why}");
+    Note::DiskFault
 }
 
 /// Does what the words ask for, in threads of `threads` where that takes some, over the device that they want: `file`, opened
@@ -88,32 +123,43 @@ where
     N::P: Drop + Send,
     <N::P as Door>::L: Send,
     N::L: Send,
+    requires answers { (disk : FileDisk) → ForWords (map string_bytes words.now)
+        (MayAnswer ⟦<FileDisk as Disk>⟧.tells ⟦<FileDisk as Disk>⟧.moment disk N.permits) }
+    requires binds { ForWords (map string_bytes words.now) (MayBind N.may_bind) }
+    requires dials { ForWords (map string_bytes words.now) (MayDial N.may_dial) }
+    requires replays { (disk : FileDisk) → ForWords (map string_bytes words.now)
+        (MayReplay ⟦<FileDisk as Disk>⟧.tells ⟦<FileDisk as Disk>⟧.moment disk (WasRead S.same S.given input.old)
+        (MayTake K.same K.taken K.permits output.old)) }
+    requires prints { ForWords (map string_bytes words.now) (MayPrint ((sink : K) (text : List ℕ) → K.permits sink text)) }
+
     ensures usage { result ≡ Usage → IsNoCommand (map string_bytes words.now) }
     ensures no_command { IsNoCommand (map string_bytes words.now) → result ≡ Usage ⊎ result ≡ NoMemory }
-    ensures reads { TellsReadFault (map string_bytes words.now) result (S.read_faults input.old) (S.read_faults input.new) (N.told net.old) (N.told net.new) }
-    ensures writes { TellsWriteFault (map string_bytes words.now) result (K.write_faults output.old) (K.write_faults output.new) (N.told net.old) (N.told net.new) }
+    ensures reads { TellsReadFault (map string_bytes words.now) result (S.read_faults input.old) (S.read_faults input.new)
+        (N.told net.old) (N.told net.new) }
+    ensures writes { TellsWriteFault (map string_bytes words.now) result (K.write_faults output.old) (K.write_faults output.new)
+        (N.told net.old) (N.told net.new) }
     ensures dials { TellsDial (map string_bytes words.now) result (N.told net.old) (N.told net.new) }
 {
     let alloc = rt.alloc();
     match need_of(alloc, words) {
-        Ok(Need::Make { len }) => {
-            let opened = make_disk(rt, file, len);
-            run_over(rt, threads, file, words, opened, false, input, output, net)
-        }
+        Ok(Need::Make { len }) => match make_disk(rt, file, len) {
+            Ok(disk) => run_over(rt, threads, words, disk, false, input, output, net).note,
+            Err(fault) => refuse(rt, file, fault),
+        },
         Ok(Need::Existing) => {
             let Ok(opening) = Opening::of(alloc, words) else {
                 return Note::NoMemory;
             };
-            let opened = FileDisk::open_locked(rt, file, opening.sharing);
-            let is_shown = opening.showing.is_seen(rt);
-            run_over(
-                rt, threads, file, words, opened, is_shown, input, output, net,
-            )
+            match FileDisk::open_locked(rt, file, opening.sharing) {
+                Ok(disk) => {
+                    let is_shown = opening.showing.is_seen(rt);
+                    run_over(rt, threads, words, disk, is_shown, input, output, net).note
+                }
+                Err(fault) => refuse(rt, file, fault),
+            }
         }
-        Ok(Need::NoCommand | Need::Nothing) => match MemDisk::plain(alloc, 0) {
-            Ok(disk) => run_on(threads, alloc, words, disk, input, output, net),
-            Err(_) => Note::NoMemory,
-        },
+        Ok(Need::NoCommand) => run_bare(threads, alloc, words, input, output, net),
+        Ok(Need::Nothing) => run_bare(threads, alloc, words, input, output, net),
         Err(_) => Note::NoMemory,
     }
 }

@@ -1,6 +1,7 @@
 -- What follows from what a call did: what its note says of the words, and what it left alone.
-use Rattle.std.proofs.Common.{◌≡◌, ◌⊎◌, inl, inr, ℕ, List, [], sym, ◌∙◌, subst}
+use Rattle.std.proofs.Common.{◌≡◌, ◌⊎◌, inl, inr, ℕ, List, [], sym, ◌∙◌, ap, subst}
 use Rattle.std.specs.Prelude.{Option, None, Some}
+use Rattle.edge_io.specs.Net.{NetState}
 use Rattle.edge_io.specs.declared.proto.Proto.{Proto}
 use Rattle.bridge_words.specs.declared.command.Command.{Command}
 use Rattle.bridge_words.specs.declared.command.Command.TheVariants.{Format, List as ListCommand, Replay, Drain, Load, Serve}
@@ -140,6 +141,15 @@ module _ (words : List (List ℕ)) (run : Run) (note : Note) where
   net_quiet (Load proto number count) asks no_place no_serve does = does.3.told
   net_quiet (Serve server) asks no_place no_serve does = absurd (no_serve (server, asks))
 
+  unbound : (command : Command) → IsCommand command words → (AsksServe words → ⊥) → Does command run note → run.net.new.bound ≡ run.net.old.bound
+  unbound (Format slots size) asks never does = ap (λ (n : NetState). n.bound) does.2.told
+  unbound (ListCommand form) asks never does = ap (λ (n : NetState). n.bound) does.2.told
+  unbound (Replay proto token ack_token) asks never does = ap (λ (n : NetState). n.bound) does.1.told
+  unbound (Drain receiver None) asks never does = ap (λ (n : NetState). n.bound) does.1
+  unbound (Drain receiver (Some place)) asks never does = does.0.bound
+  unbound (Load proto number count) asks never does = ap (λ (n : NetState). n.bound) does.3.told
+  unbound (Serve server) asks never does = absurd (never (server, asks))
+
 -- ---- a call
 
 module _ (words : List (List ℕ)) (run : Run) (note : Note) (is : IsRunOf words run note) where
@@ -178,6 +188,11 @@ module _ (words : List (List ℕ)) (run : Run) (note : Note) (is : IsRunOf words
   -- `serve` alone binds doors
   pub no_doors_are_bound : (AsksServe words → ⊥) → run.doors ≡ []
   no_doors_are_bound never = in_each (run.doors ≡ []) (λ untouched. untouched.doors) (λ command asks does. no_doors words run note command asks never does)
+
+  -- and so what the net tells of binds is as before
+  pub nothing_is_bound : (AsksServe words → ⊥) → run.net.new.bound ≡ run.net.old.bound
+  nothing_is_bound never = in_each (run.net.new.bound ≡ run.net.old.bound) (λ untouched. ap (λ (n : NetState). n.bound) untouched.net.told)
+      (λ command asks does. unbound words run note command asks never does)
 
   -- words or a device that are refused leave the input and the output alone
   pub streams_are_left : IsRefusedFirst note → (AsksDrain words → ⊥) → (AsksServe words → ⊥) → run.input.same × run.output.same

@@ -1,5 +1,5 @@
 -- What a command that was done makes of a run.
-use Rattle.std.proofs.Common.{◌≡◌, inl, inr, ℕ, List, [], refl, sym, ◌∙◌, ap, subst, arith}
+use Rattle.std.proofs.Common.{◌≡◌, inl, inr, ℕ, List, refl, sym, ◌∙◌, ap, subst, arith}
 use Rattle.std.specs.Prelude.{None, Some}
 use Rattle.event_form.specs.declared.talk.Talk.{Talk}
 use Rattle.edge_io.specs.Net.{NetState}
@@ -16,7 +16,7 @@ use Rattle.notes.specs.Notes.{note_of_talk}
 use Rattle.bridge_words.specs.Words.{IsCommand, IsNoCommand}
 use Rattle.bridge_parts.specs.Counted.{RoseBy}
 use Rattle.bridge_parts.specs.Refused.{note_of_recover}
-use Rattle.bridge_parts.specs.Run.{DiskRun, InputRun, NetRun, OutputRun, Run, IsOffline, IsUngiven, IsUnused}
+use Rattle.bridge_parts.specs.Run.{DiskRun, InputRun, NetRun, OutputRun, Run, IsUngiven, IsUnused}
 use Rattle.bridge_parts.specs.Written.{IsPrinted}
 use Rattle.commands.specs.Formatted.{Formats}
 use Rattle.commands.specs.Listed.{IsListNote}

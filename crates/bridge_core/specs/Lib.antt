@@ -2,4 +2,5 @@ pub mod Asked
 pub mod Failed
 pub mod Done
 pub mod RunOf
+pub mod Leave
 pub mod Headline

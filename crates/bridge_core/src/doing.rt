@@ -1,9 +1,10 @@
 //! One function does each command.
-ghost use Rattle.std.specs.Prelude.{◌≡◌, map};
+ghost use Rattle.std.specs.Prelude.{◌≡◌, ℕ, List, map};
 ghost use Rattle.notes.specs.Notes.{status_of};
 ghost use Rattle.bridge_parts.specs.Run.{disk_run, input_run, net_run, output_run, run_of};
 ghost use Rattle.bridge_core.specs.Asked.{IsAsked};
 ghost use Rattle.bridge_core.specs.Done.{Does};
+ghost use Rattle.bridge_core.specs.Leave.{MayAnswer, MayBind, MayDial, MayPrint, MayReplay, MayTake, WasRead};
 
 use crate::ended::Ended;
 use bridge_parts::outward_of;
@@ -17,7 +18,8 @@ use std::alloc::Global;
 use std::sync::Wait;
 use std::thread::Threads;
 
-/// Does the command, which words ask for. What a command doesn't need is left alone: `serve` alone binds doors.
+/// Does the command, which words ask for, with the leave that it has. What a command doesn't need is left alone: `serve` alone binds
+/// doors.
 pub(crate) fn do_command<
     D: Disk + Drop + Send,
     S: Source,
@@ -38,6 +40,12 @@ where
     <N::P as Door>::L: Send,
     N::L: Send,
     requires asked { IsAsked command }
+    requires answers { MayAnswer D.tells D.moment disk N.permits command }
+    requires binds { MayBind N.may_bind command }
+    requires dials { MayDial N.may_dial command }
+    requires replays { MayReplay D.tells D.moment disk (WasRead S.same S.given input.old) (MayTake K.same K.taken K.permits output.old)
+        command }
+    requires prints { MayPrint ((sink : K) (text : List ℕ) → K.permits sink text) command }
 
     ensures status { result.status ≡ status_of result.note }
     ensures done { Does command

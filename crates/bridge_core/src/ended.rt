@@ -14,7 +14,8 @@ pub struct Ended<D, P> {
     pub note: Note,
     /// The disk that was handed in.
     pub disk: D,
-    /// The doors that were bound, each with the connections that were given back to it. `serve` alone binds any.
+    /// The doors that were bound, each with the connections that were given back to it, also where no worker began. `serve` alone binds
+    /// any.
     pub doors: Vec<P>,
 }
 

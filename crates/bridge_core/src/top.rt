@@ -1,9 +1,10 @@
 //! The top call: the words say which command it is.
-ghost use Rattle.std.specs.Prelude.{◌≡◌, map, string_bytes};
+ghost use Rattle.std.specs.Prelude.{◌≡◌, ℕ, List, map, string_bytes};
 ghost use Rattle.notes.specs.Notes.{status_of};
 ghost use Rattle.bridge_parts.specs.Run.{disk_run, input_run, net_run, output_run, run_of};
 ghost use Rattle.bridge_core.specs.RunOf.{IsRunOf};
 ghost use Rattle.bridge_core.specs.Headline.{KeepsAcknowledged};
+ghost use Rattle.bridge_core.specs.Leave.{ForWords, MayAnswer, MayBind, MayDial, MayPrint, MayReplay, MayTake, WasRead};
 
 use crate::asked::{Unasked, asked_of};
 use crate::doing::do_command;
@@ -41,11 +42,14 @@ use std::thread::Threads;
 /// - `NoMemory` says that no memory was found.
 /// - All other notes are explained at the functions that do the commands.
 ///
-/// The promise to senders is the clause `acknowledged`. The clause `run` has all the rest, by command. That each connection
-/// contributes exactly its protocol's events up to the first fault, in order, is for `replay` `IsReplayed.served` (`carried`) with
-/// `IsStored.reached` (`each`, `grows`), and for `serve` `Promises.are_parts` with `contributes`, `nothing_else`, `order` and
-/// `order_was`. That only what a peer acknowledged becomes known is for `drain` `IsSessionOver.entries`, and for `serve`
-/// `Promises.sessions` with `known`.
+/// The promise to senders stands twice. What is asked, `answers` and `replays`, is leave for each write before it is made: a text may be
+/// written to a sender once all that it acknowledges is durable, and none else. So it is at each moment of a run, whether that ends or
+/// not, since the caller may give leave for no more. What is ensured, `acknowledged`, says of the end that nothing was lost.
+///
+/// The clause `run` has all the rest, by command. That each connection contributes exactly its protocol's events up to the first fault,
+/// in order, is for `replay` `IsReplayed.served` (`carried`) with `IsStored.reached` (`each`, `grows`), and for `serve`
+/// `Promises.are_parts` with `contributes`, `nothing_else`, `order` and `order_was`. That only what a peer acknowledged becomes known is
+/// for `drain` `IsSessionOver.entries`, and for `serve` `Promises.sessions` with `known`.
 pub fn bridge<D: Disk + Drop + Send, S: Source, K: Sink, N: Net + Send, R: Threads + Wait + Sync>(
     rt: &R,
     alloc: Global,
@@ -59,6 +63,17 @@ where
     N::P: Drop + Send,
     <N::P as Door>::L: Send,
     N::L: Send,
+
+    // A text may be written to a sender once what it acknowledges is durable: to a link of a door, and by `replay` to the output.
+    requires answers { ForWords (map string_bytes words.now) (MayAnswer D.tells D.moment disk N.permits) }
+    requires replays { ForWords (map string_bytes words.now)
+        (MayReplay D.tells D.moment disk (WasRead S.same S.given input.old) (MayTake K.same K.taken K.permits output.old)) }
+
+    // The places that the words name may be bound and dialed, and any text may be printed.
+    requires binds { ForWords (map string_bytes words.now) (MayBind N.may_bind) }
+    requires dials { ForWords (map string_bytes words.now) (MayDial N.may_dial) }
+    requires prints { ForWords (map string_bytes words.now) (MayPrint ((sink : K) (text : List ℕ) → K.permits sink text)) }
+
     ensures status { result.status ≡ status_of result.note }
 
     // What was done, what was left alone, and what failed meanwhile.

@@ -47,7 +47,7 @@ session_takes_none until next (marks stretches (Ok done) ∷ calls) of = (All-ni
 session_takes_none until next (marks stretches (Err fault) ∷ calls) of = (All-nil Never, subst (AllWritten Never) (sym of) tt)
 session_takes_none until next (call ∷ calls) of = absurd of
 
-opened_sound : (s : SpoolState) → IsSound s → CanOpen Raise s → IsSound (opened Raise s)
+pub opened_sound : (s : SpoolState) → IsSound s → CanOpen Raise s → IsSound (opened Raise s)
 opened_sound s sound can = sound-registered s (s.run + 1) s.cursor s.known sound (omega (arith, can.0)) can.1 sound.from_base sound.to_end sound.known sound.known_to_end
 
 -- Something that is true of bytes that stand for a spool exactly where the spool is in order; so it is of whatever a crash could leave

@@ -10,3 +10,4 @@ pub mod LumberCalls
 pub mod KeepsOrder
 pub mod OrderOfCommands
 pub mod Lifetime
+pub mod StaysDurable

@@ -18,8 +18,8 @@ pub record LeavesAlone (words : List (List ℕ)) (run : Run) (note : Note) : Typ
   -- A device of another length stays as it was, and `load` uses no disk.
   pub wrong_length : (have want : ℕ) → note ≡ WrongLength have want → run.disk.same
   pub disk_unused : AsksLoad words → run.disk.same
-  -- `serve` alone binds doors.
-  pub doors : (AsksServe words → ⊥) → run.doors ≡ []
+  -- `serve` alone binds doors, and what the net tells of binds is as before else.
+  pub doors : (AsksServe words → ⊥) → (run.doors ≡ []) × (run.net.new.bound ≡ run.net.old.bound)
   -- Words or a device that are refused leave the input and the output alone, but with `drain` and `serve`.
   pub unused : IsRefusedFirst note → (AsksDrain words → ⊥) → (AsksServe words → ⊥) → run.input.same × run.output.same
   -- `replay` and `drain` without a place alone read the input.

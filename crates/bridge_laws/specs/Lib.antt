@@ -7,3 +7,4 @@ pub mod InOrder
 pub mod KeepsOrder
 pub mod Lifetime
 pub mod LeavesAlone
+pub mod Durable

@@ -1,14 +1,16 @@
 //! What follows from the contract of `bridge_core::bridge` alone: when each command has to end well, that each keeps the order of a spool's
-//! entries, and what each leaves alone.
+//! entries and what is durable, and what each leaves alone.
 //!
 //! The functions do nothing: each has a law as its contract.
 #![tactic(auto)]
 
 mod alone;
+mod durable;
 mod laws;
 mod order;
 
 pub use alone::each_command_leaves_alone;
+pub use durable::durable_lasts;
 pub use laws::{each_command_ends_well, serve_ends_well};
 pub use order::{
     desk_opens_legal, each_command_keeps_order, empty_is_in_order, opening_keeps_order,

@@ -5,7 +5,7 @@ use Rattle.std.specs.List.{list_any}
 use Rattle.std.proofs.lemmas.List.Elements.{All-head, All-tail}
 use Rattle.foundation.specs.Faults.{Rose}
 use Rattle.edge_io.specs.Door.{DoorState}
-use Rattle.edge_io.specs.Net.{NetState, SameHung, HasNetCause}
+use Rattle.edge_io.specs.Net.{Bound, NetState, SameHung, HasNetCause}
 use Rattle.edge_io.specs.declared.net_fault.NetFault.{NetFault}
 use Rattle.edge_io.specs.declared.net_fault.NetFault.TheVariants as Net
 use Rattle.spool_log.specs.declared.fault.PendFault.TheVariants as Pend
@@ -26,13 +26,14 @@ use Rattle.serve_workers.specs.Crews.{HaveWorked}
 use Rattle.serve_forwarder.specs.declared.destination.Destination.{Destination}
 use Rattle.serve_forwarder.specs.declared.looking.Outcome.{Outcome}
 use Rattle.serve_forwarder.specs.Looks.{Found, Idle, Unread, Undialed, Held, Look, IsLook, AreLooks, IsToldBy, IsFound, outcome_of}
+use Rattle.serve_forwarder.proofs.Chain.{look_binds_none, looks_bind_none}
 use Rattle.serve_run.specs.Running.{Forwarded, HasForwarded}
 use Rattle.notes.specs.declared.note.Note.{Note}
 use Rattle.bridge_parts.specs.Refused.{note_of_net, note_of_sent}
 use Rattle.bridge_parts.specs.Written.{first_of}
 use Rattle.bridge_parts.proofs.Endings.{sent_by_disk, sent_by_read, sent_by_write}
 use Rattle.bridge_parts.proofs.Failures.{failed}
-use Rattle.bridge_serve.specs.Doors.{SomeRose}
+use Rattle.bridge_serve.specs.Doors.{with_bound, SomeRose}
 use Rattle.bridge_serve.specs.Noted.{is_starved, is_refused, note_of_workers, note_of_look, note_of_run}
 
 -- ---- notes
@@ -112,8 +113,8 @@ later_same net net' same = record {
 told_later : (place : List ℕ) (found : Found) (net net' : NetState) → IsToldBy place found net net' → IsLater net net'
 told_later place Idle net net' told = later_same net net' told
 told_later place (Unread fault) net net' told = later_same net net' told
-told_later place (Undialed Net.Fault) net net' (same, cause) = record { faults = cause.0; reads = omega (arith, same.read_faults); writes = omega (arith, same.write_faults) }
-told_later place (Undialed Net.NoMemory) net net' (same, cause) = record { faults = omega (arith, cause); reads = omega (arith, same.read_faults); writes = omega (arith, same.write_faults) }
+told_later place (Undialed Net.Fault) net net' (same, cause, unbound) = record { faults = cause.0; reads = omega (arith, same.read_faults); writes = omega (arith, same.write_faults) }
+told_later place (Undialed Net.NoMemory) net net' (same, cause, unbound) = record { faults = omega (arith, cause); reads = omega (arith, same.read_faults); writes = omega (arith, same.write_faults) }
 told_later place (Held one) net net' hangs = record { faults = omega (arith, hangs.net_faults); reads = hangs.reads.later; writes = hangs.writes.later }
 
 later_then : (a b c : NetState) → IsLater a b → IsLater b c → IsLater a c
@@ -176,7 +177,7 @@ found_dial place Idle net net' told is = absurd (cc)
 found_dial place (Unread Pend.DiskFault) net net' told is = absurd (cc)
 found_dial place (Unread (Pend.NotSpool at)) net net' told is = absurd (cc)
 found_dial place (Unread Pend.NoMemory) net net' told is = absurd (cc)
-found_dial place (Undialed Net.Fault) net net' (same, cause) is = cause.1
+found_dial place (Undialed Net.Fault) net net' (same, cause, unbound) is = cause.1
 found_dial place (Undialed Net.NoMemory) net net' told is = absurd (cc)
 found_dial place (Held one) net net' hangs is = absurd (sent_net one.sent is)
 
@@ -294,9 +295,18 @@ module _ (start : DeskState → Type 0) (destination : Option Destination) (work
 
 -- ---- a bind
 
--- one that was granted changed nothing that the net tells
-pub net_same : (net net' : NetState) → net'.net_faults ≡ net.net_faults → SameHung net net' → net' ≡ net
-net_same net net' faults same = λ i. record { hung = same.hung i; net_faults = faults i; read_faults = same.read_faults i; write_faults = same.write_faults i }
+-- binds that were granted changed nothing that the net tells but the doors that were bound
+pub net_bound : (net net' : NetState) (bound : Option (List Bound)) → net'.net_faults ≡ net.net_faults → SameHung net net' → bound ≡ net'.bound → net' ≡ with_bound net bound
+net_bound net net' bound faults same is =
+    λ i. record { bound = sym is i; hung = same.hung i; net_faults = faults i; read_faults = same.read_faults i; write_faults = same.write_faults i }
+
+-- nor did a run after them
+pub forwarded_binds_none : (start : DeskState → Type 0) (destination : Option Destination) (workers : List Known) (pass pass' : Known)
+    (net net' : NetState) (last : Option Outcome) → Forwarded start destination workers pass pass' net net' last → net'.bound ≡ net.bound
+forwarded_binds_none start None workers pass pass' net net' last none = ap (λ (n : NetState). n.bound) none.2
+forwarded_binds_none start (Some d) workers pass pass' net net' last (outcome, is, has) =
+    look_binds_none start d.outward d.place has.look has.met pass' has.net_beside net' has.looked_last
+    ∙ looks_bind_none start d.outward d.place has.looks pass has.beside net has.net_beside has.looked
 
 -- one that was refused is counted, unless no memory was found
 pub net_refused : (T : Type 0) (fault : NetFault) (note : Note) (before now : ℕ) → note ≡ note_of_net fault → HasNetCause {T = T} before now (Err fault)

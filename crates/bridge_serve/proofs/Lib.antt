@@ -6,3 +6,4 @@ pub mod Looks
 pub mod Finishing
 pub mod Promises
 pub mod Ran
+pub mod Answering

@@ -4,7 +4,7 @@ use Rattle.std.specs.Prelude.{Bool, Option}
 use Rattle.foundation.specs.Faults.{Rose}
 use Rattle.edge_disk.specs.Disk.{Moment}
 use Rattle.edge_io.specs.Door.{DoorState}
-use Rattle.edge_io.specs.Net.{NetState}
+use Rattle.edge_io.specs.Net.{Bound, NetState}
 use Rattle.conn_serve.specs.declared.rules.Rules.{Rules}
 use Rattle.spool_state.specs.SpoolState.{SpoolState, end}
 use Rattle.spool_state.specs.Left.{left}
@@ -26,14 +26,14 @@ use Rattle.bridge_parts.specs.Counted.{RoseBy, DiskRoseBy, WroteAfter, WritesOfB
 use Rattle.bridge_parts.specs.Pending.{pending_in}
 use Rattle.bridge_parts.specs.Written.{first_of}
 use Rattle.bridge_parts.proofs.Numbers.{end_seen, pending_seen}
-use Rattle.bridge_serve.specs.Doors.{SomeRose}
+use Rattle.bridge_serve.specs.Doors.{with_bound, SomeRose}
 use Rattle.bridge_serve.specs.Noted.{IsNoteOf, note_of_workers, note_of_look, note_of_run, talks_of, PrintsLast}
 use Rattle.bridge_serve.specs.Opened.{IsOpenedDesk, IsOpenedFrom}
-use Rattle.bridge_serve.specs.Served.{RunsOver, IsRunAt}
+use Rattle.bridge_serve.specs.Served.{IsUnserved, RunsOver, IsRunAt}
 use Rattle.bridge_serve.proofs.Opening.{desk_is}
 use Rattle.bridge_serve.proofs.Lines.{memory_last}
 use Rattle.bridge_serve.proofs.Promises.{promises}
-use Rattle.bridge_serve.proofs.Causes.{IsTold, not_usage, not_length, workers_tell, not_workers, forwarded_later, run_told, last_read, last_write, last_dial, last_disk, own_failures, last_of_all, door_rose}
+use Rattle.bridge_serve.proofs.Causes.{IsTold, not_usage, not_length, workers_tell, not_workers, forwarded_later, forwarded_binds_none, run_told, last_read, last_write, last_dial, last_disk, own_failures, last_of_all, door_rose}
 
 none_in_doubt : (x : DeskState) (s : SpoolState) → x ≡ desk_in (opened Raise s) → x.doubt ≡ []
 none_in_doubt x s is = ap (λ (d : DeskState). d.doubt) is
@@ -170,3 +170,24 @@ module _ (tells : Type 0) (old new : Moment) (talks : ℕ) (rules : List Rules) 
     printed = printed;
     cause = dial_cause r d d';
   }
+
+-- ---- what was bound
+
+-- a run binds no door
+pub run_binds_none : (talks : ℕ) (destination : Option Destination) (tells : Type 0) (old new : Moment) (net net' : NetState) (rules : List Rules)
+    (doors doors' : List DoorState) (writes writes' : ℕ) (taken taken' : Option (List ℕ)) (note : Note)
+    → IsRunAt talks destination tells old new net net' rules doors doors' writes writes' taken taken' note → net'.bound ≡ net.bound
+run_binds_none talks destination tells old new net net' rules doors doors' writes writes' taken taken' note run =
+    forwarded_binds_none _ destination _ _ _ net net' run.last run.over.served.forwarded
+
+-- where no worker began it makes no difference that doors were bound before
+pub unserved_with : (tells : Type 0) (old new : Moment) (net net' : NetState) (bound : Option (List Bound)) (taken taken' : Option (List ℕ)) (note : Note)
+    → IsUnserved tells old new (with_bound net bound) net' taken taken' note → IsUnserved tells old new net net' taken taken' note
+unserved_with tells old new net net' bound taken taken' note un = record {
+  why = un.why;
+  opened = un.opened;
+  calls = un.calls;
+  hung = record { hung = un.hung.hung; read_faults = un.hung.read_faults; write_faults = un.hung.write_faults };
+  binds = un.binds;
+  silent = un.silent;
+}

@@ -1,3 +1,4 @@
+pub mod Answered
 pub mod Doors
 pub mod Noted
 pub mod Opened

@@ -24,7 +24,7 @@ use Rattle.notes.specs.declared.note.Note.TheVariants.{NoMemory, NetFault}
 use Rattle.bridge_words.specs.Lines.{serve_line}
 use Rattle.bridge_parts.specs.Opened.{IsUnopened}
 use Rattle.bridge_parts.specs.Run.{DiskRun, NetRun, OutputRun, IsOffline, IsSilent}
-use Rattle.bridge_serve.specs.Doors.{AreBound, destination_of, SomeRose}
+use Rattle.bridge_serve.specs.Doors.{AreBound, AreUnused, TellsBound, binds_of, with_bound, destination_of, SomeRose}
 use Rattle.bridge_serve.specs.Noted.{IsNoteOf, note_of_run, talks_of, PrintsLast}
 use Rattle.bridge_serve.specs.Opened.{IsOpenedDesk, opened_at, desk_over, IsOpenedOnly}
 use Rattle.bridge_serve.specs.Promised.{Promises}
@@ -82,18 +82,21 @@ pub record IsRunAt (talks : ℕ) (destination : Option Destination) (tells : Typ
   -- the note reports a net fault only where the net's own count rose, or that of a door
   pub cause : note ≡ NetFault → Rose 1 net.net_faults net'.net_faults ⊎ SomeRose doors doors'
 
--- The doors of the words were bound, and the server ran there.
+-- The doors of the words were bound, as is told, and nothing else was; and the server ran there.
 pub record IsRun (server : Server) (tells : Type 0) (old new : Moment) (net net' : NetState) (doors' : List DoorState) (writes writes' : ℕ)
     (taken taken' : Option (List ℕ)) (note : Note) : Type 0 where
   pub doors : List DoorState
   pub rules : List Rules
   pub bound : AreBound server doors rules
-  pub ran : IsRunAt server.talks (destination_of server.forward) tells old new net net' rules doors doors' writes writes' taken taken' note
+  pub told : TellsBound (binds_of server) net.bound net'.bound
+  pub ran : IsRunAt server.talks (destination_of server.forward) tells old new (with_bound net net'.bound) net' rules doors doors' writes writes' taken taken'
+      note
 
--- What was done: the device was not opened, and then no door was bound, nothing was dialed and nothing was printed; or no worker began; or
--- the server ran.
+-- What was done: the device was not opened, and then no door was bound, nothing was dialed and nothing was printed; or no worker began,
+-- and the doors that were bound come back, with no link accepted; or the server ran. What was bound is told in each case.
 abbrev pub IsServed : Server → DiskRun → OutputRun → NetRun → List DoorState → Note → Type 0
 IsServed server disk output net doors' note =
     (IsUnopened disk.tells disk.old disk.new note × IsOffline net × (doors' ≡ []) × IsSilent output)
-    ⊎ ((IsUnserved disk.tells disk.old disk.new net.old net.new output.taken output.taken_after note × (doors' ≡ []))
+    ⊎ ((IsUnserved disk.tells disk.old disk.new net.old net.new output.taken output.taken_after note
+    × AreUnused server net.old.bound net.new.bound doors')
     ⊎ IsRun server disk.tells disk.old disk.new net.old net.new doors' output.faults output.faults_after output.taken output.taken_after note)

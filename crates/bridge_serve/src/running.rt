@@ -1,10 +1,13 @@
 //! A run of the server over a spool that was opened for storing.
-ghost use Rattle.std.specs.Prelude.{◌≡◌, ◌⊎◌, ◌+◌, ◌<◌, ◌^◌, ◌≤◌, false, map, IfOk, IfErr, IfSome, option_copied, vec_len};
+ghost use Rattle.std.specs.Prelude.{◌≡◌, ◌⊎◌, ◌+◌, ◌<◌, ◌^◌, ◌≤◌, ℕ, Some, false, map, IfOk, IfErr, IfSome, option_copied, slice_get, vec_len};
 ghost use Rattle.edge_disk.specs.Calls.{Calls};
 ghost use Rattle.spool_log.specs.State.{view};
 ghost use Rattle.spool_turns.specs.Named.{IsName};
-ghost use Rattle.spool_turns.specs.Replays.{desk_at};
+ghost use Rattle.spool_turns.specs.Replays.{desk_at, IsReal};
+ghost use Rattle.serve_workers.specs.Answering.{MayAnswer};
+ghost use Rattle.serve_workers.specs.Works.{first_conn};
 ghost use Rattle.serve_run.specs.Running.{HasServed, HasNotServed};
+ghost use Rattle.bridge_serve.specs.Answered.{WorkerMayAnswer};
 ghost use Rattle.bridge_serve.specs.Opened.{IsOpenedFrom, IsOpenedOnly};
 ghost use Rattle.bridge_serve.specs.Served.{RunsOver};
 
@@ -25,7 +28,7 @@ use std::thread::Threads;
 
 // Runs the server over a desk that has a name, by which the passes of workers and forwarder are passes of this desk and no other. The
 // disk as it was before the opening stands in the proof alone, which says by it which name that is. The error is want of memory before
-// a worker began, and gives back the desk.
+// a worker began, and gives back the desk and the posts as they were.
 fn run_named<
     D: Disk + Drop + Send,
     N: Net + Send,
@@ -40,7 +43,7 @@ fn run_named<
     talks: u32,
     destination: Option<&Destination>,
     net: &mut N,
-) -> Result<Served<N::P, D>, Desk<D>>
+) -> Result<Served<N::P, D>, Unserved<N::P, D>>
 where
     N::P: Drop + Send,
     <N::P as Door>::L: Send,
@@ -50,30 +53,30 @@ where
     requires talks { talks ≤ 2 ^ 26 }
     requires polls { IfSome destination (λ d. 0 < d.now.outward.polls) }
     requires name { IsName J.table J.run J.start J.began unnamed }
+    requires says { (i : ℕ) (post : _) → slice_get posts.items i ≡ Some post
+        → MayAnswer (IsReal ⟦<D as Disk>⟧ J.start J.run J.seats J.began) J.start (first_conn J.run i) (N.P.permits post.door) post.rules }
+    requires named { IfSome destination (λ d. N.may_dial d.now.place) }
 
     ensures many { IfOk result (λ served. (vec_len served.doors ≡ vec_len posts) × (vec_len served.reports ≡ vec_len posts)) }
     ensures served { IfOk result (λ served. HasServed D.tells J.start J.run J.seats J.began talks (map (λ (post : _). post.rules) posts.items)
         (map (λ (post : _). N.P.told post.door) posts.items) (map (λ (door : _). N.P.told door) served.doors.items) served.reports.items
         (option_copied destination.entry) (N.told net.old) (N.told net.new) served.last (desk_at served.desk)) }
-    ensures err { IfErr result (λ desk. (net.new ≡ net.old)
-        × ((desk ≡ unnamed.alone.desk) ⊎ HasNotServed D.tells J.start J.run J.seats J.began (desk_at desk))) }
+    ensures err { IfErr result (λ none. (none.posts ≡ posts) × (net.new ≡ net.old)
+        × ((none.desk ≡ unnamed.alone.desk) ⊎ HasNotServed D.tells J.start J.run J.seats J.began (desk_at none.desk))) }
 {
     let seats = posts.len() as u32 + 1;
     let opened = match unnamed.named::<J>(alloc, seats) {
         Ok(opened) => opened,
-        Err(NoShare { desk }) => return Err(desk),
+        Err(NoShare { desk }) => return Err(Unserved { desk, posts }),
     };
-    match serve_run::serve(rt, alloc, opened, posts, talks, destination, net) {
-        Ok(served) => Ok(served),
-        Err(Unserved { desk, .. }) => Err(desk),
-    }
+    serve_run::serve(rt, alloc, opened, posts, talks, destination, net)
 }
 
 /// Runs the server over a spool that was opened for storing, from a disk as it was `before`: a worker at each of the doors, which ends
 /// after `talks` connections at the latest, and a forwarder beside them where there is a destination. The result has the desk, the
 /// doors, what the workers report, and what came of the forwarder's last look.
 ///
-/// The error is want of memory before a worker began, and gives back the desk.
+/// The error is want of memory before a worker began, and gives back the desk and the posts as they were.
 pub(crate) fn run_over<D: Disk + Drop + Send, N: Net + Send, R: Threads + Wait + Sync>(
     rt: &R,
     alloc: Global,
@@ -83,7 +86,7 @@ pub(crate) fn run_over<D: Disk + Drop + Send, N: Net + Send, R: Threads + Wait +
     talks: u32,
     destination: Option<&Destination>,
     net: &mut N,
-) -> Result<Served<N::P, D>, Desk<D>>
+) -> Result<Served<N::P, D>, Unserved<N::P, D>>
 where
     N::P: Drop + Send,
     <N::P as Door>::L: Send,
@@ -93,14 +96,18 @@ where
     requires few { vec_len posts ≤ 64 }
     requires talks { talks ≤ 2 ^ 26 }
     requires polls { IfSome destination (λ d. 0 < d.now.outward.polls) }
+    requires answers { (i : ℕ) (post : _) → slice_get posts.items i ≡ Some post
+        → WorkerMayAnswer D.tells (λ (d : D). D.moment d) before.value i post.rules (N.P.permits post.door) }
+    requires dials { IfSome destination (λ d. N.may_dial d.now.place) }
 
     ensures many { IfOk result (λ served. (vec_len served.doors ≡ vec_len posts) × (vec_len served.reports ≡ vec_len posts)) }
     ensures over { IfOk result (λ served. RunsOver D.tells (D.moment before.value) (D.moment served.desk.spool.disk) talks
         (map (λ (post : _). post.rules) posts.items) (map (λ (post : _). N.P.told post.door) posts.items)
         (map (λ (door : _). N.P.told door) served.doors.items) served.reports.items (option_copied destination.entry)
         (N.told net.old) (N.told net.new) served.last served.desk.spool.memory served.desk.spool.doubt) }
-    ensures err { IfErr result (λ desk. (net.new ≡ net.old) × Calls ⊥ (D.moment before.value) (D.moment desk.spool.disk)
-        × (D.tells → IsOpenedOnly (D.moment before.value) (D.moment desk.spool.disk))) }
+    ensures err { IfErr result (λ none. (none.posts ≡ posts) × (net.new ≡ net.old)
+        × Calls ⊥ (D.moment before.value) (D.moment none.desk.spool.disk)
+        × (D.tells → IsOpenedOnly (D.moment before.value) (D.moment none.desk.spool.disk))) }
 {
     let ids = Ids::new(alloc, spool.run(), 0);
     match Unnamed::new(alloc, Desk { spool, ids }) {
@@ -114,6 +121,6 @@ where
             destination,
             net,
         ),
-        Err(NoShare { desk }) => Err(desk),
+        Err(NoShare { desk }) => Err(Unserved { desk, posts }),
     }
 }

@@ -1,5 +1,5 @@
 //! The command `serve`.
-ghost use Rattle.std.specs.Prelude.{◌≡◌, ◌≢◌, ◌⊎◌, ℕ, ◌+◌, ◌-◌, ◌^◌, ◌<◌, ◌≤◌, [], false, map, IfSome, vec_len};
+ghost use Rattle.std.specs.Prelude.{◌≡◌, ◌≢◌, ◌⊎◌, ℕ, ◌+◌, ◌-◌, ◌^◌, ◌<◌, ◌≤◌, List, Some, false, map, slice_get, IfSome, vec_len};
 ghost use Rattle.spool_log.specs.Memory.{end_of};
 ghost use Rattle.spool_log.specs.State.{view};
 ghost use Rattle.notes.specs.declared.note.Note.TheVariants.{Usage, WrongLength, WriteFault};
@@ -8,12 +8,14 @@ ghost use Rattle.bridge_words.specs.Words.{HasRelayPolls};
 ghost use Rattle.bridge_parts.specs.Counted.{RoseBy, DiskRoseBy, WroteAfter, WritesOfBoth};
 ghost use Rattle.bridge_parts.specs.Pending.{pending_in};
 ghost use Rattle.bridge_parts.specs.Run.{disk_run, net_run, output_run};
+ghost use Rattle.serve_workers.specs.Crews.{IsRoom};
+ghost use Rattle.bridge_serve.specs.Answered.{WorkerMayAnswer, MayAnswer, MayBind, MayDial};
 ghost use Rattle.bridge_serve.specs.Doors.{destination_of};
 ghost use Rattle.bridge_serve.specs.Noted.{note_of_run, talks_of, PrintsLast};
 ghost use Rattle.bridge_serve.specs.Opened.{IsOpenedFrom};
 ghost use Rattle.bridge_serve.specs.Served.{IsUnserved, IsRunAt, IsServed};
 
-use crate::binding::bind_doors;
+use crate::binding::{Posts, bind_doors};
 use crate::counting::Numbers;
 use crate::ended::Over;
 use crate::noting::run_note;
@@ -25,8 +27,7 @@ use edge_disk::Disk;
 use edge_io::{Door, Net, Sink};
 use notes::Note;
 use serve_forwarder::Destination;
-use serve_run::Served;
-use serve_workers::Post;
+use serve_run::{Served, Unserved};
 use spool_log::{Opening, Refusal, Spool};
 use std::alloc::Global;
 use std::snapshot::Snapshot;
@@ -54,6 +55,7 @@ fn finish<D: Disk, P: Door + Drop, K: Sink>(
     output: &mut K,
 ) -> Over<D, P>
     requires few { vec_len served.reports ≤ 64 }
+    requires prints { (sink : K) (text : List ℕ) → K.permits sink text }
 
     ensures disk { result.disk ≡ served.desk.spool.disk }
     ensures doors { result.doors ≡ served.doors }
@@ -86,13 +88,13 @@ fn finish<D: Disk, P: Door + Drop, K: Sink>(
 }
 
 // Serves at the doors, over the spool that was opened for storing from a disk as it was `before`, and prints the line. Where no memory
-// was found before a worker began, the note is `NoMemory`, and no door comes back.
+// was found before a worker began, the note is `NoMemory`, and the doors come back as they were.
 fn serve_posts<D: Disk + Drop + Send, K: Sink, N: Net + Send, R: Threads + Wait + Sync>(
     rt: &R,
     alloc: Global,
     before: Snapshot<D>,
     spool: Spool<D>,
-    posts: Vec<Post<N::P>>,
+    posts: Posts<N::P>,
     talks: u32,
     destination: Option<Destination>,
     output: &mut K,
@@ -104,9 +106,14 @@ where
     N::L: Send,
     requires opened { IsOpenedFrom D.tells (D.moment before.value) (view spool.memory spool.doubt (D.moment spool.disk)) }
     requires sure { spool.doubt ≡ false }
-    requires few { vec_len posts ≤ 64 }
+    requires few { vec_len posts.posts ≤ 64 }
+    requires room { IsRoom (vec_len posts.posts) posts.room }
     requires talks { talks ≤ 2 ^ 26 }
     requires polls { IfSome destination (λ d. 0 < d.outward.polls) }
+    requires answers { (i : ℕ) (post : _) → slice_get posts.posts.items i ≡ Some post
+        → WorkerMayAnswer D.tells (λ (d : D). D.moment d) before.value i post.rules (N.P.permits post.door) }
+    requires dials { IfSome destination (λ d. N.may_dial d.place) }
+    requires prints { (sink : K) (text : List ℕ) → K.permits sink text }
 
     ensures known { (result.note ≢ Usage) × ((have want : ℕ) → result.note ≢ WrongLength have want) }
     ensures calls { DiskRoseBy (result.note ≡ Note.DiskFault) (D.moment before.value) (D.moment result.disk) }
@@ -115,13 +122,15 @@ where
         (N.told net.new).write_faults }
     ensures dials { (N.told net.old).net_faults ≤ (N.told net.new).net_faults }
     ensures ran { (IsUnserved D.tells (D.moment before.value) (D.moment result.disk) (N.told net.old) (N.told net.new)
-        (K.taken output.old) (K.taken output.new) result.note × (result.doors.items ≡ []))
+        (K.taken output.old) (K.taken output.new) result.note × (net.new ≡ net.old)
+        × (result.doors.items ≡ map (λ (post : _). post.door) posts.posts.items))
         ⊎ IsRunAt talks destination D.tells (D.moment before.value) (D.moment result.disk) (N.told net.old) (N.told net.new)
-        (map (λ (post : _). post.rules) posts.items) (map (λ (post : _). N.P.told post.door) posts.items)
+        (map (λ (post : _). post.rules) posts.posts.items) (map (λ (post : _). N.P.told post.door) posts.posts.items)
         (map (λ (door : _). N.P.told door) result.doors.items)
         (K.write_faults output.old) (K.write_faults output.new) (K.taken output.old) (K.taken output.new) result.note }
 {
     let opening = Numbers::of(&spool);
+    let Posts { posts, room } = posts;
     match run_over(
         rt,
         alloc,
@@ -133,7 +142,11 @@ where
         net,
     ) {
         Ok(served) => finish(alloc, opening, served, output),
-        Err(desk) => Over::unserved(alloc, Note::NoMemory, desk.spool.into_disk()),
+        Err(Unserved { desk, posts }) => Over {
+            note: Note::NoMemory,
+            disk: desk.spool.into_disk(),
+            doors: Posts { posts, room }.into_doors(),
+        },
     }
 }
 
@@ -145,13 +158,18 @@ where
 /// The note is that of the first of these that failed:
 ///
 /// - the opening of the device, and then no door is bound and nothing is dialed;
-/// - the binding of a door (`NetFault`), or want of memory for it or for the desk that the workers share: no worker began, and nothing
-///   is printed;
+/// - the binding of a door (`NetFault`), or want of memory for it or for the desk that the workers share: no worker began, nothing is
+///   printed, and the doors that were bound come back, with no link accepted;
 /// - a worker that found no memory (`NoMemory`), or an accept (`NetFault`);
 /// - the last look at what is left: its read of the desk, its dial (`NetFault`) or its session;
 /// - the line, for which no memory was found (`NoMemory`), or a write of it (`WriteFault`).
 ///
 /// Where no memory was found in the run no line is printed. How a single connection ended doesn't change the note.
+///
+/// Nothing is written to a sender but what its place permits, and by `answers` that may be as little as this: a text may be written to
+/// one who has sent these bytes once all that the text acknowledges of them is durable. So the caller knows at each write, and not at
+/// the end alone, that nothing is acknowledged before it is durable. Doors are bound at the places of the words alone, and the place
+/// to forward to alone is dialed.
 pub fn serve<D: Disk + Drop + Send, K: Sink, N: Net + Send, R: Threads + Wait + Sync>(
     rt: &R,
     alloc: Global,
@@ -167,6 +185,10 @@ where
     requires workers { server.workers ≤ 16 }
     requires talks { server.talks ≤ 2 ^ 26 }
     requires polls { HasRelayPolls server.forward }
+    requires answers { MayAnswer D.tells (λ (d : D). D.moment d) disk server N.permits }
+    requires binds { MayBind server N.may_bind }
+    requires dials { MayDial server N.may_dial }
+    requires prints { (sink : K) (text : List ℕ) → K.permits sink text }
 
     ensures known { (result.note ≢ Usage) × ((have want : ℕ) → result.note ≢ WrongLength have want) }
     ensures calls { DiskRoseBy (result.note ≡ Note.DiskFault) (D.moment disk) (D.moment result.disk) }
@@ -182,8 +204,11 @@ where
         Ok(spool) => spool,
         Err(Refusal { fault, disk }) => return Over::unserved(alloc, recover_note(fault), disk),
     };
-    match bind_doors(alloc, &server, net) {
-        Ok(posts) => serve_posts(
+    let Ok(mut posts) = Posts::reserve(alloc, server.workers) else {
+        return Over::unserved(alloc, Note::NoMemory, spool.into_disk());
+    };
+    match bind_doors(&server, net, &mut posts.posts) {
+        Ok(()) => serve_posts(
             rt,
             alloc,
             before,
@@ -194,6 +219,10 @@ where
             output,
             net,
         ),
-        Err(fault) => Over::unserved(alloc, net_note(fault), spool.into_disk()),
+        Err(fault) => Over {
+            note: net_note(fault),
+            disk: spool.into_disk(),
+            doors: posts.into_doors(),
+        },
     }
 }

@@ -1,5 +1,5 @@
 //! The line that a run ends with.
-ghost use Rattle.std.specs.Prelude.{◌≡◌, ◌⊎◌, ◌≤◌, length};
+ghost use Rattle.std.specs.Prelude.{◌≡◌, ◌⊎◌, ◌≤◌, ℕ, List, length};
 ghost use Rattle.conn_serve.specs.Endings.{CountsFaults};
 ghost use Rattle.notes.specs.declared.note.Note.TheVariants.{WriteFault};
 ghost use Rattle.bridge_words.specs.Lines.{serve_line};
@@ -41,6 +41,8 @@ pub(crate) fn count_talks(reports: &[WorkerReport]) -> u64
 
 // Prints the line. The note is `WriteFault` where a write of it failed, `NoMemory` where none was found to make it, and else `Fine`.
 fn print_summary<K: Sink>(alloc: Global, output: &mut K, summary: Summary) -> Note
+    requires prints { (sink : K) (text : List ℕ) → K.permits sink text }
+
     ensures writes { CountsFaults (result ≡ WriteFault) (K.write_faults output.old) (K.write_faults output.new) }
     ensures undisturbed { (result ≡ Note.Fine) ⊎ ((result ≡ WriteFault) ⊎ (result ≡ Note.NoMemory)) }
     ensures line { IsPrinted result (serve_line summary.talks summary.taken summary.confirmed summary.left) (K.taken output.old) (K.taken output.new) }
@@ -68,6 +70,8 @@ pub(crate) fn print_after<K: Sink>(
     ended: Note,
     summary: Summary,
 ) -> Note
+    requires prints { (sink : K) (text : List ℕ) → K.permits sink text }
+
     ensures writes { WroteAfter ended result (K.write_faults output.old) (K.write_faults output.new) }
     ensures note { (result ≡ ended) ⊎ ((result ≡ WriteFault) ⊎ (result ≡ Note.NoMemory)) }
     ensures printed { PrintsLast ended (serve_line summary.talks summary.taken summary.confirmed summary.left) result

@@ -1,5 +1,5 @@
 //! Links that hold back what they give until other links were written an answer.
-ghost use Rattle.std.specs.Prelude.{◌≡◌, ◌≤◌, None, length};
+ghost use Rattle.std.specs.Prelude.{◌≡◌, ◌≤◌, None, length, refl};
 
 use edge_io::{Link, Object, ReadFault, Sink, Source, WriteFault};
 use std::alloc::Global;
@@ -127,9 +127,13 @@ impl Source for Held<'_> {
 impl Sink for Held<'_> {
     ghost taken = { λ _. None };
 
+    ghost permits = { λ _ _. Unit {0} };
+
     ghost write_faults = { λ link. link.write_faults };
 
     ghost write_apart = { λ x y. y.read_faults ≡ x.read_faults };
+
+    ghost permits_last = { λ _ _ _. (λ _ _. tt, λ _. refl) };
 
     ghost apart_refl = { λ _. Prim.cc };
 

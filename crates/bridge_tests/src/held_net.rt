@@ -37,6 +37,8 @@ impl<'a> Door for HeldDoor<'a> {
       write_faults = door.write_faults;
     } };
 
+    ghost permits = { λ _ _ _ _. Unit {0} };
+
     fn accept(&mut self) -> Result<Option<Held<'a>>, AcceptFault> {
         Ok(self.link.take())
     }
@@ -167,7 +169,19 @@ impl<'a> Net for HeldNet<'a> {
 
     type P = HeldDoor<'a>;
 
-    ghost told = { λ net. record { hung = None; net_faults = net.faults; read_faults = net.read_faults; write_faults = net.write_faults } };
+    ghost told = { λ net. record {
+      bound = None;
+      hung = None;
+      net_faults = net.faults;
+      read_faults = net.read_faults;
+      write_faults = net.write_faults;
+    } };
+
+    ghost may_bind = { λ _. Unit {0} };
+
+    ghost may_dial = { λ _. Unit {0} };
+
+    ghost permits = { λ _ _ _ _ _. Unit {0} };
 
     ghost has_room = { λ _. Unit {0} };
 
@@ -193,6 +207,8 @@ impl<'a> Net for HeldNet<'a> {
         self.write_faults = self.write_faults.saturating_add(link.write_faults);
         let _ = self.sent.extend_from_slice(&link.written);
     }
+
+    ghost dialed_is_free = { λ _ _. tt };
 
     ghost pauses_keep = { λ x y same. Prim.cc };
 

@@ -176,12 +176,22 @@ fn is_whole(run: &Served) -> bool {
     is_printed && is_all && talks_end(OUTPUT, run) && are_kept(run)
 }
 
+// Whether the doors that come back tell what they have to. Where a bind fails they are those that were bound before it, and none of
+// them accepted a link.
+fn doors_end(object: usize, number: u64, run: &Served) -> bool {
+    let doors = run.left.doors.as_slice();
+    if object == NET && number < 3 {
+        return doors.len() as u64 == number && doors.iter().all(|door| door.talks().is_empty());
+    }
+    talks_end(object, run)
+}
+
 // Whether a run left what it has to where that call fails.
 fn is_right(rt: &impl Abort, alloc: Global, object: usize, number: u64, run: &Served) -> bool {
     if !is_reached(object, run) {
         return is_whole(run);
     }
-    let is_told = may_end(object, number, run) && talks_end(object, run);
+    let is_told = may_end(object, number, run) && doors_end(object, number, run);
     is_told && are_kept(run) && is_printed(rt, alloc, object, number, run)
 }
 

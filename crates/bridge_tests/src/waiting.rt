@@ -1,5 +1,5 @@
 //! Senders that wait for each answer before they send on.
-ghost use Rattle.std.specs.Prelude.{◌≡◌, ◌≤◌, None, false, length};
+ghost use Rattle.std.specs.Prelude.{◌≡◌, ◌≤◌, None, false, length, refl};
 
 use crate::parts::MEMORY;
 use crate::script::{OPEN, OPENED};
@@ -124,9 +124,13 @@ impl Source for Waiting<'_> {
 impl Sink for Waiting<'_> {
     ghost taken = { λ _. None };
 
+    ghost permits = { λ _ _. Unit {0} };
+
     ghost write_faults = { λ link. link.write_faults };
 
     ghost write_apart = { λ x y. y.read_faults ≡ x.read_faults };
+
+    ghost permits_last = { λ _ _ _. (λ _ _. tt, λ _. refl) };
 
     ghost apart_refl = { λ _. Prim.cc };
 

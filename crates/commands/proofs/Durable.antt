@@ -1,5 +1,5 @@
 -- What was acknowledged over a connection that alone uses the spool is durable.
-use Rattle.std.proofs.Common.{◌≡◌, ◌*◌, ◌^◌, ℕ, List, [], Option, refl, subst}
+use Rattle.std.proofs.Common.{◌≡◌, ◌*◌, ◌^◌, ℕ, List, Option, refl, subst}
 use Rattle.std.specs.Prelude.{Bool, false}
 use Rattle.event_form.specs.declared.talk.Talk.{Talk}
 use Rattle.edge_io.specs.declared.proto.Proto.{Proto}
@@ -29,7 +29,7 @@ use Rattle.commands.specs.Replayed.{ServesLink, IsStored, KeepsFrom, ServesInput
 use Rattle.commands.proofs.Replays.{stored_from}
 
 -- whatever a crash leaves keeps what was taken
-keeps_calls : (conn : ℕ) (calls : List Call) (old new : Moment) → IsStored old new conn calls → KeepsCalls new calls
+pub keeps_calls : (conn : ℕ) (calls : List Call) (old new : Moment) → IsStored old new conn calls → KeepsCalls new calls
 keeps_calls conn calls old new stored = λ c image. let kept = stored.reached.each c image in (kept.state, kept.stands, kept.kept)
 
 acked_is_durable : (proto : Proto) (tokens : Tokens) (conn : ℕ) (left : Option (List ℕ)) (b : List ℕ) (calls : List Call) (text : List ℕ)
@@ -55,7 +55,7 @@ answers_are_durable Hec tokens conn left b calls text talk old new carried store
 -- A link that was served over a spool, which was opened from a device.
 module _ (rules : Rules) (tells same : Type 0) (old mid new : Moment) (memory : Memory) (doubt : Bool) (sure : doubt ≡ false)
     (opens : tells → (s : SpoolState) × Opens Raise s old.reads (view memory doubt mid)) (first : tells → LeavesOnly (IsOpening Raise old) old mid) where
-  stored_so : (calls : List Call)
+  pub stored_so : (calls : List Call)
       → KeepsFrom (record { memory = memory; disk = record { tells = tells; old = mid; new = new; same = same } }) calls → tells
       → IsStored old new (run_of memory * 2 ^ 32) calls
   stored_so calls made told =

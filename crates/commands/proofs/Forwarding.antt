@@ -36,7 +36,6 @@ use Rattle.bridge_parts.proofs.Endings.{sent_by_disk, sent_by_read, sent_by_writ
 use Rattle.bridge_parts.proofs.Numbers.{pending_seen}
 use Rattle.commands.specs.Drained.{IsLooked, IsIdle, HasMore, IsUnread, IsSent, IsSession, IsSessionOver, IsOverSpool, Tally, IsStreamed, IsPlaced, IsDrained, IsDrainedTo}
 use Rattle.commands.specs.Failed.{CountsWrites, IsHaltNote}
-use Rattle.commands.specs.Listed.{IsUnreadable}
 use Rattle.commands.specs.Sending.{Sends, SendsFrom, IsSentOut, IsSentThere, used_link}
 use Rattle.commands.specs.SpoolRun.{SpoolRun}
 use Rattle.commands.proofs.Over.{session_over}
@@ -275,5 +274,6 @@ module _ (outward : Outward) (disk : DiskRun) (output : OutputRun) (fault : Reco
           quiet = λ _. silent.faults;
         };
         dials = counts_none _ net.old.net_faults net.new.net_faults note.no_dial (ap (λ (t : NetState). t.net_faults) offline.told);
+        bound = ap (λ (t : NetState). t.bound) offline.told;
         drained = inl (unread disk fault why left_only, silent, offline);
       }

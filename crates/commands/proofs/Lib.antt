@@ -11,3 +11,4 @@ pub mod Over
 pub mod Firsts
 pub mod Hanging
 pub mod Durable
+pub mod Answering

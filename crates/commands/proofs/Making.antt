@@ -1,5 +1,5 @@
 -- A device that was made an empty spool, or was not.
-use Rattle.std.proofs.Common.{◌≡◌, ◌≢◌, ◌∙◌, ℕ, List, sym, subst}
+use Rattle.std.proofs.Common.{◌≡◌, ◌≢◌, ◌∙◌, ℕ, sym, subst}
 use Rattle.edge_disk.specs.Calls.{Calls}
 use Rattle.edge_disk.specs.Disk.{IsSettled, LeavesOnly}
 use Rattle.conn_serve.specs.Endings.{CountsFaults}

@@ -27,7 +27,7 @@ use Rattle.notes.specs.declared.note.Note.{Note}
 use Rattle.notes.specs.declared.note.Note.TheVariants.{Fine}
 use Rattle.bridge_parts.specs.Refused.{note_of_pend, note_of_recover}
 use Rattle.bridge_parts.specs.Run.{DiskRun, OutputRun, IsSilent}
-use Rattle.commands.specs.Listed.{ArePrinted, PrintsPart, IsUnreadable, IsPrintNote, IsListNote, Lists, IsListed}
+use Rattle.commands.specs.Listed.{ArePrinted, PrintsPart, IsUnreadable, IsPrintNote, IsListNote, IsListed}
 use Rattle.commands.specs.Refused.{IsRefusedFirst}
 use Rattle.commands.proofs.Printing.{IsLimited, none_first, printed_then, printed_cut}
 use Rattle.commands.proofs.Rising.{left_after}

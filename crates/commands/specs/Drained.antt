@@ -197,11 +197,13 @@ SendsThere outward place disk net output note =
     ⊎ (IsUndialed disk net output note ⊎ IsPlaced outward place disk net output note))
 
 -- What a call of `drain` with a place did. `DiskFault` and `NetFault` come exactly where a call of the disk or the dial failed in it,
--- `ReadFault` only where a read of the link did, and `WriteFault` only where a write of the link or of the output did.
+-- `ReadFault` only where a read of the link did, and `WriteFault` only where a write of the link or of the output did. No door was bound,
+-- where the net tells that.
 pub record IsDrainedTo (outward : Outward) (place : List ℕ) (disk : DiskRun) (net : NetRun) (output : OutputRun) (note : Note) : Type 0 where
   pub known : (note ≢ Usage) × ((have want : ℕ) → note ≢ WrongLength have want)
   pub calls : Calls (note ≡ DiskFault) disk.old disk.new
   pub reads : RoseBy (note ≡ ReadFault) net.old.read_faults net.new.read_faults
   pub writes : WritesOfBoth note output.faults output.faults_after net.old.write_faults net.new.write_faults
   pub dials : TellsNetFault note net.old net.new
+  pub bound : net.new.bound ≡ net.old.bound
   pub drained : SendsThere outward place disk net output note

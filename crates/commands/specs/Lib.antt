@@ -4,6 +4,7 @@ pub mod SpoolRun
 pub mod Formatted
 pub mod Listed
 pub mod Replayed
+pub mod Answered
 pub mod Drained
 pub mod Sending
 pub mod Loading

@@ -1,5 +1,4 @@
 -- Which notes refuse the words or the device.
-use Rattle.std.specs.Prelude.{ℕ}
 use Rattle.notes.specs.declared.note.Note.{Note}
 use Rattle.notes.specs.declared.note.Note.TheVariants.{Usage, WrongLength, RunsSpent, Worn}
 

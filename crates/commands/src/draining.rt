@@ -1,5 +1,5 @@
 //! The command `drain`: the entries that aren't known as confirmed are forwarded, over the spool that the device holds.
-ghost use Rattle.std.specs.Prelude.{◌≡◌, ◌≢◌, ◌≤◌, ◌<◌, ℕ, false};
+ghost use Rattle.std.specs.Prelude.{◌≡◌, ◌≢◌, ◌≤◌, ◌<◌, ℕ, List, false};
 ghost use Rattle.edge_disk.specs.Calls.{Calls};
 ghost use Rattle.spool_log.specs.Memory.{cursor_of, end_of};
 ghost use Rattle.forward_core.specs.Forwarded as sending;
@@ -33,6 +33,7 @@ fn send_both<D: Disk, S: Source, K: Sink, Z: Pause>(
     output: &mut K,
     rest: &mut Z,
 ) -> Sending<D>
+    requires prints { (k : K) (text : List ℕ) → K.permits k text }
     requires sure { spool.doubt ≡ false }
     requires polls { 0 < outward.now.polls }
 
@@ -60,6 +61,7 @@ fn send_out<D: Disk, S: Source, K: Sink, Z: Pause>(
     output: &mut K,
     rest: &mut Z,
 ) -> Finished<D>
+    requires prints { (k : K) (text : List ℕ) → K.permits k text }
     requires sure { spool.doubt ≡ false }
     requires polls { 0 < outward.now.polls }
 
@@ -96,6 +98,7 @@ pub fn drain_out<D: Disk, S: Source, K: Sink, N: Net>(
     output: &mut K,
     net: &mut N,
 ) -> Finished<D>
+    requires prints { (k : K) (text : List ℕ) → K.permits k text }
     requires polls { 0 < outward.now.polls }
 
     ensures told { N.told net.new ≡ N.told net.old }

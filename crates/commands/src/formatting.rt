@@ -1,5 +1,5 @@
 //! The command `format`: a device is made an empty spool.
-ghost use Rattle.std.specs.Prelude.{◌≡◌, ◌≢◌};
+ghost use Rattle.std.specs.Prelude.{◌≡◌, ◌≢◌, ℕ, List};
 ghost use Rattle.conn_serve.specs.Endings.{CountsFaults};
 ghost use Rattle.notes.specs.declared.note.Note.TheVariants.{WriteFault, DiskFault};
 ghost use Rattle.bridge_words.specs.Lines.{spool_line};
@@ -17,6 +17,8 @@ use std::alloc::Global;
 
 // Prints the line that says which spool was made.
 fn print_line<K: Sink>(alloc: Global, output: &mut K, slots: u32, size: u64) -> Note
+    requires prints { (k : K) (text : List ℕ) → K.permits k text }
+
     ensures writes { CountsFaults (result ≡ WriteFault) (K.write_faults output.old) (K.write_faults output.new) }
     ensures undisturbed { result ≢ DiskFault }
     ensures line { IsPrinted result (spool_line slots size) (K.taken output.old) (K.taken output.new) }
@@ -42,7 +44,8 @@ pub fn format<D: Disk, K: Sink>(
     slots: u32,
     size: u64,
 ) -> Note
-    requires { IsSize slots size }
+    requires size { IsSize slots size }
+    requires prints { (k : K) (text : List ℕ) → K.permits k text }
 
     ensures { IsFormatted slots size (disk_run D.tells D.moment disk.old disk.new)
         (output_run K.taken K.write_faults output.old output.new) result }

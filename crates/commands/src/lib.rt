@@ -2,7 +2,8 @@
 //!
 //! Each is a function over a disk, an input, an output and a net, of which it takes those that it needs. `specs/` says what each does
 //! of what these tell before the call and after it: `IsFormatted`, `IsListed`, `IsReplayed`, `IsDrained`,
-//! `IsDrainedTo`, `LoadIsTold`.
+//! `IsDrainedTo`, `LoadIsTold`. Each that writes to the output asks that this may take any text, but `replay` for no more than
+//! what acknowledges that which is durable then (`MayReplay`); and `drain` to a place asks that the place may be dialed.
 #![tactic(auto)]
 
 mod draining;

@@ -60,6 +60,8 @@ fn add_line(
 
 // Writes the lines where they are many, all of them, and then none is left.
 fn write_many<K: Sink>(output: &mut K, lines: &mut Vec<u8>) -> Result<(), Stopped>
+    requires prints { (k : K) (text : List ℕ) → K.permits k text }
+
     ensures cause { HasCause (K.write_faults output.old) (K.write_faults output.new) result }
     ensures done { OnOk result (((K.taken output.new ≡ K.taken output.old) × (lines.new.items ≡ lines.old.items))
         ⊎ (Appends (K.taken output.old) (K.taken output.new) lines.old.items × (lines.new.items ≡ []))) }
@@ -82,6 +84,7 @@ pub(crate) fn print_entries<K: Sink>(
     form: ListForm,
     entries: &[Numbered],
 ) -> Note
+    requires prints { (k : K) (text : List ℕ) → K.permits k text }
     requires limits { (from : ℕ) × (end : ℕ) × AreNumbered from end entries.now }
 
     ensures known { IsPrintNote result × (result ≢ DiskFault) }

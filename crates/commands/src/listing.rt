@@ -1,5 +1,5 @@
 //! The command `list`: the entries whose numbers aren't known as confirmed are printed.
-ghost use Rattle.std.specs.Prelude.{◌≡◌, ◌≢◌, ℕ, ◌<◌, ◌≤◌, [], IfOk, IfErr, IfSome, IsErrOf, MatchResult, MatchOption};
+ghost use Rattle.std.specs.Prelude.{◌≡◌, ◌≢◌, ℕ, List, ◌<◌, ◌≤◌, [], IfOk, IfErr, IfSome, IsErrOf, MatchResult, MatchOption};
 ghost use Rattle.spool_state.specs.SpoolState.{SpoolState};
 ghost use Rattle.spool_state.specs.Left.{left, left_from};
 ghost use Rattle.edge_disk.specs.Calls.{Calls};
@@ -33,7 +33,8 @@ fn print_part<D: Disk, K: Sink>(
     form: ListForm,
     number: u64,
 ) -> Result<Option<u64>, Note>
-    requires { number ≤ end_of spool.old.memory }
+    requires prints { (k : K) (text : List ℕ) → K.permits k text }
+    requires within { number ≤ end_of spool.old.memory }
 
     ensures known { IfErr result IsPrintNote }
     ensures unfinished { IfErr result (λ note. note ≢ Fine) }
@@ -69,6 +70,8 @@ fn print_left<D: Disk, K: Sink>(
     output: &mut K,
     form: ListForm,
 ) -> Note
+    requires prints { (k : K) (text : List ℕ) → K.permits k text }
+
     ensures known { IsPrintNote result }
     ensures calls { Calls (result ≡ Note.DiskFault) (D.moment spool.old.disk) (D.moment spool.new.disk) }
     ensures writes { CountsFaults (result ≡ Note.WriteFault) (K.write_faults output.old) (K.write_faults output.new) }
@@ -99,6 +102,8 @@ fn print_left<D: Disk, K: Sink>(
 /// call of the disk failed or no memory was found, the first lines, each whole. Nothing is written to the device:
 /// whatever a crash leaves of it is what it could leave before.
 pub fn list<D: Disk, K: Sink>(alloc: Global, disk: D, output: &mut K, form: ListForm) -> Finished<D>
+    requires prints { (k : K) (text : List ℕ) → K.permits k text }
+
     ensures { IsListed form (disk_run D.tells D.moment disk result.disk)
         (output_run K.taken K.write_faults output.old output.new) result.note }
 {

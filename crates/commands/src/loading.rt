@@ -1,5 +1,5 @@
 //! The command `load`: a stream is made, stored and forwarded in memory, and a line says how much it was.
-ghost use Rattle.std.specs.Prelude.{◌≡◌, ◌≤◌, ◌⊎◌};
+ghost use Rattle.std.specs.Prelude.{◌≡◌, ◌≤◌, ◌⊎◌, ℕ, List};
 ghost use Rattle.conn_serve.specs.Endings.{CountsFaults};
 ghost use Rattle.load_run.specs.Line.{load_line};
 ghost use Rattle.notes.specs.declared.note.Note.TheVariants.{WriteFault};
@@ -26,6 +26,8 @@ fn load_note(fault: LoadFault) -> Note
 
 // Prints the line that tells what the load came to.
 fn print_loaded<K: Sink>(alloc: Global, output: &mut K, loaded: &Loaded) -> Note
+    requires prints { (k : K) (text : List ℕ) → K.permits k text }
+
     ensures writes { CountsFaults (result ≡ WriteFault) (K.write_faults output.old) (K.write_faults output.new) }
     ensures undisturbed { (result ≡ Note.Fine) ⊎ ((result ≡ WriteFault) ⊎ (result ≡ Note.NoMemory)) }
     ensures line { IsPrinted result (load_line loaded.now) (K.taken output.old) (K.taken output.new) }
@@ -44,6 +46,7 @@ fn print_loaded<K: Sink>(alloc: Global, output: &mut K, loaded: &Loaded) -> Note
 /// is found: all events were stored and are confirmed, and none is left. The note is `Fine`, `WriteFault` where a write of the line
 /// failed, or `NoMemory`.
 pub fn load<K: Sink>(alloc: Global, proto: Proto, number: u32, count: u32, output: &mut K) -> Note
+    requires prints { (k : K) (text : List ℕ) → K.permits k text }
     requires few { count ≤ 100000 }
 
     ensures { LoadIsTold proto number count (output_run K.taken K.write_faults output.old output.new) result }

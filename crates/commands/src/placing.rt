@@ -1,5 +1,5 @@
 //! The command `drain` with a place: the entries that aren't known as confirmed are forwarded over a link that is dialed.
-ghost use Rattle.std.specs.Prelude.{◌≡◌, ◌≢◌, ◌⊎◌, ◌<◌, ℕ, false};
+ghost use Rattle.std.specs.Prelude.{◌≡◌, ◌≢◌, ◌⊎◌, ◌<◌, ℕ, List, false};
 ghost use Rattle.edge_disk.specs.Calls.{Calls};
 ghost use Rattle.conn_serve.specs.Endings.{CountsFaults};
 ghost use Rattle.notes.specs.declared.note.Note.TheVariants.{Usage, WrongLength, WriteFault};
@@ -26,6 +26,8 @@ use std::alloc::Global;
 
 // Prints how many entries were confirmed, and how many are left.
 fn print_counts<K: Sink>(alloc: Global, output: &mut K, confirmed: u64, left: u64) -> Note
+    requires prints { (k : K) (text : List ℕ) → K.permits k text }
+
     ensures writes { CountsFaults (result ≡ WriteFault) (K.write_faults output.old) (K.write_faults output.new) }
     ensures undisturbed { (result ≡ Note.Fine) ⊎ ((result ≡ WriteFault) ⊎ (result ≡ Note.NoMemory)) }
     ensures line { IsPrinted result (drain_line confirmed left) (K.taken output.old) (K.taken output.new) }
@@ -48,6 +50,8 @@ fn print_after<K: Sink>(
     confirmed: u64,
     left: u64,
 ) -> Note
+    requires prints { (k : K) (text : List ℕ) → K.permits k text }
+
     ensures writes { WroteAfter (note_of_sent sent) result (K.write_faults output.old) (K.write_faults output.new) }
     ensures note { (result ≡ note_of_sent sent) ⊎ ((result ≡ WriteFault) ⊎ (result ≡ Note.NoMemory)) }
     ensures printed { PrintsOf sent (drain_line confirmed left) result (output_run K.taken K.write_faults output.old output.new) }
@@ -70,6 +74,7 @@ fn send_over<D: Disk, K: Sink, N: Net>(
     output: &mut K,
     net: &mut N,
 ) -> Finished<D>
+    requires prints { (k : K) (text : List ℕ) → K.permits k text }
     requires sure { spool.doubt ≡ false }
     requires polls { 0 < outward.now.polls }
     requires room { N.has_room net.old }
@@ -80,6 +85,7 @@ fn send_over<D: Disk, K: Sink, N: Net>(
     ensures writes { WritesOfBoth result.note (K.write_faults output.old) (K.write_faults output.new) (N.told net.old).write_faults
         (N.told net.new).write_faults }
     ensures dials { (result.note ≢ Note.NetFault) × ((N.told net.new).net_faults ≡ (N.told net.old).net_faults) }
+    ensures bound { (N.told net.new).bound ≡ (N.told net.old).bound }
     ensures sent { IsSentOver outward.now (spool_run D.tells D.moment spool.memory spool.disk result.disk)
         (new_link N.L.dialed N.L.given N.L.left N.L.taken link) (net_run N.told net.old net.new)
         (output_run K.taken K.write_faults output.old output.new) result.note }
@@ -103,6 +109,8 @@ fn send_there<D: Disk, K: Sink, N: Net>(
     output: &mut K,
     net: &mut N,
 ) -> Finished<D>
+    requires prints { (k : K) (text : List ℕ) → K.permits k text }
+    requires named { N.may_dial place.now }
     requires sure { spool.doubt ≡ false }
     requires polls { 0 < outward.now.polls }
 
@@ -112,6 +120,7 @@ fn send_there<D: Disk, K: Sink, N: Net>(
     ensures writes { WritesOfBoth result.note (K.write_faults output.old) (K.write_faults output.new) (N.told net.old).write_faults
         (N.told net.new).write_faults }
     ensures dials { TellsNetFault result.note (N.told net.old) (N.told net.new) }
+    ensures bound { (N.told net.new).bound ≡ (N.told net.old).bound }
     ensures placed { IsSentTo outward.now place.now (spool_run D.tells D.moment spool.memory spool.disk result.disk)
         (net_run N.told net.old net.new) (output_run K.taken K.write_faults output.old output.new) result.note }
 {
@@ -140,6 +149,8 @@ pub fn drain_to<D: Disk, K: Sink, N: Net>(
     output: &mut K,
     net: &mut N,
 ) -> Finished<D>
+    requires prints { (k : K) (text : List ℕ) → K.permits k text }
+    requires named { N.may_dial place.now }
     requires polls { 0 < outward.now.polls }
 
     ensures { IsDrainedTo outward.now place.now (disk_run D.tells D.moment disk result.disk)

@@ -1,10 +1,11 @@
 //! The command `replay`: the input is served as one connection, over the spool that the device holds.
-ghost use Rattle.std.specs.Prelude.{◌≡◌, ℕ, ◌*◌, ◌^◌, false};
+ghost use Rattle.std.specs.Prelude.{◌≡◌, ◌*◌, ◌^◌, false};
 ghost use Rattle.edge_io.specs.declared.proto.Proto.{Proto};
 ghost use Rattle.spool_log.specs.Memory.{run_of};
 ghost use Rattle.conn_serve.specs.Endings.{CountsFaults};
 ghost use Rattle.notes.specs.declared.note.Note.TheVariants.{ReadFault, WriteFault};
 ghost use Rattle.bridge_parts.specs.Run.{both_run, disk_run, input_run, link_run, output_run};
+ghost use Rattle.commands.specs.Answered.{MayReplay, MayServe, MayTake, WasRead};
 ghost use Rattle.commands.specs.Failed.{TellsDiskFault};
 ghost use Rattle.commands.specs.Replayed.{ServesLink, IsReplayed, KeepsFrom};
 ghost use Rattle.commands.specs.SpoolRun.{spool_run};
@@ -31,6 +32,8 @@ fn serve_link<D: Disk, L: Link>(
     link: &mut L,
 ) -> Finished<D>
     requires sure { spool.doubt ≡ false }
+    requires answers { MayServe (λ (now : D). spool_run D.tells D.moment spool.memory spool.disk now) (run_of spool.memory * 2 ^ 32) rules
+        (WasRead L.same L.given link.old) (MayTake L.same L.taken L.permits link.old) }
 
     ensures calls { TellsDiskFault (rules.proto ≡ Proto.Hec) result.note (D.moment spool.disk) (D.moment result.disk) }
     ensures reads { CountsFaults (result.note ≡ ReadFault) (L.read_faults link.old) (L.read_faults link.new) }
@@ -57,6 +60,8 @@ fn serve_input<D: Disk, S: Source, K: Sink>(
     output: &mut K,
 ) -> Finished<D>
     requires sure { spool.doubt ≡ false }
+    requires answers { MayServe (λ (now : D). spool_run D.tells D.moment spool.memory spool.disk now) (run_of spool.memory * 2 ^ 32) rules
+        (WasRead S.same S.given input.old) (MayTake K.same K.taken K.permits output.old) }
 
     ensures calls { TellsDiskFault (rules.proto ≡ Proto.Hec) result.note (D.moment spool.disk) (D.moment result.disk) }
     ensures reads { CountsFaults (result.note ≡ ReadFault) (S.read_faults input.old) (S.read_faults input.new) }
@@ -79,6 +84,10 @@ fn serve_input<D: Disk, S: Source, K: Sink>(
 /// rule of the layout, with the offset of the first one; then `RunsSpent` exactly where the run is 2,097,151;
 /// then `Worn` exactly where the register was written 2^63 times. Else the note is that of the connection's
 /// ending.
+///
+/// `answers` is the leave to write, which the caller gives: once these bytes were read from the input the output may take
+/// a text, if all that it acknowledges of them is durable on the disk as it is then (`IsDurable`). No other text is
+/// written, also where the call never returns.
 pub fn replay<D: Disk, S: Source, K: Sink>(
     alloc: Global,
     rules: Rules,
@@ -86,6 +95,9 @@ pub fn replay<D: Disk, S: Source, K: Sink>(
     input: &mut S,
     output: &mut K,
 ) -> Finished<D>
+    requires answers { MayReplay D.tells D.moment disk rules (WasRead S.same S.given input.old)
+        (MayTake K.same K.taken K.permits output.old) }
+
     ensures { IsReplayed rules (disk_run D.tells D.moment disk result.disk)
         (input_run S.given S.left S.read_faults input.old input.new) (output_run K.taken K.write_faults output.old output.new) result.note }
 {

@@ -1,5 +1,5 @@
 //! One session over a spool: its pending entries are forwarded to the peer of a link.
-ghost use Rattle.std.specs.Prelude.{◌≡◌, ◌↔◌, ◌≤◌, ◌<◌, false, IsTrue};
+ghost use Rattle.std.specs.Prelude.{◌≡◌, ◌↔◌, ◌≤◌, ◌<◌, ℕ, List, false, IsTrue};
 ghost use Rattle.edge_disk.specs.Calls.{Calls};
 ghost use Rattle.spool_log.specs.Memory.{cursor_of, end_of};
 ghost use Rattle.forward_core.specs.Forwarded.{CountsFaults, CountsWrites};
@@ -42,6 +42,7 @@ pub(crate) fn send<D: Disk, L: Link, Z: Pause>(
     link: &mut L,
     rest: &mut Z,
 ) -> Sending<D>
+    requires free { (link : L) (text : List ℕ) → L.permits link text }
     requires sure { spool.doubt ≡ false }
     requires polls { 0 < outward.now.polls }
 

@@ -2,7 +2,7 @@
 ghost use Rattle.std.specs.Prelude.{◌≤◌};
 
 /// The bytes of a disk from one offset up to another, which isn't among them. Offsets count bytes from 0.
-#[derive(Clone, Copy, Debug, PartialEq, Eq)]
+#[derive(Clone, Copy, PartialEq, Eq)]
 pub struct ByteRange {
     /// The offset of the first byte.
     pub from: u64,

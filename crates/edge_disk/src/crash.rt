@@ -4,7 +4,7 @@ ghost use Rattle.edge_disk.specs.Held.{is_written};
 ghost use Rattle.edge_disk.specs.Crashing.{IsFilled};
 
 /// What a crash does to the ranges that were written since the last sync that succeeded.
-#[derive(Clone, Copy, Debug, PartialEq, Eq)]
+#[derive(Clone, Copy, PartialEq, Eq)]
 pub enum Crash {
     /// They hold the bytes of before.
     Synced,

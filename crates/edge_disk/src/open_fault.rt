@@ -3,7 +3,7 @@ use std::fs::TryLockError;
 use std::io::{self, ErrorKind};
 
 /// Who else may have a file open as a disk while this program has it.
-#[derive(Clone, Copy, Debug, PartialEq, Eq)]
+#[derive(Clone, Copy, PartialEq, Eq)]
 pub enum Sharing {
     /// Nobody. A program that changes the disk wants this.
     Exclusive,

@@ -101,6 +101,42 @@ pub(crate) fn a_net_binds_the_doors_of_a_place(rt: &impl Abort, alloc: Global) {
     assert!(rt; matches!(net.dial("r"), Err(NetFault::Fault)), "no script");
 }
 
+// Calls of `bind`, one after another, and what a net with two doors at `r` tells after each: the doors that were bound.
+const BINDS: [(&str, u32, &[(&str, u32)]); 4] = [
+    ("r", 1, &[("r", 1)]),
+    // where one is left
+    ("r", 2, &[("r", 1)]),
+    ("s", 0, &[("r", 1), ("s", 0)]),
+    ("r", 1, &[("r", 1), ("s", 0), ("r", 1)]),
+];
+
+// Whether the net tells that these doors were bound: their places, and how many they are.
+fn are_told(net: &MemNet, wants: &[(&str, u32)]) -> bool {
+    let bound = net.bound();
+    for (one, (place, doors)) in bound.iter().zip(wants) {
+        if one.place.as_str() != *place || one.doors != *doors {
+            return false;
+        }
+    }
+    bound.len() == wants.len()
+}
+
+pub(crate) fn a_net_tells_which_doors_it_bound(rt: &impl Abort, alloc: Global) {
+    let scripts = scripts(rt, alloc);
+    let mut net = MemNet::of(alloc, places(rt, alloc), scripts, Vec::new(alloc));
+    for (place, doors, wants) in BINDS {
+        let _ = net.bind(place, doors);
+        assert!(rt; are_told(&net, wants), "{doors} doors at {place}");
+        // a dial leaves it
+        let link = net.dial("d").expect(rt, "the script's place");
+        assert!(rt;
+            are_told(&net, wants),
+            "{doors} doors at {place}, and a dial"
+        );
+        net.hang_up(link);
+    }
+}
+
 // A script for the place `d`, whose second write fails.
 fn scripts(rt: &impl Abort, alloc: Global) -> Vec<MemScript> {
     let script = MemScript {

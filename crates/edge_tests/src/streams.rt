@@ -1,4 +1,5 @@
-ghost use Rattle.std.specs.Prelude.{Some};
+ghost use Rattle.std.specs.Prelude.{ℕ, List, Some};
+ghost use Rattle.edge_io.specs.Told.{MayFollow};
 
 use edge_io::{
     Both, FileIo, Link, MemLink, MemSink, MemSource, Object, ReadFault, Sink, Source, Stopped,
@@ -80,9 +81,13 @@ impl Object for Trickle {
 impl Sink for Trickle {
     ghost taken = { λ sink. Some sink.bytes.items };
 
+    ghost permits = { λ _ _. Unit {0} };
+
     ghost write_faults = { λ sink. sink.faults };
 
     ghost write_apart = { λ _ _. Unit {0} };
+
+    ghost permits_last = { λ _ _ _. (λ _ _. tt, λ none. absurd Prim.cc) };
 
     ghost apart_refl = { λ _. tt };
 
@@ -116,8 +121,10 @@ pub(crate) fn a_piece_is_written_whole_or_its_start_is(rt: &impl Abort, alloc: G
     }
 }
 
-// Writes what one read gives.
-fn echo<L: Link>(link: &mut L) -> bool {
+// Writes what one read gives, to a link that may be written any text.
+fn echo<L: Link>(link: &mut L) -> bool
+    requires free { (now : L) (text : List ℕ) → MayFollow (L.permits now) (L.taken now) text }
+{
     let mut buf = [0u8; 8];
     match link.read(&mut buf) {
         Ok(n) => write_whole(link, &buf[..n]).is_ok(),

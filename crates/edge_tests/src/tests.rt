@@ -18,6 +18,7 @@ fn bytes_numbers_and_streams(rt: &impl Abort, alloc: Global) {
 fn nets_and_disks(rt: &impl Abort, alloc: Global) {
     nets::a_door_accepts_in_order_and_tells_its_links(rt, alloc);
     nets::a_net_binds_the_doors_of_a_place(rt, alloc);
+    nets::a_net_tells_which_doors_it_bound(rt, alloc);
     nets::a_net_dials_by_a_script_and_tells_what_it_hung_up(rt, alloc);
     disks::a_stop_and_a_crash_leave_all_or_nothing(rt, alloc);
     disks::calls_fail_by_their_numbers(rt, alloc);

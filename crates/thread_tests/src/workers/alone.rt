@@ -1,9 +1,11 @@
 //! Workers that have a desk to themselves.
-ghost use Rattle.std.specs.Prelude.{◌≡◌, ◌^◌, ◌≤◌, List, map, IfOk, vec_len};
+ghost use Rattle.std.specs.Prelude.{◌≡◌, ℕ, ◌^◌, ◌≤◌, List, Some, map, slice_get, IfOk, vec_len};
 ghost use Rattle.desk_access.specs.Call.{Record};
 ghost use Rattle.spool_turns.specs.Passes.{Known};
-ghost use Rattle.spool_turns.specs.Replays.{Closes, desk_at};
+ghost use Rattle.spool_turns.specs.Replays.{Closes, IsReal, desk_at};
+ghost use Rattle.serve_workers.specs.Works.{first_conn};
 ghost use Rattle.serve_workers.specs.Crews.{AreNew, HaveWorked};
+ghost use Rattle.serve_workers.specs.Answering.{MayAnswer};
 
 use desk_access::Desk;
 use edge_disk::Disk;
@@ -22,7 +24,7 @@ pub struct Served<P: Door, D: Disk> {
     pub reports: Vec<WorkerReport>,
 }
 
-// Hires workers, has them work, and dismisses them.
+// Hires workers, and has them work.
 fn crew_of<
     P: Door + Drop + Send,
     D: Disk + Drop + Send,
@@ -41,13 +43,14 @@ where
     requires many { (vec_len passes ≡ vec_len posts) × (vec_len posts ≤ 64) }
     requires new { AreNew 0 passes.items }
     requires talks { talks ≤ 2 ^ 26 }
+    requires says { (i : ℕ) (post : _) → slice_get posts.items i ≡ Some post
+        → MayAnswer (IsReal D.Disk J.start J.run J.seats J.began) J.start (first_conn J.run i) (P.permits post.door) post.rules }
 
     ensures each { IfOk result (λ crew. HaveWorked J.start J.run talks (map (λ (post : _). post.rules) posts.items) (map (λ (post : _). P.told post.door) posts.items)
         passes.items (map (λ (door : _). P.told door) crew.doors.items) crew.passes.items crew.reports.items) }
 {
-    let mut hired = hire(rt, alloc, shared, posts, passes)?;
-    hired.work(rt, alloc, talks);
-    Ok(hired.dismiss())
+    let hired = hire(rt, alloc, shared, posts, passes)?;
+    Ok(hired.work(rt, alloc, talks))
 }
 
 /// Has a worker serve at each of the doors, with the passes of a desk that nobody else calls, and closes the desk. One journal
@@ -70,6 +73,8 @@ where
     requires many { (vec_len opened.passes ≡ vec_len posts) × (vec_len posts ≤ 64) }
     requires new { AreNew 0 opened.passes.items }
     requires talks { talks ≤ 2 ^ 26 }
+    requires says { (i : ℕ) (post : _) → slice_get posts.items i ≡ Some post
+        → MayAnswer (IsReal D.Disk J.start J.run J.seats J.began) J.start (first_conn J.run i) (P.permits post.door) post.rules }
 
     ensures journal { IfOk result (λ served. (log : List Record) × (passes : List Known) × Closes D.tells J.start J.run J.seats J.began log passes (desk_at served.desk)
         × HaveWorked J.start J.run talks (map (λ (post : _). post.rules) posts.items) (map (λ (post : _). P.told post.door) posts.items)

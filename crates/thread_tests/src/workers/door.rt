@@ -17,6 +17,8 @@ impl Door for TestDoor {
 
     ghost told = { λ d. record (state_of d.door) { talks = None } };
 
+    ghost permits = { λ _ _ _ _. Unit {0} };
+
     fn accept(&mut self) -> Result<Option<MemLink>, AcceptFault> {
         self.door.accept()
     }

@@ -1,25 +1,58 @@
-use Rattle.std.proofs.Common.{refl, ap, map}
-use Rattle.edge_io.specs.Net.{NetState}
+use Rattle.std.proofs.Common.{refl}
 use Rattle.bridge_core.proofs.OneCommand.{has_polls}
 use Rattle.bridge_core.proofs.doing.do_command.Goals as goal
 
--- ---- what the words can name
+-- ---- what the words can name, and what their command may do
 
-pub format-note-requires : goal.format-note-requires
-format-note-requires g c = (rw c.in-Format.is at c.requires.asked).1.asks.in_range
+pub format-note-requires-clause-size : goal.format-note-requires-clause-size
+format-note-requires-clause-size g c = (rw c.in-Format.is at c.requires.asked).1.asks.in_range
 
-pub load-note-requires : goal.load-note-requires
-load-note-requires g c = record { few = (rw c.in-Load.is at c.requires.asked).1.asks.few }
+pub format-note-requires-clause-prints : goal.format-note-requires-clause-prints
+format-note-requires-clause-prints g c = rw c.in-Format.is at c.requires.prints
 
-pub drain_out-note-requires : goal.drain_out-note-requires
-drain_out-note-requires g c =
+pub list-note-requires : goal.list-note-requires
+list-note-requires g c = record { prints = rw c.in-List.is at c.requires.prints }
+
+pub replay-note-requires : goal.replay-note-requires
+replay-note-requires g c = record { answers = rw c.in-Replay.is at c.requires.replays }
+
+pub load-note-requires-clause-few : goal.load-note-requires-clause-few
+load-note-requires-clause-few g c = (rw c.in-Load.is at c.requires.asked).1.asks.few
+
+pub load-note-requires-clause-prints : goal.load-note-requires-clause-prints
+load-note-requires-clause-prints g c = rw c.in-Load.is at c.requires.prints
+
+pub drain_out-note-requires-clause-polls : goal.drain_out-note-requires-clause-polls
+drain_out-note-requires-clause-polls g c =
     let asked = rw (c.in-Drain-default-None.is, c.in-Drain-default-None.place-is) at c.requires.asked in
-    record { polls = rw c.outward_of-outward.ensures (has_polls c.in-Drain-default-None.receiver _ _ asked.1) }
+    rw c.outward_of-outward.ensures (has_polls c.in-Drain-default-None.receiver _ _ asked.1)
 
-pub drain_to-note-requires : goal.drain_to-note-requires
-drain_to-note-requires g c =
+pub drain_out-note-requires-clause-prints : goal.drain_out-note-requires-clause-prints
+drain_out-note-requires-clause-prints g c = rw c.in-Drain-default-None.is at c.requires.prints
+
+pub drain_to-note-requires-clause-polls : goal.drain_to-note-requires-clause-polls
+drain_to-note-requires-clause-polls g c =
     let asked = rw (c.in-Drain-default-Some.is, c.in-Drain-default-Some.place-is) at c.requires.asked in
-    record { polls = rw c.outward_of-outward-in-Drain-default-Some.ensures (has_polls c.in-Drain-default-Some.receiver _ _ asked.1) }
+    rw c.outward_of-outward-in-Drain-default-Some.ensures (has_polls c.in-Drain-default-Some.receiver _ _ asked.1)
+
+pub drain_to-note-requires-clause-prints : goal.drain_to-note-requires-clause-prints
+drain_to-note-requires-clause-prints g c = rw c.in-Drain-default-Some.is at c.requires.prints
+
+pub drain_to-note-requires-clause-named : goal.drain_to-note-requires-clause-named
+drain_to-note-requires-clause-named g c =
+    rw c.as_str.ensures (rw (c.in-Drain-default-Some.is, c.in-Drain-default-Some.place-is) at c.requires.dials)
+
+pub serve-note-requires-clause-answers : goal.serve-note-requires-clause-answers
+serve-note-requires-clause-answers g c κs within = rw c.in-Serve.is at c.requires.answers
+
+pub serve-note-requires-clause-binds : goal.serve-note-requires-clause-binds
+serve-note-requires-clause-binds g c κs within = rw c.in-Serve.is at c.requires.binds
+
+pub serve-note-requires-clause-dials : goal.serve-note-requires-clause-dials
+serve-note-requires-clause-dials g c κs within = rw c.in-Serve.is at c.requires.dials
+
+pub serve-note-requires-clause-prints : goal.serve-note-requires-clause-prints
+serve-note-requires-clause-prints g c κs within = rw c.in-Serve.is at c.requires.prints
 
 -- ---- what was done
 

@@ -3,6 +3,23 @@ use Rattle.bridge_core.proofs.Headline.{keeps_acknowledged}
 use Rattle.bridge_core.proofs.Running.{ran_as, ran_none, ran_unread}
 use Rattle.bridge_core.proofs.top.bridge.Goals as goal
 
+-- the command has the leave of its words
+
+pub do_command-requires-clause-answers : goal.do_command-requires-clause-answers
+do_command-requires-clause-answers g c κs within = c.requires.answers c.in-Ok.command c.in-Ok.ensures.command
+
+pub do_command-requires-clause-binds : goal.do_command-requires-clause-binds
+do_command-requires-clause-binds g c κs within = c.requires.binds c.in-Ok.command c.in-Ok.ensures.command
+
+pub do_command-requires-clause-dials : goal.do_command-requires-clause-dials
+do_command-requires-clause-dials g c κs within = c.requires.dials c.in-Ok.command c.in-Ok.ensures.command
+
+pub do_command-requires-clause-replays : goal.do_command-requires-clause-replays
+do_command-requires-clause-replays g c κs within = c.requires.replays c.in-Ok.command c.in-Ok.ensures.command
+
+pub do_command-requires-clause-prints : goal.do_command-requires-clause-prints
+do_command-requires-clause-prints g c κs within = c.requires.prints c.in-Ok.command c.in-Ok.ensures.command
+
 pub returns-in-Ok-clause-run : goal.returns-in-Ok-clause-run
 returns-in-Ok-clause-run g c = ran_as _ _ _ c.in-Ok.command c.in-Ok.ensures.command c.do_command.ensures.done
 

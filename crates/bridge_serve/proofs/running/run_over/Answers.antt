@@ -1,12 +1,14 @@
-use Rattle.std.proofs.Common.{◌≤◌, ◌∙◌, inl, inr, refl, sym, subst, arith}
+use Rattle.std.proofs.Common.{◌≤◌, ◌∙◌, inl, inr, refl, sym, ap, subst, arith}
 use Rattle.std.proofs.lemmas.List.{length-map}
 use Rattle.edge_disk.specs.Calls.{Calls}
 use Rattle.edge_disk.specs.Disk.{LeavesOnly}
 use Rattle.spool_log.specs.declared.opening.Opening.TheVariants.{Raise}
+use Rattle.spool_log.specs.Memory.{run_of}
 use Rattle.spool_log.specs.Opening.{opened, IsOpening}
 use Rattle.desk_access.specs.Alone.{alone_at, IsAt}
 use Rattle.bridge_serve.specs.Opened.{IsOpenedOnly}
 use Rattle.bridge_parts.proofs.Desks.{desk_at}
+use Rattle.bridge_serve.proofs.Answering.{worker_may}
 use Rattle.bridge_serve.proofs.Opening.{desk_is, began_at, opened_only, given_back, given_calls, runs_over, if_ok, if_err}
 use Rattle.bridge_serve.proofs.running.run_over.Goals as goal
 
@@ -27,6 +29,18 @@ run_named-requires-clause-name g c κs within =
           (λ told. subst (λ (d : _). LeavesOnly (IsOpening Raise old) old (g.D.Disk.moment d.spool.disk)) (sym desk) (c.requires.opened.any_moment told));
     }
 
+pub run_named-requires-clause-says : goal.run_named-requires-clause-says
+run_named-requires-clause-says g c κs within =
+    let old = g.D.Disk.moment c.args.before.value in
+    let unnamed = c.in-Ok.unnamed in
+    let from = c.requires.opened in
+    let later = λ (told : g.D.Disk.tells). subst (λ (d : _). old.clock ≤ (g.D.Disk.moment d.spool.disk).clock) (sym c.in-Ok.ensures.desk)
+    (from.any_moment told).later in
+    λ i post at. worker_may g.D.Disk c.args.before.value c.args.spool.disk c.args.spool.memory c.args.spool.doubt _ unnamed.run _ from later
+    (λ x is. let d = desk_is g.D.Disk.tells _ _ x from.opens is in
+    ap (λ (y : _). y.spool.run) d.desk ∙ sym (unnamed.run_is ∙ ap (λ (k : _). run_of k.spool.memory) c.in-Ok.ensures.desk ∙ d.held.knows.run))
+    i post.rules (g.N.P.Door.permits post.door) (c.requires.answers i post at)
+
 pub returns-in-Ok-clause-over : goal.returns-in-Ok-clause-over
 returns-in-Ok-clause-over g c =
     let old = g.D.Disk.moment c.args.before.value in
@@ -42,20 +56,22 @@ returns-in-Ok-clause-err g c =
     let from = c.requires.opened in
     let later = λ (told : g.D.Disk.tells). subst (λ (d : _). old.clock ≤ (g.D.Disk.moment d.spool.disk).clock) (sym c.in-Ok.ensures.desk)
     (from.any_moment told).later in
-    if_err _ _ c.run_named.result (λ desk is. elim is.1 [
+    if_err _ _ c.run_named.result (λ none is. elim is.2 [
       | inl same ↦
           let whole = same ∙ c.in-Ok.ensures.desk in (
             is.0,
+            is.1,
             subst (λ (d : _). Calls ⊥ old (g.D.Disk.moment d.spool.disk)) (sym whole) from.calls,
             λ told. subst (λ (d : _). IsOpenedOnly old (g.D.Disk.moment d.spool.disk)) (sym whole) (opened_only tells old _ from told),
           )
-      | inr none ↦ (is.0, given_calls tells old _ _ _ _ _ none, given_back tells old _ _ _ _ _ from later none)
+      | inr made ↦ (is.0, is.1, given_calls tells old _ _ _ _ _ made, given_back tells old _ _ _ _ _ from later made)
     ]) c.run_named.ensures.err
 
 pub returns-in-Err-clause-err : goal.returns-in-Err-clause-err
 returns-in-Err-clause-err g c =
     let old = g.D.Disk.moment c.args.before.value in
     let whole = c.in-Err.ensures.err in (
+      refl,
       refl,
       subst (λ (d : _). Calls ⊥ old (g.D.Disk.moment d.spool.disk)) (sym whole) c.requires.opened.calls,
       λ told. subst (λ (d : _). IsOpenedOnly old (g.D.Disk.moment d.spool.disk)) (sym whole) (opened_only g.D.Disk.tells old _ c.requires.opened told),

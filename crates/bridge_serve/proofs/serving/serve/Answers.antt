@@ -1,8 +1,14 @@
-use Rattle.std.proofs.Common.{◌∙◌, inl, inr, map, refl, ap}
+use Rattle.std.proofs.Common.{◌≡◌, ◌∙◌, inl, inr, map, refl, sym, ap, subst}
 use Rattle.spool_log.specs.State.{view}
+use Rattle.conn_serve.proofs.Faults.{counts_none}
+use Rattle.notes.specs.declared.note.Note.{Note}
 use Rattle.bridge_serve.specs.Opened.{IsOpenedFrom}
 use Rattle.bridge_serve.proofs.Opening.{opened_only}
-use Rattle.bridge_serve.proofs.Causes.{net_same, net_refused}
+use Rattle.bridge_serve.specs.Answered.{WorkerMayAnswer}
+use Rattle.bridge_serve.proofs.Answering.{stands_may}
+use Rattle.bridge_serve.proofs.Causes.{net_bound, net_refused}
+use Rattle.bridge_serve.proofs.Doors.{all_unused, none_unused, unused_doors, tells_same, may_dial}
+use Rattle.bridge_serve.proofs.Ran.{run_binds_none, unserved_with}
 use Rattle.bridge_serve.proofs.serving.serve.Goals as goal
 
 pub returns-in-Err-clause-served : goal.returns-in-Err-clause-served
@@ -30,20 +36,42 @@ serve_posts-requires-clause-opened g c κs within = rw c.of-before.ensures (reco
   any_moment = λ tells. c.in-Ok.ensures.any_moment tells;
 })
 
+pub serve_posts-requires-clause-answers : goal.serve_posts-requires-clause-answers
+serve_posts-requires-clause-answers g c κs within =
+    λ i post at. subst (λ (given : _). WorkerMayAnswer g.D.Disk.tells (λ (d : _). g.D.Disk.moment d) given i post.rules (g.N.P.Door.permits post.door))
+    (sym c.of-before.ensures)
+    (stands_may g.D.Disk.tells (λ (d : _). g.D.Disk.moment d) c.args.disk c.args.server g.N.Net.permits i post.rules (g.N.P.Door.permits post.door) c.requires.answers
+    (c.in-Ok-bind_doors.ensures.stand i post at))
+
+pub serve_posts-requires-clause-dials : goal.serve_posts-requires-clause-dials
+serve_posts-requires-clause-dials g c κs within = rw c.destination_of.ensures (may_dial c.args.server.forward g.N.Net.may_dial c.requires.dials)
+
 pub returns-in-Ok-bind_doors-clause-served : goal.returns-in-Ok-bind_doors-clause-served
 returns-in-Ok-bind_doors-clause-served g c =
-    let same = net_same _ _ c.in-Ok-bind_doors.ensures.cause c.in-Ok-bind_doors.ensures.rest in
-    let ran = rw (same, c.of-before.ensures, c.destination_of.ensures) at c.serve_posts.ensures.ran in
+    let bound = c.in-Ok-bind_doors.ensures.bound in
+    let told = c.in-Ok-bind_doors.ensures.told in
+    let cause = c.in-Ok-bind_doors.ensures.cause in
+    let rest = c.in-Ok-bind_doors.ensures.rest in
+    let ran = rw (c.of-before.ensures, c.destination_of.ensures) at c.serve_posts.ensures.ran in
     inr (elim ran [
-      | inl none ↦ inl (none.0, ap (map (λ (door : _). g.N.P.Door.told door)) none.1)
-      | inr run ↦ inr (record { doors = _; rules = _; bound = c.in-Ok-bind_doors.ensures.bound; ran = run })
+      | inl none ↦
+          let net = ap (λ (n : _). g.N.Net.told n) none.1 in
+          let same = net_bound _ _ _ cause rest (ap (λ (n : _). n.bound) net) in
+          inl (
+            unserved_with _ _ _ _ _ _ _ _ _ (rw same at none.0),
+            rw net (unused_doors c.args.server _ _ (λ (post : _). post.door) (λ (door : _). g.N.P.Door.told door) c.bind_doors.new.posts.items _ none.2
+                (all_unused c.args.server _ _ _ _ bound told)),
+          )
+      | inr run ↦
+          let binds = run_binds_none _ _ _ _ _ _ _ _ _ _ _ _ _ _ _ run in
+          let same = net_bound _ _ _ cause rest binds in
+          inr (record { doors = _; rules = _; bound = bound; told = tells_same _ _ _ _ told binds; ran = rw same at run })
     ])
 
 pub returns-in-Err-bind_doors-clause-served : goal.returns-in-Err-bind_doors-clause-served
 returns-in-Err-bind_doors-clause-served g c =
-    let disk = c.unserved-in-Err-bind_doors.ensures.disk ∙ c.into_disk.ensures in
-    let why = net_refused (Unit {0}) c.in-Err-bind_doors.fault _ _ _ (c.unserved-in-Err-bind_doors.ensures.note ∙ c.net_note.ensures)
-    c.in-Err-bind_doors.ensures.cause in
+    let disk = c.into_disk-in-Err-bind_doors.ensures in
+    let why = net_refused (Unit {0}) c.in-Err-bind_doors.fault _ _ _ c.net_note.ensures c.in-Err-bind_doors.ensures.cause in
     let from : IsOpenedFrom g.D.Disk.tells (g.D.Disk.moment c.args.disk)
     (view c.in-Ok.spool.memory c.in-Ok.spool.doubt (g.D.Disk.moment c.in-Ok.spool.disk)) = record {
       calls = c.in-Ok.ensures.calls;
@@ -59,5 +87,29 @@ returns-in-Err-bind_doors-clause-served g c =
         binds = why.1;
         silent = refl;
       },
-      ap (map (λ (door : _). g.N.P.Door.told door)) c.unserved-in-Err-bind_doors.ensures.doors,
+      unused_doors c.args.server _ _ (λ (post : _). post.door) (λ (door : _). g.N.P.Door.told door) c.bind_doors.new.posts.items _ c.into_doors.ensures
+          c.in-Err-bind_doors.ensures.err,
+    ))
+
+-- no memory was found for the posts
+pub returns-in_default-clause-served : goal.returns-in_default-clause-served
+returns-in_default-clause-served g c =
+    let disk = c.unserved-in_default.ensures.disk ∙ c.into_disk.ensures in
+    let note = c.unserved-in_default.ensures.note in
+    let from : IsOpenedFrom g.D.Disk.tells (g.D.Disk.moment c.args.disk)
+    (view c.in-Ok.spool.memory c.in-Ok.spool.doubt (g.D.Disk.moment c.in-Ok.spool.disk)) = record {
+      calls = c.in-Ok.ensures.calls;
+      opens = λ tells. c.in-Ok.ensures.opened tells;
+      any_moment = λ tells. c.in-Ok.ensures.any_moment tells;
+    } in
+    inr (inl (
+      record {
+        why = inl note;
+        opened = λ tells. rw disk (opened_only g.D.Disk.tells _ _ from tells);
+        calls = rw disk c.in-Ok.ensures.calls;
+        hung = record { hung = refl; read_faults = refl; write_faults = refl };
+        binds = counts_none (c.unserved-in_default.result.note ≡ Note.NetFault) _ _ (λ by. let e = sym note ∙ by in cc) refl;
+        silent = refl;
+      },
+      rw c.unserved-in_default.ensures.doors (none_unused c.args.server _ _ refl),
     ))

@@ -25,7 +25,7 @@ returns-in-Ok-clause-dials g c = dials _ _ _ _ _ _ _ _ _ _ _ _ _ _ c.in-Ok.ensur
 
 pub returns-in-Ok-clause-ran : goal.returns-in-Ok-clause-ran
 returns-in-Ok-clause-ran g c =
-    let posts = c.args.posts in
+    let posts = c.args.posts.posts in
     let served = c.in-Ok.served in
     let many = c.in-Ok.ensures.many in
     let rules : length (map (λ (post : _). post.rules) posts.items) ≡ length served.reports.items =
@@ -43,21 +43,22 @@ returns-in-Ok-clause-ran g c =
 
 pub returns-clause-ran : goal.returns-clause-ran
 returns-clause-ran g c =
-    let told = ap (λ (n : _). g.N.Net.told n) c.in-Err.ensures.err.0 in
-    let disk = c.unserved.ensures.disk ∙ c.into_disk.ensures in
+    let err = c.in-Err.ensures.err in
+    let told = ap (λ (n : _). g.N.Net.told n) err.1 in
+    let disk = c.into_disk.ensures in
     inl (
       record {
-        why = inl c.unserved.ensures.note;
-        opened = rw disk c.in-Err.ensures.err.2;
-        calls = rw disk c.in-Err.ensures.err.1;
+        why = inl refl;
+        opened = rw disk err.3;
+        calls = rw disk err.2;
         hung = record {
           hung = ap (λ (n : _). n.hung) told;
           read_faults = ap (λ (n : _). n.read_faults) told;
           write_faults = ap (λ (n : _). n.write_faults) told;
         };
-        binds = counts_none (c.unserved.result.note ≡ Note.NetFault) _ _ (λ by. let e = sym c.unserved.ensures.note ∙ by in cc)
-            (ap (λ (n : _). n.net_faults) told);
+        binds = counts_none (Note.NoMemory ≡ Note.NetFault) _ _ (λ by. cc by) (ap (λ (n : _). n.net_faults) told);
         silent = refl;
       },
-      c.unserved.ensures.doors,
+      err.1,
+      c.into_doors.ensures ∙ ap (λ (l : _). map (λ (post : _). post.door) l.items) err.0,
     )

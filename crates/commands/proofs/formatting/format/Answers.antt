@@ -1,4 +1,4 @@
-use Rattle.std.proofs.Common.{refl, ap, ◌∙◌}
+use Rattle.std.proofs.Common.{refl, ap}
 use Rattle.edge_disk.proofs.Calls.{calls_as}
 use Rattle.std.specs.Prelude.{Err}
 use Rattle.commands.proofs.Making.{formatted, wrong_length, disk_failed}

@@ -6,7 +6,11 @@ use Rattle.notes.specs.declared.note.Note.TheVariants.{WriteFault, NoMemory}
 use Rattle.bridge_parts.proofs.Writing.{stopped_as}
 use Rattle.commands.proofs.Printing.{gathered_none, gathered_written, gathered_all, gathered_cut, gathered_only}
 use Rattle.commands.proofs.Given.{each_given, printed_first, printed_whole, gathered_one}
+use Rattle.forward_core.proofs.Free.{may_follow}
 use Rattle.commands.proofs.lines.print_entries.Goals as goal
+
+pub write_whole-requires : goal.write_whole-requires
+write_whole-requires g c = record { permitted = may_follow (g.K.Sink.permits c.loop-one.output) (g.K.Sink.taken c.loop-one.output) c.deref.result.now (c.requires.prints c.loop-one.output) }
 
 pub add_line-requires : goal.add_line-requires
 add_line-requires g c =

@@ -2,7 +2,11 @@ use Rattle.edge_io.specs.declared.whole.Stopped.{Stopped}
 use Rattle.conn_serve.proofs.Acting.{err_is}
 use Rattle.bridge_parts.specs.Written.{IsCut}
 use Rattle.bridge_parts.proofs.Writing.{stopped_as}
+use Rattle.forward_core.proofs.Free.{may_follow}
 use Rattle.commands.proofs.lines.write_many.Goals as goal
+
+pub write_whole-requires : goal.write_whole-requires
+write_whole-requires g c = record { permitted = may_follow (g.K.Sink.permits c.args.output.now) (g.K.Sink.taken c.args.output.now) c.deref.result.now (c.requires.prints c.args.output.now) }
 
 pub returns-in_err-write_whole-clause-part : goal.returns-in_err-write_whole-clause-part
 returns-in_err-write_whole-clause-part g c =

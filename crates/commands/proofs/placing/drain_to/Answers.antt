@@ -20,6 +20,7 @@ returns-in-Ok g c =
       reads = did.reads;
       writes = did.writes;
       dials = did.dials;
+      bound = did.bound;
       drained = inr (elim did.placed [
         | inl (none, still, says) ↦ inl (record {
           idle = was_idle tells old mid new memory doubt opened.opened none

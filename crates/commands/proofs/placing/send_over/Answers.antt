@@ -12,6 +12,9 @@ use Rattle.commands.proofs.Forwarding.{no_dial_after, session_as}
 use Rattle.commands.proofs.Hanging.{hung_up, link_reads, link_writes}
 use Rattle.commands.proofs.placing.send_over.Goals as goal
 
+pub send-sent-requires-clause-free : goal.send-sent-requires-clause-free
+send-sent-requires-clause-free g c = g.met.N.Net.dialed_is_free
+
 pub returns-clause-dials : goal.returns-clause-dials
 returns-clause-dials g c =
     let same = g.met.N.Net.pauses_keep _ _ c.send-sent.ensures.paused in (
@@ -36,6 +39,9 @@ returns-clause-writes g c =
     (link_writes c.send-sent.result.sent c.print_after-note.result _ _ _ _ _ _ c.send-sent.ensures.writes
     (subst (λ (t : NetState). Gains (g.N.L.Sink.write_faults c.send-sent.new.link) t.write_faults (g.N.Net.told c.hang_up.new.self).write_faults)
     same c.hang_up.ensures.writes) c.print_after-note.ensures.writes)
+
+pub returns-clause-bound : goal.returns-clause-bound
+returns-clause-bound g c = c.hang_up.ensures.bound ∙ ap (λ (t : NetState). t.bound) (g.met.N.Net.pauses_keep _ _ c.send-sent.ensures.paused)
 
 pub returns-clause-sent : goal.returns-clause-sent
 returns-clause-sent g c =

@@ -1,7 +1,7 @@
-use Rattle.std.proofs.Common.{inl, inr, refl, ◌∙◌}
+use Rattle.std.proofs.Common.{inr}
 use Rattle.spool_log.specs.Memory.{cursor_of, end_of}
 use Rattle.commands.proofs.Forwarding.{not_idle}
-use Rattle.commands.proofs.Hanging.{over_from, undialed}
+use Rattle.commands.proofs.Hanging.{over_from}
 use Rattle.commands.proofs.placing.send_there.Goals as goal
 
 pub returns-in-Ok-clause-placed : goal.returns-in-Ok-clause-placed

@@ -1,8 +1,18 @@
-use Rattle.std.proofs.Common.{inl, inr, refl}
+use Rattle.std.proofs.Common.{◌≡◌, inl, inr, refl}
 use Rattle.commands.proofs.Failing.{tells_on}
-use Rattle.commands.proofs.Durable.{serves_input}
+use Rattle.commands.proofs.Answering.{is_durable}
+use Rattle.commands.proofs.Durable.{serves_input, stored_so}
 use Rattle.commands.proofs.Sure.{unopened_calls, unopened_reads, unopened_writes}
 use Rattle.commands.proofs.replaying.replay.Goals as goal
+
+pub serve_input-requires-clause-answers : goal.serve_input-requires-clause-answers
+serve_input-requires-clause-answers g c = λ now bytes calls text read kept carried.
+    let spool = c.in-Ok.spool in
+    let opened = c.in-Ok.ensures in
+    c.requires.answers now bytes text read
+    (is_durable g.D.Disk.tells (g.D.Disk.moment c.args.disk) (g.D.Disk.moment now) c.args.rules _ bytes calls text carried
+    (stored_so c.args.rules g.D.Disk.tells (now ≡ spool.disk) (g.D.Disk.moment c.args.disk) (g.D.Disk.moment spool.disk)
+    (g.D.Disk.moment now) spool.memory spool.doubt opened.sure opened.opened opened.any_moment calls kept))
 
 pub returns-in-Ok : goal.returns-in-Ok
 returns-in-Ok g c = record {

@@ -2,9 +2,11 @@ use Rattle.std.proofs.Common.{◌≡◌, ℕ, ◌*◌, ◌^◌, [], sym, ◌∙�
 use Rattle.std.specs.Prelude.{Bool}
 use Rattle.edge_io.specs.declared.proto.Proto.TheVariants.{Hec}
 use Rattle.hec_ids.specs.Rows.{opened}
+use Rattle.spool_log.specs.Memory.{run_of}
 use Rattle.spool_log.specs.State.{view, IsIn}
 use Rattle.notes.specs.Notes.{note_of_talk}
-use Rattle.conn_serve.specs.Serves.{CarriedAs}
+use Rattle.conn_serve.specs.Says.{HasCarried}
+use Rattle.conn_serve.specs.Serves.{CarriedAs, CarriedBy}
 use Rattle.conn_serve.specs.Tokens.{tokens_of}
 use Rattle.conn_serve.proofs.Faults.{counts_as}
 use Rattle.commands.specs.Failed.{TellsDiskFault}
@@ -13,6 +15,17 @@ use Rattle.commands.proofs.Failing.{disk_calls, talk_by_read, talk_by_write}
 use Rattle.bridge_parts.proofs.Desks.{desk_at}
 use Rattle.commands.proofs.Replays.{ran_keeps}
 use Rattle.commands.proofs.replaying.serve_link.Goals as goal
+
+pub attend-attended-requires-clause-says : goal.attend-attended-requires-clause-says
+attend-attended-requires-clause-says g c = λ read bytes same given now calls text made goes.
+    let before : c.new-access.result.desk.spool.disk ≡ c.args.spool.disk = ap (λ d. d.spool.disk) c.new-access.ensures.desk in
+    let run : c.from-conn.result * 2 ^ 32 ≡ run_of c.args.spool.memory * 2 ^ 32 = ap (λ (n : ℕ). n * 2 ^ 32) (c.from-conn.ensures ∙ c.run-run.ensures) in
+    c.requires.answers now.desk.spool.disk bytes calls text (read, same, given)
+    (λ s tells was.
+    let held = subst (λ (b : Bool). IsIn s [] (view c.args.spool.memory b (g.D.Disk.moment c.args.spool.disk))) (sym c.requires.sure) was in
+    let at = desk_at s c.new-ids.result c.run-run.result _ c.new-ids.ensures (c.run-run.ensures ∙ held.knows.run) (c.new-access.ensures.at s held) in
+    subst (λ (d : _). Keeps s (g.D.Disk.moment d) (g.D.Disk.moment now.desk.spool.disk) calls) before (ran_keeps s _ _ _ calls tells at made))
+    (subst (λ (n : ℕ). HasCarried (CarriedBy c.args.rules n) bytes calls text) run goes) read same
 
 pub new-access-requires-clause-ids : goal.new-access-requires-clause-ids
 new-access-requires-clause-ids g c = (0, omega arith, c.new-ids.ensures ∙ ap (λ (n : ℕ). opened n 0) c.run-run.ensures)

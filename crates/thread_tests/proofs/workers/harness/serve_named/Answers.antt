@@ -9,3 +9,6 @@ serve_alone-requires-clause-many g c κs within =
 
 pub serve_alone-requires-clause-new : goal.serve_alone-requires-clause-new
 serve_alone-requires-clause-new g c κs within = subst (AreNew 0) (sym c.named-opened.ensures) (fresh_new 0 _ _ _)
+
+pub serve_alone-requires-clause-says : goal.serve_alone-requires-clause-says
+serve_alone-requires-clause-says g c κs within = λ i post at k pass pass1 bytes calls text few ran real carried. tt

@@ -1,0 +1,54 @@
+-- The leave of a command, of a disk that is watched, and of words that want no device.
+use Rattle.std.proofs.Common.{◌≡◌, inl, inr, ℕ, List, ◌∙◌, ap}
+use Rattle.edge_disk.specs.Disk.{Moment}
+use Rattle.bridge_words.specs.declared.command.Command.{Command}
+use Rattle.bridge_words.specs.declared.command.Command.TheVariants.{Format, List as ListCommand, Replay, Drain, Load, Serve}
+use Rattle.bridge_words.specs.declared.need.Need.{Need}
+use Rattle.bridge_words.specs.declared.need.Need.TheVariants.{Existing}
+use Rattle.bridge_words.specs.Words.{IsNeed, need_for}
+use Rattle.bridge_words.proofs.Once.{one_command}
+use Rattle.bridge_core.specs.Leave.{ForWords, MayAnswer, MayReplay}
+
+-- what is durable on a disk within another is so on that
+pub answers_within : {D W : Type 0} (tells : Type 0) (moment : D → Moment) (within : W → D) (given : W) (Permits : List ℕ → ℕ → ℕ → List ℕ → List ℕ → Type 0)
+    (command : Command) → MayAnswer tells moment (within given) Permits command → MayAnswer tells (λ (w : W). moment (within w)) given Permits command
+answers_within tells moment within given Permits (Format slots size) may = tt
+answers_within tells moment within given Permits (ListCommand form) may = tt
+answers_within tells moment within given Permits (Replay proto token ack_token) may = tt
+answers_within tells moment within given Permits (Drain receiver place) may = tt
+answers_within tells moment within given Permits (Load proto number count) may = tt
+answers_within tells moment within given Permits (Serve server) may =
+    λ proto place named door few k within_run disk bytes text durable. may proto place named door few k within_run (within disk) bytes text durable
+
+pub replays_within : {D W : Type 0} (tells : Type 0) (moment : D → Moment) (within : W → D) (given : W) (Read Take : List ℕ → Type 0)
+    (command : Command) → MayReplay tells moment (within given) Read Take command → MayReplay tells (λ (w : W). moment (within w)) given Read Take command
+replays_within tells moment within given Read Take (Format slots size) may = tt
+replays_within tells moment within given Read Take (ListCommand form) may = tt
+replays_within tells moment within given Read Take (Replay proto token ack_token) may = λ disk bytes text read durable. may (within disk) bytes text read durable
+replays_within tells moment within given Read Take (Drain receiver place) may = tt
+replays_within tells moment within given Read Take (Load proto number count) may = tt
+replays_within tells moment within given Read Take (Serve server) may = tt
+
+-- words that don't want a device that exists answer nobody
+pub nobody_answers : {D : Type 0} (tells : Type 0) (moment : D → Moment) (given : D) (Permits : List ℕ → ℕ → ℕ → List ℕ → List ℕ → Type 0)
+    (words : List (List ℕ)) (need : Need) → (need ≡ Existing → ⊥) → IsNeed words need → ForWords words (MayAnswer tells moment given Permits)
+nobody_answers tells moment given Permits words need other is (Format slots size) asks = tt
+nobody_answers tells moment given Permits words need other is (ListCommand form) asks = tt
+nobody_answers tells moment given Permits words need other is (Replay proto token ack_token) asks = tt
+nobody_answers tells moment given Permits words need other is (Drain receiver place) asks = tt
+nobody_answers tells moment given Permits words need other is (Load proto number count) asks = tt
+nobody_answers tells moment given Permits words need other (inl none) (Serve server) asks = absurd (none.1 (Serve server) asks)
+nobody_answers tells moment given Permits words need other (inr some) (Serve server) asks =
+    absurd (other (some.2 ∙ ap need_for (one_command some.0 (Serve server) words some.1 asks)))
+
+pub nothing_replayed : {D : Type 0} (tells : Type 0) (moment : D → Moment) (given : D) (Read Take : List ℕ → Type 0)
+    (words : List (List ℕ)) (need : Need) → (need ≡ Existing → ⊥) → IsNeed words need → ForWords words (MayReplay tells moment given Read Take)
+nothing_replayed tells moment given Read Take words need other is (Format slots size) asks = tt
+nothing_replayed tells moment given Read Take words need other is (ListCommand form) asks = tt
+nothing_replayed tells moment given Read Take words need other is (Drain receiver place) asks = tt
+nothing_replayed tells moment given Read Take words need other is (Load proto number count) asks = tt
+nothing_replayed tells moment given Read Take words need other is (Serve server) asks = tt
+nothing_replayed tells moment given Read Take words need other (inl none) (Replay proto token ack_token) asks =
+    absurd (none.1 (Replay proto token ack_token) asks)
+nothing_replayed tells moment given Read Take words need other (inr some) (Replay proto token ack_token) asks =
+    absurd (other (some.2 ∙ ap need_for (one_command some.0 (Replay proto token ack_token) words some.1 asks)))

@@ -1,0 +1,42 @@
+-- What a command may write to those who send to it, where it may bind doors, and where it may dial.
+use Rattle.std.specs.Prelude.{ℕ, List, Some}
+use Rattle.edge_disk.specs.Disk.{Moment}
+use Rattle.bridge_words.specs.declared.command.Command.{Command}
+use Rattle.bridge_words.specs.declared.command.Command.TheVariants.{Replay, Drain, Serve}
+use Rattle.bridge_words.specs.Words.{IsCommand}
+use Rattle.commands.specs.Answered as input
+pub use Rattle.commands.specs.Answered.{WasRead, MayTake}
+use Rattle.bridge_serve.specs.Answered as server
+
+-- so it is for the words of each command
+abbrev pub ForWords : List (List ℕ) → (Command → Type 0) → Type 0
+ForWords words Is = (command : Command) → IsCommand command words → Is command
+
+-- `serve` may write a text to a link of its doors, to one who has sent these bytes, once all that the text acknowledges of them is durable
+-- on the disk: `given` is the disk as it was before. No other command has a door.
+abbrev pub MayAnswer : {D : Type 0} → Type 0 → (D → Moment) → D → (List ℕ → ℕ → ℕ → List ℕ → List ℕ → Type 0) → Command → Type 0
+MayAnswer tells moment given Permits (Serve words) = server.MayAnswer tells moment given words Permits
+MayAnswer tells moment given Permits command = Unit {0}
+
+-- `replay` may write a text to the output, once these bytes were read from the input, if all that the text acknowledges of them is durable
+-- on the disk.
+abbrev pub MayReplay : {D : Type 0} → Type 0 → (D → Moment) → D → (List ℕ → Type 0) → (List ℕ → Type 0) → Command → Type 0
+MayReplay tells moment given Read Take (Replay proto token ack_token) =
+    input.MayReplay tells moment given (record { proto = proto; token = token; ack_token = ack_token }) Read Take
+MayReplay tells moment given Read Take command = Unit {0}
+
+-- Every other command may print any text.
+abbrev pub MayPrint : Type 0 → Command → Type 0
+MayPrint AnyText (Replay proto token ack_token) = Unit {0}
+MayPrint AnyText command = AnyText
+
+-- `serve` may bind doors at the places of its words, and no other command any.
+abbrev pub MayBind : (List ℕ → Type 0) → Command → Type 0
+MayBind May (Serve words) = server.MayBind words May
+MayBind May command = Unit {0}
+
+-- `drain` and `serve` may dial the place that their words name, and no other command any.
+abbrev pub MayDial : (List ℕ → Type 0) → Command → Type 0
+MayDial May (Drain receiver (Some place)) = May place
+MayDial May (Serve words) = server.MayDial words May
+MayDial May command = Unit {0}

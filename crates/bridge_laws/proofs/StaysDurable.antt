@@ -1,0 +1,180 @@
+-- What is durable stays so, whatever call of `bridge` comes.
+use Rattle.std.proofs.Common.{◌⊎◌, inl, inr, ℕ, ◌+◌, ◌-◌, ◌<◌, List, [], ◌∷◌, length, take, drop, sym, ◌∙◌, ap, subst, arith, length-take, length-drop}
+use Rattle.std.specs.Prelude.{All, None, Some}
+use Rattle.std.proofs.lemmas.Bool.{cases_lt}
+use Rattle.std.proofs.lemmas.List.Elements.{All-nil, All-cons, All-head, All-tail}
+use Rattle.edge_disk.specs.Disk.{Moment, IsLawful, LeavesOnly}
+use Rattle.edge_disk.proofs.Moments.{weaker}
+use Rattle.event_form.specs.declared.event.Entry.{Entry}
+use Rattle.spool_state.specs.SpoolState.{SpoolState, base, list}
+use Rattle.spool_state.specs.Image.{StandsFor}
+use Rattle.spool_state.proofs.Laws.{one_state}
+use Rattle.spool_log.specs.declared.fault.RecoverFault.{RecoverFault}
+use Rattle.spool_log.specs.declared.fault.RecoverFault.TheVariants as Recover
+use Rattle.spool_log.specs.declared.opening.Opening.TheVariants.{Raise}
+use Rattle.spool_log.specs.Opening.{opened, IsOpening, IsRefusing}
+use Rattle.desk_access.specs.Call.{Call, Record}
+use Rattle.desk_access.specs.Desk.{DeskState, Stood}
+use Rattle.desk_access.specs.Durable.{AreDurable, IsGroupKept}
+use Rattle.desk_access.specs.Groups.{Group}
+use Rattle.desk_access.specs.History.{IsDesk, IsKept, IsLater}
+use Rattle.desk_access.proofs.Lasting.{stood_was}
+use Rattle.conn_serve.specs.declared.rules.Rules.{Rules}
+use Rattle.forward_core.specs.declared.outward.Outward.{Outward}
+use Rattle.bridge_words.specs.declared.command.Command.{Command}
+use Rattle.bridge_words.specs.declared.command.Command.TheVariants.{Format, List as ListCommand, Replay, Drain, Load, Serve}
+use Rattle.bridge_words.specs.declared.command.Server.{Server}
+use Rattle.bridge_words.specs.Words.{IsCommand, IsNoCommand, IsSomeCommand}
+use Rattle.notes.specs.declared.note.Note.{Note}
+use Rattle.bridge_parts.specs.Opened.{desk_in, IsUnopened}
+use Rattle.bridge_parts.specs.Receivers.{outward_of}
+use Rattle.bridge_parts.specs.Run.{Run, both_run}
+use Rattle.bridge_parts.proofs.Desks.{desk_rules}
+use Rattle.commands.specs.Drained.{IsSent, SendsThere, Streams, Tally}
+use Rattle.commands.specs.Replayed.{ServesInput}
+use Rattle.bridge_serve.specs.Served.{IsServed}
+use Rattle.bridge_core.specs.Done.{Does, IsUndone}
+use Rattle.bridge_core.specs.RunOf.{IsRunOf}
+use Rattle.bridge_laws.specs.KeepsOrder.{AsksFormat}
+use Rattle.bridge_laws.specs.Lifetime.{AreNext, IsCalled, IsNext, NotFormat, Telling}
+use Rattle.bridge_laws.proofs.KeepsOrder.{opened_sound}
+
+-- the bytes stand for a spool that is so
+abbrev Holds : (SpoolState → Type 0) → List ℕ → Type 0
+Holds Is c = (s : SpoolState) × StandsFor s c × Is s
+
+-- Something that stays so of a spool, in each later state and as it is opened.
+module _ (Is : SpoolState → Type 0) (stays : (s t : SpoolState) → IsLater s t → Is s → Is t) (raises : (s : SpoolState) → Is s → Is (opened Raise s))
+    (run : Run) (told : run.disk.tells) (lawful : IsLawful run.disk.old) (before : (c : List ℕ) → run.disk.old.image c → Holds Is c) where
+  abbrev Only : Type 0
+  Only = LeavesOnly (Holds Is) run.disk.old run.disk.new
+
+  stood_before : (s : SpoolState) → StandsFor s run.disk.old.reads → Is s
+  stood_before s stands = let has = before run.disk.old.reads lawful.reads_image in subst Is (one_state has.0 s run.disk.old.reads has.1 stands) has.2
+
+  unwritten : LeavesOnly run.disk.old.image run.disk.old run.disk.new → Only
+  unwritten leaves = weaker run.disk.old.image (Holds Is) run.disk.old run.disk.new leaves before
+
+  while_opened : (c : List ℕ) → IsOpening Raise run.disk.old c → Holds Is c
+  while_opened c (inl image) = before c image
+  while_opened c (inr (s, stood, inl here)) = (s, here, stood_before s stood)
+  while_opened c (inr (s, stood, inr raised)) = (opened Raise s, raised, raises s (stood_before s stood))
+
+  while_refused : (fault : RecoverFault) (c : List ℕ) → IsRefusing Raise fault run.disk.old c → Holds Is c
+  while_refused (Recover.NotSpool at) c image = before c image
+  while_refused (Recover.RunsSpent run) c image = before c image
+  while_refused (Recover.Worn ordinal) c image = before c image
+  while_refused Recover.DiskFault c opening = while_opened c opening
+  while_refused Recover.NoMemory c image = before c image
+
+  while_called : (x : DeskState) (records : List Record) → IsDesk x → Is x.spool → (c : List ℕ) → Stood x records c → Holds Is c
+  while_called x records rules is c stood = let w = stood_was x records c rules stood in (w.state, w.stands, stays x.spool w.state w.later is)
+
+  unopened : (note : Note) → IsUnopened run.disk.tells run.disk.old run.disk.new note → Only
+  unopened note is = weaker (IsRefusing Raise is.fault run.disk.old) (Holds Is) run.disk.old run.disk.new (is.any_moment told) (while_refused is.fault)
+
+  by_sent : (tally : Tally) (start until : ℕ) (calls : List Call) → IsSent run.disk tally start until calls → Only
+  by_sent tally start until calls is =
+      weaker _ (Holds Is) run.disk.old run.disk.new is.any_moment (λ c h. elim h [
+        | inl image ↦ before c image
+        | inr stood ↦ while_called (desk_in is.state) is.reached.records (desk_rules is.state is.stood.sound) (stood_before is.state is.stood) c stood
+      ])
+
+  by_stream : (outward : Outward) (note : Note) → Streams outward run.disk run.input run.output note → Only
+  by_stream outward note (inl done) = unwritten (done.0.any_moment told)
+  by_stream outward note (inr (inl done)) = unwritten (done.0 told).any_moment
+  by_stream outward note (inr (inr done)) = by_sent _ _ _ _ (done.session.session.forwards.made told)
+
+  by_place : (outward : Outward) (place : List ℕ) (note : Note) → SendsThere outward place run.disk run.net run.output note → Only
+  by_place outward place note (inl done) = unwritten (done.0.any_moment told)
+  by_place outward place note (inr (inl done)) = unwritten (done.idle told).any_moment
+  by_place outward place note (inr (inr (inl done))) = unwritten (done.pending told).any_moment
+  by_place outward place note (inr (inr (inr done))) = by_sent _ _ _ _ (done.session.session.forwards.made told)
+
+  by_replay : (rules : Rules) (note : Note) → ServesInput rules run.disk (both_run run.input run.output) note → Only
+  by_replay rules note done =
+      let is = done.served.serves.made told in
+      let s = is.state in
+      weaker _ (Holds Is) run.disk.old run.disk.new is.any_moment (λ c h. elim h [
+        | inl opening ↦ while_opened c opening
+        | inr stood ↦ while_called (desk_in (opened Raise s)) is.reached.records (desk_rules (opened Raise s) (opened_sound s is.stood.sound is.could))
+            (raises s (stood_before s is.stood)) c stood
+      ])
+
+  by_serve : (server : Server) (note : Note) → IsServed server run.disk run.output run.net run.doors note → Only
+  by_serve server note (inl done) = unopened note done.0
+  by_serve server note (inr (inl done)) = weaker (IsOpening Raise run.disk.old) (Holds Is) run.disk.old run.disk.new (done.0.opened told).any_moment while_opened
+  by_serve server note (inr (inr done)) =
+      let over = done.ran.over in
+      let opening = over.opened told in
+      let x = opening.0 in
+      let is = opening.1 in
+      weaker _ (Holds Is) run.disk.old run.disk.new (over.any_moment x is) (λ c h. elim h [
+        | inl image ↦ while_opened c image
+        | inr stood ↦ while_called x over.served.log (over.served.closes.replays.begins x is).rules
+            (subst (λ (d : DeskState). Is d.spool) (sym is.4) (raises is.1 (stood_before is.1 is.2))) c stood
+      ])
+
+  module _ (same : run.disk.same → LeavesOnly run.disk.old.image run.disk.old run.disk.new) (words : List (List ℕ)) (note : Note) where
+    by_command : (command : Command) → IsCommand command words → (AsksFormat words → ⊥) → IsUndone run note ⊎ Does command run note → Only
+    by_command command asks never (inl undone) = unwritten (same undone.1.disk.same)
+    by_command (Format slots size) asks never (inr does) = absurd (never (slots, size, asks))
+    by_command (ListCommand form) asks never (inr does) = unwritten (does.0.any_moment told)
+    by_command (Replay proto token ack_token) asks never (inr does) = elim does.0.replayed [
+      | inl unopen ↦ unopened note unopen.0
+      | inr replayed ↦ by_replay (record { proto = proto; token = token; ack_token = ack_token }) note replayed
+    ]
+    by_command (Drain receiver None) asks never (inr does) = by_stream (outward_of receiver) note does.0.drained
+    by_command (Drain receiver (Some place)) asks never (inr does) = by_place (outward_of receiver) place note does.0.drained
+    by_command (Load proto number count) asks never (inr does) = unwritten (same does.1.same)
+    by_command (Serve server) asks never (inr does) = by_serve server note does.0
+
+    pub by_words : IsRunOf words run note → (AsksFormat words → ⊥) → IsSomeCommand words ⊎ (IsNoCommand words ⊎ IsUndone run note) → Only
+    by_words whole never (inl (command, asks)) = by_command command asks never (whole.done command asks)
+    by_words whole never (inr (inl none)) = unwritten (same (whole.unchanged none).disk.same)
+    by_words whole never (inr (inr undone)) = unwritten (same undone.1.disk.same)
+
+-- ---- entries that stand, or are below the cursor
+
+kept_on : (s t : SpoolState) (number : ℕ) (entry : List Entry) → IsLater s t → 0 < length entry → IsKept s number entry → IsKept t number entry
+kept_on s t number entry later some (inl below) = inl (omega (arith, below, later.follows.cursor))
+kept_on s t number entry later some (inr there) = elim (cases_lt number (base t)) [
+  | inl gone ↦ inl (omega (arith, gone, later.follows.confirmed))
+  | inr ge ↦ inr (later.follows.kept number ge
+      (omega (arith, ge, some, later.follows.base_rises, ap length there, length-take 1 (drop (number - base s) (list s)), length-drop (number - base s) (list s))) ∙ there)
+]
+
+group_on : (s t : SpoolState) (group : Group) → IsLater s t → IsGroupKept s group → IsGroupKept t group
+group_on s t group later kept =
+    λ k lt. kept_on s t (group.first + k) (take 1 (drop k group.entries)) later (omega (arith, lt, length-take 1 (drop k group.entries), length-drop k group.entries)) (kept k lt)
+
+groups_on : (groups : List Group) (s t : SpoolState) → IsLater s t → All (IsGroupKept s) groups → All (IsGroupKept t) groups
+groups_on [] s t later kept = All-nil (IsGroupKept t)
+groups_on (group ∷ groups) s t later kept =
+    All-cons (IsGroupKept t) group groups (group_on s t group later (All-head (IsGroupKept s) group groups kept))
+    (groups_on groups s t later (All-tail (IsGroupKept s) group groups kept))
+
+-- ---- over calls and crashes
+
+abbrev Keeping : List Group → List ℕ → Type 0
+Keeping groups = Holds (λ (s : SpoolState). All (IsGroupKept s) groups)
+
+module _ {D S K N P : Type 0} (moment : D → Moment) (tell : Telling D S K N P) (groups : List Group)
+    (keeps : (old new : D) → IsCalled NotFormat tell old new → AreDurable (moment old) groups → LeavesOnly (Keeping groups) (moment old) (moment new)) where
+  abbrev IsDisk : D → Type 0
+  IsDisk disk = AreDurable (moment disk) groups
+
+  next_is : (old new : D) → IsDisk old → IsNext NotFormat moment tell old new → IsDisk new
+  next_is old new here (inl called) = (keeps old new called here).now
+  next_is old new here (inr (inl left)) = λ c image. here c (left c image)
+  next_is old new here (inr (inr (mid, called, within))) = λ c image. (keeps old mid called here).each c (within c image)
+
+  pub all_are : (disk : D) (later : List D) → IsDisk disk → AreNext NotFormat moment tell disk later → All IsDisk (disk ∷ later)
+  all_are disk [] here next = All-cons IsDisk disk [] here (All-nil IsDisk)
+  all_are disk (new ∷ more) here (first, rest) = All-cons IsDisk disk (new ∷ more) here (all_are new more (next_is disk new here first) rest)
+
+pub each_keeps : (run : Run) (groups : List Group) → run.disk.tells → IsLawful run.disk.old
+    → (run.disk.same → LeavesOnly run.disk.old.image run.disk.old run.disk.new) → (words : List (List ℕ)) (note : Note)
+    → IsRunOf words run note → (AsksFormat words → ⊥) → AreDurable run.disk.old groups → LeavesOnly (Keeping groups) run.disk.old run.disk.new
+each_keeps run groups told lawful same words note whole never here =
+    by_words (λ (s : SpoolState). All (IsGroupKept s) groups) (groups_on groups) (λ s is. is) run told lawful here same words note whole never whole.which
