@@ -7,15 +7,17 @@ ghost use Rattle.bridge_words.specs.Words.{IsNeed, IsNoCommand};
 ghost use Rattle.bridge_parts.specs.Run.{disk_run, input_run, net_run, output_run, run_of};
 ghost use Rattle.bridge_core.specs.Failed.{TellsReadFault, TellsWriteFault, TellsDial};
 ghost use Rattle.bridge_core.specs.Headline.{KeepsPromises};
-ghost use Rattle.bridge_core.specs.Leave.{ForWords, MayAnswer, MayBind, MayDial, MayPrint, MayReplay, MayTake, WasRead};
+ghost use Rattle.bridge_core.specs.Leave.{ForWords, MayAnswer, MayReplay, MayTake, WasRead, MayRelease, WereStreamed, HasExchangedAt, MayBind, MayDial, MayPrint};
 ghost use Rattle.cli_parts.specs.declared.progress.Watched.{Watched};
-ghost use Rattle.edge_disk.specs.declared.file.FileDisk.{FileDisk};
+ghost use Rattle.edge_file.specs.declared.file.FileDisk.{FileDisk};
 
 use bridge_core::{Ended, bridge};
 use bridge_words::{Need, need_of};
 use cli_parts::{Opening, Progress, Watched, make_disk, open_text};
-use edge_disk::{Disk, FileDisk, MemDisk, OpenFault};
+use edge_disk::Disk;
+use edge_file::{FileDisk, OpenFault};
 use edge_io::{Door, Net, Sink, Source};
+use edge_memory::MemDisk;
 use notes::Note;
 use std::alloc::Global;
 use std::sync::Wait;
@@ -42,6 +44,9 @@ where
     requires dials { ForWords (map string_bytes words.now) (MayDial N.may_dial) }
     requires replays { ForWords (map string_bytes words.now)
         (MayReplay D.tells D.moment disk (WasRead S.same S.given input.old) (MayTake K.same K.taken K.permits output.old)) }
+    requires releases { ForWords (map string_bytes words.now) (MayRelease D.tells D.moment disk
+        (WereStreamed S.same S.given input.old K.same K.taken output.old)
+        (HasExchangedAt N.L.same N.L.dialed N.L.given N.L.taken) D.may_release) }
     requires prints { ForWords (map string_bytes words.now) (MayPrint ((sink : K) (text : List ℕ) → K.permits sink text)) }
 
     ensures run { (before : Watched D) × (after : Watched D) × (before.disk ≡ disk) × (after.disk ≡ result.disk)

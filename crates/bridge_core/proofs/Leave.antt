@@ -1,5 +1,6 @@
 -- The leave of a command, of a disk that is watched, and of words that want no device.
 use Rattle.std.proofs.Common.{◌≡◌, inl, inr, ℕ, List, ◌∙◌, ap}
+use Rattle.std.specs.Prelude.{Some, None}
 use Rattle.edge_disk.specs.Disk.{Moment}
 use Rattle.bridge_words.specs.declared.command.Command.{Command}
 use Rattle.bridge_words.specs.declared.command.Command.TheVariants.{Format, List as ListCommand, Replay, Drain, Load, Serve}
@@ -7,7 +8,8 @@ use Rattle.bridge_words.specs.declared.need.Need.{Need}
 use Rattle.bridge_words.specs.declared.need.Need.TheVariants.{Existing}
 use Rattle.bridge_words.specs.Words.{IsNeed, need_for}
 use Rattle.bridge_words.proofs.Once.{one_command}
-use Rattle.bridge_core.specs.Leave.{ForWords, MayAnswer, MayReplay}
+use Rattle.bridge_serve.proofs.Releasing.{any_some, if_some}
+use Rattle.bridge_core.specs.Leave.{ForWords, MayAnswer, MayRelease, MayReplay}
 
 -- what is durable on a disk within another is so on that
 pub answers_within : {D W : Type 0} (tells : Type 0) (moment : D → Moment) (within : W → D) (given : W) (Permits : List ℕ → ℕ → ℕ → List ℕ → List ℕ → Type 0)
@@ -28,6 +30,33 @@ replays_within tells moment within given Read Take (Replay proto token ack_token
 replays_within tells moment within given Read Take (Drain receiver place) may = tt
 replays_within tells moment within given Read Take (Load proto number count) may = tt
 replays_within tells moment within given Read Take (Serve server) may = tt
+
+pub releases_within : {D W : Type 0} (tells : Type 0) (moment : D → Moment) (within : W → D) (given : W) (Streamed : List ℕ → List ℕ → Type 0)
+    (ExchangedAt : List ℕ → List ℕ → List ℕ → Type 0) (Release : ℕ → Type 0) (command : Command)
+    → MayRelease tells moment (within given) Streamed ExchangedAt Release command
+    → MayRelease tells (λ (w : W). moment (within w)) given Streamed ExchangedAt Release command
+releases_within tells moment within given Streamed ExchangedAt Release (Format slots size) may = tt
+releases_within tells moment within given Streamed ExchangedAt Release (ListCommand form) may = tt
+releases_within tells moment within given Streamed ExchangedAt Release (Replay proto token ack_token) may = tt
+releases_within tells moment within given Streamed ExchangedAt Release (Drain receiver None) may = λ disk n received. may (within disk) n received
+releases_within tells moment within given Streamed ExchangedAt Release (Drain receiver (Some place)) may =
+    λ disk n received. may (within disk) n received
+releases_within tells moment within given Streamed ExchangedAt Release (Load proto number count) may = tt
+releases_within tells moment within given Streamed ExchangedAt Release (Serve server) may =
+    if_some server.forward _ _ (λ relay may disk n received. may (within disk) n received) may
+
+-- of a disk of which any number may become known
+pub all_released : {D : Type 0} (tells : Type 0) (moment : D → Moment) (given : D) (Streamed : List ℕ → List ℕ → Type 0)
+    (ExchangedAt : List ℕ → List ℕ → List ℕ → Type 0) (Release : ℕ → Type 0) → ((n : ℕ) → Release n)
+    → (command : Command) → MayRelease tells moment given Streamed ExchangedAt Release command
+all_released tells moment given Streamed ExchangedAt Release all (Format slots size) = tt
+all_released tells moment given Streamed ExchangedAt Release all (ListCommand form) = tt
+all_released tells moment given Streamed ExchangedAt Release all (Replay proto token ack_token) = tt
+all_released tells moment given Streamed ExchangedAt Release all (Drain receiver None) = λ disk n received. all n
+all_released tells moment given Streamed ExchangedAt Release all (Drain receiver (Some place)) = λ disk n received. all n
+all_released tells moment given Streamed ExchangedAt Release all (Load proto number count) = tt
+all_released tells moment given Streamed ExchangedAt Release all (Serve server) =
+    any_some server.forward _ (λ relay disk n received. all n)
 
 -- words that don't want a device that exists answer nobody
 pub nobody_answers : {D : Type 0} (tells : Type 0) (moment : D → Moment) (given : D) (Permits : List ℕ → ℕ → ℕ → List ℕ → List ℕ → Type 0)

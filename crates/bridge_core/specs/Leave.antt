@@ -1,12 +1,17 @@
--- What a command may write to those who send to it, where it may bind doors, and where it may dial.
-use Rattle.std.specs.Prelude.{ℕ, List, Some}
+-- What a command may write to those who send to it, what it may make known as confirmed, where it may bind doors, and where it may dial.
+use Rattle.std.specs.Prelude.{ℕ, List, Some, None}
 use Rattle.edge_disk.specs.Disk.{Moment}
 use Rattle.bridge_words.specs.declared.command.Command.{Command}
 use Rattle.bridge_words.specs.declared.command.Command.TheVariants.{Replay, Drain, Serve}
 use Rattle.bridge_words.specs.Words.{IsCommand}
+use Rattle.bridge_parts.specs.Receivers.{outward_of}
+pub use Rattle.forward_core.specs.Exchanged.{HasExchangedAt}
 use Rattle.commands.specs.Answered as input
 pub use Rattle.commands.specs.Answered.{WasRead, MayTake}
+use Rattle.commands.specs.Released as drain
+pub use Rattle.commands.specs.Released.{WereStreamed}
 use Rattle.bridge_serve.specs.Answered as server
+use Rattle.bridge_serve.specs.Released as forwarder
 
 -- so it is for the words of each command
 abbrev pub ForWords : List (List ℕ) → (Command → Type 0) → Type 0
@@ -24,6 +29,19 @@ abbrev pub MayReplay : {D : Type 0} → Type 0 → (D → Moment) → D → (Lis
 MayReplay tells moment given Read Take (Replay proto token ack_token) =
     input.MayReplay tells moment given (record { proto = proto; token = token; ack_token = ack_token }) Read Take
 MayReplay tells moment given Read Take command = Unit {0}
+
+-- `drain` and `serve` may make a number known as confirmed once the peer to whom they forward has received its entry, by what was
+-- exchanged with it: with `drain` over the streams, or over a link that was dialed at the place of the words; with `serve` over such a
+-- link, where the words name a place. `given` is the disk as it was before. No other command may make a number of this disk known:
+-- `load` has a spool of its own.
+abbrev pub MayRelease : {D : Type 0} → Type 0 → (D → Moment) → D → (List ℕ → List ℕ → Type 0) → (List ℕ → List ℕ → List ℕ → Type 0) → (ℕ → Type 0)
+    → Command → Type 0
+MayRelease tells moment given Streamed ExchangedAt Release (Drain receiver None) =
+    drain.MayRelease tells moment given (outward_of receiver) Streamed Release
+MayRelease tells moment given Streamed ExchangedAt Release (Drain receiver (Some place)) =
+    drain.MayRelease tells moment given (outward_of receiver) (ExchangedAt place) Release
+MayRelease tells moment given Streamed ExchangedAt Release (Serve words) = forwarder.MayRelease tells moment given words ExchangedAt Release
+MayRelease tells moment given Streamed ExchangedAt Release command = Unit {0}
 
 -- Every other command may print any text.
 abbrev pub MayPrint : Type 0 → Command → Type 0

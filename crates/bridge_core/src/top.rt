@@ -4,7 +4,7 @@ ghost use Rattle.notes.specs.Notes.{status_of};
 ghost use Rattle.bridge_parts.specs.Run.{disk_run, input_run, net_run, output_run, run_of};
 ghost use Rattle.bridge_core.specs.RunOf.{IsRunOf};
 ghost use Rattle.bridge_core.specs.Headline.{KeepsAcknowledged};
-ghost use Rattle.bridge_core.specs.Leave.{ForWords, MayAnswer, MayBind, MayDial, MayPrint, MayReplay, MayTake, WasRead};
+ghost use Rattle.bridge_core.specs.Leave.{ForWords, MayAnswer, MayReplay, MayTake, WasRead, MayRelease, WereStreamed, HasExchangedAt, MayBind, MayDial, MayPrint};
 
 use crate::asked::{Unasked, asked_of};
 use crate::doing::do_command;
@@ -46,6 +46,9 @@ use std::thread::Threads;
 /// written to a sender once all that it acknowledges is durable, and none else. So it is at each moment of a run, whether that ends or
 /// not, since the caller may give leave for no more. What is ensured, `acknowledged`, says of the end that nothing was lost.
 ///
+/// So it is with what becomes known as confirmed: `releases` is leave for that, of the disk's type. A number may become known once the
+/// peer to whom the words forward has received its entry, that is has acknowledged it, and no other number may.
+///
 /// The clause `run` has all the rest, by command. That each connection contributes exactly its protocol's events up to the first fault,
 /// in order, is for `replay` `IsReplayed.served` (`carried`) with `IsStored.reached` (`each`, `grows`), and for `serve`
 /// `Promises.are_parts` with `contributes`, `nothing_else`, `order` and `order_was`. That only what a peer acknowledged becomes known is
@@ -68,6 +71,11 @@ where
     requires answers { ForWords (map string_bytes words.now) (MayAnswer D.tells D.moment disk N.permits) }
     requires replays { ForWords (map string_bytes words.now)
         (MayReplay D.tells D.moment disk (WasRead S.same S.given input.old) (MayTake K.same K.taken K.permits output.old)) }
+
+    // A number may become known as confirmed once the peer has received its entry, to whom the words forward.
+    requires releases { ForWords (map string_bytes words.now) (MayRelease D.tells D.moment disk
+        (WereStreamed S.same S.given input.old K.same K.taken output.old)
+        (HasExchangedAt N.L.same N.L.dialed N.L.given N.L.taken) D.may_release) }
 
     // The places that the words name may be bound and dialed, and any text may be printed.
     requires binds { ForWords (map string_bytes words.now) (MayBind N.may_bind) }

@@ -6,7 +6,7 @@ use Rattle.std.proofs.lemmas.List.Elements.{All-nil}
 use Rattle.event_form.specs.declared.event.Entry.{Entry}
 use Rattle.spool_state.specs.SpoolState.{SpoolState, base, list}
 use Rattle.spool_log.specs.declared.opening.Opening.TheVariants.{Keep, Raise}
-use Rattle.spool_log.specs.declared.fault.TakeFault.TheVariants as Take
+use Rattle.spool_answers.specs.declared.fault.TakeFault.TheVariants as Take
 use Rattle.spool_log.specs.Opening.{opened}
 use Rattle.desk_access.specs.Call.{Call, takes, Record, calls_of}
 use Rattle.desk_access.specs.Desk.{DeskState, Goes, Stood}

@@ -1,12 +1,10 @@
 -- What is durable stays so, whatever call of `bridge` comes.
-use Rattle.std.proofs.Common.{◌⊎◌, inl, inr, ℕ, ◌+◌, ◌-◌, ◌<◌, List, [], ◌∷◌, length, take, drop, sym, ◌∙◌, ap, subst, arith, length-take, length-drop}
+use Rattle.std.proofs.Common.{◌⊎◌, inl, inr, ℕ, List, [], ◌∷◌, sym, subst}
 use Rattle.std.specs.Prelude.{All, None, Some}
-use Rattle.std.proofs.lemmas.Bool.{cases_lt}
 use Rattle.std.proofs.lemmas.List.Elements.{All-nil, All-cons, All-head, All-tail}
 use Rattle.edge_disk.specs.Disk.{Moment, IsLawful, LeavesOnly}
 use Rattle.edge_disk.proofs.Moments.{weaker}
-use Rattle.event_form.specs.declared.event.Entry.{Entry}
-use Rattle.spool_state.specs.SpoolState.{SpoolState, base, list}
+use Rattle.spool_state.specs.SpoolState.{SpoolState}
 use Rattle.spool_state.specs.Image.{StandsFor}
 use Rattle.spool_state.proofs.Laws.{one_state}
 use Rattle.spool_log.specs.declared.fault.RecoverFault.{RecoverFault}
@@ -17,8 +15,9 @@ use Rattle.desk_access.specs.Call.{Call, Record}
 use Rattle.desk_access.specs.Desk.{DeskState, Stood}
 use Rattle.desk_access.specs.Durable.{AreDurable, IsGroupKept}
 use Rattle.desk_access.specs.Groups.{Group}
-use Rattle.desk_access.specs.History.{IsDesk, IsKept, IsLater}
+use Rattle.desk_access.specs.History.{IsDesk, IsLater}
 use Rattle.desk_access.proofs.Lasting.{stood_was}
+use Rattle.desk_access.proofs.Since.{group_on}
 use Rattle.conn_serve.specs.declared.rules.Rules.{Rules}
 use Rattle.forward_core.specs.declared.outward.Outward.{Outward}
 use Rattle.bridge_words.specs.declared.command.Command.{Command}
@@ -136,22 +135,10 @@ module _ (Is : SpoolState → Type 0) (stays : (s t : SpoolState) → IsLater s 
 
 -- ---- entries that stand, or are below the cursor
 
-kept_on : (s t : SpoolState) (number : ℕ) (entry : List Entry) → IsLater s t → 0 < length entry → IsKept s number entry → IsKept t number entry
-kept_on s t number entry later some (inl below) = inl (omega (arith, below, later.follows.cursor))
-kept_on s t number entry later some (inr there) = elim (cases_lt number (base t)) [
-  | inl gone ↦ inl (omega (arith, gone, later.follows.confirmed))
-  | inr ge ↦ inr (later.follows.kept number ge
-      (omega (arith, ge, some, later.follows.base_rises, ap length there, length-take 1 (drop (number - base s) (list s)), length-drop (number - base s) (list s))) ∙ there)
-]
-
-group_on : (s t : SpoolState) (group : Group) → IsLater s t → IsGroupKept s group → IsGroupKept t group
-group_on s t group later kept =
-    λ k lt. kept_on s t (group.first + k) (take 1 (drop k group.entries)) later (omega (arith, lt, length-take 1 (drop k group.entries), length-drop k group.entries)) (kept k lt)
-
 groups_on : (groups : List Group) (s t : SpoolState) → IsLater s t → All (IsGroupKept s) groups → All (IsGroupKept t) groups
 groups_on [] s t later kept = All-nil (IsGroupKept t)
 groups_on (group ∷ groups) s t later kept =
-    All-cons (IsGroupKept t) group groups (group_on s t group later (All-head (IsGroupKept s) group groups kept))
+    All-cons (IsGroupKept t) group groups (group_on s t group.first group.entries later (All-head (IsGroupKept s) group groups kept))
     (groups_on groups s t later (All-tail (IsGroupKept s) group groups kept))
 
 -- ---- over calls and crashes

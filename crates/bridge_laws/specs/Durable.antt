@@ -1,7 +1,7 @@
 -- What is durable stays so: over calls of `bridge` one after another, and crashes between them and within them.
-use Rattle.std.specs.Prelude.{◌∷◌, List, All}
+use Rattle.std.specs.Prelude.{◌≡◌, ◌⊎◌, ℕ, ◌≤◌, ◌∷◌, List, All}
 use Rattle.edge_disk.specs.Disk.{Moment}
-use Rattle.desk_access.specs.Durable.{AreDurable}
+use Rattle.desk_access.specs.Durable.{AreDurable, left_since}
 use Rattle.desk_access.specs.Groups.{Group}
 use Rattle.bridge_laws.specs.Lifetime.{AreNext, NotFormat, Telling}
 
@@ -10,3 +10,15 @@ abbrev pub DurableLasts : {D S K N P : Type 0} (moment : D → Moment) (tell : T
 DurableLasts {D = D} moment tell =
     (disk : D) (later : List D) (groups : List Group) → AreDurable (moment disk) groups → AreNext NotFormat moment tell disk later
     → All (λ next. AreDurable (moment next) groups) (disk ∷ later)
+
+-- The next disk is this one, or its device has what a crash left of this one at some moment since that clock.
+abbrev pub IsLeftSince : {D : Type 0} (moment : D → Moment) → ℕ → D → D → Type 0
+IsLeftSince moment clock disk next = (next ≡ disk) ⊎ ((c : List ℕ) → (moment next).image c → (moment disk).image_since clock c)
+
+-- So it is of groups that are durable since some moment of the call that left this disk: on the disk as the call ends, on what a crash
+-- left of it since that moment, and on each later one.
+abbrev pub DurableSinceLasts : {D S K N P : Type 0} (tells : Type 0) (moment : D → Moment) (tell : Telling D S K N P) → Type 0
+DurableSinceLasts {D = D} tells moment tell =
+    (disk next : D) (clock : ℕ) (later : List D) (groups : List Group) → tells → clock ≤ (moment disk).clock
+    → AreDurable (left_since clock (moment disk)) groups → IsLeftSince moment clock disk next → AreNext NotFormat moment tell next later
+    → All (λ one. AreDurable (moment one) groups) (next ∷ later)

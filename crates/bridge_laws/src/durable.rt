@@ -1,6 +1,6 @@
 //! What was acknowledged lasts, from the contract of `bridge` alone. The function does nothing: its contract is the law.
 ghost use Rattle.bridge_parts.specs.Run.{disk_run, input_run, net_run, output_run};
-ghost use Rattle.bridge_laws.specs.Durable.{DurableLasts};
+ghost use Rattle.bridge_laws.specs.Durable.{DurableLasts, DurableSinceLasts};
 ghost use Rattle.bridge_laws.specs.Lifetime.{telling};
 
 use edge_disk::Disk;
@@ -9,6 +9,9 @@ use edge_io::{Net, Sink, Source};
 /// What is durable lasts: groups of entries that a disk keeps, whatever a crash leaves of it, are kept so after any later calls of
 /// `bridge`, one after another, and any crashes between them and within them, where none of these calls is a `format`. Each entry of
 /// theirs stands at its number, or the cursor is past it.
+///
+/// So it is of groups that are durable since a moment of the first of these calls, as those are that an acknowledgment was for, since
+/// the take was answered: also where a crash ends that call, at any moment since then.
 ///
 /// After a crash the device has something that the crash could leave. Each call has an input, an output, a net and doors of its
 /// own, and no more is known of it than the contract of `bridge` says.
@@ -19,6 +22,8 @@ pub fn durable_lasts<D: Disk, S: Source, K: Sink, N: Net>(
     _net: &N,
     _doors: &Vec<N::P>,
 )
-    ensures { DurableLasts D.moment (telling (disk_run D.tells D.moment) (input_run S.given S.left S.read_faults)
+    ensures lasts { DurableLasts D.moment (telling (disk_run D.tells D.moment) (input_run S.given S.left S.read_faults)
+        (output_run K.taken K.write_faults) (net_run N.told) N.P.told) }
+    ensures since { DurableSinceLasts D.tells D.moment (telling (disk_run D.tells D.moment) (input_run S.given S.left S.read_faults)
         (output_run K.taken K.write_faults) (net_run N.told) N.P.told) }
 {}

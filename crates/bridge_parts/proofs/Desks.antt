@@ -5,7 +5,7 @@ use Rattle.spool_state.specs.SpoolState.{SpoolState, IsSound}
 use Rattle.hec_ids.proofs.CallLaws.{opened_is_sound}
 use Rattle.hec_ids.specs.Table.{Table}
 use Rattle.hec_ids.specs.Rows as Ids
-use Rattle.desk_access.specs.Alone.{AloneView, IsAt}
+use Rattle.spool_desk.specs.Alone.{AloneView, IsAt}
 use Rattle.desk_access.specs.Desk.{desk_of}
 use Rattle.desk_access.specs.History.{IsDesk, IsLater}
 use Rattle.bridge_parts.specs.Opened.{desk_in}

@@ -3,7 +3,7 @@ use Rattle.std.specs.Prelude.{ℕ, List}
 use Rattle.edge_disk.specs.Disk.{Moment}
 use Rattle.spool_state.specs.SpoolState.{SpoolState}
 use Rattle.spool_state.specs.Image.{StandsFor}
-use Rattle.spool_log.specs.Stages.{StandsForOne}
+use Rattle.spool_answers.specs.Stages.{StandsForOne}
 use Rattle.desk_access.specs.Call.{Call, Record, AreBy}
 use Rattle.desk_access.specs.Desk.{DeskState, Goes}
 use Rattle.desk_access.specs.History.{IsLater, Grows, AllKept}

@@ -5,7 +5,8 @@ ghost use Rattle.bridge_parts.specs.Refused.{note_of_recover, note_of_pend, note
 use edge_io::NetFault;
 use forward_core::Sent;
 use notes::Note;
-use spool_log::{PendFault, RecoverFault};
+use spool_answers::PendFault;
+use spool_log::RecoverFault;
 
 /// The note for a device that was not opened: it is no spool, it was opened or its register was written as often as it can be, a call
 /// of the disk failed, or no memory was found.

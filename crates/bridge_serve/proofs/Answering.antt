@@ -8,7 +8,7 @@ use Rattle.spool_log.specs.declared.memory.Memory.{Memory}
 use Rattle.spool_log.specs.declared.opening.Opening.TheVariants.{Raise}
 use Rattle.spool_log.specs.Opening.{opened, IsOpening}
 use Rattle.spool_log.specs.State.{view}
-use Rattle.desk_access.specs.Alone.{alone_at}
+use Rattle.spool_desk.specs.Alone.{alone_at}
 use Rattle.desk_access.specs.Call.{Call, own_of}
 use Rattle.desk_access.specs.Desk.{DeskState, Stood}
 use Rattle.desk_access.specs.Journal.{own_then}
@@ -21,6 +21,7 @@ use Rattle.spool_turns.specs.Replays.{IsReal}
 use Rattle.serve_workers.specs.Answering.{MayAnswer as WorkerMay}
 use Rattle.serve_workers.specs.Served.{Served}
 use Rattle.serve_workers.specs.Works.{first_conn}
+use Rattle.serve_laws.specs.Durable.{IsLinkDurable}
 use Rattle.serve_laws.proofs.Durable.{none_durable}
 use Rattle.serve_laws.proofs.Saying.{says_durable}
 use Rattle.bridge_words.specs.declared.command.Server.{Server}
@@ -62,30 +63,35 @@ module _ {D : Type 0} (disks : Ghosts D) (given now : D) (memory : Memory) (in_d
   -- no call was made yet
   with_none : (number k : ℕ) (rules : Rules) (bytes text : List ℕ) → HasCarried (CarriedBy rules (first_conn run number + k)) bytes [] text
       → IsDurable disks.tells (disks.moment given) (disks.moment now) (record { rules = rules; worker = number; before = k }) bytes text
-  with_none number k rules bytes text c = record {
-    one = link rules (first_conn run number + k) bytes [] text c;
-    bytes_are = refl;
-    text_is = refl;
-    log = [];
-    led = λ told. let x = began_in told in record {
-      start = x.0;
-      opened = x.1;
-      after = x.0;
-      goes = refl;
-      any_moment = weaker (IsOpening Raise (disks.moment given)) (λ c. IsOpening Raise (disks.moment given) c ⊎ Stood x.0 [] c)
-          (disks.moment given) (disks.moment now) (from.any_moment told) (λ c left. inl left);
-    };
-    conn_is = λ told. let x = began_in told in numbered number k x.0 x.1;
-    caller = 0;
-    earlier = [];
-    made = [];
-    own = refl;
-    late = c.late;
-    calls_are = refl;
-    nothing_late = c.nothing;
-    durable = λ told. none_durable [] 0 (disks.moment now) rules (link rules (first_conn run number + k) bytes [] text c) c.carried c.nothing
-        (λ image left. let s = from.opens told in (opened Raise s.0, s.1.reached.each image left));
-  }
+  with_none number k rules bytes text c =
+      let durable : disks.tells → IsLinkDurable [] 0 (disks.moment now) rules (link rules (first_conn run number + k) bytes [] text c) =
+      λ told. none_durable [] 0 (disks.moment now) rules (link rules (first_conn run number + k) bytes [] text c) c.carried c.nothing
+      (λ image left. let s = from.opens told in (opened Raise s.0, s.1.reached.each image left)) in
+      record {
+        one = link rules (first_conn run number + k) bytes [] text c;
+        bytes_are = refl;
+        text_is = refl;
+        log = [];
+        led = λ told. let x = began_in told in record {
+          start = x.0;
+          opened = x.1;
+          after = x.0;
+          goes = refl;
+          any_moment = weaker (IsOpening Raise (disks.moment given)) (λ c. IsOpening Raise (disks.moment given) c ⊎ Stood x.0 [] c)
+              (disks.moment given) (disks.moment now) (from.any_moment told) (λ c left. inl left);
+        };
+        conn_is = λ told. let x = began_in told in numbered number k x.0 x.1;
+        caller = 0;
+        earlier = [];
+        made = [];
+        own = refl;
+        late = c.late;
+        calls_are = refl;
+        nothing_late = c.nothing;
+        served = c.carried;
+        acked = λ told. (durable told).acked;
+        answers = λ told. (durable told).answers c.carried;
+      }
 
   -- calls were made, and their journal is real
   with_real : (number k : ℕ) (rules : Rules) (pass pass' : Known) (bytes : List ℕ) (calls : List Call) (text : List ℕ)
@@ -94,6 +100,10 @@ module _ {D : Type 0} (disks : Ghosts D) (given now : D) (memory : Memory) (in_d
   with_real number k rules pass pass' bytes calls text ran real c =
       let own : own_of pass.number pass'.seen ≡ own_of pass.number pass.seen ++ calls =
       ap (own_of pass.number) ran.seen ∙ own_then pass.number pass.seen ran.between ∙ ap (λ (l : List Call). own_of pass.number pass.seen ++ l) ran.own_between in
+      let durable : disks.tells → IsLinkDurable pass'.seen pass.number (disks.moment real.0.desk.spool.disk) rules (link rules (first_conn run number + k) bytes calls text c) =
+      λ told. let x = began_in told in
+      says_durable disks.tells start run seats began pass'.seen (alone_at real.0) real.1 real.2 x.0 x.1 pass.number (own_of pass.number pass.seen) calls c.late rules
+      (link rules (first_conn run number + k) bytes calls text c) c.carried own refl c.nothing in
       record {
         one = link rules (first_conn run number + k) bytes calls text c;
         bytes_are = refl;
@@ -117,9 +127,9 @@ module _ {D : Type 0} (disks : Ghosts D) (given now : D) (memory : Memory) (in_d
         late = c.late;
         calls_are = refl;
         nothing_late = c.nothing;
-        durable = λ told. let x = began_in told in
-            says_durable disks.tells start run seats began pass'.seen (alone_at real.0) real.1 real.2 x.0 x.1 pass.number (own_of pass.number pass.seen) calls c.late rules
-            (link rules (first_conn run number + k) bytes calls text c) c.carried own refl c.nothing;
+        served = c.carried;
+        acked = λ told. (durable told).acked;
+        answers = λ told. (durable told).answers c.carried;
       }
 
   -- what the worker of that number may answer, a pass may that made the calls

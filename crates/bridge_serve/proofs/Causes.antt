@@ -8,7 +8,7 @@ use Rattle.edge_io.specs.Door.{DoorState}
 use Rattle.edge_io.specs.Net.{Bound, NetState, SameHung, HasNetCause}
 use Rattle.edge_io.specs.declared.net_fault.NetFault.{NetFault}
 use Rattle.edge_io.specs.declared.net_fault.NetFault.TheVariants as Net
-use Rattle.spool_log.specs.declared.fault.PendFault.TheVariants as Pend
+use Rattle.spool_answers.specs.declared.fault.PendFault.TheVariants as Pend
 use Rattle.desk_access.specs.Call.{Record, own_of, calls_of, failures_in, failures_of, pends}
 use Rattle.desk_access.specs.Desk.{DeskState}
 use Rattle.desk_access.specs.Journal.{failures_then}

@@ -7,3 +7,4 @@ pub mod Finishing
 pub mod Promises
 pub mod Ran
 pub mod Answering
+pub mod Releasing

@@ -9,9 +9,9 @@ use Rattle.edge_io.specs.declared.net_fault.NetFault.TheVariants as Net
 use Rattle.known_numbers.specs.Numbers.{IsKnown}
 use Rattle.spool_state.specs.SpoolState.{SpoolState, numbers_of}
 use Rattle.spool_state.specs.Image.{StandsFor}
-use Rattle.spool_log.specs.declared.fault.PendFault.TheVariants as Pend
-use Rattle.spool_log.specs.Stages.{IsOneOf, StandsForOne}
-use Rattle.desk_access.specs.Alone.{AloneView}
+use Rattle.spool_answers.specs.declared.fault.PendFault.TheVariants as Pend
+use Rattle.spool_answers.specs.Stages.{IsOneOf, StandsForOne}
+use Rattle.spool_desk.specs.Alone.{AloneView}
 use Rattle.desk_access.specs.Call.{Record, own_of}
 use Rattle.desk_access.specs.Desk.{DeskState, Goes}
 use Rattle.desk_access.proofs.Nexts.{all_right}

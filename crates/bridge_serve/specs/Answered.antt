@@ -7,10 +7,12 @@ use Rattle.spool_log.specs.Opening.{IsOpening}
 use Rattle.desk_access.specs.Call.{Call, Record, own_of}
 use Rattle.desk_access.specs.Desk.{DeskState, Goes, Stood}
 use Rattle.conn_serve.specs.declared.rules.Rules.{Rules}
+use Rattle.conn_serve.specs.Acked.{Acknowledges}
+use Rattle.conn_serve.specs.Durable.{AckedIsDurable, AnswersAreDurable, IsToldDurably}
 use Rattle.conn_serve.specs.Says.{PromisesNothing}
-use Rattle.serve_workers.specs.Served.{Served}
+use Rattle.conn_serve.specs.Tokens.{tokens_of}
+use Rattle.serve_workers.specs.Served.{Served, IsServed}
 use Rattle.serve_workers.specs.Works.{first_conn}
-use Rattle.serve_laws.specs.Durable.{IsLinkDurable}
 use Rattle.bridge_words.specs.declared.command.Server.{Server}
 use Rattle.bridge_serve.specs.Doors.{rules_of, place_for, first_worker}
 use Rattle.bridge_serve.specs.Opened.{IsOpenedDesk}
@@ -34,7 +36,8 @@ pub record HasLed (tells : Type 0) (before now : Moment) (log : List Record) : T
 -- Whatever the text acknowledges, of what was sent over the link in these bytes, is durable now. The link is the connection that has its
 -- number in the run that was opened; these bytes were read from it, and this text goes with them by its rules. The calls made for it, all
 -- but those that promise nothing, are the last of a caller in a journal that led to now; and whatever a crash leaves now stands for a
--- spool that keeps what the text acknowledges. So it is where the disk tells what it reads: over one that doesn't, nothing is said.
+-- spool that keeps what the text acknowledges, by numbers in whole frames or by a collector's replies. So it is where the disk tells what
+-- it reads: over one that doesn't, nothing is said.
 pub record IsDurable (tells : Type 0) (before now : Moment) (link : Linked) (bytes text : List ℕ) : Type 0 where
   pub one : Served
   pub bytes_are : one.bytes ≡ bytes
@@ -49,7 +52,11 @@ pub record IsDurable (tells : Type 0) (before now : Moment) (link : Linked) (byt
   pub late : List Call
   pub calls_are : one.calls ≡ made ++ late
   pub nothing_late : All PromisesNothing late
-  pub durable : tells → IsLinkDurable log caller now link.rules one
+  pub served : IsServed link.rules one
+  pub acked : tells → (numbers : List ℕ) → Acknowledges link.rules.proto text numbers → AckedIsDurable one.calls now numbers
+  pub answers : tells
+      → AnswersAreDurable link.rules.proto (tokens_of link.rules) one.conn one.left one.bytes one.calls one.text one.talk served now
+      (IsToldDurably log caller now)
 
 -- A text may be written to a link of the worker of that number, which serves by these rules, to one who has sent these bytes, once all
 -- that the text acknowledges of them is durable on the disk. `given` is the disk as it was before it was opened. A worker serves at
@@ -59,11 +66,15 @@ WorkerMayAnswer {D} tells moment given worker rules Permits =
     (k : ℕ) → k < 2 ^ 26 → (disk : D) (bytes text : List ℕ)
     → IsDurable tells (moment given) (moment disk) (record { rules = rules; worker = worker; before = k }) bytes text → Permits k bytes text
 
--- So it is at each place that the words name for a protocol, and at each of the doors that are bound there, one for each worker.
+-- At a place that the words name for a protocol, to the k-th link of one of the doors that are bound there, one for each worker, a text may
+-- be written to one who has sent these bytes, once all that the text acknowledges of them is durable on the disk. So each worker may
+-- answer. `given` is the disk as it was before it was opened. A worker serves at most 2^26 links.
 abbrev pub MayAnswer : {D : Type 0} → Type 0 → (D → Moment) → D → Server → (List ℕ → ℕ → ℕ → List ℕ → List ℕ → Type 0) → Type 0
-MayAnswer tells moment given server Permits =
+MayAnswer {D} tells moment given server Permits =
     (proto : Proto) (place : List ℕ) → place_for server proto ≡ Some place → (door : ℕ) → door < server.workers
-    → WorkerMayAnswer tells moment given (first_worker server proto + door) (rules_of server proto) (Permits place door)
+    → (k : ℕ) → k < 2 ^ 26 → (disk : D) (bytes text : List ℕ)
+    → IsDurable tells (moment given) (moment disk)
+    (record { rules = rules_of server proto; worker = first_worker server proto + door; before = k }) bytes text → Permits place door k bytes text
 
 -- Doors may be bound at the places that the words name.
 abbrev pub MayBind : Server → (List ℕ → Type 0) → Type 0

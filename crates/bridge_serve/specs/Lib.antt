@@ -3,4 +3,5 @@ pub mod Doors
 pub mod Noted
 pub mod Opened
 pub mod Promised
+pub mod Released
 pub mod Served

@@ -9,7 +9,7 @@ use Rattle.spool_log.specs.declared.opening.Opening.TheVariants.{Raise}
 use Rattle.spool_log.specs.Opening.{opened, CanOpen, IsOpening, Opens}
 use Rattle.spool_log.specs.State.{View, view}
 use Rattle.hec_ids.specs.Table.{Table}
-use Rattle.desk_access.specs.Alone.{AloneView, alone_view}
+use Rattle.spool_desk.specs.Alone.{AloneView, alone_view}
 use Rattle.desk_access.specs.Desk.{DeskState}
 use Rattle.bridge_parts.specs.Opened.{desk_in}
 

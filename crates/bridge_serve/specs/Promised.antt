@@ -11,7 +11,7 @@ use Rattle.edge_io.specs.Net.{HungUp, NetState}
 use Rattle.edge_io.specs.Told.{IsToldAs}
 use Rattle.spool_state.specs.SpoolState.{SpoolState, list, numbers_of}
 use Rattle.spool_state.specs.Image.{StandsFor}
-use Rattle.desk_access.specs.Alone.{AloneView}
+use Rattle.spool_desk.specs.Alone.{AloneView}
 use Rattle.desk_access.specs.Call.{Record, calls_of, failures_of, own_of}
 use Rattle.desk_access.specs.Desk.{DeskState, Goes}
 use Rattle.desk_access.specs.History.{AddsAll, Grows}

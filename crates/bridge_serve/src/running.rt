@@ -2,22 +2,25 @@
 ghost use Rattle.std.specs.Prelude.{◌≡◌, ◌⊎◌, ◌+◌, ◌<◌, ◌^◌, ◌≤◌, ℕ, Some, false, map, IfOk, IfErr, IfSome, option_copied, slice_get, vec_len};
 ghost use Rattle.edge_disk.specs.Calls.{Calls};
 ghost use Rattle.spool_log.specs.State.{view};
+ghost use Rattle.forward_core.specs.Exchanged.{HasExchangedAt};
 ghost use Rattle.spool_turns.specs.Named.{IsName};
 ghost use Rattle.spool_turns.specs.Replays.{desk_at, IsReal};
 ghost use Rattle.serve_workers.specs.Answering.{MayAnswer};
 ghost use Rattle.serve_workers.specs.Works.{first_conn};
+ghost use Rattle.serve_forwarder.specs.Released.{MayRelease};
 ghost use Rattle.serve_run.specs.Running.{HasServed, HasNotServed};
 ghost use Rattle.bridge_serve.specs.Answered.{WorkerMayAnswer};
 ghost use Rattle.bridge_serve.specs.Opened.{IsOpenedFrom, IsOpenedOnly};
+ghost use Rattle.bridge_serve.specs.Released.{ForwarderMayRelease};
 ghost use Rattle.bridge_serve.specs.Served.{RunsOver};
 
-use desk_access::Desk;
 use edge_disk::Disk;
 use edge_io::{Door, Net};
 use hec_ids::Ids;
 use serve_forwarder::Destination;
 use serve_run::{Served, Unserved};
 use serve_workers::Post;
+use spool_desk::Desk;
 use spool_log::Spool;
 use spool_turns::{Naming, NoShare, Unnamed};
 use std::alloc::Global;
@@ -56,6 +59,8 @@ where
     requires says { (i : ℕ) (post : _) → slice_get posts.items i ≡ Some post
         → MayAnswer (IsReal ⟦<D as Disk>⟧ J.start J.run J.seats J.began) J.start (first_conn J.run i) (N.P.permits post.door) post.rules }
     requires named { IfSome destination (λ d. N.may_dial d.now.place) }
+    requires earned { IfSome destination (λ d. MayRelease (IsReal ⟦<D as Disk>⟧ J.start J.run J.seats J.began) J.start d.now.outward
+        (HasExchangedAt N.L.same N.L.dialed N.L.given N.L.taken d.now.place) D.may_release) }
 
     ensures many { IfOk result (λ served. (vec_len served.doors ≡ vec_len posts) × (vec_len served.reports ≡ vec_len posts)) }
     ensures served { IfOk result (λ served. HasServed D.tells J.start J.run J.seats J.began talks (map (λ (post : _). post.rules) posts.items)
@@ -99,6 +104,8 @@ where
     requires answers { (i : ℕ) (post : _) → slice_get posts.items i ≡ Some post
         → WorkerMayAnswer D.tells (λ (d : D). D.moment d) before.value i post.rules (N.P.permits post.door) }
     requires dials { IfSome destination (λ d. N.may_dial d.now.place) }
+    requires releases { IfSome destination (λ d. ForwarderMayRelease D.tells (λ (d : D). D.moment d) before.value d.now.outward
+        (HasExchangedAt N.L.same N.L.dialed N.L.given N.L.taken d.now.place) D.may_release) }
 
     ensures many { IfOk result (λ served. (vec_len served.doors ≡ vec_len posts) × (vec_len served.reports ≡ vec_len posts)) }
     ensures over { IfOk result (λ served. RunsOver D.tells (D.moment before.value) (D.moment served.desk.spool.disk) talks

@@ -1,5 +1,6 @@
 //! The command `serve`.
 ghost use Rattle.std.specs.Prelude.{◌≡◌, ◌≢◌, ◌⊎◌, ℕ, ◌+◌, ◌-◌, ◌^◌, ◌<◌, ◌≤◌, List, Some, false, map, slice_get, IfSome, vec_len};
+ghost use Rattle.forward_core.specs.Exchanged.{HasExchangedAt};
 ghost use Rattle.spool_log.specs.Memory.{end_of};
 ghost use Rattle.spool_log.specs.State.{view};
 ghost use Rattle.notes.specs.declared.note.Note.TheVariants.{Usage, WrongLength, WriteFault};
@@ -13,6 +14,7 @@ ghost use Rattle.bridge_serve.specs.Answered.{WorkerMayAnswer, MayAnswer, MayBin
 ghost use Rattle.bridge_serve.specs.Doors.{destination_of};
 ghost use Rattle.bridge_serve.specs.Noted.{note_of_run, talks_of, PrintsLast};
 ghost use Rattle.bridge_serve.specs.Opened.{IsOpenedFrom};
+ghost use Rattle.bridge_serve.specs.Released.{ForwarderMayRelease, MayRelease};
 ghost use Rattle.bridge_serve.specs.Served.{IsUnserved, IsRunAt, IsServed};
 
 use crate::binding::{Posts, bind_doors};
@@ -113,6 +115,8 @@ where
     requires answers { (i : ℕ) (post : _) → slice_get posts.posts.items i ≡ Some post
         → WorkerMayAnswer D.tells (λ (d : D). D.moment d) before.value i post.rules (N.P.permits post.door) }
     requires dials { IfSome destination (λ d. N.may_dial d.place) }
+    requires releases { IfSome destination (λ d. ForwarderMayRelease D.tells (λ (d : D). D.moment d) before.value d.outward
+        (HasExchangedAt N.L.same N.L.dialed N.L.given N.L.taken d.place) D.may_release) }
     requires prints { (sink : K) (text : List ℕ) → K.permits sink text }
 
     ensures known { (result.note ≢ Usage) × ((have want : ℕ) → result.note ≢ WrongLength have want) }
@@ -170,6 +174,10 @@ where
 /// one who has sent these bytes once all that the text acknowledges of them is durable. So the caller knows at each write, and not at
 /// the end alone, that nothing is acknowledged before it is durable. Doors are bound at the places of the words alone, and the place
 /// to forward to alone is dialed.
+///
+/// No number becomes known as confirmed but by leave of the disk's type, and by `releases` that may be as little as this: a number may
+/// become known once the peer at the place to forward to has received its entry, that is has acknowledged it (`IsReceived`). So it is
+/// at each moment, too, and where the words name no such place no number becomes known at all.
 pub fn serve<D: Disk + Drop + Send, K: Sink, N: Net + Send, R: Threads + Wait + Sync>(
     rt: &R,
     alloc: Global,
@@ -188,6 +196,8 @@ where
     requires answers { MayAnswer D.tells (λ (d : D). D.moment d) disk server N.permits }
     requires binds { MayBind server N.may_bind }
     requires dials { MayDial server N.may_dial }
+    requires releases { MayRelease D.tells (λ (d : D). D.moment d) disk server
+        (HasExchangedAt N.L.same N.L.dialed N.L.given N.L.taken) D.may_release }
     requires prints { (sink : K) (text : List ℕ) → K.permits sink text }
 
     ensures known { (result.note ≢ Usage) × ((have want : ℕ) → result.note ≢ WrongLength have want) }

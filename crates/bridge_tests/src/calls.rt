@@ -5,7 +5,8 @@ use crate::script::{run_script, run_scripts};
 use crate::served::serve_places;
 use crate::waiting::wait_for_answers;
 use crate::{
-    collectors, devices, drains, faults, frames, lists, marks, requests, sessions, slots, windows,
+    collectors, devices, drains, faults, frames, lists, marks, peers, requests, sessions, slots,
+    windows,
 };
 
 #[test]
@@ -53,6 +54,9 @@ fn calls_that_fail(rt: HostRuntime) {
     run_scripts(&rt, rt.alloc(), faults::STREAMS);
     run_scripts(&rt, rt.alloc(), frames::CUTS);
     run_scripts(&rt, rt.alloc(), frames::WRONG);
+    run_scripts(&rt, rt.alloc(), frames::LONG);
+    run_scripts(&rt, rt.alloc(), peers::PEERS);
+    run_scripts(&rt, rt.alloc(), peers::LONG);
     run_scripts(&rt, rt.alloc(), devices::SPENT);
 }
 

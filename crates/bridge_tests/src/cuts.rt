@@ -2,7 +2,7 @@
 
 use crate::parts::MEMORY;
 use crate::play::{Play, plain};
-use edge_disk::MemDisk;
+use edge_memory::MemDisk;
 use notes::Note;
 use std::alloc::Global;
 use std::process::Abort;

@@ -17,7 +17,8 @@ outcome 91 text 0 4294967296 0 2 relp 5%0a
 outcome 115 text 0 4294967296 0 2 relp 5%0a
 cuts 61 78 88"#;
 
-/// Each kind of wrong frame: where it is found, and what is answered. Nothing is stored.
+/// Wrong frames, at least one for each reason that a reader of what senders send has: where it is found, and what is answered.
+/// Nothing is stored.
 pub(crate) const WRONG: &str = r#"1 8192
 - RELP
 device 16384
@@ -40,6 +41,30 @@ ends 66 fault at 8: space
 call replay relp
 in text 1 open 0 x
 ends 66 fault at 9: trailer
+call replay relp
+in text x
+ends 66 fault at 0: digits
+call replay relp
+in text 1x
+ends 66 fault at 1: space
+call replay relp
+in text 1 1
+ends 66 fault at 2: command
+call replay relp
+in text 1 a1
+ends 66 fault at 3: command
+call replay relp
+in text 1 open 0000000000
+ends 66 fault at 16: digits
+call replay relp
+in text 1 syslog 131073
+ends 66 fault at 14: too long
+call replay relp
+in text 1 open 1%0a
+ends 66 fault at 8: space
+call replay relp
+in text 1 open 1 ax
+ends 66 fault at 10: trailer
 call list
 ends 0
 same
@@ -56,6 +81,9 @@ call replay lumberjack
 in text 2X
 ends 66 fault at 1: type
 call replay lumberjack
+in text 2C
+ends 66 fault at 1: compressed
+call replay lumberjack
 in text 2A%00%00%00%01
 ends 66 fault at 1: ack from writer
 call replay lumberjack
@@ -70,6 +98,9 @@ ends 66 fault at 6: too long
 call replay lumberjack
 in text 2D%00%00%00%01%00%00%00%01%00%02%00%00
 ends 66 fault at 10: too long
+call replay lumberjack
+in text 2D%00%00%00%01%00%00%00%01%00%00%00%00%00%01%ff%f9
+ends 66 fault at 14: too long
 call list
 ends 0
 same
@@ -91,6 +122,61 @@ call replay hec --token 11111111-2222-3333-4444-555555555555
 in text POST /services/collector HTTP/1.1%0d%0aTransfer-Encoding: chunked%0d%0a%0d%0azz%0d%0a
 ends_malformed {"text":"Invalid data format","code":6}
 ends 66 fault at 65: bad chunk
+call replay hec --token 11111111-2222-3333-4444-555555555555
+in text GET / HTTP/1.1%0d%0a
+in times 65 X: y%0d%0a
+ends_malformed {"text":"Invalid data format","code":6}
+ends 66 fault at 0: bad head
+call replay hec --token 11111111-2222-3333-4444-555555555555
+in text POST /services/collector HTTP/1.1%0d%0aContent-Length: 1%0d%0aContent-Length: 1%0d%0a%0d%0a
+ends_malformed {"text":"Invalid data format","code":6}
+ends 66 fault at 0: bad length
+call replay hec --token 11111111-2222-3333-4444-555555555555
+in text POST /services/collector HTTP/1.1%0d%0aContent-Length: 1%0d%0aTransfer-Encoding: chunked%0d%0a%0d%0a
+ends_malformed {"text":"Invalid data format","code":6}
+ends 66 fault at 0: bad length
+call replay hec --token 11111111-2222-3333-4444-555555555555
+in text POST /services/collector HTTP/1.1%0d%0aTransfer-Encoding: gzip%0d%0a%0d%0a
+ends_malformed {"text":"Invalid data format","code":6}
+ends 66 fault at 0: bad length
+call replay hec --token 11111111-2222-3333-4444-555555555555
+in text POST /services/collector HTTP/1.1%0d%0aTransfer-Encoding: chunked%0d%0a%0d%0a100001%0d%0a
+ends_malformed {"text":"Invalid data format","code":6}
+ends 66 fault at 0: too long
+call replay hec --token 11111111-2222-3333-4444-555555555555
+in text POST /services/collector HTTP/1.1%0d%0aTransfer-Encoding: chunked%0d%0a%0d%0a1;
+in times 1022 x
+ends_malformed {"text":"Invalid data format","code":6}
+ends 66 fault at 65: bad chunk
+call replay hec --token 11111111-2222-3333-4444-555555555555
+in text POST /services/collector HTTP/1.1%0d%0aTransfer-Encoding: chunked%0d%0a%0d%0a1%0d%0aaX
+ends_malformed {"text":"Invalid data format","code":6}
+ends 66 fault at 69: bad chunk
+call replay hec --token 11111111-2222-3333-4444-555555555555
+in text POST /services/collector HTTP/1.1%0d%0aTransfer-Encoding: chunked%0d%0a%0d%0a0%0d%0aa b%0d%0a%0d%0a
+ends_malformed {"text":"Invalid data format","code":6}
+ends 66 fault at 68: bad chunk
+call list
+ends 0
+same"#;
+
+/// A head and a trailer without an end: the fault comes with the byte that is one too many, whatever the pieces.
+pub(crate) const LONG: &str = r#"1000 8192
+- of 16,384 bytes
+device 16384
+call format 1 4096
+out text 1 slots of 4096 bytes%0a
+ends 0
+call replay hec --token 11111111-2222-3333-4444-555555555555
+in text GET / HTTP/1.1%0d%0aX: 
+in times 16384 y
+ends_malformed {"text":"Invalid data format","code":6}
+ends 66 fault at 0: too long
+call replay hec --token 11111111-2222-3333-4444-555555555555
+in text POST /services/collector HTTP/1.1%0d%0aTransfer-Encoding: chunked%0d%0a%0d%0a0%0d%0aX: 
+in times 16381 y
+ends_malformed {"text":"Invalid data format","code":6}
+ends 66 fault at 68: bad chunk
 call list
 ends 0
 same"#;

@@ -31,6 +31,8 @@ mod meets;
 #[cfg(test)]
 mod parts;
 #[cfg(test)]
+mod peers;
+#[cfg(test)]
 mod places;
 #[cfg(test)]
 mod play;

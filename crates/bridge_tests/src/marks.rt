@@ -88,6 +88,10 @@ leaves text 0 4294967296 0 2 relp 5%0a
 leaves text
 stops
 fails disk 0 1
+fails peer_read 0
+fails peer_write 0 0 1
+fails dial 0
+fails output 1
 call drain relp there
 replies text 1 rsp 6 200 OK%0a2 rsp 6 200 OK%0a
 peer_write 1

@@ -2,8 +2,8 @@
 
 use crate::parts::MEMORY;
 use bridge_core::{Ended, bridge};
-use edge_disk::MemDisk;
 use edge_io::{MemDoor, MemNet, MemScript, MemSink, MemSource};
+use edge_memory::MemDisk;
 use notes::Note;
 use std::alloc::Global;
 use std::process::Abort;

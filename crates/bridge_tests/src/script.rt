@@ -5,8 +5,8 @@ use crate::parts::{MEMORY, add, bytes_of, number, word};
 use crate::play::{Outcome, Play};
 use crate::requests::exchange;
 use crate::sweeps::{fails_well, stops_well};
-use edge_disk::MemDisk;
 use edge_io::MemNet;
+use edge_memory::MemDisk;
 use notes::note_text;
 use std::alloc::Global;
 use std::mem;
@@ -200,9 +200,10 @@ fn looks<R: Abort + Threads + Wait + Sync>(
 ///   `leaves BYTES`: the same of a session that forwards, whatever it has written, and the last one is what it leaves where
 ///   no call of the disk fails;
 /// - `fails disk PLACES`: the call is made with each call of the disk failing once, and the last of
-///   these leave the outcomes at these places; `fails input PLACES` and `fails output PLACES`: the same of each read of the
-///   input and of each write of the output, of which all leave these, and `61*0` stands for 61 places 0; `stops`: it is made
-///   with the machine stopped at each call of the disk;
+///   these leave the outcomes at these places; `fails input PLACES`, `fails output PLACES`, `fails peer_read PLACES`, `fails
+///   peer_write PLACES` and `fails dial PLACES`: the same of each read of the input, write of the output, read or write of the
+///   peer's link and dial, of which all leave these, and `61*0` stands for 61 places 0; `stops`: it is made with the machine
+///   stopped at each call of the disk;
 /// - `cuts ENDS`: the call is made with its input cut after each number of its bytes, from none to all; its frames end at
 ///   these places, and the outcomes are those of no frame, of the first one, and so on.
 pub(crate) fn run_script<R: Abort + Threads + Wait + Sync>(

@@ -1,9 +1,8 @@
-//! A call that is made again and again, each time with another call of its disk, its input or its output failing, or with its disk
-//! stopping there.
+//! A call that is made again and again, each time with another call of one of its objects failing, or with its disk stopping there.
 
 use crate::parts::MEMORY;
 use crate::play::{Left, Play, plain};
-use edge_disk::{Crash, MemDisk};
+use edge_memory::{Crash, MemDisk};
 use std::alloc::Global;
 use std::process::Abort;
 use std::sync::Wait;
@@ -12,15 +11,17 @@ use std::thread::Threads;
 // No outcome that may be.
 const WRONG: u64 = u64::MAX;
 
-// More calls than are made of a disk, an input or an output.
+// More calls than are made of a disk, an input, an output or a link.
 const CALLS: u64 = 1000;
 
-// The statuses where a call of the disk, the input or the output failed.
+// The statuses where a call of the disk, a read, a write or a dial failed.
 const DISK_FAULT: u8 = 73;
 
 const READ_FAULT: u8 = 71;
 
 const WRITE_FAULT: u8 = 72;
+
+const NET_FAULT: u8 = 74;
 
 const CRASHES: [Crash; 5] = [
     Crash::Synced,
@@ -58,18 +59,23 @@ fn place_of(play: &Play, written: u64, lines: &[u8]) -> u64 {
     WRONG
 }
 
+// Whether the status says that a call failed.
+fn is_fault(status: u8) -> bool {
+    matches!(status, READ_FAULT | WRITE_FAULT | DISK_FAULT | NET_FAULT)
+}
+
 // Whether no call failed that has this status: the call ended well, or as the peer of a session ends it.
 fn is_over(play: &Play, fault: u8, status: u8) -> bool {
     status == 0 || (play.is_drain && status != fault)
 }
 
 // Whether the status fits what was written and the outcome: a call that ends well, and no other, writes all, and leaves the last
-// outcome. Where a read fails all may have been written. A session leaves the last one where no call of the disk fails.
+// outcome. Where a read fails all may have been written. A session leaves the last one where no call fails.
 fn is_right(play: &Play, status: u8, written: &[u8], found: u64) -> bool {
     let is_fine = status == 0;
     let is_last = found.saturating_add(1) == play.outcomes.len() as u64;
     if play.is_drain {
-        return is_last || status == DISK_FAULT;
+        return is_last || is_fault(status);
     }
     let is_whole = written.len() == play.output.len();
     let is_told = play.output.is_empty() || is_fine == is_whole || status == READ_FAULT;
@@ -105,33 +111,57 @@ fn outcome_over<R: Abort + Threads + Wait + Sync>(
     }
 }
 
-// Makes the call with the call of this number failing that has this status, and no other one. Answers the status, and the outcome.
+// The status where a call of the object of this name failed.
+fn status_of(name: &str) -> Option<u8> {
+    match name {
+        "disk" => Some(DISK_FAULT),
+        "input" | "peer_read" => Some(READ_FAULT),
+        "output" | "peer_write" => Some(WRITE_FAULT),
+        "dial" => Some(NET_FAULT),
+        _ => None,
+    }
+}
+
+// The call of this number fails of the object of this name, and no other one, but for the calls of the disk.
+fn lay(rt: &impl Abort, play: &mut Play, name: &str, number: u64) {
+    play.reads.clear();
+    play.writes.clear();
+    play.peer_reads.clear();
+    play.peer_writes.clear();
+    play.dials.clear();
+    let calls = match name {
+        "input" => &mut play.reads,
+        "output" => &mut play.writes,
+        "peer_read" => &mut play.peer_reads,
+        "peer_write" => &mut play.peer_writes,
+        "dial" => &mut play.dials,
+        _ => return,
+    };
+    calls.push(number).expect(rt, MEMORY);
+}
+
+// Makes the call with the call of this number failing of the object of this name, and no other one. Answers the status, and the
+// outcome.
 fn outcome_failing<R: Abort + Threads + Wait + Sync>(
     rt: &R,
     alloc: Global,
     play: &mut Play,
-    fault: u8,
+    name: &str,
     number: u64,
 ) -> (u8, u64) {
+    lay(rt, play, name, number);
     let mut calls = Vec::new(alloc);
-    play.reads.clear();
-    play.writes.clear();
-    if fault == DISK_FAULT {
+    if name == "disk" {
         calls.push(number).expect(rt, MEMORY);
-    } else if fault == READ_FAULT {
-        play.reads.push(number).expect(rt, MEMORY);
-    } else {
-        play.writes.push(number).expect(rt, MEMORY);
     }
     let device = play.device.to_vec(alloc).expect(rt, MEMORY);
     let found = outcome_over(rt, alloc, play, MemDisk::of(device, calls), None);
-    play.reads.clear();
-    play.writes.clear();
+    lay(rt, play, "disk", 0);
     found
 }
 
-/// Whether each call of the disk, the input or the output, where it fails alone, makes the status and leaves an outcome that may
-/// be, until none fails; and the last of these leave the outcomes at these places. Of the input and the output these are all calls.
+/// Whether each call of the object of this name, where it fails alone, makes the status and leaves an outcome that may be, until none
+/// fails; and the last of these leave the outcomes at these places. Of all objects but the disk these are all calls.
 pub(crate) fn fails_well<R: Abort + Threads + Wait + Sync>(
     rt: &R,
     alloc: Global,
@@ -139,15 +169,12 @@ pub(crate) fn fails_well<R: Abort + Threads + Wait + Sync>(
     name: &str,
     last: &[u64],
 ) -> bool {
-    let fault = match name {
-        "disk" => DISK_FAULT,
-        "input" => READ_FAULT,
-        "output" => WRITE_FAULT,
-        _ => return false,
+    let Some(fault) = status_of(name) else {
+        return false;
     };
     let mut seen = Vec::new(alloc);
     for number in 0..CALLS {
-        let (status, found) = outcome_failing(rt, alloc, play, fault, number);
+        let (status, found) = outcome_failing(rt, alloc, play, name, number);
         if is_over(play, fault, status) {
             let is_all = fault == DISK_FAULT || seen.len() == last.len();
             return is_all && found != WRONG && !seen.contains(&WRONG) && seen.ends_with(last);

@@ -4,11 +4,12 @@ ghost use Rattle.std.specs.Prelude.{◌≡◌, ◌≤◌, None, false, length, r
 use crate::parts::MEMORY;
 use crate::script::{OPEN, OPENED};
 use conn_serve::{Rules, attend};
-use desk_access::{Access, Alone, Desk};
-use edge_disk::MemDisk;
+use desk_access::Access;
 use edge_io::{Link, Object, Proto, ReadFault, Sink, Source, WriteFault};
+use edge_memory::MemDisk;
 use hec_ids::Ids;
 use notes::Note;
+use spool_desk::{Alone, Desk};
 use spool_log::{Opening, Spool, format};
 use std::alloc::Global;
 use std::process::Abort;

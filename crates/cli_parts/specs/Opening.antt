@@ -1,7 +1,7 @@
 -- What main says of a FILE that it didn't open, and how it shares one.
 use Rattle.std.specs.Prelude.{ℕ, List, codes}
-use Rattle.edge_disk.specs.declared.open_fault.OpenFault.{OpenFault}
-use Rattle.edge_disk.specs.declared.open_fault.OpenFault.TheVariants.{NotFound, NotAllowed, IsFolder, InUse, Other}
+use Rattle.edge_file.specs.declared.open_fault.OpenFault.{OpenFault}
+use Rattle.edge_file.specs.declared.open_fault.OpenFault.TheVariants.{NotFound, NotAllowed, IsFolder, InUse, Other}
 use Rattle.bridge_words.specs.declared.command.ListForm.{ListForm}
 use Rattle.bridge_words.specs.declared.command.Command.{Command}
 use Rattle.bridge_words.specs.declared.command.Command.TheVariants.{List as ListCommand}

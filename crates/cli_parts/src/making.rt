@@ -1,5 +1,5 @@
 //! How FILE is made.
-use edge_disk::{FileDisk, OpenFault};
+use edge_file::{FileDisk, OpenFault};
 use std::fs::{File, OpenOptions};
 use std::io;
 use std::os::unix::fs::{FileExt, OpenOptionsExt};

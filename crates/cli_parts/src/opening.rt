@@ -1,10 +1,10 @@
 //! How FILE is opened, and why it isn't.
 ghost use Rattle.std.specs.Prelude.{◌≡◌, ◌↔◌, IfOk, map, string_bytes};
-ghost use Rattle.edge_disk.specs.declared.open_fault.Sharing.TheVariants.{Shared};
+ghost use Rattle.edge_file.specs.declared.open_fault.Sharing.TheVariants.{Shared};
 ghost use Rattle.cli_parts.specs.Opening.{open_text, IsList, AreList};
 
 use bridge_words::Command;
-use edge_disk::{OpenFault, Sharing};
+use edge_file::{OpenFault, Sharing};
 use std::alloc::{AllocError, Global};
 use std::io::IsTerminal;
 

@@ -88,6 +88,8 @@ impl<D: Disk> Disk for Watched<'_, D> {
 
     ghost moment = { λ w. D.moment w.disk };
 
+    ghost may_release = { D.may_release };
+
     ghost reads_too = { λ w images. D.reads_too w.disk images };
 
     ghost fits = { λ w. D.fits w.disk };

@@ -71,10 +71,10 @@ module _ (tokens : Tokens) (conn : ℕ) (b : List ℕ) (calls : List Call) (text
       (λ channel id. IsIdTakenDurably calls now id)
   answers Relp has = tt
   answers Lumberjack has = tt
-  answers Hec has = record {
-    stored = stored_durably tokens conn has.left b (calls ++ has.late) text has.talk now has.carried (keeps_all Hec has);
-    told = told_true has;
-  }
+  answers Hec has = (
+    stored_durably tokens conn has.left b (calls ++ has.late) text has.talk now has.carried (keeps_all Hec has),
+    told_true has,
+  )
 
 -- what a connection has carried, whose calls were stored
 pub is_durable : (tells : Type 0) (before now : Moment) (rules : Rules) (conn : ℕ) (bytes : List ℕ) (calls : List Call) (text : List ℕ)

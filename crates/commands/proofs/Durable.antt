@@ -1,6 +1,7 @@
 -- What was acknowledged over a connection that alone uses the spool is durable.
-use Rattle.std.proofs.Common.{◌≡◌, ◌*◌, ◌^◌, ℕ, List, Option, refl, subst}
+use Rattle.std.proofs.Common.{◌≡◌, ◌*◌, ◌^◌, ◌∙◌, ℕ, List, [], Option, refl, sym, subst}
 use Rattle.std.specs.Prelude.{Bool, false}
+use Rattle.std.proofs.lemmas.List.{append-nil}
 use Rattle.event_form.specs.declared.talk.Talk.{Talk}
 use Rattle.edge_io.specs.declared.proto.Proto.{Proto}
 use Rattle.edge_io.specs.declared.proto.Proto.TheVariants.{Relp, Lumberjack, Hec}
@@ -13,7 +14,9 @@ use Rattle.spool_log.specs.Opening.{opened, IsOpening, Opens}
 use Rattle.spool_log.specs.State.{view}
 use Rattle.desk_access.specs.Call.{Call}
 use Rattle.desk_access.specs.Durable.{IsIdTakenDurably, KeepsCalls}
+use Rattle.desk_access.specs.Journal.{own_by}
 use Rattle.desk_access.proofs.Durable.{one_durable}
+use Rattle.desk_access.proofs.Since.{since_taken}
 use Rattle.conn_serve.specs.declared.rules.Rules.{Rules}
 use Rattle.conn_serve.specs.Acked.{Acknowledges}
 use Rattle.conn_serve.specs.Durable.{AckedIsDurable, AnswersAreDurable}
@@ -44,13 +47,13 @@ answers_are_durable : (proto : Proto) (tokens : Tokens) (conn : ℕ) (left : Opt
 answers_are_durable Relp tokens conn left b calls text talk old new carried stored = tt
 answers_are_durable Lumberjack tokens conn left b calls text talk old new carried stored = tt
 answers_are_durable Hec tokens conn left b calls text talk old new carried stored =
-    let keeps = keeps_calls conn calls old new stored in record {
-      stored = stored_durably tokens conn left b calls text talk new carried keeps;
-      told = λ channel id says.
+    let keeps = keeps_calls conn calls old new stored in (
+      stored_durably tokens conn left b calls text talk new carried keeps,
+      λ channel id says.
           let group = told_is_taken tokens conn left b calls text talk carried (desk_in (opened Raise stored.state)) stored.reached.after 0
           stored.reached.records refl stored.reached.goes stored.reached.by channel id says in
-          (group.0, group.2, record { taken = group.1; durable = one_durable new calls group.0 keeps group.1 });
-    }
+          (group.0, group.2, record { taken = group.1; durable = one_durable new calls group.0 keeps group.1 }),
+    )
 
 -- A link that was served over a spool, which was opened from a device.
 module _ (rules : Rules) (tells same : Type 0) (old mid new : Moment) (memory : Memory) (doubt : Bool) (sure : doubt ≡ false)
@@ -94,4 +97,8 @@ module _ (rules : Rules) (tells same : Type 0) (old mid new : Moment) (memory : 
         acknowledged = λ numbers told says.
             acked_is_durable rules.proto tokens conn link.left_after serves.bytes serves.calls serves.text talk old new numbers serves.carried (made told) says;
         answered = λ told. answers_are_durable rules.proto tokens conn link.left_after serves.bytes serves.calls serves.text talk old new serves.carried (made told);
+        since = λ told.
+            let stored = made told in
+            since_taken stored.reached.records new stored.stays 0 [] serves.calls []
+            (own_by 0 serves.calls stored.reached.records stored.reached.by ∙ sym (append-nil serves.calls));
       }

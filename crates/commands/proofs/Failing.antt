@@ -9,7 +9,7 @@ use Rattle.edge_disk.specs.Calls.{Calls}
 use Rattle.edge_disk.proofs.Calls.{calls_on}
 use Rattle.hec_session.specs.declared.tokens.Tokens.{Tokens}
 use Rattle.desk_access.specs.Call.{Call, failures_of}
-use Rattle.desk_access.specs.Alone.{AloneView, Ran}
+use Rattle.spool_desk.specs.Alone.{AloneView, Ran}
 use Rattle.desk_access.specs.Journal.{calls_by}
 use Rattle.conn_serve.specs.DiskFaults.{TellsFailures}
 use Rattle.conn_serve.specs.Serves.{CarriedAs}

@@ -5,8 +5,8 @@ use Rattle.std.proofs.lemmas.List.{take_more, take_all, map-append}
 use Rattle.std.proofs.lemmas.List.Elements.{All-nil, All-cons, All-same, All-drop}
 use Rattle.event_form.specs.Entry.{IsEntry}
 use Rattle.spool_state.specs.Left.{NumberedEntry}
-use Rattle.spool_log.specs.declared.reading.numbered.Numbered.{Numbered}
-use Rattle.spool_log.specs.Outcome.{given_entries, AreNumbered}
+use Rattle.spool_answers.specs.declared.numbered.Numbered.{Numbered}
+use Rattle.spool_answers.specs.Pend.{given_entries, AreNumbered}
 use Rattle.bridge_words.specs.declared.command.ListForm.{ListForm}
 use Rattle.notes.specs.declared.note.Note.{Note}
 use Rattle.notes.specs.declared.note.Note.TheVariants.{Fine}

@@ -12,3 +12,4 @@ pub mod Firsts
 pub mod Hanging
 pub mod Durable
 pub mod Answering
+pub mod Releasing

@@ -6,7 +6,7 @@ use Rattle.spool_state.specs.SpoolState.{SpoolState, end}
 use Rattle.desk_access.specs.Call.{Call, Record, AreBy, failures_of}
 use Rattle.desk_access.specs.Journal.{calls_by}
 use Rattle.desk_access.specs.Desk.{DeskState}
-use Rattle.desk_access.specs.Alone.{AloneView, IsAt, Ran, HasSeen, LeadsFrom}
+use Rattle.spool_desk.specs.Alone.{AloneView, IsAt, Ran, HasSeen, LeadsFrom}
 use Rattle.forward_core.specs.Forwarded.{Asked}
 use Rattle.forward_core.specs.declared.sent.Sent.{Sent}
 use Rattle.forward_core.specs.declared.sent.Sent.TheVariants as Ending

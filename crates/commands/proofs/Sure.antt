@@ -11,15 +11,16 @@ use Rattle.spool_state.specs.SpoolState.{SpoolState}
 use Rattle.spool_state.specs.Image.{StandsFor}
 use Rattle.spool_state.specs.Left.{NumberedEntry, left, left_from}
 use Rattle.spool_state.proofs.Lefts.{left_from-cursor}
-use Rattle.spool_log.specs.declared.reading.numbered.Numbered.{Numbered}
-use Rattle.spool_log.specs.declared.fault.PendFault.{PendFault}
-use Rattle.spool_log.specs.declared.fault.PendFault.TheVariants as Pend
+use Rattle.spool_answers.specs.declared.numbered.Numbered.{Numbered}
+use Rattle.spool_answers.specs.declared.fault.PendFault.{PendFault}
+use Rattle.spool_answers.specs.declared.fault.PendFault.TheVariants as Pend
 use Rattle.spool_log.specs.declared.fault.RecoverFault.{RecoverFault}
 use Rattle.spool_log.specs.declared.fault.RecoverFault.TheVariants as Recover
 use Rattle.spool_log.specs.declared.opening.Opening.TheVariants.{Keep}
 use Rattle.spool_log.specs.State.{View, IsIn}
 use Rattle.spool_log.specs.Opening.{IsRefusing, IsRefusedAs}
-use Rattle.spool_log.specs.Outcome.{IsNotBroken, Pends, PendsFrom, given_entries}
+use Rattle.spool_log.specs.Outcome.{PendsFrom}
+use Rattle.spool_answers.specs.Pend.{IsNotBroken, Pends, given_entries}
 use Rattle.conn_serve.specs.Endings.{CountsFaults}
 use Rattle.conn_serve.proofs.Faults.{counts_none}
 use Rattle.bridge_words.specs.declared.command.ListForm.{ListForm}

@@ -10,7 +10,7 @@ use Rattle.spool_state.specs.Left.{left}
 use Rattle.spool_state.specs.Image.{StandsFor}
 use Rattle.spool_log.specs.declared.fault.RecoverFault.{RecoverFault}
 use Rattle.desk_access.specs.Call.{Call}
-use Rattle.spool_log.specs.Stages.{IsOneOf}
+use Rattle.spool_answers.specs.Stages.{IsOneOf}
 use Rattle.desk_access.specs.Desk.{DeskState, Stood}
 use Rattle.forward_core.specs.declared.sent.Sent.{Sent}
 use Rattle.forward_core.specs.declared.sent.Sent.TheVariants as Sending

@@ -7,4 +7,5 @@ pub mod Replayed
 pub mod Answered
 pub mod Drained
 pub mod Sending
+pub mod Released
 pub mod Loading

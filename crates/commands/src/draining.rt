@@ -11,6 +11,7 @@ ghost use Rattle.bridge_parts.specs.Pending.{pending_in};
 ghost use Rattle.bridge_parts.specs.Run.{both_run, disk_run, input_run, output_run};
 ghost use Rattle.commands.specs.Drained.{IsDrained, IsSession};
 ghost use Rattle.commands.specs.Failed.{CountsWrites};
+ghost use Rattle.commands.specs.Released.{MayMark, MayRelease, WereStreamed};
 ghost use Rattle.commands.specs.Sending.{IsSentOut, SendsFrom};
 ghost use Rattle.commands.specs.SpoolRun.{spool_run};
 
@@ -36,6 +37,8 @@ fn send_both<D: Disk, S: Source, K: Sink, Z: Pause>(
     requires prints { (k : K) (text : List ℕ) → K.permits k text }
     requires sure { spool.doubt ≡ false }
     requires polls { 0 < outward.now.polls }
+    requires releases { MayMark (λ (now : D). spool_run D.tells D.moment spool.memory spool.disk now) outward.now
+        (WereStreamed S.same S.given input.old K.same K.taken output.old) D.may_release }
 
     ensures calls { Calls (result.sent ≡ Ending.DiskFault) (D.moment spool.disk) (D.moment result.spool.disk) }
     ensures reads { sending.CountsFaults (result.sent ≡ Ending.ReadFault) (S.read_faults input.old) (S.read_faults input.new) }
@@ -64,6 +67,8 @@ fn send_out<D: Disk, S: Source, K: Sink, Z: Pause>(
     requires prints { (k : K) (text : List ℕ) → K.permits k text }
     requires sure { spool.doubt ≡ false }
     requires polls { 0 < outward.now.polls }
+    requires releases { MayMark (λ (now : D). spool_run D.tells D.moment spool.memory spool.disk now) outward.now
+        (WereStreamed S.same S.given input.old K.same K.taken output.old) D.may_release }
 
     ensures known { (result.note ≢ Usage) × ((have want : ℕ) → result.note ≢ WrongLength have want) }
     ensures calls { Calls (result.note ≡ Note.DiskFault) (D.moment spool.disk) (D.moment result.disk) }
@@ -90,6 +95,9 @@ fn send_out<D: Disk, S: Source, K: Sink, Z: Pause>(
 ///
 /// Where none is pending nothing is read or written, and the note is `Fine`. `NotSpool` comes where the device breaks a rule of the
 /// layout, with the offset of the first one, and then nothing is read or written. Else the note is that of the session's ending.
+///
+/// `releases` is the leave to make numbers known as confirmed, which the caller gives: a number may become known once the peer has
+/// received its entry, that is has acknowledged it (`IsReceived`). No other number does, also where the call never returns.
 pub fn drain_out<D: Disk, S: Source, K: Sink, N: Net>(
     alloc: Global,
     outward: &Outward,
@@ -100,6 +108,8 @@ pub fn drain_out<D: Disk, S: Source, K: Sink, N: Net>(
 ) -> Finished<D>
     requires prints { (k : K) (text : List ℕ) → K.permits k text }
     requires polls { 0 < outward.now.polls }
+    requires releases { MayRelease D.tells D.moment disk outward.now
+        (WereStreamed S.same S.given input.old K.same K.taken output.old) D.may_release }
 
     ensures told { N.told net.new ≡ N.told net.old }
     ensures drained { IsDrained outward.now (disk_run D.tells D.moment disk result.disk)

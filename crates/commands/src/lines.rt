@@ -2,7 +2,7 @@
 ghost use Rattle.std.specs.Prelude.{◌≡◌, ◌≢◌, ◌⊎◌, ℕ, List, [], ◌∷◌, ◌++◌, IfOk, IfErr, OnOk};
 ghost use Rattle.std.specs.Io.KnownBytes.{Appends};
 ghost use Rattle.foundation.specs.Faults.{HasCause};
-ghost use Rattle.spool_log.specs.Outcome.{given_entries, AreNumbered};
+ghost use Rattle.spool_answers.specs.Pend.{given_entries, AreNumbered};
 ghost use Rattle.conn_serve.specs.Endings.{CountsFaults};
 ghost use Rattle.event_form.specs.Entry.{IsEntry};
 ghost use Rattle.notes.specs.declared.note.Note.TheVariants.{WriteFault, DiskFault};
@@ -14,7 +14,7 @@ use edge_io::{Sink, Stopped, write_whole};
 use event_form::{Blob, Entry};
 use event_map::{as_hec_object, as_json_object, as_text};
 use notes::Note;
-use spool_log::Numbered;
+use spool_answers::Numbered;
 use std::alloc::{AllocError, Global};
 
 /// Lines are held until they have so many bytes, and are written then.

@@ -2,6 +2,7 @@
 ghost use Rattle.std.specs.Prelude.{◌≡◌, ◌≢◌, ◌⊎◌, ◌<◌, ℕ, List, false};
 ghost use Rattle.edge_disk.specs.Calls.{Calls};
 ghost use Rattle.conn_serve.specs.Endings.{CountsFaults};
+ghost use Rattle.forward_core.specs.Exchanged.{HasExchanged, HasExchangedAt};
 ghost use Rattle.notes.specs.declared.note.Note.TheVariants.{Usage, WrongLength, WriteFault};
 ghost use Rattle.bridge_words.specs.Lines.{drain_line};
 ghost use Rattle.bridge_parts.specs.Counted.{RoseBy, WroteAfter, WritesOfBoth};
@@ -10,6 +11,7 @@ ghost use Rattle.bridge_parts.specs.Run.{disk_run, net_run, output_run};
 ghost use Rattle.bridge_parts.specs.Written.{IsPrinted};
 ghost use Rattle.commands.specs.Drained.{PrintsOf, IsDrainedTo};
 ghost use Rattle.commands.specs.Failed.{TellsNetFault};
+ghost use Rattle.commands.specs.Released.{MayMark, MayRelease};
 ghost use Rattle.commands.specs.Sending.{IsSentOver, IsSentTo, new_link};
 ghost use Rattle.commands.specs.SpoolRun.{spool_run};
 
@@ -77,6 +79,8 @@ fn send_over<D: Disk, K: Sink, N: Net>(
     requires prints { (k : K) (text : List ℕ) → K.permits k text }
     requires sure { spool.doubt ≡ false }
     requires polls { 0 < outward.now.polls }
+    requires releases { MayMark (λ (now : D). spool_run D.tells D.moment spool.memory spool.disk now) outward.now
+        (HasExchanged N.L.same N.L.given N.L.taken link) D.may_release }
     requires room { N.has_room net.old }
 
     ensures known { (result.note ≢ Usage) × ((have want : ℕ) → result.note ≢ WrongLength have want) }
@@ -113,6 +117,8 @@ fn send_there<D: Disk, K: Sink, N: Net>(
     requires named { N.may_dial place.now }
     requires sure { spool.doubt ≡ false }
     requires polls { 0 < outward.now.polls }
+    requires releases { MayMark (λ (now : D). spool_run D.tells D.moment spool.memory spool.disk now) outward.now
+        (HasExchangedAt N.L.same N.L.dialed N.L.given N.L.taken place.now) D.may_release }
 
     ensures known { (result.note ≢ Usage) × ((have want : ℕ) → result.note ≢ WrongLength have want) }
     ensures calls { Calls (result.note ≡ Note.DiskFault) (D.moment spool.disk) (D.moment result.disk) }
@@ -141,6 +147,9 @@ fn send_there<D: Disk, K: Sink, N: Net>(
 /// dialed, and the line says so. `NetFault` comes where a dial failed, and then nothing is printed. The line is printed after each
 /// ending of the session but want of memory; before it the link is hung up. The note is that of the session's ending, or where that is
 /// `Fine` that of the print.
+///
+/// `releases` is the leave to make numbers known as confirmed: a number may become known once the peer at the place has received its
+/// entry, that is has acknowledged it (`IsReceived`). No other number does, also where the call never returns.
 pub fn drain_to<D: Disk, K: Sink, N: Net>(
     alloc: Global,
     outward: &Outward,
@@ -152,6 +161,8 @@ pub fn drain_to<D: Disk, K: Sink, N: Net>(
     requires prints { (k : K) (text : List ℕ) → K.permits k text }
     requires named { N.may_dial place.now }
     requires polls { 0 < outward.now.polls }
+    requires releases { MayRelease D.tells D.moment disk outward.now
+        (HasExchangedAt N.L.same N.L.dialed N.L.given N.L.taken place.now) D.may_release }
 
     ensures { IsDrainedTo outward.now place.now (disk_run D.tells D.moment disk result.disk)
         (net_run N.told net.old net.new) (output_run K.taken K.write_faults output.old output.new) result.note }

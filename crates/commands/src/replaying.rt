@@ -13,11 +13,11 @@ ghost use Rattle.commands.specs.SpoolRun.{spool_run};
 use crate::finished::Finished;
 use bridge_parts::recover_note;
 use conn_serve::{Rules, attend};
-use desk_access::{Alone, Desk};
 use edge_disk::Disk;
 use edge_io::{Both, Link, Sink, Source};
 use hec_ids::Ids;
 use notes::Note;
+use spool_desk::{Alone, Desk};
 use spool_log::{Opening, Refusal, Spool};
 use std::alloc::Global;
 

@@ -2,20 +2,22 @@
 ghost use Rattle.std.specs.Prelude.{◌≡◌, ◌↔◌, ◌≤◌, ◌<◌, ℕ, List, false, IsTrue};
 ghost use Rattle.edge_disk.specs.Calls.{Calls};
 ghost use Rattle.spool_log.specs.Memory.{cursor_of, end_of};
+ghost use Rattle.forward_core.specs.Exchanged.{HasExchanged};
 ghost use Rattle.forward_core.specs.Forwarded.{CountsFaults, CountsWrites};
 ghost use Rattle.forward_core.specs.Turning.{IsHalt};
 ghost use Rattle.forward_core.specs.declared.sent.Sent.TheVariants as Ending;
 ghost use Rattle.bridge_parts.specs.Pending.{pending_in};
 ghost use Rattle.bridge_parts.specs.Run.{link_run};
 ghost use Rattle.commands.specs.Drained.{IsSession};
+ghost use Rattle.commands.specs.Released.{MayMark};
 ghost use Rattle.commands.specs.Sending.{SendsFrom};
 ghost use Rattle.commands.specs.SpoolRun.{spool_run};
 
-use desk_access::{Alone, Desk};
 use edge_disk::Disk;
 use edge_io::{Link, Pause};
 use forward_core::{Outward, Sent, forward};
 use hec_ids::Ids;
+use spool_desk::{Alone, Desk};
 use spool_log::Spool;
 use std::alloc::Global;
 
@@ -35,6 +37,7 @@ pub(crate) fn is_idle<D: Disk>(spool: &Spool<D>) -> bool
 
 /// Holds one session over the link: forwards the entries that aren't known as confirmed, from the spool's cursor to its end, by these
 /// settings, and marks those that the peer acknowledges. `rest` is the net, which waits where the protocol asks again after a while.
+/// `releases` is the leave to mark them, once the peer has acknowledged them.
 pub(crate) fn send<D: Disk, L: Link, Z: Pause>(
     alloc: Global,
     outward: &Outward,
@@ -45,6 +48,8 @@ pub(crate) fn send<D: Disk, L: Link, Z: Pause>(
     requires free { (link : L) (text : List ℕ) → L.permits link text }
     requires sure { spool.doubt ≡ false }
     requires polls { 0 < outward.now.polls }
+    requires releases { MayMark (λ (now : D). spool_run D.tells D.moment spool.memory spool.disk now) outward.now
+        (HasExchanged L.same L.given L.taken link.old) D.may_release }
 
     ensures calls { Calls (result.sent ≡ Ending.DiskFault) (D.moment spool.disk) (D.moment result.spool.disk) }
     ensures reads { CountsFaults (result.sent ≡ Ending.ReadFault) (L.read_faults link.old) (L.read_faults link.new) }

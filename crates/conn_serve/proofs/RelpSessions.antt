@@ -5,9 +5,9 @@ use Rattle.std.proofs.lemmas.List.{append-nil}
 use Rattle.event_form.specs.declared.talk.Talk.{Talk}
 use Rattle.event_form.specs.declared.talk.Talk.TheVariants.{NoMemory, Closed}
 use Rattle.event_form.specs.declared.event.Event.{Event}
-use Rattle.spool_log.specs.declared.fault.TakeFault.{TakeFault}
-use Rattle.spool_log.specs.declared.fault.TakeFault.TheVariants as take
-use Rattle.spool_log.specs.Changing.Take.{IsRefusal}
+use Rattle.spool_answers.specs.declared.fault.TakeFault.{TakeFault}
+use Rattle.spool_answers.specs.declared.fault.TakeFault.TheVariants as take
+use Rattle.spool_answers.specs.Take.{IsRefusal}
 use Rattle.relp_session.specs.Answer.{IsAnswer, hint}
 use Rattle.event_form.specs.declared.talk.Why.{Why}
 use Rattle.relp_frame.specs.declared.frame.Frame.{Frame}

@@ -1,16 +1,17 @@
 -- What the sender of a connection may rely on once it has read an acknowledgment.
-use Rattle.std.specs.Prelude.{ℕ, List, Option}
+use Rattle.std.specs.Prelude.{◌≡◌, ℕ, ◌^◌, ◌≤◌, List, [], ◌∷◌, ◌++◌, Option}
+use Rattle.std.specs.List.{Contains}
+use Rattle.event_form.specs.declared.event.Entry.{Entry}
 use Rattle.event_form.specs.declared.talk.Talk.{Talk}
 use Rattle.edge_io.specs.declared.proto.Proto.{Proto}
 use Rattle.edge_io.specs.declared.proto.Proto.TheVariants.{Relp, Lumberjack, Hec}
 use Rattle.edge_disk.specs.Disk.{Moment}
-use Rattle.http_edge.specs.declared.request.HttpItem.{HttpItem}
 use Rattle.hec_session.specs.declared.tokens.Tokens.{Tokens}
-use Rattle.desk_access.specs.Call.{Call}
-use Rattle.desk_access.specs.Carried.{Carried}
-use Rattle.desk_access.specs.Durable.{AreDurable, IsTakenDurably}
-use Rattle.desk_access.specs.Groups.{Group}
-use Rattle.desk_access.specs.Protocol.{Protocol}
+use Rattle.desk_access.specs.Call.{Call, Record, calls_of, own_of}
+use Rattle.desk_access.specs.Durable.{AreDurable, IsTakenDurably, IsToldTrue, left_since}
+use Rattle.desk_access.specs.Groups.{Group, IsOfId, groups_of}
+use Rattle.desk_access.specs.History.{AddsAll}
+use Rattle.desk_access.specs.Legal.{of_unit}
 use Rattle.conn_serve.specs.Acked.{AreOfFirst}
 use Rattle.conn_serve.specs.HecAcked.{AcknowledgesGroup, TellsTrue}
 use Rattle.conn_serve.specs.Serves.{CarriedAs}
@@ -21,17 +22,33 @@ pub record AckedIsDurable (calls : List Call) (now : Moment) (numbers : List ℕ
   pub taken : AreOfFirst calls numbers
   pub durable : AreDurable now taken.groups
 
--- What a collector's replies acknowledged is durable: the group of a Success without an id, which the connection's calls took; and of
--- each id of a channel for which an answer said true what `TrueMeans` says. That is no one thing, since the id's group may have been
--- taken by another connection, where there are others.
-pub record RepliesAreDurable {p : Protocol HttpItem} {left : Option (List ℕ)} {b : List ℕ} {calls : List Call} {text : List ℕ} {talk : Talk}
-    (carried : Carried p left b calls text talk) (now : Moment) (TrueMeans : ℕ → ℕ → Type 0) : Type 0 where
-  pub stored : (group : Group) → AcknowledgesGroup carried group → IsTakenDurably calls now group
-  pub told : (channel id : ℕ) → TellsTrue carried channel id → TrueMeans channel id
-
--- so it is by the collector's protocol; the others acknowledge by numbers alone
+-- What a connection's answers acknowledged beside numbers. By the collector's protocol the group of a Success without an id, which the
+-- connection's calls took, is durable; and so it is, as `TrueMeans` says, of each id of a channel for which an answer said true. That is
+-- no one thing, since the id's group may have been taken by another connection, where there are others. The other protocols acknowledge by
+-- numbers alone.
 abbrev pub AnswersAreDurable : (proto : Proto) (tokens : Tokens) (conn : ℕ) (left : Option (List ℕ)) (b : List ℕ) (calls : List Call)
     (text : List ℕ) (talk : Talk) → CarriedAs proto tokens conn left b calls text talk → Moment → (ℕ → ℕ → Type 0) → Type 0
 AnswersAreDurable Relp tokens conn left b calls text talk carried now TrueMeans = Unit {0}
 AnswersAreDurable Lumberjack tokens conn left b calls text talk carried now TrueMeans = Unit {0}
-AnswersAreDurable Hec tokens conn left b calls text talk carried now TrueMeans = RepliesAreDurable carried now TrueMeans
+AnswersAreDurable Hec tokens conn left b calls text talk carried now TrueMeans =
+    ((group : Group) → AcknowledgesGroup carried group → IsTakenDurably calls now group)
+    × ((channel id : ℕ) → TellsTrue carried channel id → TrueMeans channel id)
+
+-- The caller of that number asked about the id and was answered true. Before that question some caller, itself or another, had taken
+-- the id's group, and it is durable now, and has been since the question was answered. Where the id is a number from 2^32 on, that
+-- group is all that the journal added with the id.
+pub record IsToldDurably (log : List Record) (number : ℕ) (now : Moment) (channel id : ℕ) : Type 0 where
+  pub before : List Record
+  pub question : Record
+  pub after : List Record
+  pub parts : log ≡ before ++ question ∷ after
+  pub by : question.by ≡ number
+  pub told : IsToldTrue channel id question.call
+  pub taker : ℕ
+  pub group : Group
+  pub of_id : IsOfId id group
+  pub taken : Contains (groups_of (own_of taker before)) group
+  pub durable : AreDurable now (group ∷ [])
+  pub answered : question.clock ≤ now.clock
+  pub since : AreDurable (left_since question.clock now) (group ∷ [])
+  pub whole : 2 ^ 32 ≤ id → (added : List Entry) → AddsAll (calls_of log) added → of_unit id added ≡ group.entries

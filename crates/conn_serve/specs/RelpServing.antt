@@ -7,8 +7,8 @@ use Rattle.relp_session.specs.declared.act.RelpAct.{RelpAct}
 use Rattle.relp_session.specs.Answer.{IsAnswer, hint}
 use Rattle.relp_session.specs.declared.state.State.{State}
 use Rattle.relp_session.specs.Session.{state_after}
-use Rattle.spool_log.specs.declared.fault.TakeFault.{TakeFault}
-use Rattle.spool_log.specs.Changing.Take.{IsRefusal}
+use Rattle.spool_answers.specs.declared.fault.TakeFault.{TakeFault}
+use Rattle.spool_answers.specs.Take.{IsRefusal}
 use Rattle.desk_access.specs.Call.{Call}
 use Rattle.desk_access.specs.Protocol.{IsNothing}
 use Rattle.conn_serve.specs.Handled.{Handled}

@@ -10,7 +10,7 @@ ghost use Rattle.conn_serve.specs.Hec.{entries_of};
 
 use desk_access::Access;
 use event_form::{Entry, Event};
-use spool_log::{Receipt, TakeFault};
+use spool_answers::{Receipt, TakeFault};
 use std::alloc::{AllocError, Global};
 
 /// A connection, as the entries of the spool know it.

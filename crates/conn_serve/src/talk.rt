@@ -8,7 +8,7 @@ ghost use Rattle.conn_serve.specs.Relp.{talk_of};
 
 use edge_io::{Link, write_whole};
 use event_form::Talk;
-use spool_log::TakeFault;
+use spool_answers::TakeFault;
 
 /// The ending by a take that wasn't answered Ok.
 pub fn talk_of(fault: TakeFault) -> Talk

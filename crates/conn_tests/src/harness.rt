@@ -3,12 +3,14 @@ ghost use Rattle.std.specs.Prelude.{◌<◌};
 
 use crate::fields::{bytes_of, number_of, numbers_of};
 use conn_serve::{Rules, attend};
-use desk_access::{Access, Alone, Desk};
-use edge_disk::MemDisk;
+use desk_access::Access;
 use edge_io::{Both, MemSink, MemSource, Proto};
+use edge_memory::MemDisk;
 use event_form::{Attended, Origin};
 use hec_ids::Ids;
-use spool_log::{Numbered, Opening, Spool, format};
+use spool_answers::Numbered;
+use spool_desk::{Alone, Desk};
+use spool_log::{Opening, Spool, format};
 use std::alloc::Global;
 use std::process::Abort;
 

@@ -1,5 +1,5 @@
 -- What lasts after the calls of a journal.
-use Rattle.std.proofs.Common.{◌≡◌, ◌⊎◌, inl, inr, ℕ, ◌+◌, ◌^◌, ◌≤◌, ◌<◌, List, [], ◌∷◌, ◌++◌, length, take, drop, Option, refl, sym, ◌∙◌, ap, subst, arith}
+use Rattle.std.proofs.Common.{◌≡◌, ◌⊎◌, inl, inr, ℕ, ◌+◌, ◌≤◌, ◌<◌, List, [], ◌∷◌, ◌++◌, length, take, drop, Option, refl, sym, ◌∙◌, ap, subst, arith}
 use Rattle.std.specs.Prelude.{Result, Ok, Err}
 use Rattle.std.proofs.lemmas.Bool.{cases_lt}
 use Rattle.std.proofs.lemmas.List.{append-nil}
@@ -8,25 +8,20 @@ use Rattle.known_numbers.specs.declared.stretch.Stretch.{Stretch}
 use Rattle.spool_state.specs.SpoolState.{SpoolState, base, end, entry_at, Follows, IsSound}
 use Rattle.spool_state.specs.Image.{StandsFor}
 use Rattle.spool_state.proofs.Following.{follows_self}
-use Rattle.spool_log.specs.declared.fault.Receipt.{Receipt}
-use Rattle.spool_log.specs.declared.fault.TakeFault.TheVariants as Take
-use Rattle.spool_log.specs.declared.fault.ConfirmFault.{ConfirmFault}
-use Rattle.spool_log.specs.declared.fault.ConfirmFault.TheVariants as Confirm
-use Rattle.spool_log.specs.Stages.{IsOneOf, StandsForOne, IsMidway, AllFollow, group_stages, known_stages, last_of}
-use Rattle.spool_log.specs.Changing.Mark.{all_below, mark_stages}
-use Rattle.spool_log.specs.State.{View, IsIn}
-use Rattle.spool_log.proofs.Changes.Adding.{adding_follow}
-use Rattle.hec_ids.specs.Table.{Table}
-use Rattle.hec_ids.specs.Table as Ids
-use Rattle.hec_ids.specs.Rows.{opened}
+use Rattle.spool_answers.specs.declared.fault.Receipt.{Receipt}
+use Rattle.spool_answers.specs.declared.fault.TakeFault.TheVariants as Take
+use Rattle.spool_answers.specs.declared.fault.ConfirmFault.{ConfirmFault}
+use Rattle.spool_answers.specs.declared.fault.ConfirmFault.TheVariants as Confirm
+use Rattle.spool_answers.specs.Stages.{IsOneOf, StandsForOne, IsMidway, AllFollow, group_stages, known_stages, last_of}
+use Rattle.spool_answers.specs.Mark.{all_below, mark_stages}
+use Rattle.spool_answers.proofs.Adding.{adding_follow}
 use Rattle.desk_access.specs.declared.standing.Standing.{Standing}
 use Rattle.desk_access.specs.Call.{Call, takes, confirms, marks, Record, calls_of}
-use Rattle.desk_access.specs.Desk.{DeskState, desk_of, Answers, Goes, changing, StandsWithin, Stood}
+use Rattle.desk_access.specs.Desk.{DeskState, Answers, Goes, changing, StandsWithin, Stood}
 use Rattle.desk_access.specs.History.{IsLater, IsDesk, Grown, Grows, IsKept, AreKept, IsCallKept, AllKept, written_by, Was}
-use Rattle.desk_access.specs.Alone.{AloneView, alone_view, IsAt, HoldsNone, LeadsFrom}
 use Rattle.desk_access.specs.Journal.{calls_then}
 use Rattle.desk_access.proofs.Growth.{grown_self, grown_then, grown_end, grown_entry}
-use Rattle.desk_access.proofs.Stages.{IsStage, AreStages, later_then, none_of, told_one, one_in, group_some, group_are, known_are, known_follow}
+use Rattle.desk_access.proofs.Stages.{IsStage, AreStages, later_then, one_in, group_some, group_are, known_are, known_follow}
 use Rattle.desk_access.proofs.Steps.{one_later, steps, stage_adds, allowed_later, all_later}
 
 -- Its list grew by what the calls added, in order.
@@ -197,45 +192,3 @@ stood_was x records c rules h = subst (λ (l : List Call). Was x l c) (sym (ap c
   | inl here ↦ was_there x h.found h.first h.rest c rules h.goes here
   | inr within ↦ was_within x h.found h.first h.rest c rules h.goes within
 ])
-
--- After the calls of a desk's only caller, whatever a crash leaves stands for a later state, which has all groups that were taken.
-pub image_kept : (x : DeskState) (old new : AloneView) (records : List Record) → IsAt x old → LeadsFrom x old records new → (c : List ℕ) → new.spool.moment.image c
-    → (t : SpoolState) × StandsFor t c × IsLater x.spool t × AllKept t (calls_of records) × Grows x (calls_of records) t
-image_kept x old new records at leads c image =
-    let one = which_one leads.after.spool leads.after.doubt c (leads.reached.spool.each c image) in (
-      one.0,
-      one.2,
-      all_later x leads.after records one.0 at.rules leads.goes one.1,
-      goes_kept x leads.after records one.0 at.rules leads.goes one.1,
-      goes_grows x leads.after records one.0 at.rules leads.goes one.1,
-    )
-
--- And so at each moment of the calls it was a later one, with what the first of them had added.
-pub image_was : (x : DeskState) (old new : AloneView) (records : List Record) → IsAt x old → LeadsFrom x old records new → (c : List ℕ) → new.spool.moment.image_since old.spool.moment.clock c → Was x (calls_of records) c
-image_was x old new records at leads c since = stood_was x records c at.rules (leads.any_moment.each c since)
-
--- a table that holds no id is sound
-none_sound : (run first : ℕ) → run ≤ 2097151 → first ≤ 2 ^ 32 → Ids.IsSound (opened run first)
-none_sound run first few le = record {
-  run = omega (arith, few);
-  within = omega (arith, le);
-  rising = omega arith;
-  few = λ q. omega arith;
-  few_channels = omega arith;
-}
-
--- A desk is in the state that its spool is in.
-pub at_of : (s : SpoolState) (ids : Table) (v : View) (met : Option Standing) (run : ℕ) → run ≡ s.run → HoldsNone run ids → IsIn s [] v → IsAt (desk_of s [] ids) (alone_view v ids met 0 0)
-at_of s ids v met run is none held = record {
-  rules = record {
-    sound = held.sound;
-    later = none_of (IsLater s);
-    told = told_one s;
-    ids = subst Ids.IsSound (sym none.2) (none_sound run none.0 (omega (arith, is, held.sound.run)) none.1);
-    run = ap (λ (t : Table). t.run) none.2 ∙ is;
-  };
-  spool = held;
-  ids = refl;
-  end_known = omega arith;
-  cursor_known = omega arith;
-}

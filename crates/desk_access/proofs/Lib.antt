@@ -3,8 +3,6 @@ pub mod Stages
 pub mod Steps
 pub mod OneState
 pub mod Lasting
-pub mod Leading
-pub mod Making
 pub mod Taking
 pub mod Nexts
 pub mod Tables
@@ -17,3 +15,4 @@ pub mod OneGroup
 pub mod InOrder
 pub mod LegalEntries
 pub mod Moves
+pub mod Since

@@ -1,7 +1,7 @@
 -- The state after a journal is one.
 use Rattle.std.proofs.Common.{◌≡◌, inl, inr, [], ◌∷◌, Option, None, Some, refl, sym, ◌∙◌, ap, subst}
 use Rattle.spool_state.specs.SpoolState.{SpoolState}
-use Rattle.spool_log.specs.declared.fault.PendFault.{PendFault}
+use Rattle.spool_answers.specs.declared.fault.PendFault.{PendFault}
 use Rattle.hec_ids.specs.declared.fault.IssueFault.{IssueFault}
 use Rattle.hec_ids.specs.Table.{Table}
 use Rattle.hec_ids.specs.Rows.{Issues}

@@ -16,11 +16,11 @@ use Rattle.spool_state.proofs.Frees.{found_closed, none_free}
 use Rattle.spool_state.proofs.Begun.{base-begun, end-begun, sound-begun}
 use Rattle.spool_state.proofs.Shut.{base-shut, end-shut, sound-shut, shut_closed}
 use Rattle.spool_state.proofs.Registered.{with_marked, sound-marked, follows_marked}
-use Rattle.spool_log.specs.Stages.{begin_stages, closed_stages, replace_stages, first_stages, group_stages, known_stages, total_of, last_of, IsOneOf, AllFollow}
-use Rattle.spool_log.specs.Changing.Take.{HasPlace, Fits}
-use Rattle.spool_log.specs.Changing.Mark.{EndsBy, IsNothingNew}
-use Rattle.spool_log.proofs.Changes.Adding.{adding_follow}
-use Rattle.spool_log.proofs.Changes.Marking.{end_by}
+use Rattle.spool_answers.specs.Stages.{begin_stages, closed_stages, replace_stages, first_stages, group_stages, known_stages, total_of, last_of, IsOneOf, AllFollow}
+use Rattle.spool_answers.specs.Take.{HasPlace, Fits}
+use Rattle.spool_answers.specs.Mark.{EndsBy, IsNothingNew}
+use Rattle.spool_answers.proofs.Adding.{adding_follow}
+use Rattle.spool_answers.proofs.Marking.{end_by}
 use Rattle.desk_access.specs.declared.standing.Standing.{Standing}
 use Rattle.desk_access.specs.Standing.{standing_of}
 use Rattle.desk_access.specs.History.{IsLater, AreTold, Grown}

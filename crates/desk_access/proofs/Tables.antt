@@ -1,7 +1,7 @@
 -- The table of ids after a call.
 use Rattle.std.proofs.Common.{◌≡◌, inl, inr, [], ◌∷◌, Option, sym, ap, subst}
 use Rattle.spool_state.specs.SpoolState.{SpoolState}
-use Rattle.spool_log.specs.declared.fault.PendFault.{PendFault}
+use Rattle.spool_answers.specs.declared.fault.PendFault.{PendFault}
 use Rattle.hec_ids.specs.Table.{Table}
 use Rattle.hec_ids.specs.Rows.{Issues, Settles, Forgets, Asks}
 use Rattle.desk_access.specs.declared.standing.Standing.{Standing}

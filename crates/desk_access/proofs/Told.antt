@@ -107,8 +107,8 @@ met_stored run confirming before [] met = tt
 met_stored run confirming before (one ∷ records) met = (may_stored run confirming one.by (own_of one.by before) one.call met.0, met_stored run confirming (before ++ one ∷ []) records met.1)
 
 pub told_was_taken : ToldWasTaken
-told_was_taken x y journal confirming number channel ids known found after k rules none goes met lt told =
-    told_was_stored x y journal (record { by = number; call = asks channel ids known; met = found; after = after }) [] channel ids known k none goes refl (met_stored x.spool.run confirming [] journal met) lt told
+told_was_taken x y journal confirming number channel ids known found after clock k rules none goes met lt told =
+    told_was_stored x y journal (record { by = number; call = asks channel ids known; met = found; after = after; clock = clock }) [] channel ids known k none goes refl (met_stored x.spool.run confirming [] journal met) lt told
 
 -- ---- of one caller
 

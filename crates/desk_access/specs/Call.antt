@@ -3,14 +3,14 @@ use Rattle.std.specs.Prelude.{◌≡◌, ℕ, ◌+◌, ◌==◌, if◌then◌els
 use Rattle.std.specs.Global.{Vec}
 use Rattle.known_numbers.specs.declared.stretch.Stretch.{Stretch}
 use Rattle.event_form.specs.declared.event.Entry.{Entry}
-use Rattle.spool_log.specs.declared.reading.numbered.Numbered.{Numbered}
-use Rattle.spool_log.specs.declared.fault.Receipt.{Receipt}
-use Rattle.spool_log.specs.declared.fault.TakeFault.{TakeFault}
-use Rattle.spool_log.specs.declared.fault.TakeFault.TheVariants as Take
-use Rattle.spool_log.specs.declared.fault.PendFault.{PendFault}
-use Rattle.spool_log.specs.declared.fault.PendFault.TheVariants as Pend
-use Rattle.spool_log.specs.declared.fault.ConfirmFault.{ConfirmFault}
-use Rattle.spool_log.specs.declared.fault.ConfirmFault.TheVariants as Confirm
+use Rattle.spool_answers.specs.declared.numbered.Numbered.{Numbered}
+use Rattle.spool_answers.specs.declared.fault.Receipt.{Receipt}
+use Rattle.spool_answers.specs.declared.fault.TakeFault.{TakeFault}
+use Rattle.spool_answers.specs.declared.fault.TakeFault.TheVariants as Take
+use Rattle.spool_answers.specs.declared.fault.PendFault.{PendFault}
+use Rattle.spool_answers.specs.declared.fault.PendFault.TheVariants as Pend
+use Rattle.spool_answers.specs.declared.fault.ConfirmFault.{ConfirmFault}
+use Rattle.spool_answers.specs.declared.fault.ConfirmFault.TheVariants as Confirm
 use Rattle.hec_ids.specs.declared.fault.IssueFault.{IssueFault}
 use Rattle.desk_access.specs.declared.standing.Standing.{Standing}
 
@@ -37,11 +37,13 @@ pub data Call : Type 0 where
 -- A call, with the number of its caller and the numbers of the spool. `met` has those that the call met once a doubt
 -- was mended, or none where mending failed; `after` has those that stood after it. With `met` the state after a journal
 -- is a function of it: a call that failed at the disk may have left a doubt as it was, or mended it and left another.
+-- `clock` names the moment of the disk at which the call was answered.
 pub record Record : Type 0 where
   pub by : ℕ
   pub call : Call
   pub met : Option Standing
   pub after : Standing
+  pub clock : ℕ
 
 -- the calls of that caller among the records, in order
 abbrev pub own_of : ℕ → List Record → List Call

@@ -5,16 +5,16 @@ use Rattle.event_form.specs.Entry.{IsEntry}
 use Rattle.known_numbers.specs.Numbers.{count_of}
 use Rattle.spool_state.specs.SpoolState.{SpoolState, end}
 use Rattle.spool_state.specs.Left.{left_from}
-use Rattle.spool_log.specs.declared.reading.numbered.Numbered.{Numbered}
-use Rattle.spool_log.specs.declared.fault.Receipt.{Receipt}
-use Rattle.spool_log.specs.declared.fault.TakeFault.{TakeFault}
-use Rattle.spool_log.specs.declared.fault.PendFault.{PendFault}
-use Rattle.spool_log.specs.declared.fault.ConfirmFault.{ConfirmFault}
-use Rattle.spool_log.specs.Fault.{as_take, as_confirm}
-use Rattle.spool_log.specs.Stages.{IsOneOf, StandsForOne, IsMidway}
-use Rattle.spool_log.specs.Changing.Take.{Takes, after_take, take_stages, take_doubt}
-use Rattle.spool_log.specs.Changing.Mark.{EndsBy, all_below, Marks, after_mark, mark_stages, mark_doubt}
-use Rattle.spool_log.specs.Outcome.{IsNotBroken, given_entries}
+use Rattle.spool_answers.specs.declared.numbered.Numbered.{Numbered}
+use Rattle.spool_answers.specs.declared.fault.Receipt.{Receipt}
+use Rattle.spool_answers.specs.declared.fault.TakeFault.{TakeFault}
+use Rattle.spool_answers.specs.declared.fault.PendFault.{PendFault}
+use Rattle.spool_answers.specs.declared.fault.ConfirmFault.{ConfirmFault}
+use Rattle.spool_answers.specs.Fault.{as_take, as_confirm}
+use Rattle.spool_answers.specs.Stages.{IsOneOf, StandsForOne, IsMidway}
+use Rattle.spool_answers.specs.Take.{Takes, after_take, take_stages, take_doubt}
+use Rattle.spool_answers.specs.Mark.{EndsBy, all_below, Marks, after_mark, mark_stages, mark_doubt}
+use Rattle.spool_answers.specs.Pend.{IsNotBroken, given_entries}
 use Rattle.hec_ids.specs.Table.{Table}
 use Rattle.hec_ids.specs.Rows.{Issues, Settles, Forgets, Asks}
 use Rattle.desk_access.specs.declared.standing.Standing.{Standing}

@@ -2,7 +2,7 @@
 use Rattle.std.specs.Prelude.{◌≡◌, ℕ, ◌<◌, Bool, true, false, List, [], ◌∷◌, ◌++◌, length, get_or, Option}
 use Rattle.event_form.specs.declared.event.Entry.{Entry}
 use Rattle.spool_state.specs.SpoolState.{SpoolState}
-use Rattle.spool_log.specs.Stages.{IsOneOf}
+use Rattle.spool_answers.specs.Stages.{IsOneOf}
 use Rattle.desk_access.specs.declared.standing.Standing.{Standing}
 use Rattle.desk_access.specs.Call.{Record, asks, own_of, calls_of}
 use Rattle.desk_access.specs.Desk.{DeskState, Goes, Stood}
@@ -28,6 +28,6 @@ LegalJournal = (x y : DeskState) (journal : List Record) (confirming : ℕ) (gro
 
 -- An id that an answer tells true is one whose group was taken before: by the caller that settled it.
 abbrev pub ToldWasTaken : Type 0
-ToldWasTaken = (x y : DeskState) (journal : List Record) (confirming number channel : ℕ) (ids : List ℕ) (known : List Bool) (met : Option Standing) (after : Standing) (k : ℕ)
-    → IsDesk x → x.ids.held ≡ [] → Goes x (journal ++ record { by = number; call = asks channel ids known; met = met; after = after } ∷ []) y → Met x.spool.run confirming [] journal → k < length ids → get_or known k false ≡ true
+ToldWasTaken = (x y : DeskState) (journal : List Record) (confirming number channel : ℕ) (ids : List ℕ) (known : List Bool) (met : Option Standing) (after : Standing) (clock k : ℕ)
+    → IsDesk x → x.ids.held ≡ [] → Goes x (journal ++ record { by = number; call = asks channel ids known; met = met; after = after; clock = clock } ∷ []) y → Met x.spool.run confirming [] journal → k < length ids → get_or known k false ≡ true
     → (caller : ℕ) × IsStored (own_of caller journal) (get_or ids k 0)

@@ -1,5 +1,5 @@
 -- Which calls a caller may make, by those that it made; and journals of which each call was one that its caller might make.
-use Rattle.std.specs.Prelude.{◌≡◌, ◌≢◌, ◌⊎◌, ℕ, ◌+◌, ◌*◌, ◌^◌, ◌≤◌, ◌<◌, ◌==◌, if◌then◌else◌, Bool, true, false, List, [], ◌∷◌, ◌++◌, length, All, Ok}
+use Rattle.std.specs.Prelude.{◌≡◌, ◌≢◌, ◌⊎◌, ℕ, ◌+◌, ◌*◌, ◌^◌, ◌≤◌, ◌<◌, ◌==◌, if◌then◌else◌, Bool, true, false, List, [], ◌∷◌, ◌++◌, length, All, filter, Ok}
 use Rattle.event_form.specs.declared.event.Entry.{Entry}
 use Rattle.desk_access.specs.Call.{Call, takes, confirms, marks, issues, settles, Record, own_of, taken_by, take_failures}
 use Rattle.desk_access.specs.Batch.{AreNext, MayTake, MayUse, IsPlain, AreOfUnit, Belongs}
@@ -93,6 +93,10 @@ all_of (group ∷ groups) = group ++ all_of groups
 abbrev pub of_conn : ℕ → List Entry → List Entry
 of_conn conn [] = []
 of_conn conn (entry ∷ entries) = if entry.conn == conn then entry ∷ of_conn conn entries else of_conn conn entries
+
+-- those of one unit
+abbrev pub of_unit : ℕ → List Entry → List Entry
+of_unit unit entries = filter (λ (entry : Entry). entry.unit == unit) entries
 
 -- the number is one of a run's 2^32
 abbrev pub IsOfRun : ℕ → ℕ → Type 0

@@ -5,8 +5,8 @@ pub mod Batch
 pub mod Groups
 pub mod History
 pub mod Durable
-pub mod Alone
 pub mod Journal
+pub mod Since
 pub mod Legal
 pub mod Settled
 pub mod Laws

@@ -1,12 +1,13 @@
 //! The calls of a desk, for one caller.
 ghost use Rattle.std.specs.Prelude.{◌≡◌, ℕ, ◌+◌, ◌^◌, ◌<◌, ◌≤◌, nat_eq, List, [], ◌∷◌, ◌++◌, length, All, Ok, IfOk};
 ghost use Rattle.std.specs.List.{IsDistinct};
+ghost use Rattle.known_numbers.specs.Numbers.{IsInSome};
 ghost use Rattle.event_form.specs.declared.event.Entry.{Entry};
 ghost use Rattle.event_form.specs.Entry.{IsEntry};
 ghost use Rattle.spool_state.specs.SpoolState.{end};
-ghost use Rattle.spool_log.specs.declared.fault.Receipt.{Receipt as TheReceipt};
-ghost use Rattle.spool_log.specs.Changing.Mark.{EndsBy};
-ghost use Rattle.spool_log.specs.Outcome.{AreNumbered};
+ghost use Rattle.spool_answers.specs.declared.fault.Receipt.{Receipt as TheReceipt};
+ghost use Rattle.spool_answers.specs.Mark.{EndsBy};
+ghost use Rattle.spool_answers.specs.Pend.{AreNumbered};
 ghost use Rattle.desk_access.specs.Call.{Call, takes, pends, confirms, marks, counts, issues, settles, forgets, asks, Record};
 ghost use Rattle.desk_access.specs.Call.{own_of, listed, taken_of, TookSurely};
 ghost use Rattle.desk_access.specs.Batch.{MayTake, MayUse, AreOfUnit};
@@ -17,7 +18,7 @@ ghost use Rattle.desk_access.specs.Legal.{AreUnused};
 use event_form::Entry as StoredEntry;
 use hec_ids::IssueFault;
 use known_numbers::Stretch;
-use spool_log::{ConfirmFault, Numbered, PendFault, Receipt, TakeFault};
+use spool_answers::{ConfirmFault, Numbered, PendFault, Receipt, TakeFault};
 
 /// One caller of a desk, which may have others. It stores entries, reads those that are not confirmed,
 /// confirms them, and issues acknowledgement ids to channels. Its calls answer as those of
@@ -48,6 +49,9 @@ pub trait Access {
 
     /// This caller may confirm.
     ghost may_confirm: { Self → Type 0 };
+
+    /// The numbers that may become known as confirmed.
+    ghost may_release: { ℕ → Type 0 };
 
     /// The greatest end that `end` answered, and the greatest cursor that `cursor` answered, or 0.
     ghost end_known: { Self → ℕ };
@@ -99,6 +103,7 @@ pub trait Access {
     fn confirm(&mut self, upto: u64) -> Result<(), ConfirmFault>
         requires caller { may_confirm self.old }
         requires number { upto ≤ end_known self.old }
+        requires earned { (n : ℕ) → n < upto → may_release n }
         ensures { ran self.old (confirms upto result ∷ []) self.new };
 
     /// Makes the numbers of these stretches known as confirmed, one stretch after another. A stretch by which
@@ -106,6 +111,7 @@ pub trait Access {
     fn mark(&mut self, known: &[Stretch]) -> Result<(), ConfirmFault>
         requires caller { may_confirm self.old }
         requires numbers { All (EndsBy (end_known self.old)) known.now }
+        requires earned { (n : ℕ) → IsInSome known.now n → may_release n }
         ensures { ran self.old (marks known.now result ∷ []) self.new };
 
     /// How many numbers above the cursor are known as confirmed.

@@ -2,6 +2,8 @@
 use Rattle.std.specs.Prelude.{◌≡◌, ℕ, ◌<◌, List}
 use Rattle.spool_state.specs.Layout.{most_number}
 use Rattle.spool_state.specs.Cells.{CellsBreak}
+use Rattle.spool_answers.specs.declared.fault.PendFault.{PendFault}
+use Rattle.spool_answers.specs.declared.fault.PendFault.TheVariants as Pend
 use Rattle.disk_cell.specs.declared.fault.LoadFault.{LoadFault}
 use Rattle.disk_cell.specs.declared.fault.LoadFault.TheVariants.{NotSpool, NoMemory, DiskFault as LoadFailed}
 use Rattle.disk_cell.specs.declared.fault.SetFault.{SetFault}
@@ -17,3 +19,9 @@ IsBroken LoadFailed c = Unit
 abbrev pub IsWornAt : ℕ → SetFault → Type 0
 IsWornAt ordinal (Worn at) = (ordinal ≡ most_number) × (at ≡ ordinal)
 IsWornAt ordinal SetFailed = ordinal < most_number
+
+-- the same fault of a reading of the spool
+abbrev pub of_load : LoadFault → PendFault
+of_load (NotSpool at) = Pend.NotSpool at
+of_load LoadFailed = Pend.DiskFault
+of_load NoMemory = Pend.NoMemory

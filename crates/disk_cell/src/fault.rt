@@ -1,5 +1,6 @@
 //! Why a register was not read or not written.
 use edge_disk::DiskFault;
+use spool_answers::PendFault;
 use std::alloc::AllocError;
 
 /// Why no register was read.
@@ -53,5 +54,20 @@ impl From<DiskFault> for SetFault {
 
     fn from(_: DiskFault) -> SetFault {
         SetFault::DiskFault
+    }
+}
+
+impl From<LoadFault> for PendFault {
+    ghost use Rattle.std.specs.Prelude.{◌≡◌};
+    ghost use Rattle.disk_cell.specs.Fault.{of_load};
+
+    ghost from_gives = { λ fault pending. pending ≡ of_load fault };
+
+    fn from(fault: LoadFault) -> PendFault {
+        match fault {
+            LoadFault::NotSpool { at } => PendFault::NotSpool { at },
+            LoadFault::DiskFault => PendFault::DiskFault,
+            LoadFault::NoMemory => PendFault::NoMemory,
+        }
     }
 }

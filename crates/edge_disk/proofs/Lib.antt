@@ -1,5 +1,3 @@
 pub mod Calls
-mod Covers
 pub mod Moments
-mod StoreSteps
 pub mod GateSteps

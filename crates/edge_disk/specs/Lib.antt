@@ -1,11 +1,3 @@
 pub mod Disk
 pub mod Calls
 pub mod Gate
-pub mod Held
-pub mod StoreView
-pub mod HeldLaws
-pub mod CallPlan
-pub mod Crashing
-pub mod MemDisk
-pub mod ByteRange
-pub mod FileDisk

@@ -25,6 +25,10 @@ pub trait Disk {
     /// What it tells at this moment. The size and the count of faults are told by each disk.
     ghost moment: { Self → Moment };
 
+    /// Which of the numbers that are kept here may be given up: the caller's to say. The disk asks for nothing;
+    /// who gives a number up does.
+    ghost may_release: { ℕ → Type 0 };
+
     /// How many bytes it has. This never changes.
     fn len(&self) -> u64
         ensures { result ≡ (moment self.now).size };

@@ -1,9 +1,10 @@
 //! Disks in memory: calls that fail, gates, stops and crashes.
 ghost use Rattle.std.specs.Prelude.{◌≢◌, ◌+◌, ◌≤◌, length, slice_index};
 ghost use Rattle.edge_disk.specs.Gate.{IsGateStep};
-ghost use Rattle.edge_disk.specs.MemDisk.{mem_moment};
+ghost use Rattle.edge_memory.specs.MemDisk.{mem_moment};
 
-use edge_disk::{Crash, Disk, MemDisk, close_gate, open_gate, write_behind};
+use edge_disk::{Disk, close_gate, open_gate, write_behind};
+use edge_memory::{Crash, MemDisk};
 use std::alloc::Global;
 use std::process::Abort;
 

@@ -1,5 +1,6 @@
 //! Disks that are files.
-use edge_disk::{Disk, FileDisk, OpenFault, Sharing};
+use edge_disk::Disk;
+use edge_file::{FileDisk, OpenFault, Sharing};
 use std::env;
 use std::fs::{self, Permissions};
 use std::os::unix::fs::{PermissionsExt, symlink};

@@ -1,5 +1,5 @@
 //! The ranges of a disk that were written since its last good sync, over a table of writes.
-use edge_disk::{ByteRange, Unsynced};
+use edge_file::{ByteRange, Unsynced};
 use std::process::Abort;
 
 fn range_of(at: u32, len: u32) -> ByteRange {

@@ -7,9 +7,9 @@ use Rattle.edge_io.specs.declared.proto.Proto.{Proto}
 use Rattle.spool_state.specs.SpoolState.{SpoolState, IsSound, end}
 use Rattle.spool_state.specs.Layout.{most_number}
 use Rattle.spool_state.specs.Left.{NumberedEntry, left}
-use Rattle.spool_log.specs.declared.reading.numbered.Numbered.{Numbered}
-use Rattle.spool_log.specs.Outcome.{given_entries}
-use Rattle.spool_log.specs.Stages.{StandsForOne}
+use Rattle.spool_answers.specs.declared.numbered.Numbered.{Numbered}
+use Rattle.spool_answers.specs.Pend.{given_entries}
+use Rattle.spool_answers.specs.Stages.{StandsForOne}
 use Rattle.edge_disk.specs.Disk.{Moment}
 use Rattle.desk_access.specs.Call.{Call, calls_of}
 use Rattle.desk_access.specs.Desk.{DeskState}

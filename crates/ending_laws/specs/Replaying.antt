@@ -29,7 +29,7 @@ use Rattle.hec_session.specs.declared.act.HecAct.TheVariants as hec_act
 use Rattle.hec_session.specs.declared.tokens.Tokens.{Tokens}
 use Rattle.spool_state.specs.SpoolState.{SpoolState}
 use Rattle.spool_state.specs.Image.{StandsFor}
-use Rattle.spool_log.specs.Changing.Take.{Fits}
+use Rattle.spool_answers.specs.Take.{Fits}
 use Rattle.desk_access.specs.Call.{Record, AreBy}
 use Rattle.desk_access.specs.Desk.{DeskState, Goes}
 use Rattle.desk_access.specs.History.{IsLater, Grown}

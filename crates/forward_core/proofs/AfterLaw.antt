@@ -10,10 +10,10 @@ use Rattle.spool_state.specs.SpoolState.{IsKnownIn, SpoolState, base, end, list,
 use Rattle.spool_state.specs.Left.{NumberedEntry, left, numbered, unknown}
 use Rattle.spool_state.proofs.Registered.{with_marked}
 use Rattle.spool_state.proofs.Unknown.{unknown_thinned}
-use Rattle.spool_log.specs.declared.fault.ConfirmFault.{ConfirmFault}
-use Rattle.spool_log.specs.declared.fault.ConfirmFault.TheVariants as Confirm
-use Rattle.spool_log.specs.Changing.Mark.{after_mark, mark_doubt}
-use Rattle.spool_log.specs.Stages.{IsOneOf, known_stages, last_of, total_of}
+use Rattle.spool_answers.specs.declared.fault.ConfirmFault.{ConfirmFault}
+use Rattle.spool_answers.specs.declared.fault.ConfirmFault.TheVariants as Confirm
+use Rattle.spool_answers.specs.Mark.{after_mark, mark_doubt}
+use Rattle.spool_answers.specs.Stages.{IsOneOf, known_stages, last_of, total_of}
 use Rattle.desk_access.specs.declared.standing.Standing.{Standing}
 use Rattle.desk_access.specs.Call.{Call, Record, calls_of, marks, pends}
 use Rattle.desk_access.specs.Desk.{Answers, DeskState, Goes}

@@ -6,8 +6,8 @@ use Rattle.std.proofs.lemmas.List.{append-nil}
 use Rattle.std.proofs.lemmas.List.Elements.{filter-append, All-cons, All-nil, All-map}
 use Rattle.event_form.specs.Event.{IsEvent}
 use Rattle.event_form.specs.declared.event.Entry.{Entry}
-use Rattle.spool_log.specs.Outcome.{AreNumbered}
-use Rattle.spool_log.specs.declared.reading.numbered.Numbered.{Numbered}
+use Rattle.spool_answers.specs.Pend.{AreNumbered}
+use Rattle.spool_answers.specs.declared.numbered.Numbered.{Numbered}
 use Rattle.forward_core.specs.Calls.{is_within, within, entries_of, numbers_of, after_last, asked_from, next_after}
 use Rattle.forward_core.proofs.Numbered.{after_rises, after_within, numbered_upto}
 

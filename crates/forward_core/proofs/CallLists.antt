@@ -4,7 +4,7 @@ use Rattle.std.specs.Prelude.{◌⊎◌, Ok, Err, nat_le, nat_lt}
 use Rattle.std.proofs.lemmas.Bool.{and_parts, cases_Bool, cases_lt, cond-false, cond-true, le-ltb, lt-ltb, ltb-true}
 use Rattle.known_numbers.specs.Numbers.{IsInSome}
 use Rattle.known_numbers.specs.declared.stretch.Stretch.{Stretch}
-use Rattle.spool_log.specs.declared.reading.numbered.Numbered.{Numbered}
+use Rattle.spool_answers.specs.declared.numbered.Numbered.{Numbered}
 use Rattle.desk_access.specs.Call.{Call, pends, marks}
 use Rattle.forward_core.specs.Calls.{AreGranted, AreOfSession, IsMarked, MarksAllBelow, MarksBelowRead, MarksFirst, after_last, asked_from, is_within, next_after, next_of, read_of, within}
 

@@ -4,8 +4,8 @@ use Rattle.std.specs.Prelude.{Contains, slice_index, Ok}
 use Rattle.std.proofs.lemmas.List.{append-nil, map-append, length-map, drop-append-le, drop-drop}
 use Rattle.std.proofs.lemmas.List.Elements.{Contains-push_cases}
 use Rattle.known_numbers.specs.declared.stretch.Stretch.{Stretch}
-use Rattle.spool_log.specs.Outcome.{AreNumbered}
-use Rattle.spool_log.specs.declared.reading.numbered.Numbered.{Numbered}
+use Rattle.spool_answers.specs.Pend.{AreNumbered}
+use Rattle.spool_answers.specs.declared.numbered.Numbered.{Numbered}
 use Rattle.desk_access.specs.Call.{Call, pends, marks}
 use Rattle.forward_core.specs.Calls.{AreGranted, AreOfSession, IsMarked, MarksBelowRead, MarksFirst, asked_from, next_after, next_of, numbers_of, read_of, within}
 use Rattle.forward_core.specs.Course.{below, alone, SameTold, TellsFirst, TellsOne}

@@ -11,9 +11,9 @@ use Rattle.spool_state.specs.SpoolState.{IsKnownIn, IsSound, SpoolState, end, nu
 use Rattle.spool_state.specs.Left.{NumberedEntry, is_known, left, unknown}
 use Rattle.spool_state.proofs.Lefts.{left_from-base, left_unknown}
 use Rattle.spool_state.proofs.Unknown.{IsOf, filter_all, unknown_append, unknown_from, unknown_none}
-use Rattle.spool_log.specs.declared.reading.numbered.Numbered.{Numbered}
-use Rattle.spool_log.specs.Outcome.{AreNumbered, given_entries}
-use Rattle.spool_log.specs.Stages.{IsOneOf}
+use Rattle.spool_answers.specs.declared.numbered.Numbered.{Numbered}
+use Rattle.spool_answers.specs.Pend.{AreNumbered, given_entries}
+use Rattle.spool_answers.specs.Stages.{IsOneOf}
 use Rattle.desk_access.specs.Call.{Call, Record, calls_of}
 use Rattle.desk_access.specs.Desk.{DeskState}
 use Rattle.desk_access.proofs.Steps.{goes_later}
@@ -64,7 +64,7 @@ below_end c low from end (x ∷ xs) are le =
     All-cons (IsOf 0 c) (one_entry x) (given_entries xs) (record { least = omega arith; most = omega (arith, le, after_rises (x.number + 1) end xs are.3) }) (below_end c (x.number + 1) (x.number + 1) end xs are.3 le)
 
 -- where the list is what was left, its numbers rise
-list_rises : (s : SpoolState) (all : List Numbered) → IsSound s → given_entries all ≡ left s → AreNumbered 0 (end s) all
+pub list_rises : (s : SpoolState) (all : List Numbered) → IsSound s → given_entries all ≡ left s → AreNumbered 0 (end s) all
 list_rises s all sound is =
     subst (AreNumbered 0 (end s)) (ap as_given (left_from-base s 0 (omega arith) ∙ sym is) ∙ as_given_entries all) (left_rise s 0 sound)
 

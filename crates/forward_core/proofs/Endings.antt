@@ -5,13 +5,15 @@ use Rattle.std.specs.Io.KnownBytes.{IsAtEnd}
 use Rattle.std.proofs.lemmas.List.{append-nil, map-append}
 use Rattle.known_numbers.specs.declared.stretch.Stretch.{Stretch}
 use Rattle.event_form.specs.declared.event.Entry.{Entry}
-use Rattle.spool_log.specs.declared.fault.PendFault.{PendFault}
-use Rattle.spool_log.specs.declared.fault.PendFault.TheVariants as Pend
-use Rattle.spool_log.specs.declared.fault.ConfirmFault.{ConfirmFault}
-use Rattle.spool_log.specs.declared.fault.ConfirmFault.TheVariants as Confirm
-use Rattle.spool_log.specs.Outcome.{AreNumbered}
-use Rattle.spool_log.specs.declared.reading.numbered.Numbered.{Numbered}
+use Rattle.spool_answers.specs.declared.fault.PendFault.{PendFault}
+use Rattle.spool_answers.specs.declared.fault.PendFault.TheVariants as Pend
+use Rattle.spool_answers.specs.declared.fault.ConfirmFault.{ConfirmFault}
+use Rattle.spool_answers.specs.declared.fault.ConfirmFault.TheVariants as Confirm
+use Rattle.spool_answers.specs.Pend.{AreNumbered}
+use Rattle.spool_answers.specs.declared.numbered.Numbered.{Numbered}
 use Rattle.desk_access.specs.Call.{Call, pends, marks}
+use Rattle.known_numbers.specs.Numbers.{IsInSome}
+use Rattle.forward_core.specs.Acknowledged.{IsAcknowledged}
 use Rattle.forward_core.specs.Calls.{AreGranted, AreOfSession, IsMarked, MarksBelowRead, MarksFirst, after_last, asked_from, entries_of, next_after, next_of, read_of, within}
 use Rattle.forward_core.specs.Marking.{EndsSo, IsOfOne, MarksOnlyTold, MarksTold}
 use Rattle.forward_core.specs.Marking as marking
@@ -24,7 +26,7 @@ use Rattle.forward_core.specs.declared.sent.Sent.TheVariants as Ending
 use Rattle.forward_core.proofs.Batches.{reading_leads}
 use Rattle.forward_core.proofs.CallLists.{granted_then, low_then, marked_cases, next_then, read_then, session_then}
 use Rattle.forward_core.proofs.Desk.{next_marked, next_more, read_marked, read_more}
-use Rattle.forward_core.proofs.Marks.{marks_only, marks_told, only_marked, to_mark_low, to_mark_more}
+use Rattle.forward_core.proofs.Marks.{marks_only, marks_told, only_marked, to_mark_low, to_mark_more, to_mark_those}
 use Rattle.forward_core.proofs.Numbered.{numbered_then}
 
 abbrev pub Table : Type 1
@@ -137,6 +139,19 @@ module _ (Ends : Table) (Hints : List ℕ → Type 0) (left : Option (List ℕ))
   tabled : (sent : Sent) → ((more : List Entry) → MayFollow F given more → Ends (entries_of (read_of c.end calls) ++ more) bytes' text' told s.also sent) → (more : List Numbered) → AreNumbered c.next c.end more → Ends (entries_of (read_of c.end calls ++ more)) bytes' text' told s.also sent
   tabled sent table more are =
       subst (λ (l : List Entry). Ends l bytes' text' told s.also sent) (sym (map-append (λ (one : Numbered). one.entry) (read_of c.end calls) more)) (table (entries_of more) (may_follow F given c.next c.end more over whole are))
+
+  -- what is to be marked is acknowledged
+  pub acknowledged : ((more : List Entry) → MayFollow F given more → Ends (entries_of (read_of c.end calls) ++ more) bytes' text' told s.also Ending.NoMemory) → (n : ℕ) → IsInSome c.marks.items n → IsAcknowledged Ends start c.end bytes' calls text' n
+  acknowledged table n is = record {
+    told = told;
+    also = s.also;
+    session = s.desk.session;
+    granted = s.desk.granted;
+    low = s.desk.low;
+    ends = λ more are. tabled Ending.NoMemory table more (subst (λ (k : ℕ). AreNumbered k c.end more) (sym s.desk.next) are);
+    number = subst (λ (k : ℕ). (n < after_last 0 (take k (read_of c.end calls))) ⊎ IsOfOne (read_of c.end calls) s.also n) (sym told_is)
+        (to_mark_those (read_of c.end calls) c.told s.also c.marks.items calls n s.desk.marks is);
+  }
 
   -- the session ends so, and what was told is marked
   pub ended_marked : (sent : Sent) → (IsHalt sent → ⊥) → ((more : List Entry) → MayFollow F given more → Ends (entries_of (read_of c.end calls) ++ more) bytes' text' told s.also sent)

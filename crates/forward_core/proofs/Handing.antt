@@ -4,8 +4,8 @@ use Rattle.std.specs.Prelude.{nat_lt, if◌then◌else◌, Result, Ok, Err, OnOk
 use Rattle.std.proofs.lemmas.List.{length-map, append-nil, nil_from_length}
 use Rattle.event_form.specs.Event.{IsEvent}
 use Rattle.event_form.specs.declared.event.Entry.{Entry}
-use Rattle.spool_log.specs.Outcome.{AreNumbered}
-use Rattle.spool_log.specs.declared.reading.numbered.Numbered.{Numbered}
+use Rattle.spool_answers.specs.Pend.{AreNumbered}
+use Rattle.spool_answers.specs.declared.numbered.Numbered.{Numbered}
 use Rattle.forward_core.specs.Calls.{after_last, asked_from, entries_of, next_after, numbers_of, within}
 use Rattle.forward_core.specs.Course.{reading_left}
 use Rattle.forward_core.specs.Reading.{Added, AddsBatch, IsBatch}

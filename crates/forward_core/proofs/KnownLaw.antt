@@ -7,7 +7,7 @@ use Rattle.known_numbers.specs.Numbers.{Numbers, IsSound as IsSoundKnown, marked
 use Rattle.known_numbers.proofs.Marking.{marked_rises}
 use Rattle.spool_state.specs.SpoolState.{SpoolState, numbers_of}
 use Rattle.spool_state.proofs.Registered.{with_marked}
-use Rattle.spool_log.specs.Stages.{IsOneOf, last_of, total_of, known_stages}
+use Rattle.spool_answers.specs.Stages.{IsOneOf, last_of, total_of, known_stages}
 use Rattle.desk_access.specs.declared.standing.Standing.{Standing}
 use Rattle.desk_access.specs.Call.{Call, Record, calls_of, marks, pends}
 use Rattle.desk_access.specs.Desk.{Answers, DeskState, Goes}

@@ -11,6 +11,7 @@ pub mod Endings
 pub mod Refilling
 pub mod Listening
 pub mod Turns
+pub mod Earning
 pub mod Running
 pub mod Ends
 pub mod RelpEnding
@@ -23,3 +24,5 @@ pub mod Counting
 pub mod SendsLaw
 pub mod AfterLaw
 pub mod DropLaw
+pub mod Exchanging
+pub mod EarnedLaw

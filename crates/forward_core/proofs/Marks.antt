@@ -6,9 +6,9 @@ use Rattle.std.proofs.lemmas.List.{length-map, map-append, get_or_append_left, g
 use Rattle.std.proofs.lemmas.List.Elements.{Contains-append_left, Contains-push, Contains-push_cases}
 use Rattle.known_numbers.specs.declared.stretch.Stretch.{Stretch}
 use Rattle.known_numbers.specs.Numbers.{IsInSome}
-use Rattle.spool_log.specs.declared.fault.ConfirmFault.{ConfirmFault}
-use Rattle.spool_log.specs.Outcome.{AreNumbered}
-use Rattle.spool_log.specs.declared.reading.numbered.Numbered.{Numbered}
+use Rattle.spool_answers.specs.declared.fault.ConfirmFault.{ConfirmFault}
+use Rattle.spool_answers.specs.Pend.{AreNumbered}
+use Rattle.spool_answers.specs.declared.numbered.Numbered.{Numbered}
 use Rattle.desk_access.specs.Call.{Call, marks}
 use Rattle.forward_core.specs.Calls.{IsMarked, after_last, number_at, numbers_of}
 use Rattle.forward_core.specs.Course.{below, alone}
@@ -38,6 +38,11 @@ to_mark_more read more told also stretches calls few places h =
       covered = λ place c. subst (λ (n : ℕ). IsMarked calls n ⊎ IsInSome h.waiting n) (sym (number_more read more place (places place c))) (h.covered place c);
       only = λ n m. elim (h.only n m) [ inl first ↦ inl (subst (λ (k : ℕ). n < k) (sym same) first) | inr one ↦ inr (of_one_more read more also n one) ];
     }
+
+-- a number that is to be marked is that of an entry told by itself, or lies below the one after the last of the first ones told
+pub to_mark_those : (read : List Numbered) (told : ℕ) (also : List ℕ) (stretches : List Stretch) (calls : List Call) (n : ℕ) → IsToMark read told also stretches calls → IsInSome stretches n
+    → (n < after_last 0 (take told read)) ⊎ IsOfOne read also n
+to_mark_those read told also stretches calls n h is = elim (subst (λ (l : List Stretch). IsInSome l n) h.are is) [ inl first ↦ inl first.1 | inr one ↦ inr (h.ones n one) ]
 
 -- ---- marked
 

@@ -1,7 +1,7 @@
 -- Entries with rising numbers.
 use Rattle.std.proofs.Common.{◌≡◌, ℕ, ◌+◌, ◌<◌, ◌≤◌, zero, suc, List, [], ◌∷◌, ◌++◌, length, take, refl, ap, arith}
-use Rattle.spool_log.specs.Outcome.{AreNumbered}
-use Rattle.spool_log.specs.declared.reading.numbered.Numbered.{Numbered}
+use Rattle.spool_answers.specs.Pend.{AreNumbered}
+use Rattle.spool_answers.specs.declared.numbered.Numbered.{Numbered}
 use Rattle.forward_core.specs.Calls.{after_last, number_at}
 
 -- from a lower number on, and below a higher one
@@ -70,6 +70,12 @@ after_more low from end (x ∷ xs) zero (suc many) base are le =
 after_more low from end xs (suc few) zero base are le = absurd (omega (arith, le))
 after_more low from end [] (suc few) (suc many) base are le = omega arith
 after_more low from end (x ∷ xs) (suc few) (suc many) base are le = after_more (x.number + 1) (x.number + 1) end xs few many (omega arith) are.3 (omega (arith, le))
+
+-- they end no earlier where more entries follow
+pub after_joined : (low from end : ℕ) (xs ys : List Numbered) (told : ℕ) → low ≤ from → AreNumbered from end (xs ++ ys) → after_last low (take told xs) ≤ after_last low (take told (xs ++ ys))
+after_joined low from end xs ys zero base are = omega arith
+after_joined low from end [] ys (suc told) base are = after_more low from end ys 0 (suc told) base are (omega arith)
+after_joined low from end (x ∷ xs) ys (suc told) base are = after_joined (x.number + 1) (x.number + 1) end xs ys told (omega arith) are.3
 
 -- an entry has one place
 pub one_place : (from end : ℕ) (xs : List Numbered) (a b : ℕ) → AreNumbered from end xs → a < length xs → b < length xs → number_at xs a ≡ number_at xs b → a ≡ b

@@ -16,9 +16,9 @@ use Rattle.spool_state.specs.Left.{NumberedEntry, is_known, left, left_from, num
 use Rattle.spool_state.proofs.Lefts.{left_from-cursor, left_from-end, left_unknown}
 use Rattle.spool_state.proofs.Registered.{left-marked, with_marked}
 use Rattle.spool_state.proofs.Unknown.{filter_all, unknown_from}
-use Rattle.spool_log.specs.declared.reading.numbered.Numbered.{Numbered}
-use Rattle.spool_log.specs.Outcome.{AreNumbered, given_entries}
-use Rattle.spool_log.specs.Stages.{IsOneOf, known_stages, last_of, total_of}
+use Rattle.spool_answers.specs.declared.numbered.Numbered.{Numbered}
+use Rattle.spool_answers.specs.Pend.{AreNumbered, given_entries}
+use Rattle.spool_answers.specs.Stages.{IsOneOf, known_stages, last_of, total_of}
 use Rattle.desk_access.specs.declared.standing.Standing.{Standing}
 use Rattle.desk_access.specs.Call.{Call, Record, calls_of, marks, pends}
 use Rattle.desk_access.specs.Desk.{Answers, DeskState, Goes}

@@ -8,8 +8,8 @@ use Rattle.event_form.specs.declared.event.Entry.{Entry}
 use Rattle.event_form.specs.declared.turn.Turn.{Turn}
 use Rattle.event_form.specs.declared.turn.Turn.TheVariants as turns
 use Rattle.event_form.specs.Turn.{text_of}
-use Rattle.spool_log.specs.Outcome.{AreNumbered}
-use Rattle.spool_log.specs.declared.reading.numbered.Numbered.{Numbered}
+use Rattle.spool_answers.specs.Pend.{AreNumbered}
+use Rattle.spool_answers.specs.declared.numbered.Numbered.{Numbered}
 use Rattle.desk_access.specs.Call.{Call, marks}
 use Rattle.forward_core.specs.Acting.{GoesOn}
 use Rattle.forward_core.specs.Calls.{entries_of, next_of, read_of}

@@ -1,22 +1,23 @@
 -- What follows from the definitions, of a desk that has no other caller.
-use Rattle.std.specs.Prelude.{◌≡◌, ◌⊎◌, ◌<◌, ◌≤◌, ℕ, List, [], ◌∷◌, ◌++◌, drop, Option, Ok}
+use Rattle.std.specs.Prelude.{◌≡◌, ◌⊎◌, ◌<◌, ◌≤◌, ℕ, length, List, [], ◌∷◌, ◌++◌, drop, Option, Ok}
 use Rattle.known_numbers.specs.Numbers.{Numbers, marked}
 use Rattle.spool_state.specs.SpoolState.{IsKnownIn, SpoolState, base, end, list, numbers_of}
 use Rattle.spool_state.specs.Left.{left, unknown}
-use Rattle.spool_log.specs.declared.reading.numbered.Numbered.{Numbered}
-use Rattle.spool_log.specs.Outcome.{given_entries}
-use Rattle.spool_log.specs.Stages.{IsOneOf}
+use Rattle.spool_answers.specs.declared.numbered.Numbered.{Numbered}
+use Rattle.spool_answers.specs.Pend.{given_entries}
+use Rattle.spool_answers.specs.Stages.{IsOneOf}
 use Rattle.edge_io.specs.declared.proto.Proto.{Proto}
 use Rattle.desk_access.specs.Call.{Call, Record, calls_of, marks}
 use Rattle.desk_access.specs.Desk.{DeskState, Goes}
 use Rattle.desk_access.specs.History.{IsDesk}
-use Rattle.forward_core.specs.Calls.{AreGranted, AreOfSession, IsMarked, MarksAllBelow, entries_of, next_of, read_of}
+use Rattle.forward_core.specs.Acknowledged.{IsAcknowledged}
+use Rattle.forward_core.specs.Calls.{AreGranted, AreOfSession, IsMarked, MarksAllBelow, entries_of, next_of, number_at, read_of}
 use Rattle.forward_core.specs.Protocols.{EndsAs, HintsAs}
 use Rattle.forward_core.specs.Session.{Ended, MarksBy}
 use Rattle.forward_core.specs.Settings.{Settings}
 use Rattle.forward_core.specs.Turning.{IsHalt, IsTold}
 use Rattle.forward_core.specs.declared.sent.Sent.{Sent}
-use Rattle.forward_core.specs.declared.sent.Sent.TheVariants.{Drained}
+use Rattle.forward_core.specs.declared.sent.Sent.TheVariants.{Drained, NoMemory}
 
 -- the numbers known after these calls: those known before, with those of each mark, one after another
 abbrev pub known_by : Numbers → List Call → Numbers
@@ -64,6 +65,22 @@ SendsLeft = (settings : Settings) (proto : Proto) (bytes_left : Option (List ℕ
     (sent : Sent) (bytes : List ℕ) (calls : List Call) (text : List ℕ) → IsOnDesk x start until calls records y
     → (ended : Ended (EndsAs settings proto) (HintsAs proto) bytes_left until sent start bytes calls text)
     → EndsOver settings proto x.spool sent bytes calls text ended.told ended.also
+
+-- A number is acknowledged over a state: by the protocol's table these bytes and this text acknowledge so many of the first entries
+-- that weren't known, and those at some places; and where the number is that of an entry that wasn't known, it is that of one of these.
+pub record AcknowledgedOver (settings : Settings) (proto : Proto) (s : SpoolState) (bytes : List ℕ) (calls : List Call) (text : List ℕ)
+    (told : ℕ) (also : List ℕ) (n : ℕ) : Type 0 where
+  pub all : List Numbered
+  pub is_list : IsListOf s calls all
+  pub ends : EndsAs settings proto (entries_of all) bytes text told also NoMemory
+  pub only : (place : ℕ) → place < length all → n ≡ number_at all place → IsTold told also place
+
+-- So is each number that a session may mark, at the moment when it may.
+abbrev pub AcknowledgesLeft : Type 0
+AcknowledgesLeft = (settings : Settings) (proto : Proto) (x y : DeskState) (records : List Record) (start until : ℕ)
+    (bytes : List ℕ) (calls : List Call) (text : List ℕ) (n : ℕ) → IsOnDesk x start until calls records y
+    → (is : IsAcknowledged (EndsAs settings proto) start until bytes calls text n)
+    → AcknowledgedOver settings proto x.spool bytes calls text is.told is.also n
 
 -- ---- what is left for the next session
 

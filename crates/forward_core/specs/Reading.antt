@@ -1,10 +1,10 @@
 -- Entries that a session reads and gives to its sender.
 use Rattle.std.specs.Prelude.{◌≡◌, ◌⊎◌, ℕ, ◌+◌, ◌<◌, ◌≤◌, nat_lt, if◌then◌else◌, true, List, [], ◌∷◌, ◌++◌, length, Result, Ok, Err}
 use Rattle.event_form.specs.declared.event.Entry.{Entry}
-use Rattle.spool_log.specs.declared.fault.PendFault.{PendFault}
-use Rattle.spool_log.specs.declared.fault.PendFault.TheVariants as Pend
-use Rattle.spool_log.specs.declared.reading.numbered.Numbered.{Numbered}
-use Rattle.spool_log.specs.Outcome.{AreNumbered}
+use Rattle.spool_answers.specs.declared.fault.PendFault.{PendFault}
+use Rattle.spool_answers.specs.declared.fault.PendFault.TheVariants as Pend
+use Rattle.spool_answers.specs.declared.numbered.Numbered.{Numbered}
+use Rattle.spool_answers.specs.Pend.{AreNumbered}
 use Rattle.desk_access.specs.Call.{Call, pends}
 use Rattle.forward_core.specs.Calls.{within, entries_of, numbers_of, after_last, asked_from, next_after}
 use Rattle.forward_core.specs.declared.course.Course.{Course}

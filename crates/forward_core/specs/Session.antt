@@ -4,8 +4,8 @@ use Rattle.std.specs.Io.KnownBytes.{IsAtEnd}
 use Rattle.known_numbers.specs.declared.stretch.Stretch.{Stretch}
 use Rattle.known_numbers.specs.Numbers.{IsInSome}
 use Rattle.event_form.specs.declared.event.Entry.{Entry}
-use Rattle.spool_log.specs.declared.reading.numbered.Numbered.{Numbered}
-use Rattle.spool_log.specs.Outcome.{AreNumbered}
+use Rattle.spool_answers.specs.declared.numbered.Numbered.{Numbered}
+use Rattle.spool_answers.specs.Pend.{AreNumbered}
 use Rattle.desk_access.specs.Call.{Call, pends, marks}
 use Rattle.forward_core.specs.Calls.{AreGranted, AreOfSession, IsMarked, MarksBelowRead, MarksFirst, after_last, entries_of, next_of, number_at, numbers_of, read_of}
 use Rattle.forward_core.specs.Course.{below}

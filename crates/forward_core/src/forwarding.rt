@@ -1,5 +1,6 @@
 //! Forwarding what a desk holds.
 ghost use Rattle.std.specs.Prelude.{◌≡◌, ◌<◌, ℕ, List};
+ghost use Rattle.forward_core.specs.Acknowledged.{MayRelease};
 ghost use Rattle.forward_core.specs.Forwarded.{Asked, CountsFaults, CountsWrites, Forwards};
 ghost use Rattle.forward_core.specs.Protocols.{EndsAs, HintsAs, settings_as};
 ghost use Rattle.forward_core.specs.Turning.{IsHalt};
@@ -32,6 +33,11 @@ use std::alloc::Global;
 /// - `DiskFault`, `NotSpool` and `Worn` come only from the last call on the desk, with its values.
 /// - `NoMemory` may come at any time.
 ///
+/// `earned` is the leave to mark, which the caller gives: once these bytes were read from the link, this text was
+/// written and these calls were made on the desk, a number may become known that the peer has acknowledged by then
+/// (`IsAcknowledged`). No other number is marked, also where `forward` never returns: none before the peer's bytes
+/// were judged, and none for bytes that weren't read.
+///
 /// By the collector's protocol each request has the token and the channel of `outward`, and a request's query is asked
 /// at most `polls` times, which is above 0; `rest` pauses before it is asked again.
 pub fn forward<L: Link, A: Access, Z: Pause>(
@@ -44,6 +50,8 @@ pub fn forward<L: Link, A: Access, Z: Pause>(
     requires free { (link : L) (text : List ℕ) → L.permits link text }
     requires polls { 0 < outward.now.polls }
     requires may { A.may_confirm access.old }
+    requires earned { MayRelease A.ran A.cursor_known A.end_known A.seen access.old L.same L.given L.taken link.old
+        (EndsAs (settings_as outward.now) outward.now.proto) A.may_release }
 
     ensures forwards { (start : ℕ) × (until : ℕ) × (begun : A) × Asked A.ran A.cursor_known A.end_known A.seen access.old start until begun
         × Forwards (EndsAs (settings_as outward.now) outward.now.proto) (HintsAs outward.now.proto) (L.given link.old) (L.given link.new)

@@ -1,8 +1,9 @@
 //! Marking before the peer's bytes are read.
 ghost use Rattle.std.specs.Prelude.{◌≡◌, ℕ, ◌++◌, ◌<◌, ◌≤◌, ◌^◌, ◌∷◌, [], List, Result, false, IfErr, OnOk, IsErrOf};
 ghost use Rattle.event_form.specs.declared.event.Entry.{Entry};
-ghost use Rattle.spool_log.specs.declared.fault.ConfirmFault.{ConfirmFault};
+ghost use Rattle.spool_answers.specs.declared.fault.ConfirmFault.{ConfirmFault};
 ghost use Rattle.desk_access.specs.Call.{marks};
+ghost use Rattle.forward_core.specs.Leave.{AreEarned};
 ghost use Rattle.forward_core.specs.Course.{reading_left};
 ghost use Rattle.forward_core.specs.Forwarded.{CountsFaults};
 ghost use Rattle.forward_core.specs.Moments.{Does, Leads, told};
@@ -28,6 +29,7 @@ pub(crate) fn hear<L: Link, A: Access, S: Outgoing>(
 ) -> Result<(), Sent>
     requires may { A.may_confirm access.old }
     requires end { course.old.end ≤ A.end_known access.old }
+    requires earned { AreEarned course.old.marks.items A.may_release }
     requires agrees { Agrees (S.given sender.old) (S.told sender.old) (S.first sender.old) (S.finished sender.old) course.old }
     requires fed { S.extent sender.old ≤ total.old }
     requires within { total.old ≤ 2 ^ 40 }

@@ -1,5 +1,5 @@
 //! What holds of sessions alone. These functions do nothing: each has a law as its contract.
-ghost use Rattle.forward_core.specs.Laws.{KnownAfter, OnlyMarkedIsKnown, RestIsLeft, SendsLeft, ToldIsGone};
+ghost use Rattle.forward_core.specs.Laws.{AcknowledgesLeft, KnownAfter, OnlyMarkedIsKnown, RestIsLeft, SendsLeft, ToldIsGone};
 
 /// After a session of which the desk refused no call, and with no other caller, the cursor and the stretches above it
 /// are those from before, with what the session marked.
@@ -11,6 +11,12 @@ pub fn marks_are_known()
 /// start, in order: its table of endings is that of all of them.
 pub fn session_sends_what_is_left()
     ensures { SendsLeft }
+{}
+
+/// With no other caller, a number that a session may mark was known at its start, or is that of an entry that the peer has
+/// acknowledged by then: one of those that the protocol's table counts, of all entries that weren't known.
+pub fn marks_are_acknowledged()
+    ensures { AcknowledgesLeft }
 {}
 
 /// Whatever the ending, no number becomes known but those that the session marked, or was refused to mark. The entries

@@ -22,8 +22,8 @@ mod write;
 
 pub use forwarding::forward;
 pub use laws::{
-    acknowledged_entries_are_gone, marks_are_known, only_marked_is_known, session_leaves_the_rest,
-    session_sends_what_is_left,
+    acknowledged_entries_are_gone, marks_are_acknowledged, marks_are_known, only_marked_is_known,
+    session_leaves_the_rest, session_sends_what_is_left,
 };
 pub use outgoing::Outgoing;
 pub use outward::Outward;

@@ -1,8 +1,9 @@
 //! Reading entries and giving them to the sender.
 ghost use Rattle.std.specs.Prelude.{◌≡◌, ℕ, ◌+◌, ◌<◌, ◌≤◌, ◌^◌, List, [], ◌∷◌, Option, length, false, true, All, IfOk, IfErr, OnOk, OnErr};
-ghost use Rattle.spool_log.specs.Outcome.{AreNumbered};
-ghost use Rattle.spool_log.specs.declared.reading.numbered.Numbered.{Numbered as TheNumbered};
+ghost use Rattle.spool_answers.specs.Pend.{AreNumbered};
+ghost use Rattle.spool_answers.specs.declared.numbered.Numbered.{Numbered as TheNumbered};
 ghost use Rattle.desk_access.specs.Call.{pends};
+ghost use Rattle.forward_core.specs.Leave.{AreEarned};
 ghost use Rattle.forward_core.specs.Calls.{asked_from};
 ghost use Rattle.forward_core.specs.Course.{SameCourse, reading_left};
 ghost use Rattle.forward_core.specs.Moments.{Calls, LeadsBy};
@@ -17,7 +18,7 @@ use crate::outgoing::Outgoing;
 use crate::sent::Sent;
 use desk_access::Access;
 use event_form::Entry;
-use spool_log::{Numbered, PendFault};
+use spool_answers::{Numbered, PendFault};
 use std::alloc::{AllocError, Global};
 use std::collections::VecDeque;
 
@@ -182,6 +183,7 @@ pub(crate) fn supply<A: Access, S: Outgoing>(
 ) -> Result<(), Sent>
     requires may { A.may_confirm access.old }
     requires end { course.old.end ≤ A.end_known access.old }
+    requires earned { AreEarned course.old.marks.items A.may_release }
     requires asked { S.asked sender.old }
     requires agrees { Agrees (S.given sender.old) (S.told sender.old) (S.first sender.old) (S.finished sender.old) course.old }
     requires unfinished { S.finished sender.old → ⊥ }

@@ -1,5 +1,7 @@
 //! One session: what is done for each turn of the sender.
 ghost use Rattle.std.specs.Prelude.{◌≡◌, ◌<◌, ◌≤◌, ◌^◌, ◌∷◌, [], ℕ, List, false, IfErr, IfNone, IfSome, OnOk, IsErrAnd, IsErrOf};
+ghost use Rattle.forward_core.specs.Acknowledged.{IsAcknowledged};
+ghost use Rattle.forward_core.specs.Leave.{MayMark};
 ghost use Rattle.forward_core.specs.Acting.{GoesOn};
 ghost use Rattle.forward_core.specs.Course.{below, work_left};
 ghost use Rattle.forward_core.specs.Forwarded.{CountsFaults, CountsWrites, Forwards};
@@ -54,6 +56,9 @@ fn step<L: Link, A: Access, Z: Pause, S: Outgoing>(
     requires agrees { Agrees (S.given sender.old) (S.told sender.old) (S.first sender.old) (S.finished sender.old) course.old }
     requires fed { S.extent sender.old ≤ total.old }
     requires within { total.old ≤ 2 ^ 40 }
+    requires earned { MayMark A.ran access.old L.same (λ (l : L). told (L.given l) (L.left l) (L.taken l)) link.old
+        (λ n. Leads (Stands (S.has_sent sender.old) false total.old course.old)
+        (λ start bytes calls text. IsAcknowledged (S.ends (S.settings sender.old)) start course.old.end bytes calls text n)) A.may_release }
 
     ensures goes { OnOk result (Does (λ calls. A.ran access.old calls access.new)
         (told (L.given link.old) (L.left link.old) (L.taken link.old)) (told (L.given link.new) (L.left link.new) (L.taken link.new))
@@ -120,6 +125,8 @@ pub(crate) fn run<L: Link, A: Access, Z: Pause, S: Outgoing>(
     requires untold { S.told sender.old ≡ 0 }
     requires unfed { S.extent sender.old ≡ 0 }
     requires unfinished { S.finished sender.old → ⊥ }
+    requires earned { MayMark A.ran access.old L.same (λ (l : L). told (L.given l) (L.left l) (L.taken l)) link.old
+        (λ n bytes calls text. IsAcknowledged (S.ends (S.settings sender.old)) course.old.next course.old.end bytes calls text n) A.may_release }
 
     ensures forwards { Forwards (S.ends (S.settings sender.old)) S.hints (L.given link.old) (L.given link.new) (L.left link.old) (L.left link.new)
         (L.taken link.old) (L.taken link.new) (λ calls. A.ran access.old calls access.new) course.old.next course.old.end result }

@@ -2,6 +2,7 @@
 ghost use Rattle.std.specs.Prelude.{◌≡◌, ◌<◌, ◌≤◌, ◌∷◌, [], ℕ, List, length, take, IfErr, OnOk, IsErrOf, IsErrAnd};
 ghost use Rattle.std.specs.Io.KnownBytes.{Appends};
 ghost use Rattle.desk_access.specs.Call.{Call};
+ghost use Rattle.forward_core.specs.Leave.{AreEarned};
 ghost use Rattle.forward_core.specs.Forwarded.{CountsWrites};
 ghost use Rattle.forward_core.specs.Marking.{EndsSo};
 ghost use Rattle.forward_core.specs.Turning.{IsHalt};
@@ -23,6 +24,7 @@ pub(crate) fn write<L: Link, A: Access>(
     requires free { (link : L) (text : List ℕ) → L.permits link text }
     requires may { A.may_confirm access.old }
     requires end { course.old.end ≤ A.end_known access.old }
+    requires earned { AreEarned course.old.marks.items A.may_release }
 
     ensures whole { OnOk result (Appends (L.taken link.old) (L.taken link.new) text.now) }
     ensures none { OnOk result (A.ran access.old [] access.new) }

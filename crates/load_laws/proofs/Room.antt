@@ -13,8 +13,8 @@ use Rattle.spool_state.specs.SpoolState.{OpenSlot, SpoolState, base, entries_in,
 use Rattle.spool_state.proofs.Begun.{base-begun, entries_in-push, list-begun}
 use Rattle.spool_state.proofs.Frees.{none_closed}
 use Rattle.spool_state.proofs.Texts.{entries_of-with_group, length-head_text, length-segment_text-with_group, list-added}
-use Rattle.spool_log.specs.Changing.Take.{Fits}
-use Rattle.spool_log.specs.Stages.{closed_stages, group_stages, last_of}
+use Rattle.spool_answers.specs.Take.{Fits}
+use Rattle.spool_answers.specs.Stages.{closed_stages, group_stages, last_of}
 use Rattle.desk_access.specs.declared.standing.Standing.{Standing}
 use Rattle.desk_access.specs.Call.{Call, Record, calls_of, taken_by, taken_of, takes}
 use Rattle.desk_access.specs.Desk.{Answers, DeskState, Goes}

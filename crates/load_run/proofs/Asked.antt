@@ -1,7 +1,7 @@
 -- The cursor and the end that a session asks for are those of the desk's state.
 use Rattle.std.proofs.Common.{◌≡◌, ℕ, List, [], ◌∷◌, refl, ap, subst, arith}
 use Rattle.spool_state.specs.SpoolState.{end}
-use Rattle.desk_access.specs.Alone.{AloneView, IsAt, Ran, HasSeen, LeadsFrom}
+use Rattle.spool_desk.specs.Alone.{AloneView, IsAt, Ran, HasSeen, LeadsFrom}
 use Rattle.desk_access.specs.Call.{Record, AreBy}
 use Rattle.desk_access.specs.Desk.{DeskState}
 use Rattle.forward_core.specs.Forwarded.{Asked}

@@ -4,11 +4,11 @@ use Rattle.std.specs.Prelude.{Result, Ok, Err, IfErr, MatchResult, OnOk}
 use Rattle.event_form.specs.declared.talk.Talk.{Talk}
 use Rattle.edge_io.specs.declared.proto.Proto.{Proto}
 use Rattle.spool_state.specs.SpoolState.{end}
-use Rattle.desk_access.specs.Alone.{AloneView, IsAt}
+use Rattle.spool_desk.specs.Alone.{AloneView, IsAt}
 use Rattle.desk_access.specs.Desk.{DeskState}
-use Rattle.desk_access.specs.Standing.{standing_in}
+use Rattle.spool_desk.specs.Standing.{standing_in}
 use Rattle.desk_access.specs.declared.standing.Standing.{Standing}
-use Rattle.desk_access.proofs.Leading.{standing_known}
+use Rattle.spool_desk.proofs.Leading.{standing_known}
 use Rattle.forward_core.specs.declared.sent.Sent.{Sent}
 use Rattle.forward_core.specs.declared.sent.Sent.TheVariants as sents
 use Rattle.load_run.specs.declared.loaded.LoadFault.{LoadFault}

@@ -5,12 +5,12 @@ use Rattle.foundation.specs.Faults.{Rose}
 use Rattle.spool_state.specs.SpoolState.{SpoolState}
 use Rattle.hec_ids.specs.Table.{Table}
 use Rattle.hec_ids.specs.Rows.{opened}
-use Rattle.desk_access.specs.Alone.{AloneView, IsAt, Ran}
+use Rattle.spool_desk.specs.Alone.{AloneView, IsAt, Ran}
 use Rattle.desk_access.specs.Call.{Call, failures_of}
 use Rattle.desk_access.specs.Desk.{DeskState, desk_of}
 use Rattle.desk_access.specs.Journal.{calls_by}
-use Rattle.desk_access.specs.Standing.{standing_in}
-use Rattle.desk_access.proofs.Leading.{standing_known}
+use Rattle.spool_desk.specs.Standing.{standing_in}
+use Rattle.spool_desk.proofs.Leading.{standing_known}
 use Rattle.load_run.specs.Runs.{LeadsTo, desk_in}
 
 -- a count that stands at 0 rose by nothing

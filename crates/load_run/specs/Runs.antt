@@ -5,7 +5,7 @@ use Rattle.edge_io.specs.declared.proto.Proto.{Proto}
 use Rattle.spool_state.specs.SpoolState.{SpoolState}
 use Rattle.hec_ids.specs.Rows as Ids
 use Rattle.hec_session.specs.declared.tokens.Tokens.{Tokens}
-use Rattle.desk_access.specs.Alone.{AloneView, IsAt}
+use Rattle.spool_desk.specs.Alone.{AloneView, IsAt}
 use Rattle.desk_access.specs.Call.{Call, Record, AreBy, failures_of}
 use Rattle.desk_access.specs.Desk.{DeskState, desk_of, Goes}
 use Rattle.desk_access.specs.Step.{count}

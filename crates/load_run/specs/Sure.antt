@@ -2,8 +2,8 @@
 use Rattle.std.specs.Prelude.{◌≡◌, ◌⊎◌, ℕ, false, IsTrue, List}
 use Rattle.std.proofs.Common.{inl, inr}
 use Rattle.edge_disk.specs.Disk.{Moment, IsLawful}
-use Rattle.edge_disk.specs.MemDisk.{NeverFails, held_of, mem_moment}
-use Rattle.edge_disk.specs.declared.memory.MemDisk.{MemDisk}
+use Rattle.edge_memory.specs.MemDisk.{NeverFails, held_of, mem_moment}
+use Rattle.edge_memory.specs.declared.memory.MemDisk.{MemDisk}
 
 -- the moment with a count of faults that stands at 0
 abbrev pub unfailing : Moment → Moment

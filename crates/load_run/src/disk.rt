@@ -1,7 +1,8 @@
 //! The disk of a load.
-ghost use Rattle.edge_disk.specs.MemDisk.{NeverFails};
+ghost use Rattle.edge_memory.specs.MemDisk.{NeverFails};
 
-use edge_disk::{Disk, DiskFault, MemDisk};
+use edge_disk::{Disk, DiskFault};
+use edge_memory::MemDisk;
 use std::alloc::{AllocError, Global};
 
 /// A disk in memory of which no call fails. It tells what it reads, and no images.
@@ -24,7 +25,7 @@ impl SureDisk {
 }
 
 impl Disk for SureDisk {
-    ghost use Rattle.edge_disk.specs.HeldLaws.{lawful, stands_in};
+    ghost use Rattle.edge_memory.specs.HeldLaws.{lawful, stands_in};
     ghost use Rattle.load_run.specs.Sure.{sure_lawful, sure_moment, sure_stands};
 
     ghost tells = { Unit {0} };
@@ -32,6 +33,8 @@ impl Disk for SureDisk {
     ghost tells_images = { λ _. ⊥ };
 
     ghost moment = { λ d. sure_moment d.disk };
+
+    ghost may_release = { λ _. Unit {0} };
 
     ghost reads_too = { λ d images. tt };
 

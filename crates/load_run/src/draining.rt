@@ -1,7 +1,7 @@
 //! The drain: what a desk holds is sent to a peer that confirms all.
 ghost use Rattle.std.specs.Prelude.{◌≡◌, ◌≢◌, ◌<◌, IsTrue};
 ghost use Rattle.spool_state.specs.SpoolState.{end};
-ghost use Rattle.desk_access.specs.Alone.{alone_at, IsAt};
+ghost use Rattle.spool_desk.specs.Alone.{alone_at, IsAt};
 ghost use Rattle.desk_access.specs.Desk.{DeskState};
 ghost use Rattle.forward_core.specs.Protocols.{settings_as};
 ghost use Rattle.load_run.specs.Runs.{Drains, LeadsTo, settings};
@@ -11,9 +11,9 @@ use crate::disk::SureDisk;
 use crate::feeding::Feed;
 use crate::resting::NoRest;
 use crate::stream::{CHANNEL, TOKEN};
-use desk_access::Alone;
 use edge_io::{Both, Proto};
 use forward_core::{Outward, Sent, forward};
+use spool_desk::Alone;
 use std::alloc::Global;
 
 /// What came of the session.

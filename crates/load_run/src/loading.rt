@@ -1,9 +1,9 @@
 //! A load from its number to its counts.
 ghost use Rattle.std.specs.Prelude.{◌≡◌, ◌≢◌, ◌⊎◌, ◌≤◌, ◌+◌, ℕ, [], false, length, IfOk, IfErr, IsTrue, MatchResult, OnOk};
 ghost use Rattle.spool_log.specs.State.{view, IsIn};
-ghost use Rattle.desk_access.specs.Alone.{alone_at, IsAt};
+ghost use Rattle.spool_desk.specs.Alone.{alone_at, IsAt};
 ghost use Rattle.desk_access.specs.Desk.{DeskState};
-ghost use Rattle.desk_access.specs.Standing.{standing_in};
+ghost use Rattle.spool_desk.specs.Standing.{standing_in};
 ghost use Rattle.load_run.specs.Load.{IsDrainedOf, IsFailed, IsIll, IsLoaded, IsStopped, IsUndrained, IsWell, new_spool};
 ghost use Rattle.load_run.specs.Runs.{desk_in};
 ghost use Rattle.load_run.specs.Sure.{sure_moment};
@@ -14,11 +14,11 @@ use crate::peer::peer;
 use crate::replaying::{Served, replay};
 use crate::stream::stream;
 use crate::{LoadFault, Loaded};
-use desk_access::{Alone, Desk};
 use edge_io::Proto;
 use event_form::Talk;
 use forward_core::Sent;
 use hec_ids::Ids;
+use spool_desk::{Alone, Desk};
 use spool_log::{Opening, RecoverFault, Spool, format};
 use std::alloc::Global;
 

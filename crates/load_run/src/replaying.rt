@@ -1,6 +1,6 @@
 //! The replay: the stream of a load is served as a sender's connection.
 ghost use Rattle.std.specs.Prelude.{◌≡◌, ◌≢◌, ℕ, List, length, IsTrue};
-ghost use Rattle.desk_access.specs.Alone.{alone_at, IsAt};
+ghost use Rattle.spool_desk.specs.Alone.{alone_at, IsAt};
 ghost use Rattle.desk_access.specs.Desk.{DeskState};
 ghost use Rattle.conn_serve.specs.Tokens.{tokens_of};
 ghost use Rattle.load_run.specs.Runs.{LeadsTo, Replays, tokens};
@@ -10,9 +10,9 @@ use crate::disk::SureDisk;
 use crate::feeding::Feed;
 use crate::stream::TOKEN;
 use conn_serve::{Rules, attend};
-use desk_access::Alone;
 use edge_io::{Both, Proto};
 use event_form::Talk;
+use spool_desk::Alone;
 use std::alloc::Global;
 
 /// The number of the connection, the first one of the spool's first run.

@@ -3,7 +3,7 @@ use Rattle.std.proofs.Common.{◌≡◌, ◌∙◌, ℕ, List, [], ◌∷◌, le
 use Rattle.std.specs.Prelude.{Ok, vec_len}
 use Rattle.std.specs.Global.{Vec}
 use Rattle.std.proofs.lemmas.Bool.{eqb-true, eqb-false}
-use Rattle.spool_log.specs.declared.reading.numbered.Numbered.{Numbered}
+use Rattle.spool_answers.specs.declared.numbered.Numbered.{Numbered}
 use Rattle.serve_forwarder.specs.Looks.{IsPending}
 
 none_of : (many : ℕ) (given : List Numbered) → many ≡ length given → eqb many 0 ≡ true → given ≡ []

@@ -8,8 +8,8 @@ use Rattle.edge_io.specs.Net.{HungUp, NetState, HasNetCause}
 use Rattle.edge_io.specs.Told.{Adds}
 use Rattle.edge_io.specs.declared.net_fault.NetFault.{NetFault}
 use Rattle.edge_io.specs.declared.net_fault.NetFault.TheVariants.{Fault, NoMemory}
-use Rattle.spool_log.specs.declared.fault.PendFault.{PendFault}
-use Rattle.spool_log.specs.declared.reading.numbered.Numbered.{Numbered}
+use Rattle.spool_answers.specs.declared.fault.PendFault.{PendFault}
+use Rattle.spool_answers.specs.declared.numbered.Numbered.{Numbered}
 use Rattle.desk_access.specs.Call.{pends}
 use Rattle.desk_access.specs.Desk.{DeskState}
 use Rattle.forward_core.specs.Protocols.{HintsAs}

@@ -1,3 +1,4 @@
 pub mod Sessions
 pub mod Looks
+pub mod Released
 pub mod Laws

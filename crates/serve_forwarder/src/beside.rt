@@ -1,6 +1,9 @@
 //! Looking again and again, beside those who store.
 ghost use Rattle.std.specs.Prelude.{◌≡◌, ◌+◌, ◌<◌, List};
+ghost use Rattle.forward_core.specs.Exchanged.{HasExchangedAt};
+ghost use Rattle.spool_turns.specs.Replays.{IsReal};
 ghost use Rattle.serve_forwarder.specs.Looks.{AreLooks, Look};
+ghost use Rattle.serve_forwarder.specs.Released.{MayRelease};
 
 use crate::Destination;
 use crate::looking::{Outcome, look};
@@ -17,7 +20,7 @@ use std::sync::atomic::{AtomicBool, Ordering};
 ///
 /// After a session that ended as `Drained` (all entries up to its end were sent, and the peer acknowledged them) it looks again at
 /// once. After any other outcome, as where nothing is pending, it pauses first, for as long as `net` says. The destination's place is
-/// one that may be dialed.
+/// one that may be dialed, and a number may become known as confirmed once the peer there has acknowledged its entry (`earned`).
 pub fn forward_beside<N: Net, D: Disk, J: Naming, R: Wait>(
     alloc: Global,
     destination: &Destination,
@@ -28,6 +31,8 @@ pub fn forward_beside<N: Net, D: Disk, J: Naming, R: Wait>(
     requires confirms { seated.old.pass.number + 1 ≡ J.seats }
     requires polls { 0 < destination.now.outward.polls }
     requires named { N.may_dial destination.now.place }
+    requires earned { MayRelease (IsReal D.Disk J.start J.run J.seats J.began) J.start destination.now.outward
+        (HasExchangedAt N.L.same N.L.dialed N.L.given N.L.taken destination.now.place) D.may_release }
 
     ensures { (looks : List Look) × AreLooks J.start destination.now.outward destination.now.place looks seated.old.pass seated.new.pass
         (N.told net.old) (N.told net.new) }

@@ -1,14 +1,19 @@
 //! One look at what is pending.
 ghost use Rattle.std.specs.Prelude.{◌≡◌, ◌+◌, ◌<◌, IfOk, IfErr};
+ghost use Rattle.forward_core.specs.Acknowledged as session;
+ghost use Rattle.forward_core.specs.Exchanged.{HasExchangedAt, IsNewAt};
+ghost use Rattle.forward_core.specs.Protocols.{EndsAs, settings_as};
+ghost use Rattle.spool_turns.specs.Replays.{IsReal};
 ghost use Rattle.serve_forwarder.specs.Sessions.{Session, IsHeldBy, HangsUp};
 ghost use Rattle.serve_forwarder.specs.Looks.{FailsDial, IsLook, Look, outcome_of};
+ghost use Rattle.serve_forwarder.specs.Released.{MayRelease};
 
 use crate::Destination;
 use desk_access::Access;
 use edge_disk::Disk;
 use edge_io::{Net, NetFault};
 use forward_core::{Sent, forward};
-use spool_log::PendFault;
+use spool_answers::PendFault;
 use spool_turns::{Naming, Seated};
 use std::alloc::Global;
 use std::sync::Wait;
@@ -36,6 +41,9 @@ fn hold<N: Net, A: Access>(
     requires confirms { A.may_confirm access.old }
     requires polls { 0 < destination.now.outward.polls }
     requires named { N.may_dial destination.now.place }
+    requires earned { (link : N.L) → IsNewAt destination.now.place (N.L.dialed link) (N.L.given link) (N.L.taken link)
+        → session.MayRelease A.ran A.cursor_known A.end_known A.seen access.old N.L.same N.L.given N.L.taken link
+        (EndsAs (settings_as destination.now.outward) destination.now.outward.proto) A.may_release }
 
     ensures held { IfOk result (λ sent. (one : Session) × IsHeldBy A.ran A.cursor_known A.end_known A.seen destination.now.outward one access.old access.new
         × HangsUp destination.now.place one (N.told net.old) (N.told net.new) × (sent ≡ one.sent)) }
@@ -57,6 +65,9 @@ fn hold<N: Net, A: Access>(
 /// The pass is the one that may confirm, which has the greatest number. The destination's place is one that may be dialed. `polls` of
 /// the destination, above 0, is how often at most a collector is asked whether a request is acknowledged.
 ///
+/// `earned` is the leave to make numbers known as confirmed, which the caller gives: a number may become known once the peer at the
+/// place has acknowledged its entry (`MayRelease`). No other number does, also where the session never ends.
+///
 /// Where the desk is in doubt, as after a call of the disk that failed, the question first finds out what the disk holds. `Unread`
 /// comes where the desk refuses the question, `Undialed` where the dial fails or finds no memory. At each outcome but `Held` the
 /// question was the only call on the desk.
@@ -69,6 +80,8 @@ pub fn look<N: Net, D: Disk, J: Naming, R: Wait>(
     requires confirms { seated.old.pass.number + 1 ≡ J.seats }
     requires polls { 0 < destination.now.outward.polls }
     requires named { N.may_dial destination.now.place }
+    requires earned { MayRelease (IsReal D.Disk J.start J.run J.seats J.began) J.start destination.now.outward
+        (HasExchangedAt N.L.same N.L.dialed N.L.given N.L.taken destination.now.place) D.may_release }
 
     ensures { (one : Look) × IsLook J.start destination.now.outward destination.now.place one seated.old.pass seated.new.pass (N.told net.old) (N.told net.new)
         × (result ≡ outcome_of one.found) }

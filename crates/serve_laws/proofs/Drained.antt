@@ -9,9 +9,9 @@ use Rattle.spool_state.specs.SpoolState.{SpoolState, end, numbers_of}
 use Rattle.spool_state.specs.Left.{NumberedEntry, left, left_from}
 use Rattle.spool_state.proofs.Lefts.{left_from-base}
 use Rattle.spool_state.proofs.Unknown.{IsOf, unknown_none}
-use Rattle.spool_log.specs.declared.reading.numbered.Numbered.{Numbered}
-use Rattle.spool_log.specs.Outcome.{AreNumbered, given_entries}
-use Rattle.spool_log.specs.Stages.{IsOneOf}
+use Rattle.spool_answers.specs.declared.numbered.Numbered.{Numbered}
+use Rattle.spool_answers.specs.Pend.{AreNumbered, given_entries}
+use Rattle.spool_answers.specs.Stages.{IsOneOf}
 use Rattle.desk_access.specs.Call.{Call, Record, calls_of, pends}
 use Rattle.desk_access.specs.Desk.{Answers, DeskState, Goes}
 use Rattle.desk_access.specs.History.{IsDesk}

@@ -15,18 +15,20 @@ use Rattle.spool_state.specs.Image.{StandsFor}
 use Rattle.spool_state.specs.SpoolState.{SpoolState}
 use Rattle.desk_access.specs.Call.{Call, asks, Record, own_of, calls_of}
 use Rattle.desk_access.specs.Desk.{DeskState, Goes}
-use Rattle.desk_access.specs.Durable.{IsToldTrue, KeepsCalls}
+use Rattle.desk_access.specs.Durable.{IsToldTrue, KeepsCalls, KeepsSince, StaysTaken, left_since}
+use Rattle.desk_access.specs.Groups.{Group, groups_of}
 use Rattle.desk_access.specs.History.{IsDesk, AllKept}
 use Rattle.desk_access.specs.Journal.{calls_then, goes_parts}
 use Rattle.desk_access.specs.Legal.{AddsGroups, IsLegal, Met, IsStored}
 use Rattle.desk_access.proofs.Durable.{keeps_some, one_durable, own_kept}
 use Rattle.desk_access.proofs.Groups.{stored_group}
 use Rattle.desk_access.proofs.Lasting.{kept_parts}
+use Rattle.desk_access.proofs.Since.{place_of, since_taken}
 use Rattle.desk_access.proofs.Told.{told_was_taken}
 use Rattle.hec_session.specs.declared.tokens.Tokens.{Tokens}
 use Rattle.conn_serve.specs.declared.rules.Rules.{Rules}
 use Rattle.conn_serve.specs.Acked.{Acknowledges}
-use Rattle.conn_serve.specs.Durable.{AnswersAreDurable}
+use Rattle.conn_serve.specs.Durable.{AnswersAreDurable, IsToldDurably}
 use Rattle.conn_serve.specs.HecAcked.{TellsTrue}
 use Rattle.conn_serve.specs.Hec.{hec}
 use Rattle.conn_serve.specs.Says.{PromisesNothing}
@@ -34,35 +36,13 @@ use Rattle.conn_serve.specs.Serves.{CarriedAs}
 use Rattle.conn_serve.specs.Tokens.{tokens_of}
 use Rattle.conn_serve.proofs.Durable.{acked_durably, stored_durably}
 use Rattle.conn_serve.proofs.HecAcks.{said_lies_whole}
-use Rattle.conn_serve.proofs.Late.{asks_late, kept_late}
+use Rattle.conn_serve.proofs.Late.{asks_late, groups_late, kept_late}
 use Rattle.desk_access.specs.Carried.{Carried}
 use Rattle.serve_workers.specs.Served.{Served, calls_in, IsServed, AreServed, Tells, TellsMore}
-use Rattle.serve_laws.specs.Durable.{IsToldDurably, IsLinkDurable, IsTalkDurable}
+use Rattle.serve_laws.specs.Durable.{IsLinkDurable, IsTalkDurable}
 use Rattle.serve_laws.proofs.Ids.{id_whole}
 
 -- ---- an id for which true was answered
-
--- where a call of a caller stands in the journal
-record Place (number : ℕ) (log : List Record) (call : Call) : Type 0 where
-  before : List Record
-  one : Record
-  after : List Record
-  parts : log ≡ before ++ one ∷ after
-  by : one.by ≡ number
-  is : one.call ≡ call
-
-place_behind : (number : ℕ) (first : Record) (log : List Record) (call : Call) → Place number log call → Place number (first ∷ log) call
-place_behind number first log call p = record { before = first ∷ p.before; one = p.one; after = p.after; parts = ap (λ (l : List Record). first ∷ l) p.parts; by = p.by; is = p.is }
-
-place_of : (number : ℕ) (log : List Record) (first : List Call) (call : Call) (more : List Call) → own_of number log ≡ first ++ call ∷ more → Place number log call
-place_of number [] [] call more is = absurd (cc is)
-place_of number [] (one ∷ first) call more is = absurd (cc is)
-place_of number (one ∷ log) first call more is = by (λ (rest : List Call) (same : own_of number log ≡ rest ++ call ∷ more). place_of number log rest call more same) (one.by == number) refl first is where
-  by : ((rest : List Call) → own_of number log ≡ rest ++ call ∷ more → Place number log call) → (b : Bool) → (one.by == number) ≡ b → (first : List Call)
-      → cond b (one.call ∷ own_of number log) (own_of number log) ≡ first ++ call ∷ more → Place number (one ∷ log) call
-  by behind true same [] is = record { before = []; one = one; after = log; parts = refl; by = eqb-true one.by number same; is = cc is }
-  by behind true same (other ∷ first) is = place_behind number one log call (behind first (cc is))
-  by behind false same first is = place_behind number one log call (behind first is)
 
 met_first : (run confirming : ℕ) (before log more : List Record) → Met run confirming before (log ++ more) → Met run confirming before log
 met_first run confirming before [] more m = tt
@@ -72,17 +52,17 @@ met_first run confirming before (one ∷ log) more m = (m.0, met_first run confi
 module _ (x y : DeskState) (confirming : ℕ) (log : List Record) (rules : IsDesk x) (none : x.ids.held ≡ [])
     (goes : Goes x log y) (met : Met x.spool.run confirming [] log)
     (legal : (groups : List (List Entry)) → AddsGroups (calls_of log) groups → IsLegal x.spool.run groups)
-    (now : Moment) (keeps : KeepsCalls now (calls_of log)) where
+    (now : Moment) (keeps : KeepsCalls now (calls_of log)) (stays : KeepsSince log now) where
   -- an id for which a question of the journal was answered true
   told_at : (number channel id : ℕ) (before : List Record) (one : Record) (after : List Record) (ids : List ℕ) (known : List Bool) (k : ℕ) → log ≡ before ++ one ∷ after → one.by ≡ number
       → one.call ≡ asks channel ids known → k < length ids → get_or ids k 0 ≡ id → get_or known k false ≡ true → IsToldDurably log number now channel id
   told_at number channel id before one after ids known k parts by is short is_id told =
-      let asked : Record = record { by = one.by; call = asks channel ids known; met = one.met; after = one.after } in
-      let same : one ≡ asked = λ i. record { by = one.by; call = is i; met = one.met; after = one.after } in
+      let asked : Record = record { by = one.by; call = asks channel ids known; met = one.met; after = one.after; clock = one.clock } in
+      let same : one ≡ asked = λ i. record { by = one.by; call = is i; met = one.met; after = one.after; clock = one.clock } in
       let whole : log ≡ (before ++ one ∷ []) ++ after = parts ∙ sym (append_assoc before (one ∷ []) after) in
       let first = goes_parts x y (before ++ one ∷ []) after (subst (λ (l : List Record). Goes x l y) whole goes) in
       let met_before = met_first x.spool.run confirming [] before (one ∷ after) (subst (Met x.spool.run confirming []) parts met) in
-      let found = told_was_taken x first.0 before confirming one.by channel ids known one.met one.after k rules none (subst (λ (r : Record). Goes x (before ++ r ∷ []) first.0) same first.1) met_before short told in
+      let found = told_was_taken x first.0 before confirming one.by channel ids known one.met one.after one.clock k rules none (subst (λ (r : Record). Goes x (before ++ r ∷ []) first.0) same first.1) met_before short told in
       let g = stored_group (own_of found.0 before) id (subst (IsStored (own_of found.0 before)) is_id found.1) in
       record {
         before = before;
@@ -98,6 +78,10 @@ module _ (x y : DeskState) (confirming : ℕ) (log : List Record) (rules : IsDes
         durable = one_durable now (own_of found.0 before) g.0
             (keeps_some now (calls_of log) (own_of found.0 before)
             (λ s kept. own_kept s found.0 before (kept_parts s (calls_of before) (calls_of (one ∷ after)) (subst (AllKept s) (ap calls_of parts ∙ calls_then before (one ∷ after)) kept)).0) keeps) g.1;
+        answered = (stays before one after parts).0;
+        since = one_durable (left_since one.clock now) (own_of found.0 before) g.0
+            (keeps_some (left_since one.clock now) (calls_of (before ++ one ∷ [])) (own_of found.0 before)
+            (λ s kept. own_kept s found.0 before (kept_parts s (calls_of before) (one.call ∷ []) (subst (AllKept s) (calls_then before (one ∷ [])) kept)).0) (stays before one after parts).1) g.1;
         whole = λ large added adds. id_whole x.spool.run found.0 id log before (one ∷ after) g.0 added parts g.1 g.2 large legal adds;
       }
 
@@ -124,10 +108,10 @@ module _ (x y : DeskState) (confirming : ℕ) (log : List Record) (rules : IsDes
       → AnswersAreDurable proto tokens conn left b calls text talk carried now (IsToldDurably log number now)
   answers number first made late behind Relp tokens conn left b calls text talk carried own are nothing kept = tt
   answers number first made late behind Lumberjack tokens conn left b calls text talk carried own are nothing kept = tt
-  answers number first made late behind Hec tokens conn left b calls text talk carried own are nothing kept = record {
-    stored = stored_durably tokens conn left b calls text talk now carried kept;
-    told = told_durably number first made late behind tokens conn left b calls text talk carried own are nothing;
-  }
+  answers number first made late behind Hec tokens conn left b calls text talk carried own are nothing kept = (
+    stored_durably tokens conn left b calls text talk now carried kept,
+    told_durably number first made late behind tokens conn left b calls text talk carried own are nothing,
+  )
 
   -- A link of which all calls were made, but for those that promise nothing.
   pub link_durable : (number : ℕ) (first made late behind : List Call) (by : Rules) (one : Served) → IsServed by one
@@ -140,6 +124,7 @@ module _ (x y : DeskState) (confirming : ℕ) (log : List Record) (rules : IsDes
         served = served;
         acked = λ numbers says. acked_durably by.proto (tokens_of by) one.conn one.left one.bytes one.calls one.text one.talk now numbers served kept says;
         answers = λ carried. answers number first made late behind by.proto (tokens_of by) one.conn one.left one.bytes one.calls one.text one.talk carried own are nothing kept;
+        since = subst (λ (l : List Group). All (StaysTaken log number now) l) (sym (ap groups_of are ∙ groups_late made late nothing)) (since_taken log now stays number first made behind own);
       }
 
   pub links_durable : (number : ℕ) (before : List Call) (by : Rules) (conn : ℕ) (links : List Served) → AreServed by conn links → own_of number log ≡ before ++ calls_in links → All (IsLinkDurable log number now by) links
@@ -168,10 +153,10 @@ answers_of_none : (log : List Record) (number : ℕ) (now : Moment) (proto : Pro
     → AnswersAreDurable proto tokens conn left b calls text talk carried now (IsToldDurably log number now)
 answers_of_none log number now Relp tokens conn left b calls text talk carried nothing kept = tt
 answers_of_none log number now Lumberjack tokens conn left b calls text talk carried nothing kept = tt
-answers_of_none log number now Hec tokens conn left b calls text talk carried nothing kept = record {
-  stored = stored_durably tokens conn left b calls text talk now carried kept;
-  told = told_of_none log number now tokens conn left b calls text talk carried nothing;
-}
+answers_of_none log number now Hec tokens conn left b calls text talk carried nothing kept = (
+  stored_durably tokens conn left b calls text talk now carried kept,
+  told_of_none log number now tokens conn left b calls text talk carried nothing,
+)
 
 -- its text acknowledges nothing, whatever the spool for which a crash leaves the disk
 pub none_durable : (log : List Record) (number : ℕ) (now : Moment) (by : Rules) (one : Served) → IsServed by one → All PromisesNothing one.calls
@@ -182,6 +167,7 @@ none_durable log number now by one served nothing stands =
       served = served;
       acked = λ numbers says. acked_durably by.proto (tokens_of by) one.conn one.left one.bytes one.calls one.text one.talk now numbers served kept says;
       answers = λ carried. answers_of_none log number now by.proto (tokens_of by) one.conn one.left one.bytes one.calls one.text one.talk carried nothing kept;
+      since = subst (λ (l : List Group). All (StaysTaken log number now) l) (sym (groups_late [] one.calls nothing)) (All-nil (StaysTaken log number now));
     }
 
 -- ---- what a door reports

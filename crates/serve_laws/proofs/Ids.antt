@@ -12,7 +12,7 @@ use Rattle.desk_access.specs.Groups.{Group, IsOfId, groups_by, groups_of}
 use Rattle.desk_access.specs.History.{Adds, AddsAll}
 use Rattle.desk_access.specs.Journal.{calls_then}
 use Rattle.desk_access.specs.Legal.{AddsGroups, AreOfOthers, AreOneGroup, IsLegal, all_of}
-use Rattle.spool_turns.specs.OwnEntries.{of_unit}
+use Rattle.desk_access.specs.Legal.{of_unit}
 use Rattle.spool_turns.proofs.Picks.{picks_both, picks_none}
 use Rattle.serve_laws.proofs.Contributing.{in_groups}
 

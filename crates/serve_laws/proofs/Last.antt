@@ -6,10 +6,10 @@ use Rattle.event_form.specs.declared.event.Entry.{Entry}
 use Rattle.edge_disk.specs.Disk.{Moment}
 use Rattle.edge_io.specs.Net.{NetState}
 use Rattle.spool_state.specs.SpoolState.{SpoolState, end}
-use Rattle.spool_log.specs.declared.fault.PendFault.{PendFault}
-use Rattle.spool_log.specs.declared.reading.numbered.Numbered.{Numbered}
-use Rattle.spool_log.specs.Stages.{IsOneOf}
-use Rattle.desk_access.specs.Alone.{AloneView}
+use Rattle.spool_answers.specs.declared.fault.PendFault.{PendFault}
+use Rattle.spool_answers.specs.declared.numbered.Numbered.{Numbered}
+use Rattle.spool_answers.specs.Stages.{IsOneOf}
+use Rattle.spool_desk.specs.Alone.{AloneView}
 use Rattle.desk_access.specs.Call.{Call, Record, own_of, calls_of, pends}
 use Rattle.desk_access.specs.Desk.{DeskState, Goes}
 use Rattle.desk_access.specs.History.{IsDesk}

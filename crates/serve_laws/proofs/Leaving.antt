@@ -3,8 +3,8 @@ use Rattle.std.proofs.Common.{◌≡◌, ℕ, ◌≤◌, List, [], ◌∷◌, �
 use Rattle.std.specs.Prelude.{All, Some, Result, Ok, Err}
 use Rattle.edge_io.specs.Net.{NetState}
 use Rattle.spool_state.specs.SpoolState.{end}
-use Rattle.spool_log.specs.declared.fault.PendFault.{PendFault}
-use Rattle.spool_log.specs.declared.reading.numbered.Numbered.{Numbered}
+use Rattle.spool_answers.specs.declared.fault.PendFault.{PendFault}
+use Rattle.spool_answers.specs.declared.numbered.Numbered.{Numbered}
 use Rattle.desk_access.specs.Call.{Record, own_of, calls_of, pends}
 use Rattle.desk_access.specs.Desk.{DeskState, Goes}
 use Rattle.desk_access.specs.History.{IsDesk}

@@ -5,8 +5,8 @@ use Rattle.std.proofs.lemmas.List.Elements.{All-head}
 use Rattle.event_form.specs.declared.event.Entry.{Entry}
 use Rattle.edge_disk.specs.Disk.{Moment}
 use Rattle.spool_state.specs.SpoolState.{SpoolState}
-use Rattle.spool_log.specs.Stages.{StandsForOne}
-use Rattle.desk_access.specs.Alone.{AloneView}
+use Rattle.spool_answers.specs.Stages.{StandsForOne}
+use Rattle.spool_desk.specs.Alone.{AloneView}
 use Rattle.desk_access.specs.Call.{Record, calls_of}
 use Rattle.desk_access.specs.Desk.{DeskState}
 use Rattle.desk_access.specs.Legal.{AddsGroups, IsLegal, Met}
@@ -38,7 +38,7 @@ module _ (tells : Type 0) (start : DeskState → Type 0) (run seats : ℕ) (bega
       let p = closes.replays.leads x s in
       links_durable x p.after (seats - 1) log b.rules b.none_held p.goes (subst (λ (r : ℕ). Met r (seats - 1) [] log) (sym b.of_run) closes.met)
       (subst (λ (r : ℕ). (groups : List (List Entry)) → AddsGroups (calls_of log) groups → IsLegal r groups) (sym b.of_run) (closes.legal x s)) new.spool.moment
-      (λ c image. let k = closes.kept x s c image in (k.state, k.stands, k.kept)) number [] rules (first_conn run number) (links_of part) is.at_door.served is.at_door.calls
+      (λ c image. let k = closes.kept x s c image in (k.state, k.stands, k.kept)) (closes.stays x s) number [] rules (first_conn run number) (links_of part) is.at_door.served is.at_door.calls
 
   pub doors_tell_durable : DoorsTellDurable tells start run seats began new
   doors_tell_durable log passes closes talks number rules old new' report part is x s before told =

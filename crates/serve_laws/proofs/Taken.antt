@@ -8,7 +8,7 @@ use Rattle.event_form.specs.declared.event.Entry.{Entry}
 use Rattle.edge_io.specs.Door.{DoorState}
 use Rattle.edge_io.specs.Net.{NetState}
 use Rattle.spool_state.specs.SpoolState.{SpoolState, end}
-use Rattle.spool_log.specs.Stages.{IsOneOf}
+use Rattle.spool_answers.specs.Stages.{IsOneOf}
 use Rattle.desk_access.specs.Call.{Call, takes, Record, own_of, calls_of, taken_by, taken_of, failures_in, failures_of}
 use Rattle.desk_access.specs.Desk.{DeskState, Goes}
 use Rattle.desk_access.specs.History.{IsDesk, AddsAll, written_by}

@@ -7,7 +7,7 @@ use Rattle.edge_disk.specs.Disk.{Moment}
 use Rattle.edge_io.specs.Door.{DoorState, Talked}
 use Rattle.spool_state.specs.Image.{StandsFor}
 use Rattle.spool_state.specs.SpoolState.{SpoolState, list}
-use Rattle.desk_access.specs.Alone.{AloneView}
+use Rattle.spool_desk.specs.Alone.{AloneView}
 use Rattle.desk_access.specs.Call.{Record, calls_of, failures_of}
 use Rattle.desk_access.specs.Desk.{DeskState, Goes}
 use Rattle.desk_access.specs.History.{AddsAll}

@@ -2,8 +2,8 @@
 ghost use Rattle.spool_turns.specs.Replays.{desk_at};
 ghost use Rattle.serve_laws.specs.Last.{LastLookIsLast};
 
-use desk_access::Desk;
 use edge_disk::Disk;
+use spool_desk::Desk;
 use spool_turns::Naming;
 
 /// The last look of a run that forwards comes last of all: by then the forwarder has seen all that the workers did, and they do no

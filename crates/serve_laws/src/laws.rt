@@ -3,8 +3,8 @@ ghost use Rattle.spool_turns.specs.Replays.{desk_at};
 ghost use Rattle.serve_laws.specs.Laws.{AcknowledgedIsDurable, ConnectionsContribute, DiskFaultsAreCounted, DoorsTellDurable, EndCountsEntries};
 ghost use Rattle.serve_laws.specs.Laws.{NothingElseIsAdded, NothingIsLeft, OrderIsKept, OrderWasKept, ReportsCountLinks, WorkersHaveParts};
 
-use desk_access::Desk;
 use edge_disk::Disk;
+use spool_desk::Desk;
 use spool_turns::Naming;
 
 /// In the one journal of a run each worker has a part: the links that it served, one after another, by its rules. Their calls are all

@@ -1,8 +1,11 @@
 //! Workers, and a forwarder beside them.
 ghost use Rattle.std.specs.Prelude.{◌≡◌, ◌+◌, ◌<◌, ◌^◌, ◌≤◌, List, length, map, vec_len};
 ghost use Rattle.std.specs.Vec.{vec_capacity};
+ghost use Rattle.forward_core.specs.Exchanged.{HasExchangedAt};
+ghost use Rattle.spool_turns.specs.Replays.{IsReal};
 ghost use Rattle.serve_workers.specs.Crews.{AreNew, HaveWorked};
 ghost use Rattle.serve_forwarder.specs.Looks.{AreLooks, Look};
+ghost use Rattle.serve_forwarder.specs.Released.{MayRelease};
 
 use crate::working::{Task, work_beside};
 use edge_disk::Disk;
@@ -29,7 +32,9 @@ impl<'a, N: Net, D: Disk + Drop, J: Naming, R: Wait> Task for Forwarding<'a, N, 
     type Output = (&'a mut N, Pass<J>);
 
     ghost can_run = { λ t. (t.seated.pass.number + 1 ≡ J.seats) × (0 < t.destination.now.outward.polls)
-        × N.may_dial t.destination.now.place };
+        × N.may_dial t.destination.now.place
+        × MayRelease (IsReal D.Disk J.start J.run J.seats J.began) J.start t.destination.now.outward
+        (HasExchangedAt N.L.same N.L.dialed N.L.given N.L.taken t.destination.now.place) D.may_release };
 
     ghost leaves = { λ t r. (r.0.ghost_name ≡ t.net.ghost_name)
         × ((looks : List Look) × AreLooks J.start t.destination.now.outward t.destination.now.place looks t.seated.pass r.1
@@ -83,6 +88,8 @@ where
     requires confirms { seated.pass.number + 1 ≡ J.seats }
     requires polls { 0 < destination.now.outward.polls }
     requires named { N.may_dial destination.now.place }
+    requires earned { MayRelease (IsReal D.Disk J.start J.run J.seats J.began) J.start destination.now.outward
+        (HasExchangedAt N.L.same N.L.dialed N.L.given N.L.taken destination.now.place) D.may_release }
 
     ensures worked { HaveWorked J.start J.run talks hired.entry.rules hired.entry.doors hired.entry.passes
         (map (λ (door : _). P.told door) result.1.doors.items) result.1.passes.items result.1.reports.items }

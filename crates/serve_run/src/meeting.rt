@@ -1,8 +1,11 @@
 //! The last look, at all that the workers have left.
 ghost use Rattle.std.specs.Prelude.{◌≡◌, ◌+◌, ◌<◌, vec_len};
 ghost use Rattle.std.specs.Vec.{vec_capacity};
+ghost use Rattle.forward_core.specs.Exchanged.{HasExchangedAt};
 ghost use Rattle.spool_turns.specs.Passes.{Known};
+ghost use Rattle.spool_turns.specs.Replays.{IsReal};
 ghost use Rattle.serve_forwarder.specs.Looks.{IsLook, Look, outcome_of};
+ghost use Rattle.serve_forwarder.specs.Released.{MayRelease};
 ghost use Rattle.serve_run.specs.Running.{HasMet};
 
 use edge_disk::Disk;
@@ -39,6 +42,8 @@ pub(crate) fn look_again<N: Net, D: Disk, J: Naming, R: Wait>(
     requires confirms { forwarder.old.pass.number + 1 ≡ J.seats }
     requires polls { 0 < destination.now.outward.polls }
     requires named { N.may_dial destination.now.place }
+    requires earned { MayRelease (IsReal D.Disk J.start J.run J.seats J.began) J.start destination.now.outward
+        (HasExchangedAt N.L.same N.L.dialed N.L.given N.L.taken destination.now.place) D.may_release }
 
     ensures looked { (met : Known) × (one : Look) × HasMet workers.old.items forwarder.old.pass met
         × IsLook J.start destination.now.outward destination.now.place one met forwarder.new.pass (N.told net.old) (N.told net.new)

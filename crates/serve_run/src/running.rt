@@ -2,19 +2,21 @@
 ghost use Rattle.std.specs.Prelude.{◌≡◌, ℕ, ◌+◌, ◌<◌, ◌^◌, ◌≤◌, [], length, map, slice_get, vec_len};
 ghost use Rattle.std.specs.Prelude.{Some, IfOk, IfErr, IfSome, option_copied};
 ghost use Rattle.std.specs.Vec.{vec_capacity};
+ghost use Rattle.forward_core.specs.Exchanged.{HasExchangedAt};
 ghost use Rattle.spool_turns.specs.Replays.{IsReal, desk_at};
 ghost use Rattle.serve_workers.specs.Works.{first_conn};
 ghost use Rattle.serve_workers.specs.Crews.{AreNew, HaveWorked};
 ghost use Rattle.serve_workers.specs.Answering.{MayAnswer};
+ghost use Rattle.serve_forwarder.specs.Released.{MayRelease};
 ghost use Rattle.serve_run.specs.Running.{Forwarded, HasRun, HasServed, HasNotServed};
 
 use crate::beside::work_and_forward;
 use crate::meeting::look_again;
-use desk_access::Desk;
 use edge_disk::Disk;
 use edge_io::{Door, Net};
 use serve_forwarder::{Destination, Outcome};
 use serve_workers::{Crew, Hired, NoCrew, Post, WorkerReport, hire};
+use spool_desk::Desk;
 use spool_turns::{Naming, Opened, Pass, Seated, Shared};
 use std::alloc::Global;
 use std::sync::Wait;
@@ -75,6 +77,8 @@ where
     requires confirms { seated.pass.number + 1 ≡ J.seats }
     requires polls { 0 < destination.now.outward.polls }
     requires named { N.may_dial destination.now.place }
+    requires earned { MayRelease (IsReal D.Disk J.start J.run J.seats J.began) J.start destination.now.outward
+        (HasExchangedAt N.L.same N.L.dialed N.L.given N.L.taken destination.now.place) D.may_release }
 
     ensures worked { HaveWorked J.start J.run talks hired.entry.rules hired.entry.doors hired.entry.passes
         (map (λ (door : _). P.told door) result.0.crew.doors.items) result.0.crew.passes.items result.0.crew.reports.items }
@@ -122,6 +126,8 @@ where
     requires confirms { (seated.pass.number + 1 ≡ J.seats) × (seated.pass.own ≡ []) }
     requires polls { IfSome destination (λ d. 0 < d.now.outward.polls) }
     requires named { IfSome destination (λ d. N.may_dial d.now.place) }
+    requires earned { IfSome destination (λ d. MayRelease (IsReal D.Disk J.start J.run J.seats J.began) J.start d.now.outward
+        (HasExchangedAt N.L.same N.L.dialed N.L.given N.L.taken d.now.place) D.may_release) }
 
     ensures worked { HaveWorked J.start J.run talks hired.entry.rules hired.entry.doors hired.entry.passes
         (map (λ (door : _). P.told door) result.0.crew.doors.items) result.0.crew.passes.items result.0.crew.reports.items }
@@ -174,6 +180,8 @@ where
         → MayAnswer (IsReal D.Disk J.start J.run J.seats J.began) J.start (first_conn J.run i) (P.permits post.door) post.rules }
     requires polls { IfSome destination (λ d. 0 < d.now.outward.polls) }
     requires named { IfSome destination (λ d. N.may_dial d.now.place) }
+    requires earned { IfSome destination (λ d. MayRelease (IsReal D.Disk J.start J.run J.seats J.began) J.start d.now.outward
+        (HasExchangedAt N.L.same N.L.dialed N.L.given N.L.taken d.now.place) D.may_release) }
 
     ensures many { IfOk result (λ ran. (vec_len ran.crew.doors ≡ vec_len posts) × (vec_len ran.crew.reports ≡ vec_len posts)) }
     ensures ran { IfOk result (λ ran. HasRun J.start J.run talks (map (λ (post : _). post.rules) posts.items) (map (λ (post : _). P.told post.door) posts.items)
@@ -216,7 +224,8 @@ where
 /// it gives back the posts as they were and the desk, on which no call was made.
 ///
 /// `says` is all the leave that it has to write to a sender: each door permits, link by link, what may be said once it is stored
-/// (`MayAnswer`). It dials the destination's place and no other, by `named`.
+/// (`MayAnswer`). It dials the destination's place and no other, by `named`. And `earned` is all the leave that it has to make numbers
+/// known as confirmed: a number may become known once the peer at that place has acknowledged its entry (`MayRelease`).
 pub fn serve<
     P: Door + Drop + Send,
     D: Disk + Drop + Send,
@@ -244,6 +253,8 @@ where
         → MayAnswer (IsReal D.Disk J.start J.run J.seats J.began) J.start (first_conn J.run i) (P.permits post.door) post.rules }
     requires polls { IfSome destination (λ d. 0 < d.now.outward.polls) }
     requires named { IfSome destination (λ d. N.may_dial d.now.place) }
+    requires earned { IfSome destination (λ d. MayRelease (IsReal D.Disk J.start J.run J.seats J.began) J.start d.now.outward
+        (HasExchangedAt N.L.same N.L.dialed N.L.given N.L.taken d.now.place) D.may_release) }
 
     ensures many { IfOk result (λ served. (vec_len served.doors ≡ vec_len posts) × (vec_len served.reports ≡ vec_len posts)) }
     ensures served { IfOk result (λ served. HasServed D.tells J.start J.run J.seats J.began talks (map (λ (post : _). post.rules) posts.items)

@@ -7,8 +7,8 @@ use Rattle.known_numbers.specs.Numbers.{IsKnown, Numbers}
 use Rattle.edge_io.specs.declared.proto.Proto.{Proto}
 use Rattle.spool_state.specs.Left.{NumberedEntry, is_known}
 use Rattle.spool_state.proofs.Unknown.{known_or_not, unknown_from}
-use Rattle.spool_log.specs.declared.reading.numbered.Numbered.{Numbered}
-use Rattle.spool_log.specs.Outcome.{given_entries}
+use Rattle.spool_answers.specs.declared.numbered.Numbered.{Numbered}
+use Rattle.spool_answers.specs.Pend.{given_entries}
 use Rattle.desk_access.specs.Call.{Call}
 use Rattle.forward_core.specs.Calls.{IsMarked, after_last, is_within, number_at}
 use Rattle.forward_core.specs.Marking.{MarksOnlyTold}

@@ -10,8 +10,8 @@ use Rattle.event_form.specs.declared.event.Entry.{Entry}
 use Rattle.edge_io.specs.declared.proto.Proto.{Proto}
 use Rattle.spool_state.specs.SpoolState.{IsSound, SpoolState, base, list, numbers_of}
 use Rattle.spool_state.specs.Left.{NumberedEntry, is_known, numbered}
-use Rattle.spool_log.specs.Outcome.{AreNumbered, given_entries}
-use Rattle.spool_log.specs.Stages.{IsOneOf}
+use Rattle.spool_answers.specs.Pend.{AreNumbered, given_entries}
+use Rattle.spool_answers.specs.Stages.{IsOneOf}
 use Rattle.desk_access.specs.Call.{Call, Record, own_of}
 use Rattle.desk_access.specs.Desk.{DeskState}
 use Rattle.desk_access.specs.History.{Grown}

@@ -3,7 +3,7 @@ use Rattle.std.proofs.Common.{◌≡◌, ◌≢◌, ◌⊎◌, inl, inr, ℕ, �
 use Rattle.std.proofs.lemmas.Bool.{cases_eq, eq-eqb, ne_eqb}
 use Rattle.event_form.specs.declared.event.Entry.{Entry}
 use Rattle.spool_state.specs.SpoolState.{SpoolState, end}
-use Rattle.spool_log.specs.Stages.{IsOneOf}
+use Rattle.spool_answers.specs.Stages.{IsOneOf}
 use Rattle.desk_access.specs.Call.{Record, own_of}
 use Rattle.desk_access.specs.Desk.{Allowed, DeskState, Goes}
 use Rattle.desk_access.specs.History.{IsDesk}

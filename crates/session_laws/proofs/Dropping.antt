@@ -8,8 +8,8 @@ use Rattle.known_numbers.specs.Numbers.{IsKnown, Numbers}
 use Rattle.edge_io.specs.declared.proto.Proto.{Proto}
 use Rattle.spool_state.specs.Left.{NumberedEntry, is_known, unknown}
 use Rattle.spool_state.proofs.Unknown.{filter_all, known_or_not, unknown_append, unknown_from, unknown_none, unknown_numbers}
-use Rattle.spool_log.specs.declared.reading.numbered.Numbered.{Numbered}
-use Rattle.spool_log.specs.Outcome.{AreNumbered, given_entries}
+use Rattle.spool_answers.specs.declared.numbered.Numbered.{Numbered}
+use Rattle.spool_answers.specs.Pend.{AreNumbered, given_entries}
 use Rattle.desk_access.specs.Call.{Call}
 use Rattle.forward_core.specs.Calls.{AreGranted, IsMarked, MarksAllBelow, after_last, entries_of, is_within, number_at}
 use Rattle.forward_core.specs.Marking.{MarksTold}

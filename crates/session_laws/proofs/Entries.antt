@@ -10,8 +10,8 @@ use Rattle.event_form.specs.declared.event.Entry.{Entry}
 use Rattle.spool_state.specs.SpoolState.{IsSound, SpoolState, base, end, list, numbers_of}
 use Rattle.spool_state.specs.Left.{NumberedEntry, is_known, left, numbered, unknown}
 use Rattle.spool_state.proofs.Unknown.{IsOf, filter_like, filter_none, known_from, known_or_not, numbered_append, numbered_of, unknown_append, unknown_from, unknown_none}
-use Rattle.spool_log.specs.declared.reading.numbered.Numbered.{Numbered}
-use Rattle.spool_log.specs.Outcome.{AreNumbered, given_entries}
+use Rattle.spool_answers.specs.declared.numbered.Numbered.{Numbered}
+use Rattle.spool_answers.specs.Pend.{AreNumbered, given_entries}
 use Rattle.desk_access.specs.History.{Grown}
 use Rattle.forward_core.specs.Calls.{after_last, is_within, within}
 use Rattle.forward_core.proofs.Numbered.{after_rises, numbered_lower, numbered_take}

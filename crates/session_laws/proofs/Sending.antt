@@ -9,9 +9,9 @@ use Rattle.known_numbers.proofs.Marking.{marked_keeps, marked_only}
 use Rattle.event_form.specs.declared.event.Entry.{Entry}
 use Rattle.spool_state.specs.SpoolState.{IsKnownIn, IsSound, SpoolState, base, end, list, numbers_of}
 use Rattle.spool_state.specs.Left.{NumberedEntry, left_from, numbered, unknown}
-use Rattle.spool_log.specs.declared.fault.ConfirmFault.{ConfirmFault}
-use Rattle.spool_log.specs.declared.reading.numbered.Numbered.{Numbered}
-use Rattle.spool_log.specs.Outcome.{AreNumbered, given_entries}
+use Rattle.spool_answers.specs.declared.fault.ConfirmFault.{ConfirmFault}
+use Rattle.spool_answers.specs.declared.numbered.Numbered.{Numbered}
+use Rattle.spool_answers.specs.Pend.{AreNumbered, given_entries}
 use Rattle.desk_access.specs.Call.{Call, Record, confirms, marks, own_of, pends}
 use Rattle.desk_access.specs.History.{Grown}
 use Rattle.desk_access.specs.Legal.{all_of}

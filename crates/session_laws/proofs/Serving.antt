@@ -3,7 +3,7 @@ use Rattle.std.proofs.Common.{◌≡◌, ℕ, ◌-◌, List, [], ◌∷◌, sym,
 use Rattle.std.proofs.lemmas.List.Elements.{All-head}
 use Rattle.edge_io.specs.Net.{NetState}
 use Rattle.edge_disk.specs.Disk.{Moment}
-use Rattle.desk_access.specs.Alone.{AloneView}
+use Rattle.spool_desk.specs.Alone.{AloneView}
 use Rattle.desk_access.specs.Call.{Record, own_of}
 use Rattle.desk_access.specs.Desk.{DeskState}
 use Rattle.desk_access.proofs.Nexts.{all_right}

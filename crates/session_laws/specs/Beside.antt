@@ -5,8 +5,8 @@ use Rattle.event_form.specs.declared.event.Entry.{Entry}
 use Rattle.edge_io.specs.declared.proto.Proto.{Proto}
 use Rattle.spool_state.specs.SpoolState.{SpoolState, base, end, list}
 use Rattle.spool_state.specs.Left.{NumberedEntry, numbered, unknown}
-use Rattle.spool_log.specs.declared.reading.numbered.Numbered.{Numbered}
-use Rattle.spool_log.specs.Outcome.{AreNumbered, given_entries}
+use Rattle.spool_answers.specs.declared.numbered.Numbered.{Numbered}
+use Rattle.spool_answers.specs.Pend.{AreNumbered, given_entries}
 use Rattle.desk_access.specs.Call.{Call, Record, confirms, marks, own_of}
 use Rattle.desk_access.specs.Desk.{DeskState, Goes}
 use Rattle.desk_access.specs.History.{IsDesk}

@@ -5,7 +5,7 @@ use Rattle.event_form.specs.declared.event.Entry.{Entry}
 use Rattle.edge_io.specs.declared.proto.Proto.{Proto}
 use Rattle.spool_state.specs.SpoolState.{SpoolState, numbers_of}
 use Rattle.spool_state.specs.Left.{NumberedEntry, left, unknown}
-use Rattle.spool_log.specs.Stages.{IsOneOf}
+use Rattle.spool_answers.specs.Stages.{IsOneOf}
 use Rattle.desk_access.specs.Call.{Call, Record}
 use Rattle.desk_access.specs.Desk.{DeskState}
 use Rattle.forward_core.specs.Protocols.{EndsAs, HintsAs}

@@ -4,8 +4,8 @@ use Rattle.edge_io.specs.Door.{DoorState}
 use Rattle.edge_io.specs.Net.{NetState}
 use Rattle.edge_disk.specs.Disk.{Moment}
 use Rattle.spool_state.specs.SpoolState.{SpoolState}
-use Rattle.spool_log.specs.Stages.{IsOneOf}
-use Rattle.desk_access.specs.Alone.{AloneView}
+use Rattle.spool_answers.specs.Stages.{IsOneOf}
+use Rattle.spool_desk.specs.Alone.{AloneView}
 use Rattle.desk_access.specs.Call.{own_of}
 use Rattle.desk_access.specs.Desk.{DeskState, Goes}
 use Rattle.conn_serve.specs.declared.rules.Rules.{Rules}

@@ -4,8 +4,8 @@ ghost use Rattle.session_laws.specs.Laws.{SendsAmongOthers, ToldIsKnown};
 ghost use Rattle.session_laws.specs.Run.{SessionsOfRun};
 ghost use Rattle.session_laws.specs.Sessions.{OnlyTheirMarksAreKnown, OnlyToldIsKnown, SessionsFollow};
 
-use desk_access::Desk;
 use edge_disk::Disk;
+use spool_desk::Desk;
 use spool_turns::Naming;
 
 /// A session beside other callers sends, in order, those entries of the whole list that weren't known at its start, up to the end

@@ -4,7 +4,7 @@ use Rattle.spool_state.specs.SpoolState.{SpoolState, Follows}
 use Rattle.spool_state.proofs.Following.{follows_then}
 use Rattle.edge_disk.proofs.Moments.{weaker, both}
 use Rattle.spool_log.specs.State.{View, IsIn, LeavesStages}
-use Rattle.spool_log.specs.Stages.{last_of, IsMidway, AllFollow}
+use Rattle.spool_answers.specs.Stages.{last_of, IsMidway, AllFollow}
 use Rattle.spool_log.specs.Outcome.{IsMended, GoesOn}
 use Rattle.spool_log.proofs.Stored.{none_follow}
 

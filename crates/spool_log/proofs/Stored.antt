@@ -13,7 +13,7 @@ use Rattle.disk_cell.specs.declared.register.Register.{Register}
 use Rattle.spool_log.specs.declared.memory.Memory.{Memory}
 use Rattle.spool_log.specs.Knows.{Knows, IsStored}
 use Rattle.spool_log.specs.State.{KnowsDevice, view, IsIn, LeavesStages}
-use Rattle.spool_log.specs.Stages.{last_of, StandsForOne, IsMidway, AllFollow}
+use Rattle.spool_answers.specs.Stages.{last_of, StandsForOne, IsMidway, AllFollow}
 use Rattle.spool_log.proofs.Numbers.{no_proof}
 
 -- which cell counts, from a proof that there is one

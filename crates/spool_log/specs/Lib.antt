@@ -2,7 +2,6 @@ pub mod Device
 pub mod Memory
 pub mod Fault
 pub mod Knows
-pub mod Stages
 pub mod State
 pub mod Outcome
 pub mod Reading

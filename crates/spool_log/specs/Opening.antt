@@ -10,7 +10,7 @@ use Rattle.spool_log.specs.declared.opening.Opening.{Opening}
 use Rattle.spool_log.specs.declared.opening.Opening.TheVariants.{Keep, Raise}
 use Rattle.spool_log.specs.declared.fault.RecoverFault.{RecoverFault}
 use Rattle.spool_log.specs.declared.fault.RecoverFault.TheVariants.{NotSpool, RunsSpent, Worn, DiskFault, NoMemory}
-use Rattle.spool_log.specs.Stages.{last_of, StandsForOne}
+use Rattle.spool_answers.specs.Stages.{last_of, StandsForOne}
 use Rattle.spool_log.specs.State.{View, IsIn}
 
 -- the stage by which the run is raised

@@ -1,29 +1,21 @@
 -- A call that mends the spool before it goes on.
-use Rattle.std.specs.Prelude.{◌≡◌, ◌⊎◌, ℕ, ◌+◌, ◌<◌, ◌≤◌, true, List, [], ◌∷◌, map, take, Result, Ok, Err}
+use Rattle.std.specs.Prelude.{◌≡◌, ◌⊎◌, ℕ, true, List, [], Result, Ok, Err}
 use Rattle.std.specs.Global.{Vec}
 use Rattle.event_form.specs.declared.event.Entry.{Entry}
-use Rattle.event_form.specs.Entry.{IsEntry}
 use Rattle.known_numbers.specs.declared.stretch.Stretch.{Stretch}
 use Rattle.spool_state.specs.SpoolState.{SpoolState, Follows}
-use Rattle.spool_state.specs.Left.{NumberedEntry, left_from}
 use Rattle.edge_disk.specs.Disk.{LeavesOnly}
-use Rattle.spool_log.specs.declared.fault.PendFault.{PendFault}
-use Rattle.spool_log.specs.declared.fault.PendFault.TheVariants.{NotSpool, DiskFault, NoMemory}
-use Rattle.spool_log.specs.declared.fault.Receipt.{Receipt}
-use Rattle.spool_log.specs.declared.fault.TakeFault.{TakeFault}
-use Rattle.spool_log.specs.declared.reading.numbered.Numbered.{Numbered}
-use Rattle.spool_log.specs.declared.fault.ConfirmFault.{ConfirmFault}
-use Rattle.spool_log.specs.Fault.{as_take, as_confirm}
-use Rattle.spool_log.specs.Stages.{IsOneOf, AllFollow}
+use Rattle.spool_answers.specs.declared.fault.PendFault.{PendFault}
+use Rattle.spool_answers.specs.declared.fault.Receipt.{Receipt}
+use Rattle.spool_answers.specs.declared.fault.TakeFault.{TakeFault}
+use Rattle.spool_answers.specs.declared.numbered.Numbered.{Numbered}
+use Rattle.spool_answers.specs.declared.fault.ConfirmFault.{ConfirmFault}
+use Rattle.spool_answers.specs.Fault.{as_take, as_confirm}
+use Rattle.spool_answers.specs.Pend.{IsNotBroken, Pends}
+use Rattle.spool_answers.specs.Stages.{IsOneOf, AllFollow}
 use Rattle.spool_log.specs.State.{View, IsIn, LeavesStages}
-use Rattle.spool_log.specs.Changing.Mark.{Marks, after_mark, mark_stages, mark_doubt}
-use Rattle.spool_log.specs.Changing.Take.{Takes, after_take, take_stages, take_doubt}
-
--- the device was not said to be no spool
-abbrev pub IsNotBroken : PendFault → Type 0
-IsNotBroken (NotSpool at) = ⊥
-IsNotBroken DiskFault = Unit {0}
-IsNotBroken NoMemory = Unit {0}
+use Rattle.spool_answers.specs.Mark.{Marks, after_mark, mark_stages, mark_doubt}
+use Rattle.spool_answers.specs.Take.{Takes, after_take, take_stages, take_doubt}
 
 -- The spool was in doubt, and mending failed, for want of memory or of the disk: the state and the doubt stay the same,
 -- and a crash left what it could leave before.
@@ -67,23 +59,8 @@ MarksFrom s doubt more result old new =
     ((fault : PendFault) × (result ≡ Err (as_confirm fault)) × StaysInDoubt s doubt fault old new)
     ⊎ ((m : SpoolState) × Marks m more result × GoesOn s doubt m (mark_stages m more result) (after_mark m more result) (mark_doubt m more result) old new)
 
--- entries with their numbers, as they are given
-abbrev pub given_entries : List Numbered → List NumberedEntry
-given_entries given = map (λ one. record { number = one.number; entry = one.entry }) given
-
--- Outside doubt these are given: the first so many of the entries with numbers from this one on that aren't known as
--- confirmed. Or the disk failed, or no memory was found.
-abbrev pub Pends : SpoolState → ℕ → ℕ → Result (Vec Numbered) PendFault → Type 0
-Pends s from most (Ok given) = given_entries given.items ≡ take most (left_from s from)
-Pends s from most (Err fault) = IsNotBroken fault
-
 -- a reading of entries
 abbrev pub PendsFrom : SpoolState → List SpoolState → ℕ → ℕ → Result (Vec Numbered) PendFault → View → View → Type 0
 PendsFrom s doubt from most result old new =
     ((fault : PendFault) × (result ≡ Err fault) × StaysInDoubt s doubt fault old new)
     ⊎ ((m : SpoolState) × Pends m from most result × GoesOn s doubt m [] m [] old new)
-
--- Entries with rising numbers from this one on and below the end, each within its limits.
-abbrev pub AreNumbered : ℕ → ℕ → List Numbered → Type 0
-AreNumbered from end [] = Unit {0}
-AreNumbered from end (one ∷ more) = (from ≤ one.number) × (one.number < end) × IsEntry one.entry × AreNumbered (one.number + 1) end more

@@ -4,7 +4,7 @@ use Rattle.spool_state.specs.SpoolState.{SpoolState, IsSound}
 use Rattle.edge_disk.specs.Disk.{Moment, LeavesOnly}
 use Rattle.spool_log.specs.declared.memory.Memory.{Memory}
 use Rattle.spool_log.specs.Knows.{Knows, IsStored}
-use Rattle.spool_log.specs.Stages.{last_of, StandsForOne, IsMidway, AllFollow}
+use Rattle.spool_answers.specs.Stages.{last_of, StandsForOne, IsMidway, AllFollow}
 
 -- memory knows what the device stands for
 abbrev pub KnowsDevice : Memory → List ℕ → Type 0

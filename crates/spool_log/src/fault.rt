@@ -1,61 +1,10 @@
-//! What the calls of a spool answer.
+//! Why a spool was not opened.
 ghost use Rattle.std.specs.Prelude.{◌≡◌};
-ghost use Rattle.spool_log.specs.Fault.{as_take, as_confirm, as_recover, of_set, of_scan, of_load};
+ghost use Rattle.spool_log.specs.Fault.{as_recover, of_set};
 
-use disk_cell::{LoadFault, SetFault};
+use crate::PendFault;
+use disk_cell::SetFault;
 use edge_disk::DiskFault;
-use spool_slots::ScanFault;
-use std::alloc::AllocError;
-
-/// The numbers of the entries that were taken.
-#[derive(Clone, Copy, PartialEq, Eq)]
-pub struct Receipt {
-    /// The number of the first.
-    pub first: u64,
-    /// How many they are.
-    pub count: u64,
-}
-
-/// Why a group of entries was not taken. After all but `DiskFault` the spool has what it had.
-#[derive(Clone, Copy, PartialEq, Eq)]
-pub enum TakeFault {
-    /// The group needs `need` bytes, and an empty slot has room for `most`, which is less.
-    TooLarge { need: u64, most: u64 },
-    /// Numbers end at 2^63, and with this group the end, which is `end`, would pass that.
-    Spent { end: u64 },
-    /// The group needs `need` bytes, the active slot has room for `room`, which is less, and no slot is free.
-    Full { need: u64, room: u64 },
-    /// The device read as no spool. `at` is the offset of the first byte, field, slot or group at fault.
-    NotSpool { at: u64 },
-    /// No memory was found to read the device again.
-    NoMemory,
-    /// A call of the disk failed. Whether the group was stored is found out by the next call.
-    DiskFault,
-}
-
-/// Why entries were not read, or the device not read again.
-#[derive(Clone, Copy, PartialEq, Eq)]
-pub enum PendFault {
-    /// The device read as no spool. `at` is the offset of the first byte, field, slot or group at fault.
-    NotSpool { at: u64 },
-    /// A call of the disk failed.
-    DiskFault,
-    /// No memory was found.
-    NoMemory,
-}
-
-/// Why numbers were not made known as confirmed.
-#[derive(Clone, Copy, PartialEq, Eq)]
-pub enum ConfirmFault {
-    /// The register was written as often as it can be. `ordinal` is its ordinal, 2^63.
-    Worn { ordinal: u64 },
-    /// The device read as no spool. `at` is the offset of the first byte, field, slot or group at fault.
-    NotSpool { at: u64 },
-    /// A call of the disk failed. Whether the numbers are known is found out by the next call.
-    DiskFault,
-    /// No memory was found to read the device again.
-    NoMemory,
-}
 
 /// Why a device was not opened.
 #[derive(Clone, Copy, PartialEq, Eq)]
@@ -72,30 +21,6 @@ pub enum RecoverFault {
     NoMemory,
 }
 
-impl From<PendFault> for TakeFault {
-    ghost from_gives = { λ fault taken. taken ≡ as_take fault };
-
-    fn from(fault: PendFault) -> TakeFault {
-        match fault {
-            PendFault::NotSpool { at } => TakeFault::NotSpool { at },
-            PendFault::DiskFault => TakeFault::DiskFault,
-            PendFault::NoMemory => TakeFault::NoMemory,
-        }
-    }
-}
-
-impl From<PendFault> for ConfirmFault {
-    ghost from_gives = { λ fault confirmed. confirmed ≡ as_confirm fault };
-
-    fn from(fault: PendFault) -> ConfirmFault {
-        match fault {
-            PendFault::NotSpool { at } => ConfirmFault::NotSpool { at },
-            PendFault::DiskFault => ConfirmFault::DiskFault,
-            PendFault::NoMemory => ConfirmFault::NoMemory,
-        }
-    }
-}
-
 impl From<PendFault> for RecoverFault {
     ghost from_gives = { λ fault recovered. recovered ≡ as_recover fault };
 
@@ -105,26 +30,6 @@ impl From<PendFault> for RecoverFault {
             PendFault::DiskFault => RecoverFault::DiskFault,
             PendFault::NoMemory => RecoverFault::NoMemory,
         }
-    }
-}
-
-impl From<DiskFault> for PendFault {
-    ghost use Rattle.spool_log.specs.declared.fault.PendFault.TheVariants.{DiskFault as Failed};
-
-    ghost from_gives = { λ _ fault. fault ≡ Failed };
-
-    fn from(_: DiskFault) -> PendFault {
-        PendFault::DiskFault
-    }
-}
-
-impl From<DiskFault> for TakeFault {
-    ghost use Rattle.spool_log.specs.declared.fault.TakeFault.TheVariants.{DiskFault as Failed};
-
-    ghost from_gives = { λ _ fault. fault ≡ Failed };
-
-    fn from(_: DiskFault) -> TakeFault {
-        TakeFault::DiskFault
     }
 }
 
@@ -145,40 +50,6 @@ impl From<SetFault> for RecoverFault {
         match fault {
             SetFault::Worn { ordinal } => RecoverFault::Worn { ordinal },
             SetFault::DiskFault => RecoverFault::DiskFault,
-        }
-    }
-}
-
-impl From<ScanFault> for PendFault {
-    ghost from_gives = { λ fault pending. pending ≡ of_scan fault };
-
-    fn from(fault: ScanFault) -> PendFault {
-        match fault {
-            ScanFault::NotSpool { at } => PendFault::NotSpool { at },
-            ScanFault::DiskFault => PendFault::DiskFault,
-            ScanFault::NoMemory => PendFault::NoMemory,
-        }
-    }
-}
-
-impl From<AllocError> for PendFault {
-    ghost use Rattle.spool_log.specs.declared.fault.PendFault.TheVariants.{NoMemory};
-
-    ghost from_gives = { λ _ fault. fault ≡ NoMemory };
-
-    fn from(_: AllocError) -> PendFault {
-        PendFault::NoMemory
-    }
-}
-
-impl From<LoadFault> for PendFault {
-    ghost from_gives = { λ fault pending. pending ≡ of_load fault };
-
-    fn from(fault: LoadFault) -> PendFault {
-        match fault {
-            LoadFault::NotSpool { at } => PendFault::NotSpool { at },
-            LoadFault::DiskFault => PendFault::DiskFault,
-            LoadFault::NoMemory => PendFault::NoMemory,
         }
     }
 }

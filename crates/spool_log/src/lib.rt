@@ -12,11 +12,11 @@ mod opening;
 mod reading;
 mod spool;
 
-pub use fault::{ConfirmFault, PendFault, Receipt, RecoverFault, TakeFault};
+pub use fault::RecoverFault;
 pub use making::formatting::{FormatFault, format};
 pub use memory::Memory;
 pub use opening::Opening;
 pub use opening::recover::Refusal;
 pub use reading::bookmark::Bookmark;
-pub use reading::numbered::Numbered;
 pub use spool::Spool;
+pub use spool_answers::{ConfirmFault, Numbered, PendFault, Receipt, TakeFault};

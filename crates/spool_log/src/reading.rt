@@ -4,6 +4,5 @@ pub(crate) mod device;
 mod entries;
 pub(crate) mod header;
 mod judge;
-pub(crate) mod numbered;
 mod pending;
 mod slots;

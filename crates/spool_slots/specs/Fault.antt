@@ -2,6 +2,8 @@
 use Rattle.std.specs.Prelude.{◌≡◌, ◌⊎◌, ℕ, ◌-◌, ◌<◌, ◌≤◌, List}
 use Rattle.foundation.specs.Bytes.{part}
 use Rattle.event_form.specs.Reading.{BeginsNoEntry}
+use Rattle.spool_answers.specs.declared.fault.PendFault.{PendFault}
+use Rattle.spool_answers.specs.declared.fault.PendFault.TheVariants as Pend
 use Rattle.spool_slots.specs.declared.fault.SlotFault.{SlotFault}
 use Rattle.spool_slots.specs.declared.fault.SlotFault.TheVariants.{NoRoom, DiskFault}
 use Rattle.spool_slots.specs.declared.fault.ScanFault.{ScanFault}
@@ -24,3 +26,9 @@ abbrev pub IsPartFault : ℕ → List ℕ → ScanFault → Type 0
 IsPartFault end c (NotSpool place) = BeginsNoGroup (part place (end - place) c) ⊎ BeginsNoEntry (part place (end - place) c)
 IsPartFault end c DiskFailed = Unit {0}
 IsPartFault end c NoMemory = Unit {0}
+
+-- the same fault of a reading of the spool's entries
+abbrev pub of_scan : ScanFault → PendFault
+of_scan (NotSpool at) = Pend.NotSpool at
+of_scan DiskFailed = Pend.DiskFault
+of_scan NoMemory = Pend.NoMemory

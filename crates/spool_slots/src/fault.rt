@@ -1,5 +1,6 @@
 //! Why a call of a slot was refused.
 use edge_disk::DiskFault;
+use spool_answers::PendFault;
 use std::alloc::AllocError;
 
 /// Why a group was not added.
@@ -53,5 +54,20 @@ impl From<AllocError> for ScanFault {
 
     fn from(_: AllocError) -> ScanFault {
         ScanFault::NoMemory
+    }
+}
+
+impl From<ScanFault> for PendFault {
+    ghost use Rattle.std.specs.Prelude.{◌≡◌};
+    ghost use Rattle.spool_slots.specs.Fault.{of_scan};
+
+    ghost from_gives = { λ fault pending. pending ≡ of_scan fault };
+
+    fn from(fault: ScanFault) -> PendFault {
+        match fault {
+            ScanFault::NotSpool { at } => PendFault::NotSpool { at },
+            ScanFault::DiskFault => PendFault::DiskFault,
+            ScanFault::NoMemory => PendFault::NoMemory,
+        }
     }
 }

@@ -1,16 +1,17 @@
 //! Calls of a spool on a disk in memory, and what they answer.
 ghost use Rattle.std.specs.Prelude.{◌≡◌, ◌<◌, false, IfOk, All, vec_len};
 ghost use Rattle.event_form.specs.Entry.{IsEntry};
-ghost use Rattle.spool_log.specs.Changing.Mark.{EndsBy};
+ghost use Rattle.spool_answers.specs.Mark.{EndsBy};
 
 use crate::faults::fault_text;
 use crate::made::{entry_named, name_of};
 use crate::script::Step;
 use crate::words::{are, number, numbers, word};
-use edge_disk::MemDisk;
+use edge_memory::MemDisk;
 use event_form::Entry;
 use known_numbers::Stretch;
-use spool_log::{ConfirmFault, Numbered, Opening, Refusal, Spool};
+use spool_answers::{ConfirmFault, Numbered};
+use spool_log::{Opening, Refusal, Spool};
 use std::alloc::Global;
 use std::process::Abort;
 

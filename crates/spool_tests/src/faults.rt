@@ -1,6 +1,7 @@
 //! Faults, as the scripts spell them.
 use disk_cell::{LoadFault, SetFault};
-use spool_log::{ConfirmFault, FormatFault, RecoverFault, TakeFault};
+use spool_answers::{ConfirmFault, TakeFault};
+use spool_log::{FormatFault, RecoverFault};
 use spool_slots::{ScanFault, SlotFault};
 use std::alloc::Global;
 use std::process::Abort;

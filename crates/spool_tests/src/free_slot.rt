@@ -2,8 +2,9 @@
 use crate::calls::opened;
 use crate::made::event_of;
 use crate::play::plain;
-use edge_disk::MemDisk;
-use spool_log::{Opening, Receipt, Spool, TakeFault};
+use edge_memory::MemDisk;
+use spool_answers::{Receipt, TakeFault};
+use spool_log::{Opening, Spool};
 use std::alloc::Global;
 use std::process::Abort;
 

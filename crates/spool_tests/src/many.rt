@@ -2,7 +2,7 @@
 use crate::calls::{pending_of, say_change};
 use crate::script::Step;
 use crate::words::{are, number, word};
-use edge_disk::MemDisk;
+use edge_memory::MemDisk;
 use spool_log::Spool;
 use std::alloc::Global;
 use std::process::Abort;

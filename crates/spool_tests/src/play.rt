@@ -5,7 +5,7 @@ use crate::script::Step;
 use crate::slots::benches::Bench;
 use crate::slots::registers::put_cell;
 use crate::words::{bytes_of, copied, is_told, number, numbers, word};
-use edge_disk::{Crash, MemDisk};
+use edge_memory::{Crash, MemDisk};
 use spool_log::{FormatFault, Opening, Spool, format};
 use std::alloc::Global;
 use std::process::Abort;

@@ -2,7 +2,7 @@
 use crate::made::event_of;
 use crate::play::plain;
 use crate::slots::counting_disk::CountingDisk;
-use edge_disk::MemDisk;
+use edge_memory::MemDisk;
 use spool_log::{Opening, Spool};
 use std::alloc::Global;
 use std::process::Abort;

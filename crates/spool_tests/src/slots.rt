@@ -12,7 +12,7 @@ use crate::slots::groups::fails;
 use crate::slots::reads::{costs, is_slot, reads_units, scans};
 use crate::slots::registers::{is_register, set};
 use crate::words::{are, copied, is_told, number, word};
-use edge_disk::{Crash, MemDisk};
+use edge_memory::{Crash, MemDisk};
 use std::alloc::Global;
 use std::process::Abort;
 

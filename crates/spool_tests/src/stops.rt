@@ -2,7 +2,7 @@
 use crate::calls::{opened, recovered, say_change, say_pending, slots_of};
 use crate::play::{calls_to_open, formatted};
 use crate::words::{are, copied, number, word};
-use edge_disk::{Crash, MemDisk};
+use edge_memory::{Crash, MemDisk};
 use spool_log::{Opening, RecoverFault};
 use std::alloc::Global;
 use std::process::Abort;

@@ -2,11 +2,11 @@
 use Rattle.std.proofs.Common.{◌≡◌, ℕ, zero, suc, ◌+◌, ◌-◌, arith, List, [], ◌∷◌, ◌++◌, refl, sym, ap, ◌∙◌, subst}
 use Rattle.std.proofs.lemmas.List.{append-nil}
 use Rattle.atomic_table.specs.Table.{Me}
-use Rattle.edge_disk.specs.Disk.{Moment}
+use Rattle.edge_disk.specs.Disk.{Moment, IsLawful}
 use Rattle.desk_access.specs.Call.{Call, Record, own_of}
 use Rattle.desk_access.specs.Desk.{DeskState}
-use Rattle.desk_access.specs.Alone.{AloneView, RunsTo, Makes, record_of}
-use Rattle.desk_access.specs.Journal.{runs_then}
+use Rattle.spool_desk.specs.Alone.{AloneView, RunsTo, Makes, record_of}
+use Rattle.spool_desk.specs.Runs.{runs_then}
 use Rattle.desk_access.specs.Legal.{May, Met}
 use Rattle.desk_access.proofs.Nexts.{met_then}
 use Rattle.spool_turns.specs.Rules.{View, Facts, PassView, made_by, Knows, after_call, with_record, end_at, cursor_at}
@@ -29,7 +29,7 @@ module _ (tells : Type 0) (start : DeskState → Type 0) (run seats : ℕ) (bega
     (turn : IsTurn seats me old) (replays : Replays tells start run began (facts_in me.0).log old) (legal : Met run (seats - 1) [] (facts_in me.0).log) (may : May run (seats - 1) m.number m.own call)
     (hosts : hosted ≡ calling_of (facts_in me.0) m) (knew : Knows (facts_in me.0) m)
     (made : Makes tells old call mid) (told : RunsTo tells mid [] new) (same : record_of call new ≡ record_of call mid) (exact : IsExact tells new)
-    (writes : wrote ≡ calling_of (published new (facts_in hosted.0)) (caller_in hosted.0)) where
+    (writes : wrote ≡ calling_of (published new (facts_in hosted.0)) (caller_in hosted.0)) (lawful : tells → IsLawful new.spool.moment) where
   runs : RunsTo tells old (record_of call new ∷ []) new
   runs = subst (λ (r : Record). RunsTo tells old (r ∷ []) new) (sym same) (runs_then tells old mid new (record_of call mid ∷ []) [] made told)
 
@@ -37,7 +37,7 @@ module _ (tells : Type 0) (start : DeskState → Type 0) (run seats : ℕ) (bega
   wrote_is = writes ∙ ap (λ (x : Me ℕ View). calling_of (published new (facts_in x.0)) (caller_in x.0)) hosts
 
   after : Replays tells start run began ((facts_in me.0).log ++ made_by m.number (record_of call new) ∷ []) new
-  after = replays_more tells start run began m.number old new (facts_in me.0).log (record_of call new) replays runs
+  after = replays_more tells start run began m.number old new (facts_in me.0).log (record_of call new) lawful refl replays runs
 
   locked_is : (it : Me ℕ View) → it ≡ locked_of (with_record (facts_in wrote.0) (made_by (caller_in wrote.0).number (record_of call new))) → it ≡ locked_of (with_record (published new (facts_in me.0)) (made_by m.number (record_of call new)))
   locked_is it is = is ∙ ap (λ (x : Me ℕ View). locked_of (with_record (facts_in x.0) (made_by (caller_in x.0).number (record_of call new)))) wrote_is

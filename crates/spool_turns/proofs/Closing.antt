@@ -7,12 +7,14 @@ use Rattle.event_form.specs.declared.event.Entry.{Entry}
 use Rattle.edge_disk.specs.Disk.{Moment}
 use Rattle.desk_access.specs.Call.{Call, asks, Record, own_of, calls_of}
 use Rattle.desk_access.specs.Desk.{DeskState, Goes}
+use Rattle.desk_access.specs.Durable.{KeepsSince}
 use Rattle.desk_access.specs.History.{Was}
-use Rattle.desk_access.specs.Alone.{AloneView}
+use Rattle.spool_desk.specs.Alone.{AloneView}
 use Rattle.desk_access.specs.Journal.{own_then, goes_parts}
 use Rattle.desk_access.specs.Legal.{May, Met, IsStored, AddsGroups, IsOfRun, IsLegal}
 use Rattle.desk_access.proofs.Nexts.{stored_more}
 use Rattle.desk_access.proofs.Steps.{all_later}
+use Rattle.desk_access.proofs.Since.{keeps_since}
 use Rattle.desk_access.proofs.Lasting.{goes_grows, goes_kept, which_one, stood_was}
 use Rattle.desk_access.proofs.LegalEntries.{legal_journal}
 use Rattle.desk_access.proofs.Told.{told_was_taken}
@@ -58,11 +60,11 @@ adds_legal tells start run confirming began log v h m x s groups adds =
 -- ---- a question after ids
 
 -- the record of a call
-record_is : (one : Record) (call : Call) → one.call ≡ call → one ≡ record { by = one.by; call = call; met = one.met; after = one.after }
-record_is one call is = λ i. record { by = one.by; call = is i; met = one.met; after = one.after }
+record_is : (one : Record) (call : Call) → one.call ≡ call → one ≡ record { by = one.by; call = call; met = one.met; after = one.after; clock = one.clock }
+record_is one call is = λ i. record { by = one.by; call = is i; met = one.met; after = one.after; clock = one.clock }
 
 seen_asks : (start : DeskState → Type 0) (run seats : ℕ) (v w : Known) (call : Call) (p : Calls start run seats v call w)
-    → w.seen ≡ (v.seen ++ p.between) ++ record { by = p.one.by; call = call; met = p.one.met; after = p.one.after } ∷ []
+    → w.seen ≡ (v.seen ++ p.between) ++ record { by = p.one.by; call = call; met = p.one.met; after = p.one.after; clock = p.one.clock } ∷ []
 seen_asks start run seats v w call p = p.seen ∙ ap (λ (r : Record). (v.seen ++ p.between) ++ r ∷ []) (record_is p.one call p.of_call)
 
 -- an id that an answer tells true had its group taken before
@@ -73,7 +75,7 @@ told_stored tells start run seats v w channel ids known p x s b k lt is =
     let led = p.lawful x s in
     let goes = subst (λ (l : List Record). Goes x l led.0) (seen_asks start run seats v w (asks channel ids known) p) led.1 in
     let met = met_first run (seats - 1) [] journal (p.one ∷ []) (subst (Met run (seats - 1) []) p.seen p.met) in
-    let found = told_was_taken x led.0 journal (seats - 1) p.one.by channel ids known p.one.met p.one.after k b.rules b.none_held goes (subst (λ (r : ℕ). Met r (seats - 1) [] journal) (sym b.of_run) met) lt is in
+    let found = told_was_taken x led.0 journal (seats - 1) p.one.by channel ids known p.one.met p.one.after p.one.clock k b.rules b.none_held goes (subst (λ (r : ℕ). Met r (seats - 1) [] journal) (sym b.of_run) met) lt is in
     let own : own_of found.0 w.seen ≡ own_of found.0 journal ++ own_of found.0 (p.one ∷ []) = ap (own_of found.0) p.seen ∙ own_then found.0 journal (p.one ∷ []) in
     (found.0, subst (λ (l : List Call). IsStored l (get_or ids k 0)) (sym own) (stored_more (own_of found.0 journal) (own_of found.0 (p.one ∷ [])) (get_or ids k 0) found.1))
 
@@ -83,7 +85,7 @@ pub asked_held : (start : DeskState → Type 0) (run seats : ℕ) (v w : Known) 
 asked_held start run seats v w channel ids known p x s =
     let journal = v.seen ++ p.between in
     let led = p.lawful x s in
-    let one : Record = record { by = p.one.by; call = asks channel ids known; met = p.one.met; after = p.one.after } in
+    let one : Record = record { by = p.one.by; call = asks channel ids known; met = p.one.met; after = p.one.after; clock = p.one.clock } in
     let is : w.seen ≡ journal ++ one ∷ [] = seen_asks start run seats v w (asks channel ids known) p in
     let parts = goes_parts x led.0 journal (one ∷ []) (subst (λ (l : List Record). Goes x l led.0) is led.1) in
     record { before = journal; one = one; seen = is; at = parts.0; goes = parts.1; held = parts.2.1.answers.1.0 }
@@ -126,6 +128,11 @@ keeps tells start run confirming began log v h m x s c image =
 pub left_before : (tells : Type 0) (start : DeskState → Type 0) (run : ℕ) (began : Moment) (log : List Record) (v : AloneView) → Replays tells start run began log v
     → (x : DeskState) → start x → (c : List ℕ) → v.spool.moment.image_since began.clock c → Was x (calls_of log) c
 left_before tells start run began log v h x s c since = stood_was x log c (h.begins x s).rules ((h.leads x s).any_moment.each c since)
+
+-- what it left since a call was answered
+pub stays_since : (tells : Type 0) (start : DeskState → Type 0) (run : ℕ) (began : Moment) (log : List Record) (v : AloneView) → Replays tells start run began log v
+    → (x : DeskState) → start x → KeepsSince log v.spool.moment
+stays_since tells start run began log v h x s = let p = h.leads x s in keeps_since x p.after v.spool.moment log (h.begins x s).rules p.since
 
 -- each record is of a pass
 numbers_below : (seats : ℕ) (log : List Record) → ((n : ℕ) → seats ≤ n → own_of n log ≡ []) → All (λ (one : Record). one.by < seats) log

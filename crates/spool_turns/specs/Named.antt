@@ -4,7 +4,7 @@ use Rattle.atomic_table.specs.Seated.{TableId}
 use Rattle.edge_disk.specs.declared.disk.Disk.{Ghosts}
 use Rattle.edge_disk.specs.Disk.{Moment}
 use Rattle.desk_access.specs.Desk.{DeskState}
-use Rattle.desk_access.specs.Alone.{alone_at, IsAt}
+use Rattle.spool_desk.specs.Alone.{alone_at, IsAt}
 use Rattle.spool_turns.specs.declared.unnamed.Unnamed.{Unnamed}
 use Rattle.spool_turns.specs.Replays.{BeganAt}
 

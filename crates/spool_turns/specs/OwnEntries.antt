@@ -1,19 +1,15 @@
 -- What the calls of one caller added, among all that a journal added.
-use Rattle.std.specs.Prelude.{◌≡◌, ◌⊎◌, ℕ, ◌^◌, ◌≤◌, ◌==◌, if◌then◌else◌, List, [], ◌∷◌, All, filter}
+use Rattle.std.specs.Prelude.{◌≡◌, ◌⊎◌, ℕ, ◌^◌, ◌≤◌, ◌==◌, if◌then◌else◌, List, [], ◌∷◌, All}
 use Rattle.event_form.specs.declared.event.Entry.{Entry}
 use Rattle.desk_access.specs.Call.{Call, Record}
 use Rattle.desk_access.specs.Batch.{AreNext, Belongs}
-use Rattle.desk_access.specs.Legal.{AddsGroups, all_of, of_conn, AreOfOthers, AreOneGroup}
+use Rattle.desk_access.specs.Legal.{AddsGroups, all_of, of_conn, of_unit, AreOfOthers, AreOneGroup}
 
 -- of some groups, one for each record, those of that caller's records
 abbrev pub groups_by : ℕ → List Record → List (List Entry) → List (List Entry)
 groups_by number [] groups = []
 groups_by number (one ∷ log) [] = []
 groups_by number (one ∷ log) (group ∷ groups) = if one.by == number then group ∷ groups_by number log groups else groups_by number log groups
-
--- those of one unit
-abbrev pub of_unit : ℕ → List Entry → List Entry
-of_unit unit entries = filter (λ (entry : Entry). entry.unit == unit) entries
 
 -- Of all these groups the caller of that number added its own, by these calls. Each of its entries is of a connection that
 -- belongs to it. To such a connection nobody else added any, and the indexes are 0, 1, 2 and so on. Its entries of

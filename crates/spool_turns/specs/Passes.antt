@@ -9,7 +9,7 @@ use Rattle.hec_ids.specs.Table.{holds_settled}
 use Rattle.desk_access.specs.Call.{Call, Record, own_of}
 use Rattle.desk_access.specs.Desk.{DeskState, Goes}
 use Rattle.desk_access.specs.Legal.{Met}
-use Rattle.desk_access.specs.Alone.{AloneView}
+use Rattle.spool_desk.specs.Alone.{AloneView}
 use Rattle.spool_turns.specs.Rules.{View, Locked, Pass, Facts, facts, PassView, pass_view}
 
 -- the name of no table, and a moment of no disk

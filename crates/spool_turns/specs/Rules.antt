@@ -40,7 +40,7 @@ pub data View : Type 0 where
 
 -- the record of a call, as one of the caller of that number
 abbrev pub made_by : ℕ → Record → Record
-made_by number one = record { by = number; call = one.call; met = one.met; after = one.after }
+made_by number one = record { by = number; call = one.call; met = one.met; after = one.after; clock = one.clock }
 
 -- What a pass knows is right: it has seen a beginning of the journal, its own calls are all that the journal has of its
 -- number, and the words are no less than what it loaded.

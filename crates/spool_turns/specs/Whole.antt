@@ -3,7 +3,7 @@ use Rattle.std.specs.Prelude.{◌≡◌, ◌⊎◌, ℕ, ◌*◌, ◌^◌, ◌<�
 use Rattle.event_form.specs.declared.event.Entry.{Entry}
 use Rattle.spool_state.specs.SpoolState.{SpoolState, list}
 use Rattle.spool_state.specs.Image.{StandsFor}
-use Rattle.spool_log.specs.Stages.{IsOneOf}
+use Rattle.spool_answers.specs.Stages.{IsOneOf}
 use Rattle.desk_access.specs.Call.{Record, calls_of}
 use Rattle.desk_access.specs.Batch.{AreNext, IsPlain, AreOfUnit}
 use Rattle.desk_access.specs.Desk.{DeskState}

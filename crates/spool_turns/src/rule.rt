@@ -82,7 +82,7 @@ impl Recorded for Brand {
     ghost use Rattle.std.specs.Prelude.{None};
     ghost use Rattle.desk_access.specs.Call.{Record, counts};
 
-    ghost one = { record { by = 0; call = counts 0; met = None; after = record { base = 0; end = 0; cursor = 0; known_count = 0; room = 0 } } };
+    ghost one = { record { by = 0; call = counts 0; met = None; after = record { base = 0; end = 0; cursor = 0; known_count = 0; room = 0 }; clock = 0 } };
 }
 
 /// A record of the caller's call is added to the journal.

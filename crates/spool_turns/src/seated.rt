@@ -7,7 +7,7 @@ use edge_disk::Disk;
 use event_form::Entry;
 use hec_ids::IssueFault;
 use known_numbers::Stretch;
-use spool_log::{ConfirmFault, Numbered, PendFault, Receipt, TakeFault};
+use spool_answers::{ConfirmFault, Numbered, PendFault, Receipt, TakeFault};
 use std::sync::Wait;
 
 /// A pass at its desk. What it does may wait for the lock, but for `run`, `end` and `cursor`.
@@ -43,6 +43,8 @@ impl<'a, D: Disk, J: Naming, R: Wait> Access for Seated<'a, D, J, R> {
     ghost may_settle = { λ a id. IsStored a.pass.own id };
 
     ghost may_confirm = { λ a. a.pass.number + 1 ≡ J.seats };
+
+    ghost may_release = { D.may_release };
 
     ghost end_known = { λ a. a.pass.end_known };
 

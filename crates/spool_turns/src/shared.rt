@@ -2,9 +2,10 @@
 ghost use Rattle.std.specs.Prelude.{◌≡◌, ◌+◌, ◌^◌, ◌<◌, ◌≤◌, nat_eq, ℕ, List, true, false, length, get_or, max, All, IfOk};
 ghost use Rattle.std.specs.List.{IsDistinct};
 ghost use mathlib.Core.List.{IsPrefix};
+ghost use Rattle.known_numbers.specs.Numbers.{IsInSome};
 ghost use Rattle.event_form.specs.Entry.{IsEntry};
-ghost use Rattle.spool_log.specs.Changing.Mark.{EndsBy};
-ghost use Rattle.spool_log.specs.Outcome.{AreNumbered};
+ghost use Rattle.spool_answers.specs.Mark.{EndsBy};
+ghost use Rattle.spool_answers.specs.Pend.{AreNumbered};
 ghost use Rattle.desk_access.specs.Call.{Record, takes, pends, confirms, marks, counts, issues, settles, forgets, asks, listed, own_of};
 ghost use Rattle.desk_access.specs.Batch.{MayTake, MayUse};
 ghost use Rattle.desk_access.specs.Desk.{DeskState};
@@ -16,12 +17,12 @@ use crate::naming::Naming;
 use crate::pass::Pass;
 use crate::rule::SeatTable;
 use crate::turn::Turn;
-use desk_access::Desk;
 use edge_disk::Disk;
 use event_form::Entry;
 use hec_ids::IssueFault;
 use known_numbers::Stretch;
-use spool_log::{ConfirmFault, Numbered, PendFault, Receipt, TakeFault};
+use spool_answers::{ConfirmFault, Numbered, PendFault, Receipt, TakeFault};
+use spool_desk::Desk;
 use std::sync::{Mutex, Wait};
 
 /// A desk of many callers, each of which has a pass. Its calls answer as those of [`spool_log::Spool`] and
@@ -90,6 +91,7 @@ impl<D: Disk, J: Naming> Shared<D, J> {
     ) -> Result<(), ConfirmFault>
         requires caller { pass.old.number + 1 ≡ J.seats }
         requires number { upto ≤ pass.old.end_known }
+        requires earned { (n : ℕ) → n < upto → D.may_release n }
 
         ensures call { Calls J.start J.run J.seats pass.old (confirms upto result) pass.new }
         ensures real { IsReal ⟦<D as Disk>⟧ J.start J.run J.seats J.began pass.new.seen }
@@ -106,6 +108,7 @@ impl<D: Disk, J: Naming> Shared<D, J> {
     ) -> Result<(), ConfirmFault>
         requires caller { pass.old.number + 1 ≡ J.seats }
         requires numbers { All (EndsBy pass.old.end_known) known.now }
+        requires earned { (n : ℕ) → IsInSome known.now n → D.may_release n }
 
         ensures call { Calls J.start J.run J.seats pass.old (marks known.now result) pass.new }
         ensures real { IsReal ⟦<D as Disk>⟧ J.start J.run J.seats J.began pass.new.seen }

@@ -2,7 +2,7 @@
 ghost use Rattle.std.specs.Prelude.{◌≡◌, ◌+◌, ◌^◌, ◌<◌, ◌≤◌, []};
 ghost use mathlib.Core.List.{IsPrefix};
 ghost use Rattle.desk_access.specs.Call.{Call, own_of};
-ghost use Rattle.desk_access.specs.Alone.{alone_at, record_of, RunsTo};
+ghost use Rattle.spool_desk.specs.Alone.{alone_at, record_of, RunsTo};
 ghost use Rattle.spool_turns.specs.Rules.{Knows, Fresh, made_by, after_call, with_record, one_pass_more, new_pass};
 ghost use Rattle.spool_turns.specs.Rules.{end_at, cursor_at, merged, compared_pass, knowing_end, knowing_cursor};
 ghost use Rattle.spool_turns.specs.Passes.{IsLocked, IsCalling, IsPass, locked_of, calling_of, pass_of, facts_in, caller_in, pass_in};
@@ -12,8 +12,9 @@ use crate::rule::{
     Admits, Compares, HandsOver, Learns, LoadsCursor, LoadsEnd, MakesPass, Merges, PassSeat,
     Recorded, Records, Steps, WritesCursor, WritesEnd,
 };
-use desk_access::{Access, Alone};
+use desk_access::Access;
 use edge_disk::Disk;
+use spool_desk::Alone;
 
 /// Makes a new pass, with this number.
 pub(crate) fn make_pass(steps: &Steps, locked: &mut PassSeat, number: u64) -> PassSeat

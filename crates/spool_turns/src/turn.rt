@@ -1,9 +1,10 @@
 //! What lies under the lock.
 ghost use Rattle.std.specs.Prelude.{◌≡◌, ◌+◌, ◌^◌, ◌<◌, ◌≤◌, nat_eq, ℕ, true, false, length, get_or, All, IfOk};
 ghost use Rattle.std.specs.List.{IsDistinct};
+ghost use Rattle.known_numbers.specs.Numbers.{IsInSome};
 ghost use Rattle.event_form.specs.Entry.{IsEntry};
-ghost use Rattle.spool_log.specs.Changing.Mark.{EndsBy};
-ghost use Rattle.spool_log.specs.Outcome.{AreNumbered};
+ghost use Rattle.spool_answers.specs.Mark.{EndsBy};
+ghost use Rattle.spool_answers.specs.Pend.{AreNumbered};
 ghost use Rattle.desk_access.specs.Call.{takes, pends, confirms, marks, counts, issues, settles, forgets, asks, listed, own_of};
 ghost use Rattle.desk_access.specs.Batch.{MayTake, MayUse};
 ghost use Rattle.desk_access.specs.Desk.{DeskState};
@@ -15,12 +16,13 @@ use crate::naming::Naming;
 use crate::pass::Pass;
 use crate::rule::{PassSeat, Steps};
 use crate::steps::{add_record, admit, check_numbers, check_pass, publish};
-use desk_access::{Access, Alone, Desk};
+use desk_access::Access;
 use edge_disk::Disk;
 use event_form::Entry;
 use hec_ids::IssueFault;
 use known_numbers::Stretch;
-use spool_log::{ConfirmFault, Numbered, PendFault, Receipt, TakeFault};
+use spool_answers::{ConfirmFault, Numbered, PendFault, Receipt, TakeFault};
+use spool_desk::{Alone, Desk};
 use std::marker::{Brand, Model, PhantomData};
 
 /// The desk, and the seat that has the journal. To a contract it is the journal.
@@ -34,7 +36,7 @@ pub struct Turn<D: Disk, J: Naming> {
 impl<D: Disk, J: Naming> Model for Turn<D, J> {
     ghost use Rattle.std.specs.Prelude.{◌≡◌, ◌-◌, List, []};
     ghost use Rattle.desk_access.specs.Call.{Record};
-    ghost use Rattle.desk_access.specs.Alone.{alone_at};
+    ghost use Rattle.spool_desk.specs.Alone.{alone_at};
     ghost use Rattle.desk_access.specs.Legal.{Met};
     ghost use Rattle.spool_turns.specs.Passes.{facts_in, IsTurn};
     ghost use Rattle.spool_turns.specs.Replays.{Replays};
@@ -116,6 +118,7 @@ impl<D: Disk, J: Naming> Turn<D, J> {
         requires table { (steps.now.table_id ≡ J.table) × (steps.now.table_id.words ≡ 4) }
         requires caller { pass.old.number + 1 ≡ J.seats }
         requires number { upto ≤ pass.old.end_known }
+        requires earned { (n : ℕ) → n < upto → D.may_release n }
 
         ensures call { Calls J.start J.run J.seats pass.old (confirms upto result) pass.new }
         ensures real { IsReal ⟦<D as Disk>⟧ J.start J.run J.seats J.began pass.new.seen }
@@ -142,6 +145,7 @@ impl<D: Disk, J: Naming> Turn<D, J> {
         requires table { (steps.now.table_id ≡ J.table) × (steps.now.table_id.words ≡ 4) }
         requires caller { pass.old.number + 1 ≡ J.seats }
         requires numbers { All (EndsBy pass.old.end_known) known.now }
+        requires earned { (n : ℕ) → IsInSome known.now n → D.may_release n }
 
         ensures call { Calls J.start J.run J.seats pass.old (marks known.now result) pass.new }
         ensures real { IsReal ⟦<D as Disk>⟧ J.start J.run J.seats J.began pass.new.seen }

@@ -1,7 +1,7 @@
 //! A desk that is to be shared.
 ghost use Rattle.std.specs.Prelude.{◌≡◌, [], false, IfOk, IfErr};
 ghost use Rattle.spool_log.specs.Memory.{run_of};
-ghost use Rattle.desk_access.specs.Alone.{alone_at};
+ghost use Rattle.spool_desk.specs.Alone.{alone_at};
 ghost use Rattle.spool_turns.specs.Rules.{first_view};
 ghost use Rattle.spool_turns.specs.Replays.{IsExact};
 
@@ -11,8 +11,9 @@ use crate::rule::{PassSeat, SeatTable};
 use crate::shared::Shared;
 use crate::steps::make_pass;
 use crate::turn::Turn;
-use desk_access::{Access, Alone, Desk};
+use desk_access::Access;
 use edge_disk::Disk;
+use spool_desk::{Alone, Desk};
 use std::alloc::Global;
 use std::marker::PhantomData;
 use std::sync::Mutex;
@@ -58,7 +59,7 @@ impl<D: Disk> Unnamed<D> {
     ghost use Rattle.spool_state.specs.SpoolState.{SpoolState};
     ghost use Rattle.spool_log.specs.State.{view, IsIn};
     ghost use Rattle.desk_access.specs.Desk.{desk_of};
-    ghost use Rattle.desk_access.specs.Alone.{HoldsNone, IsAt};
+    ghost use Rattle.spool_desk.specs.Alone.{HoldsNone, IsAt};
     ghost use Rattle.spool_turns.specs.Passes.{fresh};
     ghost use Rattle.spool_turns.specs.Named.{IsName};
 

@@ -1,13 +1,13 @@
 //! Desks over a spool in memory.
 ghost use Rattle.std.specs.Prelude.{◌≡◌, ◌^◌, ◌≤◌, false};
 ghost use Rattle.spool_log.specs.Memory.{run_of};
-ghost use Rattle.desk_access.specs.Alone.{HoldsNone};
+ghost use Rattle.spool_desk.specs.Alone.{HoldsNone};
 ghost use Rattle.spool_turns.specs.Passes.{fresh};
 ghost use Rattle.spool_turns.specs.Named.{IsName};
 
-use desk_access::Desk;
-use edge_disk::MemDisk;
+use edge_memory::MemDisk;
 use hec_ids::Ids;
+use spool_desk::Desk;
 use spool_log::{Opening, Spool, format};
 use spool_turns::{Naming, Opened, Unnamed};
 use std::alloc::Global;

@@ -3,13 +3,14 @@ ghost use Rattle.std.specs.Prelude.{◌≡◌, false, IfOk};
 ghost use Rattle.event_form.specs.Entry.{IsEntry};
 ghost use Rattle.event_form.specs.Event.{IsEvent};
 ghost use Rattle.spool_log.specs.Memory.{run_of};
-ghost use Rattle.desk_access.specs.Alone.{HoldsNone};
+ghost use Rattle.spool_desk.specs.Alone.{HoldsNone};
 
 use anyhow::bail;
-use desk_access::{Access, Alone, Desk};
-use edge_disk::MemDisk;
+use desk_access::Access;
+use edge_memory::MemDisk;
 use event_form::{Blob, Entry, Event, Origin};
 use hec_ids::Ids;
+use spool_desk::{Alone, Desk};
 use spool_log::{Opening, Spool, format};
 use std::alloc::{AllocError, Global};
 

@@ -1,6 +1,7 @@
 //! A disk in memory with an empty spool, and the calls by which groups are stored there.
 use anyhow::bail;
-use edge_disk::{Disk, MemDisk};
+use edge_disk::Disk;
+use edge_memory::MemDisk;
 use spool_log::{Opening, Spool, format};
 use std::alloc::{AllocError, Global};
 

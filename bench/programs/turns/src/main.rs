@@ -5,12 +5,14 @@
 
 ghost use Rattle.std.specs.Prelude.{◌≡◌, ◌<◌, ◌≤◌, false, IfOk};
 ghost use Rattle.spool_log.specs.Memory.{run_of};
-ghost use Rattle.desk_access.specs.Alone.{HoldsNone};
+ghost use Rattle.spool_desk.specs.Alone.{HoldsNone};
 
 use anyhow::bail;
-use desk_access::{Alone, Desk};
-use edge_disk::{Disk, FileDisk, MemDisk};
+use edge_disk::Disk;
+use edge_file::FileDisk;
+use edge_memory::MemDisk;
 use hec_ids::Ids;
+use spool_desk::{Alone, Desk};
 use spool_log::{Opening, Spool, format};
 use std::alloc::Global;
 use std::cmp::OrderedFloat;

@@ -13,7 +13,7 @@ use crate::talk::{say, talk_of};
 use edge_io::Link;
 use event_form::Talk;
 use hec_ids::IssueFault;
-use spool_log::TakeFault;
+use spool_answers::TakeFault;
 
 /// A reply that says why the connection ends ("Troubleshoot HTTP Event Collector", possible error codes; RFC 9110,
 /// section 15).

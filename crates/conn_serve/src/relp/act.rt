@@ -11,7 +11,7 @@ ghost use Rattle.relp_session.specs.Answer.{IsSound, hint, stored};
 ghost use Rattle.relp_session.specs.Row.{act_lent, answer_text};
 ghost use Rattle.relp_session.specs.Session.{state_after};
 ghost use Rattle.relp_session.specs.declared.act.RelpAct.TheVariants.{Store};
-ghost use Rattle.spool_log.specs.Changing.Take.{IsRefusal};
+ghost use Rattle.spool_answers.specs.Take.{IsRefusal};
 ghost use Rattle.edge_io.specs.Told.{MayFollow};
 ghost use Rattle.conn_serve.specs.Relp.{Carries, CarriesFrame, IsDue};
 ghost use Rattle.conn_serve.specs.Says.{MaySay};
@@ -28,7 +28,7 @@ use edge_io::Link;
 use event_form::{Event, Origin, Talk};
 use relp_frame::FrameRef;
 use relp_session::{RelpActRef, RelpCore};
-use spool_log::TakeFault;
+use spool_answers::TakeFault;
 use std::slice;
 
 // Whether the event was refused, for want of room or of numbers.

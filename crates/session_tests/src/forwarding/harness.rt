@@ -4,12 +4,13 @@ ghost use Rattle.event_form.specs.Entry.{IsEntry};
 
 use crate::forwarding::ends::end_text;
 use crate::forwarding::fields::{number, numbers, said};
-use desk_access::{Access, Alone, Desk};
-use edge_disk::MemDisk;
+use desk_access::Access;
 use edge_io::{Both, MemSink, MemSource, Object, Pause, Proto};
+use edge_memory::MemDisk;
 use event_form::{Blob, Entry, Event, Origin};
 use forward_core::{Outward, Sent, forward};
 use hec_ids::Ids;
+use spool_desk::{Alone, Desk};
 use spool_log::{Opening, Spool, format};
 use std::alloc::Global;
 use std::process::Abort;

@@ -3,8 +3,8 @@ use crate::forwarding::fields::{add, check_form, number, numbers, said};
 use crate::forwarding::harness::{Left, filled, session};
 use crate::forwarding::peers::peer;
 use crate::forwarding::written::written;
-use edge_disk::MemDisk;
 use edge_io::Proto;
+use edge_memory::MemDisk;
 use std::alloc::Global;
 use std::process::Abort;
 

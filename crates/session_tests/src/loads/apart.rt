@@ -1,12 +1,13 @@
 //! The replay and the drain of a load by `attend` and `forward` alone.
 use crate::forwarding::harness::{blank, desk, sent};
 use conn_serve::{Rules, attend};
-use desk_access::{Access, Alone};
-use edge_disk::MemDisk;
+use desk_access::Access;
 use edge_io::{Both, MemSink, MemSource, Proto};
+use edge_memory::MemDisk;
 use event_form::Talk;
 use forward_core::Sent;
 use load_run::{Loaded, load};
+use spool_desk::Alone;
 use std::alloc::Global;
 use std::process::Abort;
 

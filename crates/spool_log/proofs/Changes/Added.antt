@@ -16,7 +16,7 @@ use Rattle.spool_slots.specs.declared.slot.Slot.{Slot}
 use Rattle.spool_slots.specs.Slot as Slots
 use Rattle.spool_slots.specs.Slot.{IsSlot, HoldsOldOrNew}
 use Rattle.spool_log.specs.Knows.{KnowsSlot}
-use Rattle.spool_log.specs.Stages.{StandsForOne}
+use Rattle.spool_answers.specs.Stages.{StandsForOne}
 
 -- as the slot in memory says where it is
 pub holds_at : (at size : ℕ) (segment : Segment) (slot : Slot) (c : List ℕ) → slot.at ≡ at → slot.size ≡ size → HoldsSegment slot.at slot.size segment c → HoldsSegment at size segment c

@@ -17,7 +17,7 @@ use Rattle.spool_slots.specs.Slot.{IsSlot, IsClosedOrHolds, HoldsOldOrNew}
 use Rattle.spool_log.specs.Knows.{KnowsSlot}
 use Rattle.spool_log.specs.declared.changing.begin.Head.{Head}
 use Rattle.spool_log.specs.Changing.Next.{IsNext}
-use Rattle.spool_log.specs.Stages.{StandsForOne, begin_stages}
+use Rattle.spool_answers.specs.Stages.{StandsForOne, begin_stages}
 use Rattle.spool_state.proofs.Begun.{end-begun}
 use Rattle.spool_log.proofs.Changes.Begun.{begun_stands, beginning_stands}
 use Rattle.spool_log.proofs.Changes.Added.{holds_at, holds_images, add_moments, add_knows, add_stands}

@@ -1,6 +1,6 @@
 -- Numbers made known.
 use Rattle.std.proofs.Common.{◌≡◌, ◌⊎◌, ◌↔◌, IsTrue, Bool, true, false, inl, inr, ℕ, ◌+◌, min, length, take, zero, suc, ◌^◌, ◌<◌, ◌≤◌, List, [], ◌∷◌, ◌++◌, refl, sym, ◌∙◌, ap, subst, arith, get_or}
-use Rattle.std.specs.Prelude.{nat_le, not, Ok, Err, All}
+use Rattle.std.specs.Prelude.{nat_le, not, Ok, Err}
 use Rattle.std.proofs.lemmas.Bool.{cond-true, cond-false, le-leb, lt-leb, false≢true}
 use Rattle.std.proofs.lemmas.List.{take_more}
 use Rattle.known_numbers.specs.declared.stretch.Stretch.{Stretch}
@@ -11,10 +11,11 @@ use Rattle.spool_state.specs.Change.{registered}
 use Rattle.spool_state.proofs.Following.{follows_self}
 use Rattle.spool_state.proofs.Registered.{with_marked, follows_marked}
 use Rattle.edge_disk.specs.Disk.{LeavesOnly}
-use Rattle.spool_log.specs.declared.fault.ConfirmFault.TheVariants.{Worn, DiskFault}
+use Rattle.spool_answers.specs.declared.fault.ConfirmFault.TheVariants.{Worn, DiskFault}
 use Rattle.spool_log.specs.State.{View, IsIn, LeavesStages}
-use Rattle.spool_log.specs.Stages.{last_of, total_of, known_stages, StandsForOne, AllFollow}
-use Rattle.spool_log.specs.Changing.Mark.{EndsBy, IsNothingNew, MarksTo}
+use Rattle.spool_answers.specs.Stages.{last_of, total_of, known_stages, StandsForOne, AllFollow}
+use Rattle.spool_log.specs.Changing.Mark.{MarksTo}
+use Rattle.spool_answers.specs.Mark.{EndsBy, IsNothingNew}
 use Rattle.spool_log.specs.declared.memory.Memory.{Memory}
 use Rattle.disk_cell.specs.declared.content.Content.{Content}
 use Rattle.spool_log.specs.Device.{numbers_in, MayFollow}
@@ -23,19 +24,10 @@ use Rattle.spool_log.specs.Memory.{cursor_of, end_of, numbers_of as known_number
 use Rattle.spool_log.proofs.Numbers.{end_known}
 use Rattle.spool_log.proofs.Stored.{none_follow, leaves_stages}
 
--- all end by a number
-pub end_by : (e : ℕ) (more : List Stretch) → All (EndsBy e) more → EndBy e more
-end_by e [] all = tt
-end_by e (one ∷ more) all = ((all 0 one (omega arith)).within, end_by e more (λ k d lt. all (suc k) d (omega arith)))
-
 -- one more stretch
 pub marked_more : (a : Numbers) (more : List Stretch) (one : Stretch) → marked a (more ++ one ∷ []) ≡ marked (marked a more) (one ∷ [])
 marked_more a [] one = refl
 marked_more a (first ∷ more) one = marked_more (marked a (first ∷ [])) more one
-
--- the same for a later end
-pub ends_later : (e f : ℕ) (more : List Stretch) → e ≤ f → All (EndsBy e) more → All (EndsBy f) more
-ends_later e f more le all = λ k d lt. record { order = (all k d lt).order; within = omega (arith, (all k d lt).within, le) }
 
 -- the known numbers of memory are the state's
 pub numbers_known : (s : SpoolState) (memory : Memory) → Knows s memory → known_numbers_of memory ≡ numbers_of s

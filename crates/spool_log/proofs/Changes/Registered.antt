@@ -16,7 +16,7 @@ use Rattle.edge_disk.proofs.Moments.{weaker, from_settled}
 use Rattle.disk_cell.specs.Register.{IsSetStep}
 use Rattle.disk_cell.specs.declared.register.Register.{Register}
 use Rattle.disk_cell.proofs.Frames.{step_has}
-use Rattle.spool_log.specs.Stages.{StandsForOne}
+use Rattle.spool_answers.specs.Stages.{StandsForOne}
 
 -- a change of the two cells
 module _ (s : SpoolState) (old c : List ℕ) (stands : StandsFor s old) (same : SameBut 4096 8192 old c) where

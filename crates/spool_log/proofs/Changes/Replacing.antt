@@ -18,7 +18,7 @@ use Rattle.spool_log.specs.declared.changing.begin.Head.{Head}
 use Rattle.spool_log.specs.declared.memory.Memory.{Memory}
 use Rattle.spool_log.specs.Memory.{cursor_of}
 use Rattle.spool_log.specs.Knows.{KnowsSlot, KnowsSlots, IsStored}
-use Rattle.spool_log.specs.Stages.{StandsForOne, begin_stages, replace_stages}
+use Rattle.spool_answers.specs.Stages.{StandsForOne, begin_stages, replace_stages}
 use Rattle.spool_log.specs.Changing.Next.{IsHead, IsNext}
 use Rattle.spool_log.specs.Changing.Target.{StartsConfirmed}
 use Rattle.spool_log.proofs.Numbers.{knows_push, end_known, some_entry}

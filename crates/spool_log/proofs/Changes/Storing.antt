@@ -5,15 +5,16 @@ use Rattle.event_form.specs.declared.event.Entry.{Entry}
 use Rattle.spool_state.specs.SpoolState.{SpoolState}
 use Rattle.spool_state.proofs.Following.{follows_self}
 use Rattle.edge_disk.specs.Disk.{Moment, IsLawful, LeavesOnly}
-use Rattle.spool_log.specs.declared.fault.Receipt.{Receipt}
-use Rattle.spool_log.specs.declared.fault.TakeFault.{TakeFault}
-use Rattle.spool_log.specs.declared.fault.TakeFault.TheVariants.{TooLarge, Spent, Full, NotSpool, NoMemory, DiskFault}
+use Rattle.spool_answers.specs.declared.fault.Receipt.{Receipt}
+use Rattle.spool_answers.specs.declared.fault.TakeFault.{TakeFault}
+use Rattle.spool_answers.specs.declared.fault.TakeFault.TheVariants.{TooLarge, Spent, Full, NotSpool, NoMemory, DiskFault}
 use Rattle.spool_log.specs.declared.memory.Memory.{Memory}
 use Rattle.spool_log.specs.State.{View, view, IsIn, LeavesStages}
-use Rattle.spool_log.specs.Stages.{last_of, group_stages, StandsForOne}
-use Rattle.spool_log.specs.Changing.Take.{IsRefusal, StoresTo}
+use Rattle.spool_answers.specs.Stages.{last_of, group_stages, StandsForOne}
+use Rattle.spool_log.specs.Changing.Take.{StoresTo}
+use Rattle.spool_answers.specs.Take.{IsRefusal}
 use Rattle.spool_log.proofs.Stored.{last_follows, none_follow, leaves_stages, leaves_same}
-use Rattle.spool_log.proofs.Changes.Adding.{adding_follow}
+use Rattle.spool_answers.proofs.Adding.{adding_follow}
 
 -- a group that was refused
 refused_by : (s : SpoolState) (group : List Entry) (fault : TakeFault) (v : View) → IsRefusal fault → IsIn s [] v → LeavesStages s [] v.moment v.moment → StoresTo s group (Err fault) v v

@@ -8,13 +8,14 @@ use Rattle.spool_state.proofs.Laws.{one_state, stands_unbroken}
 use Rattle.edge_disk.specs.Disk.{Moment, IsLawful, IsSettled, IsUntouched, LeavesOnly}
 use Rattle.edge_disk.proofs.Moments.{started, untouched, untouched_run, still_settled}
 use Rattle.spool_log.specs.declared.memory.Memory.{Memory}
-use Rattle.spool_log.specs.declared.fault.PendFault.{PendFault}
-use Rattle.spool_log.specs.declared.fault.PendFault.TheVariants.{NotSpool, DiskFault, NoMemory}
+use Rattle.spool_answers.specs.declared.fault.PendFault.{PendFault}
+use Rattle.spool_answers.specs.declared.fault.PendFault.TheVariants.{NotSpool, DiskFault, NoMemory}
 use Rattle.spool_log.specs.Reading.{IsReadFault, KnowsState}
 use Rattle.spool_log.specs.Knows.{IsStored}
 use Rattle.spool_log.specs.State.{View, view, IsIn}
-use Rattle.spool_log.specs.Stages.{IsOneOf, StandsForOne, AllFollow}
-use Rattle.spool_log.specs.Outcome.{IsNotBroken, StaysInDoubt, IsMended}
+use Rattle.spool_answers.specs.Stages.{IsOneOf, StandsForOne, AllFollow}
+use Rattle.spool_log.specs.Outcome.{StaysInDoubt, IsMended}
+use Rattle.spool_answers.specs.Pend.{IsNotBroken}
 use Rattle.spool_log.proofs.Stored.{in_stored}
 
 pub err_is : {T E : Type 0} (r : Result T E) (e : E) → IsErrAnd r (λ x. x ≡ e) → r ≡ Err e

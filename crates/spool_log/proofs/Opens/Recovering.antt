@@ -14,8 +14,8 @@ use Rattle.spool_log.specs.declared.fault.RecoverFault.TheVariants as Recover
 use Rattle.spool_log.specs.declared.opening.Opening.{Opening}
 use Rattle.spool_log.specs.declared.opening.Opening.TheVariants.{Keep, Raise}
 use Rattle.spool_log.specs.declared.memory.Memory.{Memory}
-use Rattle.spool_log.specs.declared.fault.PendFault.{PendFault}
-use Rattle.spool_log.specs.declared.fault.PendFault.TheVariants.{NotSpool, DiskFault, NoMemory}
+use Rattle.spool_answers.specs.declared.fault.PendFault.{PendFault}
+use Rattle.spool_answers.specs.declared.fault.PendFault.TheVariants.{NotSpool, DiskFault, NoMemory}
 use Rattle.spool_log.specs.Reading.{IsReadFault, KnowsState}
 use Rattle.spool_log.specs.Fault.{as_recover, of_set}
 use Rattle.spool_log.specs.Knows.{Knows, IsStored}
@@ -24,7 +24,7 @@ use Rattle.spool_state.specs.Change.{registered}
 use Rattle.disk_cell.specs.declared.content.Content.{Content}
 use Rattle.spool_log.specs.Device.{numbers_in, MayFollow}
 use Rattle.spool_log.specs.Memory.{cursor_of, end_of}
-use Rattle.spool_log.specs.Stages.{StandsForOne}
+use Rattle.spool_answers.specs.Stages.{StandsForOne}
 use Rattle.spool_log.specs.State.{view}
 use Rattle.spool_log.specs.Opening.{raise_stages, opened, CanOpen, Refuses, IsRefusedAs, IsOpening, IsRefusing, Opens}
 use Rattle.spool_log.proofs.Stored.{in_stored}

@@ -7,7 +7,7 @@ use Rattle.spool_slots.specs.declared.fault.ScanFault.{ScanFault}
 use Rattle.spool_slots.specs.declared.fault.ScanFault.TheVariants as Scan
 use Rattle.spool_slots.specs.Scan.{IsScanFault}
 use Rattle.spool_log.specs.Reading.{IsSlotsFault, KnowsOpened}
-use Rattle.spool_log.specs.Fault.{of_scan}
+use Rattle.spool_slots.specs.Fault.{of_scan}
 use Rattle.spool_log.proofs.Scans.Scanned.{first_breaks}
 
 -- the error that an answer has

@@ -11,8 +11,8 @@ use Rattle.event_form.specs.declared.event.Entry.{Entry}
 use Rattle.spool_state.specs.Left.{NumberedEntry, numbered, is_known, unknown}
 use Rattle.spool_state.proofs.Unknown.{known_from, unknown_from, filter_like, numbered_append, unknown_append, unknown_numbers}
 use Rattle.event_form.specs.Entry.{IsEntry}
-use Rattle.spool_log.specs.declared.reading.numbered.Numbered.{Numbered}
-use Rattle.spool_log.specs.Outcome.{given_entries, AreNumbered}
+use Rattle.spool_answers.specs.declared.numbered.Numbered.{Numbered}
+use Rattle.spool_answers.specs.Pend.{given_entries, AreNumbered}
 use Rattle.spool_log.specs.Reading.Wanted.{wanted_from}
 
 pub wanted_append : (numbers : Numbers) (from : ℕ) (xs ys : List NumberedEntry) → wanted_from numbers from (xs ++ ys) ≡ wanted_from numbers from xs ++ wanted_from numbers from ys

@@ -17,9 +17,9 @@ use Rattle.spool_slots.specs.declared.fault.ScanFault.{ScanFault}
 use Rattle.spool_slots.specs.declared.fault.ScanFault.TheVariants as Scan
 use Rattle.spool_slots.specs.Fault as Slot_faults
 use Rattle.spool_slots.specs.Slot as Slots
-use Rattle.spool_log.specs.declared.reading.numbered.Numbered.{Numbered}
-use Rattle.spool_log.specs.Fault.{of_scan}
-use Rattle.spool_log.specs.Outcome.{given_entries, IsNotBroken}
+use Rattle.spool_answers.specs.declared.numbered.Numbered.{Numbered}
+use Rattle.spool_slots.specs.Fault.{of_scan}
+use Rattle.spool_answers.specs.Pend.{given_entries, IsNotBroken}
 use Rattle.spool_log.specs.Knows.{KnowsSlot, KnowsSlots}
 use Rattle.spool_log.specs.Reading.Wanted.{wanted_from}
 use Rattle.spool_log.proofs.Changes.Added.{holds_from}

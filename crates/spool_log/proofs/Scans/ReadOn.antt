@@ -7,13 +7,14 @@ use Rattle.spool_state.specs.Left.{left_from}
 use Rattle.spool_state.proofs.Following.{follows_self}
 use Rattle.edge_disk.specs.Disk.{Moment, IsLawful, IsUntouched}
 use Rattle.edge_disk.proofs.Moments.{untouched_run}
-use Rattle.spool_log.specs.declared.fault.PendFault.{PendFault}
-use Rattle.spool_log.specs.declared.reading.numbered.Numbered.{Numbered}
+use Rattle.spool_answers.specs.declared.fault.PendFault.{PendFault}
+use Rattle.spool_answers.specs.declared.numbered.Numbered.{Numbered}
 use Rattle.spool_log.specs.declared.memory.Memory.{Memory}
 use Rattle.spool_log.specs.Knows.{Knows, IsStored}
 use Rattle.spool_log.specs.State.{KnowsDevice, View, view, IsIn}
-use Rattle.spool_log.specs.Stages.{IsMidway}
-use Rattle.spool_log.specs.Outcome.{IsNotBroken, IsMended, GoesOn, Pends, given_entries}
+use Rattle.spool_answers.specs.Stages.{IsMidway}
+use Rattle.spool_log.specs.Outcome.{IsMended, GoesOn}
+use Rattle.spool_answers.specs.Pend.{IsNotBroken, Pends, given_entries}
 use Rattle.spool_log.proofs.Going.{goes_on}
 use Rattle.spool_log.proofs.Stored.{stored_of, none_follow}
 

@@ -28,14 +28,14 @@ use Rattle.disk_cell.proofs.Contents.{text_is}
 use Rattle.disk_cell.proofs.Frames.{knows_holds}
 use Rattle.spool_slots.specs.declared.slot.Slot.{Slot}
 use Rattle.spool_log.specs.declared.reading.header.Header.{Header}
-use Rattle.spool_log.specs.declared.fault.PendFault.{PendFault}
-use Rattle.spool_log.specs.declared.fault.PendFault.TheVariants.{NotSpool, DiskFault, NoMemory}
+use Rattle.spool_answers.specs.declared.fault.PendFault.{PendFault}
+use Rattle.spool_answers.specs.declared.fault.PendFault.TheVariants.{NotSpool, DiskFault, NoMemory}
 use Rattle.spool_log.specs.declared.memory.Memory.{Memory}
 use Rattle.spool_log.specs.Knows.{KnowsSlot, KnowsSlots, IsStored}
 use Rattle.spool_log.specs.Reading.Header.{HasHeader}
 use Rattle.spool_log.specs.Reading.Judging.{HasSoundNumbers, IsJudgementOf}
 use Rattle.spool_log.specs.Reading.Marked.{IsMarked}
-use Rattle.spool_log.specs.Fault.{of_load}
+use Rattle.disk_cell.specs.Fault.{of_load}
 use Rattle.spool_log.specs.Reading.{IsReadFault, IsSlotsFault, IsPlaced, KnowsOpened, KnowsState}
 use Rattle.spool_log.specs.Device.{LiesIn, numbers_in}
 use Rattle.spool_log.proofs.Scans.Headers.{header_kept}

@@ -9,7 +9,7 @@ use Rattle.spool_log.specs.declared.memory.Memory.{Memory}
 use Rattle.spool_log.specs.declared.changing.target.Target.{Target}
 use Rattle.spool_log.specs.declared.changing.target.Target.TheVariants.{Active, Closed, First}
 use Rattle.spool_log.specs.Memory.{cursor_of, room_of}
-use Rattle.spool_log.specs.Stages.{begin_stages, replace_stages}
+use Rattle.spool_answers.specs.Stages.{begin_stages, replace_stages}
 
 -- the stages by which it gets there
 abbrev pub stages_at : Target → SpoolState → List Entry → List SpoolState

@@ -12,7 +12,7 @@ ghost use Rattle.edge_disk.specs.Disk.{IsSettled, LeavesOnly};
 ghost use Rattle.spool_log.specs.Device.{LiesIn};
 ghost use Rattle.spool_log.specs.Knows.{IsStored};
 ghost use Rattle.spool_log.specs.State.{KnowsDevice};
-ghost use Rattle.spool_log.specs.Stages.{last_of, StandsForOne, begin_stages, replace_stages};
+ghost use Rattle.spool_answers.specs.Stages.{last_of, StandsForOne, begin_stages, replace_stages};
 ghost use Rattle.spool_log.specs.Changing.Next.{IsHead};
 ghost use Rattle.spool_log.specs.Changing.Target.{stages_at, IsFreeIn, StartsConfirmed, Suits};
 

@@ -12,7 +12,7 @@ ghost use Rattle.edge_disk.specs.Disk.{IsSettled, LeavesOnly};
 ghost use Rattle.spool_slots.specs.Slot.{IsSlot};
 ghost use Rattle.spool_log.specs.Knows.{KnowsSlot};
 ghost use Rattle.spool_log.specs.Changing.Next.{IsNext};
-ghost use Rattle.spool_log.specs.Stages.{StandsForOne, begin_stages};
+ghost use Rattle.spool_answers.specs.Stages.{StandsForOne, begin_stages};
 
 use edge_disk::{Disk, DiskFault};
 use event_form::Entry;

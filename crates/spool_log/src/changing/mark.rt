@@ -1,12 +1,12 @@
 //! Numbers that become known as confirmed.
 ghost use Rattle.std.specs.Prelude.{◌≡◌, ◌↔◌, ◌⊎◌, ℕ, ◌+◌, ◌<◌, ◌≤◌, List, [], All, IsTrue, false, true, IfErr, IsErrOf};
-ghost use Rattle.known_numbers.specs.Numbers.{Numbers, EndBy, IsSound, count_of, marked};
+ghost use Rattle.known_numbers.specs.Numbers.{Numbers, EndBy, IsInSome, IsSound, count_of, marked};
 ghost use Rattle.known_numbers.specs.declared.stretch.Stretch.{Stretch as TheStretch};
 ghost use Rattle.spool_state.specs.SpoolState.{SpoolState, end};
 ghost use Rattle.edge_disk.specs.Calls.{Calls};
 ghost use Rattle.spool_log.specs.Device.{numbers_in, MayFollow};
-ghost use Rattle.spool_log.specs.Stages.{total_of};
-ghost use Rattle.spool_log.specs.Changing.Mark.{EndsBy};
+ghost use Rattle.spool_answers.specs.Stages.{total_of};
+ghost use Rattle.spool_answers.specs.Mark.{EndsBy};
 
 use crate::{ConfirmFault, Spool};
 use disk_cell::{Content, SetFault};
@@ -46,7 +46,8 @@ fn join(numbers: &mut KnownNumbers, content: &Content, more: &[Stretch], end: u6
 impl<D: Disk> Spool<D> {
     ghost use Rattle.spool_log.specs.Memory.{numbers_of, cursor_of, end_of};
     ghost use Rattle.spool_log.specs.State.{view, IsIn};
-    ghost use Rattle.spool_log.specs.Changing.Mark.{all_below, MarksTo, IsAnswered, WornBy};
+    ghost use Rattle.spool_log.specs.Changing.Mark.{MarksTo, WornBy};
+    ghost use Rattle.spool_answers.specs.Mark.{all_below, IsAnswered};
     ghost use Rattle.spool_log.specs.Outcome.{MarksFrom};
 
     /// Writes the numbers that were joined, outside doubt.
@@ -92,6 +93,7 @@ impl<D: Disk> Spool<D> {
     /// came of the writing, the spool is in doubt; else nothing changed but by mending.
     pub fn mark(&mut self, known: &[Stretch]) -> Result<(), ConfirmFault>
         requires numbers { All (EndsBy (end_of self.old.memory)) known.now }
+        requires earned { (n : ℕ) → IsInSome known.now n → D.may_release n }
 
         ensures met { IsErrOf result ConfirmFault.NoMemory → self.old.doubt ≡ true }
         ensures read_again { (at : ℕ) → IsErrOf result (ConfirmFault.NotSpool at) → self.old.doubt ≡ true }
@@ -115,6 +117,7 @@ impl<D: Disk> Spool<D> {
     /// stretch from 0 to `upto`.
     pub fn confirm(&mut self, upto: u64) -> Result<(), ConfirmFault>
         requires number { upto ≤ end_of self.old.memory }
+        requires earned { (n : ℕ) → n < upto → D.may_release n }
 
         ensures met { IsErrOf result ConfirmFault.NoMemory → self.old.doubt ≡ true }
         ensures read_again { (at : ℕ) → IsErrOf result (ConfirmFault.NotSpool at) → self.old.doubt ≡ true }

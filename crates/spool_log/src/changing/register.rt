@@ -10,7 +10,7 @@ ghost use Rattle.edge_disk.specs.Disk.{IsSettled, LeavesOnly};
 ghost use Rattle.disk_cell.specs.Fault.{IsWornAt};
 ghost use Rattle.spool_log.specs.Knows.{IsStored};
 ghost use Rattle.spool_log.specs.State.{KnowsDevice};
-ghost use Rattle.spool_log.specs.Stages.{StandsForOne};
+ghost use Rattle.spool_answers.specs.Stages.{StandsForOne};
 ghost use Rattle.spool_log.specs.Device.{MayFollow};
 ghost use Rattle.spool_log.specs.Memory.{cursor_of, end_of};
 

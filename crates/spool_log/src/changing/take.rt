@@ -8,7 +8,7 @@ ghost use Rattle.spool_state.specs.SpoolState.{SpoolState, IsSound, end};
 ghost use Rattle.edge_disk.specs.Calls.{Calls};
 ghost use Rattle.edge_disk.specs.Disk.{LeavesOnly};
 ghost use Rattle.spool_log.specs.Knows.{Knows};
-ghost use Rattle.spool_log.specs.Stages.{group_stages, AllFollow};
+ghost use Rattle.spool_answers.specs.Stages.{group_stages, AllFollow};
 ghost use Rattle.spool_log.specs.Changing.Target.{stages_at, IsFreeIn, Suits};
 
 use crate::changing::target::Target;
@@ -22,7 +22,8 @@ const LAST_NUMBER: u64 = 9_223_372_036_854_775_808;
 
 impl Memory {
     ghost use Rattle.spool_log.specs.Memory.{end_of, most_of};
-    ghost use Rattle.spool_log.specs.Changing.Take.{Fits, Takes, IsRefusal, RefusedBy};
+    ghost use Rattle.spool_log.specs.Changing.Take.{RefusedBy};
+    ghost use Rattle.spool_answers.specs.Take.{Fits, Takes, IsRefusal};
 
     /// Where the entries go, or why they can't be taken.
     fn place_for(&self, entries: &[Entry]) -> Result<Target, TakeFault>
@@ -60,7 +61,8 @@ impl Memory {
 impl<D: Disk> Spool<D> {
     ghost use Rattle.spool_log.specs.Memory.{end_of, most_of};
     ghost use Rattle.spool_log.specs.State.{view, IsIn, Changes};
-    ghost use Rattle.spool_log.specs.Changing.Take.{Takes, IsAnswered, RefusedBy, StoresTo, TakesNothing};
+    ghost use Rattle.spool_log.specs.Changing.Take.{RefusedBy, StoresTo, TakesNothing};
+    ghost use Rattle.spool_answers.specs.Take.{Takes, IsAnswered};
     ghost use Rattle.spool_log.specs.Outcome.{TakesFrom};
 
     /// Adds the entries where they go. It is in doubt meanwhile, and after a fault.

@@ -6,7 +6,7 @@ ghost use Rattle.spool_state.specs.Segment.{need_of};
 ghost use Rattle.spool_state.specs.SpoolState.{SpoolState, IsSound};
 ghost use Rattle.spool_state.specs.Free.{has_place, lowest_closed, NoneIsFree};
 ghost use Rattle.spool_log.specs.Knows.{Knows};
-ghost use Rattle.spool_log.specs.Stages.{group_stages};
+ghost use Rattle.spool_answers.specs.Stages.{group_stages};
 
 use crate::Memory;
 use spool_slots::Slot;
@@ -31,7 +31,7 @@ fn begins_at(slots: &[Slot], at: u64) -> bool
 
 impl Memory {
     ghost use Rattle.spool_log.specs.Memory.{cursor_of, room_of};
-    ghost use Rattle.spool_log.specs.Changing.Take.{HasPlace};
+    ghost use Rattle.spool_answers.specs.Take.{HasPlace};
     ghost use Rattle.spool_log.specs.Changing.Target.{stages_at, IsFreeIn, StartsConfirmed, Suits};
 
     /// Whether an open slot has this place.

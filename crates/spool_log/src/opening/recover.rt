@@ -6,7 +6,7 @@ ghost use Rattle.edge_disk.specs.Calls.{Calls};
 ghost use Rattle.edge_disk.specs.Disk.{IsSettled, LeavesOnly};
 ghost use Rattle.spool_log.specs.Knows.{IsStored};
 ghost use Rattle.spool_log.specs.State.{KnowsDevice};
-ghost use Rattle.spool_log.specs.Stages.{StandsForOne};
+ghost use Rattle.spool_answers.specs.Stages.{StandsForOne};
 ghost use Rattle.spool_log.specs.Opening.{raise_stages, opened, CanOpen, Refuses, IsRefusedAs, IsOpening, IsRefusing};
 
 use crate::reading::device::read_device;

@@ -13,7 +13,7 @@ ghost use Rattle.spool_slots.specs.Slot as Slots;
 ghost use Rattle.spool_slots.specs.Mark.{IsMark};
 ghost use Rattle.spool_log.specs.Memory.{numbers_of, base_of, end_of};
 ghost use Rattle.spool_log.specs.Knows.{IsStored};
-ghost use Rattle.spool_log.specs.Outcome.{IsNotBroken, AreNumbered, given_entries};
+ghost use Rattle.spool_answers.specs.Pend.{IsNotBroken, AreNumbered, given_entries};
 ghost use Rattle.spool_log.specs.Reading.Marked.{AreMarks, IsMarkOf, IsMarked};
 ghost use Rattle.spool_log.specs.Reading.Wanted.{wanted_from};
 

@@ -9,7 +9,8 @@ use edge_disk::Disk;
 impl<D: Disk> Spool<D> {
     ghost use Rattle.spool_log.specs.Memory.{end_of};
     ghost use Rattle.spool_log.specs.State.{view, IsIn};
-    ghost use Rattle.spool_log.specs.Outcome.{AreNumbered, PendsFrom};
+    ghost use Rattle.spool_log.specs.Outcome.{PendsFrom};
+    ghost use Rattle.spool_answers.specs.Pend.{AreNumbered};
 
     /// The first `most` of the entries with numbers from `from`, which is at most the end, that aren't known
     /// as confirmed, or all where they are fewer, read from the device, each with its number. Where they go

@@ -3,18 +3,19 @@ ghost use Rattle.std.specs.Prelude.{◌≡◌, ◌⊎◌, ℕ, ◌+◌, ◌^◌,
 ghost use Rattle.event_form.specs.Entry.{IsEntry};
 ghost use Rattle.spool_state.specs.SpoolState.{SpoolState};
 ghost use Rattle.spool_state.specs.Image.{StandsFor};
-ghost use Rattle.edge_disk.specs.MemDisk.{mem_moment};
-ghost use Rattle.spool_log.specs.declared.fault.Receipt.{Receipt as TheReceipt};
+ghost use Rattle.edge_memory.specs.MemDisk.{mem_moment};
+ghost use Rattle.spool_answers.specs.declared.fault.Receipt.{Receipt as TheReceipt};
 ghost use Rattle.desk_access.specs.Call.{takes, issues, settles};
 ghost use Rattle.desk_access.specs.Batch.{AreNext, IsPlain, AreOfUnit};
 ghost use Rattle.desk_access.specs.Desk.{DeskState};
 ghost use Rattle.desk_access.specs.History.{AreKept};
-ghost use Rattle.desk_access.specs.Alone.{alone_at, IsAt};
+ghost use Rattle.spool_desk.specs.Alone.{alone_at, IsAt};
 
-use desk_access::{Access, Alone};
-use edge_disk::MemDisk;
+use desk_access::Access;
+use edge_memory::MemDisk;
 use event_form::Entry;
-use spool_log::{Receipt, TakeFault};
+use spool_answers::{Receipt, TakeFault};
+use spool_desk::Alone;
 
 // Takes two groups of one connection, of which the first entry has this index.
 fn take_both<A: Access>(

@@ -3,8 +3,9 @@ use crate::calls::within;
 use crate::desk::desks::{entry, opened};
 use crate::script::{Step, step_of};
 use crate::words::{are, number, word};
-use desk_access::{Access, Alone};
-use edge_disk::MemDisk;
+use desk_access::Access;
+use edge_memory::MemDisk;
+use spool_desk::Alone;
 use std::alloc::Global;
 use std::process::Abort;
 

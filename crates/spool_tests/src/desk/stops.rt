@@ -1,9 +1,11 @@
 //! Calls of the disk that fail, and what a crash leaves after them.
 use crate::calls;
 use crate::desk::desks::{desk_over, entry, opened};
-use desk_access::{Access, Alone, Desk};
-use edge_disk::{Crash, MemDisk};
-use spool_log::{Opening, Receipt, TakeFault};
+use desk_access::Access;
+use edge_memory::{Crash, MemDisk};
+use spool_answers::{Receipt, TakeFault};
+use spool_desk::{Alone, Desk};
+use spool_log::Opening;
 use std::alloc::Global;
 use std::process::Abort;
 

@@ -1,10 +1,10 @@
 //! A slot of a disk in memory, and groups in it.
 ghost use Rattle.std.specs.Prelude.{◌≡◌, ◌≢◌, ◌+◌, ◌<◌, ◌≤◌, ℕ, List, true, length, slice_index, All, IsTrue};
 ghost use Rattle.event_form.specs.Entry.{IsEntry};
-ghost use Rattle.edge_disk.specs.MemDisk.{mem_moment};
+ghost use Rattle.edge_memory.specs.MemDisk.{mem_moment};
 
 use crate::calls::group_of;
-use edge_disk::MemDisk;
+use edge_memory::MemDisk;
 use event_form::Entry;
 use spool_slots::{Slot, SlotFault};
 use std::alloc::Global;

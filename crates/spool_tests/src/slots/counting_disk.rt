@@ -18,6 +18,8 @@ impl<D: Disk> Disk for CountingDisk<D> {
 
     ghost moment = { λ d. D.moment d.disk };
 
+    ghost may_release = { D.may_release };
+
     ghost reads_too = { λ d images. D.reads_too d.disk images };
 
     ghost fits = { λ d. D.fits d.disk };

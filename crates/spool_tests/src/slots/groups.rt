@@ -3,7 +3,7 @@ use crate::script::Step;
 use crate::slots::benches::{add_group, begun};
 use crate::slots::reads::finds;
 use crate::words::are;
-use edge_disk::{Crash, MemDisk};
+use edge_memory::{Crash, MemDisk};
 use spool_slots::SlotFault;
 use std::alloc::Global;
 use std::process::Abort;

@@ -4,7 +4,7 @@ use crate::script::Step;
 use crate::slots::benches::{Bench, fits};
 use crate::slots::counting_disk::CountingDisk;
 use crate::words::{are, copied, number, word};
-use edge_disk::MemDisk;
+use edge_memory::MemDisk;
 use spool_slots::{Mark, ScanFault, Slot, Window};
 use std::alloc::Global;
 use std::process::Abort;

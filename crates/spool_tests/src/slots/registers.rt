@@ -1,14 +1,14 @@
 //! Registers: what counts, what is refused, and changes that are stopped.
 ghost use Rattle.std.specs.Prelude.{◌≡◌, ◌≤◌, length};
 ghost use Rattle.edge_disk.specs.Disk.{IsSettled};
-ghost use Rattle.edge_disk.specs.MemDisk.{mem_moment};
+ghost use Rattle.edge_memory.specs.MemDisk.{mem_moment};
 
 use crate::faults::fault_text;
 use crate::play::put;
 use crate::stops::{CRASHES, Change, change_of};
 use crate::words::{are, copied, numbers};
 use disk_cell::{Content, Register, SetFault, Stretch};
-use edge_disk::{Crash, MemDisk};
+use edge_memory::{Crash, MemDisk};
 use std::alloc::Global;
 use std::process::Abort;
 

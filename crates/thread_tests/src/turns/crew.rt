@@ -1,14 +1,14 @@
 //! Passes that take in threads of their own.
 ghost use Rattle.std.specs.Prelude.{◌≡◌, ◌+◌, ◌*◌, ◌≤◌, ℕ, [], false, All, IfOk};
 ghost use Rattle.spool_log.specs.Memory.{run_of};
-ghost use Rattle.desk_access.specs.Alone.{HoldsNone};
+ghost use Rattle.spool_desk.specs.Alone.{HoldsNone};
 ghost use Rattle.desk_access.specs.Batch.{Belongs};
 ghost use Rattle.spool_turns.specs.Passes.{fresh};
 ghost use Rattle.spool_turns.specs.Named.{IsName};
 
 use crate::turns::taking::take_many;
-use desk_access::Desk;
 use edge_disk::Disk;
+use spool_desk::Desk;
 use spool_turns::{Naming, Opened, Pass, Seated, Shared, Unnamed};
 use std::alloc::{AllocError, Global};
 use std::marker::Brand;

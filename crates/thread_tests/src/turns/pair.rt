@@ -1,14 +1,15 @@
 //! Two passes at one desk, of whose disk a call may fail.
-ghost use Rattle.std.specs.Prelude.{◌≡◌, []};
+ghost use Rattle.std.specs.Prelude.{◌≡◌, ℕ, []};
 ghost use Rattle.spool_turns.specs.Named.{IsName};
 
 use crate::desks::{calls_to_open, formatted, named, to_share};
 use crate::turns::answers::Row;
 use crate::turns::crew::first_conn;
 use crate::turns::taking::{entry, take_next};
-use desk_access::{Access, Desk};
-use edge_disk::MemDisk;
-use spool_log::{Numbered, PendFault, Receipt, TakeFault};
+use desk_access::Access;
+use edge_memory::MemDisk;
+use spool_answers::{Numbered, PendFault, Receipt, TakeFault};
+use spool_desk::Desk;
 use spool_turns::{Naming, Opened, Pass, Seated, Shared, Unnamed};
 use std::alloc::Global;
 use std::fmt::Debug;
@@ -79,6 +80,7 @@ fn store_two<A: Access>(rt: &impl Abort, said: &mut String, access: &mut A, conn
 // The other reads all entries, confirms so many, and asks for the id.
 fn read_all<A: Access>(rt: &impl Abort, said: &mut String, access: &mut A, upto: u64, id: u64)
     requires confirm { A.may_confirm access.old }
+    requires release { (n : ℕ) → A.may_release n }
 {
     say_places(rt, said, access.pending(0, 10));
     let confirmed = access.end() >= upto && access.confirm(upto).is_ok();
@@ -100,6 +102,7 @@ fn tell<A: Access>(
     requires first { A.may_take zero.old first 0 }
     requires last { A.may_take other.old last 0 }
     requires confirm { A.may_confirm other.old }
+    requires release { (n : ℕ) → A.may_release n }
 {
     let id = store_one(rt, said, zero, first);
     store_two(rt, said, other, last);

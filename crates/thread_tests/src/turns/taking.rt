@@ -6,7 +6,7 @@ ghost use Rattle.desk_access.specs.Batch.{AreNext, IsPlain};
 
 use desk_access::Access;
 use event_form::{Blob, Entry, Event, Origin};
-use spool_log::{Receipt, TakeFault};
+use spool_answers::{Receipt, TakeFault};
 use std::alloc::{AllocError, Global};
 
 /// An entry with a text of one byte, of that index of the connection.

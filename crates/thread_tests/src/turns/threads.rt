@@ -4,7 +4,7 @@ ghost use Rattle.std.specs.Prelude.{◌≤◌};
 use crate::desks::{formatted, opened};
 use crate::turns::crew::{CONNS, RUNS};
 use crate::turns::work_together;
-use spool_log::Numbered;
+use spool_answers::Numbered;
 use std::alloc::Global;
 use std::process::Abort;
 use std::sync::Wait;

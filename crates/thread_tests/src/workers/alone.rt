@@ -7,10 +7,10 @@ ghost use Rattle.serve_workers.specs.Works.{first_conn};
 ghost use Rattle.serve_workers.specs.Crews.{AreNew, HaveWorked};
 ghost use Rattle.serve_workers.specs.Answering.{MayAnswer};
 
-use desk_access::Desk;
 use edge_disk::Disk;
 use edge_io::Door;
 use serve_workers::{Crew, NoCrew, Post, WorkerReport, hire};
+use spool_desk::Desk;
 use spool_turns::{Naming, Opened, Pass, Shared};
 use std::alloc::Global;
 use std::sync::Wait;

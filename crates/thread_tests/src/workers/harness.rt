@@ -5,7 +5,7 @@ ghost use Rattle.spool_turns.specs.Named.{IsName};
 use crate::desks::{formatted, named, to_share};
 use crate::workers::alone::{Served, serve_alone};
 use crate::workers::door::TestDoor;
-use edge_disk::MemDisk;
+use edge_memory::MemDisk;
 use serve_workers::Post;
 use spool_turns::{Naming, Unnamed};
 use std::alloc::Global;

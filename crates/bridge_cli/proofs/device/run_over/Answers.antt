@@ -1,6 +1,6 @@
 use Rattle.std.proofs.Common.{sym, subst}
-use Rattle.bridge_core.specs.Leave.{MayAnswer, MayReplay, MayTake, WasRead}
-use Rattle.bridge_core.proofs.Leave.{answers_within, replays_within}
+use Rattle.bridge_core.specs.Leave.{MayAnswer, MayReplay, MayTake, WasRead, MayRelease, WereStreamed, HasExchangedAt}
+use Rattle.bridge_core.proofs.Leave.{answers_within, replays_within, releases_within}
 use Rattle.bridge_cli.proofs.device.run_over.Goals as goal
 
 -- what is durable on the disk that is watched is so on the disk
@@ -20,6 +20,17 @@ bridge-status-requires-clause-replays g c κs within =
     let take = MayTake g.K.Object.same g.K.Sink.taken g.K.Sink.permits c.args.output.now in
     λ command asks. replays_within tells moment (λ w. w.disk) c.new-disk.result read take command
     (subst (λ d. MayReplay tells moment d read take command) (sym c.new-disk.ensures) (c.requires.replays command asks))
+
+-- and what is received of the disk that is watched is so of the disk
+pub bridge-status-requires-clause-releases : goal.bridge-status-requires-clause-releases
+bridge-status-requires-clause-releases g c κs within =
+    let tells = g.D.Disk.tells in
+    let moment = g.D.Disk.moment in
+    let streamed = WereStreamed g.S.Object.same g.S.Source.given c.args.input.now g.K.Object.same g.K.Sink.taken c.args.output.now in
+    let at = HasExchangedAt g.N.L.Object.same g.N.L.Link.dialed g.N.L.Source.given g.N.L.Sink.taken in
+    let release = g.D.Disk.may_release in
+    λ command asks. releases_within tells moment (λ w. w.disk) c.new-disk.result streamed at release command
+    (subst (λ d. MayRelease tells moment d streamed at release command) (sym c.new-disk.ensures) (c.requires.releases command asks))
 
 pub returns : goal.returns
 returns g c =

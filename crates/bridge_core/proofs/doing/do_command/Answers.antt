@@ -30,6 +30,15 @@ drain_out-note-requires-clause-polls g c =
 pub drain_out-note-requires-clause-prints : goal.drain_out-note-requires-clause-prints
 drain_out-note-requires-clause-prints g c = rw c.in-Drain-default-None.is at c.requires.prints
 
+pub drain_out-note-requires-clause-releases : goal.drain_out-note-requires-clause-releases
+drain_out-note-requires-clause-releases g c =
+    rw c.outward_of-outward.ensures (rw (c.in-Drain-default-None.is, c.in-Drain-default-None.place-is) at c.requires.releases)
+
+pub drain_to-note-requires-clause-releases : goal.drain_to-note-requires-clause-releases
+drain_to-note-requires-clause-releases g c =
+    rw (c.outward_of-outward-in-Drain-default-Some.ensures, c.as_str.ensures)
+    (rw (c.in-Drain-default-Some.is, c.in-Drain-default-Some.place-is) at c.requires.releases)
+
 pub drain_to-note-requires-clause-polls : goal.drain_to-note-requires-clause-polls
 drain_to-note-requires-clause-polls g c =
     let asked = rw (c.in-Drain-default-Some.is, c.in-Drain-default-Some.place-is) at c.requires.asked in
@@ -50,6 +59,9 @@ serve-note-requires-clause-binds g c κs within = rw c.in-Serve.is at c.requires
 
 pub serve-note-requires-clause-dials : goal.serve-note-requires-clause-dials
 serve-note-requires-clause-dials g c κs within = rw c.in-Serve.is at c.requires.dials
+
+pub serve-note-requires-clause-releases : goal.serve-note-requires-clause-releases
+serve-note-requires-clause-releases g c κs within = rw c.in-Serve.is at c.requires.releases
 
 pub serve-note-requires-clause-prints : goal.serve-note-requires-clause-prints
 serve-note-requires-clause-prints g c κs within = rw c.in-Serve.is at c.requires.prints

@@ -5,10 +5,11 @@ use Rattle.edge_disk.specs.Disk.{LeavesOnly}
 use Rattle.spool_log.specs.declared.opening.Opening.TheVariants.{Raise}
 use Rattle.spool_log.specs.Memory.{run_of}
 use Rattle.spool_log.specs.Opening.{opened, IsOpening}
-use Rattle.desk_access.specs.Alone.{alone_at, IsAt}
+use Rattle.spool_desk.specs.Alone.{alone_at, IsAt}
 use Rattle.bridge_serve.specs.Opened.{IsOpenedOnly}
 use Rattle.bridge_parts.proofs.Desks.{desk_at}
 use Rattle.bridge_serve.proofs.Answering.{worker_may}
+use Rattle.bridge_serve.proofs.Releasing.{forwarder_may, if_some}
 use Rattle.bridge_serve.proofs.Opening.{desk_is, began_at, opened_only, given_back, given_calls, runs_over, if_ok, if_err}
 use Rattle.bridge_serve.proofs.running.run_over.Goals as goal
 
@@ -40,6 +41,16 @@ run_named-requires-clause-says g c κs within =
     (λ x is. let d = desk_is g.D.Disk.tells _ _ x from.opens is in
     ap (λ (y : _). y.spool.run) d.desk ∙ sym (unnamed.run_is ∙ ap (λ (k : _). run_of k.spool.memory) c.in-Ok.ensures.desk ∙ d.held.knows.run))
     i post.rules (g.N.P.Door.permits post.door) (c.requires.answers i post at)
+
+pub run_named-requires-clause-earned : goal.run_named-requires-clause-earned
+run_named-requires-clause-earned g c κs within =
+    let old = g.D.Disk.moment c.args.before.value in
+    let from = c.requires.opened in
+    let later = λ (told : g.D.Disk.tells). subst (λ (d : _). old.clock ≤ (g.D.Disk.moment d.spool.disk).clock) (sym c.in-Ok.ensures.desk)
+    (from.any_moment told).later in
+    if_some c.args.destination _ _
+    (λ d may. forwarder_may g.D.Disk c.args.before.value c.args.spool.disk c.args.spool.memory c.args.spool.doubt _ c.in-Ok.unnamed.run _ from later
+    d.now.outward _ g.D.Disk.may_release may) c.requires.releases
 
 pub returns-in-Ok-clause-over : goal.returns-in-Ok-clause-over
 returns-in-Ok-clause-over g c =

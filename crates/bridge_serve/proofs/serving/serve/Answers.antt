@@ -9,6 +9,7 @@ use Rattle.bridge_serve.proofs.Answering.{stands_may}
 use Rattle.bridge_serve.proofs.Causes.{net_bound, net_refused}
 use Rattle.bridge_serve.proofs.Doors.{all_unused, none_unused, unused_doors, tells_same, may_dial}
 use Rattle.bridge_serve.proofs.Ran.{run_binds_none, unserved_with}
+use Rattle.bridge_serve.proofs.Releasing.{may_release}
 use Rattle.bridge_serve.proofs.serving.serve.Goals as goal
 
 pub returns-in-Err-clause-served : goal.returns-in-Err-clause-served
@@ -45,6 +46,10 @@ serve_posts-requires-clause-answers g c κs within =
 
 pub serve_posts-requires-clause-dials : goal.serve_posts-requires-clause-dials
 serve_posts-requires-clause-dials g c κs within = rw c.destination_of.ensures (may_dial c.args.server.forward g.N.Net.may_dial c.requires.dials)
+
+pub serve_posts-requires-clause-releases : goal.serve_posts-requires-clause-releases
+serve_posts-requires-clause-releases g c κs within = rw (c.of-before.ensures, c.destination_of.ensures)
+    (may_release g.D.Disk.tells (λ (d : _). g.D.Disk.moment d) c.args.disk c.args.server.forward _ g.D.Disk.may_release c.requires.releases)
 
 pub returns-in-Ok-bind_doors-clause-served : goal.returns-in-Ok-bind_doors-clause-served
 returns-in-Ok-bind_doors-clause-served g c =

@@ -3,7 +3,14 @@ use Rattle.edge_disk.specs.Disk.{LeavesOnly}
 use Rattle.edge_disk.proofs.Calls.{calls_on}
 use Rattle.spool_log.specs.Memory.{cursor_of, end_of}
 use Rattle.commands.proofs.Forwarding.{is_pending, undrained, was_idle, was_streamed}
+use Rattle.commands.proofs.Releasing.{may_mark}
 use Rattle.commands.proofs.draining.drain_out.Goals as goal
+
+pub send_out-requires-clause-releases : goal.send_out-requires-clause-releases
+send_out-requires-clause-releases g c =
+    let opened = c.in-Ok.ensures in
+    may_mark g.D.Disk.tells g.D.Disk.moment c.args.disk c.in-Ok.spool.disk c.in-Ok.spool.memory c.in-Ok.spool.doubt c.args.outward.now _
+    g.D.Disk.may_release opened.opened opened.any_moment opened.sure c.requires.releases
 
 pub returns-in-Ok-clause-told : goal.returns-in-Ok-clause-told
 returns-in-Ok-clause-told g c = g.met.N.Net.pauses_keep _ _ c.send_out.ensures.paused

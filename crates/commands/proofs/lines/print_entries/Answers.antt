@@ -1,7 +1,7 @@
 use Rattle.std.proofs.Common.{◌+◌, ◌∙◌, refl, sym, subst, ap, arith}
 use Rattle.std.specs.Io.KnownBytes.{Appends}
 use Rattle.event_form.specs.Entry.{IsEntry}
-use Rattle.spool_log.specs.declared.reading.numbered.Numbered.{Numbered}
+use Rattle.spool_answers.specs.declared.numbered.Numbered.{Numbered}
 use Rattle.notes.specs.declared.note.Note.TheVariants.{WriteFault, NoMemory}
 use Rattle.bridge_parts.proofs.Writing.{stopped_as}
 use Rattle.commands.proofs.Printing.{gathered_none, gathered_written, gathered_all, gathered_cut, gathered_only}

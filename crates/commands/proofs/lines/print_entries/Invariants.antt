@@ -1,5 +1,5 @@
 use Rattle.std.proofs.Common.{◌≡◌, take}
-use Rattle.spool_log.specs.Outcome.{given_entries}
+use Rattle.spool_answers.specs.Pend.{given_entries}
 use Rattle.commands.proofs.Printing.{Gathered}
 use Rattle.commands.proofs.lines.print_entries.Given as goal
 

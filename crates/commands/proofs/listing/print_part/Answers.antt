@@ -2,8 +2,8 @@ use Rattle.std.proofs.Common.{◌+◌, List, [], sym, ap, subst, arith}
 use Rattle.std.specs.Prelude.{Err}
 use Rattle.edge_disk.proofs.Calls.{calls_as}
 use Rattle.spool_state.specs.Left.{left_from}
-use Rattle.spool_log.specs.Outcome.{given_entries}
-use Rattle.spool_log.specs.declared.reading.numbered.Numbered.{Numbered}
+use Rattle.spool_answers.specs.Pend.{given_entries}
+use Rattle.spool_answers.specs.declared.numbered.Numbered.{Numbered}
 use Rattle.conn_serve.proofs.Faults.{counts_as}
 use Rattle.notes.specs.declared.note.Note.{Note}
 use Rattle.notes.specs.declared.note.Note.TheVariants.{Fine}

@@ -2,7 +2,14 @@ use Rattle.std.proofs.Common.{refl, sym, subst, inl, inr}
 use Rattle.edge_disk.specs.Disk.{LeavesOnly}
 use Rattle.edge_disk.proofs.Calls.{calls_on}
 use Rattle.commands.proofs.Forwarding.{had_more, undrained_to, was_idle, was_placed}
+use Rattle.commands.proofs.Releasing.{may_mark}
 use Rattle.commands.proofs.placing.drain_to.Goals as goal
+
+pub send_there-requires-clause-releases : goal.send_there-requires-clause-releases
+send_there-requires-clause-releases g c =
+    let opened = c.in-Ok.ensures in
+    may_mark g.D.Disk.tells g.D.Disk.moment c.args.disk c.in-Ok.spool.disk c.in-Ok.spool.memory c.in-Ok.spool.doubt c.args.outward.now _
+    g.D.Disk.may_release opened.opened opened.any_moment opened.sure c.requires.releases
 
 pub returns-in-Ok : goal.returns-in-Ok
 returns-in-Ok g c =

@@ -3,11 +3,15 @@ use Rattle.std.specs.Prelude.{List}
 use Rattle.edge_io.specs.declared.proto.Proto.{Proto}
 use Rattle.edge_io.specs.declared.proto.Proto.TheVariants.{Relp, Lumberjack, Hec}
 use Rattle.desk_access.specs.Call.{Call}
+use Rattle.forward_core.specs.Acknowledged.{IsAcknowledged, MayRelease}
+use Rattle.forward_core.specs.Leave.{MayMark}
 use Rattle.forward_core.specs.Forwarded.{Forwards}
 use Rattle.forward_core.specs.Hec.{settings_of}
 use Rattle.forward_core.specs.Protocols.{EndsAs, HintsAs, settings_as}
 use Rattle.forward_core.specs.Settings.{Settings}
+use Rattle.forward_core.specs.Moments.{told}
 use Rattle.forward_core.proofs.Beginning.{forwards_nothing}
+use Rattle.forward_core.proofs.Earning.{earned_first}
 use Rattle.forward_core.proofs.forwarding.forward.Goals as goal
 
 pub returns-in_default-clause-forwards : goal.returns-in_default-clause-forwards
@@ -70,3 +74,37 @@ returns-clause-forwards g c =
           (subst (λ (n : ℕ). By set Hec n begun.1) begun.3.next (subst (λ (n : ℕ). By set Hec c.in-Ok.course.next n) begun.3.end_is
           (subst (λ (settings : Settings). By settings Hec c.in-Ok.course.next c.in-Ok.course.end) (ap settings_of c.new-sender-in-Hec.ensures.untouched) c.run-in-Hec.ensures.forwards))),
     )
+
+pub run-requires-clause-earned : goal.run-requires-clause-earned
+run-requires-clause-earned g c =
+    let begun = c.in-Ok.ensures in
+    let link = c.args.link.now in
+    let set = settings_as c.args.outward.now in
+    let tells = λ (l : g.row.L.Denot). told (g.L.Source.given l) (g.L.Source.left l) (g.L.Sink.taken l) in
+    let Leave = λ (settings : Settings) (proto : Proto) (start until : ℕ). MayMark g.A.Access.ran c.begin.new.access g.L.Object.same tells link (λ n bytes calls text. IsAcknowledged (EndsAs settings proto) start until bytes calls text n) g.A.Access.may_release in
+    let leave = earned_first g.A.Access.ran g.A.Access.cursor_known g.A.Access.end_known g.A.Access.seen c.args.access.now g.L.Object.same g.L.Source.given g.L.Source.left g.L.Sink.taken link (EndsAs set Relp) g.A.Access.may_release begun.0 begun.1 c.begin.new.access begun.2
+    (subst (λ (p : Proto). MayRelease g.A.Access.ran g.A.Access.cursor_known g.A.Access.end_known g.A.Access.seen c.args.access.now g.L.Object.same g.L.Source.given g.L.Sink.taken link (EndsAs set p) g.A.Access.may_release) c.in-Relp.is c.requires.earned) in
+    subst (λ (n : ℕ). Leave set Relp n c.in-Ok.course.end) (sym begun.3.next) (subst (λ (n : ℕ). Leave set Relp begun.0 n) (sym begun.3.end_is) leave)
+
+pub run-requires-in-Lumberjack-clause-earned : goal.run-requires-in-Lumberjack-clause-earned
+run-requires-in-Lumberjack-clause-earned g c =
+    let begun = c.in-Ok.ensures in
+    let link = c.args.link.now in
+    let set = settings_as c.args.outward.now in
+    let tells = λ (l : g.row.L.Denot). told (g.L.Source.given l) (g.L.Source.left l) (g.L.Sink.taken l) in
+    let Leave = λ (settings : Settings) (proto : Proto) (start until : ℕ). MayMark g.A.Access.ran c.begin.new.access g.L.Object.same tells link (λ n bytes calls text. IsAcknowledged (EndsAs settings proto) start until bytes calls text n) g.A.Access.may_release in
+    let leave = earned_first g.A.Access.ran g.A.Access.cursor_known g.A.Access.end_known g.A.Access.seen c.args.access.now g.L.Object.same g.L.Source.given g.L.Source.left g.L.Sink.taken link (EndsAs set Lumberjack) g.A.Access.may_release begun.0 begun.1 c.begin.new.access begun.2
+    (subst (λ (p : Proto). MayRelease g.A.Access.ran g.A.Access.cursor_known g.A.Access.end_known g.A.Access.seen c.args.access.now g.L.Object.same g.L.Source.given g.L.Sink.taken link (EndsAs set p) g.A.Access.may_release) c.in-Lumberjack.is c.requires.earned) in
+    subst (λ (n : ℕ). Leave set Lumberjack n c.in-Ok.course.end) (sym begun.3.next) (subst (λ (n : ℕ). Leave set Lumberjack begun.0 n) (sym begun.3.end_is) leave)
+
+pub run-requires-in-Hec-clause-earned : goal.run-requires-in-Hec-clause-earned
+run-requires-in-Hec-clause-earned g c =
+    let begun = c.in-Ok.ensures in
+    let link = c.args.link.now in
+    let set = settings_as c.args.outward.now in
+    let tells = λ (l : g.row.L.Denot). told (g.L.Source.given l) (g.L.Source.left l) (g.L.Sink.taken l) in
+    let Leave = λ (settings : Settings) (proto : Proto) (start until : ℕ). MayMark g.A.Access.ran c.begin.new.access g.L.Object.same tells link (λ n bytes calls text. IsAcknowledged (EndsAs settings proto) start until bytes calls text n) g.A.Access.may_release in
+    let leave = earned_first g.A.Access.ran g.A.Access.cursor_known g.A.Access.end_known g.A.Access.seen c.args.access.now g.L.Object.same g.L.Source.given g.L.Source.left g.L.Sink.taken link (EndsAs set Hec) g.A.Access.may_release begun.0 begun.1 c.begin.new.access begun.2
+    (subst (λ (p : Proto). MayRelease g.A.Access.ran g.A.Access.cursor_known g.A.Access.end_known g.A.Access.seen c.args.access.now g.L.Object.same g.L.Source.given g.L.Sink.taken link (EndsAs set p) g.A.Access.may_release) c.in-Hec.is c.requires.earned) in
+    subst (λ (settings : Settings). Leave settings Hec c.in-Ok.course.next c.in-Ok.course.end) (sym (ap settings_of c.new-sender-in-Hec.ensures.untouched))
+    (subst (λ (n : ℕ). Leave set Hec n c.in-Ok.course.end) (sym begun.3.next) (subst (λ (n : ℕ). Leave set Hec begun.0 n) (sym begun.3.end_is) leave))

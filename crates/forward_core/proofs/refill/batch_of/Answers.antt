@@ -1,7 +1,7 @@
 use Rattle.std.proofs.Common.{◌≡◌, ◌∙◌, ap, sym, inl, inr, ℕ, List, ◌∷◌, [], ◌++◌, map}
 use Rattle.std.proofs.lemmas.List.{map-append}
 use Rattle.event_form.specs.declared.event.Entry.{Entry}
-use Rattle.spool_log.specs.declared.reading.numbered.Numbered.{Numbered}
+use Rattle.spool_answers.specs.declared.numbered.Numbered.{Numbered}
 use Rattle.forward_core.specs.Calls.{within, entries_of, numbers_of, after_last}
 use Rattle.forward_core.proofs.Batches.{within_taken, within_passed, after_last_push}
 use Rattle.forward_core.proofs.refill.batch_of.Goals as goal

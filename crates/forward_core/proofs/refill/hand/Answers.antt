@@ -4,7 +4,7 @@ use Rattle.std.proofs.lemmas.List.{append-nil, nil_from_length}
 use Rattle.std.proofs.lemmas.Grind.{common_steps}
 use Rattle.event_form.specs.Event.{IsEvent}
 use Rattle.event_form.specs.declared.event.Entry.{Entry}
-use Rattle.spool_log.specs.declared.reading.numbered.Numbered.{Numbered}
+use Rattle.spool_answers.specs.declared.numbered.Numbered.{Numbered}
 use Rattle.desk_access.specs.Call.{pends}
 use Rattle.forward_core.specs.Calls.{asked_from, entries_of, within}
 use Rattle.forward_core.specs.Moments.{LeadsBy}

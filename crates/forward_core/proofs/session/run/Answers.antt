@@ -1,8 +1,11 @@
-use Rattle.std.proofs.Common.{◌≡◌, ◌∙◌, ℕ, ◌≤◌, ◌^◌, false, [], ◌∷◌, refl, sym, subst, arith}
+use Rattle.std.proofs.Common.{◌∙◌, ℕ, false, refl, sym, subst, arith}
 use Rattle.desk_access.specs.Call.{Call}
 use Rattle.std.specs.Prelude.{List}
-use Rattle.forward_core.specs.Moments.{Does, told}
+use Rattle.forward_core.specs.Acknowledged.{IsAcknowledged}
+use Rattle.forward_core.specs.Leave.{MayMark}
+use Rattle.forward_core.specs.Moments.{Does, Leads, told}
 use Rattle.forward_core.specs.Session.{Ended, Stands}
+use Rattle.forward_core.proofs.Earning.{earned_since}
 use Rattle.forward_core.proofs.Joining.{forwards_of, so_none, so_then}
 use Rattle.forward_core.proofs.Running.{agrees_start, stands_start}
 use Rattle.forward_core.proofs.session.run.Goals as goal
@@ -71,3 +74,15 @@ returns-in-Err-clause-forwards g c =
     forwards_of (g.S.Outgoing.ends (g.S.Outgoing.settings s)) g.S.Outgoing.hints start now ran c.args.course.now.next c.args.course.now.end c.in-Err.sent
     (subst (λ x. Does ran start now (Ended (g.S.Outgoing.ends x) g.S.Outgoing.hints now.left c.args.course.now.end c.in-Err.sent c.args.course.now.next)) inv.settings
     (subst (λ (k : ℕ). Does ran start now (Ended (g.S.Outgoing.ends (g.S.Outgoing.settings l.sender)) g.S.Outgoing.hints now.left k c.in-Err.sent c.args.course.now.next)) inv.same_end d))
+
+pub step-requires-clause-earned : goal.step-requires-clause-earned
+step-requires-clause-earned g c =
+    let l = c.turns in
+    let inv = l.invariant in
+    let course = c.args.course.now in
+    let tells = λ (link : g.row.L.Denot). told (g.L.Source.given link) (g.L.Source.left link) (g.L.Sink.taken link) in
+    let stands = Stands (g.S.Outgoing.has_sent l.sender) false l.total l.course in
+    subst (λ x. MayMark g.A.Access.ran l.access g.L.Object.same tells l.link (λ n. Leads stands (λ start bytes calls text. IsAcknowledged (g.S.Outgoing.ends x) start l.course.end bytes calls text n)) g.A.Access.may_release) (sym inv.settings)
+    (subst (λ (end : ℕ). MayMark g.A.Access.ran l.access g.L.Object.same tells l.link (λ n. Leads stands (λ start bytes calls text. IsAcknowledged (g.S.Outgoing.ends (g.S.Outgoing.settings c.args.sender.now)) start end bytes calls text n)) g.A.Access.may_release) (sym inv.same_end)
+    (earned_since g.A.Access.ran c.args.access.now l.access g.met.A.Access.ran_more g.L.Object.same tells c.args.link.now l.link (λ next same. g.L.Object.same_trans _ _ _ inv.same same) g.A.Access.may_release course.next stands
+    (λ n start bytes calls text. IsAcknowledged (g.S.Outgoing.ends (g.S.Outgoing.settings c.args.sender.now)) start course.end bytes calls text n) inv.done c.requires.earned))

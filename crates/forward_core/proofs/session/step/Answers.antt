@@ -1,16 +1,19 @@
-use Rattle.std.proofs.Common.{◌≡◌, ◌∙◌, ℕ, ◌+◌, ◌<◌, ◌≤◌, false, List, [], ◌∷◌, ◌++◌, length, take, refl, ap, sym, subst, arith}
+use Rattle.std.proofs.Common.{◌≡◌, ◌∙◌, ℕ, ◌<◌, ◌≤◌, false, List, [], ◌++◌, length, take, ap, sym, subst, arith}
 use Rattle.std.specs.Io.KnownBytes.{Appends}
 use Rattle.event_form.specs.declared.turn.Turn.{Turn}
 use Rattle.event_form.specs.declared.turn.Turn.TheVariants.{Write, Confirmed, Also, Need, Wait, Pause}
 use Rattle.event_form.specs.Turn.{text_of}
+use Rattle.forward_core.specs.Acknowledged.{IsAcknowledged}
+use Rattle.forward_core.specs.Leave.{MayMark}
 use Rattle.forward_core.specs.Moments.{told, Does, Leads}
-use Rattle.forward_core.specs.Session.{Agrees, Ended, MayHalt, Stands}
-use Rattle.forward_core.specs.Turning.{IsAlsoOne, TellsFirst}
+use Rattle.forward_core.specs.Session.{Ended, MayHalt, Stands}
+use Rattle.forward_core.specs.Turning.{IsAlsoOne, TellsFirst, also_of}
 use Rattle.forward_core.specs.declared.sent.Sent.TheVariants.{NoMemory}
+use Rattle.forward_core.proofs.Earning.{earned_now, may_end_quiet, may_end_unwritten}
 use Rattle.forward_core.proofs.Joining.{does_by}
 use Rattle.forward_core.proofs.Refilling.{err_then, ok_then, ok_three}
 use Rattle.forward_core.proofs.Standing.{stands_as}
-use Rattle.forward_core.proofs.Turns.{agrees_turned, also_at, cut_at, does_from, ends_at, none_left, quiet, sent_at, starved, told_first, told_one, turned, unkept, untold_ending, wrote_whole}
+use Rattle.forward_core.proofs.Turns.{agrees_turned, also_at, cut_at, does_from, ends_at, none_left, quiet, quiet_ending, sent_at, starved, told_first, told_one, turned, unkept, untold_ending, wrote_whole}
 use Rattle.forward_core.proofs.session.step.Goals as goal
 
 pub returns-in_default-clause-ends : goal.returns-in_default-clause-ends
@@ -194,3 +197,62 @@ returns-in-Pause-clause-goes g c =
     turned (g.S.Outgoing.has_sent s) (g.S.Outgoing.has_sent t) c.args.total.now c.args.course.now (told (g.L.Source.given link) (g.L.Source.left link) (g.L.Sink.taken link))
     (λ calls. g.A.Access.ran c.args.access.now calls c.args.access.now) (g.met.A.Access.ran_none _)
     (quiet (g.S.Outgoing.has_sent s) (g.S.Outgoing.has_sent t) (sent_at (g.S.Outgoing.has_sent s) (g.S.Outgoing.has_sent t) (g.S.Outgoing.first t) c.in-Ok.turn Pause c.in-Pause.is c.in-Ok.ensures.sent))
+
+pub ended-requires-clause-earned : goal.ended-requires-clause-earned
+ended-requires-clause-earned g c =
+    let s = c.args.sender.now in
+    let t = c.turn.new.self in
+    let course = c.args.course.now in
+    let tells = λ (l : g.row.L.Denot). told (g.L.Source.given l) (g.L.Source.left l) (g.L.Sink.taken l) in
+    let is = c.in-Some.ensures.ending in
+    let none = quiet_ending c.in-Ok.turn c.in-Some.sent (g.S.Outgoing.first t) is in
+    let on = quiet (g.S.Outgoing.has_sent s) (g.S.Outgoing.has_sent t) (λ entries fed o also h. subst (λ (a : List ℕ). g.S.Outgoing.has_sent t entries fed (o ++ []) (also ++ a)) none.1 (subst (λ (x : List ℕ). g.S.Outgoing.has_sent t entries fed (o ++ x) (also ++ also_of (g.S.Outgoing.first t) c.in-Ok.turn)) none.0 (c.in-Ok.ensures.sent entries fed o also h))) in
+    let untold = untold_ending c.in-Ok.turn c.in-Some.sent _ _ _ is c.in-Ok.ensures.told in
+    let agrees = agrees_turned _ _ _ _ _ _ (g.S.Outgoing.finished s) (g.S.Outgoing.finished t) course c.turn.ensures.given untold c.turn.ensures.first c.turn.ensures.finished c.turn.ensures.stays c.requires.agrees in
+    earned_now g.A.Access.ran c.args.access.now (g.met.A.Access.ran_none _) g.L.Object.same tells c.args.link.now (g.L.Object.same_refl _) g.A.Access.may_release
+    (g.S.Outgoing.has_sent s) (g.S.Outgoing.ends (g.S.Outgoing.settings t)) (g.S.Outgoing.finished t) (g.S.Outgoing.given t) (g.S.Outgoing.told t) (g.S.Outgoing.first t) c.args.total.now course agrees
+    (may_end_quiet (g.S.Outgoing.has_sent s) (g.S.Outgoing.has_sent t) (g.S.Outgoing.ends (g.S.Outgoing.settings t)) (g.S.Outgoing.finished t) (g.S.Outgoing.given t) (g.S.Outgoing.told t) c.turn.ensures.halts on)
+    (subst (λ x. MayMark g.A.Access.ran c.args.access.now g.L.Object.same tells c.args.link.now (λ n. Leads (Stands (g.S.Outgoing.has_sent s) false c.args.total.now course) (λ start bytes calls text. IsAcknowledged (g.S.Outgoing.ends x) start course.end bytes calls text n)) g.A.Access.may_release) (sym c.turn.ensures.settings) c.requires.earned)
+
+pub supply-requires-clause-earned : goal.supply-requires-clause-earned
+supply-requires-clause-earned g c =
+    let s = c.args.sender.now in
+    let t = c.turn.new.self in
+    let course = c.args.course.now in
+    let tells = λ (l : g.row.L.Denot). told (g.L.Source.given l) (g.L.Source.left l) (g.L.Sink.taken l) in
+    let on = quiet (g.S.Outgoing.has_sent s) (g.S.Outgoing.has_sent t) (sent_at (g.S.Outgoing.has_sent s) (g.S.Outgoing.has_sent t) (g.S.Outgoing.first t) c.in-Ok.turn Need c.in-Need.is c.in-Ok.ensures.sent) in
+    let untold = subst (λ (x : Turn). TellsFirst (g.S.Outgoing.first t) x (g.S.Outgoing.told s) (g.S.Outgoing.told t)) c.in-Need.is c.in-Ok.ensures.told in
+    let agrees = agrees_turned _ _ _ _ _ _ (g.S.Outgoing.finished s) (g.S.Outgoing.finished t) course c.turn.ensures.given untold c.turn.ensures.first c.turn.ensures.finished c.turn.ensures.stays c.requires.agrees in
+    earned_now g.A.Access.ran c.args.access.now (g.met.A.Access.ran_none _) g.L.Object.same tells c.args.link.now (g.L.Object.same_refl _) g.A.Access.may_release
+    (g.S.Outgoing.has_sent s) (g.S.Outgoing.ends (g.S.Outgoing.settings t)) (g.S.Outgoing.finished t) (g.S.Outgoing.given t) (g.S.Outgoing.told t) (g.S.Outgoing.first t) c.args.total.now course agrees
+    (may_end_quiet (g.S.Outgoing.has_sent s) (g.S.Outgoing.has_sent t) (g.S.Outgoing.ends (g.S.Outgoing.settings t)) (g.S.Outgoing.finished t) (g.S.Outgoing.given t) (g.S.Outgoing.told t) c.turn.ensures.halts on)
+    (subst (λ x. MayMark g.A.Access.ran c.args.access.now g.L.Object.same tells c.args.link.now (λ n. Leads (Stands (g.S.Outgoing.has_sent s) false c.args.total.now course) (λ start bytes calls text. IsAcknowledged (g.S.Outgoing.ends x) start course.end bytes calls text n)) g.A.Access.may_release) (sym c.turn.ensures.settings) c.requires.earned)
+
+pub hear-requires-clause-earned : goal.hear-requires-clause-earned
+hear-requires-clause-earned g c =
+    let s = c.args.sender.now in
+    let t = c.turn.new.self in
+    let course = c.args.course.now in
+    let tells = λ (l : g.row.L.Denot). told (g.L.Source.given l) (g.L.Source.left l) (g.L.Sink.taken l) in
+    let on = quiet (g.S.Outgoing.has_sent s) (g.S.Outgoing.has_sent t) (sent_at (g.S.Outgoing.has_sent s) (g.S.Outgoing.has_sent t) (g.S.Outgoing.first t) c.in-Ok.turn Wait c.in-Wait.is c.in-Ok.ensures.sent) in
+    let untold = subst (λ (x : Turn). TellsFirst (g.S.Outgoing.first t) x (g.S.Outgoing.told s) (g.S.Outgoing.told t)) c.in-Wait.is c.in-Ok.ensures.told in
+    let agrees = agrees_turned _ _ _ _ _ _ (g.S.Outgoing.finished s) (g.S.Outgoing.finished t) course c.turn.ensures.given untold c.turn.ensures.first c.turn.ensures.finished c.turn.ensures.stays c.requires.agrees in
+    earned_now g.A.Access.ran c.args.access.now (g.met.A.Access.ran_none _) g.L.Object.same tells c.args.link.now (g.L.Object.same_refl _) g.A.Access.may_release
+    (g.S.Outgoing.has_sent s) (g.S.Outgoing.ends (g.S.Outgoing.settings t)) (g.S.Outgoing.finished t) (g.S.Outgoing.given t) (g.S.Outgoing.told t) (g.S.Outgoing.first t) c.args.total.now course agrees
+    (may_end_quiet (g.S.Outgoing.has_sent s) (g.S.Outgoing.has_sent t) (g.S.Outgoing.ends (g.S.Outgoing.settings t)) (g.S.Outgoing.finished t) (g.S.Outgoing.given t) (g.S.Outgoing.told t) c.turn.ensures.halts on)
+    (subst (λ x. MayMark g.A.Access.ran c.args.access.now g.L.Object.same tells c.args.link.now (λ n. Leads (Stands (g.S.Outgoing.has_sent s) false c.args.total.now course) (λ start bytes calls text. IsAcknowledged (g.S.Outgoing.ends x) start course.end bytes calls text n)) g.A.Access.may_release) (sym c.turn.ensures.settings) c.requires.earned)
+
+pub write-requires-clause-earned : goal.write-requires-clause-earned
+write-requires-clause-earned g c =
+    let s = c.args.sender.now in
+    let t = c.turn.new.self in
+    let course = c.args.course.now in
+    let tells = λ (l : g.row.L.Denot). told (g.L.Source.given l) (g.L.Source.left l) (g.L.Sink.taken l) in
+    let on = sent_at (g.S.Outgoing.has_sent s) (g.S.Outgoing.has_sent t) (g.S.Outgoing.first t) c.in-Ok.turn (Write c.in-Write.text) c.in-Write.is c.in-Ok.ensures.sent in
+    let untold = subst (λ (x : Turn). TellsFirst (g.S.Outgoing.first t) x (g.S.Outgoing.told s) (g.S.Outgoing.told t)) c.in-Write.is c.in-Ok.ensures.told in
+    let agrees = agrees_turned _ _ _ _ _ _ (g.S.Outgoing.finished s) (g.S.Outgoing.finished t) course c.turn.ensures.given untold c.turn.ensures.first c.turn.ensures.finished c.turn.ensures.stays c.requires.agrees in
+    earned_now g.A.Access.ran c.args.access.now (g.met.A.Access.ran_none _) g.L.Object.same tells c.args.link.now (g.L.Object.same_refl _) g.A.Access.may_release
+    (g.S.Outgoing.has_sent s) (g.S.Outgoing.ends (g.S.Outgoing.settings t)) (g.S.Outgoing.finished t) (g.S.Outgoing.given t) (g.S.Outgoing.told t) (g.S.Outgoing.first t) c.args.total.now course agrees
+    (may_end_unwritten (g.S.Outgoing.has_sent s) (g.S.Outgoing.has_sent t) (g.S.Outgoing.ends (g.S.Outgoing.settings t)) (g.S.Outgoing.finished t) (g.S.Outgoing.given t) (g.S.Outgoing.told t) c.in-Write.text c.turn.ensures.halts on
+    (λ entries more fed o part rest also ending cut follow split some has. c.in-Ok.ensures.cuts entries more fed o part rest also ending cut follow (ap text_of c.in-Write.is ∙ split) some has))
+    (subst (λ x. MayMark g.A.Access.ran c.args.access.now g.L.Object.same tells c.args.link.now (λ n. Leads (Stands (g.S.Outgoing.has_sent s) false c.args.total.now course) (λ start bytes calls text. IsAcknowledged (g.S.Outgoing.ends x) start course.end bytes calls text n)) g.A.Access.may_release) (sym c.turn.ensures.settings) c.requires.earned)

@@ -1,5 +1,5 @@
 use Rattle.std.proofs.Common.{refl}
-use Rattle.desk_access.specs.Alone.{alone_at}
+use Rattle.spool_desk.specs.Alone.{alone_at}
 use Rattle.load_run.specs.Runs.{LeadsTo}
 use Rattle.load_run.proofs.Asked.{begun}
 use Rattle.load_run.proofs.Counted.{never_rose, some_rose}
@@ -10,6 +10,9 @@ use Rattle.load_run.proofs.draining.drain.Goals as goal
 
 pub forward-sent-requires-clause-free : goal.forward-sent-requires-clause-free
 forward-sent-requires-clause-free c = λ link text. tt
+
+pub forward-sent-requires-clause-earned : goal.forward-sent-requires-clause-earned
+forward-sent-requires-clause-earned c = λ start until begun now link bytes calls text n asked ran some same gave took acknowledged. tt
 
 pub returns-clause-drains : goal.returns-clause-drains
 returns-clause-drains c =

@@ -1,5 +1,5 @@
 use Rattle.std.proofs.Common.{◌∙◌, ap, length}
-use Rattle.desk_access.specs.Alone.{alone_at}
+use Rattle.spool_desk.specs.Alone.{alone_at}
 use Rattle.conn_serve.proofs.Acting.{err_is}
 use Rattle.load_run.specs.Load.{IsFailed, new_spool}
 use Rattle.load_run.specs.Runs.{desk_in}

@@ -1,5 +1,5 @@
 use Rattle.std.proofs.Common.{refl, ◌^◌}
-use Rattle.desk_access.specs.Alone.{alone_at}
+use Rattle.spool_desk.specs.Alone.{alone_at}
 use Rattle.load_run.specs.Runs.{LeadsTo}
 use Rattle.load_run.proofs.Counted.{never_rose, some_rose}
 use Rattle.load_run.proofs.Led.{leads_to, none_failed}

@@ -1,7 +1,15 @@
 use Rattle.std.proofs.Common.{ℕ, List, refl, subst}
 use Rattle.edge_io.specs.Told.{IsDialed}
+use Rattle.forward_core.proofs.Exchanging.{is_new}
 use Rattle.serve_forwarder.proofs.Hanging.{session_of, hangs_up}
 use Rattle.serve_forwarder.proofs.looking.hold.Goals as goal
+
+pub forward-sent-requires-clause-earned : goal.forward-sent-requires-clause-earned
+forward-sent-requires-clause-earned g c =
+    let dial = c.in-Ok.ensures in
+    let hung = (g.N.Net.told c.args.net.now).hung in
+    let there = subst (λ (p : List ℕ). IsDialed hung (g.N.L.Link.dialed c.in-Ok.link) p) c.as_str.ensures dial.place in
+    c.requires.earned c.in-Ok.link (is_new hung _ _ _ _ _ there dial.fresh)
 
 pub returns-clause-held : goal.returns-clause-held
 returns-clause-held g c =

@@ -6,6 +6,19 @@ use Rattle.serve_forwarder.specs.Looks.{Idle, Unread, Undialed, Held}
 use Rattle.serve_forwarder.proofs.Asking.{none_given, some_given}
 use Rattle.serve_forwarder.proofs.looking.look.Goals as goal
 
+pub hold-requires-clause-earned : goal.hold-requires-clause-earned
+hold-requires-clause-earned g c = λ new is_new start until begun now link bytes calls text n asked ran some same gave took acknowledged.
+    c.requires.earned c.pending.new.self.pass begun.pass now.pass start until bytes calls text n (record {
+      between = asked.between.pass;
+      cursor_ran = asked.cursor_ran.0;
+      cursor = asked.cursor;
+      cursor_seen = asked.cursor_seen;
+      end_ran = asked.end_ran.0;
+      end_is = asked.end_is;
+      end_seen = asked.end_seen;
+    }) ran.0 some (ran.1 some) (record { new = new; is_new = is_new; since = record { now = link; goes_on = same; gave = gave; took = took } })
+    acknowledged
+
 pub returns-in-Err : goal.returns-in-Err
 returns-in-Err g c = (
   record { given = Err c.in-Err.fault; found = Unread c.in-Err.fault },

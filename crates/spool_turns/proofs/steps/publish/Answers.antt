@@ -1,8 +1,8 @@
 use Rattle.std.proofs.Common.{[], ◌∙◌, arith}
 use Rattle.spool_log.specs.State.{view}
-use Rattle.desk_access.specs.Alone.{alone_view}
-use Rattle.desk_access.specs.Standing.{standing_in}
-use Rattle.desk_access.specs.Journal.{runs_then}
+use Rattle.spool_desk.specs.Alone.{alone_view}
+use Rattle.spool_desk.specs.Standing.{standing_in}
+use Rattle.spool_desk.specs.Runs.{runs_then}
 use Rattle.spool_turns.specs.Rules.{with_end}
 use Rattle.spool_turns.proofs.KeepsRule.{writes_end_as, writes_cursor_as}
 use Rattle.spool_turns.proofs.Led.{exact_end, exact_cursor, exact_both}
@@ -28,7 +28,7 @@ pub returns-clause-kept : goal.returns-clause-kept
 returns-clause-kept g c =
     let d = c.cursor-cursor.ensures.same.0 ∙ c.end-end.ensures.same.0 in
     let m = c.cursor-cursor.ensures.same.1 ∙ c.end-end.ensures.same.1 in
-    λ call i. record { by = 0; call = call; met = m i; after = standing_in (d i).spool.memory }
+    λ call i. record { by = 0; call = call; met = m i; after = standing_in (d i).spool.memory; clock = (g.D.Disk.moment (d i).spool.disk).clock }
 
 pub returns-clause-exact : goal.returns-clause-exact
 returns-clause-exact g c =

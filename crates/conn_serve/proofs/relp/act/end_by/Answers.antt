@@ -1,7 +1,7 @@
 use Rattle.std.proofs.Common.{rules, ◌≡◌, ℕ, List, refl, ◌∙◌, sym, subst}
 use Rattle.edge_io.specs.Told.{MayFollow}
 use Rattle.relp_session.specs.Answer.{hint}
-use Rattle.spool_log.specs.Changing.Take.{IsRefusal}
+use Rattle.spool_answers.specs.Take.{IsRefusal}
 use Rattle.conn_serve.proofs.Faults.{counts_from, counts_none, fault_at_move, fault_is_whole, memory_is_whole}
 use Rattle.desk_access.specs.Endings.{IsAtMove}
 use Rattle.conn_serve.proofs.relp.act.end_by.Goals as goal

@@ -4,7 +4,7 @@ use Rattle.known_numbers.specs.declared.stretch.Stretch.{Stretch}
 use Rattle.known_numbers.specs.Numbers.{Numbers, IsSound, count_of, marked}
 use Rattle.known_numbers.proofs.Marking.{marked_sound}
 use Rattle.spool_log.specs.Device.{numbers_in, MayFollow}
-use Rattle.spool_log.specs.Stages.{total_of}
+use Rattle.spool_answers.specs.Stages.{total_of}
 use Rattle.spool_log.proofs.Changes.Marking.{join_may, join_more, join_rises, whole_stretch, judged_same}
 use Rattle.spool_log.proofs.changing.mark.join.Goals as goal
 

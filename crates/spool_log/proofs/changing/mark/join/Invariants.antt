@@ -1,8 +1,8 @@
 use Rattle.std.proofs.Common.{◌≡◌, ◌⊎◌, ◌<◌, take, All}
 use Rattle.known_numbers.specs.Numbers.{IsSound, marked}
 use Rattle.spool_log.specs.Device.{numbers_in, MayFollow}
-use Rattle.spool_log.specs.Stages.{total_of}
-use Rattle.spool_log.specs.Changing.Mark.{EndsBy}
+use Rattle.spool_answers.specs.Stages.{total_of}
+use Rattle.spool_answers.specs.Mark.{EndsBy}
 use Rattle.spool_log.proofs.changing.mark.join.Given as goal
 
 abbrev pub invariant-loop-stretch : goal.invariant-loop-stretch

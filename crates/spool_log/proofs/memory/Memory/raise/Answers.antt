@@ -4,7 +4,7 @@ use Rattle.known_numbers.specs.declared.stretch.Stretch.{Stretch}
 use Rattle.known_numbers.specs.Numbers.{numbers_of, IsSound}
 use Rattle.edge_disk.specs.Disk.{LeavesOnly}
 use Rattle.spool_log.specs.Device.{numbers_in}
-use Rattle.spool_log.specs.Stages.{StandsForOne}
+use Rattle.spool_answers.specs.Stages.{StandsForOne}
 use Rattle.spool_log.specs.Opening.{raise_stages}
 use Rattle.spool_log.specs.declared.opening.Opening.TheVariants.{Raise}
 use Rattle.spool_log.specs.declared.fault.RecoverFault.{RecoverFault}

@@ -7,12 +7,12 @@ use Rattle.edge_disk.proofs.Moments.{untouched_refl, untouched_then}
 use Rattle.spool_state.specs.Segment.{entries_of}
 use Rattle.spool_state.specs.SpoolState.{base, list, numbers_of}
 use Rattle.spool_state.specs.Left.{NumberedEntry, numbered, left_from}
-use Rattle.spool_log.specs.declared.fault.PendFault.{PendFault}
+use Rattle.spool_answers.specs.declared.fault.PendFault.{PendFault}
 use Rattle.spool_log.specs.declared.reading.bookmark.Bookmark.{Bookmark}
-use Rattle.spool_log.specs.declared.reading.numbered.Numbered.{Numbered}
+use Rattle.spool_answers.specs.declared.numbered.Numbered.{Numbered}
 use Rattle.spool_log.specs.Device.{first_in}
 use Rattle.spool_log.specs.Knows.{IsStored}
-use Rattle.spool_log.specs.Outcome.{given_entries, IsNotBroken, AreNumbered}
+use Rattle.spool_answers.specs.Pend.{given_entries, IsNotBroken, AreNumbered}
 use Rattle.spool_log.specs.Reading.Marked.{IsMarked}
 use Rattle.spool_log.specs.Reading.Wanted.{wanted_from}
 use Rattle.spool_log.proofs.Opens.Mending.{err_is}

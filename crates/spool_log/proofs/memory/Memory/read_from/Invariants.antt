@@ -5,7 +5,7 @@ use Rattle.spool_state.specs.SpoolState.{SpoolState}
 use Rattle.spool_log.specs.Device.{first_in, GoOn}
 use Rattle.spool_log.specs.Knows.{IsStored}
 use Rattle.spool_log.specs.Reading.Marked.{IsMarked}
-use Rattle.spool_log.specs.Outcome.{given_entries, AreNumbered}
+use Rattle.spool_answers.specs.Pend.{given_entries, AreNumbered}
 use Rattle.spool_log.proofs.Scans.Listing.{wanted_so_far}
 use Rattle.spool_log.proofs.memory.Memory.read_from.Given as goal
 

@@ -5,7 +5,7 @@ use Rattle.spool_state.proofs.Shut.{end-shut}
 use Rattle.disk_cell.specs.Register as Cells
 use Rattle.disk_cell.specs.declared.register.Register.{Register}
 use Rattle.spool_log.specs.Knows.{IsStored, KnowsSlot, KnowsSlots}
-use Rattle.spool_log.specs.Stages.{last_of, replace_stages}
+use Rattle.spool_answers.specs.Stages.{last_of, replace_stages}
 use Rattle.spool_log.proofs.Numbers.{end_known}
 use Rattle.spool_log.proofs.Changes.Replacing.{first_stored, first_images, older_known, shut_stage, shut_stages, shut_outside, shut_here, next_shut}
 use Rattle.spool_log.proofs.Changes.Starting.{register_kept}

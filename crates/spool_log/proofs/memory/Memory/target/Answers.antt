@@ -5,7 +5,8 @@ use Rattle.spool_state.specs.Segment.{need_of}
 use Rattle.spool_state.specs.SpoolState.{room}
 use Rattle.spool_state.proofs.Frees.{closed_free, found_closed}
 use Rattle.spool_log.proofs.Numbers.{room_known}
-use Rattle.spool_log.proofs.Changes.Adding.{adding_here, adding_closed, confirmed_stages, no_place}
+use Rattle.spool_log.proofs.Changes.Adding.{confirmed_stages, no_place}
+use Rattle.spool_answers.proofs.Adding.{adding_here, adding_closed}
 use Rattle.spool_log.proofs.memory.Memory.target.Goals as goal
 
 pub returns-then-need-room-clause-stages : goal.returns-then-need-room-clause-stages

@@ -5,7 +5,7 @@ use Rattle.spool_state.specs.Change.{registered}
 use Rattle.spool_state.proofs.Registered.{sound-registered}
 use Rattle.edge_disk.specs.Disk.{Moment, LeavesOnly}
 use Rattle.disk_cell.proofs.Frames.{knows_images, knows_holds}
-use Rattle.spool_log.specs.Stages.{StandsForOne}
+use Rattle.spool_answers.specs.Stages.{StandsForOne}
 use Rattle.spool_log.proofs.Stored.{register_known, stays}
 use Rattle.spool_log.proofs.Changes.Marking.{may_lie}
 use Rattle.spool_log.proofs.Changes.Registered.{has_as, register_new, set_moments, step_as}

@@ -2,7 +2,7 @@ use Rattle.std.proofs.Common.{◌+◌, ◌++◌, List, sym, ◌∙◌, ap, subst
 use Rattle.std.proofs.lemmas.Bool.{false≢true}
 use Rattle.std.proofs.lemmas.List.{append-nil}
 use Rattle.spool_state.specs.Left.{NumberedEntry}
-use Rattle.spool_log.specs.Outcome.{given_entries, AreNumbered}
+use Rattle.spool_answers.specs.Pend.{given_entries, AreNumbered}
 use Rattle.spool_log.proofs.Scans.Known.{one_known, one_unknown, given_push, numbered_later, numbered_push}
 use Rattle.spool_log.proofs.reading.entries.give_one.Goals as goal
 

@@ -4,7 +4,7 @@ use Rattle.std.proofs.lemmas.Iterator.Consumers.{YieldsList-turn, YieldsList-end
 use Rattle.event_form.specs.declared.event.Entry.{Entry}
 use Rattle.event_form.specs.Entry.{IsEntry}
 use Rattle.spool_state.specs.Left.{NumberedEntry, numbered, unknown}
-use Rattle.spool_log.specs.Outcome.{given_entries, AreNumbered}
+use Rattle.spool_answers.specs.Pend.{given_entries, AreNumbered}
 use Rattle.spool_log.proofs.Scans.Known.{unknown_more}
 use Rattle.spool_log.proofs.reading.entries.give_unknown.Goals as goal
 

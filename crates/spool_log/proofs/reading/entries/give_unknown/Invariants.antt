@@ -1,7 +1,7 @@
 use Rattle.std.proofs.Common.{◌≡◌, ℕ, ◌+◌, ◌≤◌, ◌++◌, All, length}
 use Rattle.event_form.specs.Entry.{IsEntry}
 use Rattle.spool_state.specs.Left.{numbered, unknown}
-use Rattle.spool_log.specs.Outcome.{given_entries, AreNumbered}
+use Rattle.spool_answers.specs.Pend.{given_entries, AreNumbered}
 use Rattle.spool_log.proofs.reading.entries.give_unknown.Given as goal
 
 abbrev pub invariant-loop-entry : goal.invariant-loop-entry

@@ -8,9 +8,9 @@ use Rattle.spool_state.specs.Segment.{entries_of}
 use Rattle.spool_state.specs.Left.{numbered}
 use Rattle.spool_slots.specs.Slot as Slots
 use Rattle.spool_slots.specs.Mark.{IsMark}
-use Rattle.spool_log.specs.declared.fault.PendFault.{PendFault}
+use Rattle.spool_answers.specs.declared.fault.PendFault.{PendFault}
 use Rattle.spool_log.specs.declared.reading.bookmark.Bookmark.{Bookmark}
-use Rattle.spool_log.specs.Outcome.{given_entries, AreNumbered, IsNotBroken}
+use Rattle.spool_answers.specs.Pend.{given_entries, AreNumbered, IsNotBroken}
 use Rattle.spool_log.specs.Reading.Marked.{AreMarks}
 use Rattle.spool_log.specs.Reading.Wanted.{wanted_from}
 use Rattle.spool_log.proofs.Opens.Mending.{err_is}

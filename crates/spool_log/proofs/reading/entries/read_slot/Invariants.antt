@@ -4,7 +4,7 @@ use Rattle.edge_disk.specs.Disk.{IsUntouched}
 use Rattle.spool_state.specs.Segment.{Segment, entries_of}
 use Rattle.spool_slots.specs.Slot as Slots
 use Rattle.spool_slots.specs.Mark.{IsMark}
-use Rattle.spool_log.specs.Outcome.{given_entries, AreNumbered}
+use Rattle.spool_answers.specs.Pend.{given_entries, AreNumbered}
 use Rattle.spool_log.proofs.Scans.Listing.{wanted_in}
 use Rattle.spool_log.proofs.reading.entries.read_slot.Given as goal
 

@@ -3,7 +3,7 @@ use Rattle.std.specs.Prelude.{Result}
 use Rattle.std.proofs.Math.Logic.{∥∥₁_map}
 use Rattle.spool_state.specs.Image.{slot_at}
 use Rattle.edge_disk.specs.declared.disk.DiskFault.{DiskFault}
-use Rattle.spool_log.specs.Stages.{last_of}
+use Rattle.spool_answers.specs.Stages.{last_of}
 use Rattle.spool_log.specs.State.{view, Changes}
 use Rattle.spool_log.specs.Changing.Target.{stages_at}
 use Rattle.spool_log.proofs.Numbers.{length-lent}

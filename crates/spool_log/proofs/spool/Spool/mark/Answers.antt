@@ -5,9 +5,10 @@ use Rattle.spool_state.specs.SpoolState.{end}
 use Rattle.disk_cell.specs.declared.content.Content.{Content}
 use Rattle.spool_log.specs.Device.{numbers_in, MayFollow}
 use Rattle.spool_log.specs.Memory.{end_of}
-use Rattle.spool_log.specs.Stages.{total_of}
+use Rattle.spool_answers.specs.Stages.{total_of}
 use Rattle.spool_log.proofs.Numbers.{end_known}
-use Rattle.spool_log.proofs.Changes.Marking.{ends_later, nothing_as, nothing_stage}
+use Rattle.spool_log.proofs.Changes.Marking.{nothing_as, nothing_stage}
+use Rattle.spool_answers.proofs.Marking.{ends_later}
 use Rattle.spool_log.proofs.Going.{goes_on, goes_nowhere}
 use Rattle.spool_log.proofs.spool.Spool.mark.Goals as goal
 

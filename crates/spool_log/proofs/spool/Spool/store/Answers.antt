@@ -1,12 +1,14 @@
 use Rattle.std.proofs.Common.{refl, sym, ◌∙◌, subst}
 use Rattle.std.specs.Prelude.{Result}
-use Rattle.spool_log.specs.declared.fault.Receipt.{Receipt}
-use Rattle.spool_log.specs.declared.fault.TakeFault.{TakeFault}
-use Rattle.spool_log.specs.Stages.{AllFollow}
+use Rattle.spool_answers.specs.declared.fault.Receipt.{Receipt}
+use Rattle.spool_answers.specs.declared.fault.TakeFault.{TakeFault}
+use Rattle.spool_answers.specs.Stages.{AllFollow}
 use Rattle.spool_log.specs.State.{view}
-use Rattle.spool_log.specs.Changing.Take.{Takes, StoresTo}
+use Rattle.spool_log.specs.Changing.Take.{StoresTo}
+use Rattle.spool_answers.specs.Take.{Takes}
 use Rattle.spool_state.specs.Segment.{need_of}
-use Rattle.spool_log.proofs.Changes.Adding.{adding_follow, some_stage}
+use Rattle.spool_log.proofs.Changes.Adding.{some_stage}
+use Rattle.spool_answers.proofs.Adding.{adding_follow}
 use Rattle.spool_log.proofs.Opens.Mending.{err_is}
 use Rattle.spool_log.proofs.Numbers.{end_known}
 use Rattle.spool_log.proofs.Changes.Storing.{refused, failed, done}

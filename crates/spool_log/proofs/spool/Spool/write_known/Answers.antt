@@ -8,7 +8,7 @@ use Rattle.disk_cell.specs.Fault.{IsWornAt}
 use Rattle.disk_cell.specs.declared.fault.SetFault.TheVariants.{Worn, DiskFault as Failed}
 use Rattle.spool_log.specs.declared.memory.Memory.{Memory}
 use Rattle.spool_log.specs.Knows.{IsStored}
-use Rattle.spool_log.specs.Stages.{StandsForOne}
+use Rattle.spool_answers.specs.Stages.{StandsForOne}
 use Rattle.spool_log.specs.State.{KnowsDevice, view, LeavesStages}
 use Rattle.spool_log.proofs.Stored.{stored_of, in_stored, in_doubt, leaves_same}
 use Rattle.spool_log.proofs.Changes.Marking.{marked_as, marked_rises_as, state_as, all_follow, done, failed, worn}

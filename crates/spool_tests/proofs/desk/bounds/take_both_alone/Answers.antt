@@ -4,7 +4,7 @@ use Rattle.std.proofs.lemmas.Result.{MatchResult-weaker}
 use Rattle.desk_access.specs.Call.{takes}
 use Rattle.desk_access.specs.History.{AllKept}
 use Rattle.desk_access.specs.Journal.{calls_by}
-use Rattle.desk_access.proofs.Lasting.{image_kept}
+use Rattle.spool_desk.proofs.Lasting.{image_kept}
 use Rattle.spool_tests.proofs.desk.bounds.take_both_alone.Goals as goal
 
 pub returns : goal.returns

@@ -4,12 +4,12 @@ use Rattle.std.proofs.lemmas.List.Elements.{All-cons}
 use Rattle.std.specs.Prelude.{option_to_list, MatchOption, vec_len, ◌+◌, ◌-◌, ◌≤◌}
 use Rattle.spool_log.specs.State.{view}
 use Rattle.desk_access.specs.Call.{Record, own_of}
-use Rattle.desk_access.specs.Alone.{alone_at}
+use Rattle.spool_desk.specs.Alone.{alone_at}
 use Rattle.desk_access.specs.Legal.{Met}
 use Rattle.spool_turns.specs.Passes.{Known, Stands, locked_of, facts_in}
 use Rattle.spool_turns.specs.Replays.{Replays, desk_at}
 use Rattle.spool_turns.proofs.Led.{replays_less}
-use Rattle.spool_turns.proofs.Closing.{adds_legal, each_may, each_own, new_ids, keeps, left_before, by_a_pass}
+use Rattle.spool_turns.proofs.Closing.{adds_legal, each_may, each_own, new_ids, keeps, left_before, stays_since, by_a_pass}
 use Rattle.spool_turns.proofs.turn.Turn.close.Goals as goal
 
 pub loop-pass-preserved : goal.loop-pass-preserved
@@ -45,6 +45,7 @@ returns g c =
       issued = new_ids _ _ _ _ _ _ replays;
       kept = keeps _ _ _ _ _ _ _ replays met;
       was = left_before _ _ _ _ _ _ replays;
+      stays = stays_since _ _ _ _ _ _ replays;
       pass = subst (All (Stands c.args.self)) all i.2.2;
       no_others = none_other;
       by_passes = by_a_pass g.J.Naming.seats c.args.self c.args.passes.items none_other;

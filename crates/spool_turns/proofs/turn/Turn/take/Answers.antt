@@ -12,7 +12,7 @@ invariant_of-self g c =
     let p = c.publish.ensures in
     let e = c.add_record.ensures in
     let may = subst (λ (k : Known). MayTake (IsNext g.J.Naming.run k.number k.own) c.args.entries.now × MayUse (IsUnused k.own) c.args.entries.now) (sym c.pass.view_is) (c.requires.next, c.requires.units) in
-    let after = turn_after _ _ _ _ _ _ _ _ _ _ _ _ _ i.1 i.2 i.3 may h.locked h.knew c.take-answer.ensures.makes p.run (p.kept _) p.exact p.locked _ e.locked in
+    let after = turn_after _ _ _ _ _ _ _ _ _ _ _ _ _ i.1 i.2 i.3 may h.locked h.knew c.take-answer.ensures.makes p.run (p.kept _) p.exact p.locked (g.met.D.Disk.lawful _) _ e.locked in
     (e.tables.0 ∙ p.table ∙ h.tables.0 ∙ i.0, after.0, after.1, after.2)
 
 pub invariant_of-pass : goal.invariant_of-pass
@@ -22,7 +22,7 @@ invariant_of-pass g c =
     let p = c.publish.ensures in
     let e = c.add_record.ensures in
     let may = subst (λ (k : Known). MayTake (IsNext g.J.Naming.run k.number k.own) c.args.entries.now × MayUse (IsUnused k.own) c.args.entries.now) (sym c.pass.view_is) (c.requires.next, c.requires.units) in
-    let after = pass_after _ _ _ _ _ _ _ _ _ _ _ _ _ i.1 i.2 i.3 may h.locked h.knew c.take-answer.ensures.makes p.run (p.kept _) p.exact p.locked _ e.pass in
+    let after = pass_after _ _ _ _ _ _ _ _ _ _ _ _ _ i.1 i.2 i.3 may h.locked h.knew c.take-answer.ensures.makes p.run (p.kept _) p.exact p.locked (g.met.D.Disk.lawful _) _ e.pass in
     (e.tables.1 ∙ p.table ∙ h.tables.0 ∙ i.0, after.0, after.1)
 
 pub returns-clause-call : goal.returns-clause-call
@@ -32,7 +32,7 @@ returns-clause-call g c =
     let p = c.publish.ensures in
     let e = c.add_record.ensures in
     let may = subst (λ (k : Known). MayTake (IsNext g.J.Naming.run k.number k.own) c.args.entries.now × MayUse (IsUnused k.own) c.args.entries.now) (sym c.pass.view_is) (c.requires.next, c.requires.units) in
-    calls_after _ _ _ _ _ _ _ _ _ _ _ _ _ i.1 i.2 i.3 may h.locked h.knew c.take-answer.ensures.makes p.run (p.kept _) p.exact p.locked _ _ c.pass.view_is e.pass
+    calls_after _ _ _ _ _ _ _ _ _ _ _ _ _ i.1 i.2 i.3 may h.locked h.knew c.take-answer.ensures.makes p.run (p.kept _) p.exact p.locked (g.met.D.Disk.lawful _) _ _ c.pass.view_is e.pass
 
 pub returns-clause-real : goal.returns-clause-real
 returns-clause-real g c =
@@ -41,5 +41,5 @@ returns-clause-real g c =
     let p = c.publish.ensures in
     let e = c.add_record.ensures in
     let may = subst (λ (k : Known). MayTake (IsNext g.J.Naming.run k.number k.own) c.args.entries.now × MayUse (IsUnused k.own) c.args.entries.now) (sym c.pass.view_is) (c.requires.next, c.requires.units) in
-    let real = real_after _ _ _ _ _ _ _ _ _ _ _ _ _ i.1 i.2 i.3 may h.locked h.knew c.take-answer.ensures.makes p.run (p.kept _) p.exact p.locked (known_of (pass_in c.add_record.result.me.0)) c.add_record.result.me refl e.pass in
+    let real = real_after _ _ _ _ _ _ _ _ _ _ _ _ _ i.1 i.2 i.3 may h.locked h.knew c.take-answer.ensures.makes p.run (p.kept _) p.exact p.locked (g.met.D.Disk.lawful _) (known_of (pass_in c.add_record.result.me.0)) c.add_record.result.me refl e.pass in
     (c.publish.new.alone, real.0, real.1)

@@ -1,5 +1,5 @@
 use Rattle.desk_access.specs.Call.{takes}
-use Rattle.desk_access.specs.Alone.{alone_at, record_of}
+use Rattle.spool_desk.specs.Alone.{alone_at, record_of}
 use Rattle.spool_turns.proofs.turn.Turn.take.Given as goal
 
 abbrev pub ghosts-add_record : goal.ghosts-add_record

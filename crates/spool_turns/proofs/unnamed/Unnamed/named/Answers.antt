@@ -1,5 +1,5 @@
 use Rattle.std.proofs.Common.{rules, ◌≡◌, ◌++◌, ◌∷◌, [], ◌+◌, ◌-◌, sym, ap, ◌∙◌, subst, arith}
-use Rattle.desk_access.specs.Alone.{alone_at}
+use Rattle.spool_desk.specs.Alone.{alone_at}
 use Rattle.desk_access.specs.Legal.{Met}
 use Rattle.spool_turns.specs.Rules.{one_pass_more, new_pass}
 use Rattle.spool_turns.specs.Passes.{known, known_of, pass_in, facts_in, locked_of, pass_of, fresh}

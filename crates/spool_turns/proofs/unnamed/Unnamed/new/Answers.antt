@@ -1,6 +1,6 @@
 use Rattle.std.proofs.Common.{ap, ◌∙◌, arith}
 use Rattle.spool_log.specs.State.{view}
-use Rattle.desk_access.specs.Alone.{alone_view}
+use Rattle.spool_desk.specs.Alone.{alone_view}
 use Rattle.spool_turns.proofs.KeepsRule.{begins}
 use Rattle.spool_turns.proofs.Led.{exact_end, exact_cursor, exact_both, stays}
 use Rattle.spool_turns.proofs.unnamed.Unnamed.new.Goals as goal

@@ -1,7 +1,7 @@
 use Rattle.std.proofs.Common.{◌≡◌, ℕ, ◌+◌, [], ◌∷◌, refl, subst}
 use Rattle.std.specs.Prelude.{Result, Ok, Err, OnOk}
-use Rattle.spool_log.specs.declared.fault.Receipt.{Receipt}
-use Rattle.spool_log.specs.declared.fault.TakeFault.{TakeFault}
+use Rattle.spool_answers.specs.declared.fault.Receipt.{Receipt}
+use Rattle.spool_answers.specs.declared.fault.TakeFault.{TakeFault}
 use Rattle.desk_access.specs.Call.{takes}
 use Rattle.desk_access.proofs.Taking.{may_next, took_surely, took_length, took_of_conn}
 use Rattle.thread_tests.proofs.turns.taking.take_next.Goals as goal

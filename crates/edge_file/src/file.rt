@@ -1,0 +1,140 @@
+//! A disk that is a file: the trusted edge. What a file reads, and what it keeps over a crash, is the
+//! system's word, so it tells no bytes. It counts its faults.
+ghost use Rattle.std.specs.Prelude.{◌≡◌, ◌⊎◌, ◌<◌, ◌^◌, IfOk};
+ghost use Rattle.foundation.specs.Faults.{HasCause};
+
+use crate::opening::{open_file, set_length, sync_folder};
+use crate::tracked_file::TrackedFile;
+use crate::{OpenFault, Sharing};
+use edge_disk::{Disk, DiskFault};
+use std::fs::File;
+use std::io;
+
+/// A file or a block device as a disk. Its length is the file's as it was opened. A read or a write at
+/// which the file has become shorter is a fault.
+///
+/// After a sync or a write that failed, each call first makes good what was written since the last good sync,
+/// and is a fault while that fails.
+///
+/// While it is open the file is locked, so that no two programs change one disk. The lock is the system's
+/// advisory one on the whole file: it ends with the value, and with the process however that ends.
+#[derive(Drop)]
+pub struct FileDisk {
+    file: TrackedFile,
+    faults: u64,
+}
+
+impl FileDisk {
+    ghost use Rattle.edge_file.specs.FileDisk.{file_moment};
+
+    /// Opens a file that exists, to read and write, for this program alone. A fault says that this failed,
+    /// for whatever cause.
+    pub fn open(rt: &HostRuntime, path: &str) -> Result<FileDisk, DiskFault>
+        ensures { IfOk result (λ disk. (file_moment disk).faults ≡ 0) }
+    {
+        match FileDisk::open_locked(rt, path, Sharing::Exclusive) {
+            Ok(disk) => Ok(disk),
+            Err(_) => Err(DiskFault),
+        }
+    }
+
+    /// Opens the file, or makes it, for this program alone. A file that is made is its owner's alone to read and
+    /// write (mode 0600); the mode of any other stays. A file that is new or empty gets the length of `len` zero
+    /// bytes; the bytes and the length of any other stay, as does a block device's. The file's name in its folder
+    /// is made durable, and where the path is a symbolic link's, that of the file that it leads to.
+    pub fn make(rt: &HostRuntime, path: &str, len: u64) -> Result<FileDisk, DiskFault>
+        ensures faults { IfOk result (λ disk. (file_moment disk).faults ≡ 0) }
+        ensures size { IfOk result (λ disk. (file_moment disk).size ≡ len ⊎ 0 < (file_moment disk).size) }
+    {
+        match FileDisk::make_locked(rt, path, len) {
+            Ok(disk) => Ok(disk),
+            Err(_) => Err(DiskFault),
+        }
+    }
+
+    /// Opens as [`FileDisk::open`] does, for this program alone or shared, and says why a file isn't opened.
+    pub fn open_locked(
+        rt: &HostRuntime,
+        path: &str,
+        sharing: Sharing,
+    ) -> Result<FileDisk, OpenFault>
+        ensures { IfOk result (λ disk. (file_moment disk).faults ≡ 0) }
+    {
+        let (file, len) = open_file(rt, path, false, sharing)?;
+        Ok(disk_of(file, len))
+    }
+
+    /// Opens or makes as [`FileDisk::make`] does, and says why a file isn't opened. Nothing of a file in use
+    /// is changed.
+    pub fn make_locked(rt: &HostRuntime, path: &str, len: u64) -> Result<FileDisk, OpenFault>
+        ensures faults { IfOk result (λ disk. (file_moment disk).faults ≡ 0) }
+        ensures size { IfOk result (λ disk. (file_moment disk).size ≡ len ⊎ 0 < (file_moment disk).size) }
+    {
+        let (file, size) = open_file(rt, path, true, Sharing::Exclusive)?;
+        let size = set_length(&file, size, len)?;
+        sync_folder(rt, path)?;
+        Ok(disk_of(file, size))
+    }
+}
+
+fn disk_of(file: File, len: u64) -> FileDisk
+    ensures faults { result.faults ≡ 0 }
+    ensures len { result.file.len ≡ len }
+{
+    FileDisk {
+        file: TrackedFile::new(file, len),
+        faults: 0,
+    }
+}
+
+// Counts a failure.
+fn count(outcome: io::Result<()>, faults: &mut u64) -> Result<(), DiskFault>
+    ensures { HasCause faults.old faults.new result }
+{
+    match outcome {
+        Ok(()) => Ok(()),
+        Err(_) => {
+            *faults = faults.saturating_add(1);
+            Err(DiskFault)
+        }
+    }
+}
+
+impl Disk for FileDisk {
+    ghost use Rattle.edge_file.specs.FileDisk.{file_moment};
+
+    ghost tells = { ⊥ };
+
+    ghost tells_images = { λ _. ⊥ };
+
+    ghost moment = { file_moment };
+
+    ghost may_release = { λ _. Unit {0} };
+
+    ghost reads_too = { λ d images. images };
+
+    ghost fits = { λ d. d.file.fits };
+
+    ghost lawful = { λ d tells. absurd tells };
+
+    ghost stands_in = { λ d t c tells. absurd tells };
+
+    fn len(&self) -> u64 {
+        self.file.len()
+    }
+
+    fn read_at(&mut self, at: u64, buf: &mut [u8]) -> Result<(), DiskFault> {
+        let outcome = self.file.read_at(at, buf);
+        count(outcome, &mut self.faults)
+    }
+
+    fn write_at(&mut self, at: u64, piece: &[u8]) -> Result<(), DiskFault> {
+        let outcome = self.file.write_at(at, piece);
+        count(outcome, &mut self.faults)
+    }
+
+    fn sync(&mut self) -> Result<(), DiskFault> {
+        let outcome = self.file.sync();
+        count(outcome, &mut self.faults)
+    }
+}

@@ -1,0 +1,16 @@
+//! A disk over a file or a block device of the system, which it locks. It is thin: it counts the errors of the system,
+//! and tells no bytes. That what is written stands there, and what a sync that succeeded makes durable, is trusted; after
+//! a call that failed it makes good what was written since the last good sync.
+#![tactic(auto)]
+
+mod byte_range;
+mod file;
+mod open_fault;
+mod opening;
+mod tracked_file;
+mod unsynced;
+
+pub use byte_range::ByteRange;
+pub use file::FileDisk;
+pub use open_fault::{OpenFault, Sharing};
+pub use unsynced::Unsynced;

@@ -1,0 +1,185 @@
+//! A file whose syncs may fail, and are made good before anything else is done with it.
+ghost use Rattle.std.specs.Prelude.{◌≡◌, ◌+◌, ◌^◌, ◌<◌, ◌≤◌, [], true, false, IsTrue, length, ℕ, OnErr, OnOk};
+ghost use Rattle.edge_file.specs.ByteRange.{is_within, is_covered};
+
+use crate::{ByteRange, Unsynced};
+use std::fs::File;
+use std::io::{self, ErrorKind, Seek, SeekFrom};
+use std::os::unix::fs::FileExt;
+
+// How many bytes are written back at once.
+const CHUNK: usize = 8192;
+
+/// A file of a fixed length, and what was written to it since its last good sync.
+///
+/// Linux may drop what was written when a sync of it fails: the sync fails once, a read still gives the bytes
+/// from memory, and the next sync succeeds, though the bytes never reached the disk. So after a sync or a write
+/// that failed each call first reads what was written since the last good sync, writes it back and syncs, and
+/// fails while that fails. Then the disk holds what a read gives, also where the system gives back what was
+/// there before.
+#[derive(Drop)]
+pub(crate) struct TrackedFile {
+    file: File,
+    len: u64,
+    unsynced: Unsynced,
+    // A sync or a write failed, and what was written hasn't been made good since.
+    is_failing: bool,
+    ghost fits: { len < 2 ^ 64 },
+}
+
+impl TrackedFile {
+    /// The file, which has this length in bytes and of which nothing waits for a sync.
+    pub(crate) fn new(file: File, len: u64) -> TrackedFile
+        ensures { result.len ≡ len }
+    {
+        TrackedFile {
+            file,
+            len,
+            unsynced: Unsynced::new(),
+            is_failing: false,
+        }
+    }
+
+    /// How many bytes it had as it was opened.
+    pub(crate) fn len(&self) -> u64
+        ensures { result ≡ self.now.len }
+    {
+        self.len
+    }
+
+    /// Reads the bytes from offset `at` on until the buffer is full. Fails where the file has become shorter.
+    pub(crate) fn read_at(&mut self, at: u64, buf: &mut [u8]) -> io::Result<()>
+        ensures len { self.new.len ≡ self.old.len }
+        ensures good { OnOk result (self.new.is_failing ≡ false) }
+    {
+        self.make_good()?;
+        self.file.read_exact_at(buf, at)
+    }
+
+    /// Writes the piece over the bytes from offset `at` on. Fails where the file has become shorter, since the
+    /// system would make it longer again.
+    pub(crate) fn write_at(&mut self, at: u64, piece: &[u8]) -> io::Result<()>
+        requires { at + length piece.now ≤ self.old.len }
+        ensures len { self.new.len ≡ self.old.len }
+        ensures good { OnOk result (self.new.is_failing ≡ false) }
+        ensures noted { OnOk result ((i : ℕ) → at ≤ i → i < at + length piece.now → IsTrue (is_covered self.new.unsynced i)) }
+    {
+        self.make_good()?;
+        self.check_len()?;
+        self.note(ByteRange::new(at, piece.len() as u64))?;
+        self.write_file(at, piece)
+    }
+
+    /// Makes durable what was written.
+    pub(crate) fn sync(&mut self) -> io::Result<()>
+        ensures len { self.new.len ≡ self.old.len }
+        ensures good { OnOk result (self.new.is_failing ≡ false) }
+        ensures durable { OnOk result (self.new.unsynced ≡ []) }
+        ensures failing { OnErr result (self.new.is_failing ≡ true) }
+        ensures kept { OnErr result (self.new.unsynced ≡ self.old.unsynced) }
+    {
+        if self.is_failing {
+            return self.write_back_all();
+        }
+        self.sync_file()
+    }
+
+    // Before anything is done: what a call that failed left is made good.
+    fn make_good(&mut self) -> io::Result<()>
+        ensures len { self.new.len ≡ self.old.len }
+        ensures good { OnOk result (self.new.is_failing ≡ false) }
+        ensures failing { OnErr result (self.new.is_failing ≡ true) }
+        ensures kept { OnErr result (self.new.unsynced ≡ self.old.unsynced) }
+    {
+        if self.is_failing {
+            self.write_back_all()?;
+        }
+        Ok(())
+    }
+
+    // What was written since the last good sync is read, written back and synced. Where that fails, all of it
+    // stays to be done.
+    fn write_back_all(&mut self) -> io::Result<()>
+        requires { self.old.is_failing ≡ true }
+        ensures len { self.new.len ≡ self.old.len }
+        ensures good { OnOk result (self.new.is_failing ≡ false) }
+        ensures durable { OnOk result (self.new.unsynced ≡ []) }
+        ensures failing { OnErr result (self.new.is_failing ≡ true) }
+        ensures kept { OnErr result (self.new.unsynced ≡ self.old.unsynced) }
+    {
+        self.check_len()?;
+        for range in self.unsynced.ranges() {
+            write_back(&self.file, *range)?;
+        }
+        self.sync_file()
+    }
+
+    // Before a range is written. Where it has no room, what was written before is synced first.
+    fn note(&mut self, range: ByteRange) -> io::Result<()>
+        ensures len { self.new.len ≡ self.old.len }
+        ensures noted { OnOk result ((i : ℕ) → IsTrue (is_within range i) → IsTrue (is_covered self.new.unsynced i)) }
+    {
+        if !self.unsynced.note(range) {
+            self.sync()?;
+            self.unsynced = Unsynced::of(range);
+        }
+        Ok(())
+    }
+
+    // Writes a piece whose range is noted. Some of it may come through where that fails.
+    fn write_file(&mut self, at: u64, piece: &[u8]) -> io::Result<()>
+        ensures len { self.new.len ≡ self.old.len }
+        ensures good { OnOk result (self.new.is_failing ≡ false) }
+        ensures failing { OnErr result (self.new.is_failing ≡ true) }
+        ensures kept { self.new.unsynced ≡ self.old.unsynced }
+    {
+        let written = self.file.write_all_at(piece, at);
+        self.is_failing = written.is_err();
+        written
+    }
+
+    // Syncs, and then nothing waits for a sync.
+    fn sync_file(&mut self) -> io::Result<()>
+        ensures len { self.new.len ≡ self.old.len }
+        ensures good { OnOk result (self.new.is_failing ≡ false) }
+        ensures durable { OnOk result (self.new.unsynced ≡ []) }
+        ensures failing { OnErr result (self.new.is_failing ≡ true) }
+        ensures kept { OnErr result (self.new.unsynced ≡ self.old.unsynced) }
+    {
+        let synced = self.file.sync_data();
+        self.is_failing = synced.is_err();
+        if synced.is_ok() {
+            self.unsynced.clear();
+        }
+        synced
+    }
+
+    // Fails where the file has become shorter.
+    fn check_len(&mut self) -> io::Result<()>
+        ensures { self.new ≡ record self.old { file = self.new.file } }
+    {
+        if end_of(&mut self.file)? < self.len {
+            return Err(io::Error::from(ErrorKind::UnexpectedEof));
+        }
+        Ok(())
+    }
+}
+
+/// The offset of a file's or a block device's end.
+pub(crate) fn end_of(file: &mut File) -> io::Result<u64> {
+    file.seek(SeekFrom::End(0))
+}
+
+// Writes what a read of the range gives over it.
+fn write_back(file: &File, range: ByteRange) -> io::Result<()> {
+    let mut chunk = [0; CHUNK];
+    let mut at = range.from;
+    while at < range.to {
+        let size = (range.to - at).min(CHUNK as u64);
+        let part = &mut chunk[..size as usize];
+        file.read_exact_at(part, at)?;
+        file.write_all_at(part, at)?;
+        at += size;
+    }
+    Ok(())
+}

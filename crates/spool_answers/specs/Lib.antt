@@ -1,0 +1,5 @@
+pub mod Fault
+pub mod Stages
+pub mod Take
+pub mod Mark
+pub mod Pend
