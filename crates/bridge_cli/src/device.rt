@@ -7,7 +7,7 @@ ghost use Rattle.bridge_words.specs.Words.{IsNeed, IsNoCommand};
 ghost use Rattle.bridge_parts.specs.Run.{disk_run, input_run, net_run, output_run, run_of};
 ghost use Rattle.bridge_core.specs.Failed.{TellsReadFault, TellsWriteFault, TellsDial};
 ghost use Rattle.bridge_core.specs.Headline.{KeepsPromises};
-ghost use Rattle.bridge_core.specs.Leave.{ForWords, MayAnswer, MayReplay, MayTake, WasRead, MayRelease, WereStreamed, HasExchangedAt, MayBind, MayDial, MayPrint};
+ghost use Rattle.bridge_core.specs.Leave.{ForWords, MayAnswer, MayReplay, MayTake, WasRead, MayRelease, WereStreamed, HasExchangedAt, MayTear, MayBind, MayDial, MayPrint};
 ghost use Rattle.cli_parts.specs.declared.progress.Watched.{Watched};
 ghost use Rattle.edge_file.specs.declared.file.FileDisk.{FileDisk};
 
@@ -47,6 +47,7 @@ where
     requires releases { ForWords (map string_bytes words.now) (MayRelease D.tells D.moment disk
         (WereStreamed S.same S.given input.old K.same K.taken output.old)
         (HasExchangedAt N.L.same N.L.dialed N.L.given N.L.taken) D.may_release) }
+    requires tears { ForWords (map string_bytes words.now) (MayTear D.tells D.moment D.may_tear D.may_release) }
     requires prints { ForWords (map string_bytes words.now) (MayPrint ((sink : K) (text : List ℕ) → K.permits sink text)) }
 
     ensures run { (before : Watched D) × (after : Watched D) × (before.disk ≡ disk) × (after.disk ≡ result.disk)

@@ -25,7 +25,7 @@ use Rattle.bridge_serve.specs.Doors.{rules_of, AreAt, AreBound, AreNewAt}
 use Rattle.bridge_serve.specs.Promised.{EachPart, LinksAreDurable}
 use Rattle.bridge_serve.specs.Served.{IsRun}
 use Rattle.bridge_parts.specs.Run.{Run, both_run}
-use Rattle.commands.specs.Replayed.{ServesInput}
+use Rattle.commands.specs.Replayed.{ServesInput, replay_rules}
 use Rattle.bridge_core.specs.Done.{IsUndone, Does}
 use Rattle.bridge_core.specs.RunOf.{IsRunOf}
 use Rattle.bridge_core.specs.Headline.{InputIsKept, TalkIsKept, TalksAreKept, DoorsAreKept, AcknowledgedIsKept, KeepsAcknowledged}
@@ -251,7 +251,7 @@ done_kept (Load proto number count) run note told done = tt
 done_kept (Replay proto token ack_token) run note told (inl undone) = inl undone.1.output.taken
 done_kept (Replay proto token ack_token) run note told (inr does) = elim does.0.replayed [
   | inl unopened ↦ inl unopened.2.taken
-  | inr replayed ↦ inr (input_kept (record { proto = proto; token = token; ack_token = ack_token }) run note told replayed)
+  | inr replayed ↦ inr (input_kept (replay_rules proto token ack_token) run note told replayed)
 ]
 done_kept (Serve server) run note told (inl undone) = none_kept server run undone.1.doors
 done_kept (Serve server) run note told (inr does) = elim does.0 [

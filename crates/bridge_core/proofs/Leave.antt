@@ -9,7 +9,7 @@ use Rattle.bridge_words.specs.declared.need.Need.TheVariants.{Existing}
 use Rattle.bridge_words.specs.Words.{IsNeed, need_for}
 use Rattle.bridge_words.proofs.Once.{one_command}
 use Rattle.bridge_serve.proofs.Releasing.{any_some, if_some}
-use Rattle.bridge_core.specs.Leave.{ForWords, MayAnswer, MayRelease, MayReplay}
+use Rattle.bridge_core.specs.Leave.{ForWords, MayAnswer, MayRelease, MayReplay, MayTear}
 
 -- what is durable on a disk within another is so on that
 pub answers_within : {D W : Type 0} (tells : Type 0) (moment : D → Moment) (within : W → D) (given : W) (Permits : List ℕ → ℕ → ℕ → List ℕ → List ℕ → Type 0)
@@ -44,6 +44,25 @@ releases_within tells moment within given Streamed ExchangedAt Release (Drain re
 releases_within tells moment within given Streamed ExchangedAt Release (Load proto number count) may = tt
 releases_within tells moment within given Streamed ExchangedAt Release (Serve server) may =
     if_some server.forward _ _ (λ relay may disk n received. may (within disk) n received) may
+
+-- what may be written to a disk may be so to one round it
+pub tears_within : {D W : Type 0} (tells : Type 0) (moment : D → Moment) (within : W → D) (Tear : D → ℕ → ℕ → Type 0) (Release : ℕ → Type 0) (command : Command)
+    → MayTear tells moment Tear Release command → MayTear tells (λ (w : W). moment (within w)) (λ (w : W) (at n : ℕ). Tear (within w) at n) Release command
+tears_within tells moment within Tear Release (Format slots size) may = λ disk at n. may (within disk) at n
+tears_within tells moment within Tear Release (ListCommand form) may = λ disk at n tears. may (within disk) at n tears
+tears_within tells moment within Tear Release (Replay proto token ack_token) may = λ disk at n tears. may (within disk) at n tears
+tears_within tells moment within Tear Release (Drain receiver place) may = λ disk at n tears. may (within disk) at n tears
+tears_within tells moment within Tear Release (Load proto number count) may = λ disk at n tears. may (within disk) at n tears
+tears_within tells moment within Tear Release (Serve server) may = λ disk at n tears. may (within disk) at n tears
+
+-- of a disk to which anything may be written
+pub all_torn : {D : Type 0} (tells : Type 0) (moment : D → Moment) (Tear : D → ℕ → ℕ → Type 0) (Release : ℕ → Type 0) → ((disk : D) (at n : ℕ) → Tear disk at n) → (command : Command) → MayTear tells moment Tear Release command
+all_torn tells moment Tear Release all (Format slots size) = λ disk at n. ∣ all disk at n ∣₁
+all_torn tells moment Tear Release all (ListCommand form) = λ disk at n tears. ∣ all disk at n ∣₁
+all_torn tells moment Tear Release all (Replay proto token ack_token) = λ disk at n tears. ∣ all disk at n ∣₁
+all_torn tells moment Tear Release all (Drain receiver place) = λ disk at n tears. ∣ all disk at n ∣₁
+all_torn tells moment Tear Release all (Load proto number count) = λ disk at n tears. ∣ all disk at n ∣₁
+all_torn tells moment Tear Release all (Serve server) = λ disk at n tears. ∣ all disk at n ∣₁
 
 -- of a disk of which any number may become known
 pub all_released : {D : Type 0} (tells : Type 0) (moment : D → Moment) (given : D) (Streamed : List ℕ → List ℕ → Type 0)

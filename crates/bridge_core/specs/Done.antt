@@ -12,7 +12,7 @@ use Rattle.commands.specs.Drained.{IsDrained, IsDrainedTo}
 use Rattle.commands.specs.Formatted.{IsFormatted}
 use Rattle.commands.specs.Listed.{IsListed}
 use Rattle.commands.specs.Loading.{LoadIsTold}
-use Rattle.commands.specs.Replayed.{IsReplayed}
+use Rattle.commands.specs.Replayed.{IsReplayed, replay_rules}
 
 -- Nothing was done.
 pub record IsUntouched (run : Run) : Type 0 where
@@ -44,7 +44,7 @@ Does (Format slots size) run note =
     IsFormatted slots size run.disk run.output note × IsUngiven run.input × IsOffline run.net × (run.doors ≡ [])
 Does (ListCommand form) run note = IsListed form run.disk run.output note × IsUngiven run.input × IsOffline run.net × (run.doors ≡ [])
 Does (Replay proto token ack_token) run note =
-    IsReplayed (record { proto = proto; token = token; ack_token = ack_token }) run.disk run.input run.output note
+    IsReplayed (replay_rules proto token ack_token) run.disk run.input run.output note
     × IsOffline run.net × (run.doors ≡ [])
 Does (Drain receiver None) run note =
     IsDrained (outward_of receiver) run.disk run.input run.output note × (run.net.new ≡ run.net.old) × (run.doors ≡ [])

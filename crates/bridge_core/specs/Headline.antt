@@ -11,7 +11,7 @@ use Rattle.conn_serve.specs.declared.rules.Rules.{Rules}
 use Rattle.conn_serve.specs.Acked.{Acknowledges}
 use Rattle.conn_serve.specs.Durable.{AckedIsDurable, AnswersAreDurable}
 use Rattle.conn_serve.specs.Serves.{CarriedBy}
-use Rattle.conn_serve.specs.Tokens.{tokens_of}
+use Rattle.conn_serve.specs.Terms.{terms_of}
 use Rattle.serve_workers.specs.Served.{Served, Tells}
 use Rattle.serve_workers.specs.Works.{first_conn}
 use Rattle.serve_laws.specs.Durable.{IsLinkDurable}
@@ -20,7 +20,7 @@ use Rattle.bridge_words.specs.declared.command.Command.TheVariants.{Replay, Serv
 use Rattle.bridge_words.specs.declared.command.Server.{Server}
 use Rattle.bridge_words.specs.Words.{IsCommand}
 use Rattle.bridge_parts.specs.Run.{DiskRun, Run}
-use Rattle.commands.specs.Replayed.{IsStored}
+use Rattle.commands.specs.Replayed.{IsStored, replay_rules}
 use Rattle.bridge_serve.specs.Answered.{Linked, HasLed}
 use Rattle.bridge_serve.specs.Doors.{rules_of}
 use Rattle.notes.specs.declared.note.Note.{Note}
@@ -41,8 +41,8 @@ pub record InputIsKept (rules : Rules) (run : Run) : Type 0 where
   pub talk : Talk
   pub carried : CarriedBy rules conn left bytes calls text talk
   pub made : IsStored run.disk.old run.disk.new conn calls
-  pub acked : (numbers : List ℕ) → Acknowledges rules.proto text numbers → AckedIsDurable calls run.disk.new numbers
-  pub answered : AnswersAreDurable rules.proto (tokens_of rules) conn left bytes calls text talk carried run.disk.new
+  pub acked : (numbers : List ℕ) → Acknowledges rules.proto text numbers → AckedIsDurable rules.proto calls run.disk.new numbers
+  pub answered : AnswersAreDurable rules.proto (terms_of rules) conn left bytes calls text talk carried run.disk.new
       (λ channel id. IsIdTakenDurably calls run.disk.new id)
   pub since : All (StaysTaken made.reached.records 0 run.disk.new) (groups_of calls)
 
@@ -75,7 +75,7 @@ DoorsAreKept server disk doors = (worker : ℕ) (door : DoorState) → slice_get
 -- that is nothing; by `serve` in what each door that comes back tells was written to each of its connections.
 abbrev pub AcknowledgedIsKept : Command → Run → Type 0
 AcknowledgedIsKept (Replay proto token ack_token) run =
-    (run.output.taken_after ≡ run.output.taken) ⊎ InputIsKept (record { proto = proto; token = token; ack_token = ack_token }) run
+    (run.output.taken_after ≡ run.output.taken) ⊎ InputIsKept (replay_rules proto token ack_token) run
 AcknowledgedIsKept (Serve server) run = DoorsAreKept server run.disk run.doors
 AcknowledgedIsKept command run = Unit {0}
 

@@ -1,14 +1,18 @@
--- What a command may write to those who send to it, what it may make known as confirmed, where it may bind doors, and where it may dial.
+-- What a command may write to those who send to it, what it may make known as confirmed, what it may write to the disk, where it may bind
+-- doors, and where it may dial.
 use Rattle.std.specs.Prelude.{ℕ, List, Some, None}
 use Rattle.edge_disk.specs.Disk.{Moment}
+use Rattle.edge_disk.specs.Leave.{LetsAll}
+use Rattle.spool_answers.specs.Leave.{LetsKeep}
 use Rattle.bridge_words.specs.declared.command.Command.{Command}
-use Rattle.bridge_words.specs.declared.command.Command.TheVariants.{Replay, Drain, Serve}
+use Rattle.bridge_words.specs.declared.command.Command.TheVariants.{Format, Replay, Drain, Serve}
 use Rattle.bridge_words.specs.Words.{IsCommand}
 use Rattle.bridge_parts.specs.Receivers.{outward_of}
 pub use Rattle.forward_core.specs.Exchanged.{HasExchangedAt}
 use Rattle.commands.specs.Answered as input
 pub use Rattle.commands.specs.Answered.{WasRead, MayTake}
 use Rattle.commands.specs.Released as drain
+use Rattle.commands.specs.Replayed.{replay_rules}
 pub use Rattle.commands.specs.Released.{WereStreamed}
 use Rattle.bridge_serve.specs.Answered as server
 use Rattle.bridge_serve.specs.Released as forwarder
@@ -27,7 +31,7 @@ MayAnswer tells moment given Permits command = Unit {0}
 -- on the disk.
 abbrev pub MayReplay : {D : Type 0} → Type 0 → (D → Moment) → D → (List ℕ → Type 0) → (List ℕ → Type 0) → Command → Type 0
 MayReplay tells moment given Read Take (Replay proto token ack_token) =
-    input.MayReplay tells moment given (record { proto = proto; token = token; ack_token = ack_token }) Read Take
+    input.MayReplay tells moment given (replay_rules proto token ack_token) Read Take
 MayReplay tells moment given Read Take command = Unit {0}
 
 -- `drain` and `serve` may make a number known as confirmed once the peer to whom they forward has received its entry, by what was
@@ -42,6 +46,12 @@ MayRelease tells moment given Streamed ExchangedAt Release (Drain receiver (Some
     drain.MayRelease tells moment given (outward_of receiver) (ExchangedAt place) Release
 MayRelease tells moment given Streamed ExchangedAt Release (Serve words) = forwarder.MayRelease tells moment given words ExchangedAt Release
 MayRelease tells moment given Streamed ExchangedAt Release command = Unit {0}
+
+-- `format` may write anything to the disk. Every other command may write what keeps the spool: whatever a crash may tear of it stands for a
+-- later state of a spool for which an image of now stands, and knows no number anew but those that may become known.
+abbrev pub MayTear : {D : Type 0} → Type 0 → (D → Moment) → (D → ℕ → ℕ → Type 0) → (ℕ → Type 0) → Command → Type 0
+MayTear tells moment Tear Release (Format slots size) = LetsAll Tear
+MayTear tells moment Tear Release command = LetsKeep tells moment Tear Release
 
 -- Every other command may print any text.
 abbrev pub MayPrint : Type 0 → Command → Type 0

@@ -4,7 +4,7 @@ ghost use Rattle.notes.specs.Notes.{status_of};
 ghost use Rattle.bridge_parts.specs.Run.{disk_run, input_run, net_run, output_run, run_of};
 ghost use Rattle.bridge_core.specs.Asked.{IsAsked};
 ghost use Rattle.bridge_core.specs.Done.{Does};
-ghost use Rattle.bridge_core.specs.Leave.{MayAnswer, MayReplay, MayTake, WasRead, MayRelease, WereStreamed, HasExchangedAt, MayBind, MayDial, MayPrint};
+ghost use Rattle.bridge_core.specs.Leave.{MayAnswer, MayReplay, MayTake, WasRead, MayRelease, WereStreamed, HasExchangedAt, MayTear, MayBind, MayDial, MayPrint};
 
 use crate::ended::Ended;
 use bridge_parts::outward_of;
@@ -47,6 +47,7 @@ where
         command }
     requires releases { MayRelease D.tells D.moment disk (WereStreamed S.same S.given input.old K.same K.taken output.old)
         (HasExchangedAt N.L.same N.L.dialed N.L.given N.L.taken) D.may_release command }
+    requires tears { MayTear D.tells D.moment D.may_tear D.may_release command }
     requires prints { MayPrint ((sink : K) (text : List ℕ) → K.permits sink text) command }
 
     ensures status { result.status ≡ status_of result.note }
@@ -74,6 +75,7 @@ where
                 proto,
                 token,
                 ack_token,
+                group: false,
             };
             let Finished { note, disk } = replay(alloc, rules, disk, input, output);
             Ended::of(alloc, note, disk)

@@ -4,7 +4,7 @@ ghost use Rattle.notes.specs.Notes.{status_of};
 ghost use Rattle.bridge_parts.specs.Run.{disk_run, input_run, net_run, output_run, run_of};
 ghost use Rattle.bridge_core.specs.RunOf.{IsRunOf};
 ghost use Rattle.bridge_core.specs.Headline.{KeepsAcknowledged};
-ghost use Rattle.bridge_core.specs.Leave.{ForWords, MayAnswer, MayReplay, MayTake, WasRead, MayRelease, WereStreamed, HasExchangedAt, MayBind, MayDial, MayPrint};
+ghost use Rattle.bridge_core.specs.Leave.{ForWords, MayAnswer, MayReplay, MayTake, WasRead, MayRelease, WereStreamed, HasExchangedAt, MayTear, MayBind, MayDial, MayPrint};
 
 use crate::asked::{Unasked, asked_of};
 use crate::doing::do_command;
@@ -76,6 +76,9 @@ where
     requires releases { ForWords (map string_bytes words.now) (MayRelease D.tells D.moment disk
         (WereStreamed S.same S.given input.old K.same K.taken output.old)
         (HasExchangedAt N.L.same N.L.dialed N.L.given N.L.taken) D.may_release) }
+
+    // `format` may write anything to the disk, and every other command what keeps the spool.
+    requires tears { ForWords (map string_bytes words.now) (MayTear D.tells D.moment D.may_tear D.may_release) }
 
     // The places that the words name may be bound and dialed, and any text may be printed.
     requires binds { ForWords (map string_bytes words.now) (MayBind N.may_bind) }

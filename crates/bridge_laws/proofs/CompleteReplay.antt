@@ -15,6 +15,8 @@ use Rattle.spool_log.specs.Opening.{opened, IsRefusedAs}
 use Rattle.hec_session.specs.declared.tokens.Tokens.{Tokens}
 use Rattle.desk_access.specs.Call.{Call, failures_of}
 use Rattle.conn_serve.specs.Serves.{CarriedAs}
+use Rattle.conn_serve.specs.Terms.{terms_with}
+use Rattle.conn_serve.specs.RunsOfOne.{RunsOfOne}
 use Rattle.bridge_words.specs.declared.command.Command.TheVariants.{Replay}
 use Rattle.notes.specs.declared.note.Note.{Note}
 use Rattle.notes.specs.Notes.{note_of_talk}
@@ -26,7 +28,7 @@ use Rattle.bridge_core.specs.RunOf.{IsRunOf}
 use Rattle.bridge_parts.specs.Refused.{note_of_recover}
 use Rattle.bridge_parts.specs.Reached.{Reaches}
 use Rattle.bridge_parts.specs.Run.{both_run}
-use Rattle.commands.specs.Replayed.{ServesInput}
+use Rattle.commands.specs.Replayed.{ServesInput, replay_rules}
 use Rattle.bridge_laws.proofs.Complete.{not_disk, not_read, not_write}
 use Rattle.ending_laws.proofs.Endings.{IsAllowed, IsDone, Kept, allowed_note, kept, none_failed}
 use Rattle.ending_laws.proofs.Hec.{hec_allowed, hec_stored}
@@ -35,19 +37,19 @@ use Rattle.ending_laws.proofs.Relp.{relp_allowed, relp_stored}
 
 -- ---- by the protocol
 
-carried_allowed : (proto : Proto) (tokens : Tokens) (conn : ℕ) (s : SpoolState) (run : Run) (left : Option (List ℕ)) (whole b : List ℕ)
-    (calls : List Call) (text : List ℕ) (talk : Talk) → CarriedAs proto tokens conn left b calls text talk
+carried_allowed : RunsOfOne → (proto : Proto) (tokens : Tokens) (conn : ℕ) (s : SpoolState) (run : Run) (left : Option (List ℕ)) (whole b : List ℕ)
+    (calls : List Call) (text : List ℕ) (talk : Talk) → CarriedAs proto (terms_with tokens) conn left b calls text talk
     → Reaches s run.disk.new calls → Kept left whole b → failures_of calls ≡ 0 → EndsWhole proto whole → NoneIsRefused proto tokens conn s whole → length whole < 2 ^ 40 → IsAllowed talk
-carried_allowed Relp tokens conn s run left whole b calls text talk c reached k none ends fits short = relp_allowed conn tokens s run.disk.new left whole b calls text talk c reached k none ends.0 ends.1 fits short
-carried_allowed Lumberjack tokens conn s run left whole b calls text talk c reached k none ends fits short = lumber_allowed conn tokens s run.disk.new left whole b calls text talk c reached k none ends.0 ends.1 fits short
-carried_allowed Hec tokens conn s run left whole b calls text talk c reached k none ends fits short = hec_allowed conn tokens s run.disk.new left whole b calls text talk c reached k none ends.0 ends.1 fits short
+carried_allowed ones Relp tokens conn s run left whole b calls text talk c reached k none ends fits short = relp_allowed conn tokens s run.disk.new left whole b calls text talk (ones.carried conn left b calls text talk c) reached k none ends.0 ends.1 fits short
+carried_allowed ones Lumberjack tokens conn s run left whole b calls text talk c reached k none ends fits short = lumber_allowed conn tokens s run.disk.new left whole b calls text talk c reached k none ends.0 ends.1 fits short
+carried_allowed ones Hec tokens conn s run left whole b calls text talk c reached k none ends fits short = hec_allowed conn tokens s run.disk.new left whole b calls text talk c reached k none ends.0 ends.1 fits short
 
-carried_stored : (proto : Proto) (tokens : Tokens) (conn : ℕ) (s : SpoolState) (run : Run) (left : Option (List ℕ)) (whole b : List ℕ)
-    (calls : List Call) (text : List ℕ) (talk : Talk) → CarriedAs proto tokens conn left b calls text talk
+carried_stored : RunsOfOne → (proto : Proto) (tokens : Tokens) (conn : ℕ) (s : SpoolState) (run : Run) (left : Option (List ℕ)) (whole b : List ℕ)
+    (calls : List Call) (text : List ℕ) (talk : Talk) → CarriedAs proto (terms_with tokens) conn left b calls text talk
     → Reaches s run.disk.new calls → Kept left whole b → failures_of calls ≡ 0 → IsDone talk → (events : List Event) × Stores proto tokens whole events × Gains s run.disk.new events
-carried_stored Relp tokens conn s run left whole b calls text talk c reached k none done = relp_stored conn tokens s run.disk.new left whole b calls text talk c reached k none done
-carried_stored Lumberjack tokens conn s run left whole b calls text talk c reached k none done = lumber_stored conn tokens s run.disk.new left whole b calls text talk c reached k none done
-carried_stored Hec tokens conn s run left whole b calls text talk c reached k none done = hec_stored conn tokens s run.disk.new left whole b calls text talk c reached k none done
+carried_stored ones Relp tokens conn s run left whole b calls text talk c reached k none done = relp_stored conn tokens s run.disk.new left whole b calls text talk (ones.carried conn left b calls text talk c) reached k none done
+carried_stored ones Lumberjack tokens conn s run left whole b calls text talk c reached k none done = lumber_stored conn tokens s run.disk.new left whole b calls text talk c reached k none done
+carried_stored ones Hec tokens conn s run left whole b calls text talk c reached k none done = hec_stored conn tokens s run.disk.new left whole b calls text talk c reached k none done
 
 -- ---- the run
 
@@ -65,9 +67,9 @@ module _ (proto : Proto) (token ack_token : Option ℕ) (words : List (List ℕ)
   by_fault Recover.NoMemory same why = same
 
   -- a connection over the spool that the device stood for
-  serves_all : ServesInput (record { proto = proto; token = token; ack_token = ack_token }) run.disk (both_run run.input run.output) note
+  serves_all : RunsOfOne → ServesInput (replay_rules proto token ack_token) run.disk (both_run run.input run.output) note
       → EndsWhole proto b → NoneIsRefused proto (record { token = token; ack_token = ack_token }) (conn_in s) (opened Raise s) b → TakesAll proto (record { token = token; ack_token = ack_token }) run s b note
-  serves_all replayed ends fits =
+  serves_all ones replayed ends fits =
       let tokens : Tokens = record { token = token; ack_token = ack_token } in
       let served = replayed.served in
       let serves = served.serves in
@@ -76,21 +78,21 @@ module _ (proto : Proto) (token ack_token : Option ℕ) (words : List (List ℕ)
       let one : stored.state ≡ s = one_state stored.state s run.disk.old.reads stored.stood can.stands in
       let reached = subst (λ (t : SpoolState). Reaches (opened Raise t) run.disk.new serves.calls) one stored.reached in
       let conn : replayed.conn ≡ conn_in s = stored.conn_is ∙ ap conn_in one in
-      let carried = subst (λ (n : ℕ). CarriedAs proto tokens n run.input.left_after serves.bytes serves.calls serves.text talk) conn serves.carried in
+      let carried = subst (λ (n : ℕ). CarriedAs proto (terms_with tokens) n run.input.left_after serves.bytes serves.calls serves.text talk) conn serves.carried in
       let k = kept run.input.left_after b serves.bytes (subst (λ (l : Option (List ℕ)). Consumes l run.input.left_after serves.bytes) can.input serves.consumed) in
-      let no_call = none_failed proto tokens (conn_in s) run.input.left_after serves.bytes serves.calls serves.text talk carried
+      let no_call = none_failed proto (terms_with tokens) (conn_in s) run.input.left_after serves.bytes serves.calls serves.text talk carried
       (λ by. not_disk words run note is none (served.note_is ∙ ap note_of_talk by)) (λ by. not_write words run note is none (served.note_is ∙ ap note_of_talk by)) in
-      let allows = carried_allowed proto tokens (conn_in s) (opened Raise s) run run.input.left_after b serves.bytes serves.calls serves.text talk carried reached k no_call ends fits can.short in
+      let allows = carried_allowed ones proto tokens (conn_in s) (opened Raise s) run run.input.left_after b serves.bytes serves.calls serves.text talk carried reached k no_call ends fits can.short in
       elim (allowed_note talk note served.note_is allows (not_disk words run note is none) (not_read words run note is none) (not_write words run note is none)) [
         | inl wanting ↦ inl wanting
-        | inr fine ↦ inr (fine.0, carried_stored proto tokens (conn_in s) (opened Raise s) run run.input.left_after b serves.bytes serves.calls serves.text talk carried reached k no_call fine.1)
+        | inr fine ↦ inr (fine.0, carried_stored ones proto tokens (conn_in s) (opened Raise s) run run.input.left_after b serves.bytes serves.calls serves.text talk carried reached k no_call fine.1)
       ]
 
-pub replay_ends_well : (run : Run) → ReplayEndsWell run
-replay_ends_well run proto token ack_token words note s b is none asks can ends fits = elim (is.done (Replay proto token ack_token) asks) [
+pub replay_ends_well : RunsOfOne → (run : Run) → ReplayEndsWell run
+replay_ends_well ones run proto token ack_token words note s b is none asks can ends fits = elim (is.done (Replay proto token ack_token) asks) [
   | inl undone ↦ inl undone.0
   | inr does ↦ elim does.0.replayed [
     | inl unopened ↦ inl (by_fault proto token ack_token words run note is none s b can unopened.0.fault unopened.0.note_is (unopened.0.why can.told))
-    | inr replayed ↦ serves_all proto token ack_token words run note is none s b can replayed ends fits
+    | inr replayed ↦ serves_all proto token ack_token words run note is none s b can ones replayed ends fits
   ]
 ]

@@ -11,3 +11,4 @@ pub mod KeepsOrder
 pub mod OrderOfCommands
 pub mod Lifetime
 pub mod StaysDurable
+pub mod LeaveLasts

@@ -29,7 +29,7 @@ met_by run before own (call ∷ calls) (one ∷ records) is may by =
     let made = subst (λ (l : List Call). May run 0 0 l call) (sym is) may.0 in
     let of_it = subst (λ (n : ℕ). May run 0 n (own_of n before) call) (sym by.0) made in
     let more : own_of 0 (before ++ one ∷ []) ≡ own ++ call ∷ [] = own_of-snoc 0 before one by.0 ∙ ap (λ (l : List Call). l ++ one.call ∷ []) is ∙ ap (λ (c : Call). own ++ c ∷ []) by.1 in
-    (subst (May run 0 one.by (own_of one.by before)) (sym by.1) of_it, met_by run (before ++ one ∷ []) (own ++ call ∷ []) calls records more may.1 by.2)
+    (subst (May run 0 one.by (own_of one.by before)) (sym by.1) of_it, met_by run (before ++ one ∷ []) (own ++ call ∷ []) calls records more may.1 by.3)
 
 pub may_then : (run : ℕ) (own xs ys : List Call) → MayMake run 0 0 own xs → MayMake run 0 0 (own ++ xs) ys → MayMake run 0 0 own (xs ++ ys)
 may_then run own [] ys p q = subst (λ (l : List Call). MayMake run 0 0 l ys) (append-nil own) q

@@ -15,9 +15,9 @@ use Rattle.hec_session.specs.declared.tokens.Tokens.{Tokens}
 use Rattle.desk_access.specs.Batch.{Belongs}
 use Rattle.desk_access.specs.Call.{Call}
 use Rattle.conn_serve.specs.Done.{AreBytes}
-use Rattle.conn_serve.specs.declared.rules.Rules.{Rules}
 use Rattle.conn_serve.specs.Serves.{CarriedAs}
-use Rattle.conn_serve.specs.Tokens.{tokens_of}
+use Rattle.conn_serve.specs.Terms.{terms_with}
+use Rattle.conn_serve.specs.RunsOfOne.{RunsOfOne}
 use Rattle.spool_turns.specs.Replays.{MayMake}
 use Rattle.forward_core.specs.declared.outward.Outward.{Outward}
 use Rattle.bridge_words.specs.declared.command.Command.{Command}
@@ -32,7 +32,7 @@ use Rattle.bridge_core.specs.Done.{Does, IsUndone}
 use Rattle.bridge_core.specs.RunOf.{IsRunOf}
 use Rattle.commands.specs.Drained.{SendsThere, Streams}
 use Rattle.commands.specs.Formatted.{Formats}
-use Rattle.commands.specs.Replayed.{ServesInput}
+use Rattle.commands.specs.Replayed.{ServesInput, replay_rules}
 use Rattle.bridge_serve.specs.Served.{IsServed}
 use Rattle.bridge_laws.specs.InOrder.{IsInOrder, HoldsInOrder, HoldsNoDisorder, DeskOpensLegal}
 use Rattle.bridge_laws.specs.KeepsOrder.{AsksFormat, EachCommandKeepsOrder, Keeps}
@@ -71,13 +71,13 @@ while_formatted slots size m before c (inr (inr made)) = holds_none (empty_state
 first_conn : (run conn : ℕ) → conn ≡ run * 2 ^ 32 → Belongs run 0 conn
 first_conn run conn is = record { few = omega arith; from = omega (arith, is); below = omega (arith, is) }
 
-replay_may : (proto : Proto) (tokens : Tokens) (run conn : ℕ) (left : Option (List ℕ)) (b : List ℕ) (calls : List Call) (text : List ℕ) (talk : Talk) → AreBytes b → Belongs run 0 conn → CarriedAs proto tokens conn left b calls text talk
+replay_may : RunsOfOne → (proto : Proto) (tokens : Tokens) (run conn : ℕ) (left : Option (List ℕ)) (b : List ℕ) (calls : List Call) (text : List ℕ) (talk : Talk) → AreBytes b → Belongs run 0 conn → CarriedAs proto (terms_with tokens) conn left b calls text talk
     → MayMake run 0 0 [] calls
-replay_may Relp tokens run conn left b calls text talk bytes belongs c = relp_may run conn left b calls text talk belongs c
-replay_may Lumberjack tokens run conn left b calls text talk bytes belongs c = lumber_may run conn left b calls text talk bytes belongs c
-replay_may Hec tokens run conn left b calls text talk bytes belongs c = hec_may tokens run conn left b calls text talk belongs c
+replay_may ones Relp tokens run conn left b calls text talk bytes belongs c = relp_may run conn left b calls text talk belongs (ones.carried conn left b calls text talk c)
+replay_may ones Lumberjack tokens run conn left b calls text talk bytes belongs c = lumber_may run conn left b calls text talk bytes belongs c
+replay_may ones Hec tokens run conn left b calls text talk bytes belongs c = hec_may tokens run conn left b calls text talk belongs c
 
-module _ (run : Run) (told : run.disk.tells) (lawful : IsLawful run.disk.old) (P : List ℕ → Type 0) (holds : (s : SpoolState) (c : List ℕ) → StandsFor s c → IsInOrder s → P c) (held : (s : SpoolState) (c : List ℕ) → StandsFor s c → P c → IsInOrder s)
+module _ (ones : RunsOfOne) (run : Run) (told : run.disk.tells) (lawful : IsLawful run.disk.old) (P : List ℕ → Type 0) (holds : (s : SpoolState) (c : List ℕ) → StandsFor s c → IsInOrder s → P c) (held : (s : SpoolState) (c : List ℕ) → StandsFor s c → P c → IsInOrder s)
     (before : (c : List ℕ) → run.disk.old.image c → P c) where
   by_stream : (outward : Outward) (note : Note) → Streams outward run.disk run.input run.output note → LeavesOnly P run.disk.old run.disk.new
   by_stream outward note (inl done) = unread P holds held run.disk.old run.disk.new lawful before run.disk.tells run.disk.same note done.0 told
@@ -97,11 +97,11 @@ module _ (run : Run) (told : run.disk.tells) (lawful : IsLawful run.disk.old) (P
   by_serve server note (inr (inl done)) = opened_only P holds held run.disk.old run.disk.new lawful before (done.0.opened told)
   by_serve server note (inr (inr done)) = served P holds held run.disk.old run.disk.new lawful before run.disk.tells _ _ _ _ _ _ _ _ _ _ _ done.ran.over told
 
-  by_replay : (rules : Rules) (note : Note) → ServesInput rules run.disk (both_run run.input run.output) note → LeavesOnly P run.disk.old run.disk.new
-  by_replay rules note done =
+  by_replay : (proto : Proto) (token ack_token : Option ℕ) (note : Note) → ServesInput (replay_rules proto token ack_token) run.disk (both_run run.input run.output) note → LeavesOnly P run.disk.old run.disk.new
+  by_replay proto token ack_token note done =
       let serves = done.served.serves in
       let is = serves.made told in
-      stored P holds held run.disk.old run.disk.new lawful before done.conn serves.calls is (replay_may rules.proto (tokens_of rules) (is.state.run + 1) done.conn run.input.left_after serves.bytes serves.calls serves.text _ serves.are_bytes (first_conn (is.state.run + 1) done.conn is.conn_is) serves.carried)
+      stored P holds held run.disk.old run.disk.new lawful before done.conn serves.calls is (replay_may ones proto (record { token = token; ack_token = ack_token }) (is.state.run + 1) done.conn run.input.left_after serves.bytes serves.calls serves.text _ serves.are_bytes (first_conn (is.state.run + 1) done.conn is.conn_is) serves.carried)
 
   module _ (same : run.disk.same → LeavesOnly run.disk.old.image run.disk.old run.disk.new) (words : List (List ℕ)) (note : Note) (whole : IsRunOf words run note) where
     as_before : run.disk.same → LeavesOnly P run.disk.old run.disk.new
@@ -113,7 +113,7 @@ module _ (run : Run) (told : run.disk.tells) (lawful : IsLawful run.disk.old) (P
     by_command (ListCommand form) asks never (inr does) = unwritten P holds held run.disk.old run.disk.new lawful before (does.0.any_moment told)
     by_command (Replay proto token ack_token) asks never (inr does) = elim does.0.replayed [
       | inl unopen ↦ unopened P holds held run.disk.old run.disk.new lawful before run.disk.tells note unopen.0 told
-      | inr replayed ↦ by_replay (record { proto = proto; token = token; ack_token = ack_token }) note replayed
+      | inr replayed ↦ by_replay proto token ack_token note replayed
     ]
     by_command (Drain receiver None) asks never (inr does) = by_stream (outward_of receiver) note does.0.drained
     by_command (Drain receiver (Some place)) asks never (inr does) = by_place (outward_of receiver) place note does.0.drained
@@ -130,7 +130,7 @@ is_format command = ⊥
 not_format : (command : Command) (words : List (List ℕ)) → (is_format command → ⊥) → IsCommand command words → AsksFormat words → ⊥
 not_format command words other asks (slots, size, is) = other (subst is_format (sym (one_command command (Format slots size) words asks is)) tt)
 
-module _ (run : Run) (lawful : run.disk.tells → IsLawful run.disk.old) (same : run.disk.tells → run.disk.same → LeavesOnly run.disk.old.image run.disk.old run.disk.new)
+module _ (ones : RunsOfOne) (run : Run) (lawful : run.disk.tells → IsLawful run.disk.old) (same : run.disk.tells → run.disk.same → LeavesOnly run.disk.old.image run.disk.old run.disk.new)
     (words : List (List ℕ)) (note : Note) (whole : IsRunOf words run note) (told : run.disk.tells) where
   -- `format` is the one call during which a crash may leave no spool
   none_by : IsSomeCommand words ⊎ (IsNoCommand words ⊎ IsUndone run note) → Keeps HoldsNoDisorder run.disk.old run.disk.new
@@ -140,13 +140,13 @@ module _ (run : Run) (lawful : run.disk.tells → IsLawful run.disk.old) (same :
     by : (c : Command) → IsCommand c words → IsUndone run note ⊎ Does c run note → LeavesOnly HoldsNoDisorder run.disk.old run.disk.new
     by c is (inl undone) = unwritten HoldsNoDisorder holds_none none_held run.disk.old run.disk.new (lawful told) before (same told undone.1.disk.same)
     by (Format slots size) is (inr does) = weaker (IsFormatStep slots size run.disk.old) HoldsNoDisorder run.disk.old run.disk.new (does.0.any_moment told) (while_formatted slots size run.disk.old before)
-    by c is (inr does) = by_command run told (lawful told) HoldsNoDisorder holds_none none_held before (same told) words note whole c is (not_format c words (λ never. never) is) (inr does)
+    by c is (inr does) = by_command ones run told (lawful told) HoldsNoDisorder holds_none none_held before (same told) words note whole c is (not_format c words (λ never. never) is) (inr does)
 
   some_by : IsSomeCommand words ⊎ (IsNoCommand words ⊎ IsUndone run note) → (AsksFormat words → ⊥) → Keeps HoldsInOrder run.disk.old run.disk.new
   some_by (inr (inr undone)) never before = unwritten HoldsInOrder holds_some some_held run.disk.old run.disk.new (lawful told) before (same told undone.1.disk.same)
   some_by (inr (inl none)) never before = unwritten HoldsInOrder holds_some some_held run.disk.old run.disk.new (lawful told) before (same told (whole.unchanged none).disk.same)
   some_by (inl (command, asks)) never before =
-      by_command run told (lawful told) HoldsInOrder holds_some some_held before (same told) words note whole command asks never (whole.done command asks)
+      by_command ones run told (lawful told) HoldsInOrder holds_some some_held before (same told) words note whole command asks never (whole.done command asks)
 
   -- `format` that ended well
   formatted : (slots size : ℕ) (n : Note) → n ≡ Note.Fine → Formats slots size run.disk run.output n → (c : List ℕ) → run.disk.new.image c → HoldsInOrder c
@@ -160,9 +160,9 @@ module _ (run : Run) (lawful : run.disk.tells → IsLawful run.disk.old) (same :
     | inr does ↦ formatted slots size note fine does.0.formatted c image
   ]
 
-pub each_command_keeps_order : (run : Run) → (run.disk.tells → IsLawful run.disk.old) → (run.disk.tells → run.disk.same → LeavesOnly run.disk.old.image run.disk.old run.disk.new) → EachCommandKeepsOrder run
-each_command_keeps_order run lawful same words note whole told = record {
-  none = none_by run lawful same words note whole told whole.which;
-  some = some_by run lawful same words note whole told whole.which;
-  made = made_by run lawful same words note whole told;
+pub each_command_keeps_order : RunsOfOne → (run : Run) → (run.disk.tells → IsLawful run.disk.old) → (run.disk.tells → run.disk.same → LeavesOnly run.disk.old.image run.disk.old run.disk.new) → EachCommandKeepsOrder run
+each_command_keeps_order ones run lawful same words note whole told = record {
+  none = none_by ones run lawful same words note whole told whole.which;
+  some = some_by ones run lawful same words note whole told whole.which;
+  made = made_by ones run lawful same words note whole told;
 }

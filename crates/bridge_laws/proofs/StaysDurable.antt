@@ -30,7 +30,7 @@ use Rattle.bridge_parts.specs.Receivers.{outward_of}
 use Rattle.bridge_parts.specs.Run.{Run, both_run}
 use Rattle.bridge_parts.proofs.Desks.{desk_rules}
 use Rattle.commands.specs.Drained.{IsSent, SendsThere, Streams, Tally}
-use Rattle.commands.specs.Replayed.{ServesInput}
+use Rattle.commands.specs.Replayed.{ServesInput, replay_rules}
 use Rattle.bridge_serve.specs.Served.{IsServed}
 use Rattle.bridge_core.specs.Done.{Does, IsUndone}
 use Rattle.bridge_core.specs.RunOf.{IsRunOf}
@@ -121,7 +121,7 @@ module _ (Is : SpoolState → Type 0) (stays : (s t : SpoolState) → IsLater s 
     by_command (ListCommand form) asks never (inr does) = unwritten (does.0.any_moment told)
     by_command (Replay proto token ack_token) asks never (inr does) = elim does.0.replayed [
       | inl unopen ↦ unopened note unopen.0
-      | inr replayed ↦ by_replay (record { proto = proto; token = token; ack_token = ack_token }) note replayed
+      | inr replayed ↦ by_replay (replay_rules proto token ack_token) note replayed
     ]
     by_command (Drain receiver None) asks never (inr does) = by_stream (outward_of receiver) note does.0.drained
     by_command (Drain receiver (Some place)) asks never (inr does) = by_place (outward_of receiver) place note does.0.drained

@@ -8,3 +8,4 @@ pub mod KeepsOrder
 pub mod Lifetime
 pub mod LeavesAlone
 pub mod Durable
+pub mod Leave

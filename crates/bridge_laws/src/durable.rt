@@ -1,6 +1,7 @@
 //! What was acknowledged lasts, from the contract of `bridge` alone. The function does nothing: its contract is the law.
 ghost use Rattle.bridge_parts.specs.Run.{disk_run, input_run, net_run, output_run};
 ghost use Rattle.bridge_laws.specs.Durable.{DurableLasts, DurableSinceLasts};
+ghost use Rattle.bridge_laws.specs.Leave.{LeaveLasts, LeaveReleases};
 ghost use Rattle.bridge_laws.specs.Lifetime.{telling};
 
 use edge_disk::Disk;
@@ -26,4 +27,15 @@ pub fn durable_lasts<D: Disk, S: Source, K: Sink, N: Net>(
         (output_run K.taken K.write_faults) (net_run N.told) N.P.told) }
     ensures since { DurableSinceLasts D.tells D.moment (telling (disk_run D.tells D.moment) (input_run S.given S.left S.read_faults)
         (output_run K.taken K.write_faults) (net_run N.told) N.P.told) }
+{}
+
+/// What is durable lasts at each moment within a call, too, whether that ends or not: groups of entries that a disk keeps, whatever a
+/// crash leaves of it, are kept so after any reads, syncs and writes, one after another, where each write had the leave that `bridge`
+/// asks for (`tears`): whatever a crash may tear of it keeps the spool. And a number that is known then was known before, or may
+/// become known.
+///
+/// So an event whose acknowledgment was written is in the spool at its number from then on, or below the cursor.
+pub fn leave_lasts<D: Disk>(_disk: &D)
+    ensures lasts { LeaveLasts D.moment D.may_release }
+    ensures releases { LeaveReleases D.moment D.may_release }
 {}

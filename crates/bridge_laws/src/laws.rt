@@ -4,6 +4,7 @@ ghost use Rattle.bridge_parts.specs.Run.{disk_run, input_run, net_run, output_ru
 ghost use Rattle.bridge_laws.specs.CompleteCommands.{EachEndsWell};
 ghost use Rattle.bridge_laws.specs.ServeEnds.{ServeEndsWell};
 
+use conn_serve::runs_of_one;
 use edge_disk::Disk;
 use edge_io::{Net, Sink, Source};
 
@@ -34,7 +35,9 @@ pub fn each_command_ends_well<D: Disk, S: Source, K: Sink, N: Net>(
     ensures { EachEndsWell (run_of (disk_run D.tells D.moment _disk.now _disk_after.now)
         (input_run S.given S.left S.read_faults _input.now _input_after.now) (output_run K.taken K.write_faults _output.now _output_after.now)
         (net_run N.told _net.now _net_after.now) (map (λ (door : _). N.P.told door) _doors_after.now.items)) }
-{}
+{
+    runs_of_one()
+}
 
 /// `serve` ends well where no call failed and nothing stands in its way: only want of memory can take the place of that.
 ///

@@ -10,7 +10,7 @@ mod laws;
 mod order;
 
 pub use alone::each_command_leaves_alone;
-pub use durable::durable_lasts;
+pub use durable::{durable_lasts, leave_lasts};
 pub use laws::{each_command_ends_well, serve_ends_well};
 pub use order::{
     desk_opens_legal, each_command_keeps_order, empty_is_in_order, opening_keeps_order,

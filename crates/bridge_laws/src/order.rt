@@ -6,6 +6,7 @@ ghost use Rattle.bridge_laws.specs.InOrder.{DeskOpensLegal, EmptyIsInOrder, Open
 ghost use Rattle.bridge_laws.specs.KeepsOrder.{EachCommandKeepsOrder};
 ghost use Rattle.bridge_laws.specs.Lifetime.{OrderHolds, telling};
 
+use conn_serve::runs_of_one;
 use edge_disk::Disk;
 use edge_io::{Net, Sink, Source};
 
@@ -45,7 +46,9 @@ pub fn each_command_keeps_order<D: Disk, S: Source, K: Sink, N: Net>(
     ensures { EachCommandKeepsOrder (run_of (disk_run D.tells D.moment _disk.now _disk_after.now)
         (input_run S.given S.left S.read_faults _input.now _input_after.now) (output_run K.taken K.write_faults _output.now _output_after.now)
         (net_run N.told _net.now _net_after.now) (map (λ (door : _). N.P.told door) _doors_after.now.items)) }
-{}
+{
+    runs_of_one()
+}
 
 /// From a call of `format` that ended well on, a crash leaves no spool of the device that is out of order, where `bridge` alone writes
 /// to it: after any calls of `bridge`, one after another, and any crashes between them and within them. Where none of them is a
@@ -62,4 +65,6 @@ pub fn order_holds_from_format<D: Disk, S: Source, K: Sink, N: Net>(
 )
     ensures { OrderHolds D.moment (telling (disk_run D.tells D.moment) (input_run S.given S.left S.read_faults)
         (output_run K.taken K.write_faults) (net_run N.told) N.P.told) }
-{}
+{
+    runs_of_one()
+}

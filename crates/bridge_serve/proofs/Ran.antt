@@ -14,6 +14,7 @@ use Rattle.spool_log.specs.Memory.{end_of}
 use Rattle.spool_log.specs.Opening.{opened}
 use Rattle.spool_log.specs.State.{View, IsIn}
 use Rattle.desk_access.specs.Call.{failures_of}
+use Rattle.desk_access.specs.Journal.{failures_split, none_joined}
 use Rattle.desk_access.specs.Desk.{DeskState}
 use Rattle.spool_turns.specs.Passes.{Stands}
 use Rattle.serve_workers.specs.declared.worker.WorkerReport.{WorkerReport}
@@ -74,7 +75,7 @@ module _ (tells : Type 0) (old new : Moment) (talks : ℕ) (rules : List Rules) 
               let one = last_disk _ destination _ _ _ net net' last over.served.forwarded (of_look Note.DiskFault (λ e. cc) (λ e. cc) (λ e. cc) by) in
               let stands = last_of_all (Stands over.served.log) over.served.workers' over.served.forwarder' closes.pass in
               let most = own_failures over.served.forwarder'.number over.served.log in
-              omega (arith, closes.replays.cause, one, most, ap failures_of stands.1);
+              omega (arith, closes.replays.cause, one, most, ap failures_of stands.1, failures_split over.served.log, none_joined over.served.log closes.replays.alone);
         };
       }
 

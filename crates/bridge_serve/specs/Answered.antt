@@ -10,7 +10,7 @@ use Rattle.conn_serve.specs.declared.rules.Rules.{Rules}
 use Rattle.conn_serve.specs.Acked.{Acknowledges}
 use Rattle.conn_serve.specs.Durable.{AckedIsDurable, AnswersAreDurable, IsToldDurably}
 use Rattle.conn_serve.specs.Says.{PromisesNothing}
-use Rattle.conn_serve.specs.Tokens.{tokens_of}
+use Rattle.conn_serve.specs.Terms.{terms_of}
 use Rattle.serve_workers.specs.Served.{Served, IsServed}
 use Rattle.serve_workers.specs.Works.{first_conn}
 use Rattle.bridge_words.specs.declared.command.Server.{Server}
@@ -53,9 +53,9 @@ pub record IsDurable (tells : Type 0) (before now : Moment) (link : Linked) (byt
   pub calls_are : one.calls ≡ made ++ late
   pub nothing_late : All PromisesNothing late
   pub served : IsServed link.rules one
-  pub acked : tells → (numbers : List ℕ) → Acknowledges link.rules.proto text numbers → AckedIsDurable one.calls now numbers
+  pub acked : tells → (numbers : List ℕ) → Acknowledges link.rules.proto text numbers → AckedIsDurable link.rules.proto one.calls now numbers
   pub answers : tells
-      → AnswersAreDurable link.rules.proto (tokens_of link.rules) one.conn one.left one.bytes one.calls one.text one.talk served now
+      → AnswersAreDurable link.rules.proto (terms_of link.rules) one.conn one.left one.bytes one.calls one.text one.talk served now
       (IsToldDurably log caller now)
 
 -- A text may be written to a link of the worker of that number, which serves by these rules, to one who has sent these bytes, once all

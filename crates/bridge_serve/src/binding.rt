@@ -52,7 +52,7 @@ impl<P: Door + Drop> Posts<P> {
     }
 }
 
-// The rules by which the server serves connections of that protocol: its words' tokens, whatever the protocol.
+// The rules by which the server serves connections of that protocol: its words' tokens and `--group`, whatever the protocol.
 fn rules_of(server: &Server, proto: Proto) -> Rules
     ensures { result ≡ rules_of server.now proto }
 {
@@ -60,6 +60,7 @@ fn rules_of(server: &Server, proto: Proto) -> Rules
         proto,
         token: server.token,
         ack_token: server.ack_token,
+        group: server.group,
     }
 }
 

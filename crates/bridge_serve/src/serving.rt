@@ -1,6 +1,7 @@
 //! The command `serve`.
 ghost use Rattle.std.specs.Prelude.{◌≡◌, ◌≢◌, ◌⊎◌, ℕ, ◌+◌, ◌-◌, ◌^◌, ◌<◌, ◌≤◌, List, Some, false, map, slice_get, IfSome, vec_len};
 ghost use Rattle.forward_core.specs.Exchanged.{HasExchangedAt};
+ghost use Rattle.spool_answers.specs.Leave.{LetsKeep};
 ghost use Rattle.spool_log.specs.Memory.{end_of};
 ghost use Rattle.spool_log.specs.State.{view};
 ghost use Rattle.notes.specs.declared.note.Note.TheVariants.{Usage, WrongLength, WriteFault};
@@ -198,6 +199,7 @@ where
     requires dials { MayDial server N.may_dial }
     requires releases { MayRelease D.tells (λ (d : D). D.moment d) disk server
         (HasExchangedAt N.L.same N.L.dialed N.L.given N.L.taken) D.may_release }
+    requires tears { LetsKeep D.tells D.moment D.may_tear D.may_release }
     requires prints { (sink : K) (text : List ℕ) → K.permits sink text }
 
     ensures known { (result.note ≢ Usage) × ((have want : ℕ) → result.note ≢ WrongLength have want) }

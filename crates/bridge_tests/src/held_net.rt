@@ -208,6 +208,8 @@ impl<'a> Net for HeldNet<'a> {
         let _ = self.sent.extend_from_slice(&link.written);
     }
 
+    fn wait_briefly(&mut self) {}
+
     ghost dialed_is_free = { λ _ _. tt };
 
     ghost pauses_keep = { λ x y same. Prim.cc };

@@ -207,30 +207,29 @@ fn check<R: Abort + Threads + Wait + Sync>(
     assert!(rt; are_served(&doors, answers));
 }
 
-/// Two talks meet, three do, and one meets what forwards its event.
+/// Two talks meet, three do, and one meets what forwards its event; where events are stored one by one, and together.
 pub(crate) fn talks_meet<R: Abort + Threads + Wait + Sync>(rt: &R, alloc: Global) {
-    check(
-        rt,
-        alloc,
-        PAIR,
+    for words in [
         "serve --relp r --workers 2 --talks 1",
-        "2 talks, 2 taken, 0 confirmed, 2 left\n",
-        &[(OPENED, STORED), (OPENED, STORED)],
-    );
-    check(
-        rt,
-        alloc,
-        THREE,
+        "serve --relp r --workers 2 --talks 1 --group",
+    ] {
+        let line = "2 talks, 2 taken, 0 confirmed, 2 left\n";
+        let answers: &[(&[u8], &[u8])] = &[(OPENED, STORED), (OPENED, STORED)];
+        check(rt, alloc, PAIR, words, line, answers);
+    }
+    for words in [
         "serve --relp r --lumberjack l --hec h --workers 1 --talks 1 --token 11111111-2222-3333-4444-555555555555",
-        "3 talks, 5 taken, 0 confirmed, 5 left\n",
-        &[(OPENED, STORED), (ACK, ACK), (SUCCESS, SUCCESS)],
-    );
-    check(
-        rt,
-        alloc,
-        ONWARD,
+        "serve --relp r --lumberjack l --hec h --workers 1 --talks 1 --token 11111111-2222-3333-4444-555555555555 --group",
+    ] {
+        let line = "3 talks, 5 taken, 0 confirmed, 5 left\n";
+        let answers: &[(&[u8], &[u8])] = &[(OPENED, STORED), (ACK, ACK), (SUCCESS, SUCCESS)];
+        check(rt, alloc, THREE, words, line, answers);
+    }
+    for words in [
         "serve --relp r --workers 1 --talks 1 --forward relp --to d",
-        "1 talks, 1 taken, 1 confirmed, 0 left\n",
-        &[(OPENED, STORED)],
-    );
+        "serve --relp r --workers 1 --talks 1 --forward relp --to d --group",
+    ] {
+        let line = "1 talks, 1 taken, 1 confirmed, 0 left\n";
+        check(rt, alloc, ONWARD, words, line, &[(OPENED, STORED)]);
+    }
 }

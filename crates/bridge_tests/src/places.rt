@@ -69,6 +69,11 @@ pub(crate) const EVENTS: u64 = 7;
 pub(crate) const WORDS: &str =
     "serve --relp r --lumberjack l --hec h --workers 1 --talks 1 --token 11111111-2222-3333-4444-555555555555 --forward relp --to d";
 
+/// The same of a run that stores together what came together.
+pub(crate) const GROUPED: &str =
+    "serve --relp r --lumberjack l --hec h --workers 1 --talks 1 --token 11111111-2222-3333-4444-555555555555 \
+    --group --forward relp --to d";
+
 /// What the peer at `d` replies.
 pub(crate) const REPLIES: &[u8] =
     b"1 rsp 6 200 OK\n2 rsp 6 200 OK\n3 rsp 6 200 OK\n4 rsp 6 200 OK\n5 rsp 6 200 OK\n6 rsp 6 200 OK\n7 rsp 6 200 OK\n8 rsp 6 200 OK\n9 rsp 6 200 OK\n";

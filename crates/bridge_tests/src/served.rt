@@ -2,7 +2,7 @@
 
 use crate::failing::{DISK, Failing, NET, OUTPUT, PEER_READ, PEER_WRITE, READ, calls_of, net};
 use crate::parts::MEMORY;
-use crate::places::{EVENTS, WORDS};
+use crate::places::{EVENTS, GROUPED, WORDS};
 use crate::play::{Left, formatted, made, plain};
 use crate::talks::{are_kept, talks_end};
 use edge_disk::Disk;
@@ -76,13 +76,18 @@ fn comes_next(failing: Failing, left: &mut Left) -> bool {
     false
 }
 
-// A run in which that call fails.
-fn run<R: Abort + Threads + Wait + Sync>(rt: &R, alloc: Global, failing: Failing) -> Served {
+// A run with these words in which that call fails.
+fn run<R: Abort + Threads + Wait + Sync>(
+    rt: &R,
+    alloc: Global,
+    words: &str,
+    failing: Failing,
+) -> Served {
     let device = formatted(rt, alloc);
     let mut left = made(
         rt,
         alloc,
-        WORDS,
+        words,
         MemDisk::of(device, calls_of(rt, alloc, failing, DISK)),
         MemSource::of(Vec::new(alloc), 1, Vec::new(alloc)),
         MemSink::of(alloc, calls_of(rt, alloc, failing, OUTPUT)),
@@ -198,33 +203,35 @@ fn is_right(rt: &impl Abort, alloc: Global, object: usize, number: u64, run: &Se
 
 // How many calls each run makes of each object, at least, and at most; in the order of their numbers. Of the peer these are the one
 // read of a session, and the writes of its open, its events and its close; of the net three binds, and a dial for each session, which
-// confirms an event at least; of the disk those of an opening and of four groups, and at most those of seven sessions besides.
-const CALLS: [(&str, u64, u64); 14] = [
-    ("accept at r", 1, 1),
-    ("accept at l", 1, 1),
-    ("accept at h", 1, 1),
-    ("read at r", 2, 2),
-    ("read at l", 2, 2),
-    ("read at h", 3, 3),
-    ("write at r", 3, 3),
-    ("write at l", 1, 1),
-    ("write at h", 1, 1),
-    ("read of the peer", 1, 1),
-    ("write to the peer", 3, 9),
-    ("net", 4, 10),
-    ("output", 1, 1),
-    ("disk", 30, 160),
+// confirms an event at least; of the disk those of an opening and of four groups, and at most those of seven sessions besides. Last, how
+// many fewer they are with `--group`: one read brings both events of RELP, which are one group then, and their answers are one write.
+const CALLS: [(&str, u64, u64, u64); 14] = [
+    ("accept at r", 1, 1, 0),
+    ("accept at l", 1, 1, 0),
+    ("accept at h", 1, 1, 0),
+    ("read at r", 2, 2, 0),
+    ("read at l", 2, 2, 0),
+    ("read at h", 3, 3, 0),
+    ("write at r", 3, 3, 1),
+    ("write at l", 1, 1, 0),
+    ("write at h", 1, 1, 0),
+    ("read of the peer", 1, 1, 0),
+    ("write to the peer", 3, 9, 0),
+    ("net", 4, 10, 0),
+    ("output", 1, 1, 0),
+    ("disk", 30, 160, 4),
 ];
 
 // Whether a run in which that call fails left what it has to, and made the call or not as the counts say.
 fn is_right_failing<R: Abort + Threads + Wait + Sync>(
     rt: &R,
     alloc: Global,
+    words: &str,
     (object, number): (usize, u64),
     least: u64,
     most: u64,
 ) -> bool {
-    let run = run(rt, alloc, Some((object, number)));
+    let run = run(rt, alloc, words, Some((object, number)));
     let is_counted = if is_reached(object, &run) {
         number < most
     } else {
@@ -233,13 +240,26 @@ fn is_right_failing<R: Abort + Threads + Wait + Sync>(
     is_right(rt, alloc, object, number, &run) && is_counted
 }
 
-/// One call after another of each object fails, until one is none of the run's.
-pub(crate) fn serve_places<R: Abort + Threads + Wait + Sync>(rt: &R, alloc: Global) {
-    assert!(rt; is_whole(&run(rt, alloc, None)));
-    for (object, (name, least, most)) in CALLS.iter().enumerate() {
-        for number in 0..=*most {
-            let is_right = is_right_failing(rt, alloc, (object, number), *least, *most);
-            assert!(rt; is_right, "{name} {number}");
+// One call after another of each object fails in runs with these words, until one is none of the run's.
+fn serve_by<R: Abort + Threads + Wait + Sync>(
+    rt: &R,
+    alloc: Global,
+    words: &str,
+    is_grouped: bool,
+) {
+    assert!(rt; is_whole(&run(rt, alloc, words, None)));
+    for (object, (name, least, most, fewer)) in CALLS.iter().enumerate() {
+        let fewer = if is_grouped { *fewer } else { 0 };
+        let (least, most) = (least.saturating_sub(fewer), most.saturating_sub(fewer));
+        for number in 0..=most {
+            let is_right = is_right_failing(rt, alloc, words, (object, number), least, most);
+            assert!(rt; is_right, "{name} {number} of {words}");
         }
     }
+}
+
+/// One call after another of each object fails, until one is none of the run's; where events are stored one by one, and together.
+pub(crate) fn serve_places<R: Abort + Threads + Wait + Sync>(rt: &R, alloc: Global) {
+    serve_by(rt, alloc, WORDS, false);
+    serve_by(rt, alloc, GROUPED, true);
 }

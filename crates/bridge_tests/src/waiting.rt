@@ -192,6 +192,7 @@ fn serve(
         proto,
         token: Some(0x1111_1111_2222_3333_4444_5555_5555_5555),
         ack_token: Some(0xaaaa_aaaa_2222_3333_4444_5555_5555_5555),
+        group: false,
     };
     let spool = spool(rt, alloc);
     let ids = Ids::new(alloc, spool.run(), 0);

@@ -1,6 +1,6 @@
 -- Words are one command at most.
 use Rattle.std.proofs.Common.{◌≡◌, ◌∙◌, ℕ, List, refl, sym, ap, subst, codes}
-use Rattle.std.specs.Prelude.{false, true, Option, Some, Result, IfOk}
+use Rattle.std.specs.Prelude.{Bool, false, true, Option, Some, Result, IfOk}
 use Rattle.std.specs.Option.{option_map_or}
 use Rattle.std.specs.Str.{bytes_eq}
 use Rattle.std.proofs.lemmas.Slice.Eq.{bytes_eq-Decides}
@@ -48,11 +48,11 @@ pub same_rows : (a b : Text) (x y : List Row) → ◌≡◌ {A = Option (Text ×
 same_rows a b x y is = ap (rows_or x) is
 
 -- a server is what its fields are
-server_of : (relp lumberjack hec : Option Text) (workers talks : ℕ) (token ack_token : Option ℕ) (forward : Option Relay) → Server
-server_of relp lumberjack hec workers talks token ack_token forward =
-    record { relp = relp; lumberjack = lumberjack; hec = hec; workers = workers; talks = talks; token = token; ack_token = ack_token; forward = forward }
+server_of : (relp lumberjack hec : Option Text) (workers talks : ℕ) (token ack_token : Option ℕ) (group : Bool) (forward : Option Relay) → Server
+server_of relp lumberjack hec workers talks token ack_token group forward =
+    record { relp = relp; lumberjack = lumberjack; hec = hec; workers = workers; talks = talks; token = token; ack_token = ack_token; group = group; forward = forward }
 
-server_is : (s : Server) → server_of s.relp s.lumberjack s.hec s.workers s.talks s.token s.ack_token s.forward ≡ s
+server_is : (s : Server) → server_of s.relp s.lumberjack s.hec s.workers s.talks s.token s.ack_token s.group s.forward ≡ s
 unfolding server_of
 server_is s = refl
 
@@ -63,6 +63,7 @@ one_server s t rows x y =
     let hec = x.doors_are.hec_is in let hec' = y.doors_are.hec_is in
     let workers = x.workers_is in let workers' = y.workers_is in let talks = x.talks_is in let talks' = y.talks_is in
     let token = x.token_is in let token' = y.token_is in let ack_token = x.ack_token_is in let ack_token' = y.ack_token_is in
+    let group = x.group_is in let group' = y.group_is in
     let forward = x.forward_is in let forward' = y.forward_is in
     cc (server_is s, server_is t)
 

@@ -1,6 +1,6 @@
 -- How options may be spelt, as the words of clap have it: computed for words of which the values are any.
-use Rattle.std.proofs.Common.{◌≡◌, ℕ, List, [], ◌∷◌, ◌++◌, refl, ap, codes}
-use Rattle.std.specs.Prelude.{Option, Some, option_map, Result}
+use Rattle.std.proofs.Common.{◌≡◌, ℕ, List, [], ◌∷◌, ◌++◌, refl, ap, inl, codes, arith}
+use Rattle.std.specs.Prelude.{Bool, true, false, Option, None, Some, option_map, Result, Ok}
 use Rattle.std.specs.Option.{ok_or, option_map_or}
 use Rattle.clap.specs.Walk.{Row, Text}
 use Rattle.clap.specs.Kinds.{Kinds}
@@ -8,13 +8,13 @@ use Rattle.clap.specs.declared.error.kind.ErrorKind.{ErrorKind}
 use Rattle.clap.specs.declared.error.kind.ErrorKind.TheVariants as kind
 use Rattle.clap.proofs.OnLiterals.{clap_on_literals}
 use Rattle.edge_io.specs.declared.proto.Proto.TheVariants.{Hec}
-use Rattle.bridge_words.specs.declared.command.Command.TheVariants.{Replay, Drain}
+use Rattle.bridge_words.specs.declared.command.Command.TheVariants.{Replay, Drain, Serve}
 use Rattle.bridge_words.specs.declared.command.Receiver.TheVariants.{Relp as ToRelp}
 use Rattle.bridge_words.specs.declared.fault.WordsFault.{WordsFault}
 use Rattle.bridge_words.specs.declared.fault.WordsFault.TheVariants as wrong
 use Rattle.bridge_words.specs.Grammar.{refusals, named}
-use Rattle.bridge_words.specs.Values.{value_of, guid}
-use Rattle.bridge_words.specs.Words.{IsCommand, IsNoCommand}
+use Rattle.bridge_words.specs.Values.{value_of, guid, relp_in, lumberjack_in, hec_in, workers_in, talks_in, token_in, ack_token_in, group_in}
+use Rattle.bridge_words.specs.Words.{IsCommand, IsNoCommand, IsServe, relp_server, relay_in}
 
 -- what was found of the words
 abbrev rows_of_words : List Text → List Row
@@ -78,3 +78,70 @@ ended t = refused _ kind.UnknownArgument [] refl
 pub before : (t : Text) → IsNoCommand ((codes "--token=" ++ t) ∷ codes "replay" ∷ codes "hec" ∷ [])
 unfolding refusals clap_on_literals
 before t = refused _ kind.UnknownArgument [] refl
+
+-- ---- `--group`
+
+abbrev relp_words : Text → Text
+relp_words place = codes "--relp=" ++ place
+
+asks_relp : (x : ℕ) (place : Text) (group : Bool) (rows : List Row) → relp_in rows ≡ Ok (Some (x ∷ place)) → lumberjack_in rows ≡ Ok None → hec_in rows ≡ Ok None
+    → workers_in rows ≡ Ok 4 → talks_in rows ≡ Ok 67108864 → token_in rows ≡ Ok None → ack_token_in rows ≡ Ok None → group_in rows ≡ group → relay_in rows ≡ Ok None
+    → IsServe (relp_server (x ∷ place) group) rows
+asks_relp x place group rows relp lumberjack hec workers talks token ack_token grouped relay = record {
+  doors_are = record { relp_is = relp; lumberjack_is = lumberjack; hec_is = hec; some_door = inl refl };
+  workers_is = workers;
+  talks_is = talks;
+  token_is = token;
+  ack_token_is = ack_token;
+  group_is = grouped;
+  forward_is = relay;
+  some_worker = omega arith;
+  few_workers = omega arith;
+  some_talk = omega arith;
+  few_talks = omega arith;
+  few_polls = tt;
+}
+
+abbrev without_words : Text → List Text
+without_words place = codes "serve" ∷ relp_words place ∷ []
+
+pub without : (x : ℕ) (place : Text) → IsCommand (Serve (relp_server (x ∷ place) false)) (without_words (x ∷ place))
+unfolding refusals named value_of clap_on_literals
+without x place = record {
+  rows = rows_of_words (without_words (x ∷ place));
+  taken = refl;
+  found = refl;
+  asks = asks_relp x place false (rows_of_words (without_words (x ∷ place))) refl refl refl refl refl refl refl refl refl;
+}
+
+abbrev before_words : Text → List Text
+before_words place = codes "serve" ∷ codes "--group" ∷ relp_words place ∷ []
+
+pub grouped_before : (x : ℕ) (place : Text) → IsCommand (Serve (relp_server (x ∷ place) true)) (before_words (x ∷ place))
+unfolding refusals named value_of clap_on_literals
+grouped_before x place = record {
+  rows = rows_of_words (before_words (x ∷ place));
+  taken = refl;
+  found = refl;
+  asks = asks_relp x place true (rows_of_words (before_words (x ∷ place))) refl refl refl refl refl refl refl refl refl;
+}
+
+abbrev behind_words : Text → List Text
+behind_words place = codes "serve" ∷ relp_words place ∷ codes "--group" ∷ []
+
+pub grouped_behind : (x : ℕ) (place : Text) → IsCommand (Serve (relp_server (x ∷ place) true)) (behind_words (x ∷ place))
+unfolding refusals named value_of clap_on_literals
+grouped_behind x place = record {
+  rows = rows_of_words (behind_words (x ∷ place));
+  taken = refl;
+  found = refl;
+  asks = asks_relp x place true (rows_of_words (behind_words (x ∷ place))) refl refl refl refl refl refl refl refl refl;
+}
+
+pub grouped_twice : (place : Text) → IsNoCommand (codes "serve" ∷ codes "--group" ∷ codes "--group" ∷ relp_words place ∷ [])
+unfolding refusals clap_on_literals
+grouped_twice place = refused _ kind.ArgumentConflict [] refl
+
+pub grouped_by : (place value : Text) → IsNoCommand (codes "serve" ∷ relp_words place ∷ (codes "--group=" ++ value) ∷ [])
+unfolding refusals clap_on_literals
+grouped_by place value = refused _ kind.TooManyValues [] refl

@@ -1,6 +1,7 @@
 -- The words of bridge as they are told to clap, whose definitions say which words these are: options in any order and each
 -- once, `--name value` or `--name=value`, and `--`, after which there is no option.
 use Rattle.std.specs.Prelude.{◌≡◌, Bool, List, Option, Some, codes, true, false}
+use Rattle.clap.specs.declared.builder.action.ArgAction.TheVariants.{SetTrue}
 use Rattle.clap.specs.declared.builder.command.Command.{Command}
 use Rattle.clap.specs.declared.builder.command.Command.TheViews.{out-Command}
 use Rattle.clap.specs.Walk.{Row, Text}
@@ -8,7 +9,7 @@ use Rattle.clap.specs.Simple.{App, app_of, new_app, new_rule, subcommand_of, wit
 use Rattle.clap.specs.Kinds.{Kinds}
 use Rattle.clap.specs.Faults.{fault_of}
 
--- a word that must stand or may, and an option with a value
+-- a word that must stand or may, an option with a value, and one without
 abbrev pub word : Bool → Text → App → App
 word is_needed name app = with_rule app (record (new_rule name) { required = is_needed })
 
@@ -17,6 +18,9 @@ needs = word true
 
 abbrev pub option : Text → App → App
 option name app = with_rule app (record (new_rule name) { long = Some name })
+
+abbrev pub flag : Text → App → App
+flag name app = with_rule app (record (new_rule name) { long = Some name; action = Some SetTrue })
 
 -- `format SLOTS SIZE`
 abbrev pub format_app : App
@@ -40,15 +44,15 @@ drain_app =
 abbrev pub load_app : App
 load_app = needs (codes "count") (needs (codes "number") (needs (codes "proto") (new_app (codes "load"))))
 
--- `serve [--relp P] [--lumberjack P] [--hec P] [--workers N] [--talks N] [--token G] [--ack-token G]
+-- `serve [--relp P] [--lumberjack P] [--hec P] [--workers N] [--talks N] [--token G] [--ack-token G] [--group]
 --     [--forward PROTO] [--to P] [--out-token G] [--out-channel G] [--polls N]`
 abbrev pub serve_app : App
 serve_app =
     option (codes "polls") (option (codes "out-channel") (option (codes "out-token")
-    (option (codes "to") (option (codes "forward")
+    (option (codes "to") (option (codes "forward") (flag (codes "group")
     (option (codes "ack-token") (option (codes "token")
     (option (codes "talks") (option (codes "workers")
-    (option (codes "hec") (option (codes "lumberjack") (option (codes "relp") (new_app (codes "serve")))))))))))))
+    (option (codes "hec") (option (codes "lumberjack") (option (codes "relp") (new_app (codes "serve"))))))))))))))
 
 -- one command is named, no word is `help`, and there is no option but the commands' own
 abbrev pub top_app : App

@@ -1,5 +1,5 @@
 -- The words of bridge's commands: how each is read, and what is wrong where it can't be.
-use Rattle.std.specs.Prelude.{ℕ, ◌&&◌, Bool, List, [], ◌∷◌, length, nat_lt, nat_le, Option, None, Some, option_map, option_and_then, Result, Ok, Err, codes, if◌then◌else◌}
+use Rattle.std.specs.Prelude.{ℕ, ◌&&◌, Bool, false, List, [], ◌∷◌, length, nat_lt, nat_le, Option, None, Some, option_map, option_and_then, Result, Ok, Err, codes, if◌then◌else◌}
 use Rattle.std.specs.Option.{ok_or}
 use Rattle.std.specs.Int.{from_be_bytes, w128}
 use Rattle.std.specs.List.{list_all}
@@ -79,6 +79,11 @@ abbrev pub is_else : {A : Type 0} → A → WordsFault → (Text → Option A) �
 is_else default fault read None = Ok default
 is_else default fault read (Some text) = ok_or (read text) fault
 
+-- clap finds the text `true` for an option without a value that is given, and `false` for one that isn't
+abbrev pub is_given : Option Text → Bool
+is_given None = false
+is_given (Some text) = bytes_eq text (codes "true")
+
 -- ---- the words
 
 -- SLOTS and SIZE
@@ -147,6 +152,10 @@ workers_in rows = is_else 4 wrong.Workers (number_within 1 16) (value_of (codes 
 
 abbrev pub talks_in : List Row → Result ℕ WordsFault
 talks_in rows = is_else 67108864 wrong.Talks (number_within 1 67108864) (value_of (codes "talks") rows)
+
+-- whether `--group` is given
+abbrev pub group_in : List Row → Bool
+group_in rows = is_given (value_of (codes "group") rows)
 
 -- the protocol of `--forward`
 abbrev pub forward_in : List Row → Result (Option Proto) WordsFault

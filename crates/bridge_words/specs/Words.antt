@@ -1,5 +1,5 @@
 -- Which words are which command, and which device they want.
-use Rattle.std.specs.Prelude.{◌≡◌, ◌⊎◌, ℕ, ◌≤◌, ◌^◌, List, [], Option, Some, IsSome, IfSome, Result, Ok, Err, codes}
+use Rattle.std.specs.Prelude.{◌≡◌, ◌⊎◌, Bool, ℕ, ◌≤◌, ◌^◌, List, [], Option, None, Some, IsSome, IfSome, Result, Ok, Err, codes}
 use Rattle.clap.specs.Walk.{Row, Text}
 use Rattle.edge_io.specs.declared.proto.Proto.{Proto}
 use Rattle.spool_state.specs.Image.{slot_at}
@@ -14,7 +14,7 @@ use Rattle.bridge_words.specs.declared.need.Need.{Need}
 use Rattle.bridge_words.specs.declared.need.Need.TheVariants.{NoCommand, Nothing, Existing, Make}
 use Rattle.bridge_words.specs.Grammar.{refusals, named}
 use Rattle.bridge_words.specs.Values.{slots_in, size_in, proto_in, place_in, number_in, count_in, form_in, token_in, ack_token_in, out_token_in, out_channel_in, polls_in, receiver_of}
-use Rattle.bridge_words.specs.Values.{relp_in, lumberjack_in, hec_in, workers_in, talks_in, forward_in, to_in, relay_of}
+use Rattle.bridge_words.specs.Values.{relp_in, lumberjack_in, hec_in, workers_in, talks_in, group_in, forward_in, to_in, relay_of}
 
 -- ---- the table
 
@@ -95,17 +95,18 @@ pub record AreDoors (relp lumberjack hec : Option Text) (rows : List Row) : Type
   pub some_door : HasDoor relp lumberjack hec
 
 -- how a server works, and the tokens of the HTTP Event Collector
-pub record IsManner (workers talks : ℕ) (token ack_token : Option ℕ) (rows : List Row) : Type 0 where
+pub record IsManner (workers talks : ℕ) (token ack_token : Option ℕ) (group : Bool) (rows : List Row) : Type 0 where
   pub workers_is : workers_in rows ≡ Ok workers
   pub talks_is : talks_in rows ≡ Ok talks
   pub token_is : token_in rows ≡ Ok token
   pub ack_token_is : ack_token_in rows ≡ Ok ack_token
+  pub group_is : group_in rows ≡ group
   pub some_worker : 1 ≤ workers
   pub few_workers : workers ≤ 16
   pub some_talk : 1 ≤ talks
   pub few_talks : talks ≤ 2 ^ 26
 
--- `serve [--relp P] [--lumberjack P] [--hec P] [--workers N] [--talks N] [--token G] [--ack-token G]
+-- `serve [--relp P] [--lumberjack P] [--hec P] [--workers N] [--talks N] [--token G] [--ack-token G] [--group]
 --     [--forward PROTO] [--to P] [--out-token G] [--out-channel G] [--polls N]`
 pub record IsServe (server : Server) (rows : List Row) : Type 0 where
   pub doors_are : AreDoors server.relp server.lumberjack server.hec rows
@@ -113,12 +114,18 @@ pub record IsServe (server : Server) (rows : List Row) : Type 0 where
   pub talks_is : talks_in rows ≡ Ok server.talks
   pub token_is : token_in rows ≡ Ok server.token
   pub ack_token_is : ack_token_in rows ≡ Ok server.ack_token
+  pub group_is : group_in rows ≡ server.group
   pub forward_is : relay_in rows ≡ Ok server.forward
   pub some_worker : 1 ≤ server.workers
   pub few_workers : server.workers ≤ 16
   pub some_talk : 1 ≤ server.talks
   pub few_talks : server.talks ≤ 2 ^ 26
   pub few_polls : HasRelayPolls server.forward
+
+-- a server of RELP at this place, with nothing else said but whether events that came together are stored together
+abbrev pub relp_server : Text → Bool → Server
+relp_server place group =
+    record { relp = Some place; lumberjack = None; hec = None; workers = 4; talks = 67108864; token = None; ack_token = None; group = group; forward = None }
 
 -- what was found of the words asks for this
 abbrev pub IsCommandBy : Command → List Row → Type 0

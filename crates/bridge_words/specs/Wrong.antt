@@ -19,6 +19,7 @@ abbrev pub fault_for : ErrorKind → WordsFault
 fault_for kind.MissingSubcommand = fault.NoCommand
 fault_for kind.MissingRequiredArgument = fault.MissingWord
 fault_for kind.InvalidValue = fault.MissingValue
+fault_for kind.TooManyValues = fault.ExtraValue
 fault_for kind.ArgumentConflict = fault.GivenTwice
 fault_for _ = fault.UnknownWord
 
@@ -81,6 +82,7 @@ fault_text fault.NoCommand = codes "no command is named"
 fault_text fault.UnknownWord = codes "unknown word or option"
 fault_text fault.MissingWord = codes "a word is missing"
 fault_text fault.MissingValue = codes "an option has no value"
+fault_text fault.ExtraValue = codes "an option takes no value"
 fault_text fault.GivenTwice = codes "an option is given twice"
 fault_text fault.Slots = codes "SLOTS: 1 to 1024"
 fault_text fault.Size = codes "SIZE: 4096 to 1073741824"

@@ -63,6 +63,8 @@ pub struct Server {
     pub token: Option<u128>,
     /// The token of the HTTP Event Collector that uses acks.
     pub ack_token: Option<u128>,
+    /// Whether events that came together are stored together: one pair of syncs for many of them.
+    pub group: bool,
     /// Where what was stored is forwarded to, if it is.
     pub forward: Option<Relay>,
 }
@@ -115,15 +117,15 @@ impl Command {
     ///   needs the token and the channel. Without `--polls` it is 60;
     /// - `load PROTO NUMBER COUNT`;
     /// - `serve [--relp PLACE] [--lumberjack PLACE] [--hec PLACE] [--workers N] [--talks N] [--token GUID] [--ack-token GUID]
-    ///   [--forward PROTO] [--to PLACE] [--out-token GUID] [--out-channel GUID] [--polls N]`, with one of the first three
-    ///   places at least. Without `--workers` it is 4, without `--talks` 67,108,864, and without `--polls` 60. `--forward`
-    ///   and `--to` stand together, and `--forward hec` needs the token and the channel that go out.
+    ///   [--group] [--forward PROTO] [--to PLACE] [--out-token GUID] [--out-channel GUID] [--polls N]`, with one of the first
+    ///   three places at least. Without `--workers` it is 4, without `--talks` 67,108,864, and without `--polls` 60.
+    ///   `--forward` and `--to` stand together, and `--forward hec` needs the token and the channel that go out.
     ///
     /// A place is any text that isn't empty.
     ///
-    /// Options stand in any order after the name, each once at most, as `--name value` or as `--name=value`. A word of two
-    /// bytes or more that begins with `-` is an option, and no value, unless it stands after `--`. `--` may stand once
-    /// after the name, and no option stands after it.
+    /// Options stand in any order after the name, each once at most, as `--name value` or as `--name=value`. `--group` has no
+    /// value. A word of two bytes or more that begins with `-` is an option, and no value, unless it stands after `--`. `--`
+    /// may stand once after the name, and no option stands after it.
     ///
     /// The error says that no memory was found to read the words, or for the place.
     pub fn of(alloc: Global, words: &[String]) -> Result<Option<Command>, AllocError>

@@ -18,6 +18,8 @@ pub enum WordsFault {
     MissingWord,
     /// An option has no value.
     MissingValue,
+    /// An option that takes no value has one.
+    ExtraValue,
     /// An option is given twice.
     GivenTwice,
     /// SLOTS isn't 1 to 1,024.
@@ -70,6 +72,7 @@ impl WordsFault {
             WordsFault::UnknownWord => "unknown word or option",
             WordsFault::MissingWord => "a word is missing",
             WordsFault::MissingValue => "an option has no value",
+            WordsFault::ExtraValue => "an option takes no value",
             WordsFault::GivenTwice => "an option is given twice",
             WordsFault::Slots => "SLOTS: 1 to 1024",
             WordsFault::Size => "SIZE: 4096 to 1073741824",

@@ -4,9 +4,9 @@ ghost use Rattle.std.specs.Prelude.{◌≡◌, IfOk, MatchOption, None, Some, ma
 ghost use Rattle.clap.specs.Words.{FailsBy, subcommand_rows_of};
 ghost use Rattle.bridge_words.specs.Values.{rows_in};
 ghost use Rattle.clap.specs.Simple.{App, new_app, with_subcommand};
-ghost use Rattle.bridge_words.specs.Grammar.{IsApp, word, option, top_app, format_app, list_app, replay_app, drain_app, load_app, serve_app, bridge_app, refusals, named};
+ghost use Rattle.bridge_words.specs.Grammar.{IsApp, word, option, flag, top_app, format_app, list_app, replay_app, drain_app, load_app, serve_app, bridge_app, refusals, named};
 
-use clap::{Arg, ArgMatches, Command, Error};
+use clap::{Arg, ArgAction, ArgMatches, Command, Error};
 use std::alloc::{AllocError, Global};
 
 // Each of these functions passes on the want of memory that an earlier one met, so that a command is built by calls in turn.
@@ -43,6 +43,19 @@ fn with_option<'a>(
     let command = command?;
     let option = Arg::new(alloc, name).long(name);
     command.arg(option)
+}
+
+// The command with one option more, which has no value.
+fn with_flag<'a>(
+    alloc: Global,
+    command: Result<Command<'a>, AllocError>,
+    name: &'a str,
+) -> Result<Command<'a>, AllocError>
+    ensures { (app : App) → IfOk command.entry (IsApp app) → IfOk result (IsApp (flag name.now app)) }
+{
+    let command = command?;
+    let flag = Arg::new(alloc, name).long(name).action(ArgAction::SetTrue);
+    command.arg(flag)
 }
 
 // The command line with one command more.
@@ -106,7 +119,7 @@ fn load_words<'a>(alloc: Global) -> Result<Command<'a>, AllocError>
     with_word(alloc, load, "count", true)
 }
 
-// `serve [--relp P] [--lumberjack P] [--hec P] [--workers N] [--talks N] [--token G] [--ack-token G]
+// `serve [--relp P] [--lumberjack P] [--hec P] [--workers N] [--talks N] [--token G] [--ack-token G] [--group]
 // [--forward PROTO] [--to P] [--out-token G] [--out-channel G] [--polls N]`
 fn serve_words<'a>(alloc: Global) -> Result<Command<'a>, AllocError>
     ensures { IfOk result (IsApp serve_app) }
@@ -119,6 +132,7 @@ fn serve_words<'a>(alloc: Global) -> Result<Command<'a>, AllocError>
     let serve = with_option(alloc, serve, "talks");
     let serve = with_option(alloc, serve, "token");
     let serve = with_option(alloc, serve, "ack-token");
+    let serve = with_flag(alloc, serve, "group");
     let serve = with_option(alloc, serve, "forward");
     let serve = with_option(alloc, serve, "to");
     let serve = with_option(alloc, serve, "out-token");

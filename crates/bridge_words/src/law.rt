@@ -1,12 +1,12 @@
 //! What holds of all words.
-ghost use Rattle.std.specs.Prelude.{◌≡◌, ℕ, List, [], ◌∷◌, ◌++◌, Some, None, codes};
+ghost use Rattle.std.specs.Prelude.{◌≡◌, ℕ, List, [], ◌∷◌, ◌++◌, Some, None, true, false, codes};
 ghost use Rattle.clap.specs.Walk.{Text};
 ghost use Rattle.edge_io.specs.declared.proto.Proto.TheVariants.{Hec};
 ghost use Rattle.bridge_words.specs.declared.command.Command.{Command};
-ghost use Rattle.bridge_words.specs.declared.command.Command.TheVariants.{Replay, Drain};
+ghost use Rattle.bridge_words.specs.declared.command.Command.TheVariants.{Replay, Drain, Serve};
 ghost use Rattle.bridge_words.specs.declared.command.Receiver.TheVariants.{Relp as ToRelp};
 ghost use Rattle.bridge_words.specs.Values.{guid};
-ghost use Rattle.bridge_words.specs.Words.{IsCommand, IsNoCommand};
+ghost use Rattle.bridge_words.specs.Words.{IsCommand, IsNoCommand, relp_server};
 
 /// Words are one command at most.
 pub fn one_command()
@@ -26,4 +26,17 @@ pub fn spelling()
     ensures ended { (t : Text) → IsNoCommand (codes "replay" ∷ codes "hec" ∷ codes "--" ∷ (codes "--token=" ++ t) ∷ []) }
     ensures before { (t : Text) → IsNoCommand ((codes "--token=" ++ t) ∷ codes "replay" ∷ codes "hec" ∷ []) }
     ensures placed { (x : ℕ) (more : Text) → IsCommand (Drain ToRelp (Some (x ∷ more))) (codes "drain" ∷ codes "relp" ∷ codes "--" ∷ (x ∷ more) ∷ []) }
+{}
+
+/// How `--group` is spelt, at a `serve` of RELP at any place: it is there or not, before the place or behind it, once at most, and it
+/// takes no value.
+pub fn grouping()
+    ensures without { (x : ℕ) (place : Text) → IsCommand (Serve (relp_server (x ∷ place) false))
+        (codes "serve" ∷ (codes "--relp=" ++ x ∷ place) ∷ []) }
+    ensures before { (x : ℕ) (place : Text) → IsCommand (Serve (relp_server (x ∷ place) true))
+        (codes "serve" ∷ codes "--group" ∷ (codes "--relp=" ++ x ∷ place) ∷ []) }
+    ensures behind { (x : ℕ) (place : Text) → IsCommand (Serve (relp_server (x ∷ place) true))
+        (codes "serve" ∷ (codes "--relp=" ++ x ∷ place) ∷ codes "--group" ∷ []) }
+    ensures twice { (place : Text) → IsNoCommand (codes "serve" ∷ codes "--group" ∷ codes "--group" ∷ (codes "--relp=" ++ place) ∷ []) }
+    ensures valued { (place value : Text) → IsNoCommand (codes "serve" ∷ (codes "--relp=" ++ place) ∷ (codes "--group=" ++ value) ∷ []) }
 {}

@@ -16,6 +16,6 @@ mod values;
 
 pub use command::{Command, ListForm, Receiver, Relay, Server};
 pub use fault::{WordsFault, wrong_words};
-pub use law::{one_command, spelling};
+pub use law::{grouping, one_command, spelling};
 pub use line::{drain_line, entry_line, serve_line, spool_line};
 pub use need::{Need, need_of};

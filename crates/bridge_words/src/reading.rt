@@ -50,6 +50,7 @@ fn unread_for(kind: ErrorKind) -> Unread
         ErrorKind::MissingSubcommand => Unread::Wrong(WordsFault::NoCommand),
         ErrorKind::MissingRequiredArgument => Unread::Wrong(WordsFault::MissingWord),
         ErrorKind::InvalidValue => Unread::Wrong(WordsFault::MissingValue),
+        ErrorKind::TooManyValues => Unread::Wrong(WordsFault::ExtraValue),
         ErrorKind::ArgumentConflict => Unread::Wrong(WordsFault::GivenTwice),
         _ => Unread::Wrong(WordsFault::UnknownWord),
     }

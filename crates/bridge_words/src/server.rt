@@ -8,7 +8,7 @@ ghost use Rattle.bridge_words.specs.Wrong.{WrongDoors, WrongServe};
 
 use crate::fault::WordsFault;
 use crate::reading::{Unread, receiver_of};
-use crate::values::{forward_in, guid_for, number_or, place_for};
+use crate::values::{flag_for, forward_in, guid_for, number_or, place_for};
 use crate::{Command, Relay, Server};
 use clap::ArgMatches;
 use edge_io::Proto;
@@ -91,11 +91,12 @@ struct Manner {
     talks: u32,
     token: Option<u128>,
     ack_token: Option<u128>,
+    group: bool,
 }
 
 // How a server works, and the tokens.
 fn manner_in(matches: &ArgMatches<'_>) -> Result<Manner, WordsFault>
-    ensures manner { IfOk result (λ manner. IsManner manner.workers manner.talks manner.token manner.ack_token (rows_in matches.now)) }
+    ensures manner { IfOk result (λ manner. IsManner manner.workers manner.talks manner.token manner.ack_token manner.group (rows_in matches.now)) }
     ensures wrong { (fault : WordsFault) → result ≡ Err fault → WrongServe fault (rows_in matches.now) }
 {
     let workers = number_or(matches, "workers", 1, 16, 4, WordsFault::Workers)?;
@@ -109,15 +110,17 @@ fn manner_in(matches: &ArgMatches<'_>) -> Result<Manner, WordsFault>
     )?;
     let token = guid_for(matches, "token", WordsFault::Token)?;
     let ack_token = guid_for(matches, "ack-token", WordsFault::AckToken)?;
+    let group = flag_for(matches, "group");
     Ok(Manner {
         workers,
         talks,
         token,
         ack_token,
+        group,
     })
 }
 
-/// `serve [--relp P] [--lumberjack P] [--hec P] [--workers N] [--talks N] [--token G] [--ack-token G]
+/// `serve [--relp P] [--lumberjack P] [--hec P] [--workers N] [--talks N] [--token G] [--ack-token G] [--group]
 /// [--forward PROTO] [--to P] [--out-token G] [--out-channel G] [--polls N]`
 pub(crate) fn serve_in(alloc: Global, matches: &ArgMatches<'_>) -> Result<Command, Unread>
     ensures command { IfOk result (IsNamed (codes "serve") (rows_in matches.now)) }
@@ -140,6 +143,7 @@ pub(crate) fn serve_in(alloc: Global, matches: &ArgMatches<'_>) -> Result<Comman
             talks: manner.talks,
             token: manner.token,
             ack_token: manner.ack_token,
+            group: manner.group,
             forward,
         },
     })

@@ -2,7 +2,7 @@
 ghost use Rattle.std.specs.Prelude.{◌≡◌, ◌≤◌, None, Some, Ok, Err, IfOk, MatchOption};
 ghost use Rattle.bridge_words.specs.declared.fault.WordsFault.{WordsFault};
 ghost use Rattle.bridge_words.specs.declared.reading.Unread.TheVariants.{Wrong};
-ghost use Rattle.bridge_words.specs.Values.{value_of, rows_in, guid, proto_at, form_at, number_within, must_be, may_be, is_else, place_for};
+ghost use Rattle.bridge_words.specs.Values.{value_of, rows_in, guid, proto_at, form_at, number_within, must_be, may_be, is_else, place_for, is_given};
 ghost use Rattle.bridge_words.specs.Values.{proto_in, form_in, forward_in};
 
 use crate::ListForm;
@@ -111,6 +111,16 @@ pub(crate) fn guid_for(
             None => Err(fault),
         },
         None => Ok(None),
+    }
+}
+
+/// Whether the option of this name, which has no value, is given.
+pub(crate) fn flag_for(matches: &ArgMatches<'_>, id: &str) -> bool
+    ensures { result ≡ is_given (value_of id.now (rows_in matches.now)) }
+{
+    match value_of(matches, id) {
+        Some(text) => text == "true",
+        None => false,
     }
 }
 

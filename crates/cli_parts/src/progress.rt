@@ -90,6 +90,8 @@ impl<D: Disk> Disk for Watched<'_, D> {
 
     ghost may_release = { D.may_release };
 
+    ghost may_tear = { λ w at n. D.may_tear w.disk at n };
+
     ghost reads_too = { λ w images. D.reads_too w.disk images };
 
     ghost fits = { λ w. D.fits w.disk };

@@ -21,10 +21,9 @@ use Rattle.conn_serve.specs.declared.rules.Rules.{Rules}
 use Rattle.conn_serve.specs.Acked.{Acknowledges}
 use Rattle.conn_serve.specs.Durable.{AckedIsDurable, AnswersAreDurable}
 use Rattle.conn_serve.specs.Serves.{CarriedAs}
-use Rattle.conn_serve.specs.Tokens.{tokens_of}
+use Rattle.conn_serve.specs.Terms.{Terms, terms_of}
 use Rattle.conn_serve.proofs.Durable.{acked_durably, stored_durably}
 use Rattle.conn_serve.proofs.HecAcks.{told_is_taken}
-use Rattle.hec_session.specs.declared.tokens.Tokens.{Tokens}
 use Rattle.notes.specs.declared.note.Note.{Note}
 use Rattle.bridge_parts.specs.Opened.{desk_in}
 use Rattle.bridge_parts.specs.Run.{LinkRun}
@@ -35,22 +34,22 @@ use Rattle.commands.proofs.Replays.{stored_from}
 pub keeps_calls : (conn : ℕ) (calls : List Call) (old new : Moment) → IsStored old new conn calls → KeepsCalls new calls
 keeps_calls conn calls old new stored = λ c image. let kept = stored.reached.each c image in (kept.state, kept.stands, kept.kept)
 
-acked_is_durable : (proto : Proto) (tokens : Tokens) (conn : ℕ) (left : Option (List ℕ)) (b : List ℕ) (calls : List Call) (text : List ℕ)
-    (talk : Talk) (old new : Moment) (numbers : List ℕ) → CarriedAs proto tokens conn left b calls text talk → IsStored old new conn calls
-    → Acknowledges proto text numbers → AckedIsDurable calls new numbers
-acked_is_durable proto tokens conn left b calls text talk old new numbers carried stored says =
-    acked_durably proto tokens conn left b calls text talk new numbers carried (keeps_calls conn calls old new stored) says
+acked_is_durable : (proto : Proto) (terms : Terms) (conn : ℕ) (left : Option (List ℕ)) (b : List ℕ) (calls : List Call) (text : List ℕ)
+    (talk : Talk) (old new : Moment) (numbers : List ℕ) → CarriedAs proto terms conn left b calls text talk → IsStored old new conn calls
+    → Acknowledges proto text numbers → AckedIsDurable proto calls new numbers
+acked_is_durable proto terms conn left b calls text talk old new numbers carried stored says =
+    acked_durably proto terms conn left b calls text talk new numbers carried (keeps_calls conn calls old new stored) says
 
-answers_are_durable : (proto : Proto) (tokens : Tokens) (conn : ℕ) (left : Option (List ℕ)) (b : List ℕ) (calls : List Call) (text : List ℕ)
-    (talk : Talk) (old new : Moment) → (carried : CarriedAs proto tokens conn left b calls text talk) → IsStored old new conn calls
-    → AnswersAreDurable proto tokens conn left b calls text talk carried new (λ channel id. IsIdTakenDurably calls new id)
-answers_are_durable Relp tokens conn left b calls text talk old new carried stored = tt
-answers_are_durable Lumberjack tokens conn left b calls text talk old new carried stored = tt
-answers_are_durable Hec tokens conn left b calls text talk old new carried stored =
+answers_are_durable : (proto : Proto) (terms : Terms) (conn : ℕ) (left : Option (List ℕ)) (b : List ℕ) (calls : List Call) (text : List ℕ)
+    (talk : Talk) (old new : Moment) → (carried : CarriedAs proto terms conn left b calls text talk) → IsStored old new conn calls
+    → AnswersAreDurable proto terms conn left b calls text talk carried new (λ channel id. IsIdTakenDurably calls new id)
+answers_are_durable Relp terms conn left b calls text talk old new carried stored = tt
+answers_are_durable Lumberjack terms conn left b calls text talk old new carried stored = tt
+answers_are_durable Hec terms conn left b calls text talk old new carried stored =
     let keeps = keeps_calls conn calls old new stored in (
-      stored_durably tokens conn left b calls text talk new carried keeps,
+      stored_durably terms.tokens conn left b calls text talk new carried keeps,
       λ channel id says.
-          let group = told_is_taken tokens conn left b calls text talk carried (desk_in (opened Raise stored.state)) stored.reached.after 0
+          let group = told_is_taken terms.tokens conn left b calls text talk carried (desk_in (opened Raise stored.state)) stored.reached.after 0
           stored.reached.records refl stored.reached.goes stored.reached.by channel id says in
           (group.0, group.2, record { taken = group.1; durable = one_durable new calls group.0 keeps group.1 }),
     )
@@ -75,7 +74,7 @@ module _ (rules : Rules) (tells same : Type 0) (old mid new : Moment) (memory : 
       let serves = served.serves in
       let talk = served.attended.talk in
       let conn = run_of memory * 2 ^ 32 in
-      let tokens = tokens_of rules in
+      let terms = terms_of rules in
       let made = stored_so serves.calls serves.made in record {
         conn = conn;
         served = record {
@@ -95,8 +94,8 @@ module _ (rules : Rules) (tells same : Type 0) (old mid new : Moment) (memory : 
           };
         };
         acknowledged = λ numbers told says.
-            acked_is_durable rules.proto tokens conn link.left_after serves.bytes serves.calls serves.text talk old new numbers serves.carried (made told) says;
-        answered = λ told. answers_are_durable rules.proto tokens conn link.left_after serves.bytes serves.calls serves.text talk old new serves.carried (made told);
+            acked_is_durable rules.proto terms conn link.left_after serves.bytes serves.calls serves.text talk old new numbers serves.carried (made told) says;
+        answered = λ told. answers_are_durable rules.proto terms conn link.left_after serves.bytes serves.calls serves.text talk old new serves.carried (made told);
         since = λ told.
             let stored = made told in
             since_taken stored.reached.records new stored.stays 0 [] serves.calls []

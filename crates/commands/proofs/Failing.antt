@@ -7,12 +7,12 @@ use Rattle.edge_io.specs.declared.proto.Proto.TheVariants.{Hec}
 use Rattle.edge_disk.specs.Disk.{Moment}
 use Rattle.edge_disk.specs.Calls.{Calls}
 use Rattle.edge_disk.proofs.Calls.{calls_on}
-use Rattle.hec_session.specs.declared.tokens.Tokens.{Tokens}
 use Rattle.desk_access.specs.Call.{Call, failures_of}
 use Rattle.spool_desk.specs.Alone.{AloneView, Ran}
-use Rattle.desk_access.specs.Journal.{calls_by}
+use Rattle.desk_access.specs.Journal.{failed_by}
 use Rattle.conn_serve.specs.DiskFaults.{TellsFailures}
 use Rattle.conn_serve.specs.Serves.{CarriedAs}
+use Rattle.conn_serve.specs.Terms.{Terms}
 use Rattle.conn_serve.proofs.Failing.{disk_fault_is_told}
 use Rattle.notes.specs.declared.note.Note.{Note}
 use Rattle.notes.specs.Notes.{note_of_talk}
@@ -43,7 +43,7 @@ module _ (talk : Talk) (note : Note) (is : note ≡ note_of_talk talk) where
   tells_disk : (proto : Proto) (calls : List Call) (tells : Type 0) (old new : AloneView) → TellsFailures proto (failures_of calls) talk
       → Ran tells old calls new → TellsDiskFault (proto ≡ Hec) note old.spool.moment new.spool.moment
   tells_disk proto calls tells old new told ran =
-      let own = ap failures_of (calls_by 0 calls ran.records ran.by) in
+      let own = failed_by 0 calls ran.records ran.by in
       let rose : (n : ℕ) → failures_of calls ≡ n → Rose n old.spool.moment.faults new.spool.moment.faults = λ n many. subst (λ (k : ℕ). Rose k old.spool.moment.faults new.spool.moment.faults) (own ∙ many) ran.runs.cause in
       elim (by_disk_or_not talk) [
         | inl by ↦ inl (record {
@@ -64,9 +64,9 @@ module _ (talk : Talk) (note : Note) (is : note ≡ note_of_talk talk) where
       ]
 
 -- The note says whether a call of the disk failed.
-pub disk_calls : (proto : Proto) (tokens : Tokens) (conn : ℕ) (left : Option (List ℕ)) (b : List ℕ) (calls : List Call) (text : List ℕ) (talk : Talk) (note : Note) (tells : Type 0) (old new : AloneView) → note ≡ note_of_talk talk
-    → CarriedAs proto tokens conn left b calls text talk → Ran tells old calls new → TellsDiskFault (proto ≡ Hec) note old.spool.moment new.spool.moment
-disk_calls proto tokens conn left b calls text talk note tells old new is carried ran = tells_disk talk note is proto calls tells old new (disk_fault_is_told proto tokens conn left b calls text talk carried) ran
+pub disk_calls : (proto : Proto) (terms : Terms) (conn : ℕ) (left : Option (List ℕ)) (b : List ℕ) (calls : List Call) (text : List ℕ) (talk : Talk) (note : Note) (tells : Type 0) (old new : AloneView) → note ≡ note_of_talk talk
+    → CarriedAs proto terms conn left b calls text talk → Ran tells old calls new → TellsDiskFault (proto ≡ Hec) note old.spool.moment new.spool.moment
+disk_calls proto terms conn left b calls text talk note tells old new is carried ran = tells_disk talk note is proto calls tells old new (disk_fault_is_told proto terms conn left b calls text talk carried) ran
 
 -- so it is after calls of which none failed
 pub tells_on : (first collector : Type 0) (note : Note) (old mid new : Moment) → Calls first old mid → (first → ⊥) → TellsDiskFault collector note mid new → TellsDiskFault collector note old new

@@ -4,7 +4,7 @@ use Rattle.foundation.specs.Faults.{Rose}
 use Rattle.edge_disk.specs.Calls.{Calls}
 use Rattle.spool_state.specs.SpoolState.{SpoolState, end}
 use Rattle.desk_access.specs.Call.{Call, Record, AreBy, failures_of}
-use Rattle.desk_access.specs.Journal.{calls_by}
+use Rattle.desk_access.specs.Journal.{failed_by}
 use Rattle.desk_access.specs.Desk.{DeskState}
 use Rattle.spool_desk.specs.Alone.{AloneView, IsAt, Ran, HasSeen, LeadsFrom}
 use Rattle.forward_core.specs.Forwarded.{Asked}
@@ -65,7 +65,7 @@ sends s tells same old new start until calls told at start_is until_is ran =
 
 pub disk_calls : (sent : Sent) (tells : Type 0) (old new : AloneView) (calls : List Call) → Failed sent calls → Ran tells old calls new → Calls (sent ≡ Ending.DiskFault) old.spool.moment new.spool.moment
 disk_calls sent tells old new calls told ran =
-    let own = ap failures_of (calls_by 0 calls ran.records ran.by) in record {
+    let own = failed_by 0 calls ran.records ran.by in record {
       size = ran.runs.size;
       later = ran.runs.later;
       cause = λ by. subst (λ (k : ℕ). Rose k old.spool.moment.faults new.spool.moment.faults) (own ∙ told.0 by) ran.runs.cause;

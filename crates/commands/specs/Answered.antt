@@ -10,7 +10,7 @@ use Rattle.conn_serve.specs.Durable.{AckedIsDurable, AnswersAreDurable}
 use Rattle.conn_serve.specs.declared.rules.Rules.{Rules}
 use Rattle.conn_serve.specs.Says.{HasCarried}
 use Rattle.conn_serve.specs.Serves.{CarriedBy}
-use Rattle.conn_serve.specs.Tokens.{tokens_of}
+use Rattle.conn_serve.specs.Terms.{terms_of}
 use Rattle.commands.specs.Replayed.{IsStored, KeepsFrom}
 use Rattle.commands.specs.SpoolRun.{SpoolRun}
 
@@ -23,8 +23,8 @@ pub record IsDurable (tells : Type 0) (before now : Moment) (rules : Rules) (byt
   pub calls : List Call
   pub carried : HasCarried (CarriedBy rules conn) bytes calls text
   pub stored : tells → IsStored before now conn calls
-  pub acknowledged : (numbers : List ℕ) → tells → Acknowledges rules.proto text numbers → AckedIsDurable calls now numbers
-  pub answered : tells → AnswersAreDurable rules.proto (tokens_of rules) conn carried.left bytes (calls ++ carried.late) text carried.talk
+  pub acknowledged : (numbers : List ℕ) → tells → Acknowledges rules.proto text numbers → AckedIsDurable rules.proto calls now numbers
+  pub answered : tells → AnswersAreDurable rules.proto (terms_of rules) conn carried.left bytes (calls ++ carried.late) text carried.talk
       carried.carried now (λ channel id. IsIdTakenDurably calls now id)
 
 -- These bytes were read from the input, or the link, since it was the old one.

@@ -1,6 +1,7 @@
 -- What `replay` does.
-use Rattle.std.specs.Prelude.{◌≡◌, ◌⊎◌, ℕ, ◌+◌, ◌*◌, ◌^◌, List, All}
+use Rattle.std.specs.Prelude.{◌≡◌, ◌⊎◌, false, ℕ, ◌+◌, ◌*◌, ◌^◌, List, All, Option}
 use Rattle.event_form.specs.declared.talk.Attended.{Attended}
+use Rattle.edge_io.specs.declared.proto.Proto.{Proto}
 use Rattle.edge_io.specs.declared.proto.Proto.TheVariants.{Hec}
 use Rattle.edge_disk.specs.Disk.{Moment, LeavesOnly}
 use Rattle.spool_state.specs.SpoolState.{SpoolState}
@@ -16,7 +17,7 @@ use Rattle.conn_serve.specs.Durable.{AckedIsDurable, AnswersAreDurable}
 use Rattle.conn_serve.specs.declared.rules.Rules.{Rules}
 use Rattle.conn_serve.specs.Endings.{CountsFaults}
 use Rattle.conn_serve.specs.Serves.{CarriedBy, Serves}
-use Rattle.conn_serve.specs.Tokens.{tokens_of}
+use Rattle.conn_serve.specs.Terms.{terms_of}
 use Rattle.notes.specs.declared.note.Note.{Note}
 use Rattle.notes.specs.declared.note.Note.TheVariants.{ReadFault, WriteFault}
 use Rattle.notes.specs.Notes.{note_of_talk}
@@ -25,6 +26,10 @@ use Rattle.bridge_parts.specs.Reached.{Reaches}
 use Rattle.bridge_parts.specs.Run.{DiskRun, InputRun, LinkRun, OutputRun, both_run, IsSilent, IsUngiven}
 use Rattle.commands.specs.Failed.{TellsDiskFault}
 use Rattle.commands.specs.SpoolRun.{SpoolRun, WasIn}
+
+-- the rules of a replay: by these tokens, and each event of RELP is stored by itself
+abbrev pub replay_rules : Proto → Option ℕ → Option ℕ → Rules
+replay_rules proto token ack_token = record { proto = proto; token = token; ack_token = ack_token; group = false }
 
 -- And so it was from that moment on: whatever a crash left meanwhile stands for the state after the first of the
 -- calls, or for a stage of the next one. What a call took stays since that call was answered.
@@ -65,8 +70,8 @@ pub record ServesInput (rules : Rules) (disk : DiskRun) (link : LinkRun) (note :
   pub conn : ℕ
   pub served : ServesLink rules conn link (λ calls. disk.tells → IsStored disk.old disk.new conn calls) note
   pub acknowledged : (numbers : List ℕ) → disk.tells → Acknowledges rules.proto served.serves.text numbers
-      → AckedIsDurable served.serves.calls disk.new numbers
-  pub answered : disk.tells → AnswersAreDurable rules.proto (tokens_of rules) conn link.left_after served.serves.bytes served.serves.calls
+      → AckedIsDurable rules.proto served.serves.calls disk.new numbers
+  pub answered : disk.tells → AnswersAreDurable rules.proto (terms_of rules) conn link.left_after served.serves.bytes served.serves.calls
       served.serves.text served.attended.talk served.serves.carried disk.new (λ channel id. IsIdTakenDurably served.serves.calls disk.new id)
   pub since : (told : disk.tells) → All (StaysTaken (served.serves.made told).reached.records 0 disk.new) (groups_of served.serves.calls)
 

@@ -1,6 +1,7 @@
 //! The command `drain`: the entries that aren't known as confirmed are forwarded, over the spool that the device holds.
 ghost use Rattle.std.specs.Prelude.{◌≡◌, ◌≢◌, ◌≤◌, ◌<◌, ℕ, List, false};
 ghost use Rattle.edge_disk.specs.Calls.{Calls};
+ghost use Rattle.spool_answers.specs.Leave.{LetsKeep};
 ghost use Rattle.spool_log.specs.Memory.{cursor_of, end_of};
 ghost use Rattle.forward_core.specs.Forwarded as sending;
 ghost use Rattle.forward_core.specs.Turning.{IsHalt};
@@ -110,6 +111,7 @@ pub fn drain_out<D: Disk, S: Source, K: Sink, N: Net>(
     requires polls { 0 < outward.now.polls }
     requires releases { MayRelease D.tells D.moment disk outward.now
         (WereStreamed S.same S.given input.old K.same K.taken output.old) D.may_release }
+    requires tears { LetsKeep D.tells D.moment D.may_tear D.may_release }
 
     ensures told { N.told net.new ≡ N.told net.old }
     ensures drained { IsDrained outward.now (disk_run D.tells D.moment disk result.disk)

@@ -1,5 +1,6 @@
 //! The command `format`: a device is made an empty spool.
 ghost use Rattle.std.specs.Prelude.{◌≡◌, ◌≢◌, ℕ, List};
+ghost use Rattle.edge_disk.specs.Leave.{LetsAll};
 ghost use Rattle.conn_serve.specs.Endings.{CountsFaults};
 ghost use Rattle.notes.specs.declared.note.Note.TheVariants.{WriteFault, DiskFault};
 ghost use Rattle.bridge_words.specs.Lines.{spool_line};
@@ -46,6 +47,7 @@ pub fn format<D: Disk, K: Sink>(
 ) -> Note
     requires size { IsSize slots size }
     requires prints { (k : K) (text : List ℕ) → K.permits k text }
+    requires tears { LetsAll D.may_tear }
 
     ensures { IsFormatted slots size (disk_run D.tells D.moment disk.old disk.new)
         (output_run K.taken K.write_faults output.old output.new) result }

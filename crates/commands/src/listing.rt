@@ -4,6 +4,7 @@ ghost use Rattle.spool_state.specs.SpoolState.{SpoolState};
 ghost use Rattle.spool_state.specs.Left.{left, left_from};
 ghost use Rattle.edge_disk.specs.Calls.{Calls};
 ghost use Rattle.edge_disk.specs.Disk.{LeavesOnly};
+ghost use Rattle.spool_answers.specs.Leave.{LetsKeep};
 ghost use Rattle.spool_log.specs.Memory.{end_of};
 ghost use Rattle.spool_log.specs.State.{view, IsIn};
 ghost use Rattle.conn_serve.specs.Endings.{CountsFaults};
@@ -103,6 +104,7 @@ fn print_left<D: Disk, K: Sink>(
 /// whatever a crash leaves of it is what it could leave before.
 pub fn list<D: Disk, K: Sink>(alloc: Global, disk: D, output: &mut K, form: ListForm) -> Finished<D>
     requires prints { (k : K) (text : List ℕ) → K.permits k text }
+    requires tears { LetsKeep D.tells D.moment D.may_tear D.may_release }
 
     ensures { IsListed form (disk_run D.tells D.moment disk result.disk)
         (output_run K.taken K.write_faults output.old output.new) result.note }

@@ -9,6 +9,7 @@ ghost use Rattle.commands.specs.Loading.{note_of_load, LoadIsTold};
 
 use bridge_parts::sent_note;
 use edge_io::{Proto, Sink, write_whole};
+use load_laws::load_comes_to_its_numbers;
 use load_run::{LoadFault, Loaded, load_line};
 use notes::Note;
 use std::alloc::Global;
@@ -51,6 +52,7 @@ pub fn load<K: Sink>(alloc: Global, proto: Proto, number: u32, count: u32, outpu
 
     ensures { LoadIsTold proto number count (output_run K.taken K.write_faults output.old output.new) result }
 {
+    load_comes_to_its_numbers();
     match load_run::load(alloc, proto, number, count) {
         Ok(loaded) => print_loaded(alloc, output, &loaded),
         Err(fault) => load_note(fault),

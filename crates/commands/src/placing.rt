@@ -1,6 +1,7 @@
 //! The command `drain` with a place: the entries that aren't known as confirmed are forwarded over a link that is dialed.
 ghost use Rattle.std.specs.Prelude.{◌≡◌, ◌≢◌, ◌⊎◌, ◌<◌, ℕ, List, false};
 ghost use Rattle.edge_disk.specs.Calls.{Calls};
+ghost use Rattle.spool_answers.specs.Leave.{LetsKeep};
 ghost use Rattle.conn_serve.specs.Endings.{CountsFaults};
 ghost use Rattle.forward_core.specs.Exchanged.{HasExchanged, HasExchangedAt};
 ghost use Rattle.notes.specs.declared.note.Note.TheVariants.{Usage, WrongLength, WriteFault};
@@ -163,6 +164,7 @@ pub fn drain_to<D: Disk, K: Sink, N: Net>(
     requires polls { 0 < outward.now.polls }
     requires releases { MayRelease D.tells D.moment disk outward.now
         (HasExchangedAt N.L.same N.L.dialed N.L.given N.L.taken place.now) D.may_release }
+    requires tears { LetsKeep D.tells D.moment D.may_tear D.may_release }
 
     ensures { IsDrainedTo outward.now place.now (disk_run D.tells D.moment disk result.disk)
         (net_run N.told net.old net.new) (output_run K.taken K.write_faults output.old output.new) result.note }

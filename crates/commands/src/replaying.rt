@@ -1,6 +1,7 @@
 //! The command `replay`: the input is served as one connection, over the spool that the device holds.
 ghost use Rattle.std.specs.Prelude.{◌≡◌, ◌*◌, ◌^◌, false};
 ghost use Rattle.edge_io.specs.declared.proto.Proto.{Proto};
+ghost use Rattle.spool_answers.specs.Leave.{LetsKeep};
 ghost use Rattle.spool_log.specs.Memory.{run_of};
 ghost use Rattle.conn_serve.specs.Endings.{CountsFaults};
 ghost use Rattle.notes.specs.declared.note.Note.TheVariants.{ReadFault, WriteFault};
@@ -97,6 +98,7 @@ pub fn replay<D: Disk, S: Source, K: Sink>(
 ) -> Finished<D>
     requires answers { MayReplay D.tells D.moment disk rules (WasRead S.same S.given input.old)
         (MayTake K.same K.taken K.permits output.old) }
+    requires tears { LetsKeep D.tells D.moment D.may_tear D.may_release }
 
     ensures { IsReplayed rules (disk_run D.tells D.moment disk result.disk)
         (input_run S.given S.left S.read_faults input.old input.new) (output_run K.taken K.write_faults output.old output.new) result.note }

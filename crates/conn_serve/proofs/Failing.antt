@@ -1,5 +1,5 @@
 -- Which calls of a connection were answered that the disk failed: one where it ended so, and else none.
-use Rattle.std.proofs.Common.{◌≡◌, ◌⊎◌, inl, inr, ℕ, List, [], ◌∷◌, ◌++◌, Bool, true, false, Option, refl, sym, ◌∙◌, ap, subst, arith}
+use Rattle.std.proofs.Common.{◌≡◌, ◌⊎◌, inl, inr, ℕ, List, [], ◌∷◌, ◌++◌, length, Bool, true, false, Option, refl, sym, ◌∙◌, ap, subst, arith}
 use Rattle.std.specs.Prelude.{Ok, Err}
 use Rattle.event_form.specs.declared.event.Entry.{Entry}
 use Rattle.event_form.specs.declared.talk.Talk.{Talk}
@@ -26,7 +26,8 @@ use Rattle.desk_access.specs.Step.{Step, calls_of}
 use Rattle.desk_access.specs.Protocol.{Protocol, AreMoves}
 use Rattle.desk_access.specs.Carried.{Carried, Ending, EndsAtMove}
 use Rattle.desk_access.proofs.Moves.{ending_cases}
-use Rattle.conn_serve.specs.Relp.{relp, entry_of, one_take, talk_of, Carries, IsDue, IsRefused, IsStarved, EndsAtAct}
+use Rattle.conn_serve.specs.Relp.{entry_of, one_take, talk_of, Carries, IsDue, IsRefused, IsStarved, EndsAtAct}
+use Rattle.conn_serve.specs.Runs.{relp_runs, IsDueFor, EndsAtRun}
 use Rattle.conn_serve.specs.Lumber.{lumberjack, EndsAtGroup, StoresLast}
 use Rattle.conn_serve.specs.Hec as collector
 use Rattle.conn_serve.specs.Hec.{hec, talk_of_issue}
@@ -105,17 +106,40 @@ refused_by_disk conn index (Store event txnr) late part r =
 refused_by_disk conn index (Say answer) late part r = absurd r
 refused_by_disk conn index (End answer) late part r = absurd r
 
-module _ (conn : ℕ) (left : Option (List ℕ)) (b : List ℕ) (steps : List (Step Frame)) (held : List Frame) (at : ℕ) (late : List Call) (part : List ℕ) where
-  relp_by_disk : EndsAtMove (relp conn) left b steps held at late part Talk.DiskFault → failures_of late ≡ 1
-  relp_by_disk (inl frame) = refused_by_disk conn _ frame.3.0 late part frame.3.2
+-- a run
+run_due_quiet : (entries : List Entry) (late : List Call) (text : List ℕ) → IsDueFor entries late text → failures_of late ≡ 0
+run_due_quiet entries late text (inl stored) = ap failures_of stored.1
+run_due_quiet entries late text (inr refused) = ap failures_of refused.3 ∙ err_quiet entries refused.0 (refusal_other refused.0 refused.1)
+
+run_starved : (entries : List Entry) (fault : TakeFault) → (IsRefusal fault × (length entries ≡ 1)) ⊎ (fault ≡ Take.NoMemory) → fault ≡ Take.DiskFault → ⊥
+run_starved entries fault (inl refused) is = refusal_other fault refused.0 is
+run_starved entries fault (inr starved) is = cc
+
+run_quiet : (entries : List Entry) (late : List Call) (part : List ℕ) (talk : Talk) → EndsAtRun entries late part talk → IsOther talk → failures_of late ≡ 0
+run_quiet entries late part Talk.WriteFault e other = run_due_quiet entries late e.0 e.2
+run_quiet entries late part Talk.NoMemory e other = ap failures_of e.2 ∙ err_quiet entries e.0 (run_starved entries e.0 e.1)
+run_quiet entries late part talk e other = ap failures_of e.2 ∙ err_quiet entries e.0 (λ is. other (e.3 ∙ ap talk_of is))
+
+run_by_disk : (entries : List Entry) (late : List Call) (part : List ℕ) → EndsAtRun entries late part Talk.DiskFault → failures_of late ≡ 1
+run_by_disk entries late part e = ap failures_of e.2 ∙ ap (λ (fault : TakeFault). failures_of (takes entries (Err fault) ∷ [])) (fault_of_disk e.0 e.3)
+
+relp_move_quiet : (most conn : ℕ) (before : List (Step Frame)) (s : Step Frame) → (relp_runs most conn).IsMove before s → failures_of s.calls ≡ 0
+relp_move_quiet most conn before s (inl move) = carries_quiet conn _ move.2.0 s.calls s.text move.2.2
+relp_move_quiet most conn before s (inr run) = ap failures_of run.stores
+
+module _ (most conn : ℕ) (left : Option (List ℕ)) (b : List ℕ) (steps : List (Step Frame)) (held : List Frame) (at : ℕ) (late : List Call) (part : List ℕ) where
+  relp_by_disk : EndsAtMove (relp_runs most conn) left b steps held at late part Talk.DiskFault → failures_of late ≡ 1
+  relp_by_disk (inl (f, end, front, inl stops)) = refused_by_disk conn _ stops.1.0 late part stops.1.2
+  relp_by_disk (inl (f, end, front, inr run)) = run_by_disk run.0 late part run.2
   relp_by_disk (inr last) = absurd last.2
 
-  relp_move : (talk : Talk) → EndsAtMove (relp conn) left b steps held at late part talk → IsOther talk → failures_of late ≡ 0
-  relp_move talk (inl frame) other = act_quiet conn _ frame.3.0 late part talk frame.3.2 other
+  relp_move : (talk : Talk) → EndsAtMove (relp_runs most conn) left b steps held at late part talk → IsOther talk → failures_of late ≡ 0
+  relp_move talk (inl (f, end, front, inl stops)) other = act_quiet conn _ stops.1.0 late part talk stops.1.2 other
+  relp_move talk (inl (f, end, front, inr run)) other = run_quiet run.0 late part talk run.2 other
   relp_move talk (inr last) other = absurd last.2
 
-  relp_quiet : (talk : Talk) → Ending (relp conn) left b steps held at late part talk → IsOther talk → failures_of late ≡ 0
-  relp_quiet talk e = ending_cases (relp conn) left b steps held at late part (λ t. IsOther t → failures_of late ≡ 0) (λ t none other. ap failures_of none.0) (λ t none other. ap failures_of none.0) relp_move talk e
+  relp_quiet : (talk : Talk) → Ending (relp_runs most conn) left b steps held at late part talk → IsOther talk → failures_of late ≡ 0
+  relp_quiet talk e = ending_cases (relp_runs most conn) left b steps held at late part (λ t. IsOther t → failures_of late ≡ 0) (λ t none other. ap failures_of none.1.0) (λ t none other. ap failures_of none.0) relp_move talk e
 
 -- ---- Lumberjack
 
@@ -293,12 +317,12 @@ tells p proto left b calls text talk c same by_disk quiet = record {
 }
 
 pub disk_fault_is_told : DiskFaultIsTold
-disk_fault_is_told Relp tokens conn left b calls text talk c =
-    tells (relp conn) Relp left b calls text talk c (at_ending (relp conn) left b calls text talk c (λ before s move. carries_quiet conn _ move.2.0 s.calls s.text move.2.2))
-    (relp_by_disk conn left b c.steps c.held c.at c.late c.part) (λ other. inl (relp_quiet conn left b c.steps c.held c.at c.late c.part talk c.ending other))
-disk_fault_is_told Lumberjack tokens conn left b calls text talk c =
+disk_fault_is_told Relp terms conn left b calls text talk c =
+    tells (relp_runs terms.most conn) Relp left b calls text talk c (at_ending (relp_runs terms.most conn) left b calls text talk c (λ before s move. relp_move_quiet terms.most conn before s move))
+    (relp_by_disk terms.most conn left b c.steps c.held c.at c.late c.part) (λ other. inl (relp_quiet terms.most conn left b c.steps c.held c.at c.late c.part talk c.ending other))
+disk_fault_is_told Lumberjack terms conn left b calls text talk c =
     tells (lumberjack conn) Lumberjack left b calls text talk c (at_ending (lumberjack conn) left b calls text talk c (λ before s move. ap failures_of move.1.1))
     (lumber_by_disk conn left b c.steps c.held c.at c.late c.part) (λ other. inl (lumber_quiet conn left b c.steps c.held c.at c.late c.part talk c.ending other))
-disk_fault_is_told Hec tokens conn left b calls text talk c =
-    tells (hec tokens conn) Hec left b calls text talk c (at_ending (hec tokens conn) left b calls text talk c (λ before s move. item_quiet conn _ tokens move.0 s.calls s.text move.2))
-    (hec_by_disk tokens conn left b c.steps c.held c.at c.late c.part) (λ other. hec_quiet tokens conn left b c.steps c.held c.at c.late c.part talk c.ending other)
+disk_fault_is_told Hec terms conn left b calls text talk c =
+    tells (hec terms.tokens conn) Hec left b calls text talk c (at_ending (hec terms.tokens conn) left b calls text talk c (λ before s move. item_quiet conn _ terms.tokens move.0 s.calls s.text move.2))
+    (hec_by_disk terms.tokens conn left b c.steps c.held c.at c.late c.part) (λ other. hec_quiet terms.tokens conn left b c.steps c.held c.at c.late c.part talk c.ending other)

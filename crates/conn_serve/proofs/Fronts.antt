@@ -35,6 +35,9 @@ module _ {F : Type 0} (Spells : F → List ℕ → Type 0) where
   pub front_of : (b : List ℕ) (frames next : List F) (p : Parts Spells b frames next) → IsFront Spells b frames (length p.front)
   front_of b frames next p = record { front = p.front; rest = p.middle ++ p.behind; spelled = p.spelled; ends = refl; whole = p.whole }
 
+  pub front_first : (b : List ℕ) (frames next : List F) (at : ℕ) → IsFront Spells b (frames ++ next) at → (end : ℕ) × IsFront Spells b frames end
+  front_first b frames next at i = let p = parts_of b frames next i.front i.rest i.spelled i.whole in (length p.front, front_of b frames next p)
+
   -- and then the first of the next ones
   pub front_next : (b : List ℕ) (frames : List F) (f : F) (more : List F) → Parts Spells b frames (f ∷ more) → (end : ℕ) × IsFront Spells b (frames ++ f ∷ []) end
   front_next b frames f more p =

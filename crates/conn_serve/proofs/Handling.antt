@@ -44,6 +44,36 @@ module _ {F : Type 0} (p : Protocol F) (frames : List F) (called : List Call) (s
     wrote = ap (λ (l : List ℕ). l ++ s.text) h.wrote ∙ ap (λ (l : List ℕ). text_of h.steps ++ l) (sym (append-nil s.text)) ∙ sym (text_then h.steps (s ∷ []));
   }
 
+module _ {F : Type 0} (p : Protocol F) (frames : List F) (called : List Call) (said : List ℕ) (h : Handled p frames called said) where
+  -- the first of the frames held make a step, and the others are held still
+  abbrev pub handled_cut : (s : Step F) (rest : List F) → h.held ≡ s.frames ++ rest → p.IsMove h.steps s → p.AreHeld (h.steps ++ s ∷ []) rest → Handled p frames (called ++ s.calls) (said ++ s.text)
+  handled_cut s rest are move kept = record {
+    steps = h.steps ++ s ∷ [];
+    each = moves_push p [] h.steps s h.each move;
+    held = rest;
+    kept = kept;
+    whole = h.whole ∙ ap (λ (l : List F). frames_of h.steps ++ l) are ∙ sym (append_assoc (frames_of h.steps) s.frames rest) ∙ ap (λ (l : List F). (frames_of h.steps ++ l) ++ rest) (sym (append-nil s.frames)) ∙ ap (λ (l : List F). l ++ rest) (sym (frames_then h.steps (s ∷ [])));
+    made = ap (λ (l : List Call). l ++ s.calls) h.made ∙ ap (λ (l : List Call). calls_of h.steps ++ l) (sym (append-nil s.calls)) ∙ sym (calls_then h.steps (s ∷ []));
+    wrote = ap (λ (l : List ℕ). l ++ s.text) h.wrote ∙ ap (λ (l : List ℕ). text_of h.steps ++ l) (sym (append-nil s.text)) ∙ sym (text_then h.steps (s ∷ []));
+  }
+
+-- The connection ends after the steps and some of the frames held.
+pub carried_front : {F : Type 0} (p : Protocol F) (left : Option (List ℕ)) (b : List ℕ) (frames : List F) (called : List Call) (said : List ℕ) (h : Handled p frames called said) (held : List F) → p.AreHeld h.steps held
+    → (at : ℕ) → p.IsFront b (frames_of h.steps ++ held) at → (late : List Call) (part : List ℕ) (talk : Talk) → Ending p left b h.steps held at late part talk → Carried p left b (called ++ late) (said ++ part) talk
+carried_front p left b frames called said h held kept at front late part talk ending = record {
+  steps = h.steps;
+  each = h.each;
+  held = held;
+  kept = kept;
+  at = at;
+  front = front;
+  late = late;
+  part = part;
+  made = ap (λ (l : List Call). l ++ late) h.made;
+  wrote = ap (λ (l : List ℕ). l ++ part) h.wrote;
+  ending = ending;
+}
+
 -- The frames handled stand at the front of the bytes read, and the connection ends.
 module _ {F : Type 0} (p : Protocol F) (left : Option (List ℕ)) (b : List ℕ) (frames : List F) (at : ℕ) (called : List Call) (said : List ℕ) (h : Handled p frames called said) (front : p.IsFront b frames at) where
   carried_by : (late : List Call) (part : List ℕ) (talk : Talk) → Ending p left b h.steps h.held at late part talk → Carried p left b (called ++ late) (said ++ part) talk
@@ -71,11 +101,11 @@ module _ {F : Type 0} (p : Protocol F) (left : Option (List ℕ)) (b : List ℕ)
   of_steps whole = subst (λ (l : List F). p.IsWhole b l at) h.whole whole
 
   -- for want of a read, of memory, or because as much was read as may be
-  pub carried_unread : p.IsWhole b frames at → Carried p left b called said ReadFault
-  carried_unread whole = carried_nothing ReadFault (of_steps whole, (refl, refl))
+  pub carried_unread : p.IsWhole b frames at → p.MayGiveUp h.steps h.held → Carried p left b called said ReadFault
+  carried_unread whole may = carried_nothing ReadFault (of_steps whole, (refl, refl), may)
 
-  pub carried_too_much : p.IsWhole b frames at → length b ≡ 2 ^ 40 → Carried p left b called said (TooMuch (2 ^ 40))
-  carried_too_much whole size = carried_nothing (TooMuch (2 ^ 40)) (of_steps whole, sym size, refl, (refl, refl))
+  pub carried_too_much : p.IsWhole b frames at → length b ≡ 2 ^ 40 → p.MayGiveUp h.steps h.held → Carried p left b called said (TooMuch (2 ^ 40))
+  carried_too_much whole size may = carried_nothing (TooMuch (2 ^ 40)) (of_steps whole, sym size, refl, (refl, refl), may)
 
   pub carried_starved : Carried p left b called said NoMemory
   carried_starved = carried_nothing NoMemory (inl (refl, refl))

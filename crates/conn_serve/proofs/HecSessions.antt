@@ -314,10 +314,10 @@ module _ (tokens : Tokens) (conn : ℕ) where
       closing_truncated out some = closes_so (talk.Truncated w.reading.at) (out, whole, omega (arith, size, some), refl)
 
       ends_unread : Carried p left fed calls text talk.ReadFault
-      ends_unread = carried_unread p left fed s.frames w.reading.at calls text s.handled front whole
+      ends_unread = carried_unread p left fed s.frames w.reading.at calls text s.handled front whole tt
 
       ends_too_much : length fed ≡ 2 ^ 40 → Carried p left fed calls text (talk.TooMuch (2 ^ 40))
-      ends_too_much most = carried_too_much p left fed s.frames w.reading.at calls text s.handled front whole most
+      ends_too_much most = carried_too_much p left fed s.frames w.reading.at calls text s.handled front whole most tt
 
     -- the bytes have a fault
     pub closing_faulty : (e : HttpFault) → w.reading.waiting ≡ [] → met ≡ Some (feed.Fault e) → Closing p (Handled p) left (talk.Fault e.at (why_of e.why)) fed calls text

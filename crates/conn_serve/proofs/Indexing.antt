@@ -19,16 +19,19 @@ use Rattle.lumber_frame.specs.declared.frame.LumberFrame.{LumberFrame}
 use Rattle.lumber_session.specs.Staged.{Staged, staged}
 use Rattle.desk_access.specs.Batch.{AreNext}
 use Rattle.desk_access.specs.Call.{Call, takes, issues, settles, forgets, taken_by, taken_of}
-use Rattle.desk_access.specs.Step.{Step, calls_of, count}
+use Rattle.desk_access.specs.Step.{Step, frames_of, calls_of, count}
+use Rattle.relp_session.specs.Session.{state_after}
 use Rattle.desk_access.specs.Protocol.{Protocol, AreMoves}
 use Rattle.desk_access.specs.Carried.{Carried, Ending, EndsAtMove}
 use Rattle.desk_access.proofs.Moves.{calls_then, count_then, ending_cases}
-use Rattle.conn_serve.specs.Relp.{relp, entry_of, one_take, Carries, IsDue, IsRefused, IsStarved, EndsAtAct}
+use Rattle.conn_serve.specs.Runs.{relp_runs, EndsAtRun}
+use Rattle.conn_serve.specs.Relp.{entry_of, one_take, Carries, IsDue, IsRefused, IsStarved, EndsAtAct}
 use Rattle.conn_serve.specs.Lumber.{lumberjack, entries_of, EndsAtGroup, StoresLast}
 use Rattle.conn_serve.specs.Hec as collector
 use Rattle.conn_serve.specs.Hec.{hec}
 use Rattle.conn_serve.specs.Numbering.{AreOfConn, CallsAreOfConn}
 use Rattle.conn_serve.proofs.Batching as batch
+use Rattle.conn_serve.proofs.Runs.{due_next}
 use Rattle.conn_serve.proofs.HecEntries as requests
 
 of_then : (conn index : ℕ) (xs ys : List Call) → AreOfConn conn index xs → AreOfConn conn (index + count xs) ys → AreOfConn conn index (xs ++ ys)
@@ -170,13 +173,26 @@ module _ (conn index : ℕ) where
 
 -- ---- the calls at the ending
 
-module _ (conn : ℕ) (left : Option (List ℕ)) (b : List ℕ) (steps : List (Step Frame)) (held : List Frame) (at : ℕ) (late : List Call) (part : List ℕ) where
-  relp_move : (talk : Talk) → EndsAtMove (relp conn) left b steps held at late part talk → AreOfConn conn (count (calls_of steps)) late
-  relp_move talk (inl frame) = of_act conn _ frame.3.0 late part talk frame.3.2
+run_of : (conn index : ℕ) (entries : List Entry) (late : List Call) (part : List ℕ) (talk : Talk) → AreNext conn index entries → EndsAtRun entries late part talk → AreOfConn conn index late
+run_of conn index entries late part Talk.WriteFault next (text, k, inl taken, short, cut) = of_group conn index entries (Ok taken.0) late next taken.1
+run_of conn index entries late part Talk.WriteFault next (text, k, inr refused, short, cut) = of_group conn index entries (Err refused.0) late next refused.3
+run_of conn index entries late part Talk.NoMemory next e = of_group conn index entries (Err e.0) late next e.2
+run_of conn index entries late part talk next e = of_group conn index entries (Err e.0) late next e.2
+
+relp_step : (most conn : ℕ) (before : List (Step Frame)) (s : Step Frame) → (relp_runs most conn).IsMove before s → AreOfConn conn (count (calls_of before)) s.calls
+relp_step most conn before s (inl move) = of_carried conn _ move.2.0 s.calls s.text move.2.2
+relp_step most conn before s (inr run) =
+    of_group conn (count (calls_of before)) run.entries (Ok run.receipt) s.calls (due_next conn (count (calls_of before)) (state_after (frames_of before)) s.frames run.entries run.brings.due) run.stores
+
+module _ (most conn : ℕ) (left : Option (List ℕ)) (b : List ℕ) (steps : List (Step Frame)) (held : List Frame) (at : ℕ) (late : List Call) (part : List ℕ) where
+  relp_move : (talk : Talk) → EndsAtMove (relp_runs most conn) left b steps held at late part talk → AreOfConn conn (count (calls_of steps)) late
+  relp_move talk (inl (f, end, front, inl stops)) = of_act conn _ stops.1.0 late part talk stops.1.2
+  relp_move talk (inl (f, end, front, inr (entries, brings, ends))) =
+      run_of conn (count (calls_of steps)) entries late part talk (due_next conn (count (calls_of steps)) (state_after (frames_of steps)) (held ++ f ∷ []) entries brings.due) ends
   relp_move talk (inr last) = absurd last.2
 
-  relp_ending : (talk : Talk) → Ending (relp conn) left b steps held at late part talk → AreOfConn conn (count (calls_of steps)) late
-  relp_ending talk e = ending_cases (relp conn) left b steps held at late part (λ t. AreOfConn conn (count (calls_of steps)) late) (λ t none. of_none conn _ late none.0) (λ t none. of_none conn _ late none.0) relp_move talk e
+  relp_ending : (talk : Talk) → Ending (relp_runs most conn) left b steps held at late part talk → AreOfConn conn (count (calls_of steps)) late
+  relp_ending talk e = ending_cases (relp_runs most conn) left b steps held at late part (λ t. AreOfConn conn (count (calls_of steps)) late) (λ t none. of_none conn _ late none.1.0) (λ t none. of_none conn _ late none.0) relp_move talk e
 
 module _ (conn : ℕ) (left : Option (List ℕ)) (b : List ℕ) (steps : List (Step LumberFrame)) (held : List LumberFrame) (at : ℕ) (late : List Call) (part : List ℕ) where
   lumber_move : (talk : Talk) → EndsAtMove (lumberjack conn) left b steps held at late part talk → AreOfConn conn (count (calls_of steps)) late
@@ -210,9 +226,9 @@ all_of p conn left b calls text talk c each last =
     subst (AreOfConn conn 0) (sym c.made) (of_then conn 0 (calls_of c.steps) c.late (steps_of p conn each [] c.steps c.each) (subst (λ (i : ℕ). AreOfConn conn i c.late) (omega arith) last))
 
 pub calls_are_of_conn : CallsAreOfConn
-calls_are_of_conn Relp tokens conn left b calls text talk c =
-    all_of (relp conn) conn left b calls text talk c (λ before s move. of_carried conn _ move.2.0 s.calls s.text move.2.2) (relp_ending conn left b c.steps c.held c.at c.late c.part talk c.ending)
-calls_are_of_conn Lumberjack tokens conn left b calls text talk c =
+calls_are_of_conn Relp terms conn left b calls text talk c =
+    all_of (relp_runs terms.most conn) conn left b calls text talk c (λ before s move. relp_step terms.most conn before s move) (relp_ending terms.most conn left b c.steps c.held c.at c.late c.part talk c.ending)
+calls_are_of_conn Lumberjack terms conn left b calls text talk c =
     all_of (lumberjack conn) conn left b calls text talk c (λ before s move. of_group conn _ _ (Ok move.1.0) s.calls (batch.entries_next conn _ (staged s.frames)) move.1.1) (lumber_ending conn left b c.steps c.held c.at c.late c.part talk c.ending)
-calls_are_of_conn Hec tokens conn left b calls text talk c =
-    all_of (hec tokens conn) conn left b calls text talk c (λ before s move. of_item conn _ tokens move.0 s.calls s.text move.2) (hec_ending tokens conn left b c.steps c.held c.at c.late c.part talk c.ending)
+calls_are_of_conn Hec terms conn left b calls text talk c =
+    all_of (hec terms.tokens conn) conn left b calls text talk c (λ before s move. of_item conn _ terms.tokens move.0 s.calls s.text move.2) (hec_ending terms.tokens conn left b c.steps c.held c.at c.late c.part talk c.ending)

@@ -9,6 +9,10 @@ use Rattle.desk_access.specs.Groups.{Group, groups_of}
 use Rattle.desk_access.specs.History.{AllKept}
 use Rattle.desk_access.proofs.Groups.{groups_then}
 use Rattle.conn_serve.specs.Says.{PromisesNothing}
+use Rattle.conn_serve.specs.Acked.{acked_by, singles_from}
+use Rattle.edge_io.specs.declared.proto.Proto.{Proto}
+use Rattle.edge_io.specs.declared.proto.Proto.TheVariants.{Relp, Lumberjack, Hec}
+use Rattle.std.specs.List.{flat_map}
 
 none_taken : (late : List Call) → All PromisesNothing late → groups_of late ≡ []
 none_taken [] nothing = refl
@@ -19,6 +23,12 @@ none_taken (call ∷ late) nothing = absurd (All-head PromisesNothing call late 
 -- they took no group
 pub groups_late : (calls late : List Call) → All PromisesNothing late → groups_of (calls ++ late) ≡ groups_of calls
 groups_late calls late nothing = groups_then calls late ∙ ap (λ (l : List Group). groups_of calls ++ l) (none_taken late nothing) ∙ append-nil (groups_of calls)
+
+-- nor any that its sender would know
+pub acked_late : (proto : Proto) (calls late : List Call) → All PromisesNothing late → acked_by proto (calls ++ late) ≡ acked_by proto calls
+acked_late Relp calls late nothing = ap (λ (l : List Group). flat_map (λ (group : Group). singles_from group.first group.entries) l) (groups_late calls late nothing)
+acked_late Lumberjack calls late nothing = groups_late calls late nothing
+acked_late Hec calls late nothing = groups_late calls late nothing
 
 none_asked : (first more : List Call) (channel : ℕ) (ids : List ℕ) (known : List Bool) → All PromisesNothing (first ++ asks channel ids known ∷ more) → ⊥
 none_asked [] more channel ids known nothing = All-head PromisesNothing (asks channel ids known) more nothing

@@ -4,20 +4,20 @@ use Rattle.std.proofs.lemmas.List.{append-nil}
 use Rattle.edge_io.proofs.Known.{appends_none, appends_then}
 use Rattle.desk_access.specs.Call.{Call}
 use Rattle.desk_access.specs.Step.{count}
-use Rattle.conn_serve.specs.Done.{Done, Leads, SoFar}
+use Rattle.conn_serve.specs.Done.{Done, Leads, LeadsBy, SoFar}
 use Rattle.desk_access.proofs.Moves.{count_then}
 
 -- where nothing was done, what was so is so
-pub leads_start : (n : ℕ) (From : List ℕ → List Call → List ℕ → Type 0) → Leads n From From [] []
-leads_start n From fed called said is from =
+pub leads_start : {B : Type 0} (n : ℕ) (From : B → List Call → List ℕ → Type 0) → LeadsBy n From From [] []
+leads_start {B} n From fed called said is from =
     subst (λ (l : List Call). From fed l (said ++ [])) (sym (append-nil called)) (subst (λ (l : List ℕ). From fed called l) (sym (append-nil said)) from)
 
-pub done_start : (ran : List Call → Type 0) (w : Option (List ℕ)) (n : ℕ) (From : List ℕ → List Call → List ℕ → Type 0) → ran [] → Done ran w w n n (Leads n From From)
-done_start ran w n From none = record { calls = []; text = []; made = none; wrote = appends_none w; counted = omega arith; is = leads_start n From }
+pub done_start : {B : Type 0} (ran : List Call → Type 0) (w : Option (List ℕ)) (n : ℕ) (From : B → List Call → List ℕ → Type 0) → ran [] → Done ran w w n n (LeadsBy n From From)
+done_start {B} ran w n From none = record { calls = []; text = []; made = none; wrote = appends_none w; counted = omega arith; is = leads_start n From }
 
-pub done_then : (first second both : List Call → Type 0) (u v w : Option (List ℕ)) (l m n : ℕ) (From Between To : List ℕ → List Call → List ℕ → Type 0)
-    → ((xs ys : List Call) → first xs → second ys → both (xs ++ ys)) → Done first u v l m (Leads l From Between) → Done second v w m n (Leads m Between To) → Done both u w l n (Leads l From To)
-done_then first second both u v w l m n From Between To join p q = record {
+pub done_then : {B : Type 0} (first second both : List Call → Type 0) (u v w : Option (List ℕ)) (l m n : ℕ) (From Between To : B → List Call → List ℕ → Type 0)
+    → ((xs ys : List Call) → first xs → second ys → both (xs ++ ys)) → Done first u v l m (LeadsBy l From Between) → Done second v w m n (LeadsBy m Between To) → Done both u w l n (LeadsBy l From To)
+done_then {B} first second both u v w l m n From Between To join p q = record {
   calls = p.calls ++ q.calls;
   text = p.text ++ q.text;
   made = join p.calls q.calls p.made q.made;
@@ -62,5 +62,5 @@ pub done_map : (ran : List Call → Type 0) (w w' : Option (List ℕ)) (n n' : �
 done_map ran w w' n n' Is Is' d on = record { calls = d.calls; text = d.text; made = d.made; wrote = d.wrote; counted = d.counted; is = on d.calls d.text d.is }
 
 -- nothing was done, and what is so now follows
-pub done_ends : (ran : List Call → Type 0) (w : Option (List ℕ)) (n : ℕ) (From To : List ℕ → List Call → List ℕ → Type 0) → ran [] → ((fed : List ℕ) (calls : List Call) (text : List ℕ) → From fed calls text → To fed calls text) → Done ran w w n n (Leads n From To)
-done_ends ran w n From To none on = done_map ran w w n n (Leads n From From) (Leads n From To) (done_start ran w n From none) (λ calls text leads fed called said counted from. on fed (called ++ calls) (said ++ text) (leads fed called said counted from))
+pub done_ends : {B : Type 0} (ran : List Call → Type 0) (w : Option (List ℕ)) (n : ℕ) (From To : B → List Call → List ℕ → Type 0) → ran [] → ((fed : B) (calls : List Call) (text : List ℕ) → From fed calls text → To fed calls text) → Done ran w w n n (LeadsBy n From To)
+done_ends {B} ran w n From To none on = done_map ran w w n n (LeadsBy n From From) (LeadsBy n From To) (done_start ran w n From none) (λ calls text leads fed called said counted from. on fed (called ++ calls) (said ++ text) (leads fed called said counted from))

@@ -6,7 +6,11 @@ mod Fronts
 mod Handling
 mod Batching
 mod Windowed
+mod Runs
+mod RunsOfOne
 mod RelpSessions
+mod RelpActing
+mod Answering
 mod LumberActing
 mod LumberSessions
 mod Feeding

@@ -166,11 +166,11 @@ acks_split (n ∷ ns) (m ∷ ms) more e =
     (r.0, ap (λ (k : ℕ). k ∷ ms) first ∙ ap (λ (l : List ℕ). n ∷ l) r.1)
 
 -- what is acknowledged was taken
-pub lumber_acked : (conn : ℕ) (left : Option (List ℕ)) (b : List ℕ) (calls : List Call) (text : List ℕ) (talk : Talk) → Carried (lumberjack conn) left b calls text talk → (numbers : List ℕ) → Acknowledges Lumberjack text numbers → AreOfFirst calls numbers
+pub lumber_acked : (conn : ℕ) (left : Option (List ℕ)) (b : List ℕ) (calls : List Call) (text : List ℕ) (talk : Talk) → Carried (lumberjack conn) left b calls text talk → (numbers : List ℕ) → Acknowledges Lumberjack text numbers → AreOfFirst Lumberjack calls numbers
 lumber_acked conn left b calls text talk c numbers (front, rest, spelled, whole) =
     let s = said conn left b calls text talk c in
     let same : acks_of s.numbers ≡ front ++ (rest ++ s.behind) = sym s.whole ∙ ap (λ (l : List ℕ). l ++ s.behind) whole ∙ append_assoc front rest s.behind in
     let all = subst (AreSpelled (Spells Sender) (acks s.numbers)) same (acks_spelled s.numbers s.low) in
     let cut = spelled_strip (lumber Sender) (acks numbers) (acks s.numbers) front (rest ++ s.behind) spelled all in
     let split = acks_split numbers s.numbers cut.0 cut.1 in
-    of_first calls numbers split.0 (subst (λ (l : List ℕ). Told l calls) split.1 s.told)
+    of_first Lumberjack calls numbers split.0 (subst (λ (l : List ℕ). Told l calls) split.1 s.told)

@@ -7,12 +7,12 @@ use Rattle.conn_serve.specs.Sayable.{SayableIsTaken, SayableGroupIsTaken, Sayabl
 use Rattle.conn_serve.proofs.Acknowledged.{acked_is_taken}
 use Rattle.conn_serve.proofs.HecAcks.{said_lies_whole, acknowledged_is_taken, settled_is_stored, settle_first, told_among}
 use Rattle.conn_serve.proofs.Indexing.{calls_are_of_conn, of_first}
-use Rattle.conn_serve.proofs.Late.{groups_late, asks_late}
+use Rattle.conn_serve.proofs.Late.{groups_late, acked_late, asks_late}
 
 pub sayable_is_taken : SayableIsTaken
-sayable_is_taken proto tokens conn b calls text has numbers says =
-    let all = acked_is_taken proto tokens conn has.left b (calls ++ has.late) text has.talk has.carried numbers says in
-    record { groups = all.groups; more = all.more; taken = sym (groups_late calls has.late has.nothing) ∙ all.taken; some = all.some; own = all.own }
+sayable_is_taken proto terms conn b calls text has numbers says =
+    let all = acked_is_taken proto terms conn has.left b (calls ++ has.late) text has.talk has.carried numbers says in
+    record { groups = all.groups; more = all.more; taken = sym (acked_late proto calls has.late has.nothing) ∙ all.taken; some = all.some; own = all.own }
 
 pub sayable_group_is_taken : SayableGroupIsTaken
 sayable_group_is_taken tokens conn b calls text has group says =
@@ -30,5 +30,5 @@ sayable_id_is_taken tokens conn b calls text has x z number records none goes by
     told_among calls (sayable_is_settled tokens conn b calls text has) x z number records none goes by w.first before.0 channel id ids known k before.1 short is_id told
 
 pub sayable_is_of_conn : SayableIsOfConn
-sayable_is_of_conn proto tokens conn b calls text has =
-    of_first conn 0 calls has.late (calls_are_of_conn proto tokens conn has.left b (calls ++ has.late) text has.talk has.carried)
+sayable_is_of_conn proto terms conn b calls text has =
+    of_first conn 0 calls has.late (calls_are_of_conn proto terms conn has.left b (calls ++ has.late) text has.talk has.carried)

@@ -9,8 +9,8 @@ use Rattle.edge_io.proofs.Known.{may_follow_on}
 use Rattle.desk_access.specs.Call.{Call}
 use Rattle.desk_access.specs.Step.{count}
 use Rattle.desk_access.proofs.Moves.{count_then}
-use Rattle.hec_session.specs.declared.tokens.Tokens.{Tokens}
-use Rattle.conn_serve.specs.Done.{Done, Leads, LeadsOn}
+use Rattle.conn_serve.specs.Done.{Done, Leads, LeadsBy, LeadsOn}
+use Rattle.conn_serve.specs.Terms.{Terms}
 use Rattle.conn_serve.specs.Says.{CouldEnd, HasCarried, MaySay, PromisesNothing}
 
 -- where the connection ends so at once
@@ -27,9 +27,9 @@ joined E called calls more said text rest e =
 module _ {A : Type 0} (ran : A → List Call → A → Type 0) (a b : A) (join : (x y z : A) (calls more : List Call) → ran x calls y → ran y more z → ran x (calls ++ more) z)
     (P Q : List ℕ → Type 0) (w w' : Option (List ℕ)) (lasts : Lasts P w Q w') where
   -- after a step, by which the one was so before it and the other is so after it
-  pub says_then : (E : List ℕ → List Call → List ℕ → Type 0) (n n' : ℕ) (From To : List ℕ → List Call → List ℕ → Type 0) → Done (λ calls. ran a calls b) w w' n n' (Leads n From To)
-      → MaySay (ran a) P w (Leads n From E) → MaySay (ran b) Q w' (Leads n' To E)
-  says_then E n n' From To d says = λ now calls text made goes.
+  pub says_then : {B : Type 0} (E : B → List Call → List ℕ → Type 0) (n n' : ℕ) (From To : B → List Call → List ℕ → Type 0) → Done (λ calls. ran a calls b) w w' n n' (LeadsBy n From To)
+      → MaySay (ran a) P w (LeadsBy n From E) → MaySay (ran b) Q w' (LeadsBy n' To E)
+  says_then {B} E n n' From To d says = λ now calls text made goes.
       may_follow_on P Q w w' d.text text lasts d.wrote (says now (d.calls ++ calls) (d.text ++ text) (join a b now d.calls calls d.made made) (λ fed called said counted from.
       joined (E fed) called d.calls calls said d.text text
       (goes fed (called ++ d.calls) (said ++ d.text) (omega (arith, counted, d.counted, count_then called d.calls)) (d.is fed called said counted from))))
@@ -49,12 +49,12 @@ module _ {A : Type 0} (ran : A → List Call → A → Type 0) (a b : A) (join :
   says_since E F n bytes called said To on ran_to wrote counted to says = λ now calls text made goes.
       may_follow_on P Q w w' said text lasts wrote (says now (called ++ calls) (said ++ text) (join a b now called calls ran_to made) (on (called ++ calls) (said ++ text) (goes bytes called said counted to)))
 
--- of the number that a connection still has, and of the tokens that a session still has
-pub says_as : {A : Type 0} (ran : A → List Call → A → Type 0) (a : A) (P : List ℕ → Type 0) (w : Option (List ℕ)) (n : ℕ) (From : ℕ → List ℕ → List Call → List ℕ → Type 0) (E : Tokens → ℕ → List ℕ → List Call → List ℕ → Type 0)
-    (k number : ℕ) (s t : Tokens) → k ≡ number → s ≡ t → MaySay (ran a) P w (Leads n (From number) (E t number)) → MaySay (ran a) P w (Leads n (From k) (E s k))
-says_as ran a P w n From E k number s t same_number same_tokens says =
+-- of the number that a connection still has, and of the terms that a session still has
+pub says_as : {A : Type 0} (ran : A → List Call → A → Type 0) (a : A) (P : List ℕ → Type 0) (w : Option (List ℕ)) (n : ℕ) (From : ℕ → List ℕ → List Call → List ℕ → Type 0) (E : Terms → ℕ → List ℕ → List Call → List ℕ → Type 0)
+    (k number : ℕ) (s t : Terms) → k ≡ number → s ≡ t → MaySay (ran a) P w (Leads n (From number) (E t number)) → MaySay (ran a) P w (Leads n (From k) (E s k))
+says_as ran a P w n From E k number s t same_number same_terms says =
     subst (λ (i : ℕ). MaySay (ran a) P w (Leads n (From i) (E s i))) (sym same_number)
-    (subst (λ (x : Tokens). MaySay (ran a) P w (Leads n (From number) (E x number))) (sym same_tokens) says)
+    (subst (λ (x : Terms). MaySay (ran a) P w (Leads n (From number) (E x number))) (sym same_terms) says)
 
 -- what may be said over a link that tells the same of what was written
 pub says_read : {A : Type 0} (ran : List Call → A → Type 0) (P : List ℕ → Type 0) (w w' : Option (List ℕ)) (E : List Call → List ℕ → Type 0) → w' ≡ w → MaySay ran P w E → MaySay ran P w' E

@@ -160,11 +160,11 @@ module _ {F E : Type 0} (k : Kind F E) where
           is_over = framed.faults fed s.frames w.at r.0 e r.1;
         }
 
-    pub ends_unread : w.whole ≡ [] → fault ≡ None → Carried p left fed calls text ReadFault
-    ends_unread none sound = carried_unread p left fed s.frames w.at calls text h (front none sound) (whole none sound)
+    pub ends_unread : w.whole ≡ [] → fault ≡ None → p.MayGiveUp h.steps h.held → Carried p left fed calls text ReadFault
+    ends_unread none sound may = carried_unread p left fed s.frames w.at calls text h (front none sound) (whole none sound) may
 
-    pub ends_too_much : w.whole ≡ [] → fault ≡ None → length fed ≡ 2 ^ 40 → Carried p left fed calls text (TooMuch (2 ^ 40))
-    ends_too_much none sound most = carried_too_much p left fed s.frames w.at calls text h (front none sound) (whole none sound) most
+    pub ends_too_much : w.whole ≡ [] → fault ≡ None → length fed ≡ 2 ^ 40 → p.MayGiveUp h.steps h.held → Carried p left fed calls text (TooMuch (2 ^ 40))
+    ends_too_much none sound most may = carried_too_much p left fed s.frames w.at calls text h (front none sound) (whole none sound) most may
 
     -- no memory was found for the next frame
     pub ends_starved : (more : List ℕ) → Carried p left (fed ++ more) calls text NoMemory
@@ -184,11 +184,15 @@ module _ {F E : Type 0} (k : Kind F E) where
         let i = front_given format Spells framed.laws fed (s.frames ++ f ∷ []) w' (g.reads fed s.frames s.reads.reads) in
         (i.0, framed.fronts (fed ++ more) (s.frames ++ f ∷ []) i.0 (front_fed Spells fed (s.frames ++ f ∷ []) i.0 more i.1))
 
+  -- what is held may be given up
+  abbrev pub MayGiveUp : Type 0
+  MayGiveUp = (frames : List F) (calls : List Call) (text : List ℕ) (handles : Handles frames calls text) → p.MayGiveUp (k.handled frames calls text handles).steps (k.handled frames calls text handles).held
+
   -- a connection may end here for want of more
-  pub may_end : (w : Window E) (fault : Option E) → w.whole ≡ [] → fault ≡ None → MayEnd (ServedBy w fault) (Carried p)
-  may_end w fault none sound = record {
-    read_fault = λ left fed calls text s. ends_unread w fault left fed calls text s none sound;
-    too_much = λ left fed calls text s most. ends_too_much w fault left fed calls text s none sound most;
+  pub may_end : (w : Window E) (fault : Option E) → w.whole ≡ [] → fault ≡ None → MayGiveUp → MayEnd (ServedBy w fault) (Carried p)
+  may_end w fault none sound may = record {
+    read_fault = λ left fed calls text s. ends_unread w fault left fed calls text s none sound (may s.frames calls text s.handled);
+    too_much = λ left fed calls text s most. ends_too_much w fault left fed calls text s none sound most (may s.frames calls text s.handled);
   }
 
 -- what was read, with the next frame given

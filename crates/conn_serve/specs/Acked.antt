@@ -1,6 +1,7 @@
 -- What the text of a connection acknowledges, as its sender reads it.
-use Rattle.std.specs.Prelude.{◌≡◌, ℕ, Bool, ◌&&◌, if◌then◌else◌, List, [], ◌∷◌, ◌++◌, map, flat_map, Option, codes}
+use Rattle.std.specs.Prelude.{◌≡◌, ℕ, ◌+◌, Bool, ◌&&◌, if◌then◌else◌, List, [], ◌∷◌, ◌++◌, map, flat_map, Option, codes}
 use Rattle.std.specs.List.{All}
+use Rattle.event_form.specs.declared.event.Entry.{Entry}
 use Rattle.event_form.specs.declared.talk.Talk.{Talk}
 use Rattle.edge_io.specs.declared.proto.Proto.{Proto}
 use Rattle.edge_io.specs.declared.proto.Proto.TheVariants.{Relp, Lumberjack, Hec}
@@ -11,12 +12,12 @@ use Rattle.lumber_frame.specs.declared.frame.LumberFrame.TheVariants.{Ack}
 use Rattle.lumber_frame.specs.declared.side.Side.TheVariants.{Sender}
 use Rattle.lumber_frame.specs.Spelling.{Spells, ack_text}
 use Rattle.stream_grammar.specs.Framing.{AreSpelled}
-use Rattle.hec_session.specs.declared.tokens.Tokens.{Tokens}
 use Rattle.desk_access.specs.Call.{Call}
 use Rattle.desk_access.specs.Carried.{Carried}
 use Rattle.desk_access.specs.Groups.{Group, HasEntries, groups_of}
 use Rattle.conn_serve.specs.Lumber.{lumberjack}
 use Rattle.conn_serve.specs.Serves.{CarriedAs}
+use Rattle.conn_serve.specs.Terms.{Terms}
 use Rattle.conn_serve.specs.Groups.{units}
 
 -- an answer of RELP that says that an event is durable: a `rsp` frame whose data is 200 OK
@@ -40,20 +41,31 @@ Acknowledges Lumberjack text numbers =
 -- the collector's replies name no groups by a number of theirs
 Acknowledges Hec text numbers = ⊥
 
--- The numbers are those of the first groups that these calls took, as many, in order.
-pub record AreOfFirst (calls : List Call) (numbers : List ℕ) : Type 0 where
+-- each entry as a group of its own, with its number
+abbrev pub singles_from : ℕ → List Entry → List Group
+singles_from first [] = []
+singles_from first (e ∷ entries) = record { first = first; entries = e ∷ [] } ∷ singles_from (first + 1) entries
+
+-- What the sender of a connection knows by one number each, of what these calls took, in order: each entry by RELP, and else each group.
+abbrev pub acked_by : Proto → List Call → List Group
+acked_by Relp calls = flat_map (λ (group : Group). singles_from group.first group.entries) (groups_of calls)
+acked_by proto calls = groups_of calls
+
+-- The numbers are those of the first that these calls took: by RELP of the first entries, and else of the first groups. They are as many,
+-- in order.
+pub record AreOfFirst (proto : Proto) (calls : List Call) (numbers : List ℕ) : Type 0 where
   pub groups : List Group
   pub more : List Group
-  pub taken : groups_of calls ≡ groups ++ more
+  pub taken : acked_by proto calls ≡ groups ++ more
   pub some : All HasEntries groups
   pub own : numbers ≡ units groups
 
--- Whatever numbers the text of a connection acknowledges, they are those of the first groups that were taken.
+-- Whatever numbers the text of a connection acknowledges, they are those of the first entries or groups that were taken.
 abbrev pub AckedIsTaken : Type 0
 AckedIsTaken =
-    (proto : Proto) (tokens : Tokens) (conn : ℕ) (left : Option (List ℕ)) (b : List ℕ) (calls : List Call) (text : List ℕ) (talk : Talk)
-    → CarriedAs proto tokens conn left b calls text talk
-    → (numbers : List ℕ) → Acknowledges proto text numbers → AreOfFirst calls numbers
+    (proto : Proto) (terms : Terms) (conn : ℕ) (left : Option (List ℕ)) (b : List ℕ) (calls : List Call) (text : List ℕ) (talk : Talk)
+    → CarriedAs proto terms conn left b calls text talk
+    → (numbers : List ℕ) → Acknowledges proto text numbers → AreOfFirst proto calls numbers
 
 -- acknowledgments of Lumberjack for these numbers, one after another
 abbrev pub acks_of : List ℕ → List ℕ

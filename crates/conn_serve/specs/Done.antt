@@ -15,11 +15,15 @@ pub record Done (ran : List Call → Type 0) (written written' : Option (List �
   pub counted : after ≡ before + count calls
   pub is : Is calls text
 
--- Where the first was so of the bytes read and of all calls and text before, which stored that many
--- entries, the other is so of them now.
+-- Where the first was so of something, as of what was read, and of all calls and text before, which stored that many entries, the
+-- other is so of it and of them now.
+abbrev pub LeadsBy : {B : Type 0} → ℕ → (B → List Call → List ℕ → Type 0) → (B → List Call → List ℕ → Type 0) → List Call → List ℕ → Type 0
+LeadsBy {B} before From To calls text =
+    (fed : B) (called : List Call) (said : List ℕ) → before ≡ count called → From fed called said → To fed (called ++ calls) (said ++ text)
+
+-- so it is of the bytes read
 abbrev pub Leads : ℕ → (List ℕ → List Call → List ℕ → Type 0) → (List ℕ → List Call → List ℕ → Type 0) → List Call → List ℕ → Type 0
-Leads before From To calls text =
-    (fed : List ℕ) (called : List Call) (said : List ℕ) → before ≡ count called → From fed called said → To fed (called ++ calls) (said ++ text)
+Leads before From To calls text = LeadsBy before From To calls text
 
 -- Where the first was so of the bytes read and of all calls and text before, which stored that many
 -- entries, the other is so of them now, with a piece more.

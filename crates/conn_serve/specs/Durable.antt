@@ -6,7 +6,6 @@ use Rattle.event_form.specs.declared.talk.Talk.{Talk}
 use Rattle.edge_io.specs.declared.proto.Proto.{Proto}
 use Rattle.edge_io.specs.declared.proto.Proto.TheVariants.{Relp, Lumberjack, Hec}
 use Rattle.edge_disk.specs.Disk.{Moment}
-use Rattle.hec_session.specs.declared.tokens.Tokens.{Tokens}
 use Rattle.desk_access.specs.Call.{Call, Record, calls_of, own_of}
 use Rattle.desk_access.specs.Durable.{AreDurable, IsTakenDurably, IsToldTrue, left_since}
 use Rattle.desk_access.specs.Groups.{Group, IsOfId, groups_of}
@@ -15,22 +14,23 @@ use Rattle.desk_access.specs.Legal.{of_unit}
 use Rattle.conn_serve.specs.Acked.{AreOfFirst}
 use Rattle.conn_serve.specs.HecAcked.{AcknowledgesGroup, TellsTrue}
 use Rattle.conn_serve.specs.Serves.{CarriedAs}
+use Rattle.conn_serve.specs.Terms.{Terms}
 
--- The numbers that were acknowledged are those of the first groups that the calls took, one for each, in order; and these groups are
--- durable.
-pub record AckedIsDurable (calls : List Call) (now : Moment) (numbers : List ℕ) : Type 0 where
-  pub taken : AreOfFirst calls numbers
+-- The numbers that were acknowledged are those of the first that the calls took, one for each, in order: by RELP of entries, and else of
+-- groups; and these are durable.
+pub record AckedIsDurable (proto : Proto) (calls : List Call) (now : Moment) (numbers : List ℕ) : Type 0 where
+  pub taken : AreOfFirst proto calls numbers
   pub durable : AreDurable now taken.groups
 
 -- What a connection's answers acknowledged beside numbers. By the collector's protocol the group of a Success without an id, which the
 -- connection's calls took, is durable; and so it is, as `TrueMeans` says, of each id of a channel for which an answer said true. That is
 -- no one thing, since the id's group may have been taken by another connection, where there are others. The other protocols acknowledge by
 -- numbers alone.
-abbrev pub AnswersAreDurable : (proto : Proto) (tokens : Tokens) (conn : ℕ) (left : Option (List ℕ)) (b : List ℕ) (calls : List Call)
-    (text : List ℕ) (talk : Talk) → CarriedAs proto tokens conn left b calls text talk → Moment → (ℕ → ℕ → Type 0) → Type 0
-AnswersAreDurable Relp tokens conn left b calls text talk carried now TrueMeans = Unit {0}
-AnswersAreDurable Lumberjack tokens conn left b calls text talk carried now TrueMeans = Unit {0}
-AnswersAreDurable Hec tokens conn left b calls text talk carried now TrueMeans =
+abbrev pub AnswersAreDurable : (proto : Proto) (terms : Terms) (conn : ℕ) (left : Option (List ℕ)) (b : List ℕ) (calls : List Call)
+    (text : List ℕ) (talk : Talk) → CarriedAs proto terms conn left b calls text talk → Moment → (ℕ → ℕ → Type 0) → Type 0
+AnswersAreDurable Relp terms conn left b calls text talk carried now TrueMeans = Unit {0}
+AnswersAreDurable Lumberjack terms conn left b calls text talk carried now TrueMeans = Unit {0}
+AnswersAreDurable Hec terms conn left b calls text talk carried now TrueMeans =
     ((group : Group) → AcknowledgesGroup carried group → IsTakenDurably calls now group)
     × ((channel id : ℕ) → TellsTrue carried channel id → TrueMeans channel id)
 

@@ -187,6 +187,7 @@ hec tokens conn = record {
   IsFaulty = λ b items place why. (at : ℕ) × (reason : HttpWhy) × IsFaulty b items at place reason × (why ≡ why_of reason);
   IsMove = λ before s. (item : HttpItem) × (s.frames ≡ item ∷ []) × CarriesItem tokens conn (count (calls_of before)) item s.calls s.text;
   AreHeld = λ before held. held ≡ [];
+  MayGiveUp = λ before held. Unit {0};
   Stops = λ before held. StopsAtItem tokens conn (count (calls_of before));
   IsLastMove = λ before held. SaysLast;
   StopsLast = λ before held. StopsSaying;

@@ -1,5 +1,6 @@
 pub mod Front
 pub mod Relp
+pub mod Runs
 pub mod Lumber
 pub mod Handled
 pub mod Done
@@ -7,7 +8,7 @@ pub mod Endings
 pub mod RelpServing
 pub mod LumberServing
 pub mod Hec
-pub mod Tokens
+pub mod Terms
 pub mod HecServing
 pub mod Serves
 pub mod Says
@@ -17,4 +18,5 @@ pub mod HecAcked
 pub mod Durable
 pub mod DiskFaults
 pub mod Numbering
+pub mod RunsOfOne
 pub mod Sayable

@@ -58,6 +58,7 @@ lumberjack conn = record {
   IsFaulty = IsFaultyBy receiver (λ e. e.at) (λ e. why_of e.why);
   IsMove = λ before s. IsBatch (frames_of before) s.frames × StoresBatch conn (count (calls_of before)) (staged s.frames) s.calls s.text;
   AreHeld = λ before held. EndsNowhere (frames_of before) held;
+  MayGiveUp = λ before held. Unit {0};
   Stops = λ before held f late part talk. IsBatch (frames_of before) (held ++ f ∷ [])
       × EndsAtBatch conn (count (calls_of before)) (staged (held ++ f ∷ [])) late part talk;
   IsLastMove = λ before held over. StoresLast conn (count (calls_of before)) (staged held);

@@ -2,10 +2,10 @@
 use Rattle.std.specs.Prelude.{ℕ, ◌+◌, List, [], ◌∷◌, length, Option}
 use Rattle.event_form.specs.declared.talk.Talk.{Talk}
 use Rattle.edge_io.specs.declared.proto.Proto.{Proto}
-use Rattle.hec_session.specs.declared.tokens.Tokens.{Tokens}
 use Rattle.desk_access.specs.Batch.{AreNext}
 use Rattle.desk_access.specs.Call.{Call, takes, taken_by}
 use Rattle.conn_serve.specs.Serves.{CarriedAs}
+use Rattle.conn_serve.specs.Terms.{Terms}
 
 -- The group of a take, whatever its answer, is of that connection, and its indexes go on from this one.
 abbrev pub IsOfConn : ℕ → ℕ → Call → Type 0
@@ -20,6 +20,6 @@ AreOfConn conn index (call ∷ calls) = IsOfConn conn index call × AreOfConn co
 -- Whatever a connection has carried, its calls take entries of its number alone, with indexes from 0 on.
 abbrev pub CallsAreOfConn : Type 0
 CallsAreOfConn =
-    (proto : Proto) (tokens : Tokens) (conn : ℕ) (left : Option (List ℕ)) (b : List ℕ) (calls : List Call) (text : List ℕ) (talk : Talk)
-    → CarriedAs proto tokens conn left b calls text talk
+    (proto : Proto) (terms : Terms) (conn : ℕ) (left : Option (List ℕ)) (b : List ℕ) (calls : List Call) (text : List ℕ) (talk : Talk)
+    → CarriedAs proto terms conn left b calls text talk
     → AreOfConn conn 0 calls

@@ -101,6 +101,7 @@ relp conn = record {
   IsFaulty = IsFaultyBy stream.relp (λ e. e.at) (λ e. why_of e.why);
   IsMove = λ before s. (f : Frame) × (s.frames ≡ f ∷ []) × CarriesFrame conn (state_after (frames_of before)) (count (calls_of before)) f s.calls s.text;
   AreHeld = λ before held. held ≡ [];
+  MayGiveUp = λ before held. held ≡ [];
   Stops = λ before held. StopsAtFrame conn (state_after (frames_of before)) (count (calls_of before));
   IsLastMove = λ before held over. IsNothing;
   StopsLast = λ before held over late part talk. ⊥;

@@ -14,13 +14,14 @@ use Rattle.conn_serve.specs.HecAcked.{AcknowledgesGroup, TellsTrue}
 use Rattle.conn_serve.specs.Numbering.{AreOfConn}
 use Rattle.conn_serve.specs.Says.{HasCarried}
 use Rattle.conn_serve.specs.Serves.{CarriedAs}
+use Rattle.conn_serve.specs.Terms.{Terms}
 
--- The numbers that it acknowledges are those of the first groups that were taken.
+-- The numbers that it acknowledges are those of the first entries or groups that were taken.
 abbrev pub SayableIsTaken : Type 0
 SayableIsTaken =
-    (proto : Proto) (tokens : Tokens) (conn : ℕ) (b : List ℕ) (calls : List Call) (text : List ℕ)
-    → HasCarried (CarriedAs proto tokens conn) b calls text
-    → (numbers : List ℕ) → Acknowledges proto text numbers → AreOfFirst calls numbers
+    (proto : Proto) (terms : Terms) (conn : ℕ) (b : List ℕ) (calls : List Call) (text : List ℕ)
+    → HasCarried (CarriedAs proto terms conn) b calls text
+    → (numbers : List ℕ) → Acknowledges proto text numbers → AreOfFirst proto calls numbers
 
 -- A group that a collector's reply in it acknowledges without an id was taken.
 abbrev pub SayableGroupIsTaken : Type 0
@@ -47,5 +48,5 @@ SayableIsSettled =
 -- The calls take entries of the connection's number alone, with indexes from 0 on.
 abbrev pub SayableIsOfConn : Type 0
 SayableIsOfConn =
-    (proto : Proto) (tokens : Tokens) (conn : ℕ) (b : List ℕ) (calls : List Call) (text : List ℕ)
-    → HasCarried (CarriedAs proto tokens conn) b calls text → AreOfConn conn 0 calls
+    (proto : Proto) (terms : Terms) (conn : ℕ) (b : List ℕ) (calls : List Call) (text : List ℕ)
+    → HasCarried (CarriedAs proto terms conn) b calls text → AreOfConn conn 0 calls

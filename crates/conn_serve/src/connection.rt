@@ -1,14 +1,15 @@
 //! A connection's entries.
-ghost use Rattle.std.specs.Prelude.{◌≡◌, ◌+◌, ◌<◌, ◌^◌, [], ◌∷◌, length, All, IfOk, OnOk, OnErr};
+ghost use Rattle.std.specs.Prelude.{◌≡◌, ◌+◌, ◌<◌, ◌≤◌, ◌^◌, [], ◌∷◌, length, take, All, IfErr, IfOk, OnOk, OnErr};
 ghost use Rattle.event_form.specs.Event.{IsEvent};
 ghost use Rattle.event_form.specs.Entry.{IsEntry};
+ghost use Rattle.spool_answers.specs.Take.{IsRefusal};
 ghost use Rattle.desk_access.specs.Batch.{AreNext, AreOfUnit};
 ghost use Rattle.desk_access.specs.Call.{takes};
 ghost use Rattle.conn_serve.specs.Relp.{entry_of};
 ghost use Rattle.conn_serve.specs.Groups.{IsFrameEntry};
 ghost use Rattle.conn_serve.specs.Hec.{entries_of};
 
-use desk_access::Access;
+use desk_access::{Access, Front};
 use event_form::{Entry, Event};
 use spool_answers::{Receipt, TakeFault};
 use std::alloc::{AllocError, Global};
@@ -59,6 +60,36 @@ pub fn take_group<A: Access>(
     let receipt = access.take(entries)?;
     connection.taken += entries.len() as u64;
     Ok(receipt)
+}
+
+/// Takes the first of the entries into the spool as one group: they are the connection's next ones. What comes of it is as
+/// the desk's `take_front` says.
+pub fn take_front<A: Access>(
+    access: &mut A,
+    connection: &mut Connection,
+    entries: Vec<Entry>,
+) -> Front
+    requires some { 0 < length entries.items }
+    requires few { length entries.items < 2 ^ 32 }
+    requires limits { All IsFrameEntry entries.items }
+    requires next { AreNext connection.old.number connection.old.taken entries.items }
+    requires early { connection.old.taken + length entries.items < 2 ^ 63 }
+    requires may { A.may_take access.old connection.old.number connection.old.taken }
+
+    ensures same { result.entries.items ≡ entries.items }
+    ensures front { (0 < result.count) × (result.count ≤ length entries.items) }
+    ensures ran { A.ran access.old (takes (take result.count entries.items) result.answer ∷ []) access.new }
+    ensures alone { IfErr result.answer (λ fault. IsRefusal fault → result.count ≡ 1) }
+    ensures next { OnOk result.answer (connection.new ≡ record connection.old { taken = connection.old.taken + result.count }) }
+    ensures stays { OnErr result.answer (connection.new ≡ connection.old) }
+    ensures may { OnOk result.answer (A.may_take access.new connection.old.number connection.new.taken) }
+{
+    let front = access.take_front(entries);
+    if front.answer.is_err() {
+        return front;
+    }
+    connection.taken += front.count as u64;
+    front
 }
 
 /// The events as the connection's next entries, all with this unit. The error is want of memory.

@@ -34,19 +34,19 @@ pub fn take_in<L: Link, A: Access, S: Session>(
     requires may { A.may_take access.old connection.old.number connection.old.taken }
     requires says { MaySay (A.ran access.old) (L.permits link.old) (L.taken link.old) (Leads connection.old.taken
         (S.served connection.old.number session.old)
-        (λ fed. HasCarried (S.carried (S.tokens session.old) connection.old.number) (fed ++ piece.now))) }
+        (λ fed. HasCarried (S.carried (S.terms session.old) connection.old.number) (fed ++ piece.now))) }
 
     ensures goes { OnOk result (Done (λ calls. A.ran access.old calls access.new) (L.taken link.old) (L.taken link.new)
         connection.old.taken connection.new.taken (LeadsOn connection.old.taken piece.now (S.served connection.old.number session.old)
         (S.served connection.old.number session.new))) }
     ensures halts { IfErr result (λ talk. Done (λ calls. A.ran access.old calls access.new) (L.taken link.old) (L.taken link.new)
         connection.old.taken connection.new.taken (LeadsOn connection.old.taken piece.now (S.served connection.old.number session.old)
-        (λ fed calls text. (left : Option (List ℕ)) → S.carried (S.tokens session.old) connection.old.number left fed calls text talk))) }
+        (λ fed calls text. (left : Option (List ℕ)) → S.carried (S.terms session.old) connection.old.number left fed calls text talk))) }
     ensures bytes { AreBytes piece.now }
     ensures only { IfErr result IsAtMove }
     ensures idle { OnOk result (S.idle session.new) }
     ensures extent { OnOk result (S.extent session.new ≤ S.extent session.old + length piece.now) }
-    ensures tokens { OnOk result (S.tokens session.new ≡ S.tokens session.old) }
+    ensures terms { OnOk result (S.terms session.new ≡ S.terms session.old) }
     ensures number { connection.new.number ≡ connection.old.number }
     ensures may { OnOk result (A.may_take access.new connection.old.number connection.new.taken) }
     ensures writes { CountsFaults (IsErrOf result Talk.WriteFault) (L.write_faults link.old) (L.write_faults link.new) }
@@ -80,8 +80,8 @@ pub fn turn<L: Link, A: Access, S: Session>(
     requires says { (read : L) (piece : List ℕ) → L.same link.old read → Appends (L.given link.old) (L.given read) piece
         → MaySay (A.ran access.old) (L.permits read) (L.taken link.old) (Leads connection.old.taken
         (S.served connection.old.number session.old)
-        (λ fed. HasCarried (S.carried (S.tokens session.old) connection.old.number) (fed ++ piece))) }
-    requires may_end { MayEnd (S.served connection.old.number session.old) (S.carried (S.tokens session.old) connection.old.number) }
+        (λ fed. HasCarried (S.carried (S.terms session.old) connection.old.number) (fed ++ piece))) }
+    requires may_end { MayEnd (S.served connection.old.number session.old) (S.carried (S.terms session.old) connection.old.number) }
 
     ensures room { IfOk result (λ len. len ≤ room) }
     ensures goes { IfOk result (λ len. Turn (λ calls. A.ran access.old calls access.new)
@@ -93,12 +93,12 @@ pub fn turn<L: Link, A: Access, S: Session>(
         (told (L.given link.old) (L.left link.old) (L.taken link.old))
         (told (L.given link.new) (L.left link.new) (L.taken link.new)) connection.old.taken connection.new.taken
         (λ piece calls text. LeadsOn connection.old.taken piece (S.served connection.old.number session.old)
-        (λ fed called said. S.carried (S.tokens session.old) connection.old.number (L.left link.new) fed called said talk) calls text)) }
+        (λ fed called said. S.carried (S.terms session.old) connection.old.number (L.left link.new) fed called said talk) calls text)) }
     ensures end { IfOk result (λ len. len ≡ 0 → IsAtEnd (L.left link.new)) }
     ensures only { IfErr result (λ talk. (talk ≡ Talk.ReadFault) ⊎ IsAtMove talk) }
     ensures idle { OnOk result (S.idle session.new) }
     ensures extent { IfOk result (λ len. S.extent session.new ≤ S.extent session.old + len) }
-    ensures tokens { OnOk result (S.tokens session.new ≡ S.tokens session.old) }
+    ensures terms { OnOk result (S.terms session.new ≡ S.terms session.old) }
     ensures number { connection.new.number ≡ connection.old.number }
     ensures may { OnOk result (A.may_take access.new connection.old.number connection.new.taken) }
     ensures reads { CountsFaults (IsErrOf result Talk.ReadFault) (L.read_faults link.old) (L.read_faults link.new) }

@@ -3,12 +3,13 @@ ghost use Rattle.conn_serve.specs.Acked.{AckedIsTaken, AcksAreOfGroups};
 ghost use Rattle.conn_serve.specs.DiskFaults.{DiskFaultIsTold};
 ghost use Rattle.conn_serve.specs.HecAcked.{SaidLiesWhole, AcknowledgedIsTaken, SettledIsStored, ToldIsTaken};
 ghost use Rattle.conn_serve.specs.Numbering.{CallsAreOfConn};
+ghost use Rattle.conn_serve.specs.RunsOfOne.{OneIsARun, RunsOfOne};
 ghost use Rattle.conn_serve.specs.Sayable.{SayableIsTaken, SayableGroupIsTaken, SayableIdIsTaken, SayableIsSettled, SayableIsOfConn};
 
 /// Whatever a sender finds acknowledged by whole frames at the front of the text of its connection was taken: the
-/// numbers are those of the first groups that were taken, one each, in order. By RELP a `rsp` frame that says `200 OK`
-/// acknowledges its transaction number, and a group is one event; by Lumberjack an `A` frame acknowledges the sequence
-/// number of a group's last event.
+/// numbers are those of the first events or groups that were taken, one each, in order. By RELP a `rsp` frame that says
+/// `200 OK` acknowledges the event of its transaction number; by Lumberjack an `A` frame acknowledges the group whose last
+/// event has that sequence number.
 pub fn acked_is_taken()
     ensures { AckedIsTaken }
 {}
@@ -52,4 +53,15 @@ pub fn what_may_be_said_is_taken()
     ensures told { SayableIdIsTaken }
     ensures settled { SayableIsSettled }
     ensures own { SayableIsOfConn }
+{}
+
+/// Where RELP stores one event as a group at most, what a connection does is what it does frame by frame: a run of one is
+/// a frame, and the connection ends at it in the same way. So storing runs changes nothing for one who doesn't ask for it.
+pub fn runs_of_one()
+    ensures { RunsOfOne }
+{}
+
+/// What RELP does frame by frame is allowed where runs are stored, however long they may be.
+pub fn one_is_a_run()
+    ensures { OneIsARun }
 {}

@@ -16,11 +16,12 @@ mod relp;
 mod rules;
 mod serve;
 mod session;
+mod staged;
 mod talk;
 
 pub use laws::{
-    acked_is_taken, acks_are_of_groups, calls_are_of_conn, disk_fault_is_told,
-    replies_acknowledge_what_was_taken, what_may_be_said_is_taken,
+    acked_is_taken, acks_are_of_groups, calls_are_of_conn, disk_fault_is_told, one_is_a_run,
+    replies_acknowledge_what_was_taken, runs_of_one, what_may_be_said_is_taken,
 };
 pub use rules::Rules;
 pub use serve::attend;

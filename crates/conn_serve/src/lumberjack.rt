@@ -1,4 +1,3 @@
 //! Lumberjack as a connection serves it.
 mod act;
 pub(crate) mod session;
-mod staged;

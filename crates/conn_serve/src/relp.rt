@@ -1,4 +1,6 @@
 //! RELP as a connection serves it.
 mod act;
+mod run;
 pub(crate) mod session;
+mod store;
 mod texts;

@@ -10,4 +10,7 @@ pub struct Rules {
     pub token: Option<u128>,
     /// The token whose requests are answered with an id, which the sender asks about.
     pub ack_token: Option<u128>,
+    /// Whether events of RELP that one read brings are stored as one group: 512 of them at most. Else each
+    /// is stored by itself.
+    pub group: bool,
 }

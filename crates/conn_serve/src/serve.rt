@@ -31,7 +31,7 @@ fn over<S: Session>(session: &S, len: usize) -> Option<Talk>
     ensures closing { IfSome result (λ talk. (number : ℕ) (left : Option (List ℕ)) (fed : List ℕ) (calls : List Call) (text : List ℕ) → (len ≡ 0 → IsAtEnd left)
         → S.served number session.now fed calls text → S.closing number session.now left talk fed calls text) }
     ensures only { IfSome result (λ talk. IsByFault talk ⊎ IsAtEndOfInput talk) }
-    ensures may_end { IfNone result ((number : ℕ) → MayEnd (S.served number session.now) (S.carried (S.tokens session.now) number)) }
+    ensures may_end { IfNone result ((number : ℕ) → MayEnd (S.served number session.now) (S.carried (S.terms session.now) number)) }
     ensures more { IfNone result (0 < len) }
 {
     if let Some(talk) = session.fault() {
@@ -54,12 +54,12 @@ fn close<L: Link, A: Access, S: Session>(
     requires only { IsByFault over ⊎ IsAtEndOfInput over }
     requires says { MaySay (A.ran access.old) (L.permits link.old) (L.taken link.old) (λ calls text. (left : Option (List ℕ))
         → Leads connection.old.taken (S.closing connection.old.number session.old left over)
-        (HasCarried (S.carried (S.tokens session.old) connection.old.number)) calls text) }
+        (HasCarried (S.carried (S.terms session.old) connection.old.number)) calls text) }
 
     ensures closes { Done (λ calls. A.ran access.old calls access.new) (L.taken link.old) (L.taken link.new)
         connection.old.taken connection.new.taken (λ calls text. (left : Option (List ℕ)) → Leads connection.old.taken
         (S.closing connection.old.number session.old left over)
-        (λ fed called said. S.carried (S.tokens session.old) connection.old.number left fed called said result) calls text) }
+        (λ fed called said. S.carried (S.terms session.old) connection.old.number left fed called said result) calls text) }
     ensures unread { result ≢ Talk.ReadFault }
     ensures writes { CountsFaults (result ≡ Talk.WriteFault) (L.write_faults link.old) (L.write_faults link.new) }
     ensures same { L.same link.old link.new }
@@ -84,14 +84,14 @@ fn run<L: Link, A: Access, S: Session>(
     requires start { S.served connection.old.number session.old [] [] [] }
     requires idle { S.idle session.old }
     requires unfed { S.extent session.old ≡ 0 }
-    requires may_end { MayEnd (S.served connection.old.number session.old) (S.carried (S.tokens session.old) connection.old.number) }
+    requires may_end { MayEnd (S.served connection.old.number session.old) (S.carried (S.terms session.old) connection.old.number) }
     requires first { connection.old.taken ≡ 0 }
     requires may { A.may_take access.old connection.old.number 0 }
     requires says { (read : L) (bytes : List ℕ) → L.same link.old read → Appends (L.given link.old) (L.given read) bytes
         → MaySay (A.ran access.old) (L.permits read) (L.taken link.old)
-        (HasCarried (S.carried (S.tokens session.old) connection.old.number) bytes) }
+        (HasCarried (S.carried (S.terms session.old) connection.old.number) bytes) }
 
-    ensures serves { Serves (S.carried (S.tokens session.old) connection.old.number) (L.given link.old) (L.given link.new) (L.left link.old) (L.left link.new)
+    ensures serves { Serves (S.carried (S.terms session.old) connection.old.number) (L.given link.old) (L.given link.new) (L.left link.old) (L.left link.new)
         (L.taken link.old) (L.taken link.new) (λ calls. A.ran access.old calls access.new) (record { talk = result; taken = connection.new.taken }) }
     ensures reads { CountsFaults (result ≡ Talk.ReadFault) (L.read_faults link.old) (L.read_faults link.new) }
     ensures writes { CountsFaults (result ≡ Talk.WriteFault) (L.write_faults link.old) (L.write_faults link.new) }
@@ -126,7 +126,9 @@ fn run<L: Link, A: Access, S: Session>(
 ///
 /// - RELP, as rsyslog's RELP specification, version 0, has it: a `syslog` is taken into the spool as one
 ///   group of one entry, and answered once it is durable. The unit of an entry is its frame's transaction
-///   number.
+///   number. Where the rules say so, `syslog`s that stand one after another and that one read brought are taken
+///   as one group, 512 of them at most, and their answers are written as one text; several have texts of at
+///   most 131,136 bytes together. Where the spool has no room for all, the first of them are a group.
 /// - Lumberjack, as Elastic's protocol document, version 2, has it: events are staged, and each batch of
 ///   them is taken as one group and then acknowledged with the sequence number of its last frame. The
 ///   unit of an entry is its frame's sequence number. Where the input is over, by its end or by a fault,
@@ -168,7 +170,7 @@ pub fn attend<L: Link, A: Access>(
         taken: 0,
     };
     let talk = match rules.proto {
-        Proto::Relp => match RelpSession::new(alloc) {
+        Proto::Relp => match RelpSession::new(alloc, rules.group) {
             Ok(mut session) => run(alloc, link, access, &mut connection, &mut session),
             Err(_) => Talk::NoMemory,
         },

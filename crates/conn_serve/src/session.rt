@@ -3,12 +3,12 @@ ghost use Rattle.std.specs.Prelude.{◌≡◌, ◌+◌, ◌<◌, ◌≤◌, ◌^
 ghost use Rattle.std.specs.Prelude.{OnOk, IfErr, IfSome, IfNone, IsErrOf};
 ghost use Rattle.std.specs.Io.KnownBytes.{IsAtEnd};
 ghost use Rattle.event_form.specs.declared.talk.Talk.{Talk};
-ghost use Rattle.hec_session.specs.declared.tokens.Tokens.{Tokens};
 ghost use Rattle.desk_access.specs.Call.{Call};
 ghost use Rattle.desk_access.specs.Endings.{IsAtMove, IsByFault, IsAtEndOfInput};
 ghost use Rattle.conn_serve.specs.Done.{Done, Leads, SoFar, Anyway};
 ghost use Rattle.conn_serve.specs.Endings.{MayEnd, CountsFaults};
 ghost use Rattle.conn_serve.specs.Says.{CouldEnd, HasCarried, MaySay};
+ghost use Rattle.conn_serve.specs.Terms.{Terms};
 
 use crate::connection::Connection;
 use desk_access::Access;
@@ -19,16 +19,16 @@ use std::alloc::Global;
 /// What a protocol does with the bytes of its connection. The reading, the order in which endings are
 /// judged and the counting stand outside, once for all protocols.
 pub trait Session {
-    /// The tokens of the collector by which it judges requests. Other protocols have none.
-    ghost tokens: { Self → Tokens };
+    /// The terms on which it serves: how many events of RELP are stored as one group at most, and the tokens of the collector.
+    ghost terms: { Self → Terms };
 
     /// On the connection of this number these bytes were read, and all their whole frames were served but those
     /// that wait: by these calls on the desk and this text written.
     ghost served: { ℕ → Self → List ℕ → List Call → List ℕ → Type 0 };
 
-    /// A connection of this number, judged by these tokens, has that left of its input, read these bytes, made these
+    /// A connection of this number, served on these terms, has that left of its input, read these bytes, made these
     /// calls on the desk, wrote this text and ended so, as the protocol has it.
-    ghost carried: { Tokens → ℕ → Option (List ℕ) → List ℕ → List Call → List ℕ → Talk → Type 0 };
+    ghost carried: { Terms → ℕ → Option (List ℕ) → List ℕ → List Call → List ℕ → Talk → Type 0 };
 
     /// The bytes read were served by these calls and this text, and the input is over, with that left of it. The
     /// connection would end so; what is to be done for that, as a last batch or a reply, is still to be done.
@@ -51,7 +51,7 @@ pub trait Session {
         ensures within { result ≤ length piece.now }
         ensures some { 0 < length piece.now → 0 < result }
         ensures extent { extent self.new ≤ extent self.old + result }
-        ensures tokens { tokens self.new ≡ tokens self.old }
+        ensures terms { terms self.new ≡ terms self.old }
         ensures fed { (number : ℕ) (fed : List ℕ) (calls : List Call) (text : List ℕ)
             → served number self.old fed calls text → served number self.new (fed ++ take result piece.now) calls text };
 
@@ -67,18 +67,18 @@ pub trait Session {
         requires so_far { SoFar (served connection.old.number self.old) connection.old.taken 0 }
         requires may { A.may_take access.old connection.old.number connection.old.taken }
         requires says { MaySay (A.ran access.old) (L.permits link.old) (L.taken link.old) (Leads connection.old.taken
-            (served connection.old.number self.old) (CouldEnd (carried (tokens self.old) connection.old.number))) }
+            (served connection.old.number self.old) (CouldEnd (carried (terms self.old) connection.old.number))) }
 
         ensures goes { OnOk result (Done (λ calls. A.ran access.old calls access.new) (L.taken link.old) (L.taken link.new)
             connection.old.taken connection.new.taken (Leads connection.old.taken (served connection.old.number self.old)
             (served connection.old.number self.new))) }
         ensures halts { IfErr result (λ talk. Done (λ calls. A.ran access.old calls access.new) (L.taken link.old) (L.taken link.new)
             connection.old.taken connection.new.taken (Leads connection.old.taken (served connection.old.number self.old)
-            (Anyway (carried (tokens self.old) connection.old.number) talk))) }
+            (Anyway (carried (terms self.old) connection.old.number) talk))) }
         ensures only { IfErr result IsAtMove }
         ensures idle { OnOk result (idle self.new) }
         ensures extent { OnOk result (extent self.new ≤ extent self.old) }
-        ensures tokens { OnOk result (tokens self.new ≡ tokens self.old) }
+        ensures terms { OnOk result (terms self.new ≡ terms self.old) }
         ensures number { connection.new.number ≡ connection.old.number }
         ensures may { OnOk result (A.may_take access.new connection.old.number connection.new.taken) }
         ensures writes { CountsFaults (IsErrOf result Talk.WriteFault) (L.write_faults link.old) (L.write_faults link.new) }
@@ -92,7 +92,7 @@ pub trait Session {
             → served number self.now fed calls text → closing number self.now left talk fed calls text) }
         ensures only { IfSome result IsByFault }
         ensures settled { IfNone result (settled self.now) }
-        ensures may_end { IfNone result ((number : ℕ) → MayEnd (served number self.now) (carried (tokens self.now) number)) };
+        ensures may_end { IfNone result ((number : ℕ) → MayEnd (served number self.now) (carried (terms self.now) number)) };
 
     /// Where no frame waits and the bytes have no fault: the ending by the end of the input.
     fn end(&self) -> Talk
@@ -115,16 +115,16 @@ pub trait Session {
         requires may { A.may_take access.old connection.old.number connection.old.taken }
         requires says { MaySay (A.ran access.old) (L.permits link.old) (L.taken link.old) (λ calls text. (left : Option (List ℕ))
             → Leads connection.old.taken (closing connection.old.number self.old left over)
-            (HasCarried (carried (tokens self.old) connection.old.number)) calls text) }
+            (HasCarried (carried (terms self.old) connection.old.number)) calls text) }
 
         ensures goes { OnOk result (Done (λ calls. A.ran access.old calls access.new) (L.taken link.old) (L.taken link.new)
             connection.old.taken connection.new.taken (λ calls text. (left : Option (List ℕ)) → Leads connection.old.taken
             (closing connection.old.number self.old left over)
-            (λ fed called said. carried (tokens self.old) connection.old.number left fed called said over) calls text)) }
+            (λ fed called said. carried (terms self.old) connection.old.number left fed called said over) calls text)) }
         ensures halts { IfErr result (λ talk. Done (λ calls. A.ran access.old calls access.new) (L.taken link.old) (L.taken link.new)
             connection.old.taken connection.new.taken (λ calls text. (left : Option (List ℕ)) → Leads connection.old.taken
             (closing connection.old.number self.old left over)
-            (λ fed called said. carried (tokens self.old) connection.old.number left fed called said talk) calls text)) }
+            (λ fed called said. carried (terms self.old) connection.old.number left fed called said talk) calls text)) }
         ensures only { IfErr result IsAtMove }
         ensures writes { CountsFaults (IsErrOf result Talk.WriteFault) (L.write_faults link.old) (L.write_faults link.new) }
         ensures same { L.same link.old link.new }

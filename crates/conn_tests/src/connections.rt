@@ -5,7 +5,7 @@ use crate::fields::{bytes_of, check_form, numbers_of};
 use crate::harness::{check_bytes, repeated, serve};
 use crate::{
     hec_endings, hec_refused, hec_rows, hec_unsaid, lumberjack_endings, lumberjack_rows,
-    relp_endings, relp_rows,
+    relp_endings, relp_rows, relp_runs,
 };
 use edge_io::Proto;
 use event_form::{Attended, Talk};
@@ -14,7 +14,7 @@ use std::process::Abort;
 
 // The words of a row: `row NAME`; what [`serve`] reads; `steps`, how many bytes a read brings at most, each in turn; and what is left:
 // `ends HOW, COUNT taken`, and the bytes of `out` and `entries`.
-const WORDS: &str = "row in steps slot disk reads writes ids ends out entries";
+const WORDS: &str = "row in steps slot disk reads writes ids group ends out entries";
 
 // Serves a row's input, at most so many bytes in a read.
 fn check(rt: &impl Abort, alloc: Global, proto: Proto, row: &str, step: usize) {
@@ -43,6 +43,7 @@ fn each_row_is_served(rt: &impl Abort, alloc: Global) {
     for (proto, rows, count) in [
         (Proto::Relp, relp_rows::ROWS, 11),
         (Proto::Relp, relp_endings::ENDINGS, 6),
+        (Proto::Relp, relp_runs::RUNS, 6),
         (Proto::Lumberjack, lumberjack_rows::ROWS, 10),
         (Proto::Lumberjack, lumberjack_endings::ENDINGS, 17),
         (Proto::Hec, hec_rows::ROWS, 4),

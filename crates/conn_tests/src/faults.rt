@@ -8,7 +8,7 @@ use std::process::Abort;
 
 // The words of a row: `row NAME`, `in`, and how many entries are `taken` where no take is answered, the first one is, and both are;
 // what is written then, in `none`, `first` and `both`; and the entries of both takes, in `entries`.
-const WORDS: &str = "row in taken none first both entries";
+const WORDS: &str = "row in group taken none first both entries";
 
 const RELP: &str = r#"row RELP
 in 1 open 0\n
@@ -18,6 +18,19 @@ taken 0 1 2
 none 1 rsp 66 200 OK\nrelp_version=0\nrelp_software=bridge,1,local\ncommands=syslog\n
 first 1 rsp 66 200 OK\nrelp_version=0\nrelp_software=bridge,1,local\ncommands=syslog\n
 first 2 rsp 6 200 OK\n
+both 1 rsp 66 200 OK\nrelp_version=0\nrelp_software=bridge,1,local\ncommands=syslog\n
+both 2 rsp 6 200 OK\n
+both 3 rsp 6 200 OK\n
+entries 7 0 2 rfirst\n
+entries 7 1 3 rsecond\n"#;
+
+const RUNS: &str = r#"row RELP, where both are one group
+in 1 open 0\n
+in 2 syslog 5 first\n
+in 3 syslog 6 second\n
+group 1
+taken 0 2 2
+none 1 rsp 66 200 OK\nrelp_version=0\nrelp_software=bridge,1,local\ncommands=syslog\n
 both 1 rsp 66 200 OK\nrelp_version=0\nrelp_software=bridge,1,local\ncommands=syslog\n
 both 2 rsp 6 200 OK\n
 both 3 rsp 6 200 OK\n
@@ -70,11 +83,11 @@ fn takes_of(rt: &impl Abort, counts: &[u64], taken: u64) -> (usize, &'static str
     if taken == *none {
         return (0, "none", *first);
     }
-    if taken == *first {
-        return (1, "first", *both);
+    if taken == *both {
+        return (2, "both", *both);
     }
-    assert!(rt; taken == *both, "another count: {taken}");
-    (2, "both", *both)
+    assert!(rt; taken == *first, "another count: {taken}");
+    (1, "first", *both)
 }
 
 // What a row left over a disk of which that call failed is right. Answers how many of the two takes were answered where that ended the
@@ -106,12 +119,13 @@ fn takes_before(
 }
 
 /// Whichever call of the disk fails, nothing is answered that isn't there, and nothing is written after
-/// the answers. Each of the two takes makes four calls.
+/// the answers. Each of the two takes makes four calls; where the events are stored as one group, the one take makes four.
 pub(crate) fn a_failed_call_of_the_disk_ends_the_connection(rt: &impl Abort, alloc: Global) {
-    for (proto, row) in [
-        (Proto::Relp, RELP),
-        (Proto::Lumberjack, LUMBERJACK),
-        (Proto::Hec, COLLECTOR),
+    for (proto, row, calls) in [
+        (Proto::Relp, RELP, [4, 4, 0]),
+        (Proto::Relp, RUNS, [4, 0, 0]),
+        (Proto::Lumberjack, LUMBERJACK, [4, 4, 0]),
+        (Proto::Hec, COLLECTOR, [4, 4, 0]),
     ] {
         check_form(rt, row, WORDS, 1);
         let mut faults = [0_u32; 3];
@@ -125,6 +139,6 @@ pub(crate) fn a_failed_call_of_the_disk_ends_the_connection(rt: &impl Abort, all
                 faults[takes] = faults[takes].saturating_add(1);
             }
         }
-        assert!(rt; faults == [4, 4, 0], "{proto:?}: {faults:?}");
+        assert!(rt; faults == calls, "{proto:?}: {faults:?}");
     }
 }

@@ -140,6 +140,7 @@ pub(crate) fn serve(
         proto,
         token: Some(TOKEN),
         ack_token: Some(ACK_TOKEN),
+        group: number_of(rt, row, "group", 0) == 1,
     };
     let attended = attend(alloc, &mut link, &rules, &mut desk, CONN);
     let written = link.sink.taken().to_vec(alloc).expect(rt, "memory");

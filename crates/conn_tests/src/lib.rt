@@ -29,3 +29,5 @@ mod lumberjack_rows;
 mod relp_endings;
 #[cfg(test)]
 mod relp_rows;
+#[cfg(test)]
+mod relp_runs;

@@ -1,6 +1,6 @@
 -- What lasts after the calls of a journal.
 use Rattle.std.proofs.Common.{◌≡◌, ◌⊎◌, inl, inr, ℕ, ◌+◌, ◌≤◌, ◌<◌, List, [], ◌∷◌, ◌++◌, length, take, drop, Option, refl, sym, ◌∙◌, ap, subst, arith}
-use Rattle.std.specs.Prelude.{Result, Ok, Err}
+use Rattle.std.specs.Prelude.{Bool, true, false, Result, Ok, Err}
 use Rattle.std.proofs.lemmas.Bool.{cases_lt}
 use Rattle.std.proofs.lemmas.List.{append-nil}
 use Rattle.event_form.specs.declared.event.Entry.{Entry}
@@ -12,17 +12,18 @@ use Rattle.spool_answers.specs.declared.fault.Receipt.{Receipt}
 use Rattle.spool_answers.specs.declared.fault.TakeFault.TheVariants as Take
 use Rattle.spool_answers.specs.declared.fault.ConfirmFault.{ConfirmFault}
 use Rattle.spool_answers.specs.declared.fault.ConfirmFault.TheVariants as Confirm
-use Rattle.spool_answers.specs.Stages.{IsOneOf, StandsForOne, IsMidway, AllFollow, group_stages, known_stages, last_of}
+use Rattle.spool_answers.specs.Stages.{IsOneOf, StandsForOne, IsMidway, AllFollow, group_stages, known_stages}
 use Rattle.spool_answers.specs.Mark.{all_below, mark_stages}
 use Rattle.spool_answers.proofs.Adding.{adding_follow}
 use Rattle.desk_access.specs.declared.standing.Standing.{Standing}
 use Rattle.desk_access.specs.Call.{Call, takes, confirms, marks, Record, calls_of}
-use Rattle.desk_access.specs.Desk.{DeskState, Answers, Goes, changing, StandsWithin, Stood}
+use Rattle.desk_access.specs.Desk.{DeskState, Answers, AnswersAs, Goes, changing, StandsWithin, Stood}
 use Rattle.desk_access.specs.History.{IsLater, IsDesk, Grown, Grows, IsKept, AreKept, IsCallKept, AllKept, written_by, Was}
 use Rattle.desk_access.specs.Journal.{calls_then}
 use Rattle.desk_access.proofs.Growth.{grown_self, grown_then, grown_end, grown_entry}
+use Rattle.desk_access.proofs.Extending.{grown_extended}
 use Rattle.desk_access.proofs.Stages.{IsStage, AreStages, later_then, one_in, group_some, group_are, known_are, known_follow}
-use Rattle.desk_access.proofs.Steps.{one_later, steps, stage_adds, allowed_later, all_later}
+use Rattle.desk_access.proofs.Steps.{one_later, steps_as, stage_adds, allowed_later, all_later}
 
 -- Its list grew by what the calls added, in order.
 pub goes_grows : (x y : DeskState) (records : List Record) (t : SpoolState) → IsDesk x → Goes x records y → IsOneOf y.spool y.doubt t → Grows x (calls_of records) t
@@ -35,7 +36,7 @@ goes_grows x y [] t rules goes one = record {
 }
 goes_grows x y (first ∷ records) t rules goes one =
     let rest = goes_grows goes.0 y records t (allowed_later x goes.0 first rules goes.1).0 goes.2 one in
-    elim (steps x goes.0 first.call first.met rules goes.1.answers).spool [
+    elim (steps_as first.joins x goes.0 first.call first.met rules goes.1.answers).spool [
       | inl same ↦ record {
         mended = rest.mended;
         one = subst (λ (l : List SpoolState). IsOneOf x.spool l rest.mended) same.2 (subst (λ (s : SpoolState). IsOneOf s goes.0.doubt rest.mended) same.1 rest.one);
@@ -43,12 +44,19 @@ goes_grows x y (first ∷ records) t rules goes one =
         adds = ([], rest.more, same.0, rest.adds, refl);
         grown = rest.grown;
       }
-      | inr went ↦ let here = went.2.adds rest.mended rest.one in record {
+      | inr (inl went) ↦ let here = went.2.adds rest.mended rest.one in record {
         mended = went.0;
         one = went.1;
         more = here.0 ++ rest.more;
         adds = (here.0, rest.more, here.1, rest.adds, refl);
         grown = grown_then went.0 rest.mended t here.0 rest.more here.2 rest.grown;
+      }
+      | inr (inr longer) ↦ let here = longer.adds rest.mended rest.one in record {
+        mended = here.0;
+        one = here.1;
+        more = here.2 ++ rest.more;
+        adds = (here.2, rest.more, here.3, rest.adds, refl);
+        grown = grown_then here.0 rest.mended t here.2 rest.more here.4 rest.grown;
       }
     ]
 
@@ -59,18 +67,30 @@ record Took (x : DeskState) (group : List Entry) (receipt : Receipt) (y : DeskSt
   met : SpoolState
   one : IsOneOf x.spool x.doubt met
   first : receipt.first ≡ end met
-  some : 0 < length (group_stages met group)
-  spool : y.spool ≡ last_of met (group_stages met group)
+  grown : Grown met group y.spool
 
 took_there : (x y : DeskState) (group : List Entry) (receipt : Receipt) (met : Option Standing) → IsDesk x → Answers x (takes group (Ok receipt)) met y → 0 < length group → Took x group receipt y
 took_there x y [] receipt met rules answers some = absurd (omega arith)
 took_there x y (entry ∷ entries) receipt met rules (limits, inl stayed) some = absurd (cc (stayed.1))
-took_there x y (entry ∷ entries) receipt met rules (limits, inr went) some = record {
-  met = went.0;
-  one = went.1.one;
-  first = went.2.0.1;
-  some = group_some went.0 (entry ∷ entries) (one_later x went.0 rules went.1.one).sound went.2.0.0.place;
-  spool = ap (λ (d : DeskState). d.spool) went.2.1;
+took_there x y (entry ∷ entries) receipt met rules (limits, inr went) some =
+    let group = entry ∷ entries in
+    let m = went.0 in
+    let sound = (one_later x m rules went.1.one).sound in record {
+      met = m;
+      one = went.1.one;
+      first = went.2.0.1;
+      grown = subst (Grown m group) (sym (ap (λ (d : DeskState). d.spool) went.2.1)) ((group_are m group sound).last (group_some m group sound went.2.0.0.place));
+    }
+
+-- so it is of a take that was stored as one group with the one before it
+took_as : (joins : Bool) (x y : DeskState) (group : List Entry) (receipt : Receipt) (met : Option Standing) → IsDesk x → AnswersAs joins x (takes group (Ok receipt)) met y → 0 < length group → Took x group receipt y
+took_as false x y group receipt met rules answers some = took_there x y group receipt met rules answers some
+took_as true x y [] receipt met rules answers some = absurd answers
+took_as true x y (entry ∷ entries) receipt met rules answers some = record {
+  met = answers.1;
+  one = answers.2.one;
+  first = answers.3.2;
+  grown = subst (Grown answers.1 (entry ∷ entries)) (sym (ap (λ (d : DeskState). d.spool) answers.3.4)) (grown_extended answers.1 (entry ∷ entries) answers.3.1);
 }
 
 -- what has its number in a state is at its number in a later one, or confirmed
@@ -80,24 +100,24 @@ kept_later s t number entry later lt there = elim (cases_lt number (base t)) [
   | inr ge ↦ inr (later.follows.kept number ge lt ∙ there (omega (arith, ge, later.follows.base_rises)))
 ]
 
-kept_there : (x w y : DeskState) (group : List Entry) (receipt : Receipt) (met : Option Standing) (t : SpoolState) → IsDesk x → Answers x (takes group (Ok receipt)) met w → IsLater w.spool t → 0 < length group → AreKept t receipt.first group
-kept_there x w y group receipt met t rules answers later some =
-    let there = took_there x w group receipt met rules answers some in
+kept_there : (joins : Bool) (x w y : DeskState) (group : List Entry) (receipt : Receipt) (met : Option Standing) (t : SpoolState) → IsDesk x → AnswersAs joins x (takes group (Ok receipt)) met w → IsLater w.spool t → 0 < length group → AreKept t receipt.first group
+kept_there joins x w y group receipt met t rules answers later some =
+    let there = took_as joins x w group receipt met rules answers some in
     let m = there.met in
-    let grown : Grown m group w.spool = subst (Grown m group) (sym there.spool) ((group_are m group (one_later x m rules there.one).sound).last there.some) in
+    let grown : Grown m group w.spool = there.grown in
     λ k lt. subst (λ (n : ℕ). IsKept t (n + k) (take 1 (drop k group))) (sym there.first)
     (kept_later w.spool t (end m + k) (take 1 (drop k group)) later (omega (arith, lt, grown_end m w.spool group grown)) (λ ge. grown_entry m w.spool group k grown ge))
 
-call_kept : (x w y : DeskState) (call : Call) (met : Option Standing) (t : SpoolState) → IsDesk x → Answers x call met w → IsLater w.spool t → IsCallKept t call
-call_kept x w y (takes group (Ok receipt)) met t rules answers later = λ k lt. kept_there x w y group receipt met t rules answers later (omega arith) k lt
-call_kept x w y _ met t rules answers later = tt
+call_kept : (joins : Bool) (x w y : DeskState) (call : Call) (met : Option Standing) (t : SpoolState) → IsDesk x → AnswersAs joins x call met w → IsLater w.spool t → IsCallKept t call
+call_kept joins x w y (takes group (Ok receipt)) met t rules answers later = λ k lt. kept_there joins x w y group receipt met t rules answers later (omega arith) k lt
+call_kept joins x w y _ met t rules answers later = tt
 
 -- Each entry of each group that was taken stands at its number, or is confirmed, in each state after the calls.
 pub goes_kept : (x y : DeskState) (records : List Record) (t : SpoolState) → IsDesk x → Goes x records y → IsOneOf y.spool y.doubt t → AllKept t (calls_of records)
 goes_kept x y [] t rules goes one = tt
 goes_kept x y (first ∷ records) t rules goes one =
     let met = allowed_later x goes.0 first rules goes.1 in
-    (call_kept x goes.0 y first.call first.met t rules goes.1.answers (all_later goes.0 y records t met.0 goes.2 one), goes_kept goes.0 y records t met.0 goes.2 one)
+    (call_kept first.joins x goes.0 y first.call first.met t rules goes.1.answers (all_later goes.0 y records t met.0 goes.2 one), goes_kept goes.0 y records t met.0 goes.2 one)
 
 pub kept_parts : (t : SpoolState) (calls more : List Call) → AllKept t (calls ++ more) → AllKept t calls × AllKept t more
 kept_parts t [] more all = (tt, all)

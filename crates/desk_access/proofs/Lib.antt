@@ -1,4 +1,6 @@
 pub mod Growth
+pub mod Extending
+pub mod Jointly
 pub mod Stages
 pub mod Steps
 pub mod OneState

@@ -14,7 +14,7 @@ use Rattle.desk_access.specs.Desk.{DeskState, Goes}
 use Rattle.desk_access.specs.History.{written_by}
 use Rattle.desk_access.specs.Legal.{AreUnused, IsIssuedBy, IsUnused, May, Met, AddsGroups, AreOfOthers, AreOneGroup}
 use Rattle.desk_access.specs.Journal.{own_then}
-use Rattle.desk_access.proofs.Tables.{TableAfter, table_after}
+use Rattle.desk_access.proofs.Tables.{TableAfter, table_then}
 use Rattle.desk_access.proofs.Added.{added_all, written_all}
 use Rattle.desk_access.proofs.Issued.{issued_of, AreIssued, below_own, issued_then, next_rises, new_is}
 
@@ -92,7 +92,7 @@ module _ (run confirming unit : ℕ) (large : 2 ^ 32 ≤ unit) where
   spent_none : (records log : List Record) (x y : DeskState) (groups : List (List Entry)) → AreIssued run records x.ids → IsSpent unit records x.ids → Goes x log y → Met run confirming records log → AddsGroups (calls_of log) groups → All (AreOfOthers unit) groups
   spent_none records [] x y groups are spent goes met adds = subst (All (AreOfOthers unit)) (sym adds) (All-nil (AreOfOthers unit))
   spent_none records (one ∷ log) x y groups are spent goes met adds =
-      let row = table_after x goes.0 one.call one.met goes.1.answers in
+      let row = table_then x goes.0 one goes.1 in
       let here : AreOfOthers unit (written_by one.call) = elim (uses run confirming one.by unit (own_of one.by records) one.call large met.0) [ inl others ↦ others | inr used ↦ absurd (spent.none one.by used.1) ] in
       subst (All (AreOfOthers unit)) (sym adds.4) (All-cons (AreOfOthers unit) adds.0 adds.1 (added_all (λ (entry : Entry). entry.unit ≢ unit) one.call adds.0 adds.2 here)
       (spent_none (records ++ one ∷ []) log goes.0 y adds.1 (issued_then run records one x.ids goes.0.ids are row) (spent_more records one x.ids goes.0.ids are row spent) goes.2 met.1 adds.3))
@@ -100,7 +100,7 @@ module _ (run confirming unit : ℕ) (large : 2 ^ 32 ≤ unit) where
   pub one_group : (records log : List Record) (x y : DeskState) (groups : List (List Entry)) → AreIssued run records x.ids → Goes x log y → Met run confirming records log → AddsGroups (calls_of log) groups → AreOneGroup unit groups
   one_group records [] x y groups are goes met adds = subst (AreOneGroup unit) (sym adds) tt
   one_group records (one ∷ log) x y groups are goes met adds =
-      let row = table_after x goes.0 one.call one.met goes.1.answers in
+      let row = table_then x goes.0 one goes.1 in
       let after = issued_then run records one x.ids goes.0.ids are row in
       subst (AreOneGroup unit) (sym adds.4) (elim (uses run confirming one.by unit (own_of one.by records) one.call large met.0) [
         | inl others ↦ inl (added_all (λ (entry : Entry). entry.unit ≢ unit) one.call adds.0 adds.2 others, one_group (records ++ one ∷ []) log goes.0 y adds.1 after goes.2 met.1 adds.3)

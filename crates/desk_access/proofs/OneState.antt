@@ -5,11 +5,15 @@ use Rattle.spool_answers.specs.declared.fault.PendFault.{PendFault}
 use Rattle.hec_ids.specs.declared.fault.IssueFault.{IssueFault}
 use Rattle.hec_ids.specs.Table.{Table}
 use Rattle.hec_ids.specs.Rows.{Issues}
-use Rattle.std.specs.Prelude.{ℕ, Result, Ok, Err}
+use Rattle.std.specs.Prelude.{ℕ, Bool, true, false, List, Result, Ok, Err}
+use Rattle.event_form.specs.declared.event.Entry.{Entry}
+use Rattle.spool_answers.specs.declared.fault.Receipt.{Receipt}
+use Rattle.spool_answers.specs.declared.fault.TakeFault.{TakeFault}
+use Rattle.spool_answers.specs.declared.fault.TakeFault.TheVariants as Take
 use Rattle.desk_access.specs.declared.standing.Standing.{Standing}
 use Rattle.desk_access.specs.Standing.{standing_of}
 use Rattle.desk_access.specs.Call.{Call, takes, pends, confirms, marks, counts, issues, settles, forgets, asks}
-use Rattle.desk_access.specs.Desk.{DeskState, desk_of, Finds, Mending, Leaving, Answers, Goes}
+use Rattle.desk_access.specs.Desk.{DeskState, desk_of, Finds, Mending, Leaving, Answers, Joins, AnswersAs, Goes}
 use Rattle.desk_access.specs.History.{IsDesk}
 use Rattle.desk_access.specs.Laws.{OneState}
 use Rattle.desk_access.proofs.Steps.{allowed_later}
@@ -51,8 +55,21 @@ answers_one x y z (settles channel id answer) met rules a b = leaving_one x y z 
 answers_one x y z (forgets channel id answer) met rules a b = leaving_one x y z met a.0 b.0 (a.1.1 ∙ sym b.1.1) a.2 b.2
 answers_one x y z (asks channel ids known) met rules a b = leaving_one x y z met a.0 b.0 (a.1.1 ∙ sym b.1.1) a.2 b.2
 
+-- a take that was stored as one group with the one before it leads from one state to one
+joins_one : (x y z : DeskState) (group : List Entry) (result : Result Receipt TakeFault) (m : SpoolState) → Joins x group result m y → Joins x group result m z → y ≡ z
+joins_one x y z group (Ok receipt) m a b = a.4 ∙ sym b.4
+joins_one x y z group (Err Take.DiskFault) m a b = a.2 ∙ sym b.2
+joins_one x y z group (Err _) m a b = absurd a
+
+answers_as : (joins : Bool) (x y z : DeskState) (call : Call) (met : Option Standing) → IsDesk x → AnswersAs joins x call met y → AnswersAs joins x call met z → y ≡ z
+answers_as false x y z call met rules a b = answers_one x y z call met rules a b
+answers_as true x y z (takes (entry ∷ entries) result) met rules a b =
+    let same = found_one x met b.1 a.1 rules b.2 a.2 in
+    joins_one x y z (entry ∷ entries) result a.1 a.3 (subst (λ (m : SpoolState). Joins x (entry ∷ entries) result m z) same b.3)
+answers_as true x y z _ met rules a b = absurd a
+
 pub one_state : OneState
 one_state x y z [] rules a b = a ∙ sym b
 one_state x y z (one ∷ records) rules a b =
-    let same = answers_one x a.0 b.0 one.call one.met rules a.1.answers b.1.answers in
+    let same = answers_as one.joins x a.0 b.0 one.call one.met rules a.1.answers b.1.answers in
     one_state a.0 y z records (allowed_later x a.0 one rules a.1).0 a.2 (subst (λ (d : DeskState). Goes d records z) (sym same) b.2)

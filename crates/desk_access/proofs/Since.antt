@@ -11,7 +11,7 @@ use Rattle.spool_answers.specs.declared.fault.Receipt.{Receipt}
 use Rattle.spool_answers.specs.Stages.{IsOneOf}
 use Rattle.desk_access.specs.Since.{EachSince}
 use Rattle.desk_access.specs.Call.{Call, takes, Record, own_of, calls_of}
-use Rattle.desk_access.specs.Desk.{DeskState, Goes}
+use Rattle.desk_access.specs.Desk.{DeskState}
 use Rattle.desk_access.specs.Durable.{IsGroupKept, KeepsCalls, KeepsSince, StaysTaken, left_since}
 use Rattle.desk_access.specs.Groups.{Group, groups_by, groups_of}
 use Rattle.desk_access.specs.History.{IsLater, IsDesk, IsKept, AreKept, AllKept, IsCallKept}

@@ -1,6 +1,6 @@
 -- What one call leads to.
 use Rattle.std.proofs.Common.{◌≡◌, ◌⊎◌, inl, inr, ◌<◌, List, [], ◌∷◌, length, get_or, Option, refl, sym, ◌∙◌, ap, subst, arith}
-use Rattle.std.specs.Prelude.{All, Result, Ok, Err}
+use Rattle.std.specs.Prelude.{Bool, true, false, All, Result, Ok, Err}
 use Rattle.known_numbers.specs.declared.stretch.Stretch.{Stretch}
 use Rattle.event_form.specs.declared.event.Entry.{Entry}
 use Rattle.spool_state.specs.Segment.{IsGroup}
@@ -23,10 +23,12 @@ use Rattle.hec_ids.specs.Laws.{IsCall, issue, settle, forget, ask}
 use Rattle.hec_ids.proofs.CallLaws.{calls_keep_sound}
 use Rattle.desk_access.specs.declared.standing.Standing.{Standing}
 use Rattle.desk_access.specs.Call.{Call, Record, takes, pends, confirms, marks, counts, issues, settles, forgets, asks}
-use Rattle.desk_access.specs.Desk.{DeskState, desk_of, Answers, Allowed, Goes, MarksOn, Mending}
+use Rattle.desk_access.specs.Desk.{DeskState, desk_of, Answers, Allowed, Goes, MarksOn, Mending, Joins, AnswersAs}
+use Rattle.desk_access.specs.Joint.{extended}
+use Rattle.desk_access.proofs.Extending.{end-extended, grown_extended, later_extended}
 use Rattle.desk_access.specs.History.{IsLater, IsDesk, AreTold, Grown, Adds, TakeAdds}
 use Rattle.desk_access.proofs.Growth.{grown_self}
-use Rattle.desk_access.proofs.Stages.{AreStages, later_self, later_then, none_of, last_in, one_in, told_one, group_some, group_are, group_later, group_told, known_are, known_later, known_told}
+use Rattle.desk_access.proofs.Stages.{AreStages, later_self, later_then, none_of, cons_of, told_two, last_in, one_in, told_one, group_some, group_are, group_later, group_told, known_are, known_later, known_told}
 
 -- a state that is one of those of a desk is later than the first
 pub one_later : (x : DeskState) (m : SpoolState) → IsDesk x → IsOneOf x.spool x.doubt m → IsLater x.spool m
@@ -39,9 +41,16 @@ pub record Moves (m : SpoolState) (call : Call) (y : DeskState) : Type 0 where
   pub told : AreTold y.spool y.doubt
   pub adds : (t : SpoolState) → IsOneOf y.spool y.doubt t → (here : List Entry) × Adds call here × Grown m here t
 
--- A call left the spool and its doubt as they were, or led on from a mended state.
+-- A call made longer the group of the take before it, or the one that is in doubt.
+pub record Extends (x : DeskState) (call : Call) (y : DeskState) : Type 0 where
+  pub later : IsLater x.spool y.spool
+  pub doubt : All (IsLater y.spool) y.doubt
+  pub told : AreTold y.spool y.doubt
+  pub adds : (t : SpoolState) → IsOneOf y.spool y.doubt t → (m : SpoolState) × IsOneOf x.spool x.doubt m × (here : List Entry) × Adds call here × Grown m here t
+
+-- A call left the spool and its doubt as they were, or led on from a mended state, or made a group longer.
 pub record Steps (x : DeskState) (call : Call) (y : DeskState) : Type 0 where
-  pub spool : (Adds call [] × (y.spool ≡ x.spool) × (y.doubt ≡ x.doubt)) ⊎ ((m : SpoolState) × IsOneOf x.spool x.doubt m × Moves m call y)
+  pub spool : (Adds call [] × (y.spool ≡ x.spool) × (y.doubt ≡ x.doubt)) ⊎ ((m : SpoolState) × IsOneOf x.spool x.doubt m × Moves m call y) ⊎ Extends x call y
   pub ids : (y.ids ≡ x.ids) ⊎ IsCall x.ids y.ids
 
 -- nothing changed but by mending
@@ -132,7 +141,46 @@ ends_later : (x : DeskState) (m : SpoolState) (more : List Stretch) → IsLater 
 ends_later x m more later ends k d lt = record { order = (ends k d lt).order; within = omega (arith, (ends k d lt).within, later.follows.end_rises) }
 
 went_on : (x y : DeskState) (call : Call) (m : SpoolState) (spool : SpoolState) (doubt : List SpoolState) → IsOneOf x.spool x.doubt m → y ≡ desk_of spool doubt x.ids → Moves m call (desk_of spool doubt x.ids) → Steps x call y
-went_on x y call m spool doubt one is moves = subst (Steps x call) (sym is) (record { spool = inr (m, one, moves); ids = inl refl })
+went_on x y call m spool doubt one is moves = subst (Steps x call) (sym is) (record { spool = inr (inl (m, one, moves)); ids = inl refl })
+
+-- the spool is one of the states that a desk may be in
+pub one_self : (s : SpoolState) (doubt : List SpoolState) → IsOneOf s doubt s
+one_self s [] = refl
+one_self s (stage ∷ doubt) = inl refl
+
+-- a take that was stored as one group with the one before it
+joins_on : (x y : DeskState) (group : List Entry) (result : Result Receipt TakeFault) (m : SpoolState) → IsDesk x → IsGroup group → IsOneOf x.spool x.doubt m → Joins x group result m y → Extends x (takes group result) y × (y.ids ≡ x.ids)
+joins_on x y group (Ok receipt) m rules is one joined =
+    let before = one_later x m rules one in
+    let t = extended m group in (
+      subst (Extends x (takes group (Ok receipt))) (sym joined.4) (record {
+        later = later_then x.spool m t before (later_extended m group joined.1 before.sound is.entries);
+        doubt = none_of (IsLater t);
+        told = told_one t;
+        adds = λ u at. (m, one, group, refl, subst (Grown m group) (sym at) (grown_extended m group joined.1));
+      }),
+      ap (λ (d : DeskState). d.ids) joined.4,
+    )
+joins_on x y group (Err Take.DiskFault) m rules is one joined =
+    let before = one_later x m rules one in
+    let t = extended m group in
+    let later = later_then x.spool m t before (later_extended m group joined.1 before.sound is.entries) in (
+      subst (Extends x (takes group (Err Take.DiskFault))) (sym joined.2) (record {
+        later = later_self x.spool rules.sound;
+        doubt = cons_of (IsLater x.spool) t [] later (none_of (IsLater x.spool));
+        told = told_two x.spool t (λ same. omega (arith, ap (λ (n : Standing). n.end) same, end-extended m group joined.1, before.follows.end_rises, is.some));
+        adds = λ u at. elim at [
+          | inl stays ↦ (x.spool, one_self x.spool x.doubt, [], inl refl, subst (Grown x.spool []) (sym stays) (grown_self x.spool))
+          | inr longer ↦ (m, one, group, inr refl, subst (Grown m group) (sym longer) (grown_extended m group joined.1))
+        ];
+      }),
+      ap (λ (d : DeskState). d.ids) joined.2,
+    )
+joins_on x y group (Err (TooLarge need most)) m rules is one joined = absurd joined
+joins_on x y group (Err (Spent at)) m rules is one joined = absurd joined
+joins_on x y group (Err (Full need free)) m rules is one joined = absurd joined
+joins_on x y group (Err (Take.NotSpool at)) m rules is one joined = absurd joined
+joins_on x y group (Err Take.NoMemory) m rules is one joined = absurd joined
 
 took : (x y : DeskState) (group : List Entry) (result : Result Receipt TakeFault) (met : Option Standing) → IsDesk x → IsGroup group
     → Mending x met (λ fault. result ≡ Err (as_take fault)) (λ m. Takes m group result × (y ≡ desk_of (after_take m group result) (take_doubt m group result) x.ids)) y → Steps x (takes group result) y
@@ -160,6 +208,14 @@ steps x y (settles channel id answer) met rules answers = same_spool x y (settle
 steps x y (forgets channel id answer) met rules answers = same_spool x y (forgets channel id answer) answers.0 refl answers.2.1 (inr (forget channel id answer answers.1))
 steps x y (asks channel ids known) met rules answers = same_spool x y (asks channel ids known) answers.0 refl answers.2.1 (inr (ask channel ids known answers.1))
 
+-- so does a take that was stored as one group with the one before it
+pub steps_as : (joins : Bool) (x y : DeskState) (call : Call) (met : Option Standing) → IsDesk x → AnswersAs joins x call met y → Steps x call y
+steps_as false x y call met rules answers = steps x y call met rules answers
+steps_as true x y (takes (entry ∷ entries) result) met rules answers =
+    let done = joins_on x y (entry ∷ entries) result answers.1 rules (record { some = omega arith; entries = answers.0 }) answers.2.one answers.3 in
+    record { spool = inr (inr done.0); ids = inl done.1 }
+steps_as true x y _ met rules answers = absurd answers
+
 -- the table stays sound, and of its run
 ids_stay : (t u : Table) → Ids.IsSound t → (u ≡ t) ⊎ IsCall t u → Ids.IsSound u × (u.run ≡ t.run)
 ids_stay t u sound (inl same) = (subst Ids.IsSound (sym same) sound, ap (λ (v : Table). v.run) same)
@@ -180,14 +236,16 @@ steps_later x y call rules step =
         },
         subst (IsLater x.spool) (sym same.1) (later_self x.spool rules.sound),
       )
-      | inr went ↦
+      | inr (inl went) ↦
           let moves = went.2 in
           let later = later_then x.spool went.0 y.spool (one_later x went.0 rules went.1) moves.later in
           (record { sound = later.sound; later = moves.doubt; told = moves.told; ids = table.0; run = table.1 ∙ rules.run ∙ sym later.run }, later)
+      | inr (inr longer) ↦
+          (record { sound = longer.later.sound; later = longer.doubt; told = longer.told; ids = table.0; run = table.1 ∙ rules.run ∙ sym longer.later.run }, longer.later)
     ]
 
 pub allowed_later : (x y : DeskState) (one : Record) → IsDesk x → Allowed x one y → IsDesk y × IsLater x.spool y.spool
-allowed_later x y one rules allowed = steps_later x y one.call rules (steps x y one.call one.met rules allowed.answers)
+allowed_later x y one rules allowed = steps_later x y one.call rules (steps_as one.joins x y one.call one.met rules allowed.answers)
 
 pub goes_later : (x y : DeskState) (records : List Record) → IsDesk x → Goes x records y → IsDesk y × IsLater x.spool y.spool
 goes_later x y [] rules goes = (subst IsDesk (sym goes) rules, subst (λ (d : DeskState). IsLater x.spool d.spool) (sym goes) (later_self x.spool rules.sound))

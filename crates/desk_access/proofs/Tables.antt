@@ -5,8 +5,13 @@ use Rattle.spool_answers.specs.declared.fault.PendFault.{PendFault}
 use Rattle.hec_ids.specs.Table.{Table}
 use Rattle.hec_ids.specs.Rows.{Issues, Settles, Forgets, Asks}
 use Rattle.desk_access.specs.declared.standing.Standing.{Standing}
-use Rattle.desk_access.specs.Call.{Call, takes, pends, confirms, marks, counts, issues, settles, forgets, asks}
-use Rattle.desk_access.specs.Desk.{DeskState, Mending, Leaving, Answers}
+use Rattle.desk_access.specs.Call.{Call, Record, takes, pends, confirms, marks, counts, issues, settles, forgets, asks}
+use Rattle.std.specs.Prelude.{Bool, true, false, List, Result, Ok, Err}
+use Rattle.event_form.specs.declared.event.Entry.{Entry}
+use Rattle.spool_answers.specs.declared.fault.Receipt.{Receipt}
+use Rattle.spool_answers.specs.declared.fault.TakeFault.{TakeFault}
+use Rattle.spool_answers.specs.declared.fault.TakeFault.TheVariants as Take
+use Rattle.desk_access.specs.Desk.{DeskState, Mending, Leaving, Answers, Joins, AnswersAs, Allowed}
 
 -- a call of ids made it from the one before, and no other call changes it
 abbrev pub TableAfter : Table → Call → Table → Type 0
@@ -34,3 +39,17 @@ table_after x y (issues channel result) met answers = subst (λ (t : Table). Iss
 table_after x y (settles channel id answer) met answers = subst (λ (t : Table). Settles x.ids channel id answer t) (sym (left_table x y met answers.0 answers.2)) answers.1
 table_after x y (forgets channel id answer) met answers = subst (λ (t : Table). Forgets x.ids channel id answer t) (sym (left_table x y met answers.0 answers.2)) answers.1
 table_after x y (asks channel ids known) met answers = subst (λ (t : Table). Asks x.ids channel ids known t) (sym (left_table x y met answers.0 answers.2)) answers.1
+
+taken_table : (x y : DeskState) (group : List Entry) (result : Result Receipt TakeFault) (m : SpoolState) → Joins x group result m y → y.ids ≡ x.ids
+taken_table x y group (Ok receipt) m joined = ap (λ (d : DeskState). d.ids) joined.4
+taken_table x y group (Err Take.DiskFault) m joined = ap (λ (d : DeskState). d.ids) joined.2
+taken_table x y group (Err _) m joined = absurd joined
+
+pub table_as : (joins : Bool) (x y : DeskState) (call : Call) (met : Option Standing) → AnswersAs joins x call met y → TableAfter x.ids call y.ids
+table_as false x y call met answers = table_after x y call met answers
+table_as true x y (takes (entry ∷ entries) result) met answers = taken_table x y (entry ∷ entries) result answers.1 answers.3
+table_as true x y _ met answers = absurd answers
+
+-- after a record
+pub table_then : (x y : DeskState) (one : Record) → Allowed x one y → TableAfter x.ids one.call y.ids
+table_then x y one allowed = table_as one.joins x y one.call one.met allowed.answers

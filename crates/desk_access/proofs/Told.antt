@@ -14,7 +14,7 @@ use Rattle.desk_access.specs.Legal.{Met, May, IsStored, IsStoredBy}
 use Rattle.desk_access.specs.Laws.{ToldWasTaken}
 use Rattle.desk_access.specs.Settled.{SettlesStored, AllSettleStored, EachSettlesStored}
 use Rattle.desk_access.specs.Journal.{goes_parts, own_by, own_then}
-use Rattle.desk_access.proofs.Tables.{TableAfter, table_after}
+use Rattle.desk_access.proofs.Tables.{TableAfter, table_then}
 use Rattle.desk_access.proofs.Nexts.{stored_more}
 
 -- ---- of a table
@@ -80,7 +80,7 @@ taken_by_then channel id x y before [] was goes stored is = subst (WasTaken id) 
 taken_by_then channel id x y before (one ∷ log) was goes stored is =
     subst (WasTaken id) (append_assoc before (one ∷ []) log) (
     taken_by_then channel id goes.0 y (before ++ one ∷ []) log
-    (λ now. taken_more id before (one ∷ []) (elim (settled_after x.ids goes.0.ids one.call channel id (table_after x goes.0 one.call one.met goes.1.answers) now) [
+    (λ now. taken_more id before (one ∷ []) (elim (settled_after x.ids goes.0.ids one.call channel id (table_then x goes.0 one goes.1) now) [
       | inl earlier ↦ was earlier
       | inr settles_it ↦ settler_took id one.by before one.call stored.0 settles_it
     ]))
@@ -93,7 +93,7 @@ told_was_stored x z journal one more channel ids known k none goes asked stored 
     let parts = goes_parts x z journal (one ∷ more) goes in
     let y = parts.0 in
     let found = parts.2.0 in
-    let row : TableAfter y.ids (asks channel ids known) found.ids = subst (λ (call : Call). TableAfter y.ids call found.ids) asked (table_after y found one.call one.met parts.2.1.answers) in
+    let row : TableAfter y.ids (asks channel ids known) found.ids = subst (λ (call : Call). TableAfter y.ids call found.ids) asked (table_then y found one parts.2.1) in
     let settled : holds_settled channel (get_or ids k 0) y.ids.held ≡ true = sym (ap (λ (l : List Bool). get_or l k false) row.0 ∙ get_or-map (λ id. holds_settled channel id y.ids.held) ids k 0 false lt) ∙ told in
     taken_by_then channel (get_or ids k 0) x y [] journal (λ is. let never : false ≡ true = sym (ap (λ (held : List Held). holds_settled channel (get_or ids k 0) held) none) ∙ is in absurd (cc)) parts.1 stored settled
 
@@ -107,8 +107,8 @@ met_stored run confirming before [] met = tt
 met_stored run confirming before (one ∷ records) met = (may_stored run confirming one.by (own_of one.by before) one.call met.0, met_stored run confirming (before ++ one ∷ []) records met.1)
 
 pub told_was_taken : ToldWasTaken
-told_was_taken x y journal confirming number channel ids known found after clock k rules none goes met lt told =
-    told_was_stored x y journal (record { by = number; call = asks channel ids known; met = found; after = after; clock = clock }) [] channel ids known k none goes refl (met_stored x.spool.run confirming [] journal met) lt told
+told_was_taken x y journal confirming number channel ids known joins found after clock k rules none goes met lt told =
+    told_was_stored x y journal (record { by = number; call = asks channel ids known; joins = joins; met = found; after = after; clock = clock }) [] channel ids known k none goes refl (met_stored x.spool.run confirming [] journal met) lt told
 
 -- ---- of one caller
 
@@ -120,23 +120,23 @@ by_stored number own (call ∷ calls) before [] same by stored = absurd by
 by_stored number own (call ∷ calls) before (one ∷ records) same by stored =
     let own_now : own_of one.by before ≡ own = ap (λ (n : ℕ). own_of n before) by.0 ∙ same in
     let here : SettlesStored (own_of one.by before) one.call = subst (λ (l : List Call). SettlesStored l one.call) (sym own_now) (subst (SettlesStored own) (sym by.1) stored.0) in
-    let next : own_of number (before ++ one ∷ []) ≡ own ++ call ∷ [] = own_then number before (one ∷ []) ∙ ap (λ (l : List Call). l ++ own_of number (one ∷ [])) same ∙ ap (λ (l : List Call). own ++ l) (own_by number (call ∷ []) (one ∷ []) (by.0, by.1, tt)) in
-    (here, by_stored number (own ++ call ∷ []) calls (before ++ one ∷ []) records next by.2 stored.1)
+    let next : own_of number (before ++ one ∷ []) ≡ own ++ call ∷ [] = own_then number before (one ∷ []) ∙ ap (λ (l : List Call). l ++ own_of number (one ∷ [])) same ∙ ap (λ (l : List Call). own ++ l) (own_by number (call ∷ []) (one ∷ []) (by.0, by.1, by.2, tt)) in
+    (here, by_stored number (own ++ call ∷ []) calls (before ++ one ∷ []) records next by.3 stored.1)
 
 -- the records of the first of some calls
 first_by : (number : ℕ) (calls more : List Call) (records : List Record) → AreBy number (calls ++ more) records → (first : List Record) × (rest : List Record) × (records ≡ first ++ rest) × AreBy number calls first × AreBy number more rest
 first_by number [] more records by = ([], records, refl, tt, by)
 first_by number (call ∷ calls) more [] by = absurd by
 first_by number (call ∷ calls) more (one ∷ records) by =
-    let rest = first_by number calls more records by.2 in
-    (one ∷ rest.0, rest.1, ap (λ (l : List Record). one ∷ l) rest.2, (by.0, by.1, rest.3), rest.4)
+    let rest = first_by number calls more records by.3 in
+    (one ∷ rest.0, rest.1, ap (λ (l : List Record). one ∷ l) rest.2, (by.0, by.1, by.2, rest.3), rest.4)
 
 -- what a caller took is among the calls of the only one
 stored_own : (number caller id : ℕ) (calls : List Call) (records : List Record) → AreBy number calls records → IsStored (own_of caller records) id → IsStored calls id
 stored_own number caller id [] [] by stored = stored
 stored_own number caller id [] (one ∷ records) by stored = absurd by
 stored_own number caller id (call ∷ calls) [] by stored = absurd by
-stored_own number caller id (call ∷ calls) (one ∷ records) by stored = cases (one.by == caller) (stored_own number caller id calls records by.2) stored where
+stored_own number caller id (call ∷ calls) (one ∷ records) by stored = cases (one.by == caller) (stored_own number caller id calls records by.3) stored where
   cases : (b : Bool) → (IsStored (own_of caller records) id → IsStored calls id) → IsStored (cond b (one.call ∷ own_of caller records) (own_of caller records)) id → IsStored (call ∷ calls) id
   cases true more (inl here) = inl (subst (IsStoredBy id) by.1 here)
   cases true more (inr there) = inr (more there)

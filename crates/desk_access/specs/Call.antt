@@ -1,5 +1,5 @@
 -- The calls of a desk that change it or read from it, each with its answer.
-use Rattle.std.specs.Prelude.{◌≡◌, ℕ, ◌+◌, ◌==◌, if◌then◌else◌, Bool, List, [], ◌∷◌, ◌++◌, Option, Result, Ok, Err}
+use Rattle.std.specs.Prelude.{◌≡◌, ℕ, ◌+◌, ◌==◌, if◌then◌else◌, Bool, true, false, List, [], ◌∷◌, ◌++◌, Option, Result, Ok, Err}
 use Rattle.std.specs.Global.{Vec}
 use Rattle.known_numbers.specs.declared.stretch.Stretch.{Stretch}
 use Rattle.event_form.specs.declared.event.Entry.{Entry}
@@ -41,6 +41,8 @@ pub data Call : Type 0 where
 pub record Record : Type 0 where
   pub by : ℕ
   pub call : Call
+  -- it was stored as one group with the take of the record before it
+  pub joins : Bool
   pub met : Option Standing
   pub after : Standing
   pub clock : ℕ
@@ -60,7 +62,7 @@ abbrev pub AreBy : ℕ → List Call → List Record → Type 0
 AreBy number [] [] = Unit {0}
 AreBy number [] (one ∷ records) = ⊥
 AreBy number (call ∷ calls) [] = ⊥
-AreBy number (call ∷ calls) (one ∷ records) = (one.by ≡ number) × (one.call ≡ call) × AreBy number calls records
+AreBy number (call ∷ calls) (one ∷ records) = (one.by ≡ number) × (one.call ≡ call) × (one.joins ≡ false) × AreBy number calls records
 
 -- an answer with the list of what was read
 abbrev pub listed : Result (Vec Numbered) PendFault → Result (List Numbered) PendFault
@@ -100,6 +102,35 @@ failures_in _ = 0
 abbrev pub failures_of : List Call → ℕ
 failures_of [] = 0
 failures_of (call ∷ calls) = failures_in call + failures_of calls
+
+-- How many changes failed at the disk: takes that were stored as one group failed in one, that of the first.
+abbrev pub failed_as : Bool → Call → ℕ
+failed_as false call = failures_in call
+failed_as true (takes group result) = 0
+failed_as true call = failures_in call
+
+abbrev pub failed_of : List Record → ℕ
+failed_of [] = 0
+failed_of (one ∷ records) = failed_as one.joins one.call + failed_of records
+
+-- how many takes were answered that the disk failed, and were stored as one group with the one before them
+abbrev pub joined_as : Bool → Call → ℕ
+joined_as true (takes group result) = take_failures result
+joined_as joins call = 0
+
+abbrev pub joined_failures : List Record → ℕ
+joined_failures [] = 0
+joined_failures (one ∷ records) = joined_as one.joins one.call + joined_failures records
+
+-- the call is no take
+abbrev pub IsNoTake : Call → Type 0
+IsNoTake (takes group result) = ⊥
+IsNoTake _ = Unit {0}
+
+-- none of the records was stored as one group with the one before it
+abbrev pub NoneJoins : List Record → Type 0
+NoneJoins [] = Unit {0}
+NoneJoins (one ∷ records) = (one.joins ≡ false) × NoneJoins records
 
 -- the call is no take that was answered so
 abbrev pub TookSurely : Call → Type 0

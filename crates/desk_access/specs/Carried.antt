@@ -28,13 +28,14 @@ abbrev pub EndsAtMove : {F : Type 0} → Protocol F → Option (List ℕ) → Li
 EndsAtMove p left b steps held at late part talk = EndsAtFrame p b steps held late part talk ⊎ EndsAtLast p left b steps held at late part talk
 
 -- How a connection ends that read the bytes b, has carried these steps and holds these frames, all of which end at
--- the place `at`. After the steps, `late` was called and `part` written.
+-- the place `at`. After the steps, `late` was called and `part` written. Where no more can be read, the frames held are
+-- given up, which the protocol must allow.
 abbrev pub Ending : {F : Type 0} → Protocol F → Option (List ℕ) → List ℕ → List (Step F) → List F → ℕ → List Call → List ℕ → Talk → Type 0
 Ending p left b steps held at late part Ended = IsOver p left b (frames_of steps ++ held) at Ended × p.IsLastMove steps held Ended late part
 Ending p left b steps held at late part (Truncated place) = IsOver p left b (frames_of steps ++ held) at (Truncated place) × p.IsLastMove steps held (Truncated place) late part
 Ending p left b steps held at late part (Fault place why) = IsOver p left b (frames_of steps ++ held) at (Fault place why) × p.IsLastMove steps held (Fault place why) late part
-Ending p left b steps held at late part ReadFault = p.IsWhole b (frames_of steps ++ held) at × IsNothing late part
-Ending p left b steps held at late part (TooMuch place) = p.IsWhole b (frames_of steps ++ held) at × (place ≡ length b) × (place ≡ 2 ^ 40) × IsNothing late part
+Ending p left b steps held at late part ReadFault = p.IsWhole b (frames_of steps ++ held) at × IsNothing late part × p.MayGiveUp steps held
+Ending p left b steps held at late part (TooMuch place) = p.IsWhole b (frames_of steps ++ held) at × (place ≡ length b) × (place ≡ 2 ^ 40) × IsNothing late part × p.MayGiveUp steps held
 Ending p left b steps held at late part NoMemory = IsNothing late part ⊎ EndsAtMove p left b steps held at late part NoMemory
 Ending p left b steps held at late part talk = EndsAtMove p left b steps held at late part talk
 

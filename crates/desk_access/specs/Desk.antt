@@ -1,6 +1,7 @@
 -- A desk as its callers see it: what each call may answer, and to what it leads.
-use Rattle.std.specs.Prelude.{◌≡◌, ◌⊎◌, ℕ, ◌<◌, List, [], ◌∷◌, ◌++◌, length, take, All, Option, None, Some, Result, Ok, Err}
+use Rattle.std.specs.Prelude.{◌≡◌, ◌⊎◌, ℕ, ◌<◌, Bool, true, false, List, [], ◌∷◌, ◌++◌, length, take, All, Option, None, Some, Result, Ok, Err}
 use Rattle.known_numbers.specs.declared.stretch.Stretch.{Stretch}
+use Rattle.event_form.specs.declared.event.Entry.{Entry}
 use Rattle.event_form.specs.Entry.{IsEntry}
 use Rattle.known_numbers.specs.Numbers.{count_of}
 use Rattle.spool_state.specs.SpoolState.{SpoolState, end}
@@ -8,6 +9,7 @@ use Rattle.spool_state.specs.Left.{left_from}
 use Rattle.spool_answers.specs.declared.numbered.Numbered.{Numbered}
 use Rattle.spool_answers.specs.declared.fault.Receipt.{Receipt}
 use Rattle.spool_answers.specs.declared.fault.TakeFault.{TakeFault}
+use Rattle.spool_answers.specs.declared.fault.TakeFault.TheVariants as Take
 use Rattle.spool_answers.specs.declared.fault.PendFault.{PendFault}
 use Rattle.spool_answers.specs.declared.fault.ConfirmFault.{ConfirmFault}
 use Rattle.spool_answers.specs.Fault.{as_take, as_confirm}
@@ -19,6 +21,7 @@ use Rattle.hec_ids.specs.Table.{Table}
 use Rattle.hec_ids.specs.Rows.{Issues, Settles, Forgets, Asks}
 use Rattle.desk_access.specs.declared.standing.Standing.{Standing}
 use Rattle.desk_access.specs.Standing.{standing_of}
+use Rattle.desk_access.specs.Joint.{extended, FitsOn}
 use Rattle.desk_access.specs.Call.{Call, takes, pends, confirms, marks, counts, issues, settles, forgets, asks, Record}
 
 -- The spool's state; its doubt, which is the later stages of a change that failed on the way; and the table of ids.
@@ -87,9 +90,22 @@ Answers x (settles channel id answer) met y = (ids : Table) × Settles x.ids cha
 Answers x (forgets channel id answer) met y = (ids : Table) × Forgets x.ids channel id answer ids × Leaving x met ids y
 Answers x (asks channel asked known) met y = (ids : Table) × Asks x.ids channel asked known ids × Leaving x met ids y
 
+-- A take in the state m that was stored as one group with the take before it. Answered Ok, it made that group longer. Where the
+-- disk failed, it made longer the group that is in doubt, so that mending finds all of them or none.
+abbrev pub Joins : DeskState → List Entry → Result Receipt TakeFault → SpoolState → DeskState → Type 0
+Joins x group (Ok receipt) m y = (x.doubt ≡ []) × FitsOn m group × (receipt.first ≡ end m) × (receipt.count ≡ length group) × (y ≡ desk_of (extended m group) [] x.ids)
+Joins x group (Err Take.DiskFault) m y = (x.doubt ≡ m ∷ []) × FitsOn m group × (y ≡ desk_of x.spool (extended m group ∷ []) x.ids)
+Joins x group (Err _) m y = ⊥
+
+-- the same by whether the call is marked so, which a take of entries alone may be
+abbrev pub AnswersAs : Bool → DeskState → Call → Option Standing → DeskState → Type 0
+AnswersAs false x call met y = Answers x call met y
+AnswersAs true x (takes (entry ∷ entries) result) met y = All IsEntry (entry ∷ entries) × (m : SpoolState) × Finds x met m × Joins x (entry ∷ entries) result m y
+AnswersAs true x _ met y = ⊥
+
 -- From the one state this record may lead to the other, whose numbers it has.
 pub record Allowed (x : DeskState) (one : Record) (y : DeskState) : Type 0 where
-  pub answers : Answers x one.call one.met y
+  pub answers : AnswersAs one.joins x one.call one.met y
   pub after : one.after ≡ standing_of y.spool
 
 -- These records, one after another, may lead from the one state to the other.

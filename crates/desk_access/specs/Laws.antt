@@ -28,6 +28,6 @@ LegalJournal = (x y : DeskState) (journal : List Record) (confirming : ℕ) (gro
 
 -- An id that an answer tells true is one whose group was taken before: by the caller that settled it.
 abbrev pub ToldWasTaken : Type 0
-ToldWasTaken = (x y : DeskState) (journal : List Record) (confirming number channel : ℕ) (ids : List ℕ) (known : List Bool) (met : Option Standing) (after : Standing) (clock k : ℕ)
-    → IsDesk x → x.ids.held ≡ [] → Goes x (journal ++ record { by = number; call = asks channel ids known; met = met; after = after; clock = clock } ∷ []) y → Met x.spool.run confirming [] journal → k < length ids → get_or known k false ≡ true
+ToldWasTaken = (x y : DeskState) (journal : List Record) (confirming number channel : ℕ) (ids : List ℕ) (known : List Bool) (joins : Bool) (met : Option Standing) (after : Standing) (clock : ℕ) (k : ℕ)
+    → IsDesk x → x.ids.held ≡ [] → Goes x (journal ++ record { by = number; call = asks channel ids known; joins = joins; met = met; after = after; clock = clock } ∷ []) y → Met x.spool.run confirming [] journal → k < length ids → get_or known k false ≡ true
     → (caller : ℕ) × IsStored (own_of caller journal) (get_or ids k 0)

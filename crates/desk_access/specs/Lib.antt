@@ -1,4 +1,6 @@
 pub mod Standing
+pub mod Joint
+pub mod JointRecords
 pub mod Call
 pub mod Desk
 pub mod Batch

@@ -17,6 +17,8 @@ pub record Protocol (F : Type 0) : Type 1 where
   pub IsMove : List (Step F) → Step F → Type 0
   -- after these steps, nothing is to be done for these frames before more come
   pub AreHeld : List (Step F) → List F → Type 0
+  -- after these steps, the connection may end for want of more with these frames held, which are given up then
+  pub MayGiveUp : List (Step F) → List F → Type 0
   -- after these steps and frames held, the connection ends at this frame, with these calls and this text
   pub Stops : List (Step F) → List F → F → List Call → List ℕ → Talk → Type 0
   -- where the input is over and would end the connection so, these calls and this text are what is to be done for that

@@ -1,10 +1,11 @@
 -- Since each call of a journal was answered: what a crash left is no earlier state.
-use Rattle.std.proofs.Common.{◌≡◌, ◌⊎◌, inl, inr, ℕ, ◌≤◌, List, [], ◌∷◌, ◌++◌, refl, sym, ap, subst, arith, append_assoc}
+use Rattle.std.proofs.Common.{◌≡◌, ◌⊎◌, inl, inr, ℕ, ◌≤◌, List, [], ◌∷◌, ◌++◌, refl, sym, ◌∙◌, ap, subst, arith, append_assoc}
+use Rattle.std.proofs.lemmas.List.{append-nil}
 use Rattle.edge_disk.specs.Disk.{Moment, IsLawful, LeavesOnly}
 use Rattle.spool_answers.specs.Stages.{StandsForOne}
 use Rattle.desk_access.specs.Call.{Record}
 use Rattle.desk_access.specs.Desk.{DeskState, Goes, Stood}
-use Rattle.desk_access.specs.Journal.{goes_then, stood_first, stood_later, stood_here}
+use Rattle.desk_access.specs.Journal.{goes_then, goes_parts, stood_first, stood_later, stood_here}
 
 -- Since the moment at which the call of one record was answered, after those of `past`, up to now, whatever a crash left stands for a
 -- state on the way of the rest, which led from there to where the desk is.
@@ -65,6 +66,37 @@ since_one x after now one lawful is goes each past it rest e = by past rest e wh
   by (first ∷ past) rest e =
       let none : [] ≡ past ++ it ∷ rest = cc e in
       absurd (not_behind past it rest none)
+
+-- all of these calls were answered at the moment of that clock
+abbrev pub AreAnswered : ℕ → List Record → Type 0
+AreAnswered clock [] = Unit {0}
+AreAnswered clock (one ∷ records) = (one.clock ≡ clock) × AreAnswered clock records
+
+answered_there : (clock : ℕ) (past : List Record) (one : Record) (rest : List Record) → AreAnswered clock (past ++ one ∷ rest) → one.clock ≡ clock
+answered_there clock [] one rest all = all.0
+answered_there clock (first ∷ past) one rest all = answered_there clock past one rest all.1
+
+-- calls of one change, which were all answered now
+pub since_together : (x after : DeskState) (now : Moment) (records : List Record) → IsLawful now → AreAnswered now.clock records → Goes x records after
+    → ((c : List ℕ) → now.image c → StandsForOne after.spool after.doubt c) → EachSince x records after now
+since_together x after now records lawful are goes each past one rest e =
+    let is : one.clock ≡ now.clock = answered_there now.clock past one rest (subst (AreAnswered now.clock) e are) in
+    let whole : Goes x ((past ++ one ∷ []) ++ rest) after = subst (λ (l : List Record). Goes x l after) (e ∙ sym (append_assoc past (one ∷ []) rest)) goes in
+    let parts = goes_parts x after (past ++ one ∷ []) rest whole in
+    record {
+      answered = omega (arith, is);
+      found = parts.0;
+      goes = parts.1;
+      on = parts.2;
+      left = λ c since. record {
+        first = rest;
+        rest = [];
+        parts = sym (append-nil rest);
+        found = after;
+        goes = parts.2;
+        stands = inl (each c (lawful.only_now c (subst (λ (t : ℕ). now.image_since t c) is since)));
+      };
+    }
 
 -- calls after others, of which a crash left only states on their way
 pub since_then : (x y z : DeskState) (records more : List Record) (mid new : Moment) → Goes x records y → Goes y more z → EachSince x records y mid

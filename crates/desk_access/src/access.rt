@@ -1,5 +1,5 @@
 //! The calls of a desk, for one caller.
-ghost use Rattle.std.specs.Prelude.{◌≡◌, ℕ, ◌+◌, ◌^◌, ◌<◌, ◌≤◌, nat_eq, List, [], ◌∷◌, ◌++◌, length, All, Ok, IfOk};
+ghost use Rattle.std.specs.Prelude.{◌≡◌, ℕ, ◌+◌, ◌^◌, ◌<◌, ◌≤◌, nat_eq, List, [], ◌∷◌, ◌++◌, length, take, All, Ok, IfOk, IfErr};
 ghost use Rattle.std.specs.List.{IsDistinct};
 ghost use Rattle.known_numbers.specs.Numbers.{IsInSome};
 ghost use Rattle.event_form.specs.declared.event.Entry.{Entry};
@@ -10,11 +10,13 @@ ghost use Rattle.spool_answers.specs.Mark.{EndsBy};
 ghost use Rattle.spool_answers.specs.Pend.{AreNumbered};
 ghost use Rattle.desk_access.specs.Call.{Call, takes, pends, confirms, marks, counts, issues, settles, forgets, asks, Record};
 ghost use Rattle.desk_access.specs.Call.{own_of, listed, taken_of, TookSurely};
-ghost use Rattle.desk_access.specs.Batch.{MayTake, MayUse, AreOfUnit};
+ghost use Rattle.spool_answers.specs.Take.{IsRefusal};
+ghost use Rattle.desk_access.specs.Batch.{MayTake, MayUse, AreOfUnit, IsPlain};
 ghost use Rattle.desk_access.specs.Desk.{DeskState, Goes};
 ghost use Rattle.desk_access.specs.History.{IsDesk};
 ghost use Rattle.desk_access.specs.Legal.{AreUnused};
 
+use crate::Front;
 use event_form::Entry as StoredEntry;
 use hec_ids::IssueFault;
 use known_numbers::Stretch;
@@ -90,6 +92,21 @@ pub trait Access {
         requires units { MayUse (may_use self.old) entries.now }
         ensures ran { ran self.old (takes entries.now result ∷ []) self.new }
         ensures receipt { IfOk result (λ receipt. (receipt.count ≡ length entries.now) × (receipt.first + receipt.count ≤ 2 ^ 63)) };
+
+    /// Takes the first of the entries as one group: as many as the active slot has room for, and one at least. It says how
+    /// many they are, answers as `take` of these does, and gives all the entries back. `TooLarge`, `Spent` and `Full` are
+    /// those of the first entry alone. No entry's unit is an id.
+    fn take_front(&mut self, entries: Vec<StoredEntry>) -> Front
+        requires some { 0 < length entries.items }
+        requires few { length entries.items < 2 ^ 32 }
+        requires limits { All IsEntry entries.items }
+        requires next { MayTake (may_take self.old) entries.items }
+        requires plain { All IsPlain entries.items }
+        ensures same { result.entries.items ≡ entries.items }
+        ensures front { (0 < result.count) × (result.count ≤ length entries.items) }
+        ensures ran { ran self.old (takes (take result.count entries.items) result.answer ∷ []) self.new }
+        ensures receipt { IfOk result.answer (λ receipt. (receipt.count ≡ result.count) × (receipt.first + receipt.count ≤ 2 ^ 63)) }
+        ensures alone { IfErr result.answer (λ fault. IsRefusal fault → result.count ≡ 1) };
 
     /// The first `most` of the entries with numbers from `from` that aren't known as confirmed, or all where
     /// they are fewer, each with its number. Numbers rise, and each entry keeps its limits.

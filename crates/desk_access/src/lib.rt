@@ -9,10 +9,12 @@
 #![tactic(auto)]
 
 mod access;
+mod front;
 mod laws;
 mod standing;
 
 pub use access::Access;
+pub use front::Front;
 pub use laws::{
     journal_is_legal, journal_lasts, journal_leads_to_one_state, stood_was, told_was_taken,
 };

@@ -5,15 +5,17 @@ use mir.Syntax.{w64}
 use Rattle.foundation.specs.Bytes.{part, put, SameBut}
 use Rattle.foundation.proofs.Bytes.{same_but_refl, same_but_then, same_but_wider, same_part, part_put, put_same}
 use Rattle.edge_disk.specs.Disk.{Moment, IsLawful, LeavesOnly}
-use Rattle.edge_disk.specs.Gate.{IsGateStep, ComesFrom}
+use Rattle.edge_disk.specs.Gate.{IsGateStep, ComesFrom, GoesBehind}
+use Rattle.edge_disk.specs.Leave.{TearsOn, Lets}
 use Rattle.edge_disk.proofs.Moments.{weaker, both}
+use Rattle.edge_disk.proofs.Leaving.{lets_as}
 use Rattle.known_numbers.specs.declared.stretch.Stretch.{Stretch}
 use Rattle.spool_state.specs.Cells.{content_text, body_text, cell_text, Counts, RegisterHolds}
 use Rattle.spool_state.proofs.Places.{length-content_text}
 use Rattle.spool_state.proofs.Registers.{opened, ordinal_there}
 use Rattle.disk_cell.specs.Cell.{place_of, other_of}
 use Rattle.disk_cell.specs.Content.{text_of}
-use Rattle.disk_cell.specs.Register.{Knows, IsClosingStep, IsSetStep, IsContent}
+use Rattle.disk_cell.specs.Register.{Knows, IsClosingStep, IsSetStep, GoesSet, IsContent}
 use Rattle.disk_cell.specs.declared.cell.Cell.{Cell}
 use Rattle.disk_cell.specs.declared.cell.Cell.TheVariants.{First, Second}
 use Rattle.disk_cell.specs.declared.register.Register.{Register}
@@ -136,6 +138,37 @@ module _ (r : Register) (run cursor : ℕ) (known : List Stretch) (few : length 
           | inr whole ↦ inr (subst (RegisterHolds (r.ordinal + 1) new) (sym whole) (holds_other r.counting (r.ordinal + 1) new _ (new_counts here other r.ordinal (text_of r.content) apart (register_short r) new new_short mid fits room_mid step.counts)))
         ];
       }
+
+  -- where its gate isn't open yet
+  pub closing_behind : (d mid c : List ℕ) → 12288 ≤ length d → IsClosingStep r d mid → IsGateStep (place_of (other_of r.counting)) (body_text (r.ordinal + 1) (content_text run cursor known)) mid c → get_or c (place_of (other_of r.counting)) 0 ≢ 1 → IsClosingStep r d c
+  closing_behind d mid c room step gated shut =
+      let here = place_of r.counting in
+      let other = place_of (other_of r.counting) in
+      let apart = cells_apart r.counting in
+      let body = body_text (r.ordinal + 1) (content_text run cursor known) in
+      let long : length body + 1 ≤ 4096 = omega (arith, length-body_text (r.ordinal + 1) (content_text run cursor known), new_short) in
+      let room_mid : 12288 ≤ length mid = omega (arith, step.outside.len) in
+      record {
+        outside = same_but_then 4096 8192 4096 8192 other (length body + 1) d mid c step.outside gated.outside (omega arith) (omega arith) apart.other_from (omega (arith, apart.other_to));
+        counts = shut_counts here other r.ordinal (text_of r.content) apart (register_short r) (length body + 1) mid c long room_mid step.counts gated.outside shut;
+      }
+
+  -- what a crash may tear while the other cell's gate is closed
+  pub tears_closing : (m : Moment) → IsLawful m → 12288 ≤ m.size → IsTrue r.other_is_open → ((d : List ℕ) → m.image d → Knows r d) → TearsOn (GoesSet m r run cursor known) m (place_of (other_of r.counting)) 1
+  tears_closing m lawful room is_open knows = λ d torn image same.
+      let is = knows d image in
+      ∣ (d, image, record { from = d; was = image; before = known_step r d is; after = closing_holds d torn (closing_step r d torn (omega (arith, room, lawful.image_size d image)) is_open is same) }) ∣₁
+
+  -- leave to change the register is leave to write the new cell after that
+  pub lets_cell : {D : Type 0} (tells : Type 0) (moment : D → Moment) (may : D → ℕ → ℕ → Type 0) (m mid : Moment) → (tells → IsLawful m) → 12288 ≤ m.size → r.ordinal < 2 ^ 64 → (tells → LeavesOnly (ComesFrom m (IsClosingStep r)) m mid)
+      → (gate : ℕ) → gate ≡ place_of (other_of r.counting) → Lets tells moment may (GoesSet m r run cursor known) → Lets tells moment may (GoesBehind mid gate (body_text (r.ordinal + 1) (content_text run cursor known)))
+  lets_cell tells moment may m mid lawful room fits closing gate is_gate lets =
+      let body = body_text (r.ordinal + 1) (content_text run cursor known) in
+      subst (λ (k : ℕ). Lets tells moment may (GoesBehind mid k body)) (sym is_gate)
+      (lets_as tells moment may (GoesBehind mid (place_of (other_of r.counting)) body) (GoesSet m r run cursor known) (λ t now torn goes.
+      let first = (closing t).now goes.from goes.was in
+      let long : 12288 ≤ length first.0 = omega (arith, room, (lawful t).image_size first.0 first.1) in
+      ∣ record { from = first.0; was = first.1; before = closing_behind first.0 goes.from now long first.2 goes.before goes.closed; after = gate_step first.0 goes.from torn long fits first.2 goes.after } ∣₁) lets)
 
   -- what is read when all is written
   pub known_then : (new : Register) (d mid c : List ℕ) → 12288 ≤ length d → r.ordinal < 2 ^ 64 → IsClosingStep r d mid → (gate : ℕ) → gate ≡ place_of (other_of r.counting) → c ≡ put gate (1 ∷ body_text (r.ordinal + 1) (content_text run cursor known)) mid

@@ -1,6 +1,7 @@
 -- A register in memory, and the two cells on the disk that it speaks of.
 use Rattle.std.specs.Prelude.{◌≡◌, ◌⊎◌, ℕ, ◌+◌, ◌*◌, List, IsTrue, ◌↔◌}
 use Rattle.foundation.specs.Bytes.{SameBut}
+use Rattle.edge_disk.specs.Disk.{Moment}
 use Rattle.known_numbers.specs.declared.stretch.Stretch.{Stretch}
 use Rattle.spool_state.specs.Layout.{first_cell, cell_length}
 use Rattle.spool_state.specs.Cells.{content_text, IsOpen, Counts, RegisterHolds}
@@ -24,6 +25,14 @@ pub record IsSetStep (r : Register) (run cursor : ℕ) (known : List Stretch) (o
 pub record IsClosingStep (r : Register) (old c : List ℕ) : Type 0 where
   pub outside : SameBut first_cell (2 * cell_length) old c
   pub counts : Counts (place_of r.counting) (place_of (other_of r.counting)) r.ordinal (text_of r.content) c
+
+-- Bytes of a disk on which the cell that counted counts, and bytes that come after them while the register is changed: both come from
+-- one image of m.
+pub record GoesSet (m : Moment) (r : Register) (run cursor : ℕ) (known : List Stretch) (now torn : List ℕ) : Type 0 where
+  pub from : List ℕ
+  pub was : m.image from
+  pub before : IsClosingStep r from now
+  pub after : IsSetStep r run cursor known from torn
 
 -- the content is of version 2, with this run, this cursor and these stretches
 pub record IsContent (run cursor : ℕ) (known : List Stretch) (content : Content) : Type 0 where

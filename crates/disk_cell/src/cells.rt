@@ -3,7 +3,8 @@ ghost use Rattle.std.specs.Prelude.{◌≡◌, ◌≢◌, List, ℕ, ◌+◌, �
 ghost use Rattle.foundation.specs.Bytes.{part, put};
 ghost use Rattle.edge_disk.specs.Calls.{Calls};
 ghost use Rattle.edge_disk.specs.Disk.{IsSettled, IsUntouched, LeavesOnly};
-ghost use Rattle.edge_disk.specs.Gate.{IsGateStep, ComesFrom};
+ghost use Rattle.edge_disk.specs.Gate.{IsGateStep, ComesFrom, GoesBehind};
+ghost use Rattle.edge_disk.specs.Leave.{Lets};
 ghost use Rattle.known_numbers.specs.declared.stretch.TheConstants.{MOST_STRETCHES};
 ghost use Rattle.spool_state.specs.Layout.{first_slot};
 ghost use Rattle.spool_state.specs.Cells.{stretches_text, content_text, body_text};
@@ -97,6 +98,8 @@ pub(crate) fn write_cell<D: Disk>(
     requires few { length known.now ≤ MOST_STRETCHES }
     requires room { gate + 3872 ≤ (D.moment disk.old).size }
     requires closed { D.tells → (c : List ℕ) → (D.moment disk.old).image c → slice_index c gate ≢ 1 }
+    requires leave { Lets D.tells D.moment D.may_tear
+        (GoesBehind (D.moment disk.old) gate (body_text ordinal (content_text run cursor known.now))) }
 
     ensures calls { Calls (IsErr result) (D.moment disk.old) (D.moment disk.new) }
     ensures durable { OnOk result (D.tells → IsSettled (D.moment disk.new)) }

@@ -1,10 +1,11 @@
 //! The register in memory, and its cells on the disk.
 ghost use Rattle.std.specs.Prelude.{◌≡◌, ◌≢◌, List, ℕ, ◌+◌, ◌*◌, ◌<◌, ◌≤◌, length, slice_index, vec_capacity, All, IsErr, OnOk};
-ghost use Rattle.std.specs.Prelude.{OnErr, IfOk, IfErr, IsErrOf, MatchResult};
+ghost use Rattle.std.specs.Prelude.{OnErr, IfOk, IfErr, IsErrOf, IsTrue, MatchResult};
 ghost use Rattle.foundation.specs.Bytes.{SameBut};
 ghost use Rattle.edge_disk.specs.Calls.{Calls};
 ghost use Rattle.edge_disk.specs.Disk.{IsSettled, IsUntouched, LeavesOnly};
 ghost use Rattle.edge_disk.specs.Gate.{ComesFrom};
+ghost use Rattle.edge_disk.specs.Leave.{Lets};
 ghost use Rattle.known_numbers.specs.declared.stretch.TheConstants.{MOST_STRETCHES};
 ghost use Rattle.spool_state.specs.Layout.{first_cell, cell_length, first_slot, most_run, most_number};
 ghost use Rattle.disk_cell.specs.Content.{HasVersion, HasRoomInCell};
@@ -37,7 +38,7 @@ pub struct Register {
 impl Register {
     ghost use Rattle.disk_cell.specs.Cell.{place_of, other_of};
     ghost use Rattle.disk_cell.specs.Fault.{IsBroken, IsWornAt};
-    ghost use Rattle.disk_cell.specs.Register.{Knows, IsClosingStep, IsSetStep, IsContent};
+    ghost use Rattle.disk_cell.specs.Register.{Knows, IsClosingStep, IsSetStep, GoesSet, IsContent};
 
     // The greatest run.
     pub(crate) const MOST_RUN: u64 = 2_097_151;
@@ -91,6 +92,7 @@ impl Register {
     fn close_other<D: Disk>(&self, disk: &mut D) -> Result<(), DiskFault>
         requires room { first_slot ≤ (D.moment disk.old).size }
         requires known { D.tells → (c : List ℕ) → (D.moment disk.old).image c → Knows self.now c }
+        requires leave { IsTrue self.now.other_is_open → ∥ D.may_tear disk.old (place_of (other_of self.now.counting)) 1 ∥₁ }
 
         ensures calls { Calls (IsErr result) (D.moment disk.old) (D.moment disk.new) }
         ensures closed { OnOk result (D.tells → (c : List ℕ) → (D.moment disk.new).image c → slice_index c (place_of (other_of self.now.counting)) ≢ 1) }
@@ -118,6 +120,8 @@ impl Register {
         requires few { length known.now ≤ MOST_STRETCHES }
         requires room { first_slot ≤ (D.moment disk.old).size }
         requires known { D.tells → (c : List ℕ) → (D.moment disk.old).image c → Knows self.old c }
+        requires leave { self.old.ordinal < most_number
+            → Lets D.tells D.moment D.may_tear (GoesSet (D.moment disk.old) self.old run cursor known.now) }
 
         ensures calls { Calls (IsErrOf result SetFault.DiskFault) (D.moment disk.old) (D.moment disk.new) }
 

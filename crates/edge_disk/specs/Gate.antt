@@ -12,3 +12,12 @@ pub record IsGateStep (gate : ℕ) (piece old c : List ℕ) : Type 0 where
 -- by this change it comes from what a crash at that moment may leave
 abbrev pub ComesFrom : Moment → (List ℕ → List ℕ → Type 0) → List ℕ → Type 0
 ComesFrom m Q c = (d : List ℕ) × m.image d × Q d c
+
+-- Bytes of a disk whose gate is still closed, and bytes that come after them while the piece is written behind the gate and the gate
+-- is opened: both come from one image of m.
+pub record GoesBehind (m : Moment) (gate : ℕ) (piece now torn : List ℕ) : Type 0 where
+  pub from : List ℕ
+  pub was : m.image from
+  pub before : IsGateStep gate piece from now
+  pub closed : slice_index now gate ≢ 1
+  pub after : IsGateStep gate piece from torn

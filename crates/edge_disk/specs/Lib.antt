@@ -1,3 +1,4 @@
 pub mod Disk
 pub mod Calls
 pub mod Gate
+pub mod Leave

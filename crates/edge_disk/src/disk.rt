@@ -29,6 +29,10 @@ pub trait Disk {
     /// who gives a number up does.
     ghost may_release: { ℕ → Type 0 };
 
+    /// Whether a crash may tear so many bytes from this offset on: the caller's to say. Who writes asks it of the disk as it is
+    /// before the write.
+    ghost may_tear: { Self → ℕ → ℕ → Type 0 };
+
     /// How many bytes it has. This never changes.
     fn len(&self) -> u64
         ensures { result ≡ (moment self.now).size };
@@ -44,9 +48,10 @@ pub trait Disk {
             → tells_images self.new × Remembers (moment self.old) (moment self.new) };
 
     /// Writes the piece over the bytes from offset `at` on. A crash before the next sync may leave any bytes
-    /// in that range. After a fault a read, too, may give any bytes there.
+    /// in that range: so the write needs leave. After a fault a read, too, may give any bytes there.
     fn write_at(&mut self, at: u64, piece: &[u8]) -> Result<(), DiskFault>
-        requires { at + length piece.now ≤ (moment self.old).size }
+        requires room { at + length piece.now ≤ (moment self.old).size }
+        requires leave { ∥ may_tear self.old at (length piece.now) ∥₁ }
         ensures calls { Calls (IsErr result) (moment self.old) (moment self.new) }
         ensures written { OnOk result (tells → (moment self.new).reads ≡ put at piece.now (moment self.old).reads) }
         ensures told { tells → IsTorn at (length piece.now) (moment self.old) (moment self.new) }

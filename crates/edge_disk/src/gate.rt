@@ -4,7 +4,8 @@ ghost use Rattle.std.specs.Prelude.{◌≡◌, ◌≢◌, List, ℕ, ◌+◌, �
 ghost use Rattle.foundation.specs.Bytes.{put};
 ghost use Rattle.edge_disk.specs.Calls.{Calls};
 ghost use Rattle.edge_disk.specs.Disk.{IsSettled, LeavesOnly};
-ghost use Rattle.edge_disk.specs.Gate.{IsGateStep, ComesFrom};
+ghost use Rattle.edge_disk.specs.Gate.{IsGateStep, ComesFrom, GoesBehind};
+ghost use Rattle.edge_disk.specs.Leave.{Lets};
 
 use crate::{Disk, DiskFault};
 
@@ -15,6 +16,7 @@ use crate::{Disk, DiskFault};
 pub fn write_behind<D: Disk>(disk: &mut D, gate: u64, piece: &[u8]) -> Result<(), DiskFault>
     requires room { gate + length piece.now + 1 ≤ (D.moment disk.old).size }
     requires closed { D.tells → (c : List ℕ) → (D.moment disk.old).image c → slice_index c gate ≢ 1 }
+    requires leave { Lets D.tells D.moment D.may_tear (GoesBehind (D.moment disk.old) gate piece.now) }
 
     ensures calls { Calls (IsErr result) (D.moment disk.old) (D.moment disk.new) }
     ensures durable { OnOk result (D.tells → IsSettled (D.moment disk.new)) }
@@ -34,6 +36,7 @@ pub fn write_behind<D: Disk>(disk: &mut D, gate: u64, piece: &[u8]) -> Result<()
 pub fn open_gate<D: Disk>(disk: &mut D, gate: u64) -> Result<(), DiskFault>
     requires room { gate < (D.moment disk.old).size }
     requires settled { D.tells → IsSettled (D.moment disk.old) }
+    requires leave { ∥ D.may_tear disk.old gate 1 ∥₁ }
 
     ensures calls { Calls (IsErr result) (D.moment disk.old) (D.moment disk.new) }
     ensures durable { OnOk result (D.tells → IsSettled (D.moment disk.new)) }
@@ -50,6 +53,7 @@ pub fn open_gate<D: Disk>(disk: &mut D, gate: u64) -> Result<(), DiskFault>
 /// yet: each image comes from one of before, by no change but at the gate.
 pub fn close_gate<D: Disk>(disk: &mut D, gate: u64) -> Result<(), DiskFault>
     requires room { gate < (D.moment disk.old).size }
+    requires leave { ∥ D.may_tear disk.old gate 1 ∥₁ }
 
     ensures calls { Calls (IsErr result) (D.moment disk.old) (D.moment disk.new) }
     ensures durable { OnOk result (D.tells → IsSettled (D.moment disk.new)) }

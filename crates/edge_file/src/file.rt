@@ -111,6 +111,8 @@ impl Disk for FileDisk {
 
     ghost may_release = { λ _. Unit {0} };
 
+    ghost may_tear = { λ _ _ _. Unit {0} };
+
     ghost reads_too = { λ d images. images };
 
     ghost fits = { λ d. d.file.fits };

@@ -268,6 +268,11 @@ impl Net for MemNet {
         }
     }
 
+    /// It waits for nothing.
+    fn wait_briefly(&mut self)
+        ensures { self.new ≡ self.old }
+    {}
+
     ghost dialed_is_free = { λ _ _. tt };
 
     ghost pauses_keep = { λ x y same. Prim.cc };

@@ -70,6 +70,12 @@ pub trait Net: Pause {
         ensures bound { (told self.new).bound ≡ (told self.old).bound }
         ensures same { Self.same self.old self.new };
 
+    /// Waits a short while, where there was nothing to do and may soon be: no longer than a pause, which comes after what failed. It
+    /// changes nothing that the net tells.
+    fn wait_briefly(&mut self)
+        ensures same { Self.same self.old self.new }
+        ensures apart { Self.pause_apart self.old self.new };
+
     /// Any text may be written to a link that was dialed.
     ghost dialed_is_free: { (link : Self.L) (text : List ℕ) → Self.L.permits link text };
 

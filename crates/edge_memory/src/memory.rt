@@ -134,6 +134,8 @@ impl Disk for MemDisk {
 
     ghost may_release = { λ _. Unit {0} };
 
+    ghost may_tear = { λ _ _ _. Unit {0} };
+
     ghost reads_too = { λ d images. tt };
 
     ghost fits = { λ d. d.sound.fits };

@@ -14,8 +14,16 @@ use std::sync::Arc;
 use std::time::Duration;
 use std::{io, thread};
 
-// At which pause the places that lack a thread are reported. Each is a second.
-const ROLL_PAUSE: u32 = 3;
+// How long the shortest wait is, in milliseconds: a twentieth of a second.
+const TWENTIETH_MILLIS: u64 = 50;
+
+// How many twentieths of a second a pause takes, and a short wait.
+const PAUSE: u32 = 20;
+
+const SHORT: u32 = 1;
+
+// After how many twentieths of a second of waiting the places that lack a thread are reported: after three seconds.
+const ROLL_REPORT: u32 = 60;
 
 /// The sockets of the system. A place is an address of IP or the name of a host, a colon and a port. A bind listens
 /// at the first of the host's addresses that can be bound, a dial connects to the first that answers.
@@ -27,7 +35,8 @@ pub struct TcpNet<'a, R> {
     // The places that were bound, once one was.
     roll: Option<Arc<Roll>>,
     places: usize,
-    pauses: u32,
+    // For how many twentieths of a second this thread waited.
+    waited: u32,
     errors: u64,
     read_errors: u64,
     write_errors: u64,
@@ -54,7 +63,7 @@ impl<'a, R> TcpNet<'a, R> {
             waits,
             roll: None,
             places: 0,
-            pauses: 0,
+            waited: 0,
             errors: 0,
             read_errors: 0,
             write_errors: 0,
@@ -75,16 +84,10 @@ impl<R: Clock + Eprint> Pause for TcpNet<'_, R> {
 
     ghost pause_apart = { λ x y. state_of y ≡ state_of x };
 
-    /// Sleeps for a second. The third pause also reports the places that lack a thread, as where those who accept wait
-    /// for this thread to end.
+    /// Sleeps for a second. Once all pauses and short waits took three seconds, the places that lack a thread are reported too, as
+    /// where those who accept wait for this thread to end.
     fn pause(&mut self) {
-        thread::sleep(self.rt, Duration::from_secs(1));
-        self.pauses = self.pauses.saturating_add(1);
-        if self.pauses == ROLL_PAUSE
-            && let Some(roll) = &self.roll
-        {
-            roll.report_missing(self.rt);
-        }
+        self.wait_for(PAUSE)
     }
 
     ghost pause_refl = { λ _. Prim.cc };
@@ -127,6 +130,26 @@ fn connected<R: net::Net<Stream = TcpStream>>(
         }
     }
     Ok(None)
+}
+
+impl<R: Clock + Eprint> TcpNet<'_, R> {
+    ghost use Rattle.edge_net.specs.TcpNet.{state_of};
+
+    // Sleeps for so many twentieths of a second, and reports the places that lack a thread where it is due.
+    fn wait_for(&mut self, twentieths: u32)
+        ensures { state_of self.new ≡ state_of self.old }
+    {
+        let millis = TWENTIETH_MILLIS.saturating_mul(u64::from(twentieths));
+        thread::sleep(self.rt, Duration::from_millis(millis));
+        let before = self.waited;
+        self.waited = before.saturating_add(twentieths);
+        if before < ROLL_REPORT
+            && self.waited >= ROLL_REPORT
+            && let Some(roll) = &self.roll
+        {
+            roll.report_missing(self.rt);
+        }
+    }
 }
 
 impl<'a, R> TcpNet<'a, R> {
@@ -217,6 +240,11 @@ impl<'a, R: net::Net<Stream = TcpStream, Listener = TcpListener> + Clock + Eprin
     fn hang_up(&mut self, link: TcpLink) {
         self.read_errors = self.read_errors.saturating_add(link.read_errors());
         self.write_errors = self.write_errors.saturating_add(link.write_errors());
+    }
+
+    /// Sleeps for a twentieth of a second.
+    fn wait_briefly(&mut self) {
+        self.wait_for(SHORT)
     }
 
     ghost dialed_is_free = { λ _ _. tt };

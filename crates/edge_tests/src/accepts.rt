@@ -162,7 +162,7 @@ fn doors_that_nobody_serves_are_reported(
     drop((doors, served));
 }
 
-// A thread that forwards and waits before any door was served says so at its third pause.
+// A thread that forwards and waits before any door was served says so once it waited three seconds.
 fn a_net_reports_doors_that_wait_for_it(
     rt: &impl Abort,
     alloc: Global,
@@ -172,7 +172,11 @@ fn a_net_reports_doors_that_wait_for_it(
     let place = free_place(rt, host);
     let mut net = TcpNet::with_waits(alloc, staged, Waits::standard());
     let doors = net.bind(place.as_str(), 1).expect(rt, "a free port");
-    for count in [0, 0, 1, 0] {
+    for _ in 0..20 {
+        net.wait_briefly();
+    }
+    assert!(rt; staged.take_sleeps(rt).as_slice() == [50; 20].as_slice());
+    for count in [0, 1, 0] {
         net.pause();
         assert!(rt; staged.take_lines(rt).len() == count);
     }

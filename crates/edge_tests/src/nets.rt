@@ -169,6 +169,7 @@ fn dial_twice(rt: &impl Abort, net: &mut MemNet) {
     ];
     assert!(rt; counts == [Some(9), None, Some(2)]);
     net.pause();
+    net.wait_briefly();
     net.hang_up(link);
     net.hang_up(again);
 }

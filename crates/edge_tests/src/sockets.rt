@@ -173,6 +173,10 @@ fn a_pause_takes_a_while(rt: &(impl Abort + Clock), net: &mut TcpNet<'_, HostRun
     net.pause();
     let waited = start.elapsed(rt).expect(rt, "a clock");
     assert!(rt; Duration::from_millis(500) < waited);
+    let start = Instant::now(rt).expect(rt, "a clock");
+    net.wait_briefly();
+    let waited = start.elapsed(rt).expect(rt, "a clock");
+    assert!(rt; Duration::from_millis(25) < waited);
 }
 
 /// Each is done at a port of its own, so that none meets what another one left there.

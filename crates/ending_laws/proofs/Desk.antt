@@ -1,6 +1,6 @@
 -- Calls on a desk that isn't in doubt: what was refused there didn't fit, or the disk failed.
 use Rattle.std.proofs.Common.{◌≡◌, inl, inr, ℕ, List, [], ◌∷◌, ◌++◌, length, refl, sym, ◌∙◌, ap, subst, arith}
-use Rattle.std.specs.Prelude.{Option, Some, None, Result, Ok, Err}
+use Rattle.std.specs.Prelude.{Bool, true, false, Option, Some, None, Result, Ok, Err}
 use Rattle.event_form.specs.declared.event.Entry.{Entry}
 use Rattle.known_numbers.specs.declared.stretch.Stretch.{Stretch}
 use Rattle.spool_state.specs.SpoolState.{SpoolState}
@@ -18,7 +18,8 @@ use Rattle.hec_ids.specs.declared.fault.IssueFault.TheVariants as issue
 use Rattle.hec_ids.specs.Rows.{refusal}
 use Rattle.desk_access.specs.declared.standing.Standing.{Standing}
 use Rattle.desk_access.specs.Call.{Call, takes, pends, confirms, marks, counts, issues, settles, forgets, asks, Record, AreBy, calls_of, taken_by, taken_of, take_failures, confirm_failures, failures_in, failures_of}
-use Rattle.desk_access.specs.Desk.{DeskState, StaysDoubtful, Answers, Goes}
+use Rattle.desk_access.specs.Desk.{DeskState, StaysDoubtful, Answers, AnswersAs, Goes}
+use Rattle.desk_access.specs.Journal.{of_alone}
 use Rattle.desk_access.specs.History.{TakeAdds, Adds, AddsAll}
 
 -- mending didn't fail, since nothing was in doubt
@@ -63,10 +64,18 @@ one_sure x y (settles channel id answer) met sure none answers = ap (λ (d : Des
 one_sure x y (forgets channel id answer) met sure none answers = ap (λ (d : DeskState). d.doubt) answers.2.1 ∙ sure
 one_sure x y (asks channel asked known) met sure none answers = ap (λ (d : DeskState). d.doubt) answers.2.1 ∙ sure
 
+-- and where a take was stored as one group with the one before it
+sure_as : (joins : Bool) (x y : DeskState) (call : Call) (met : Option Standing) → x.doubt ≡ [] → failures_in call ≡ 0 → AnswersAs joins x call met y → y.doubt ≡ []
+sure_as false x y call met sure none answers = one_sure x y call met sure none answers
+sure_as true x y (takes (entry ∷ entries) (Ok receipt)) met sure none answers = ap (λ (d : DeskState). d.doubt) answers.3.4
+sure_as true x y (takes (entry ∷ entries) (Err Take.DiskFault)) met sure none answers = absurd (omega (arith, none))
+sure_as true x y (takes (entry ∷ entries) (Err fault)) met sure none answers = absurd answers.3
+sure_as true x y _ met sure none answers = absurd answers
+
 pub stays_sure : (x y : DeskState) (records : List Record) → x.doubt ≡ [] → failures_of (calls_of records) ≡ 0 → Goes x records y → y.doubt ≡ []
 stays_sure x y [] sure none goes = ap (λ (d : DeskState). d.doubt) goes ∙ sure
 stays_sure x y (one ∷ records) sure none goes =
-    stays_sure goes.0 y records (one_sure x goes.0 one.call one.met sure (omega (arith, none)) goes.1.answers) (omega (arith, none)) goes.2
+    stays_sure goes.0 y records (sure_as one.joins x goes.0 one.call one.met sure (omega (arith, none)) goes.1.answers) (omega (arith, none)) goes.2
 
 -- ---- what is answered
 
@@ -84,7 +93,7 @@ first_answers x y call more calls records is by goes = there records (subst (λ 
   where
     there : (rs : List Record) → AreBy 0 (call ∷ more) rs → Goes x rs y → FirstAnswers x call more y
     there [] own leads = absurd own
-    there (one ∷ rs) own leads = record { met = one.met; found = leads.0; answers = subst (λ (c : Call). Answers x c one.met leads.0) own.1 leads.1.answers; rest = rs; by = own.2; goes = leads.2 }
+    there (one ∷ rs) own leads = record { met = one.met; found = leads.0; answers = subst (λ (c : Call). Answers x c one.met leads.0) own.1 (of_alone one.joins x leads.0 one.call one.met own.2 leads.1.answers); rest = rs; by = own.3; goes = leads.2 }
 
 -- a group that fits isn't taken only where the disk fails
 fits_or_fails : (s : SpoolState) (group : List Entry) (fault : TakeFault) → Fits s group → Takes s group (Err fault) → fault ≡ Take.DiskFault
@@ -133,8 +142,8 @@ pub by_parts : (first more : List Call) (records : List Record) → AreBy 0 (fir
 by_parts [] more records by = record { before = []; after = records; are = refl; by_before = tt; by_after = by }
 by_parts (call ∷ first) more [] by = absurd by
 by_parts (call ∷ first) more (one ∷ records) by =
-    let rest = by_parts first more records by.2 in
-    record { before = one ∷ rest.before; after = rest.after; are = ap (λ (l : List Record). one ∷ l) rest.are; by_before = (by.0, by.1, rest.by_before); by_after = rest.by_after }
+    let rest = by_parts first more records by.3 in
+    record { before = one ∷ rest.before; after = rest.after; are = ap (λ (l : List Record). one ∷ l) rest.are; by_before = (by.0, by.1, by.2, rest.by_before); by_after = rest.by_after }
 
 -- ---- what the calls added
 

@@ -10,7 +10,6 @@ use Rattle.event_form.specs.declared.talk.Why.{Why}
 use Rattle.edge_io.specs.declared.proto.Proto.{Proto}
 use Rattle.edge_disk.specs.Disk.{Moment}
 use Rattle.spool_state.specs.SpoolState.{SpoolState}
-use Rattle.hec_session.specs.declared.tokens.Tokens.{Tokens}
 use Rattle.desk_access.specs.Call.{Call, Record, AreBy, taken_of, failures_of}
 use Rattle.desk_access.specs.Carried.{Carried, Ending, EndsAtMove, IsOver}
 use Rattle.desk_access.specs.Desk.{DeskState, Goes}
@@ -20,6 +19,7 @@ use Rattle.desk_access.specs.Protocol.{Protocol}
 use Rattle.desk_access.specs.Step.{Step, frames_of, calls_of}
 use Rattle.conn_serve.specs.Front.{IsFront}
 use Rattle.conn_serve.specs.Serves.{CarriedAs}
+use Rattle.conn_serve.specs.Terms.{Terms}
 use Rattle.conn_serve.proofs.Failing.{disk_fault_is_told}
 use Rattle.notes.specs.declared.note.Note.{Note}
 use Rattle.notes.specs.Notes.{note_of_talk}
@@ -147,10 +147,10 @@ pub steps_failures : (calls first late : List Call) → calls ≡ first ++ late 
 steps_failures calls first late made none = omega (arith, none, ap failures_of made, failures_then first late)
 
 -- a connection that ended by no fault of the disk or of a write had no call that failed
-pub none_failed : (proto : Proto) (tokens : Tokens) (conn : ℕ) (left : Option (List ℕ)) (b : List ℕ) (calls : List Call) (text : List ℕ) (talk : Talk) → CarriedAs proto tokens conn left b calls text talk
+pub none_failed : (proto : Proto) (terms : Terms) (conn : ℕ) (left : Option (List ℕ)) (b : List ℕ) (calls : List Call) (text : List ℕ) (talk : Talk) → CarriedAs proto terms conn left b calls text talk
     → (talk ≡ Talk.DiskFault → ⊥) → (talk ≡ Talk.WriteFault → ⊥) → failures_of calls ≡ 0
-none_failed proto tokens conn left b calls text talk carried disk write =
-    elim ((disk_fault_is_told proto tokens conn left b calls text talk carried).quiet disk) [ inl none ↦ none | inr cut ↦ absurd (write cut.1) ]
+none_failed proto terms conn left b calls text talk carried disk write =
+    elim ((disk_fault_is_told proto terms conn left b calls text talk carried).quiet disk) [ inl none ↦ none | inr cut ↦ absurd (write cut.1) ]
 
 -- ---- what the spool has then
 

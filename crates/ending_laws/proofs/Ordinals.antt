@@ -18,9 +18,9 @@ use Rattle.spool_answers.specs.Mark.{EndsBy, IsNothingNew, Marks}
 use Rattle.spool_answers.specs.Pend.{IsNotBroken}
 use Rattle.spool_answers.specs.Stages.{known_stages, last_of, total_of}
 use Rattle.desk_access.specs.declared.standing.Standing.{Standing}
-use Rattle.desk_access.specs.Call.{Call, Record, AreBy, calls_of, failures_of, pends, marks}
+use Rattle.desk_access.specs.Call.{Call, Record, AreBy, IsNoTake, calls_of, failures_of, pends, marks, takes}
 use Rattle.desk_access.specs.Desk.{DeskState, Answers, Goes}
-use Rattle.desk_access.specs.Journal.{calls_by, goes_parts}
+use Rattle.desk_access.specs.Journal.{calls_by, goes_parts, of_other}
 use Rattle.desk_access.proofs.Steps.{goes_later}
 use Rattle.forward_core.specs.Calls.{AreGranted, AreOfSession, next_after}
 use Rattle.forward_core.specs.Marking as marking
@@ -91,11 +91,15 @@ granted_first (pends from most (Ok given)) calls granted = (tt, granted)
 granted_first (marks stretches (Ok done)) calls granted = (tt, granted)
 granted_first call calls granted = absurd granted
 
+granted_other : (call : Call) → AreGranted (call ∷ []) → IsNoTake call
+granted_other (takes group result) granted = absurd granted
+granted_other call granted = tt
+
 goes_pays : (x y : DeskState) (records : List Record) → x.doubt ≡ [] → AreGranted (calls_of records) → Goes x records y → Pays x.spool y.spool
 goes_pays x y [] sure granted goes = subst (λ (d : DeskState). Pays x.spool d.spool) (sym goes) (pays_self x.spool)
 goes_pays x y (one ∷ records) sure granted goes =
     let first = granted_first one.call (calls_of records) granted in
-    let here = one_pays x goes.0 one.call one.met sure first.0 goes.1.answers in
+    let here = one_pays x goes.0 one.call one.met sure first.0 (of_other one.joins x goes.0 one.call one.met (granted_other one.call first.0) goes.1.answers) in
     let now : goes.0.doubt ≡ [] = stays_sure x goes.0 (one ∷ []) sure (granted_failures (one.call ∷ []) first.0) (goes.0, goes.1, refl) in
     pays_then x.spool goes.0.spool y.spool here (goes_pays goes.0 y records now first.1 goes.2)
 

@@ -67,11 +67,12 @@ pub fn check(rt: &impl Abort, alloc: Global, table: &str) {
 }
 
 // What is wrong with words, and the text for it.
-const FAULTS: [(WordsFault, &str); 24] = [
+const FAULTS: [(WordsFault, &str); 25] = [
     (WordsFault::NoCommand, "no command is named"),
     (WordsFault::UnknownWord, "unknown word or option"),
     (WordsFault::MissingWord, "a word is missing"),
     (WordsFault::MissingValue, "an option has no value"),
+    (WordsFault::ExtraValue, "an option takes no value"),
     (WordsFault::GivenTwice, "an option is given twice"),
     (WordsFault::Slots, "SLOTS: 1 to 1024"),
     (WordsFault::Size, "SIZE: 4096 to 1073741824"),

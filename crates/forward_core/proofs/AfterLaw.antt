@@ -15,8 +15,9 @@ use Rattle.spool_answers.specs.declared.fault.ConfirmFault.TheVariants as Confir
 use Rattle.spool_answers.specs.Mark.{after_mark, mark_doubt}
 use Rattle.spool_answers.specs.Stages.{IsOneOf, known_stages, last_of, total_of}
 use Rattle.desk_access.specs.declared.standing.Standing.{Standing}
-use Rattle.desk_access.specs.Call.{Call, Record, calls_of, marks, pends}
+use Rattle.desk_access.specs.Call.{Call, Record, IsNoTake, calls_of, marks, pends, takes}
 use Rattle.desk_access.specs.Desk.{Answers, DeskState, Goes}
+use Rattle.desk_access.specs.Journal.{of_other}
 use Rattle.desk_access.specs.History.{IsDesk}
 use Rattle.desk_access.proofs.Steps.{allowed_later}
 use Rattle.forward_core.specs.Calls.{AreGranted, AreOfSession, IsMarked, MarksAllBelow, next_after}
@@ -105,6 +106,11 @@ one_call x z (marks stretches (Err fault)) calls met until next t none (ends, in
     knows_none x.spool t call calls of (subst (λ (s : SpoolState). Knows s (call ∷ []) t) same (refused_knows m stretches fault t one))
 one_call x z call calls met until next t none answers of on last = absurd of
 
+-- a session takes nothing
+pub session_other : (until next : ℕ) (call : Call) (calls : List Call) → AreOfSession until next (call ∷ calls) → IsNoTake call
+session_other until next (takes group result) calls of = absurd of
+session_other until next call calls of = tt
+
 no_record : (x y : DeskState) (records : List Record) → calls_of records ≡ [] → Goes x records y → y ≡ x
 no_record x y [] none goes = goes
 no_record x y (one ∷ records) none goes = absurd (cc (none))
@@ -114,7 +120,7 @@ knows_only x y [] start until t rules none of goes one =
     same_knows x.spool t [] (subst (λ (l : List SpoolState). IsOneOf x.spool l t) none (subst (λ (d : DeskState). IsOneOf d.spool d.doubt t) goes one))
 knows_only x y (one ∷ records) start until t rules none of goes stands =
     let z = goes.0 in
-    one_call x z one.call (calls_of records) one.met until start t none goes.1.answers of
+    one_call x z one.call (calls_of records) one.met until start t none (of_other one.joins x z one.call one.met (session_other until start one.call (calls_of records) of) goes.1.answers) of
     (λ after sure of'. knows_only z y records after until t (allowed_later x z one rules goes.1).0 sure of' goes.2 stands)
     (λ last. subst (λ (d : DeskState). IsOneOf d.spool d.doubt t) (no_record z y records last goes.2) stands)
 
@@ -177,6 +183,10 @@ same_marked s stretches =
     cond_both (nat_le (total_of (marked (numbers_of s) stretches)) (total_of (numbers_of s))) [] (with_marked s stretches ∷ []) (λ (l : List SpoolState). Same s (last_of s l))
     (λ yes. record { base_is = refl; list_is = refl }) (λ no. record { base_is = refl; list_is = refl })
 
+all_other : (call : Call) (calls : List Call) → AreGranted (call ∷ calls) → IsNoTake call
+all_other (takes group result) calls granted = absurd granted
+all_other call calls granted = tt
+
 same_call : (x z : DeskState) (call : Call) (calls : List Call) (met : Option Standing) → x.doubt ≡ [] → AreGranted (call ∷ calls) → Answers x call met z → Same x.spool z.spool × (z.doubt ≡ []) × AreGranted calls
 same_call x z (pends from most (Ok given)) calls met none granted (inl stays) = absurd (cc (stays.1))
 same_call x z (pends from most (Ok given)) calls met none granted (inr went) =
@@ -192,7 +202,7 @@ same_call x z call calls met none granted answers = absurd granted
 same_after : (x y : DeskState) (records : List Record) → x.doubt ≡ [] → AreGranted (calls_of records) → Goes x records y → Same x.spool y.spool
 same_after x y [] none granted goes = same_as x.spool y.spool (ap (λ (d : DeskState). d.spool) goes)
 same_after x y (one ∷ records) none granted goes =
-    let here = same_call x goes.0 one.call (calls_of records) one.met none granted goes.1.answers in
+    let here = same_call x goes.0 one.call (calls_of records) one.met none granted (of_other one.joins x goes.0 one.call one.met (all_other one.call (calls_of records) granted) goes.1.answers) in
     same_then x.spool goes.0.spool y.spool here.0 (same_after goes.0 y records here.1 here.2 goes.2)
 
 pub leaves_rest : (x y : DeskState) (records : List Record) → IsDesk x → x.doubt ≡ [] → AreGranted (calls_of records) → Goes x records y → LeavesRest x.spool (calls_of records) y.spool

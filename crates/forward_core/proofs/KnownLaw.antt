@@ -9,8 +9,9 @@ use Rattle.spool_state.specs.SpoolState.{SpoolState, numbers_of}
 use Rattle.spool_state.proofs.Registered.{with_marked}
 use Rattle.spool_answers.specs.Stages.{IsOneOf, last_of, total_of, known_stages}
 use Rattle.desk_access.specs.declared.standing.Standing.{Standing}
-use Rattle.desk_access.specs.Call.{Call, Record, calls_of, marks, pends}
+use Rattle.desk_access.specs.Call.{Call, Record, IsNoTake, calls_of, marks, pends, takes}
 use Rattle.desk_access.specs.Desk.{Answers, DeskState, Goes}
+use Rattle.desk_access.specs.Journal.{of_other}
 use Rattle.desk_access.specs.History.{IsDesk}
 use Rattle.desk_access.proofs.Steps.{allowed_later}
 use Rattle.forward_core.specs.Calls.{AreGranted}
@@ -43,6 +44,10 @@ known_then numbers (pends from most (Ok given)) calls g = refl
 known_then numbers (marks stretches (Ok done)) calls g = refl
 known_then numbers call calls g = absurd g
 
+granted_other : (call : Call) → AreGranted (call ∷ []) → IsNoTake call
+granted_other (takes group result) g = absurd g
+granted_other call g = tt
+
 granted_first : (call : Call) (calls : List Call) → AreGranted (call ∷ calls) → AreGranted (call ∷ []) × AreGranted calls
 granted_first (pends from most (Ok given)) calls g = (tt, g)
 granted_first (marks stretches (Ok done)) calls g = (tt, g)
@@ -53,6 +58,6 @@ known_after x y [] rules none granted goes = (ap (λ (d : DeskState). numbers_of
 known_after x y (one ∷ records) rules none granted goes =
     let z = goes.0 in
     let g = granted_first one.call (calls_of records) granted in
-    let first = step x z one.call one.met rules none g.0 goes.1.answers in
+    let first = step x z one.call one.met rules none g.0 (of_other one.joins x z one.call one.met (granted_other one.call g.0) goes.1.answers) in
     let rest = known_after z y records (allowed_later x z one rules goes.1).0 first.1 g.1 goes.2 in
     (rest.0 ∙ ap (λ (n : Numbers). known_by n (calls_of records)) first.0 ∙ known_then (numbers_of x.spool) one.call (calls_of records) g.0, rest.1)

@@ -22,6 +22,8 @@ use Rattle.spool_answers.specs.Stages.{IsOneOf, known_stages, last_of, total_of}
 use Rattle.desk_access.specs.declared.standing.Standing.{Standing}
 use Rattle.desk_access.specs.Call.{Call, Record, calls_of, marks, pends}
 use Rattle.desk_access.specs.Desk.{Answers, DeskState, Goes}
+use Rattle.desk_access.specs.Journal.{of_other}
+use Rattle.forward_core.proofs.AfterLaw.{session_other}
 use Rattle.desk_access.specs.History.{IsDesk}
 use Rattle.desk_access.proofs.Steps.{allowed_later}
 use Rattle.forward_core.specs.Calls.{AreOfSession, MarksBelowRead, after_last, asked_from, is_within, next_after, next_of, read_of, within}
@@ -236,7 +238,7 @@ pub splits_from : (s : SpoolState) (x y : DeskState) (records : List Record) (ne
     → AreOfSession (end s) next (calls_of records) → MarksBelowNext (end s) next (calls_of records) → Goes x records y → Splits s next (calls_of records)
 splits_from s x y [] next sound rules none like of low goes = refl
 splits_from s x y (one ∷ records) next sound rules none like of low goes =
-    one_call s x goes.0 one.call (calls_of records) one.met next sound rules none like goes.1.answers of low
+    one_call s x goes.0 one.call (calls_of records) one.met next sound rules none like (of_other one.joins x goes.0 one.call one.met (session_other (end s) next one.call (calls_of records) of) goes.1.answers) of low
     (λ after sure like' of' low'. splits_from s goes.0 y records after sound (allowed_later x goes.0 one rules goes.1).0 sure like' of' low' goes.2)
 
 -- With no other caller, from a desk that isn't in doubt: what a session read, and what it would read next, is what was left.

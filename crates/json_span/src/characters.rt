@@ -38,11 +38,12 @@ pub(crate) fn after_plain(bytes: &[u8], at: usize) -> usize
 {
     let mut end = at;
     while bytes.len() - end >= 16 {
+        // The next sixteen don't wait for this count, so that loads overlap.
         let run = plain_lanes(bytes, end);
-        end += run;
         if run < 16 {
-            return end;
+            return end + run;
         }
+        end += 16;
     }
     for i in end..bytes.len() {
         if !plain(bytes[i]) {

@@ -19,7 +19,7 @@ use Rattle.desk_access.specs.Call.{Call, taken_of}
 use Rattle.desk_access.specs.Call as calls
 use Rattle.desk_access.specs.Carried.{Carried, Ending}
 use Rattle.desk_access.specs.Desk.{DeskState}
-use Rattle.desk_access.specs.Journal.{calls_by}
+use Rattle.desk_access.specs.Journal.{calls_by, none_joins}
 use Rattle.desk_access.specs.Protocol.{AreMoves}
 use Rattle.desk_access.specs.Step.{Step, calls_of, count, frames_of}
 use Rattle.desk_access.proofs.Moves.{taken_then}
@@ -107,7 +107,7 @@ hec_fits conn texts few are steps x r at act first told does =
     let made : calls.calls_of first.records ≡ calls_of steps = calls_by 0 (calls_of steps) first.records first.by in
     let same : length (taken_of (calls.calls_of first.records)) ≡ asked (frames_of steps) = ap (λ (l : List Call). length (taken_of l)) made ∙ took.many in
     let all : asked (frames_of steps) ≤ 110000 = omega (arith, few, t.few, asked_then (frames_of steps) (Request r ∷ [])) in
-    let packed = goes_packed (desk_in new_spool) x first.records [] refl new_packed (subst AreSmall (sym made) took.small) (omega (arith, same, all)) first.goes in
+    let packed = goes_packed (desk_in new_spool) x first.records [] (none_joins 0 (calls_of steps) first.records first.by) refl new_packed (subst AreSmall (sym made) took.small) (omega (arith, same, all)) first.goes in
     granted x conn (count (calls_of steps)) (object own.0) act (taken_of (calls.calls_of first.records)) packed.packed (omega (arith, same, all)) (object_low own.0 own.1) (own_act r act own does)
 
 -- ---- all of them are taken

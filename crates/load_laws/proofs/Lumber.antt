@@ -23,7 +23,7 @@ use Rattle.lumber_session.proofs.CutLaws.{nowhere_few}
 use Rattle.lumber_session.proofs.WindowLaws.{staged-append, staged_push}
 use Rattle.desk_access.specs.Call.{Call, taken_of}
 use Rattle.desk_access.specs.Call as calls
-use Rattle.desk_access.specs.Journal.{calls_by}
+use Rattle.desk_access.specs.Journal.{calls_by, none_joins}
 use Rattle.desk_access.specs.Protocol.{AreMoves}
 use Rattle.desk_access.specs.Step.{Step, calls_of, count, frames_of}
 use Rattle.desk_access.proofs.Moves.{taken_then}
@@ -246,6 +246,6 @@ lumber_fits conn texts few short steps x frames at first front stored =
       ap (λ (l : List Staged). length l) (staged-append (frames_of steps) (frames ++ s.0)),
       length-append (staged (frames_of steps)) (staged (frames ++ s.0)),
     ) in
-    let packed = goes_packed (desk_in new_spool) x first.records [] refl new_packed (subst AreSmall (sym own) small.0) (omega (arith, same, all)) first.goes in
+    let packed = goes_packed (desk_in new_spool) x first.records [] (none_joins 0 (calls_of steps) first.records first.by) refl new_packed (subst AreSmall (sym own) small.0) (omega (arith, same, all)) first.goes in
     small_fits x.spool (taken_of (calls.calls_of first.records)) (entries_of conn (count (calls_of steps)) (staged frames)) packed.packed
     (group_small conn (count (calls_of steps)) frames (low_first frames s.0 small.1) sizes.0 sizes.1) (omega (arith, same, all))

@@ -27,7 +27,7 @@ use Rattle.relp_session.specs.State.{IsNext, next}
 use Rattle.relp_session.proofs.Table.{one_request}
 use Rattle.desk_access.specs.Call.{Call, taken_of}
 use Rattle.desk_access.specs.Call as calls
-use Rattle.desk_access.specs.Journal.{calls_by}
+use Rattle.desk_access.specs.Journal.{calls_by, none_joins}
 use Rattle.desk_access.specs.Protocol.{AreMoves}
 use Rattle.desk_access.specs.Step.{Step, calls_of, count, frames_of}
 use Rattle.desk_access.proofs.Moves.{taken_then}
@@ -237,7 +237,7 @@ relp_fits conn texts few short steps x f at event txnr first front answer =
     let are : all_frames texts ≡ frames_of steps ++ (f ∷ more) = strip.1 ∙ append_assoc (frames_of steps) (f ∷ []) more in
     let took = stream_few conn texts steps (f ∷ more) few short first.moves are in
     let own : calls.calls_of first.records ≡ calls_of steps = calls_by 0 (calls_of steps) first.records first.by in
-    let packed = goes_packed (desk_in new_spool) x first.records [] refl new_packed (subst AreSmall (sym own) took.0) (omega (arith, took.1, ap (λ (l : List Call). length (taken_of l)) own)) first.goes in
+    let packed = goes_packed (desk_in new_spool) x first.records [] (none_joins 0 (calls_of steps) first.records first.by) refl new_packed (subst AreSmall (sym own) took.0) (omega (arith, took.1, ap (λ (l : List Call). length (taken_of l)) own)) first.goes in
     let low = low_last (frames_of steps) f (low_first (frames_of steps ++ f ∷ []) more (subst AreLow strip.1 (all_low texts short))) in
     small_fits x.spool (taken_of (calls.calls_of first.records)) (entry_of conn (count (calls_of steps)) txnr event ∷ []) packed.packed
     (one_small conn (count (calls_of steps)) (state_after (frames_of steps)) f event txnr low answer)

@@ -16,8 +16,9 @@ use Rattle.spool_state.proofs.Texts.{entries_of-with_group, length-head_text, le
 use Rattle.spool_answers.specs.Take.{Fits}
 use Rattle.spool_answers.specs.Stages.{closed_stages, group_stages, last_of}
 use Rattle.desk_access.specs.declared.standing.Standing.{Standing}
-use Rattle.desk_access.specs.Call.{Call, Record, calls_of, taken_by, taken_of, takes}
+use Rattle.desk_access.specs.Call.{Call, NoneJoins, Record, calls_of, taken_by, taken_of, takes}
 use Rattle.desk_access.specs.Desk.{Answers, DeskState, Goes}
+use Rattle.desk_access.specs.Journal.{of_alone}
 use Rattle.load_run.specs.Load.{new_spool}
 use Rattle.ending_laws.proofs.Desk.{found_is, no_doubt}
 
@@ -224,16 +225,16 @@ one_packed x y (takes (entry ∷ entries) (Ok receipt)) calls met taken sure p s
     )
 one_packed x y call calls met taken sure p small few answers = absurd small
 
-pub goes_packed : (x y : DeskState) (records : List Record) (taken : List Entry) → x.doubt ≡ [] → Packed x.spool taken → AreSmall (calls_of records) → length taken + length (taken_of (calls_of records)) ≤ 110000 → Goes x records y
+pub goes_packed : (x y : DeskState) (records : List Record) (taken : List Entry) → NoneJoins records → x.doubt ≡ [] → Packed x.spool taken → AreSmall (calls_of records) → length taken + length (taken_of (calls_of records)) ≤ 110000 → Goes x records y
     → IsPacked x (taken ++ taken_of (calls_of records)) y
-goes_packed x y [] taken sure p small few goes =
+goes_packed x y [] taken alone sure p small few goes =
     subst (IsPacked x (taken ++ [])) (sym goes) (record { packed = subst (Packed x.spool) (sym (append-nil taken)) p; sure = sure; ids = refl })
-goes_packed x y (one ∷ records) taken sure p small few goes =
+goes_packed x y (one ∷ records) taken alone sure p small few goes =
     let call = one.call in
     let rest = calls_of records in
-    let here = one_packed x goes.0 call rest one.met taken sure p small (omega (arith, few)) goes.1.answers in
+    let here = one_packed x goes.0 call rest one.met taken sure p small (omega (arith, few)) (of_alone one.joins x goes.0 call one.met alone.0 goes.1.answers) in
     let sum : length (taken ++ taken_by call) + length (taken_of rest) ≤ 110000 = omega (arith, few, length-append taken (taken_by call), length-append (taken_by call) (taken_of rest)) in
-    let later = goes_packed goes.0 y records (taken ++ taken_by call) here.0.sure here.0.packed here.1 sum goes.2 in
+    let later = goes_packed goes.0 y records (taken ++ taken_by call) alone.1 here.0.sure here.0.packed here.1 sum goes.2 in
     record {
       packed = subst (Packed y.spool) (append_assoc taken (taken_by call) (taken_of rest)) later.packed;
       sure = later.sure;

@@ -16,7 +16,7 @@ use Rattle.spool_state.proofs.Emptied.{empty_sound}
 use Rattle.spool_state.proofs.Registered.{sound-registered}
 use Rattle.desk_access.specs.Call.{Call, calls_of, taken_of}
 use Rattle.desk_access.specs.Desk.{DeskState, desk_of}
-use Rattle.desk_access.specs.Journal.{calls_by}
+use Rattle.desk_access.specs.Journal.{calls_by, none_joins}
 use Rattle.desk_access.proofs.Steps.{goes_later}
 use Rattle.forward_core.specs.declared.sent.Sent.{Sent}
 use Rattle.forward_core.specs.declared.sent.Sent.TheVariants as Ending
@@ -72,7 +72,7 @@ pub holds : (calls : List Call) (x : DeskState) (n : ℕ) → Leads (desk_in new
 holds calls x n led small many few =
     let own : calls_of led.records ≡ calls = calls_by 0 calls led.records led.by in
     let same : length (taken_of (calls_of led.records)) ≡ n = ap (λ (l : List Call). length (taken_of l)) own ∙ many in
-    let p = goes_packed (desk_in new_spool) x led.records [] refl new_packed (subst AreSmall (sym own) small) (omega (arith, same, few)) led.goes in
+    let p = goes_packed (desk_in new_spool) x led.records [] (none_joins 0 calls led.records led.by) refl new_packed (subst AreSmall (sym own) small) (omega (arith, same, few)) led.goes in
     let sound = (goes_later (desk_in new_spool) x led.records (desk_rules new_spool new_sound) led.goes).0.sound in
     let long : length (list x.spool) ≡ n = ap (λ (l : List Entry). length l) p.packed.list_is ∙ same in
     let last : end x.spool ≡ n = omega (arith, p.packed.base_is, long) in

@@ -21,9 +21,10 @@ use Rattle.desk_access.specs.Call.{taken_of}
 use Rattle.desk_access.specs.Desk.{DeskState}
 use Rattle.desk_access.specs.Step.{calls_of as calls_in, count, frames_of}
 use Rattle.conn_serve.specs.Front.{IsFront}
+use Rattle.conn_serve.specs.RunsOfOne.{RunsOfOne}
 use Rattle.load_run.specs.Events.{load_texts}
 use Rattle.load_run.specs.Load.{IsReplayed, new_spool}
-use Rattle.load_run.specs.Runs.{settings, tokens}
+use Rattle.load_run.specs.Runs.{settings, terms, tokens}
 use Rattle.load_run.specs.Stream.{hec_stream, lumber_stream, relp_stream}
 use Rattle.load_run.proofs.Shorts.{AreShort, length-texts, texts_short}
 use Rattle.ending_laws.specs.Draining.{pending}
@@ -60,33 +61,34 @@ module _ (number n : ℕ) (few : n ≤ 100000) where
   unfolding texts
   shorts = texts_short 0 number n (omega (arith, few))
 
-  relp_replayed : (taken : ℕ) (talk : Talk) (text : List ℕ) (x : DeskState) → IsReplayed Relp number n taken talk text x → (talk ≡ Talk.DiskFault → ⊥) → (talk ≡ Talk.WriteFault → ⊥) → Replayed n taken talk x
+  relp_replayed : RunsOfOne → (taken : ℕ) (talk : Talk) (text : List ℕ) (x : DeskState) → IsReplayed Relp number n taken talk text x → (talk ≡ Talk.DiskFault → ⊥) → (talk ≡ Talk.WriteFault → ⊥) → Replayed n taken talk x
   unfolding texts
-  relp_replayed taken talk text x is disk write =
+  relp_replayed ones taken talk text x is disk write =
       let r = is.replays in
       let some : length texts ≤ 100000 = omega (arith, many, few) in
       let stream = relp_stream texts in
       let left : Option (List ℕ) = Some r.behind in
       let k : Kept left stream r.bytes = record { more = r.behind; left_is = refl; joined = r.whole } in
       let reached = reaches new_spool r.calls x r.made in
-      let none = none_failed Relp tokens (2 ^ 32) left r.bytes r.calls text talk r.carried disk write in
+      let c = ones.carried (2 ^ 32) left r.bytes r.calls text talk r.carried in
+      let none = none_failed Relp terms (2 ^ 32) left r.bytes r.calls text talk r.carried disk write in
       let front : IsFront IsSpelling stream (all_frames texts) (length stream) = record { front = stream; rest = []; spelled = all_spelled texts some shorts; ends = refl; whole = sym (append-nil stream) } in
       record {
-        allowed = relp_allowed (2 ^ 32) tokens new_spool nowhere left stream r.bytes r.calls text talk r.carried reached k none (all_frames texts) (length stream, front, inl refl)
+        allowed = relp_allowed (2 ^ 32) tokens new_spool nowhere left stream r.bytes r.calls text talk c reached k none (all_frames texts) (length stream, front, inl refl)
             (relp_fits (2 ^ 32) texts some shorts) (length-relp_stream texts some shorts);
         all = λ done.
-            let t = relp_took (2 ^ 32) tokens new_spool nowhere left stream r.bytes r.calls text talk r.carried reached k none done in
-            let steps = r.carried.steps in
+            let t = relp_took (2 ^ 32) tokens new_spool nowhere left stream r.bytes r.calls text talk c reached k none done in
+            let steps = c.steps in
             let same = ends_are texts (frames_of steps ++ t.tail) some shorts t.ends in
             let events = all_events texts t.acts (subst (λ (l : List Frame). Steps Unopened l t.acts) same t.are) in
             let took : length (taken_of r.calls) ≡ n = sym (length-map (taken_of r.calls) (λ (e : Entry). e.event)) ∙ ap (λ (l : List Event). length l) t.own ∙ events ∙ many in
-            let small = (stream_few (2 ^ 32) texts steps t.tail some shorts r.carried.each (sym same)).0 in
+            let small = (stream_few (2 ^ 32) texts steps t.tail some shorts c.each (sym same)).0 in
             (r.counted ∙ took, holds r.calls x n r.made (subst AreSmall (sym t.only) small) took (omega (arith, few)));
       }
 
-  pub relp_can : CanLoad Relp number n
-  relp_can = record {
-    replayed = relp_replayed;
+  pub relp_can : RunsOfOne → CanLoad Relp number n
+  relp_can ones = record {
+    replayed = relp_replayed ones;
     answers = λ x h. relp_answers (pending x.spool) n (pending_many n x h) few;
     short = length-relp_replies n few;
   }
@@ -115,7 +117,7 @@ module _ (number n : ℕ) (few : n ≤ 100000) where
       let left : Option (List ℕ) = Some r.behind in
       let k : Kept left stream r.bytes = record { more = r.behind; left_is = refl; joined = r.whole } in
       let reached = reaches new_spool r.calls x r.made in
-      let none = none_failed Lumberjack tokens (2 ^ 32) left r.bytes r.calls text talk c disk write in
+      let none = none_failed Lumberjack terms (2 ^ 32) left r.bytes r.calls text talk c disk write in
       let ends = lumber.all_spelled 0 lumber_texts lumber_shorts in
       record {
         allowed = lumber_allowed (2 ^ 32) tokens new_spool nowhere left stream r.bytes r.calls text talk c reached k none (lumber.all_frames 0 lumber_texts) ends
@@ -165,7 +167,7 @@ module _ (number n : ℕ) (few : n ≤ 100000) where
       let left : Option (List ℕ) = Some r.behind in
       let k : Kept left stream r.bytes = record { more = r.behind; left_is = refl; joined = r.whole } in
       let reached = reaches new_spool r.calls x r.made in
-      let none = none_failed Hec tokens (2 ^ 32) left r.bytes r.calls text talk c disk write in
+      let none = none_failed Hec terms (2 ^ 32) left r.bytes r.calls text talk c disk write in
       record {
         allowed = hec_allowed (2 ^ 32) tokens new_spool nowhere left stream r.bytes r.calls text talk c reached k none (flat_map items_of (all_requests hec_texts)) (stream_ends hec_texts are_texts)
             (hec_fits (2 ^ 32) hec_texts some are_texts) (omega (arith, some, length-hec_stream hec_texts are_texts));
@@ -184,7 +186,7 @@ module _ (number n : ℕ) (few : n ≤ 100000) where
 
 -- ---- each of them
 
-pub can_load : (proto : Proto) (number n : ℕ) → n ≤ 100000 → CanLoad proto number n
-can_load Relp number n few = relp_can number n few
-can_load Lumberjack number n few = lumber_can number n few
-can_load Hec number n few = hec_can number n few
+pub can_load : RunsOfOne → (proto : Proto) (number n : ℕ) → n ≤ 100000 → CanLoad proto number n
+can_load ones Relp number n few = relp_can number n few ones
+can_load ones Lumberjack number n few = lumber_can number n few
+can_load ones Hec number n few = hec_can number n few

@@ -8,7 +8,7 @@ use Rattle.hec_ids.specs.Rows.{opened}
 use Rattle.spool_desk.specs.Alone.{AloneView, IsAt, Ran}
 use Rattle.desk_access.specs.Call.{Call, failures_of}
 use Rattle.desk_access.specs.Desk.{DeskState, desk_of}
-use Rattle.desk_access.specs.Journal.{calls_by}
+use Rattle.desk_access.specs.Journal.{failed_by}
 use Rattle.spool_desk.specs.Standing.{standing_in}
 use Rattle.spool_desk.proofs.Leading.{standing_known}
 use Rattle.load_run.specs.Runs.{LeadsTo, desk_in}
@@ -20,7 +20,7 @@ none_rose n a b p q rose = grind (arith, common_steps)
 -- no call was answered that the disk failed
 pub none_failed : (tells : Type 0) (old new : AloneView) (calls : List Call) → old.spool.moment.faults ≡ 0 → new.spool.moment.faults ≡ 0 → Ran tells old calls new → failures_of calls ≡ 0
 none_failed tells old new calls first last ran =
-    ap failures_of (sym (calls_by 0 calls ran.records ran.by)) ∙ none_rose _ old.spool.moment.faults new.spool.moment.faults first last ran.runs.cause
+    sym (failed_by 0 calls ran.records ran.by) ∙ none_rose _ old.spool.moment.faults new.spool.moment.faults first last ran.runs.cause
 
 -- the calls led to a state, and none was answered that the disk failed
 pub leads_to : (x : DeskState) (old new : AloneView) (calls : List Call) → old.spool.moment.faults ≡ 0 → new.spool.moment.faults ≡ 0 → IsAt x old → Ran (Unit {0}) old calls new → LeadsTo x calls new

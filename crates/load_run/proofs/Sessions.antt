@@ -4,10 +4,9 @@ use Rattle.std.specs.Prelude.{Option, Some}
 use Rattle.event_form.specs.declared.talk.Attended.{Attended}
 use Rattle.edge_io.specs.declared.proto.Proto.{Proto}
 use Rattle.edge_io.proofs.Known.{appends_told, consumes_told}
-use Rattle.hec_session.specs.declared.tokens.Tokens.{Tokens}
 use Rattle.desk_access.specs.Call.{Call}
 use Rattle.conn_serve.specs.Serves.{CarriedAs, CarriedBy, Serves}
-use Rattle.conn_serve.specs.Tokens.{tokens_of}
+use Rattle.conn_serve.specs.Terms.{Terms, terms_of}
 use Rattle.conn_serve.specs.declared.rules.Rules.{Rules}
 use Rattle.forward_core.specs.Forwarded.{Forwards}
 use Rattle.forward_core.specs.Protocols.{EndsAs, HintsAs, settings_as}
@@ -15,19 +14,19 @@ use Rattle.forward_core.specs.Session.{Ended}
 use Rattle.forward_core.specs.Settings.{Settings}
 use Rattle.forward_core.specs.declared.outward.Outward.{Outward}
 use Rattle.forward_core.specs.declared.sent.Sent.{Sent}
-use Rattle.load_run.specs.Runs.{Replays, Drains, tokens, settings}
+use Rattle.load_run.specs.Runs.{Replays, Drains, terms, settings}
 
 some_same : (a b : List ℕ) → Some a ≡ Some b → a ≡ b
 some_same a b e = cc
 
 pub replays_of : (Made ran : List Call → Type 0) (rules : Rules) (proto : Proto) (given given' left left' written written' : Option (List ℕ)) (attended : Attended) (stream out : List ℕ) (n : ℕ)
-    → rules.proto ≡ proto → tokens_of rules ≡ tokens → left ≡ Some stream → written ≡ Some [] → written' ≡ Some out → n ≡ length out → ((calls : List Call) → ran calls → Made calls)
+    → rules.proto ≡ proto → terms_of rules ≡ terms → left ≡ Some stream → written ≡ Some [] → written' ≡ Some out → n ≡ length out → ((calls : List Call) → ran calls → Made calls)
     → Serves (CarriedBy rules (2 ^ 32)) given given' left left' written written' ran attended → (text : List ℕ) × (n ≡ length text) × Replays Made proto stream attended.taken attended.talk text
-replays_of Made ran rules proto given given' left left' written written' attended stream out n by_proto by_tokens fed none took count on run =
+replays_of Made ran rules proto given given' left left' written written' attended stream out n by_proto by_terms fed none took count on run =
     let split = consumes_told left left' stream run.bytes fed run.consumed in
     let told : Some out ≡ Some run.text = sym took ∙ appends_told written written' [] run.text none run.wrote in
     let carried = subst (λ (o : Option (List ℕ)). CarriedBy rules (2 ^ 32) o run.bytes run.calls run.text attended.talk) split.1 run.carried in
-    let by_rules = subst (λ (t : Tokens). CarriedAs rules.proto t (2 ^ 32) (Some split.0) run.bytes run.calls run.text attended.talk) by_tokens carried in (
+    let by_rules = subst (λ (t : Terms). CarriedAs rules.proto t (2 ^ 32) (Some split.0) run.bytes run.calls run.text attended.talk) by_terms carried in (
       run.text,
       count ∙ ap length (some_same out run.text told),
       record {
@@ -37,7 +36,7 @@ replays_of Made ran rules proto given given' left left' written written' attende
         whole = split.2;
         made = on run.calls run.made;
         counted = run.counted;
-        carried = subst (λ (p : Proto). CarriedAs p tokens (2 ^ 32) (Some split.0) run.bytes run.calls run.text attended.talk) by_proto by_rules;
+        carried = subst (λ (p : Proto). CarriedAs p terms (2 ^ 32) (Some split.0) run.bytes run.calls run.text attended.talk) by_proto by_rules;
       },
     )
 

@@ -3,21 +3,21 @@ use Rattle.std.proofs.Common.{◌≡◌, ℕ, List, [], ◌∷◌, refl, ap, ari
 use Rattle.std.specs.Prelude.{Option, Err}
 use Rattle.event_form.specs.declared.talk.Talk.{Talk}
 use Rattle.edge_io.specs.declared.proto.Proto.{Proto}
-use Rattle.hec_session.specs.declared.tokens.Tokens.{Tokens}
 use Rattle.spool_answers.specs.declared.fault.PendFault.TheVariants as Pend
 use Rattle.spool_answers.specs.declared.fault.ConfirmFault.TheVariants as Confirm
 use Rattle.desk_access.specs.Call.{Call, failures_of, pends, marks}
 use Rattle.desk_access.specs.Journal.{failures_then}
 use Rattle.conn_serve.specs.Serves.{CarriedAs}
+use Rattle.conn_serve.specs.Terms.{Terms}
 use Rattle.conn_serve.proofs.Failing.{disk_fault_is_told}
 use Rattle.forward_core.specs.Session.{EndsBy, IsRefusedWith}
 use Rattle.forward_core.specs.declared.sent.Sent.{Sent}
 use Rattle.forward_core.specs.declared.sent.Sent.TheVariants.{DiskFault}
 
 -- of a connection
-pub talk_unfailing : (proto : Proto) (tokens : Tokens) (conn : ℕ) (left : Option (List ℕ)) (bytes : List ℕ) (calls : List Call) (text : List ℕ) (talk : Talk) → CarriedAs proto tokens conn left bytes calls text talk → failures_of calls ≡ 0
+pub talk_unfailing : (proto : Proto) (terms : Terms) (conn : ℕ) (left : Option (List ℕ)) (bytes : List ℕ) (calls : List Call) (text : List ℕ) (talk : Talk) → CarriedAs proto terms conn left bytes calls text talk → failures_of calls ≡ 0
     → talk ≡ Talk.DiskFault → ⊥
-talk_unfailing proto tokens conn left bytes calls text talk carried none is = omega (arith, none, (disk_fault_is_told proto tokens conn left bytes calls text talk carried).cause is)
+talk_unfailing proto terms conn left bytes calls text talk carried none is = omega (arith, none, (disk_fault_is_told proto terms conn left bytes calls text talk carried).cause is)
 
 -- the call that was refused so
 refused_once : (call : Call) → IsRefusedWith DiskFault call → failures_of (call ∷ []) ≡ 1

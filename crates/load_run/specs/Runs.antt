@@ -10,6 +10,7 @@ use Rattle.desk_access.specs.Call.{Call, Record, AreBy, failures_of}
 use Rattle.desk_access.specs.Desk.{DeskState, desk_of, Goes}
 use Rattle.desk_access.specs.Step.{count}
 use Rattle.conn_serve.specs.Serves.{CarriedAs}
+use Rattle.conn_serve.specs.Terms.{Terms, terms_with}
 use Rattle.forward_core.specs.Protocols.{EndsAs, HintsAs}
 use Rattle.forward_core.specs.Session.{Ended}
 use Rattle.forward_core.specs.Settings.{Settings}
@@ -36,6 +37,10 @@ pub record LeadsTo (before : DeskState) (calls : List Call) (now : AloneView) : 
 abbrev pub tokens : Tokens
 tokens = record { token = Some 1; ack_token = None }
 
+-- the terms of the connection: each event of RELP is stored by itself
+abbrev pub terms : Terms
+terms = terms_with tokens
+
 -- and those of the session that sends to it
 abbrev pub settings : Settings
 settings = record { token = 1; channel = 2; polls = 1 }
@@ -49,7 +54,7 @@ pub record Replays (Made : List Call → Type 0) (proto : Proto) (stream : List 
   pub whole : stream ≡ bytes ++ behind
   pub made : Made calls
   pub counted : taken ≡ count calls
-  pub carried : CarriedAs proto tokens (2 ^ 32) (Some behind) bytes calls text talk
+  pub carried : CarriedAs proto terms (2 ^ 32) (Some behind) bytes calls text talk
 
 -- A session sent the entries from one number on and below another to a peer that sends these bytes. What was called on the
 -- desk, and how it ended, is what its protocol has for the bytes read.

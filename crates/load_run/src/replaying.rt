@@ -2,8 +2,8 @@
 ghost use Rattle.std.specs.Prelude.{◌≡◌, ◌≢◌, ℕ, List, length, IsTrue};
 ghost use Rattle.spool_desk.specs.Alone.{alone_at, IsAt};
 ghost use Rattle.desk_access.specs.Desk.{DeskState};
-ghost use Rattle.conn_serve.specs.Tokens.{tokens_of};
-ghost use Rattle.load_run.specs.Runs.{LeadsTo, Replays, tokens};
+ghost use Rattle.conn_serve.specs.Terms.{terms_of};
+ghost use Rattle.load_run.specs.Runs.{LeadsTo, Replays, terms};
 
 use crate::catching::Catch;
 use crate::disk::SureDisk;
@@ -31,15 +31,16 @@ pub(crate) struct Served {
     pub(crate) starved: bool,
 }
 
-// The rules of the connection: the collector's requests are answered once they are durable.
+// The rules of the connection: the collector's requests are answered once they are durable, and each event of RELP is stored by itself.
 fn rules(proto: Proto) -> Rules
     ensures proto { result.proto ≡ proto }
-    ensures tokens { tokens_of result ≡ tokens }
+    ensures terms { terms_of result ≡ terms }
 {
     Rules {
         proto,
         token: Some(TOKEN),
         ack_token: None,
+        group: false,
     }
 }
 

@@ -19,8 +19,9 @@ use std::sync::atomic::{AtomicBool, Ordering};
 /// read before each look, so that a session that has begun is held to its end.
 ///
 /// After a session that ended as `Drained` (all entries up to its end were sent, and the peer acknowledged them) it looks again at
-/// once. After any other outcome, as where nothing is pending, it pauses first, for as long as `net` says. The destination's place is
-/// one that may be dialed, and a number may become known as confirmed once the peer there has acknowledged its entry (`earned`).
+/// once. Where nothing is pending it waits briefly first, so that an event is forwarded soon after it comes, and after any other
+/// outcome it pauses; how long both are is for `net` to say. The destination's place is one that may be dialed, and a number may
+/// become known as confirmed once the peer there has acknowledged its entry (`earned`).
 pub fn forward_beside<N: Net, D: Disk, J: Naming, R: Wait>(
     alloc: Global,
     destination: &Destination,
@@ -44,6 +45,7 @@ pub fn forward_beside<N: Net, D: Disk, J: Naming, R: Wait>(
         }
         match look(alloc, destination, net, seated) {
             Outcome::Held(Sent::Drained) => {}
+            Outcome::Idle => net.wait_briefly(),
             _ => net.pause(),
         }
     }

@@ -16,7 +16,7 @@ use Rattle.spool_turns.specs.OwnEntries.{groups_by, AddsOwn}
 use Rattle.spool_turns.proofs.Picks.{conn_both, conn_none}
 use Rattle.conn_serve.specs.declared.rules.Rules.{Rules}
 use Rattle.conn_serve.specs.Numbering.{IsOfConn, AreOfConn}
-use Rattle.conn_serve.specs.Tokens.{tokens_of}
+use Rattle.conn_serve.specs.Terms.{terms_of}
 use Rattle.conn_serve.proofs.Failing.{disk_fault_is_told}
 use Rattle.conn_serve.proofs.Indexing.{calls_are_of_conn}
 use Rattle.serve_workers.specs.Served.{Served, calls_in, IsServed, AreServed}
@@ -128,8 +128,8 @@ none_failed (call ∷ calls) none = All-cons (λ (c : Call). failures_in c ≡ 0
 
 pub contributes : (rules : Rules) (one : Served) (entries : List Entry) → IsServed rules one → AddsAll one.calls entries → AreNext one.conn 0 entries → Contributes one entries
 contributes rules one entries served adds next =
-    let s = splits one.conn 0 one.calls entries (calls_are_of_conn rules.proto (tokens_of rules) one.conn one.left one.bytes one.calls one.text one.talk served) adds next in
-    let tells = disk_fault_is_told rules.proto (tokens_of rules) one.conn one.left one.bytes one.calls one.text one.talk served in
+    let s = splits one.conn 0 one.calls entries (calls_are_of_conn rules.proto (terms_of rules) one.conn one.left one.bytes one.calls one.text one.talk served) adds next in
+    let tells = disk_fault_is_told rules.proto (terms_of rules) one.conn one.left one.bytes one.calls one.text one.talk served in
     record {
       last = s.last;
       are = s.are;
@@ -158,7 +158,7 @@ entries_of_conn conn index (call ∷ calls) entries of (here, rest, added, other
     (entries_of_conn conn (index + length (taken_by call)) calls rest of.1 others))
 
 link_conns : (rules : Rules) (one : Served) (entries : List Entry) → IsServed rules one → AddsAll one.calls entries → All (λ (entry : Entry). entry.conn ≡ one.conn) entries
-link_conns rules one entries served adds = entries_of_conn one.conn 0 one.calls entries (calls_are_of_conn rules.proto (tokens_of rules) one.conn one.left one.bytes one.calls one.text one.talk served) adds
+link_conns rules one entries served adds = entries_of_conn one.conn 0 one.calls entries (calls_are_of_conn rules.proto (terms_of rules) one.conn one.left one.bytes one.calls one.text one.talk served) adds
 
 later_conns : (rules : Rules) (first : ℕ) (links : List Served) (entries : List Entry) → AreServed rules first links → AddsAll (calls_in links) entries → All (λ (entry : Entry). first ≤ entry.conn) entries
 later_conns rules first [] entries served adds = subst (All (λ (entry : Entry). first ≤ entry.conn)) (sym adds) (All-nil (λ (entry : Entry). first ≤ entry.conn))

@@ -8,11 +8,11 @@ use Rattle.event_form.specs.declared.talk.Talk.{Talk}
 use Rattle.event_form.specs.declared.talk.Talk.TheVariants.{DiskFault}
 use Rattle.edge_io.specs.Door.{DoorState}
 use Rattle.edge_io.specs.declared.proto.Proto.{Proto}
-use Rattle.desk_access.specs.Call.{Record, own_of, calls_of, failures_in, failures_of}
-use Rattle.desk_access.specs.Journal.{failures_then}
+use Rattle.desk_access.specs.Call.{Record, own_of, calls_of, failures_in, failures_of, failed_of, NoneJoins}
+use Rattle.desk_access.specs.Journal.{failures_split, failures_then, none_joined}
 use Rattle.conn_serve.specs.declared.rules.Rules.{Rules}
 use Rattle.conn_serve.specs.DiskFaults.{TellsFailures}
-use Rattle.conn_serve.specs.Tokens.{tokens_of}
+use Rattle.conn_serve.specs.Terms.{terms_of}
 use Rattle.conn_serve.proofs.Failing.{disk_fault_is_told}
 use Rattle.serve_workers.specs.declared.worker.WorkerReport.{WorkerReport}
 use Rattle.serve_workers.specs.Served.{Served, AreServed, by_disk, calls_in, how_many}
@@ -62,7 +62,7 @@ one_by_disk proto talk failures tells = omega arith
 links_by_disk : (rules : Rules) (conn : ℕ) (links : List Served) → AreServed rules conn links → how_many by_disk links ≤ failures_of (calls_in links)
 links_by_disk rules conn [] served = omega arith
 links_by_disk rules conn (one ∷ links) served =
-    let tells = disk_fault_is_told rules.proto (tokens_of rules) one.conn one.left one.bytes one.calls one.text one.talk served.1 in
+    let tells = disk_fault_is_told rules.proto (terms_of rules) one.conn one.left one.bytes one.calls one.text one.talk served.1 in
     omega (arith, sum_by-cons (λ (s : Served). by_disk s.talk) one links, failures_then one.calls (calls_in links), one_by_disk rules.proto one.talk (failures_of one.calls) tells, links_by_disk rules (conn + 1) links served.2)
 
 abbrev disk_ended : Part → ℕ
@@ -81,10 +81,10 @@ rose_less : (n k before now : ℕ) → Rose n before now → k ≤ n → Rose k 
 rose_less n k before now rose less = omega (arith, rose, less)
 
 pub disk_faults_counted : (run talks : ℕ) (log : List Record) (rules : List Rules) (doors doors' : List DoorState) (reports : List WorkerReport) (parts : List Part) (before now : ℕ) → AreParts run talks log 0 rules doors doors' reports parts
-    → Rose (failures_of (calls_of log)) before now → Rose (sum_by (λ (part : Part). how_many by_disk (links_of part)) parts) before now
-disk_faults_counted run talks log rules doors doors' reports parts before now are rose =
-    rose_less (failures_of (calls_of log)) (sum_by disk_ended parts) before now rose
-    (omega (arith, parts_by_disk run talks log 0 rules doors doors' reports parts are, failures_from-all (length parts) 0 log))
+    → Rose (failed_of log) before now → NoneJoins log → Rose (sum_by (λ (part : Part). how_many by_disk (links_of part)) parts) before now
+disk_faults_counted run talks log rules doors doors' reports parts before now are rose alone =
+    rose_less (failed_of log) (sum_by disk_ended parts) before now rose
+    (omega (arith, parts_by_disk run talks log 0 rules doors doors' reports parts are, failures_from-all (length parts) 0 log, failures_split log, none_joined log alone))
 
 -- ---- reports
 

@@ -13,7 +13,8 @@ use Rattle.spool_answers.specs.declared.numbered.Numbered.{Numbered}
 use Rattle.spool_answers.specs.Pend.{AreNumbered, given_entries}
 use Rattle.spool_answers.specs.Stages.{IsOneOf}
 use Rattle.desk_access.specs.Call.{Call, Record, calls_of, pends}
-use Rattle.desk_access.specs.Desk.{Answers, DeskState, Goes}
+use Rattle.desk_access.specs.Desk.{AnswersAs, DeskState, Goes}
+use Rattle.desk_access.specs.Journal.{of_other}
 use Rattle.desk_access.specs.History.{IsDesk}
 use Rattle.desk_access.proofs.Steps.{goes_later}
 use Rattle.forward_core.specs.Calls.{MarksAllBelow, after_last, entries_of, next_of, read_of}
@@ -45,7 +46,7 @@ has_none y rules none sure = let above = none_above y.spool rules.sound none in 
 
 read_leads : (x y : DeskState) (given : List Numbered) (one : Record) → one.call ≡ pends 0 1 (Ok given) → Goes x (one ∷ []) y → (given_entries given ≡ take 1 (left_from y.spool 0)) × (y.doubt ≡ [])
 read_leads x y given one is (z, allowed, same) =
-    let here = subst (λ (c : Call). Answers x c one.met z) is allowed.answers in
+    let here = of_other one.joins x z (pends 0 1 (Ok given)) one.met tt (subst (λ (c : Call). AnswersAs one.joins x c one.met z) is allowed.answers) in
     elim here [
       | inl failed ↦ absurd (cc (failed.1))
       | inr went ↦

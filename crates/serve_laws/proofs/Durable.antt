@@ -33,7 +33,7 @@ use Rattle.conn_serve.specs.HecAcked.{TellsTrue}
 use Rattle.conn_serve.specs.Hec.{hec}
 use Rattle.conn_serve.specs.Says.{PromisesNothing}
 use Rattle.conn_serve.specs.Serves.{CarriedAs}
-use Rattle.conn_serve.specs.Tokens.{tokens_of}
+use Rattle.conn_serve.specs.Terms.{Terms, terms_of}
 use Rattle.conn_serve.proofs.Durable.{acked_durably, stored_durably}
 use Rattle.conn_serve.proofs.HecAcks.{said_lies_whole}
 use Rattle.conn_serve.proofs.Late.{asks_late, groups_late, kept_late}
@@ -57,12 +57,12 @@ module _ (x y : DeskState) (confirming : ℕ) (log : List Record) (rules : IsDes
   told_at : (number channel id : ℕ) (before : List Record) (one : Record) (after : List Record) (ids : List ℕ) (known : List Bool) (k : ℕ) → log ≡ before ++ one ∷ after → one.by ≡ number
       → one.call ≡ asks channel ids known → k < length ids → get_or ids k 0 ≡ id → get_or known k false ≡ true → IsToldDurably log number now channel id
   told_at number channel id before one after ids known k parts by is short is_id told =
-      let asked : Record = record { by = one.by; call = asks channel ids known; met = one.met; after = one.after; clock = one.clock } in
-      let same : one ≡ asked = λ i. record { by = one.by; call = is i; met = one.met; after = one.after; clock = one.clock } in
+      let asked : Record = record { by = one.by; call = asks channel ids known; joins = one.joins; met = one.met; after = one.after; clock = one.clock } in
+      let same : one ≡ asked = λ i. record { by = one.by; call = is i; joins = one.joins; met = one.met; after = one.after; clock = one.clock } in
       let whole : log ≡ (before ++ one ∷ []) ++ after = parts ∙ sym (append_assoc before (one ∷ []) after) in
       let first = goes_parts x y (before ++ one ∷ []) after (subst (λ (l : List Record). Goes x l y) whole goes) in
       let met_before = met_first x.spool.run confirming [] before (one ∷ after) (subst (Met x.spool.run confirming []) parts met) in
-      let found = told_was_taken x first.0 before confirming one.by channel ids known one.met one.after one.clock k rules none (subst (λ (r : Record). Goes x (before ++ r ∷ []) first.0) same first.1) met_before short told in
+      let found = told_was_taken x first.0 before confirming one.by channel ids known one.joins one.met one.after one.clock k rules none (subst (λ (r : Record). Goes x (before ++ r ∷ []) first.0) same first.1) met_before short told in
       let g = stored_group (own_of found.0 before) id (subst (IsStored (own_of found.0 before)) is_id found.1) in
       record {
         before = before;
@@ -103,14 +103,14 @@ module _ (x y : DeskState) (confirming : ℕ) (log : List Record) (rules : IsDes
 
   -- ---- a link
 
-  answers : (number : ℕ) (first made late behind : List Call) (proto : Proto) (tokens : Tokens) (conn : ℕ) (left : Option (List ℕ)) (b : List ℕ) (calls : List Call) (text : List ℕ) (talk : Talk) (carried : CarriedAs proto tokens conn left b calls text talk)
+  answers : (number : ℕ) (first made late behind : List Call) (proto : Proto) (terms : Terms) (conn : ℕ) (left : Option (List ℕ)) (b : List ℕ) (calls : List Call) (text : List ℕ) (talk : Talk) (carried : CarriedAs proto terms conn left b calls text talk)
       → own_of number log ≡ first ++ (made ++ behind) → calls ≡ made ++ late → All PromisesNothing late → KeepsCalls now calls
-      → AnswersAreDurable proto tokens conn left b calls text talk carried now (IsToldDurably log number now)
-  answers number first made late behind Relp tokens conn left b calls text talk carried own are nothing kept = tt
-  answers number first made late behind Lumberjack tokens conn left b calls text talk carried own are nothing kept = tt
-  answers number first made late behind Hec tokens conn left b calls text talk carried own are nothing kept = (
-    stored_durably tokens conn left b calls text talk now carried kept,
-    told_durably number first made late behind tokens conn left b calls text talk carried own are nothing,
+      → AnswersAreDurable proto terms conn left b calls text talk carried now (IsToldDurably log number now)
+  answers number first made late behind Relp terms conn left b calls text talk carried own are nothing kept = tt
+  answers number first made late behind Lumberjack terms conn left b calls text talk carried own are nothing kept = tt
+  answers number first made late behind Hec terms conn left b calls text talk carried own are nothing kept = (
+    stored_durably terms.tokens conn left b calls text talk now carried kept,
+    told_durably number first made late behind terms.tokens conn left b calls text talk carried own are nothing,
   )
 
   -- A link of which all calls were made, but for those that promise nothing.
@@ -122,8 +122,8 @@ module _ (x y : DeskState) (confirming : ℕ) (log : List Record) (rules : IsDes
       (kept_late s made late nothing (kept_parts s made behind (kept_parts s first (made ++ behind) (subst (AllKept s) own (own_kept s number log k))).1).0)) keeps in
       record {
         served = served;
-        acked = λ numbers says. acked_durably by.proto (tokens_of by) one.conn one.left one.bytes one.calls one.text one.talk now numbers served kept says;
-        answers = λ carried. answers number first made late behind by.proto (tokens_of by) one.conn one.left one.bytes one.calls one.text one.talk carried own are nothing kept;
+        acked = λ numbers says. acked_durably by.proto (terms_of by) one.conn one.left one.bytes one.calls one.text one.talk now numbers served kept says;
+        answers = λ carried. answers number first made late behind by.proto (terms_of by) one.conn one.left one.bytes one.calls one.text one.talk carried own are nothing kept;
         since = subst (λ (l : List Group). All (StaysTaken log number now) l) (sym (ap groups_of are ∙ groups_late made late nothing)) (since_taken log now stays number first made behind own);
       }
 
@@ -148,14 +148,14 @@ told_of_none log number now tokens conn left b calls text talk carried nothing c
     (w.calls_are ∙ ap (λ (l : List Call). w.first ++ (l ++ w.more)) asked) in
     absurd (not_empty w.first (asks channel ids known) there.0 there.1)
 
-answers_of_none : (log : List Record) (number : ℕ) (now : Moment) (proto : Proto) (tokens : Tokens) (conn : ℕ) (left : Option (List ℕ)) (b : List ℕ) (calls : List Call) (text : List ℕ) (talk : Talk)
-    (carried : CarriedAs proto tokens conn left b calls text talk) → All PromisesNothing calls → KeepsCalls now calls
-    → AnswersAreDurable proto tokens conn left b calls text talk carried now (IsToldDurably log number now)
-answers_of_none log number now Relp tokens conn left b calls text talk carried nothing kept = tt
-answers_of_none log number now Lumberjack tokens conn left b calls text talk carried nothing kept = tt
-answers_of_none log number now Hec tokens conn left b calls text talk carried nothing kept = (
-  stored_durably tokens conn left b calls text talk now carried kept,
-  told_of_none log number now tokens conn left b calls text talk carried nothing,
+answers_of_none : (log : List Record) (number : ℕ) (now : Moment) (proto : Proto) (terms : Terms) (conn : ℕ) (left : Option (List ℕ)) (b : List ℕ) (calls : List Call) (text : List ℕ) (talk : Talk)
+    (carried : CarriedAs proto terms conn left b calls text talk) → All PromisesNothing calls → KeepsCalls now calls
+    → AnswersAreDurable proto terms conn left b calls text talk carried now (IsToldDurably log number now)
+answers_of_none log number now Relp terms conn left b calls text talk carried nothing kept = tt
+answers_of_none log number now Lumberjack terms conn left b calls text talk carried nothing kept = tt
+answers_of_none log number now Hec terms conn left b calls text talk carried nothing kept = (
+  stored_durably terms.tokens conn left b calls text talk now carried kept,
+  told_of_none log number now terms.tokens conn left b calls text talk carried nothing,
 )
 
 -- its text acknowledges nothing, whatever the spool for which a crash leaves the disk
@@ -165,8 +165,8 @@ none_durable log number now by one served nothing stands =
     let kept : KeepsCalls now one.calls = λ c image. let found = stands c image in (found.0, found.1, kept_late found.0 [] one.calls nothing tt) in
     record {
       served = served;
-      acked = λ numbers says. acked_durably by.proto (tokens_of by) one.conn one.left one.bytes one.calls one.text one.talk now numbers served kept says;
-      answers = λ carried. answers_of_none log number now by.proto (tokens_of by) one.conn one.left one.bytes one.calls one.text one.talk carried nothing kept;
+      acked = λ numbers says. acked_durably by.proto (terms_of by) one.conn one.left one.bytes one.calls one.text one.talk now numbers served kept says;
+      answers = λ carried. answers_of_none log number now by.proto (terms_of by) one.conn one.left one.bytes one.calls one.text one.talk carried nothing kept;
       since = subst (λ (l : List Group). All (StaysTaken log number now) l) (sym (groups_late [] one.calls nothing)) (All-nil (StaysTaken log number now));
     }
 

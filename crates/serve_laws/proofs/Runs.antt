@@ -74,7 +74,7 @@ module _ (tells : Type 0) (start : DeskState → Type 0) (run seats : ℕ) (bega
 
   pub disk_faults_are_counted : DiskFaultsAreCounted tells start run seats began new
   disk_faults_are_counted log passes closes talks rules doors doors' reports parts are =
-      disk_faults_counted run talks log rules doors doors' reports parts began.faults new.spool.moment.faults are closes.replays.cause
+      disk_faults_counted run talks log rules doors doors' reports parts began.faults new.spool.moment.faults are closes.replays.cause closes.replays.alone
 
   -- ---- of a run
 

@@ -13,7 +13,7 @@ use Rattle.desk_access.proofs.Added.{AllWritten, written_all, groups_all}
 use Rattle.desk_access.proofs.Taking.{all_of_conn}
 use Rattle.conn_serve.specs.declared.rules.Rules.{Rules}
 use Rattle.conn_serve.specs.Numbering.{IsOfConn, AreOfConn}
-use Rattle.conn_serve.specs.Tokens.{tokens_of}
+use Rattle.conn_serve.specs.Terms.{terms_of}
 use Rattle.conn_serve.proofs.Indexing.{calls_are_of_conn}
 use Rattle.forward_core.specs.Calls.{AreOfSession, next_after}
 use Rattle.forward_core.specs.declared.outward.Outward.{Outward}
@@ -55,7 +55,7 @@ links_written rules first [] served = tt
 links_written rules first (one ∷ links) served =
     written_then (IsOfLink (one ∷ links)) one.calls (calls_in links)
     (written_weaker (λ (entry : Entry). entry.conn ≡ one.conn) (IsOfLink (one ∷ links)) one.calls (λ entry same. (one, Contains-append_left (one ∷ []) links one (0, omega arith, refl), sym same))
-    (conn_written one.conn 0 one.calls (calls_are_of_conn rules.proto (tokens_of rules) one.conn one.left one.bytes one.calls one.text one.talk served.1)))
+    (conn_written one.conn 0 one.calls (calls_are_of_conn rules.proto (terms_of rules) one.conn one.left one.bytes one.calls one.text one.talk served.1)))
     (written_weaker (IsOfLink links) (IsOfLink (one ∷ links)) (calls_in links) (λ entry of. (of.0, Contains-append_right (one ∷ []) links of.0 of.1, of.2)) (links_written rules (first + 1) links served.2))
 
 parts_written : (run talks : ℕ) (log : List Record) (number : ℕ) (rules : List Rules) (doors doors' : List DoorState) (reports : List WorkerReport) (parts : List Part) → AreParts run talks log number rules doors doors' reports parts

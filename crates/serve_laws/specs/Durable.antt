@@ -9,16 +9,16 @@ use Rattle.desk_access.specs.Groups.{groups_of}
 use Rattle.conn_serve.specs.declared.rules.Rules.{Rules}
 use Rattle.conn_serve.specs.Acked.{Acknowledges}
 use Rattle.conn_serve.specs.Durable.{AckedIsDurable, AnswersAreDurable, IsToldDurably}
-use Rattle.conn_serve.specs.Tokens.{tokens_of}
+use Rattle.conn_serve.specs.Terms.{terms_of}
 use Rattle.serve_workers.specs.Served.{Served, IsServed, Tells}
 
 -- The caller of that number served the link by the rules, and whatever the link's text acknowledges is durable: by numbers in whole
 -- frames, or by replies. Each group that the link's calls took is so since that take was answered.
 pub record IsLinkDurable (log : List Record) (number : ℕ) (now : Moment) (rules : Rules) (one : Served) : Type 0 where
   pub served : IsServed rules one
-  pub acked : (numbers : List ℕ) → Acknowledges rules.proto one.text numbers → AckedIsDurable one.calls now numbers
+  pub acked : (numbers : List ℕ) → Acknowledges rules.proto one.text numbers → AckedIsDurable rules.proto one.calls now numbers
   pub answers : (served : IsServed rules one)
-      → AnswersAreDurable rules.proto (tokens_of rules) one.conn one.left one.bytes one.calls one.text one.talk served now
+      → AnswersAreDurable rules.proto (terms_of rules) one.conn one.left one.bytes one.calls one.text one.talk served now
       (IsToldDurably log number now)
   pub since : All (StaysTaken log number now) (groups_of one.calls)
 
@@ -27,4 +27,4 @@ pub record IsTalkDurable (log : List Record) (number : ℕ) (now : Moment) (rule
   pub one : Served
   pub tells : Tells rules one told
   pub link : IsLinkDurable log number now rules one
-  pub acked : (numbers : List ℕ) → Acknowledges rules.proto told.written numbers → AckedIsDurable one.calls now numbers
+  pub acked : (numbers : List ℕ) → Acknowledges rules.proto told.written numbers → AckedIsDurable rules.proto one.calls now numbers

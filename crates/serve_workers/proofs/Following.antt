@@ -19,7 +19,7 @@ use Rattle.desk_access.proofs.Nexts.{AreEarlier, next_first}
 use Rattle.conn_serve.specs.declared.rules.Rules.{Rules}
 use Rattle.conn_serve.specs.Endings.{CountsFaults}
 use Rattle.conn_serve.specs.Numbering.{IsOfConn, AreOfConn}
-use Rattle.conn_serve.specs.Tokens.{tokens_of}
+use Rattle.conn_serve.specs.Terms.{terms_of}
 use Rattle.conn_serve.proofs.Indexing.{calls_are_of_conn}
 use Rattle.conn_serve.proofs.Failing.{disk_fault_is_told}
 use Rattle.spool_turns.specs.Passes.{Known}
@@ -57,7 +57,7 @@ earlier_then later (x ∷ xs) ys p q = (p.0, earlier_then later xs ys p.1 q)
 links_earlier : (rules : Rules) (first later : ℕ) (served : List Served) → first + length served ≤ later → AreServed rules first served → AreEarlier later (calls_in served)
 links_earlier rules first later [] le are = tt
 links_earlier rules first later (one ∷ more) le are =
-    let of_conn = calls_are_of_conn rules.proto (tokens_of rules) one.conn one.left one.bytes one.calls one.text one.talk are.1 in
+    let of_conn = calls_are_of_conn rules.proto (terms_of rules) one.conn one.left one.bytes one.calls one.text one.talk are.1 in
     earlier_then later one.calls (calls_in more) (calls_earlier one.conn 0 later one.calls (omega (arith, are.0, le)) of_conn) (links_earlier rules (first + 1) later more (omega (arith, le)) are.2)
 
 -- ---- no more connections ended since the disk failed than calls were answered so
@@ -69,7 +69,7 @@ disk_least talk n h = omega arith
 pub disk_faults : (rules : Rules) (first : ℕ) (served : List Served) → AreServed rules first served → how_many by_disk served ≤ failures_of (calls_in served)
 disk_faults rules first [] are = omega arith
 disk_faults rules first (one ∷ more) are =
-    let told = disk_fault_is_told rules.proto (tokens_of rules) one.conn one.left one.bytes one.calls one.text one.talk are.1 in
+    let told = disk_fault_is_told rules.proto (terms_of rules) one.conn one.left one.bytes one.calls one.text one.talk are.1 in
     let single : how_many by_disk (one ∷ []) ≡ by_disk one.talk = omega arith in
     let both : how_many by_disk (one ∷ more) ≡ by_disk one.talk + how_many by_disk more = sum_by-append (λ (s : Served). by_disk s.talk) (one ∷ []) more ∙ ap (λ (n : ℕ). n + how_many by_disk more) single in
     omega (arith, both, disk_least one.talk (failures_of one.calls) told.cause, failures_then one.calls (calls_in more), disk_faults rules (first + 1) more are.2)

@@ -13,17 +13,16 @@ use Rattle.edge_io.specs.declared.proto.Proto.TheVariants.{Relp, Lumberjack, Hec
 use Rattle.edge_io.specs.Counts.{Gains, more}
 use Rattle.edge_io.specs.Told.{IsToldAs, IsTold, IsFresh, IsOneMore, Adds}
 use Rattle.edge_io.specs.Door.{Talked, DoorState, TakesLink, SameTalks, SameDoor, IsTalk}
-use Rattle.hec_session.specs.declared.tokens.Tokens.{Tokens}
 use Rattle.desk_access.specs.Call.{Call}
 use Rattle.desk_access.specs.Protocol.{Protocol}
 use Rattle.desk_access.specs.Carried.{Carried}
 use Rattle.desk_access.specs.Endings.{IsAtEndOfInput}
 use Rattle.conn_serve.specs.declared.rules.Rules.{Rules}
 use Rattle.conn_serve.specs.Endings.{CountsFaults}
-use Rattle.conn_serve.specs.Relp.{relp}
+use Rattle.conn_serve.specs.Runs.{relp_runs}
 use Rattle.conn_serve.specs.Lumber.{lumberjack}
 use Rattle.conn_serve.specs.Hec.{hec}
-use Rattle.conn_serve.specs.Tokens.{tokens_of}
+use Rattle.conn_serve.specs.Terms.{Terms, terms_of}
 use Rattle.conn_serve.specs.Serves.{CarriedAs, CarriedBy, Serves}
 use Rattle.notes.specs.Notes.{status_of, note_of_talk}
 use Rattle.serve_workers.specs.Served.{Served, AtDoor, Tells, TellsMore, RisesBy, by_read, by_write}
@@ -36,10 +35,10 @@ ends_there p left b calls text Ended c is = c.ending.0.0
 ends_there p left b calls text (Truncated at) c is = c.ending.0.0
 ends_there p left b calls text talk c is = absurd is
 
-at_end : (proto : Proto) (tokens : Tokens) (conn : ℕ) (left : Option (List ℕ)) (b : List ℕ) (calls : List Call) (text : List ℕ) (talk : Talk) → CarriedAs proto tokens conn left b calls text talk → IsAtEndOfInput talk → IsAtEnd left
-at_end Relp tokens conn left b calls text talk c is = ends_there (relp conn) left b calls text talk c is
-at_end Lumberjack tokens conn left b calls text talk c is = ends_there (lumberjack conn) left b calls text talk c is
-at_end Hec tokens conn left b calls text talk c is = ends_there (hec tokens conn) left b calls text talk c is
+at_end : (proto : Proto) (terms : Terms) (conn : ℕ) (left : Option (List ℕ)) (b : List ℕ) (calls : List Call) (text : List ℕ) (talk : Talk) → CarriedAs proto terms conn left b calls text talk → IsAtEndOfInput talk → IsAtEnd left
+at_end Relp terms conn left b calls text talk c is = ends_there (relp_runs terms.most conn) left b calls text talk c is
+at_end Lumberjack terms conn left b calls text talk c is = ends_there (lumberjack conn) left b calls text talk c is
+at_end Hec terms conn left b calls text talk c is = ends_there (hec terms.tokens conn) left b calls text talk c is
 
 -- ---- the bytes
 
@@ -78,7 +77,7 @@ tells_told rules conn status (Some list) talks' given given' left left' taken ta
       written = all_of taken taken' s.text one.written fresh.1 s.wrote told.written;
       status = told.status_is ∙ is;
       left = (rest.0, rest.1, told.left_is rest.0 rest.1);
-      at_end = λ over. told.left_is rest.0 rest.1 ∙ none_left left' rest.0 rest.1 (at_end rules.proto (tokens_of rules) conn left' s.bytes s.calls s.text attended.talk s.carried over);
+      at_end = λ over. told.left_is rest.0 rest.1 ∙ none_left left' rest.0 rest.1 (at_end rules.proto (terms_of rules) conn left' s.bytes s.calls s.text attended.talk s.carried over);
     } in
     (one ∷ [], (here, tt), adds.2)
 

@@ -11,7 +11,7 @@ use Rattle.desk_access.proofs.OneState.{one_state}
 use Rattle.desk_access.proofs.Steps.{allowed_later, one_later}
 use Rattle.spool_turns.specs.Passes.{LeadsAbove, upto_first}
 use Rattle.session_laws.specs.Led.{Led}
-use Rattle.session_laws.proofs.Leading.{back}
+use Rattle.session_laws.proofs.Leading.{back_as}
 
 -- ---- the records of one caller
 
@@ -75,7 +75,7 @@ comes_then : (x z : DeskState) (number until start : ℕ) (one : Record) (record
     → Comes z number until start records t → Comes x number until start (one ∷ records) t
 comes_then x z number until start one records t rules after allowed above rest =
     let later = one_later z rest.from after rest.one in
-    let b = back x z one.call one.met rest.from rules later.sound allowed.answers rest.one in
+    let b = back_as one.joins x z one.call one.met rest.from rules later.sound allowed.answers rest.one in
     record {
       from = b.from;
       one = b.one;

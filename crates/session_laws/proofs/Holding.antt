@@ -8,9 +8,9 @@ use Rattle.spool_answers.specs.declared.numbered.Numbered.{Numbered}
 use Rattle.spool_answers.specs.Pend.{given_entries}
 use Rattle.desk_access.specs.declared.standing.Standing.{Standing}
 use Rattle.desk_access.specs.Call.{Call, Record, confirms, marks, own_of, pends}
-use Rattle.desk_access.specs.Desk.{Answers, DeskState, Goes}
+use Rattle.desk_access.specs.Desk.{Answers, AnswersAs, DeskState, Goes}
 use Rattle.desk_access.specs.History.{IsDesk}
-use Rattle.desk_access.specs.Journal.{goes_parts, goes_then, own_then}
+use Rattle.desk_access.specs.Journal.{goes_parts, goes_then, of_other, own_then}
 use Rattle.desk_access.specs.Legal.{May, Met}
 use Rattle.desk_access.proofs.OneState.{one_state}
 use Rattle.desk_access.proofs.Steps.{goes_later}
@@ -89,7 +89,7 @@ read_first number w x (y ∷ xs) from most given is goes = elim (cases_eq y.by n
       let all : y.call ∷ own_of number xs ≡ pends from most (Ok given) ∷ [] = sym (own_here number y xs same) ∙ is in
       let first : y.call ≡ pends from most (Ok given) = cc (all) in
       let one : Goes w (y ∷ []) x = subst (λ (l : List Record). Goes w l x) (upto_here number y xs same) goes in
-      subst (λ (d : DeskState). HasRead d from most given) (sym one.2) (read_at w one.0 from most given y.met (subst (λ (c : Call). Answers w c y.met one.0) first one.1.answers))
+      subst (λ (d : DeskState). HasRead d from most given) (sym one.2) (read_at w one.0 from most given y.met (of_other y.joins w one.0 (pends from most (Ok given)) y.met tt (subst (λ (c : Call). AnswersAs y.joins w c y.met one.0) first one.1.answers)))
   | inr off ↦
       let more : Goes w (y ∷ upto_first number xs) x = subst (λ (l : List Record). Goes w l x) (upto_there number y xs off) goes in
       read_first number more.0 x xs from most given (sym (own_there number y xs off) ∙ is) more.2

@@ -1,6 +1,6 @@
 -- What the records of a desk did to its spool.
 use Rattle.std.proofs.Common.{◌≡◌, ◌⊎◌, inl, inr, ℕ, List, [], ◌∷◌, Option, None, Some, refl, sym, ◌∙◌, ap, subst}
-use Rattle.std.specs.Prelude.{All, Result, Ok, Err, nat_le}
+use Rattle.std.specs.Prelude.{Bool, true, false, All, Result, Ok, Err, nat_le}
 use Rattle.std.proofs.lemmas.Bool.{cond_both}
 use Rattle.std.proofs.lemmas.List.Elements.{All-nil}
 use Rattle.known_numbers.specs.declared.stretch.Stretch.{Stretch}
@@ -27,11 +27,13 @@ use Rattle.spool_answers.specs.Mark.{Marks, after_mark, all_below, mark_doubt}
 use Rattle.hec_ids.specs.Table.{Table}
 use Rattle.desk_access.specs.declared.standing.Standing.{Standing}
 use Rattle.desk_access.specs.Call.{Call, asks, confirms, counts, forgets, issues, marks, pends, settles, takes}
-use Rattle.desk_access.specs.Desk.{Answers, DeskState, MarksOn, Mending, desk_of}
+use Rattle.desk_access.specs.Desk.{Answers, AnswersAs, DeskState, Joins, MarksOn, Mending, desk_of}
 use Rattle.desk_access.specs.History.{Adds, Grown, IsDesk, TakeAdds}
+use Rattle.desk_access.specs.Joint.{extended}
+use Rattle.desk_access.proofs.Extending.{grown_extended}
 use Rattle.desk_access.proofs.Growth.{grown_same, grown_self}
 use Rattle.desk_access.proofs.Stages.{cons_of, group_are, group_some, last_in, none_of, one_in}
-use Rattle.desk_access.proofs.Steps.{one_later, stage_adds}
+use Rattle.desk_access.proofs.Steps.{one_later, one_self, stage_adds}
 use Rattle.forward_core.proofs.KnownLaw.{last_marked}
 use Rattle.session_laws.specs.Led.{Did, KnowsBy, MarksIn, ReadsIn}
 
@@ -166,7 +168,7 @@ read_back : (x z : DeskState) (from most : ℕ) (met : Option Standing) (t : Spo
     → IsOneOf z.spool z.doubt t → Back x call t
 read_back x z from most met t call sound adds knows m found read is one = went x z call m m [] t found is one (λ same. did_none m t call sound adds (knows m) read same)
 
-pub back : (x z : DeskState) (call : Call) (met : Option Standing) (t : SpoolState) → IsDesk x → IsSound t → Answers x call met z → IsOneOf z.spool z.doubt t → Back x call t
+back : (x z : DeskState) (call : Call) (met : Option Standing) (t : SpoolState) → IsDesk x → IsSound t → Answers x call met z → IsOneOf z.spool z.doubt t → Back x call t
 back x z (takes [] result) met t rules sound answers one =
     stayed x z (takes [] result) x.ids t sound (subst (λ (r : Result Receipt TakeFault). TakeAdds [] r []) (sym answers.0.ok) refl) refl tt answers.1.1 one
 back x z (takes (entry ∷ entries) result) met t rules sound answers one = took_back x z entry entries result met t rules sound answers.0 answers.1 one
@@ -183,3 +185,36 @@ back x z (issues channel result) met t rules sound answers one = stayed x z (iss
 back x z (settles channel id answer) met t rules sound answers one = stayed x z (settles channel id answer) answers.0 t sound refl refl tt answers.2.1 one
 back x z (forgets channel id answer) met t rules sound answers one = stayed x z (forgets channel id answer) answers.0 t sound refl refl tt answers.2.1 one
 back x z (asks channel ids known) met t rules sound answers one = stayed x z (asks channel ids known) answers.0 t sound refl refl tt answers.2.1 one
+
+-- a take that was stored as one group with the one before it made that group longer
+joined_back : (x z : DeskState) (group : List Entry) (result : Result Receipt TakeFault) (m t : SpoolState) → IsSound t → All IsEntry group → IsOneOf x.spool x.doubt m → Joins x group result m z → IsOneOf z.spool z.doubt t
+    → Back x (takes group result) t
+joined_back x z group (Ok receipt) m t sound limits found joined one =
+    went x z (takes group (Ok receipt)) m (extended m group) [] t found joined.4 one (λ is.
+    (group, record { sound = sound; entries = limits; adds = refl; grown = subst (Grown m group) (sym is) (grown_extended m group joined.1); knows = ap numbers_of is; read = tt }))
+joined_back x z group (Err Take.DiskFault) m t sound limits found joined one =
+    elim (subst (λ (d : DeskState). IsOneOf d.spool d.doubt t) joined.2 one) [
+      | inl stays ↦ record {
+        from = x.spool;
+        one = one_self x.spool x.doubt;
+        group = [];
+        did = record { sound = sound; entries = All-nil IsEntry; adds = inl refl; grown = subst (Grown x.spool []) (sym stays) (grown_self x.spool); knows = ap numbers_of stays; read = tt };
+      }
+      | inr longer ↦ record {
+        from = m;
+        one = found;
+        group = group;
+        did = record { sound = sound; entries = limits; adds = inr refl; grown = subst (Grown m group) (sym longer) (grown_extended m group joined.1); knows = ap numbers_of longer; read = tt };
+      }
+    ]
+joined_back x z group (Err (TooLarge need most)) m t sound limits found joined one = absurd joined
+joined_back x z group (Err (Spent at)) m t sound limits found joined one = absurd joined
+joined_back x z group (Err (Full need free)) m t sound limits found joined one = absurd joined
+joined_back x z group (Err (Take.NotSpool at)) m t sound limits found joined one = absurd joined
+joined_back x z group (Err Take.NoMemory) m t sound limits found joined one = absurd joined
+
+-- of any record
+pub back_as : (joins : Bool) (x z : DeskState) (call : Call) (met : Option Standing) (t : SpoolState) → IsDesk x → IsSound t → AnswersAs joins x call met z → IsOneOf z.spool z.doubt t → Back x call t
+back_as false x z call met t rules sound answers one = back x z call met t rules sound answers one
+back_as true x z (takes (entry ∷ entries) result) met t rules sound answers one = joined_back x z (entry ∷ entries) result answers.1 t sound answers.0 answers.2.one answers.3 one
+back_as true x z _ met t rules sound answers one = absurd answers

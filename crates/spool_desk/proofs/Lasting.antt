@@ -1,6 +1,6 @@
 -- What lasts after the calls of a desk's only caller.
 use Rattle.std.proofs.Common.{◌≡◌, ℕ, ◌^◌, ◌≤◌, List, [], Option, refl, sym, ◌∙◌, ap, subst, arith}
-use Rattle.spool_state.specs.SpoolState.{SpoolState, IsSound}
+use Rattle.spool_state.specs.SpoolState.{SpoolState}
 use Rattle.spool_state.specs.Image.{StandsFor}
 use Rattle.spool_log.specs.State.{View, IsIn}
 use Rattle.hec_ids.specs.Table.{Table}

@@ -1,3 +1,5 @@
 pub mod Lasting
 pub mod Leading
 pub mod Making
+pub mod Jointly
+pub mod Fits

@@ -121,7 +121,7 @@ makes tells old new call leads counts keeps =
 pub ran_of : (tells : Type 0) (old new : AloneView) (call : Call) → (tells → IsLawful new.spool.moment) → Makes tells old call new → Ran tells old (call ∷ []) new
 ran_of tells old new call lawful made = record {
   records = record_of call new ∷ [];
-  by = (refl, refl, tt);
+  by = (refl, refl, refl, tt);
   runs = made;
   since = λ x told at.
       let leads = made.leads x told at in

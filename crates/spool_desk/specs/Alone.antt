@@ -1,5 +1,5 @@
 -- A desk with one caller.
-use Rattle.std.specs.Prelude.{◌≡◌, ℕ, ◌^◌, ◌≤◌, List, [], ◌∷◌, Option, Result, Ok, Err}
+use Rattle.std.specs.Prelude.{◌≡◌, false, ℕ, ◌^◌, ◌≤◌, List, [], ◌∷◌, Option, Result, Ok, Err}
 use Rattle.foundation.specs.Faults.{Rose}
 use Rattle.spool_state.specs.SpoolState.{SpoolState, end}
 use Rattle.spool_answers.specs.declared.fault.PendFault.{PendFault}
@@ -11,7 +11,7 @@ use Rattle.hec_ids.specs.Rows.{opened}
 use Rattle.desk_access.specs.declared.standing.Standing.{Standing}
 use Rattle.spool_desk.specs.declared.alone.Alone.{Alone}
 use Rattle.spool_desk.specs.Standing.{standing_in}
-use Rattle.desk_access.specs.Call.{Call, Record, AreBy, calls_of, failures_of}
+use Rattle.desk_access.specs.Call.{Call, Record, AreBy, failed_of}
 use Rattle.desk_access.specs.Desk.{DeskState, desk_of, Finds, StaysDoubtful, Goes, Stood}
 use Rattle.desk_access.specs.History.{IsDesk}
 use Rattle.desk_access.specs.Since.{EachSince}
@@ -54,8 +54,8 @@ pub record RunsTo (tells : Type 0) (old : AloneView) (records : List Record) (ne
   pub leads : (x : DeskState) → tells → IsAt x old → LeadsFrom x old records new
   pub size : new.spool.moment.size ≡ old.spool.moment.size
   pub later : old.spool.moment.faults ≤ new.spool.moment.faults
-  pub cause : Rose (failures_of (calls_of records)) old.spool.moment.faults new.spool.moment.faults
-  pub quiet : failures_of (calls_of records) ≡ 0 → new.spool.moment.faults ≡ old.spool.moment.faults
+  pub cause : Rose (failed_of records) old.spool.moment.faults new.spool.moment.faults
+  pub quiet : failed_of records ≡ 0 → new.spool.moment.faults ≡ old.spool.moment.faults
   pub end_rises : old.end_known ≤ new.end_known
   pub cursor_rises : old.cursor_known ≤ new.cursor_known
 
@@ -69,7 +69,7 @@ pub record Ran (tells : Type 0) (old : AloneView) (calls : List Call) (new : Alo
 
 -- the record of a call as it stands after it
 abbrev pub record_of : Call → AloneView → Record
-record_of call v = record { by = 0; call = call; met = v.met; after = standing_in v.spool.memory; clock = v.spool.moment.clock }
+record_of call v = record { by = 0; call = call; joins = false; met = v.met; after = standing_in v.spool.memory; clock = v.spool.moment.clock }
 
 -- one call, and its record
 abbrev pub Makes : Type 0 → AloneView → Call → AloneView → Type 0

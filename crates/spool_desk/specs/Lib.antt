@@ -1,3 +1,4 @@
 pub mod Standing
 pub mod Alone
 pub mod Runs
+pub mod Fitting

@@ -1,19 +1,16 @@
 -- Calls of a desk's only caller, one after another.
-use Rattle.std.proofs.Common.{◌≡◌, ℕ, ◌+◌, ◌≤◌, List, [], ◌++◌, refl, sym, ◌∙◌, ap, subst, arith}
+use Rattle.std.proofs.Common.{◌≡◌, ℕ, ◌≤◌, List, [], ◌++◌, refl, sym, ◌∙◌, subst, arith}
 use Rattle.std.proofs.lemmas.Grind.{common_steps}
 use Rattle.foundation.specs.Faults.{Rose}
 use Rattle.edge_disk.specs.Disk.{IsLawful}
 use Rattle.edge_disk.proofs.Moments.{started, both}
 use Rattle.spool_state.specs.SpoolState.{end}
 use Rattle.desk_access.specs.History.{IsDesk}
-use Rattle.desk_access.specs.Call.{Call, Record, own_of, calls_of, failures_of}
+use Rattle.desk_access.specs.Call.{Call, Record, own_of, failed_of}
 use Rattle.desk_access.specs.Desk.{DeskState, Goes, Stood}
-use Rattle.desk_access.specs.Journal.{goes_then, calls_then, by_then, own_by, failures_then, rose_then, stood_first, stood_later, stood_here}
+use Rattle.desk_access.specs.Journal.{goes_then, by_then, own_by, failed_then, rose_then, stood_first, stood_later, stood_here}
 use Rattle.desk_access.specs.Since.{since_none, since_then}
 use Rattle.spool_desk.specs.Alone.{AloneView, LeadsFrom, RunsTo, Ran, HasSeen}
-
-failures_both : (first more : List Record) → failures_of (calls_of (first ++ more)) ≡ failures_of (calls_of first) + failures_of (calls_of more)
-failures_both first more = ap failures_of (calls_then first more) ∙ failures_then (calls_of first) (calls_of more)
 
 -- no call
 pub runs_none : (tells : Type 0) (v : AloneView) → (tells → IsLawful v.spool.moment) → RunsTo tells v [] v
@@ -48,9 +45,9 @@ pub runs_then : (tells : Type 0) (a b c : AloneView) (records more : List Record
 runs_then tells a b c records more p q = record {
   leads = λ x told at. let first = p.leads x told at in leads_then x a b c records more first (q.leads first.after told first.reached);
   later = omega (arith, p.later, q.later);
-  cause = subst (λ (n : ℕ). Rose n a.spool.moment.faults c.spool.moment.faults) (sym (failures_both records more))
-      (rose_then (failures_of (calls_of records)) (failures_of (calls_of more)) a.spool.moment.faults b.spool.moment.faults c.spool.moment.faults p.cause q.cause p.later q.later);
-  quiet = λ none. q.quiet (omega (arith, none, failures_both records more)) ∙ p.quiet (omega (arith, none, failures_both records more));
+  cause = subst (λ (n : ℕ). Rose n a.spool.moment.faults c.spool.moment.faults) (sym (failed_then records more))
+      (rose_then (failed_of records) (failed_of more) a.spool.moment.faults b.spool.moment.faults c.spool.moment.faults p.cause q.cause p.later q.later);
+  quiet = λ none. q.quiet (omega (arith, none, failed_then records more)) ∙ p.quiet (omega (arith, none, failed_then records more));
   size = q.size ∙ p.size;
   end_rises = omega (arith, p.end_rises, q.end_rises);
   cursor_rises = omega (arith, p.cursor_rises, q.cursor_rises);

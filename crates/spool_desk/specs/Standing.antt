@@ -1,6 +1,5 @@
 -- The numbers of a spool, as memory has them.
 use Rattle.known_numbers.specs.Numbers.{count_of}
-use Rattle.spool_state.specs.SpoolState.{base, end, room}
 use Rattle.spool_log.specs.declared.memory.Memory.{Memory}
 use Rattle.spool_log.specs.Memory.{base_of, end_of, cursor_of, known_of, room_of}
 use Rattle.desk_access.specs.declared.standing.Standing.{Standing}

@@ -3,12 +3,16 @@ ghost use Rattle.std.specs.Prelude.{◌^◌, ◌≤◌};
 
 use crate::Desk;
 use crate::stretches::{count_known, end_by};
-use desk_access::{Access, Standing};
+use desk_access::{Access, Front, Standing};
 use edge_disk::Disk;
-use event_form::Entry;
+use event_form::{Entry, entry_size};
 use hec_ids::IssueFault;
 use known_numbers::Stretch;
 use spool_answers::{ConfirmFault, Numbered, PendFault, Receipt, TakeFault};
+use spool_slots::group_need;
+
+/// Numbers of entries end here.
+const LAST_NUMBER: u64 = 1 << 63;
 
 /// A desk with one caller, which may take entries of any connection, settle any id, and confirm.
 ///
@@ -28,14 +32,20 @@ pub struct Alone<D: Disk> {
 }
 
 impl<D: Disk> Alone<D> {
-    ghost use Rattle.std.specs.Prelude.{◌≡◌, [], IsErrOf, false};
+    ghost use Rattle.std.specs.Prelude.{◌≡◌, ◌+◌, ◌<◌, ◌⊎◌, List, [], ◌∷◌, length, take, All, IfErr, IsErrOf, IsTrue, false};
     ghost use Rattle.spool_state.specs.SpoolState.{SpoolState};
     ghost use Rattle.edge_disk.specs.Calls.{Calls};
     ghost use Rattle.spool_log.specs.Memory.{run_of};
+    ghost use Rattle.spool_log.specs.Changing.Take.{RefusedBy};
     ghost use Rattle.spool_log.specs.State.{view, IsIn};
     ghost use Rattle.spool_desk.specs.Standing.{standing_in};
     ghost use Rattle.desk_access.specs.Desk.{DeskState, desk_of};
-    ghost use Rattle.spool_desk.specs.Alone.{alone_at, IsAt, HoldsNone, Mended};
+    ghost use Rattle.spool_desk.specs.Fitting.{FitsInRoom};
+    ghost use Rattle.event_form.specs.Entry.{IsEntry};
+    ghost use Rattle.spool_state.specs.Segment.{need_of};
+    ghost use Rattle.spool_log.specs.Memory.{room_of, end_of};
+    ghost use Rattle.desk_access.specs.JointRecords.{Part, joined, ArePartsOf, joint_of};
+    ghost use Rattle.spool_desk.specs.Alone.{alone_at, IsAt, HoldsNone, Mended, RunsTo};
 
     /// The desk with its caller. Its spool isn't in doubt, and its ids are of the spool's run and hold none.
     /// A state that the spool is in is the desk's.
@@ -77,8 +87,76 @@ impl<D: Disk> Alone<D> {
         }
     }
 
+    /// Takes the entries of several callers as one group, which has room in the active slot of a spool that isn't in doubt. What
+    /// each caller handed in is a part, and the calls are the takes of the parts: answered Ok each has its place in the group, and
+    /// where the disk failed all failed in one, and mending finds all of them or none.
+    pub fn take_jointly(&mut self, entries: &[Entry]) -> Result<Receipt, TakeFault>
+        requires few { (0 < length entries.now) × (length entries.now < 2 ^ 32) }
+        requires limits { All IsEntry entries.now }
+        requires sure { self.old.desk.spool.doubt ≡ false }
+        requires fits { (need_of entries.now ≤ room_of self.old.desk.spool.memory) × (end_of self.old.desk.spool.memory + length entries.now ≤ 2 ^ 63) }
+
+        ensures made { (part : Part) (parts : List Part) → joined (part ∷ parts) ≡ entries.now → ArePartsOf (part ∷ parts)
+            → RunsTo D.tells (alone_at self.old) (joint_of result (D.moment self.new.desk.spool.disk).clock (standing_in self.old.desk.spool.memory) (part ∷ parts)) (alone_at self.new) }
+        ensures before { IfErr result (RefusedBy self.old.desk.spool.memory entries.now) }
+    {
+        let all = entries;
+        self.desk.spool.take(all)
+    }
+
+    /// How many of the entries, from the first one on, have room as one group in the active slot. The first one
+    /// counts always, and alone where the spool is in doubt.
+    pub fn fitting(&self, entries: &[Entry]) -> usize
+        requires some { 0 < length entries.now }
+        requires few { length entries.now < 2 ^ 32 }
+        requires limits { All IsEntry entries.now }
+
+        ensures front { (0 < result) × (result ≤ length entries.now) }
+        ensures fits { (result ≡ 1) ⊎ FitsInRoom self.now.desk.spool.doubt self.now.desk.spool.memory (take result entries.now) }
+    {
+        let count = self.counted(entries);
+        if self.has_room(&entries[..count]) {
+            count
+        } else {
+            1
+        }
+    }
+
+    /// Whether there is no doubt, and the entries have room as one group in the active slot, and numbers.
+    pub fn has_room(&self, entries: &[Entry]) -> bool
+        requires few { length entries.now < 2 ^ 32 }
+        requires limits { All IsEntry entries.now }
+        ensures { IsTrue result → FitsInRoom self.now.desk.spool.doubt self.now.desk.spool.memory entries.now }
+    {
+        let spool = &self.desk.spool;
+        let need = group_need(entries);
+        !spool.doubt()
+            && need <= spool.most()
+            && need <= spool.room()
+            && entries.len() as u64 <= LAST_NUMBER - spool.end()
+    }
+
+    // How many of the entries have room, by their sizes added up.
+    fn counted(&self, entries: &[Entry]) -> usize
+        requires some { 0 < length entries.now }
+        ensures { (0 < result) × (result ≤ length entries.now) }
+    {
+        let room = self.desk.spool.room();
+        let mut need = 9u64;
+        let mut count = 0usize;
+        for entry in entries {
+            need = need.saturating_add(entry_size(entry));
+            if need > room {
+                break;
+            }
+            count = count.saturating_add(1);
+        }
+        count.clamp(1, entries.len())
+    }
+
     /// Mends a doubt, and notes what was found, for a call that goes on from there.
     fn mend(&mut self) -> Result<(), PendFault>
+        ensures idle { self.old.desk.spool.doubt ≡ false → self.new.desk ≡ self.old.desk }
         ensures same { (self.new.desk.ids ≡ self.old.desk.ids) × (self.new.end_told ≡ self.old.end_told) × (self.new.cursor_told ≡ self.old.cursor_told) }
         ensures calls { Calls (IsErrOf result PendFault.DiskFault) (D.moment self.old.desk.spool.disk) (D.moment self.new.desk.spool.disk) }
         ensures mended { (x : DeskState) → D.tells → IsAt x (alone_at self.old) → Mended x result (alone_at self.old) (alone_at self.new) }
@@ -91,7 +169,9 @@ impl<D: Disk> Alone<D> {
 }
 
 impl<D: Disk> Access for Alone<D> {
-    ghost use Rattle.std.specs.Prelude.{◌≡◌, ℕ, ◌+◌, ◌<◌, List, [], ◌∷◌, length, All, IfOk, nat_eq, refl};
+    ghost use Rattle.std.specs.Prelude.{◌≡◌, ℕ, ◌+◌, ◌<◌, List, [], ◌∷◌, length, take, All, IfOk, IfErr, nat_eq, refl, false};
+    ghost use Rattle.spool_answers.specs.Take.{IsRefusal};
+    ghost use Rattle.spool_log.specs.Changing.Take.{RefusedBy};
     ghost use Rattle.std.specs.List.{IsDistinct};
     ghost use Rattle.known_numbers.specs.Numbers.{IsInSome};
     ghost use Rattle.event_form.specs.Entry.{IsEntry};
@@ -165,6 +245,7 @@ impl<D: Disk> Access for Alone<D> {
         ensures ran { Ran D.tells (alone_at self.old) (takes entries.now result ∷ []) (alone_at self.new) }
         ensures makes { Makes D.tells (alone_at self.old) (takes entries.now result) (alone_at self.new) }
         ensures receipt { IfOk result (λ receipt. (receipt.count ≡ length entries.now) × (receipt.first + receipt.count ≤ 2 ^ 63)) }
+        ensures before { self.old.desk.spool.doubt ≡ false → IfErr result (RefusedBy self.old.desk.spool.memory entries.now) }
     {
         if entries.is_empty() {
             self.met = Some(self.standing());
@@ -172,6 +253,28 @@ impl<D: Disk> Access for Alone<D> {
         }
         self.mend()?;
         self.desk.spool.take(entries)
+    }
+
+    fn take_front(&mut self, entries: Vec<Entry>) -> Front
+        requires some { 0 < length entries.items }
+        requires few { length entries.items < 2 ^ 32 }
+        requires limits { All IsEntry entries.items }
+
+        ensures same { result.entries.items ≡ entries.items }
+        ensures front { (0 < result.count) × (result.count ≤ length entries.items) }
+        ensures ran { Ran D.tells (alone_at self.old) (takes (take result.count entries.items) result.answer ∷ []) (alone_at self.new) }
+        ensures makes { Makes D.tells (alone_at self.old) (takes (take result.count entries.items) result.answer) (alone_at self.new) }
+        ensures receipt { IfOk result.answer (λ receipt. (receipt.count ≡ result.count) × (receipt.first + receipt.count ≤ 2 ^ 63)) }
+        ensures alone { IfErr result.answer (λ fault. IsRefusal fault → result.count ≡ 1) }
+    {
+        let all = entries.as_slice();
+        let count = self.fitting(all);
+        let answer = self.take(&all[..count]);
+        Front {
+            entries,
+            count,
+            answer,
+        }
     }
 
     fn pending(&mut self, from: u64, most: u32) -> Result<Vec<Numbered>, PendFault>

@@ -4,6 +4,7 @@ pub mod Adding
 pub mod Beginning
 pub mod Begun
 pub mod Grown
+pub mod Leaving
 pub mod Marking
 pub mod Lowest
 pub mod Registered

@@ -3,7 +3,8 @@ ghost use Rattle.std.specs.Prelude.{◌≡◌, ◌≤◌, false, length};
 ghost use Rattle.spool_state.specs.Layout.{most_number};
 ghost use Rattle.spool_state.specs.Image.{slot_at};
 ghost use Rattle.edge_disk.specs.Disk.{IsSettled};
-ghost use Rattle.spool_log.specs.Memory.{run_of, cursor_of, known_of, base_of, end_of, room_of};
+ghost use Rattle.spool_answers.specs.Leave.{LetsKeep};
+ghost use Rattle.spool_log.specs.Memory.{run_of, cursor_of, known_of, base_of, end_of, room_of, most_of};
 ghost use Rattle.spool_log.specs.State.{KnowsDevice};
 
 use crate::Memory;
@@ -32,6 +33,7 @@ pub struct Spool<D: Disk> {
     /// In this known numbers are joined.
     pub(crate) numbers: KnownNumbers,
     pub(crate) alloc: Global,
+    pub ghost lets: { LetsKeep D.tells D.moment D.may_tear D.may_release },
     pub ghost long: { (D.moment disk).size ≡ slot_at memory.size memory.slots },
     pub ghost whole: { length buffer.items ≡ 65536 },
     pub ghost settled: { doubt ≡ false → D.tells → IsSettled (D.moment disk) },
@@ -79,6 +81,13 @@ impl<D: Disk> Spool<D> {
         ensures { result ≡ room_of self.now.memory }
     {
         self.memory.active.room()
+    }
+
+    /// How many bytes a group may need in an empty slot, which is the most that any group may need.
+    pub fn most(&self) -> u64
+        ensures { result ≡ most_of self.now.memory }
+    {
+        self.memory.size - 18
     }
 
     /// How often the spool was opened for storing.

@@ -6,8 +6,10 @@ use Rattle.foundation.specs.Bytes.{put, SameBut}
 use Rattle.foundation.proofs.Bytes.{length-put, put_below, put_above, put_at, same_but_then, same_but_wider, same_but_refl}
 use Rattle.edge_disk.specs.Disk.{Moment, IsLawful, LeavesOnly}
 use Rattle.edge_disk.specs.Gate.{ComesFrom}
+use Rattle.edge_disk.specs.Leave.{TearsOn, Lets}
 use Rattle.edge_disk.proofs.Moments.{both, started, weaker}
-use Rattle.spool_slots.specs.Pen.{HasWritten}
+use Rattle.edge_disk.proofs.Leaving.{lets_as}
+use Rattle.spool_slots.specs.Pen.{HasWritten, GoesFilling}
 
 -- the buffer's front after a piece was put after it
 pub front_put : (filled : ℕ) (piece buffer : List ℕ) → filled + length piece ≤ length buffer → take (filled + length piece) (put filled piece buffer) ≡ take filled buffer ++ piece
@@ -101,3 +103,21 @@ run_wider at n i k m new h1 h2 run = weaker _ _ m new run (λ c q. (q.0, q.1, sa
 -- no call yet
 pub none_run : (at n : ℕ) (m : Moment) → IsLawful m → LeavesOnly (ComesFrom m (SameBut at n)) m m
 none_run at n m lawful = started (ComesFrom m (SameBut at n)) m lawful (λ c i. (c, i, same_but_refl at n c))
+
+-- ---- leave for it
+
+-- what a write in the range may tear, before any other
+pub tears_first : (at n i k : ℕ) (m : Moment) → at ≤ i → i + k ≤ at + n → TearsOn (GoesFilling m at n) m i k
+tears_first at n i k m h1 h2 = λ d torn image same. ∣ (d, image, record { from = d; was = image; before = same_but_refl at n d; after = same_but_wider at n i k d torn same h1 h2 }) ∣₁
+
+-- after some writes in a range there is leave for more in it
+pub lets_more : {D : Type 0} (tells : Type 0) (moment : D → Moment) (may : D → ℕ → ℕ → Type 0) (at n i k : ℕ) (m mid : Moment) → at ≤ i → i + k ≤ at + n → (tells → LeavesOnly (ComesFrom m (SameBut at n)) m mid) → Lets tells moment may (GoesFilling m at n) → Lets tells moment may (GoesFilling mid i k)
+lets_more tells moment may at n i k m mid h1 h2 run lets =
+    lets_as tells moment may (GoesFilling mid i k) (GoesFilling m at n) (λ t now torn goes.
+    let first = (run t).now goes.from goes.was in
+    ∣ record {
+      from = first.0;
+      was = first.1;
+      before = same_but_then at n at n i k first.0 goes.from now first.2 goes.before (omega arith) (omega arith) h1 h2;
+      after = same_but_wider at n i k now torn goes.after h1 h2;
+    } ∣₁) lets

@@ -2,18 +2,21 @@
 use Rattle.std.proofs.Common.{◌≡◌, ◌≢◌, inl, inr, ℕ, suc, ◌+◌, ◌-◌, ◌<◌, ◌≤◌, List, [], ◌∷◌, ◌++◌, length, drop, get_or, refl, sym, ◌∙◌, ap, subst, arith, add-zero, zero-add, append_assoc, length-append}
 use Rattle.std.proofs.lemmas.List.{get_or_at, append-nil}
 use Rattle.foundation.specs.Bytes.{part, put, SameBut}
-use Rattle.foundation.proofs.Bytes.{same_but_wider, length-part, put_at, length-put, part-put_within}
+use Rattle.foundation.proofs.Bytes.{same_but_then, same_but_wider, length-part, put_at, length-put, part-put_within}
 use Rattle.edge_disk.specs.Disk.{Moment, IsLawful, LeavesOnly}
-use Rattle.edge_disk.specs.Gate.{IsGateStep, ComesFrom}
+use Rattle.edge_disk.specs.Gate.{IsGateStep, ComesFrom, GoesBehind}
+use Rattle.edge_disk.specs.Leave.{Lets}
 use Rattle.edge_disk.proofs.Moments.{weaker}
-use Rattle.edge_disk.proofs.GateSteps.{open_whole, closed_or_before}
+use Rattle.edge_disk.proofs.GateSteps.{behind, open_whole, closed_or_before}
+use Rattle.edge_disk.proofs.Leaving.{lets_as}
 use Rattle.event_form.specs.declared.event.Entry.{Entry}
 use Rattle.spool_state.specs.Segment.{Segment, empty_segment, with_group, group_text, head_text, need_of, segment_text}
 use Rattle.spool_state.specs.Image.{HoldsSegment}
 use Rattle.spool_state.proofs.Segments.{holds_closed, holds_open}
 use Rattle.spool_state.proofs.Steps.{still_holds, holds_more}
 use Rattle.spool_state.proofs.Texts.{length-head_text, length-group_text, length-need}
-use Rattle.spool_slots.specs.Slot.{Knows, IsClosedOrHolds, HoldsOldOrNew}
+use Rattle.spool_slots.specs.Pen.{GoesFilling}
+use Rattle.spool_slots.specs.Slot.{Knows, IsClosedOrHolds, HoldsOldOrNew, GoesBegun}
 use Rattle.spool_slots.specs.declared.slot.Slot.{Slot}
 
 -- ---- a group after a segment
@@ -121,3 +124,49 @@ closed_after gate k piece old mid new c room is_mid is_new is k_is =
 -- what a segment's slot needs of its images before a group is added
 pub closed_known : (slot : Slot) (segment : Segment) (c : List ℕ) → slot.at + slot.size ≤ length c → Knows slot segment c → get_or c (slot.at + slot.gate) 0 ≢ 1
 closed_known slot segment c room knows = subst (λ (n : ℕ). get_or c (slot.at + n) 0 ≢ 1) (sym knows.gate) (holds_closed slot.at slot.size segment c room knows.holds)
+
+-- ---- leave
+
+-- leave to add a group is leave to write it behind its closed gate
+pub lets_filling : {D : Type 0} (tells : Type 0) (moment : D → Moment) (may : D → ℕ → ℕ → Type 0) (gate : ℕ) (group : List Entry) (m : Moment) → (tells → (c : List ℕ) → m.image c → get_or c gate 0 ≢ 1)
+    → Lets tells moment may (GoesBehind m gate (group_text group ++ 0 ∷ [])) → Lets tells moment may (GoesFilling m (gate + 1) (need_of group))
+lets_filling tells moment may gate group m closed lets =
+    let piece = group_text group ++ 0 ∷ [] in
+    lets_as tells moment may (GoesFilling m (gate + 1) (need_of group)) (GoesBehind m gate piece) (λ t now torn goes.
+    let n = need_of group in
+    let shut = closed t goes.from goes.was in
+    let first = subst (λ (k : ℕ). SameBut (gate + 1) k goes.from now) (sym (length-need group)) goes.before in
+    let both = subst (λ (k : ℕ). SameBut (gate + 1) k goes.from torn) (sym (length-need group)) (same_but_then (gate + 1) n (gate + 1) n (gate + 1) n goes.from now torn goes.before goes.after (omega arith) (omega arith) (omega arith) (omega arith)) in
+    ∣ record {
+      from = goes.from;
+      was = goes.was;
+      before = behind gate piece goes.from now shut first;
+      closed = λ one. shut (sym (goes.before.below gate (omega arith)) ∙ one);
+      after = behind gate piece goes.from torn shut both;
+    } ∣₁) lets
+
+-- leave to begin a segment is leave to write its head behind the closed gate
+pub lets_head : {D : Type 0} (tells : Type 0) (moment : D → Moment) (may : D → ℕ → ℕ → Type 0) (at size ordinal first : ℕ) (piece : List ℕ) (m : Moment) → (tells → IsLawful m) → at + size ≤ m.size → 18 < size → 1 ∷ piece ≡ head_text ordinal first ++ 0 ∷ []
+    → Lets tells moment may (GoesBegun m at size (empty_segment ordinal first)) → Lets tells moment may (GoesBehind m at piece)
+lets_head tells moment may at size ordinal first piece m lawful room large is lets =
+    lets_as tells moment may (GoesBehind m at piece) (GoesBegun m at size (empty_segment ordinal first)) (λ t now torn goes. ∣ record {
+      from = goes.from;
+      was = goes.was;
+      before = same_but_wider at size at (length piece + 1) goes.from now goes.before.outside (omega arith) (omega (arith, head_length ordinal first piece is));
+      closed = goes.closed;
+      after = head_step at size ordinal first piece goes.from torn (omega (arith, room, (lawful t).image_size goes.from goes.was)) large is goes.after;
+    } ∣₁) lets
+
+-- while a segment has its closed gate behind it, nothing of it changes
+pub old_holds : (slot : Slot) (segment : Segment) (group : List Entry) (old c : List ℕ) → slot.at + slot.size ≤ length old → need_of group ≤ slot.size - slot.gate - 1 → Knows slot segment old
+    → IsGateStep (slot.at + slot.gate) (group_text group ++ 0 ∷ []) old c → get_or c (slot.at + slot.gate) 0 ≢ 1 → SameBut slot.at slot.size old c × HoldsSegment slot.at slot.size segment c
+old_holds slot segment group old c room le knows step closed =
+    let piece = group_text group ++ 0 ∷ [] in
+    let outside = same_but_wider slot.at slot.size (slot.at + slot.gate) (length piece + 1) old c step.outside (omega arith) (omega (arith, le, slot.inside, length-need group)) in
+    (outside, still_holds slot.at slot.size slot.gate segment old c room slot.inside knows.gate knows.holds step.outside.len step.outside.below closed)
+
+-- and with it, it holds the segment as it was or with the group more
+pub new_holds : (slot : Slot) (segment : Segment) (group : List Entry) (old c : List ℕ) → slot.at + slot.size ≤ length old → need_of group ≤ slot.size - slot.gate - 1 → Knows slot segment old
+    → IsGateStep (slot.at + slot.gate) (group_text group ++ 0 ∷ []) old c → HoldsOldOrNew slot.at slot.size segment group old c
+new_holds slot segment group old c room le knows step =
+    group_step slot.at slot.size slot.gate segment group (group_text group ++ 0 ∷ []) old c refl room (omega (arith, le, slot.inside, length-need group)) knows.gate knows.holds step

@@ -1,6 +1,7 @@
 -- What a slot in memory knows of the device, and what the calls of a slot may leave there.
 use Rattle.std.specs.Prelude.{◌≡◌, ◌≢◌, ◌⊎◌, ℕ, List, length, slice_index, All}
 use Rattle.foundation.specs.Bytes.{SameBut}
+use Rattle.edge_disk.specs.Disk.{Moment}
 use Rattle.event_form.specs.declared.event.Entry.{Entry}
 use Rattle.spool_state.specs.Segment.{IsGroup, Segment, entries_of, segment_text, with_group}
 use Rattle.spool_state.specs.Image.{HoldsSegment}
@@ -33,3 +34,12 @@ pub record IsClosedOrHolds (at size : ℕ) (segment : Segment) (old c : List ℕ
 pub record HoldsOldOrNew (at size : ℕ) (segment : Segment) (group : List Entry) (old c : List ℕ) : Type 0 where
   pub outside : SameBut at size old c
   pub inside : HoldsSegment at size segment c ⊎ HoldsSegment at size (with_group segment group) c
+
+-- Bytes of a disk on which the slot is closed, and bytes that come after them while the segment is begun there: both come from one image
+-- of m.
+pub record GoesBegun (m : Moment) (at size : ℕ) (segment : Segment) (now torn : List ℕ) : Type 0 where
+  pub from : List ℕ
+  pub was : m.image from
+  pub before : SameBut at size from now
+  pub closed : slice_index now at ≢ 1
+  pub after : IsClosedOrHolds at size segment from torn

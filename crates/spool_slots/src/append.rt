@@ -7,9 +7,10 @@ ghost use Rattle.event_form.specs.Entry.{IsEntry};
 ghost use Rattle.spool_state.specs.Segment.{Segment, entries_text, group_text, need_of, with_group};
 ghost use Rattle.edge_disk.specs.Calls.{Calls};
 ghost use Rattle.edge_disk.specs.Disk.{IsSettled, LeavesOnly};
-ghost use Rattle.edge_disk.specs.Gate.{ComesFrom};
+ghost use Rattle.edge_disk.specs.Gate.{ComesFrom, GoesBehind};
+ghost use Rattle.edge_disk.specs.Leave.{Lets};
 ghost use Rattle.spool_slots.specs.Fault.{CameOf};
-ghost use Rattle.spool_slots.specs.Pen.{HasWritten};
+ghost use Rattle.spool_slots.specs.Pen.{HasWritten, GoesFilling};
 ghost use Rattle.spool_slots.specs.Slot.{IsSlot, Knows, HoldsOldOrNew};
 
 use crate::layout::GROUP_HEAD;
@@ -42,6 +43,8 @@ fn write_entries<D: Disk>(
     requires buffer { length buffer.old ≡ 65536 }
     requires limits { All IsEntry entries.now }
     requires room { pen.old.at + pen.old.filled + length (entries_text entries.now) ≤ (D.moment disk.old).size }
+    requires leave { Lets D.tells D.moment D.may_tear
+        (GoesFilling (D.moment disk.old) pen.old.at (pen.old.filled + length (entries_text entries.now))) }
 
     ensures calls { Calls (IsErr result) (D.moment disk.old) (D.moment disk.new) }
     ensures took { OnOk result (pen.new.at + pen.new.filled ≡ pen.old.at + pen.old.filled + length (entries_text entries.now)) }
@@ -83,6 +86,7 @@ fn write_group<D: Disk>(
     requires limits { All IsEntry entries.now }
     requires size { size ≡ length (entries_text entries.now) }
     requires room { at + need_of entries.now ≤ (D.moment disk.old).size }
+    requires leave { Lets D.tells D.moment D.may_tear (GoesFilling (D.moment disk.old) at (need_of entries.now)) }
 
     ensures calls { Calls (IsErr result) (D.moment disk.old) (D.moment disk.new) }
     ensures written { OnOk result (D.tells → (D.moment disk.new).reads ≡ put at (group_text entries.now ++ 0 ∷ []) (D.moment disk.old).reads) }
@@ -115,6 +119,8 @@ impl Slot {
         requires buffer { length buffer.old ≡ 65536 }
         requires place { self.old.at + self.old.size ≤ (D.moment disk.old).size }
         requires closed { D.tells → (c : List ℕ) → (D.moment disk.old).image c → slice_index c (self.old.at + self.old.gate) ≢ 1 }
+        requires leave { Lets D.tells D.moment D.may_tear
+            (GoesBehind (D.moment disk.old) (self.old.at + self.old.gate) (group_text entries.now ++ 0 ∷ [])) }
 
         // NoRoom comes exactly where the group needs more than there is room, with these numbers and before
         // any call.

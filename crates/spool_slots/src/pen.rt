@@ -4,7 +4,8 @@ ghost use Rattle.foundation.specs.Bytes.{put, SameBut};
 ghost use Rattle.edge_disk.specs.Calls.{Calls};
 ghost use Rattle.edge_disk.specs.Disk.{LeavesOnly};
 ghost use Rattle.edge_disk.specs.Gate.{ComesFrom};
-ghost use Rattle.spool_slots.specs.Pen.{HasWritten};
+ghost use Rattle.edge_disk.specs.Leave.{Lets};
+ghost use Rattle.spool_slots.specs.Pen.{HasWritten, GoesFilling};
 
 use edge_disk::{Disk, DiskFault};
 use foundation::overwrite;
@@ -34,6 +35,7 @@ impl Pen {
         requires buffer { length buffer.old ≡ 65536 }
         requires some { 0 < length text.now }
         requires room { self.old.at + self.old.filled + length text.now ≤ (D.moment disk.old).size }
+        requires leave { Lets D.tells D.moment D.may_tear (GoesFilling (D.moment disk.old) self.old.at (self.old.filled + length text.now)) }
 
         ensures calls { Calls (IsErr result) (D.moment disk.old) (D.moment disk.new) }
         ensures goes_on { self.old.at ≤ self.new.at }
@@ -67,6 +69,7 @@ impl Pen {
     ) -> Result<(), DiskFault>
         requires buffer { length buffer.old ≡ 65536 }
         requires room { self.old.at + self.old.filled + length text.now ≤ (D.moment disk.old).size }
+        requires leave { Lets D.tells D.moment D.may_tear (GoesFilling (D.moment disk.old) self.old.at (self.old.filled + length text.now)) }
 
         ensures calls { Calls (IsErr result) (D.moment disk.old) (D.moment disk.new) }
         ensures took { OnOk result (self.new.at + self.new.filled ≡ self.old.at + self.old.filled + length text.now) }
@@ -91,6 +94,7 @@ impl Pen {
     pub fn finish<D: Disk>(self, disk: &mut D, buffer: &[u8]) -> Result<(), DiskFault>
         requires buffer { length buffer.now ≡ 65536 }
         requires room { self.at + self.filled ≤ (D.moment disk.old).size }
+        requires leave { Lets D.tells D.moment D.may_tear (GoesFilling (D.moment disk.old) self.at self.filled) }
 
         ensures calls { Calls (IsErr result) (D.moment disk.old) (D.moment disk.new) }
         ensures written { OnOk result ((start : ℕ) (base done : List ℕ) → D.tells

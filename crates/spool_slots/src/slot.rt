@@ -6,6 +6,7 @@ ghost use Rattle.spool_state.specs.Layout.{slot_head, least_size, most_size};
 ghost use Rattle.edge_disk.specs.Calls.{Calls};
 ghost use Rattle.edge_disk.specs.Disk.{IsSettled, LeavesOnly};
 ghost use Rattle.edge_disk.specs.Gate.{ComesFrom};
+ghost use Rattle.edge_disk.specs.Leave.{Lets};
 
 use crate::layout::SLOT_HEAD;
 use edge_disk::{Disk, DiskFault, close_gate, write_behind};
@@ -43,7 +44,7 @@ fn head(ordinal: u64, first: u64) -> [u8; SLOT_HEAD]
 }
 
 impl Slot {
-    ghost use Rattle.spool_slots.specs.Slot.{IsSlot, Knows, IsClosedOrHolds};
+    ghost use Rattle.spool_slots.specs.Slot.{IsSlot, Knows, IsClosedOrHolds, GoesBegun};
 
     /// Begins an empty segment in the `size` bytes from offset `at` of the device on, where a closed slot
     /// lies: a write, a sync, and the same of its gate. It takes no memory. An error comes only where a call
@@ -59,6 +60,7 @@ impl Slot {
         requires small { size ≤ most_size }
         requires place { at + size ≤ (D.moment disk.old).size }
         requires closed { D.tells → (c : List ℕ) → (D.moment disk.old).image c → slice_index c at ≢ 1 }
+        requires leave { Lets D.tells D.moment D.may_tear (GoesBegun (D.moment disk.old) at size (empty_segment ordinal first)) }
 
         ensures calls { Calls (IsErr result) (D.moment disk.old) (D.moment disk.new) }
         ensures slot { IfOk result (IsSlot at size ordinal first slot_head 0) }
@@ -92,6 +94,7 @@ impl Slot {
     /// disk failed; the slot is then closed, or holds what it held.
     pub fn shut<D: Disk>(self, disk: &mut D) -> Result<(), DiskFault>
         requires place { self.at + self.size ≤ (D.moment disk.old).size }
+        requires leave { ∥ D.may_tear disk.old self.at 1 ∥₁ }
 
         ensures calls { Calls (IsErr result) (D.moment disk.old) (D.moment disk.new) }
         ensures durable { OnOk result (D.tells → IsSettled (D.moment disk.new)) }

@@ -23,3 +23,4 @@ pub mod Texts
 pub mod Told
 pub mod Unbroken
 pub mod Unknown
+pub mod Keeping

@@ -10,3 +10,4 @@ pub mod Broken
 pub mod Order
 pub mod Rules
 pub mod Empty
+pub mod Keeping

@@ -1,4 +1,5 @@
 //! All that holds of the spool, from its register and its slots up to a desk.
+use crate::desk::fronts::{FRONTS, a_doubt_is_mended_by_one_entry, run_fronts};
 use crate::desk::rows::{ENTRIES, IDS, KNOWN, run_desk};
 use crate::desk::stops::what_was_taken_stands_whichever_call_fails;
 use crate::devices::DEVICES;
@@ -33,5 +34,7 @@ fn desks(rt: HostRuntime) {
     for script in &[ENTRIES, KNOWN, IDS] {
         run_desk(&rt, rt.alloc(), script);
     }
+    run_fronts(&rt, rt.alloc(), FRONTS);
     assert!(rt; what_was_taken_stands_whichever_call_fails(&rt, rt.alloc()));
+    assert!(rt; a_doubt_is_mended_by_one_entry(&rt, rt.alloc()));
 }

@@ -3,7 +3,7 @@ use Rattle.std.proofs.Common.{◌≡◌, ℕ, zero, suc, ◌+◌, ◌-◌, arith
 use Rattle.std.proofs.lemmas.List.{append-nil}
 use Rattle.atomic_table.specs.Table.{Me}
 use Rattle.edge_disk.specs.Disk.{Moment, IsLawful}
-use Rattle.desk_access.specs.Call.{Call, Record, own_of}
+use Rattle.desk_access.specs.Call.{Call, takes, pends, confirms, marks, counts, issues, settles, forgets, asks, Record, own_of}
 use Rattle.desk_access.specs.Desk.{DeskState}
 use Rattle.spool_desk.specs.Alone.{AloneView, RunsTo, Makes, record_of}
 use Rattle.spool_desk.specs.Runs.{runs_then}
@@ -11,7 +11,7 @@ use Rattle.desk_access.specs.Legal.{May, Met}
 use Rattle.desk_access.proofs.Nexts.{met_then}
 use Rattle.spool_turns.specs.Rules.{View, Facts, PassView, made_by, Knows, after_call, with_record, end_at, cursor_at}
 use Rattle.spool_turns.specs.Own.{own_of-snoc, own_of-rest}
-use Rattle.spool_turns.specs.Passes.{Known, known, known_of, Sound, Calls, IsTurn, IsPass, locked_of, calling_of, pass_of, facts_in, caller_in, pass_in, fresh}
+use Rattle.spool_turns.specs.Passes.{Known, known, known_of, LeadsAbove, MayFollow, Sound, Calls, IsTurn, IsPass, locked_of, calling_of, pass_of, facts_in, caller_in, pass_in, fresh}
 use Rattle.spool_turns.specs.Replays.{Replays, IsExact}
 use Rattle.spool_turns.proofs.Led.{replays_more}
 
@@ -22,6 +22,10 @@ published v f = cursor_at v.cursor_known (end_at v.end_known f)
 -- What the type of the locked value keeps: of its seat me, and of the desk v.
 abbrev pub Locks : (tells : Type 0) (start : DeskState → Type 0) (run seats : ℕ) (began : Moment) → Me ℕ View → AloneView → Type 0
 Locks tells start run seats began me v = IsTurn seats me v × Replays tells start run began (facts_in me.0).log v × Met run (seats - 1) [] (facts_in me.0).log
+
+-- nothing follows any call
+pub nothing_behind : (call : Call) → MayFollow call []
+nothing_behind call = refl
 
 -- A call is made so: me is the locked seat at the start; hosted is that seat with the view m of the pass that calls, and wrote
 -- the same once the words are written; old, mid and new are the desk then.
@@ -37,7 +41,7 @@ module _ (tells : Type 0) (start : DeskState → Type 0) (run seats : ℕ) (bega
   wrote_is = writes ∙ ap (λ (x : Me ℕ View). calling_of (published new (facts_in x.0)) (caller_in x.0)) hosts
 
   after : Replays tells start run began ((facts_in me.0).log ++ made_by m.number (record_of call new) ∷ []) new
-  after = replays_more tells start run began m.number old new (facts_in me.0).log (record_of call new) lawful refl replays runs
+  after = replays_more tells start run began m.number old new (facts_in me.0).log (record_of call new) lawful refl refl replays runs
 
   locked_is : (it : Me ℕ View) → it ≡ locked_of (with_record (facts_in wrote.0) (made_by (caller_in wrote.0).number (record_of call new))) → it ≡ locked_of (with_record (published new (facts_in me.0)) (made_by m.number (record_of call new)))
   locked_is it is = is ∙ ap (λ (x : Me ℕ View). locked_of (with_record (facts_in x.0) (made_by (caller_in x.0).number (record_of call new)))) wrote_is
@@ -67,6 +71,16 @@ module _ (tells : Type 0) (start : DeskState → Type 0) (run seats : ℕ) (bega
   pub pass_after : (it : Me ℕ View) → it ≡ pass_of (after_call (facts_in wrote.0) (caller_in wrote.0) (record_of call new)) → IsPass it × Sound start (pass_in it.0)
   pass_after it is = subst (λ (x : Me ℕ View). IsPass x × Sound start (pass_in x.0)) (sym (pass_is it is)) (refl, sound_after)
 
+  seen_here : (facts_in me.0).log ++ made_by m.number (record_of call new) ∷ [] ≡ ((m.seen ++ knew.seen.0) ++ made_by m.number (record_of call new) ∷ []) ++ []
+  seen_here =
+      ap (λ (l : List Record). l ++ made_by m.number (record_of call new) ∷ []) (sym knew.seen.1)
+      ∙ sym (append-nil ((m.seen ++ knew.seen.0) ++ made_by m.number (record_of call new) ∷ []))
+
+  lawful_here : (x : DeskState) → start x → LeadsAbove x ((facts_in me.0).log ++ made_by m.number (record_of call new) ∷ []) m.end_known m.cursor_known
+  lawful_here x s =
+      let p = after.leads x s in
+      (p.after, p.goes, omega (arith, knew.end_known, turn.end, runs.end_rises, p.reached.end_known), omega (arith, knew.cursor_known, turn.cursor, runs.cursor_rises, p.reached.cursor_known))
+
   calls_here : Calls start run seats (known_of m) call (known_of (after_call (published new (facts_in me.0)) m (record_of call new)))
   calls_here = record {
     between = knew.seen.0;
@@ -74,14 +88,18 @@ module _ (tells : Type 0) (start : DeskState → Type 0) (run seats : ℕ) (bega
     one = made_by m.number (record_of call new);
     by = refl;
     of_call = refl;
-    seen = ap (λ (l : List Record). l ++ made_by m.number (record_of call new) ∷ []) (sym knew.seen.1);
+    behind = [];
+    follow = nothing_behind call;
+    others_behind = refl;
+    seen = seen_here;
     own = refl;
     number = refl;
     all = own_after;
     met = met_after;
     end_known = omega (arith, knew.end_known, turn.end, runs.end_rises);
     cursor_known = omega (arith, knew.cursor_known, turn.cursor, runs.cursor_rises);
-    lawful = λ x s. let p = after.leads x s in (p.after, p.goes, omega (arith, knew.end_known, turn.end, runs.end_rises, p.reached.end_known), omega (arith, knew.cursor_known, turn.cursor, runs.cursor_rises, p.reached.cursor_known));
+    lawful = lawful_here;
+    own_lawful = λ x s. subst (λ (l : List Record). LeadsAbove x l m.end_known m.cursor_known) (seen_here ∙ append-nil ((m.seen ++ knew.seen.0) ++ made_by m.number (record_of call new) ∷ [])) (lawful_here x s);
   }
 
   pub calls_after : (v : Known) (it : Me ℕ View) → known_of m ≡ v → it ≡ pass_of (after_call (facts_in wrote.0) (caller_in wrote.0) (record_of call new)) → Calls start run seats v call (known_of (pass_in it.0))

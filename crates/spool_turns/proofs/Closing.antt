@@ -1,5 +1,6 @@
 -- What follows from a journal of which each call is one that its caller might make.
 use Rattle.std.proofs.Common.{◌≡◌, inl, inr, ℕ, ◌-◌, ◌<◌, ◌≤◌, ◌==◌, Bool, true, false, List, [], ◌∷◌, ◌++◌, length, get_or, refl, sym, ap, ◌∙◌, subst}
+use Rattle.std.proofs.lemmas.List.{append-nil}
 use Rattle.std.specs.Prelude.{if◌then◌else◌, All}
 use Rattle.std.proofs.lemmas.Bool.{cases_lt, eq-eqb, eqb-true, eqb-false}
 use Rattle.std.proofs.lemmas.List.Elements.{All-nil, All-cons}
@@ -12,6 +13,7 @@ use Rattle.desk_access.specs.History.{Was}
 use Rattle.spool_desk.specs.Alone.{AloneView}
 use Rattle.desk_access.specs.Journal.{own_then, goes_parts}
 use Rattle.desk_access.specs.Legal.{May, Met, IsStored, AddsGroups, IsOfRun, IsLegal}
+use Rattle.desk_access.proofs.Tables.{table_then}
 use Rattle.desk_access.proofs.Nexts.{stored_more}
 use Rattle.desk_access.proofs.Steps.{all_later}
 use Rattle.desk_access.proofs.Since.{keeps_since}
@@ -60,23 +62,27 @@ adds_legal tells start run confirming began log v h m x s groups adds =
 -- ---- a question after ids
 
 -- the record of a call
-record_is : (one : Record) (call : Call) → one.call ≡ call → one ≡ record { by = one.by; call = call; met = one.met; after = one.after; clock = one.clock }
-record_is one call is = λ i. record { by = one.by; call = is i; met = one.met; after = one.after; clock = one.clock }
+record_is : (one : Record) (call : Call) → one.call ≡ call → one ≡ record { by = one.by; call = call; joins = one.joins; met = one.met; after = one.after; clock = one.clock }
+record_is one call is = λ i. record { by = one.by; call = is i; joins = one.joins; met = one.met; after = one.after; clock = one.clock }
 
-seen_asks : (start : DeskState → Type 0) (run seats : ℕ) (v w : Known) (call : Call) (p : Calls start run seats v call w)
-    → w.seen ≡ (v.seen ++ p.between) ++ record { by = p.one.by; call = call; met = p.one.met; after = p.one.after; clock = p.one.clock } ∷ []
-seen_asks start run seats v w call p = p.seen ∙ ap (λ (r : Record). (v.seen ++ p.between) ++ r ∷ []) (record_is p.one call p.of_call)
+seen_last : (start : DeskState → Type 0) (run seats : ℕ) (v w : Known) (call : Call) (p : Calls start run seats v call w) → p.behind ≡ [] → w.seen ≡ (v.seen ++ p.between) ++ p.one ∷ []
+seen_last start run seats v w call p none = p.seen ∙ ap (λ (l : List Record). ((v.seen ++ p.between) ++ p.one ∷ []) ++ l) none ∙ append-nil ((v.seen ++ p.between) ++ p.one ∷ [])
+
+seen_asks : (start : DeskState → Type 0) (run seats : ℕ) (v w : Known) (call : Call) (p : Calls start run seats v call w) → p.behind ≡ []
+    → w.seen ≡ (v.seen ++ p.between) ++ record { by = p.one.by; call = call; joins = p.one.joins; met = p.one.met; after = p.one.after; clock = p.one.clock } ∷ []
+seen_asks start run seats v w call p none = seen_last start run seats v w call p none ∙ ap (λ (r : Record). (v.seen ++ p.between) ++ r ∷ []) (record_is p.one call p.of_call)
 
 -- an id that an answer tells true had its group taken before
 pub told_stored : (tells : Type 0) (start : DeskState → Type 0) (run seats : ℕ) (v w : Known) (channel : ℕ) (ids : List ℕ) (known : List Bool) → Calls start run seats v (asks channel ids known) w
     → (x : DeskState) → start x → Begins tells run x → (k : ℕ) → k < length ids → get_or known k false ≡ true → (caller : ℕ) × IsStored (own_of caller w.seen) (get_or ids k 0)
 told_stored tells start run seats v w channel ids known p x s b k lt is =
     let journal = v.seen ++ p.between in
+    let last = seen_last start run seats v w (asks channel ids known) p p.follow in
     let led = p.lawful x s in
-    let goes = subst (λ (l : List Record). Goes x l led.0) (seen_asks start run seats v w (asks channel ids known) p) led.1 in
-    let met = met_first run (seats - 1) [] journal (p.one ∷ []) (subst (Met run (seats - 1) []) p.seen p.met) in
-    let found = told_was_taken x led.0 journal (seats - 1) p.one.by channel ids known p.one.met p.one.after p.one.clock k b.rules b.none_held goes (subst (λ (r : ℕ). Met r (seats - 1) [] journal) (sym b.of_run) met) lt is in
-    let own : own_of found.0 w.seen ≡ own_of found.0 journal ++ own_of found.0 (p.one ∷ []) = ap (own_of found.0) p.seen ∙ own_then found.0 journal (p.one ∷ []) in
+    let goes = subst (λ (l : List Record). Goes x l led.0) (seen_asks start run seats v w (asks channel ids known) p p.follow) led.1 in
+    let met = met_first run (seats - 1) [] journal (p.one ∷ []) (subst (Met run (seats - 1) []) last p.met) in
+    let found = told_was_taken x led.0 journal (seats - 1) p.one.by channel ids known p.one.joins p.one.met p.one.after p.one.clock k b.rules b.none_held goes (subst (λ (r : ℕ). Met r (seats - 1) [] journal) (sym b.of_run) met) lt is in
+    let own : own_of found.0 w.seen ≡ own_of found.0 journal ++ own_of found.0 (p.one ∷ []) = ap (own_of found.0) last ∙ own_then found.0 journal (p.one ∷ []) in
     (found.0, subst (λ (l : List Call). IsStored l (get_or ids k 0)) (sym own) (stored_more (own_of found.0 journal) (own_of found.0 (p.one ∷ [])) (get_or ids k 0) found.1))
 
 -- and the answer is that of the table at the call
@@ -85,10 +91,10 @@ pub asked_held : (start : DeskState → Type 0) (run seats : ℕ) (v w : Known) 
 asked_held start run seats v w channel ids known p x s =
     let journal = v.seen ++ p.between in
     let led = p.lawful x s in
-    let one : Record = record { by = p.one.by; call = asks channel ids known; met = p.one.met; after = p.one.after; clock = p.one.clock } in
-    let is : w.seen ≡ journal ++ one ∷ [] = seen_asks start run seats v w (asks channel ids known) p in
+    let one : Record = record { by = p.one.by; call = asks channel ids known; joins = p.one.joins; met = p.one.met; after = p.one.after; clock = p.one.clock } in
+    let is : w.seen ≡ journal ++ one ∷ [] = seen_asks start run seats v w (asks channel ids known) p p.follow in
     let parts = goes_parts x led.0 journal (one ∷ []) (subst (λ (l : List Record). Goes x l led.0) is led.1) in
-    record { before = journal; one = one; seen = is; at = parts.0; goes = parts.1; held = parts.2.1.answers.1.0 }
+    record { before = journal; one = one; seen = is; at = parts.0; goes = parts.1; held = (table_then parts.0 parts.2.0 one parts.2.1).0 }
 
 -- what each caller added is its own
 pub each_own : (tells : Type 0) (start : DeskState → Type 0) (run confirming : ℕ) (began : Moment) (log : List Record) (v : AloneView) → Replays tells start run began log v → Met run confirming [] log

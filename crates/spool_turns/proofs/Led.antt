@@ -1,6 +1,6 @@
 -- A journal that goes on by a call of one caller.
 use Rattle.std.proofs.Common.{◌≡◌, inl, inr, ℕ, ◌+◌, ◌≤◌, List, [], ◌∷◌, ◌++◌, refl, sym, ◌∙◌, ap, subst, arith}
-use Rattle.std.specs.Prelude.{Option}
+use Rattle.std.specs.Prelude.{Option, false}
 use Rattle.std.proofs.lemmas.Grind.{common_steps}
 use Rattle.foundation.specs.Faults.{Rose}
 use Rattle.spool_state.specs.SpoolState.{end}
@@ -9,10 +9,10 @@ use Rattle.edge_disk.proofs.Moments.{started, both, weaker}
 use Rattle.spool_log.specs.State.{View, IsIn}
 use Rattle.hec_ids.specs.Table.{Table}
 use Rattle.desk_access.specs.declared.standing.Standing.{Standing}
-use Rattle.desk_access.specs.Call.{Record, calls_of, failures_of}
+use Rattle.desk_access.specs.Call.{Record, NoneJoins, failed_of}
 use Rattle.desk_access.specs.Desk.{DeskState, Goes, StandsWithin, Stood}
 use Rattle.spool_desk.specs.Alone.{AloneView, alone_view, IsAt, LeadsFrom, RunsTo, HasSeen}
-use Rattle.desk_access.specs.Journal.{goes_then, calls_then, failures_then, rose_then, stood_first, stood_later, stood_here}
+use Rattle.desk_access.specs.Journal.{goes_then, failed_then, rose_then, stood_first, stood_later, stood_here}
 use Rattle.desk_access.specs.Since.{EachSince, since_none, since_one, since_then}
 use Rattle.spool_turns.specs.Rules.{made_by}
 use Rattle.spool_turns.specs.Replays.{BeganAt, Begins, LeadsBy, Replays, IsExact}
@@ -56,8 +56,14 @@ from_then P began m new is l = record {
   before = λ t c le since. elim (l.before t c (omega (arith, is.clock, le)) since) [ inl old ↦ inl (is.since t c old) | inr h ↦ inr h ];
 }
 
-failures_both : (first more : List Record) → failures_of (calls_of (first ++ more)) ≡ failures_of (calls_of first) + failures_of (calls_of more)
-failures_both first more = ap failures_of (calls_then first more) ∙ failures_then (calls_of first) (calls_of more)
+-- another caller's record failed as often
+failed_made : (n : ℕ) (log : List Record) (one : Record) → failed_of (log ++ made_by n one ∷ []) ≡ failed_of log + failed_of (one ∷ [])
+failed_made n log one = failed_then log (made_by n one ∷ [])
+
+-- nor was another caller's stored as one group with the one before it
+none_made : (n : ℕ) (log : List Record) (one : Record) → NoneJoins log → one.joins ≡ false → NoneJoins (log ++ made_by n one ∷ [])
+none_made n [] one none alone = (alone, tt)
+none_made n (first ∷ log) one none alone = (none.0, none_made n log one none.1 alone)
 
 rose_zero : (a b : ℕ) → a ≤ b → Rose 0 a b
 rose_zero a b le = grind (arith, common_steps)
@@ -78,6 +84,7 @@ replays_none tells start run began v lawful is begins at = record {
   cause = rose_zero began.faults v.spool.moment.faults (omega (arith, is.faults));
   quiet = λ none. sym is.faults;
   size = sym is.size;
+  alone = tt;
 }
 
 -- no call leads from the one moment to the other
@@ -85,7 +92,7 @@ pub stays : (tells : Type 0) (a b : AloneView) → RunsTo tells a [] b → (x : 
 stays tells a b r x told at = let p = r.leads x told at in subst (λ (y : DeskState). IsAt y b) p.goes p.reached
 
 module _ (tells : Type 0) (start : DeskState → Type 0) (run : ℕ) (began : Moment) (n : ℕ) (b c : AloneView) (log : List Record) (one : Record)
-    (lawful : tells → IsLawful c.spool.moment) (answered : one.clock ≡ c.spool.moment.clock) where
+    (lawful : tells → IsLawful c.spool.moment) (answered : one.clock ≡ c.spool.moment.clock) (alone : one.joins ≡ false) where
   led : tells → (x : DeskState) (p : LeadsBy x began log b) → LeadsFrom p.after b (one ∷ []) c → LeadsBy x began (log ++ made_by n one ∷ []) c
   led told x p q =
       let goes = goes_renumbered n p.after q.after (one ∷ []) q.goes in
@@ -107,10 +114,11 @@ module _ (tells : Type 0) (start : DeskState → Type 0) (run : ℕ) (began : Mo
     begins = h.begins;
     leads = λ x s. let p = h.leads x s in let told = (h.begins x s).told in led told x p (r.leads p.after told p.reached);
     later = omega (arith, h.later, r.later);
-    cause = subst (λ (k : ℕ). Rose k began.faults c.spool.moment.faults) (sym (failures_both log (made_by n one ∷ [])))
-        (rose_then (failures_of (calls_of log)) (failures_of (one.call ∷ [])) began.faults b.spool.moment.faults c.spool.moment.faults h.cause r.cause h.later r.later);
-    quiet = λ none. r.quiet (omega (arith, none, failures_both log (made_by n one ∷ []))) ∙ h.quiet (omega (arith, none, failures_both log (made_by n one ∷ [])));
+    cause = subst (λ (k : ℕ). Rose k began.faults c.spool.moment.faults) (sym (failed_made n log one))
+        (rose_then (failed_of log) (failed_of (one ∷ [])) began.faults b.spool.moment.faults c.spool.moment.faults h.cause r.cause h.later r.later);
+    quiet = λ none. r.quiet (omega (arith, none, failed_made n log one)) ∙ h.quiet (omega (arith, none, failed_made n log one));
     size = r.size ∙ h.size;
+    alone = none_made n log one h.alone alone;
   }
 
 -- ---- the words of the end and the cursor
@@ -159,7 +167,8 @@ replays_less tells start run began log v w spool ids no_end no_cursor h = record
     since = subst (λ (s : View). EachSince x log p.after s.moment) (sym spool) p.since;
   };
   later = subst (λ (s : View). began.faults ≤ s.moment.faults) (sym spool) h.later;
-  cause = subst (λ (s : View). Rose (failures_of (calls_of log)) began.faults s.moment.faults) (sym spool) h.cause;
-  quiet = subst (λ (s : View). failures_of (calls_of log) ≡ 0 → s.moment.faults ≡ began.faults) (sym spool) h.quiet;
+  cause = subst (λ (s : View). Rose (failed_of log) began.faults s.moment.faults) (sym spool) h.cause;
+  quiet = subst (λ (s : View). failed_of log ≡ 0 → s.moment.faults ≡ began.faults) (sym spool) h.quiet;
   size = subst (λ (s : View). s.moment.size ≡ began.size) (sym spool) h.size;
+  alone = h.alone;
 }

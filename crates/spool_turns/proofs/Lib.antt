@@ -7,3 +7,4 @@ pub mod OwnParts
 pub mod Issuing
 pub mod Lists
 pub mod Closing
+pub mod Fronts

@@ -14,7 +14,7 @@ use Rattle.desk_access.specs.History.{IsDesk, written_by}
 use Rattle.desk_access.specs.Journal.{own_then}
 use Rattle.desk_access.specs.Legal.{IsNext, IsIssuedBy, IsUnused, May, Met, AddsGroups, all_of, of_conn, AreOfOthers, AreOneGroup, IsLegal}
 use Rattle.desk_access.proofs.Taking.{all_of_conn}
-use Rattle.desk_access.proofs.Tables.{table_after}
+use Rattle.desk_access.proofs.Tables.{table_then}
 use Rattle.desk_access.proofs.Added.{AllWritten, added_all, written_all, groups_all}
 use Rattle.desk_access.proofs.Issued.{IsIssued, issued_of, AreIssued, none_issued, issued_then}
 use Rattle.spool_turns.specs.OwnEntries.{groups_by, AddsOwn}
@@ -157,7 +157,7 @@ pub issued_all : (run : ℕ) (records log : List Record) (x y : DeskState) → A
 issued_all run records [] x y are goes =
     subst (λ (l : List Record). AreIssued run l y.ids) (sym (append-nil records)) (subst (λ (d : DeskState). AreIssued run records d.ids) (sym goes) are)
 issued_all run records (one ∷ log) x y are goes =
-    let row = table_after x goes.0 one.call one.met goes.1.answers in
+    let row = table_then x goes.0 one goes.1 in
     subst (λ (l : List Record). AreIssued run l y.ids) (append_assoc records (one ∷ []) log)
     (issued_all run (records ++ one ∷ []) log goes.0 y (issued_then run records one x.ids goes.0.ids are row) goes.2)
 

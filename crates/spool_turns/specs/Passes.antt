@@ -1,5 +1,5 @@
 -- What a caller of the shared desk knows.
-use Rattle.std.specs.Prelude.{◌≡◌, ℕ, zero, suc, ◌-◌, ◌≤◌, ◌==◌, if◌then◌else◌, Bool, List, [], ◌∷◌, ◌++◌, map, Option, None, Some}
+use Rattle.std.specs.Prelude.{◌≡◌, ℕ, zero, suc, ◌-◌, ◌≤◌, ◌==◌, if◌then◌else◌, Bool, false, List, [], ◌∷◌, ◌++◌, map, Option, None, Some}
 use mathlib.Core.List.{IsPrefix}
 use Rattle.atomic_table.specs.Table.{Me}
 use Rattle.atomic_table.specs.Seated.{TableId}
@@ -10,7 +10,7 @@ use Rattle.desk_access.specs.Call.{Call, Record, own_of}
 use Rattle.desk_access.specs.Desk.{DeskState, Goes}
 use Rattle.desk_access.specs.Legal.{Met}
 use Rattle.spool_desk.specs.Alone.{AloneView}
-use Rattle.spool_turns.specs.Rules.{View, Locked, Pass, Facts, facts, PassView, pass_view}
+use Rattle.spool_turns.specs.Rules.{View, Locked, Pass, Claim, Handed, Facts, facts, PassView, pass_view}
 
 -- the name of no table, and a moment of no disk
 abbrev pub no_table : TableId
@@ -21,7 +21,7 @@ no_moment = record { size = 0; reads = []; image = λ c. ⊥; clock = 0; image_s
 
 -- what a view holds
 abbrev pub no_pass : PassView
-no_pass = pass_view 0 [] [] [] 0 0
+no_pass = pass_view 0 [] [] [] 0 0 None
 
 abbrev pub pass_in : View → PassView
 pass_in (Pass m) = m
@@ -54,6 +54,24 @@ IsPass me = me ≡ pass_of (pass_in me.0)
 
 abbrev pub IsLocked : Me ℕ View → Type 0
 IsLocked me = me ≡ locked_of (facts_in me.0)
+
+-- the seat of a pass that is out: the claim to it
+abbrev pub claim_at : ℕ → Handed → Me ℕ View
+claim_at number h = (Claim number h, [])
+
+abbrev pub number_in : View → ℕ
+number_in (Claim number h) = number
+number_in _ = 0
+
+abbrev pub no_handed : Handed
+no_handed = record { seen = []; own = []; end_known = 0; cursor_known = 0; entries = []; front = false }
+
+abbrev pub handed_in : View → Handed
+handed_in (Claim number h) = h
+handed_in _ = no_handed
+
+abbrev pub IsClaim : Me ℕ View → Type 0
+IsClaim me = me ≡ claim_at (number_in me.0) (handed_in me.0)
 
 abbrev pub IsCalling : Me ℕ View → Type 0
 IsCalling me = me ≡ calling_of (facts_in me.0) (caller_in me.0)
@@ -92,6 +110,10 @@ pub record Sound (start : DeskState → Type 0) (m : PassView) : Type 0 where
   pub own : own_of m.number m.seen ≡ m.own
   pub lawful : (x : DeskState) → start x → LeadsBelow x m.seen m.end_known m.cursor_known
 
+-- What the caller has seen behind the record of its call: nothing, since no calls of others are made with it in one change.
+abbrev pub MayFollow : Call → List Record → Type 0
+MayFollow call behind = behind ≡ []
+
 -- The journal after a call begins with all that the caller had seen, and its last record is the call's own. It is lawful,
 -- each of its calls is one that its caller might make, the caller's own calls are all that it has of its number, and the end and
 -- the cursor after it are no less than what the caller had loaded.
@@ -101,7 +123,10 @@ pub record Calls (start : DeskState → Type 0) (run seats : ℕ) (v : Known) (c
   pub one : Record
   pub by : one.by ≡ v.number
   pub of_call : one.call ≡ call
-  pub seen : w.seen ≡ (v.seen ++ between) ++ one ∷ []
+  pub behind : List Record
+  pub follow : MayFollow call behind
+  pub others_behind : own_of v.number behind ≡ []
+  pub seen : w.seen ≡ ((v.seen ++ between) ++ one ∷ []) ++ behind
   pub own : w.own ≡ v.own ++ call ∷ []
   pub number : w.number ≡ v.number
   pub all : own_of w.number w.seen ≡ w.own
@@ -109,6 +134,7 @@ pub record Calls (start : DeskState → Type 0) (run seats : ℕ) (v : Known) (c
   pub end_known : v.end_known ≤ w.end_known
   pub cursor_known : v.cursor_known ≤ w.cursor_known
   pub lawful : (x : DeskState) → start x → LeadsAbove x w.seen v.end_known v.cursor_known
+  pub own_lawful : (x : DeskState) → start x → LeadsAbove x ((v.seen ++ between) ++ one ∷ []) v.end_known v.cursor_known
 
 -- Before its last record the journal led to a desk at which the channel held just those of the ids settled that the answer says.
 pub record IsAsked (x : DeskState) (channel : ℕ) (ids : List ℕ) (answer : List Bool) (log : List Record) : Type 0 where

@@ -108,19 +108,27 @@ more_real start b c calls (call ∷ more) P q first second some = second (omega 
 -- one call
 pub ran_one : (start : DeskState → Type 0) (run seats : ℕ) (a : Known) (call : Call) (b : Known) → Calls start run seats a call b → Ran start a (call ∷ []) b
 ran_one start run seats a call b p = record {
-  between = p.between ++ p.one ∷ [];
-  seen = p.seen ∙ append_assoc a.seen p.between (p.one ∷ []);
-  own_between = own_of-snoc a.number p.between p.one p.by ∙ (λ k. p.others k ++ p.of_call k ∷ []);
+  between = (p.between ++ p.one ∷ []) ++ p.behind;
+  seen = p.seen ∙ ap (λ (l : List Record). l ++ p.behind) (append_assoc a.seen p.between (p.one ∷ [])) ∙ append_assoc a.seen (p.between ++ p.one ∷ []) p.behind;
+  own_between = own_then a.number (p.between ++ p.one ∷ []) p.behind ∙ (λ k. here k ++ p.others_behind k) ∙ append-nil (call ∷ []);
   own = p.own;
   number = p.number;
   end_known = p.end_known;
   cursor_known = p.cursor_known;
   quiet = λ none. absurd (omega arith);
   lawful = λ some. p.lawful;
-  first_lawful = λ some x s. subst (λ (l : List Record). LeadsAbove x l a.end_known a.cursor_known)
-      (p.seen ∙ append_assoc a.seen p.between (p.one ∷ []) ∙ ap (λ (l : List Record). a.seen ++ l) (sym (upto_first-none a.number p.between (p.one ∷ []) p.others ∙ ap (λ (l : List Record). p.between ++ l) (upto_first-one a.number p.one p.by))))
-      (p.lawful x s);
+  first_lawful = λ some x s. subst (λ (l : List Record). LeadsAbove x l a.end_known a.cursor_known) first (p.own_lawful x s);
 }
+  where
+    here : own_of a.number (p.between ++ p.one ∷ []) ≡ call ∷ []
+    here = own_of-snoc a.number p.between p.one p.by ∙ (λ k. p.others k ++ p.of_call k ∷ [])
+
+    first : (a.seen ++ p.between) ++ p.one ∷ [] ≡ a.seen ++ upto_first a.number ((p.between ++ p.one ∷ []) ++ p.behind)
+    first =
+        append_assoc a.seen p.between (p.one ∷ [])
+        ∙ ap (λ (l : List Record). a.seen ++ l)
+        (sym (upto_first-some a.number (p.between ++ p.one ∷ []) p.behind (omega (arith, ap (λ (l : List Call). length l) here))
+        ∙ upto_first-none a.number p.between (p.one ∷ []) p.others ∙ ap (λ (l : List Record). p.between ++ l) (upto_first-one a.number p.one p.by)))
 
 -- a word loaded
 pub ran_loaded : (start : DeskState → Type 0) (a b : Known) → b.number ≡ a.number → b.seen ≡ a.seen → b.own ≡ a.own → a.end_known ≤ b.end_known

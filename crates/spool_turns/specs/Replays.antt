@@ -7,7 +7,7 @@ use Rattle.edge_disk.specs.declared.disk.Disk.{Ghosts}
 use Rattle.edge_disk.specs.Disk.{Moment, LeavesOnly}
 use Rattle.spool_log.specs.State.{view}
 use Rattle.spool_desk.specs.declared.desk.Desk.{Desk}
-use Rattle.desk_access.specs.Call.{Call, Record, own_of, calls_of, failures_of}
+use Rattle.desk_access.specs.Call.{Call, Record, NoneJoins, own_of, calls_of, failed_of}
 use Rattle.desk_access.specs.Desk.{DeskState, Goes, Stood}
 use Rattle.desk_access.specs.Durable.{KeepsSince}
 use Rattle.desk_access.specs.History.{IsDesk, Was}
@@ -49,9 +49,11 @@ pub record Replays (tells : Type 0) (start : DeskState → Type 0) (run : ℕ) (
   pub begins : (x : DeskState) → start x → Begins tells run x
   pub leads : (x : DeskState) → start x → LeadsBy x began log new
   pub later : began.faults ≤ new.spool.moment.faults
-  pub cause : Rose (failures_of (calls_of log)) began.faults new.spool.moment.faults
-  pub quiet : failures_of (calls_of log) ≡ 0 → new.spool.moment.faults ≡ began.faults
+  pub cause : Rose (failed_of log) began.faults new.spool.moment.faults
+  pub quiet : failed_of log ≡ 0 → new.spool.moment.faults ≡ began.faults
   pub size : new.spool.moment.size ≡ began.size
+  -- no take was stored as one group with that of another caller
+  pub alone : NoneJoins log
 
 -- The journal was really made: each of its calls is one that its caller might make, and there is a desk to which it led. Where the type
 -- of disk is left open, such a desk can only be one that the program had.

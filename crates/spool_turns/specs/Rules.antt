@@ -1,13 +1,23 @@
 -- The rule of the table of seats, and what its steps change and tell.
-use Rattle.std.specs.Prelude.{◌≡◌, ℕ, ◌+◌, ◌^◌, ◌<◌, ◌≤◌, List, [], ◌∷◌, ◌++◌, length, Option, Some, None, if◌then◌else◌, max, nat_lt}
+use Rattle.std.specs.Prelude.{◌≡◌, ℕ, ◌+◌, ◌^◌, ◌<◌, ◌≤◌, List, [], ◌∷◌, ◌++◌, length, Bool, Option, Some, None, if◌then◌else◌, max, nat_lt}
 use mathlib.Core.Option.{some}
 use lib.ListN.{get_elem?}
 use mathlib.Core.List.{IsPrefix}
 use Rattle.atomic_table.specs.Table.{Me}
+use Rattle.event_form.specs.declared.event.Entry.{Entry}
 use Rattle.desk_access.specs.Call.{Call, Record, own_of}
 
+-- What a pass knew when it handed in its entries, the entries, and whether the first of them may be taken alone.
+pub record Handed : Type 0 where
+  pub seen : List Record
+  pub own : List Call
+  pub end_known : ℕ
+  pub cursor_known : ℕ
+  pub entries : List Entry
+  pub front : Bool
+
 -- What a pass knows: its number, the journal that it has seen, its own calls, another journal that it was given to compare,
--- and the greatest end and cursor that it loaded.
+-- the greatest end and cursor that it loaded, and where it is out with entries, what was handed in.
 pub record PassView : Type 0 where
   pub number : ℕ
   pub seen : List Record
@@ -15,10 +25,11 @@ pub record PassView : Type 0 where
   pub also : List Record
   pub end_known : ℕ
   pub cursor_known : ℕ
+  pub out : Option Handed
 
-abbrev pub pass_view : ℕ → List Record → List Call → List Record → ℕ → ℕ → PassView
-pass_view number seen own also end_known cursor_known =
-    record { number = number; seen = seen; own = own; also = also; end_known = end_known; cursor_known = cursor_known }
+abbrev pub pass_view : ℕ → List Record → List Call → List Record → ℕ → ℕ → Option Handed → PassView
+pass_view number seen own also end_known cursor_known out =
+    record { number = number; seen = seen; own = own; also = also; end_known = end_known; cursor_known = cursor_known; out = out }
 
 -- how many passes were made, the journal, and the words of the end and the cursor
 pub record Facts : Type 0 where
@@ -36,11 +47,14 @@ pub data View : Type 0 where
   Locked : Facts → Option PassView → View
   Pass : PassView → View
   Copy : PassView → View
+  -- the claim to the pass of that number, which is out with what was handed in; and the pass that came back to its claim
+  Claim : ℕ → Handed → View
+  Returned : Handed → PassView → View
   Spent : View
 
 -- the record of a call, as one of the caller of that number
 abbrev pub made_by : ℕ → Record → Record
-made_by number one = record { by = number; call = one.call; met = one.met; after = one.after; clock = one.clock }
+made_by number one = record { by = number; call = one.call; joins = one.joins; met = one.met; after = one.after; clock = one.clock }
 
 -- What a pass knows is right: it has seen a beginning of the journal, its own calls are all that the journal has of its
 -- number, and the words are no less than what it loaded.
@@ -59,20 +73,28 @@ pub record Saw (f : Facts) (m : PassView) : Type 0 where
   pub end_known : m.end_known ≤ f.end
   pub cursor_known : m.cursor_known ≤ f.cursor
 
--- the seat under the lock, the seat that has each number, and the facts
+-- the seat under the lock, the seat that has each number, what each number is out with and the seat of its claim, and the facts
 pub record Whole : Type 0 where
   pub seat : ℕ
   pub who : ℕ → ℕ
+  pub out : ℕ → Option Handed
+  pub claim : ℕ → ℕ
   pub now : Facts
+
+-- the pass of a number is out with that, or isn't out
+abbrev pub IsOut : Whole → PassView → Type 0
+IsOut g m = g.out m.number ≡ m.out
 
 abbrev pub HasCaller : Whole → Option PassView → Type 0
 HasCaller g None = Unit {0}
-HasCaller g (Some m) = (g.who m.number ≡ g.seat) × Knows g.now m
+HasCaller g (Some m) = (g.who m.number ≡ g.seat) × Knows g.now m × IsOut g m
 
 abbrev pub Fits : Whole → ℕ → View → Type 0
 Fits g id (Locked f caller) = (id ≡ g.seat) × (f ≡ g.now) × HasCaller g caller
-Fits g id (Pass m) = (g.who m.number ≡ id) × Knows g.now m
+Fits g id (Pass m) = (g.who m.number ≡ id) × Knows g.now m × IsOut g m
 Fits g id (Copy m) = Saw g.now m
+Fits g id (Claim number h) = (number < g.now.made) × (g.claim number ≡ id) × (g.out number ≡ Some h)
+Fits g id (Returned h m) = (g.who m.number ≡ id) × Knows g.now m × IsOut g m × (g.claim m.number ≡ id) × (g.out m.number ≡ Some h)
 Fits g id Spent = Unit {0}
 
 -- the journal has no record of a number that no pass has
@@ -99,7 +121,7 @@ abbrev pub one_pass_more : Facts → Facts
 one_pass_more f = facts (f.made + 1) f.log f.end f.cursor
 
 abbrev pub new_pass : Facts → PassView
-new_pass f = pass_view f.made f.log [] [] f.end f.cursor
+new_pass f = pass_view f.made f.log [] [] f.end f.cursor None
 
 abbrev pub with_pass : View → View
 with_pass (Locked f caller) = Locked (one_pass_more f) (Some (new_pass f))
@@ -128,7 +150,7 @@ abbrev pub with_record : Facts → Record → Facts
 with_record f one = facts f.made (f.log ++ one ∷ []) f.end f.cursor
 
 abbrev pub after_call : Facts → PassView → Record → PassView
-after_call f m one = pass_view m.number (f.log ++ made_by m.number one ∷ []) (m.own ++ one.call ∷ []) [] f.end f.cursor
+after_call f m one = pass_view m.number (f.log ++ made_by m.number one ∷ []) (m.own ++ one.call ∷ []) [] f.end f.cursor m.out
 
 abbrev pub by_caller : Facts → Record → Option PassView → View
 by_caller f one None = Locked f None
@@ -163,10 +185,10 @@ with_cursor n v = v
 
 -- a pass has loaded the word of the end, or that of the cursor
 abbrev pub knowing_end : ℕ → PassView → PassView
-knowing_end n m = pass_view m.number m.seen m.own m.also n m.cursor_known
+knowing_end n m = pass_view m.number m.seen m.own m.also n m.cursor_known m.out
 
 abbrev pub knowing_cursor : ℕ → PassView → PassView
-knowing_cursor n m = pass_view m.number m.seen m.own m.also m.end_known n
+knowing_cursor n m = pass_view m.number m.seen m.own m.also m.end_known n m.out
 
 abbrev pub end_loaded : ℕ → View → View
 end_loaded n (Pass m) = Pass (knowing_end n m)
@@ -191,7 +213,7 @@ copy_of _ = Spent
 
 -- another pass takes the copy in
 abbrev pub merged : PassView → PassView → PassView
-merged m c = pass_view m.number m.seen m.own c.seen (max m.end_known c.end_known) (max m.cursor_known c.cursor_known)
+merged m c = pass_view m.number m.seen m.own c.seen (max m.end_known c.end_known) (max m.cursor_known c.cursor_known) m.out
 
 abbrev pub merging : View → View → View
 merging (Pass m) (Copy c) = Pass (merged m c)
@@ -202,7 +224,7 @@ abbrev pub longer : List Record → List Record → List Record
 longer xs ys = if nat_lt (length xs) (length ys) then ys else xs
 
 abbrev pub compared_pass : PassView → PassView
-compared_pass m = pass_view m.number (longer m.seen m.also) m.own [] m.end_known m.cursor_known
+compared_pass m = pass_view m.number (longer m.seen m.also) m.own [] m.end_known m.cursor_known m.out
 
 abbrev pub compared : View → View
 compared (Pass m) = Pass (compared_pass m)
@@ -212,7 +234,59 @@ abbrev pub BothSeen : View → Type 0
 BothSeen (Pass m) = IsPrefix m.seen (longer m.seen m.also) × IsPrefix m.also (longer m.seen m.also) × (own_of m.number (longer m.seen m.also) ≡ m.own)
 BothSeen _ = Unit {0}
 
+-- a pass under the lock sees the whole journal, and the words as they are
+abbrev pub caught_up : Facts → PassView → PassView
+caught_up f m = pass_view m.number f.log m.own [] f.end f.cursor m.out
+
+abbrev pub by_seeing : Facts → Option PassView → View
+by_seeing f None = Locked f None
+by_seeing f (Some m) = Locked f (Some (caught_up f m))
+
+abbrev pub all_seen : View → View
+all_seen (Locked f caller) = by_seeing f caller
+all_seen v = v
+
+-- ---- a pass that goes out with entries
+
+abbrev pub handed_by : PassView → List Entry → Bool → Handed
+handed_by m entries front = record { seen = m.seen; own = m.own; end_known = m.end_known; cursor_known = m.cursor_known; entries = entries; front = front }
+
+abbrev pub sent_out : PassView → List Entry → Bool → PassView
+sent_out m entries front = pass_view m.number m.seen m.own m.also m.end_known m.cursor_known (Some (handed_by m entries front))
+
+-- its seat keeps the claim, and another takes its view along
+abbrev pub claim_of : List Entry → Bool → View → View
+claim_of entries front (Pass m) = Claim m.number (handed_by m entries front)
+claim_of entries front v = v
+
+abbrev pub out_of : List Entry → Bool → View → View
+out_of entries front (Pass m) = Pass (sent_out m entries front)
+out_of entries front v = Spent
+
+-- it comes back to the claim, and is out no more
+abbrev pub returning : View → View → View
+returning (Claim number h) (Pass m) = Returned h m
+returning v w = v
+
+abbrev pub back_again : PassView → PassView
+back_again m = pass_view m.number m.seen m.own m.also m.end_known m.cursor_known None
+
+abbrev pub settled : View → View
+settled (Returned h m) = Pass (back_again m)
+settled v = v
+
+-- it is out with what the claim says
+abbrev pub IsClaimed : View → Type 0
+IsClaimed (Returned h m) = m.out ≡ Some h
+IsClaimed _ = Unit {0}
+
+abbrev pub SettlesClaim : Me ℕ View → Me ℕ View → Type 0
+SettlesClaim v w = (w ≡ (settled v.0, v.1)) × IsClaimed v.0
+
 -- what the steps tell
+abbrev pub SeesAll : Me ℕ View → Me ℕ View → Type 0
+SeesAll v w = w ≡ (all_seen v.0, v.1)
+
 abbrev pub Records : Record → Me ℕ View → Me ℕ View → Type 0
 Records one v w = w ≡ (recorded one v.0, v.1)
 

@@ -4,8 +4,9 @@
 //! [`Unnamed::new`] takes a desk, and [`Unnamed::named`] gives it back as [`Shared`] with a [`Pass`] for each
 //! caller. A pass is a token of no bytes: to a contract it is what its caller knows, above all the journal
 //! that it has seen and its own calls. Each call under the lock says by `Calls` what the pass knows after
-//! it: the journal begins with what the pass had seen, and ends with the call's own record. By `IsReal` it says
-//! that a desk stood where this journal led, so that a caller who shows a journal can't have made it up.
+//! it: the journal begins with what the pass had seen, and ends with the call's own record, but for takes that were
+//! made with it. By `IsReal` it says that a desk stood where this journal led, so that a caller who shows a journal
+//! can't have made it up.
 //! [`Shared::close`] gives the desk back as one lawful journal left it, of which all that the passes have seen are
 //! beginnings. [`Seated`] is a pass at its desk, as a caller of [`desk_access::Access`].
 //!

@@ -79,10 +79,10 @@ pub trait Recorded {
 }
 
 impl Recorded for Brand {
-    ghost use Rattle.std.specs.Prelude.{None};
+    ghost use Rattle.std.specs.Prelude.{None, false};
     ghost use Rattle.desk_access.specs.Call.{Record, counts};
 
-    ghost one = { record { by = 0; call = counts 0; met = None; after = record { base = 0; end = 0; cursor = 0; known_count = 0; room = 0 }; clock = 0 } };
+    ghost one = { record { by = 0; call = counts 0; joins = false; met = None; after = record { base = 0; end = 0; cursor = 0; known_count = 0; room = 0 }; clock = 0 } };
 }
 
 /// A record of the caller's call is added to the journal.
@@ -94,6 +94,66 @@ impl<C: Recorded> Play<u64, View> for Records<C> {
     ghost use Rattle.spool_turns.specs.Rules.{Records};
 
     ghost then = { λ s v n w. Records C.one v w };
+}
+
+/// A pass under the lock sees the whole journal.
+pub struct SeesAll;
+
+impl Play<u64, View> for SeesAll {
+    ghost use Rattle.spool_turns.specs.Rules.{SeesAll};
+
+    ghost then = { λ s v n w. SeesAll v w };
+}
+
+/// The entries that a pass hands in, and whether the first of them may be taken alone. Each call picks them.
+pub trait HandedIn {
+    ghost use Rattle.std.specs.Prelude.{List, Bool};
+    ghost use Rattle.event_form.specs.declared.event.Entry.{Entry};
+
+    ghost entries: { List Entry };
+
+    ghost front: { Bool };
+}
+
+impl HandedIn for Brand {
+    ghost use Rattle.std.specs.Prelude.{[], false};
+
+    ghost entries = { [] };
+
+    ghost front = { false };
+}
+
+/// A pass goes out with entries: its seat keeps a claim to it, and another seat takes its view along.
+pub struct SendsOut<E: HandedIn> {
+    of: PhantomData<E>,
+}
+
+impl<E: HandedIn> Split<View> for SendsOut<E> {
+    ghost use Rattle.spool_turns.specs.Rules.{claim_of, out_of};
+
+    ghost left = { λ v. claim_of E.entries E.front v };
+
+    ghost right = { λ v. out_of E.entries E.front v };
+}
+
+/// A pass comes back to its claim.
+pub struct TakesBack;
+
+impl Join<View> for TakesBack {
+    ghost use Rattle.spool_turns.specs.Rules.{Spent, returning};
+
+    ghost both = { returning };
+
+    ghost spent = { Spent };
+}
+
+/// A pass that came back learns that it was out with what its claim says.
+pub struct SettlesClaim;
+
+impl Play<u64, View> for SettlesClaim {
+    ghost use Rattle.spool_turns.specs.Rules.{SettlesClaim};
+
+    ghost then = { λ s v n w. SettlesClaim v w };
 }
 
 /// A new pass is made.

@@ -2,7 +2,7 @@
 use crate::naming::Naming;
 use crate::pass::Pass;
 use crate::shared::Shared;
-use desk_access::Access;
+use desk_access::{Access, Front};
 use edge_disk::Disk;
 use event_form::Entry;
 use hec_ids::IssueFault;
@@ -64,6 +64,10 @@ impl<'a, D: Disk, J: Naming, R: Wait> Access for Seated<'a, D, J, R> {
 
     fn take(&mut self, entries: &[Entry]) -> Result<Receipt, TakeFault> {
         self.shared.take(self.rt, &mut self.pass, entries)
+    }
+
+    fn take_front(&mut self, entries: Vec<Entry>) -> Front {
+        self.shared.take_front(self.rt, &mut self.pass, entries)
     }
 
     fn pending(&mut self, from: u64, most: u32) -> Result<Vec<Numbered>, PendFault> {

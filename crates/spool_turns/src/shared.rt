@@ -1,5 +1,5 @@
 //! The desk that threads share.
-ghost use Rattle.std.specs.Prelude.{◌≡◌, ◌+◌, ◌^◌, ◌<◌, ◌≤◌, nat_eq, ℕ, List, true, false, length, get_or, max, All, IfOk};
+ghost use Rattle.std.specs.Prelude.{◌≡◌, ◌+◌, ◌^◌, ◌<◌, ◌≤◌, nat_eq, ℕ, List, true, false, length, take, get_or, max, All, IfOk, IfErr};
 ghost use Rattle.std.specs.List.{IsDistinct};
 ghost use mathlib.Core.List.{IsPrefix};
 ghost use Rattle.known_numbers.specs.Numbers.{IsInSome};
@@ -7,7 +7,8 @@ ghost use Rattle.event_form.specs.Entry.{IsEntry};
 ghost use Rattle.spool_answers.specs.Mark.{EndsBy};
 ghost use Rattle.spool_answers.specs.Pend.{AreNumbered};
 ghost use Rattle.desk_access.specs.Call.{Record, takes, pends, confirms, marks, counts, issues, settles, forgets, asks, listed, own_of};
-ghost use Rattle.desk_access.specs.Batch.{MayTake, MayUse};
+ghost use Rattle.spool_answers.specs.Take.{IsRefusal};
+ghost use Rattle.desk_access.specs.Batch.{MayTake, MayUse, IsPlain};
 ghost use Rattle.desk_access.specs.Desk.{DeskState};
 ghost use Rattle.desk_access.specs.Legal.{IsNext, IsUnused, IsStored};
 ghost use Rattle.spool_turns.specs.Passes.{Calls, IsAsked, LeadsBelow};
@@ -17,6 +18,7 @@ use crate::naming::Naming;
 use crate::pass::Pass;
 use crate::rule::SeatTable;
 use crate::turn::Turn;
+use desk_access::Front;
 use edge_disk::Disk;
 use event_form::Entry;
 use hec_ids::IssueFault;
@@ -60,6 +62,33 @@ impl<D: Disk, J: Naming> Shared<D, J> {
         ensures receipt { IfOk result (λ receipt. (receipt.count ≡ length entries.now) × (receipt.first + receipt.count ≤ 2 ^ 63)) }
     {
         self.turn.lock(rt).take(&self.table.shared, pass, entries)
+    }
+
+    /// Takes a front of the entries as one group: as many as the active slot has room for, and the first one at least. They are of
+    /// one connection of this pass, of which they are the next ones, and no entry's unit is an id.
+    pub fn take_front<R: Wait>(&self, rt: &R, pass: &mut Pass<J>, entries: Vec<Entry>) -> Front
+        requires some { 0 < length entries.items }
+        requires few { length entries.items < 2 ^ 32 }
+        requires limits { All IsEntry entries.items }
+        requires next { MayTake (IsNext J.run pass.old.number pass.old.own) entries.items }
+        requires plain { All IsPlain entries.items }
+
+        ensures call { Calls J.start J.run J.seats pass.old (takes (take result.count entries.items) result.answer) pass.new }
+        ensures real { IsReal ⟦<D as Disk>⟧ J.start J.run J.seats J.began pass.new.seen }
+        ensures same { result.entries.items ≡ entries.items }
+        ensures front { (0 < result.count) × (result.count ≤ length entries.items) }
+        ensures receipt { IfOk result.answer (λ receipt. (receipt.count ≡ result.count) × (receipt.first + receipt.count ≤ 2 ^ 63)) }
+        ensures alone { IfErr result.answer (λ fault. IsRefusal fault → result.count ≡ 1) }
+    {
+        let (count, answer) = self
+            .turn
+            .lock(rt)
+            .take_front(&self.table.shared, pass, &entries);
+        Front {
+            entries,
+            count,
+            answer,
+        }
     }
 
     /// The first `most` of the entries with numbers from `from` that aren't known as confirmed, each with its number.

@@ -1,19 +1,22 @@
 //! What a call does to the seat under the lock and to the caller's.
-ghost use Rattle.std.specs.Prelude.{◌≡◌, ◌+◌, ◌^◌, ◌<◌, ◌≤◌, []};
+ghost use Rattle.std.specs.Prelude.{◌≡◌, ◌+◌, ◌^◌, ◌<◌, ◌≤◌, [], None, Some};
 ghost use mathlib.Core.List.{IsPrefix};
 ghost use Rattle.desk_access.specs.Call.{Call, own_of};
 ghost use Rattle.spool_desk.specs.Alone.{alone_at, record_of, RunsTo};
 ghost use Rattle.spool_turns.specs.Rules.{Knows, Fresh, made_by, after_call, with_record, one_pass_more, new_pass};
+ghost use Rattle.spool_turns.specs.Rules.{handed_by, sent_out, back_again};
+ghost use Rattle.spool_turns.specs.Passes.{claim_at, IsClaim, number_in, handed_in};
 ghost use Rattle.spool_turns.specs.Rules.{end_at, cursor_at, merged, compared_pass, knowing_end, knowing_cursor};
 ghost use Rattle.spool_turns.specs.Passes.{IsLocked, IsCalling, IsPass, locked_of, calling_of, pass_of, facts_in, caller_in, pass_in};
 ghost use Rattle.spool_turns.specs.Replays.{IsExact};
 
 use crate::rule::{
-    Admits, Compares, HandsOver, Learns, LoadsCursor, LoadsEnd, MakesPass, Merges, PassSeat,
-    Recorded, Records, Steps, WritesCursor, WritesEnd,
+    Admits, Compares, HandedIn, HandsOver, Learns, LoadsCursor, LoadsEnd, MakesPass, Merges,
+    PassSeat, Recorded, Records, SendsOut, SettlesClaim, Steps, TakesBack, WritesCursor, WritesEnd,
 };
 use desk_access::Access;
 use edge_disk::Disk;
+use event_form::Entry;
 use spool_desk::Alone;
 
 /// Makes a new pass, with this number.
@@ -121,6 +124,38 @@ pub(crate) fn merge(steps: &Steps, seat: &mut PassSeat, other: &mut PassSeat)
     let copy = steps.split_seat::<Merges>(other);
     steps.join_seat::<Merges>(seat, copy);
     steps.load::<Compares>(seat, 0);
+}
+
+/// A pass goes out with these entries: its seat keeps the claim.
+pub(crate) fn send_out<E: HandedIn>(
+    steps: &Steps,
+    seat: &mut PassSeat,
+    _entries: &[Entry],
+    _front: bool,
+) -> PassSeat
+    requires tables { (seat.old.table_id ≡ steps.now.table_id) × (steps.now.table_id.words ≡ 4) }
+    requires view { IsPass seat.old.me }
+    requires stays { (pass_in seat.old.me.0).out ≡ None }
+
+    ensures tables { (seat.new.table_id ≡ seat.old.table_id) × (result.table_id ≡ seat.old.table_id) }
+    ensures claim { seat.new.me ≡ claim_at (pass_in seat.old.me.0).number (handed_by (pass_in seat.old.me.0) E.entries E.front) }
+    ensures out { result.me ≡ pass_of (sent_out (pass_in seat.old.me.0) E.entries E.front) }
+{
+    steps.split_seat::<SendsOut<E>>(seat)
+}
+
+/// The pass of the claim's number comes back to it, and was out with what the claim says.
+pub(crate) fn take_back(steps: &Steps, seat: &mut PassSeat, out: PassSeat)
+    requires tables { (seat.old.table_id ≡ steps.now.table_id) × (out.table_id ≡ steps.now.table_id) × (steps.now.table_id.words ≡ 4) }
+    requires views { IsClaim seat.old.me × IsPass out.me }
+    requires number { (pass_in out.me.0).number ≡ number_in seat.old.me.0 }
+
+    ensures table { seat.new.table_id ≡ seat.old.table_id }
+    ensures back { seat.new.me ≡ pass_of (back_again (pass_in out.me.0)) }
+    ensures was { (pass_in out.me.0).out ≡ Some (handed_in seat.old.me.0) }
+{
+    steps.join_seat::<TakesBack>(seat, out);
+    steps.load::<SettlesClaim>(seat, 0);
 }
 
 /// Loads the word of the end.

@@ -1,12 +1,13 @@
 //! What lies under the lock.
-ghost use Rattle.std.specs.Prelude.{◌≡◌, ◌+◌, ◌^◌, ◌<◌, ◌≤◌, nat_eq, ℕ, true, false, length, get_or, All, IfOk};
+ghost use Rattle.std.specs.Prelude.{◌≡◌, ◌+◌, ◌^◌, ◌<◌, ◌≤◌, nat_eq, ℕ, true, false, length, take, get_or, All, IfOk, IfErr};
 ghost use Rattle.std.specs.List.{IsDistinct};
 ghost use Rattle.known_numbers.specs.Numbers.{IsInSome};
 ghost use Rattle.event_form.specs.Entry.{IsEntry};
 ghost use Rattle.spool_answers.specs.Mark.{EndsBy};
 ghost use Rattle.spool_answers.specs.Pend.{AreNumbered};
 ghost use Rattle.desk_access.specs.Call.{takes, pends, confirms, marks, counts, issues, settles, forgets, asks, listed, own_of};
-ghost use Rattle.desk_access.specs.Batch.{MayTake, MayUse};
+ghost use Rattle.spool_answers.specs.Take.{IsRefusal};
+ghost use Rattle.desk_access.specs.Batch.{MayTake, MayUse, IsPlain};
 ghost use Rattle.desk_access.specs.Desk.{DeskState};
 ghost use Rattle.desk_access.specs.Legal.{IsNext, IsUnused, IsStored};
 ghost use Rattle.spool_turns.specs.Passes.{Calls, IsAsked};
@@ -79,6 +80,40 @@ impl<D: Disk, J: Naming> Turn<D, J> {
             &answer,
         );
         answer
+    }
+
+    pub(crate) fn take_front(
+        &mut self,
+        steps: &Steps,
+        pass: &mut Pass<J>,
+        entries: &[Entry],
+    ) -> (usize, Result<Receipt, TakeFault>)
+        requires table { (steps.now.table_id ≡ J.table) × (steps.now.table_id.words ≡ 4) }
+        requires some { 0 < length entries.now }
+        requires few { length entries.now < 2 ^ 32 }
+        requires limits { All IsEntry entries.now }
+        requires next { MayTake (IsNext J.run pass.old.number pass.old.own) entries.now }
+        requires plain { All IsPlain entries.now }
+
+        ensures call { Calls J.start J.run J.seats pass.old (takes (take result.0 entries.now) result.1) pass.new }
+        ensures real { IsReal ⟦<D as Disk>⟧ J.start J.run J.seats J.began pass.new.seen }
+        ensures front { (0 < result.0) × (result.0 ≤ length entries.now) }
+        ensures receipt { IfOk result.1 (λ receipt. (receipt.count ≡ result.0) × (receipt.first + receipt.count ≤ 2 ^ 63)) }
+        ensures alone { IfErr result.1 (λ fault. IsRefusal fault → result.0 ≡ 1) }
+    {
+        let count = self.alone.fitting(entries);
+        let front = &entries[..count];
+        admit(steps, &mut self.locked, &mut pass.seat);
+        let answer = self.alone.take(front);
+        publish(steps, &mut self.locked, &mut self.alone);
+        pass.seat = add_record::<Brand, D, &[Entry], Result<Receipt, TakeFault>>(
+            steps,
+            &mut self.locked,
+            &self.alone,
+            &front,
+            &answer,
+        );
+        (count, answer)
     }
 
     pub(crate) fn pending(

@@ -53,6 +53,7 @@ fn carry(
         proto: Proto::Hec,
         token: Some(TOKEN),
         ack_token: None,
+        group: false,
     };
     let ids = Ids::new(alloc, spool.run(), 0);
     let mut alone = Alone::new(Desk { spool, ids });

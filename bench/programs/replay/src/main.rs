@@ -57,6 +57,7 @@ fn carry(rt: &HostRuntime, stream: &Stream, spool: Spool<MemDisk>) -> anyhow::Re
         proto,
         token: None,
         ack_token: None,
+        group: false,
     };
     let ids = Ids::new(alloc, spool.run(), 0);
     let mut alone = Alone::new(Desk { spool, ids });

@@ -5,6 +5,7 @@ ghost use Rattle.http_edge.specs.Reading.{come};
 ghost use Rattle.http_edge.specs.Window.{Reads, clear};
 ghost use Rattle.desk_access.specs.Carried.{Carried};
 ghost use Rattle.conn_serve.specs.Hec.{hec};
+ghost use Rattle.conn_serve.specs.Terms.{terms_with};
 ghost use Rattle.conn_serve.specs.Handled.{Handled, Served, Closing};
 ghost use Rattle.conn_serve.specs.HecServing.{GivesAsked, IsIdle, IsSoundAsked, ReadsBy};
 
@@ -85,11 +86,11 @@ impl HecSession {
 }
 
 impl Session for HecSession {
-    ghost tokens = { λ s. s.core };
+    ghost terms = { λ s. terms_with s.core };
 
     ghost served = { λ number s. Served (Handled (hec s.core number)) (ReadsBy s.window s.met) };
 
-    ghost carried = { λ tokens number. Carried (hec tokens number) };
+    ghost carried = { λ terms number. Carried (hec terms.tokens number) };
 
     ghost closing = { λ number s. Closing (hec s.core number) (Handled (hec s.core number)) };
 

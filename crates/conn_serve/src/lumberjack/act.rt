@@ -18,8 +18,8 @@ ghost use Rattle.conn_serve.specs.Endings.{CountsFaults};
 ghost use Rattle.desk_access.specs.Endings.{IsAtMove};
 ghost use Rattle.conn_serve.specs.LumberServing.{Handles, HaltsAtFrame, stages, last_behind};
 
-use super::staged::Staged;
 use crate::connection::{Connection, take_group};
+use crate::staged::Staged;
 use crate::talk::{say, talk_of};
 use desk_access::Access;
 use edge_io::Link;

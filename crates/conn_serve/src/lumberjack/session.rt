@@ -14,14 +14,14 @@ ghost use Rattle.conn_serve.specs.Lumber.{lumberjack};
 ghost use Rattle.conn_serve.specs.Done.{Anyway, Done, Leads, SoFar};
 ghost use Rattle.conn_serve.specs.Endings.{CountsFaults};
 ghost use Rattle.conn_serve.specs.Says.{CouldEnd, MaySay};
-ghost use Rattle.conn_serve.specs.Tokens.{no_tokens};
+ghost use Rattle.conn_serve.specs.Terms.{no_tokens, terms_with};
 ghost use Rattle.conn_serve.specs.Handled.{Served, Closing, ReadBy, IsIdle, GivesNext};
 ghost use Rattle.conn_serve.specs.LumberServing.{Handles};
 
 use super::act::{commit, serve_frame};
-use super::staged::Staged;
 use crate::connection::Connection;
 use crate::session::Session;
+use crate::staged::Staged;
 use desk_access::Access;
 use edge_io::Link;
 use event_form::{Talk, Why};
@@ -103,11 +103,11 @@ impl LumberSession {
 }
 
 impl Session for LumberSession {
-    ghost tokens = { λ _. no_tokens };
+    ghost terms = { λ _. terms_with no_tokens };
 
     ghost served = { λ number s. Served (Handles number s.core s.staged.entries.items s.staged.last) (ReadBy receiver (Spells Receiver) s.window s.fault) };
 
-    ghost carried = { λ tokens number. Carried (lumberjack number) };
+    ghost carried = { λ terms number. Carried (lumberjack number) };
 
     ghost closing = { λ number s. Closing (lumberjack number) (Handles number s.core s.staged.entries.items s.staged.last) };
 

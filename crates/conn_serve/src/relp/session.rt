@@ -1,5 +1,5 @@
 //! A session of RELP.
-ghost use Rattle.std.specs.Prelude.{◌≡◌, ◌+◌, ◌<◌, ◌^◌, [], length, Option, None, IfOk, IfErr, OnOk, IsErrOf, false, true};
+ghost use Rattle.std.specs.Prelude.{◌≡◌, ◌+◌, ◌<◌, ◌≤◌, ◌^◌, [], length, Option, None, IfOk, IfErr, OnOk, IsErrOf, false, true};
 ghost use Rattle.relp_frame.specs.Reading as stream;
 ghost use Rattle.relp_frame.specs.Spelling.{IsSpelling};
 ghost use Rattle.relp_frame.specs.declared.fault.RelpFault.{RelpFault as TheFault};
@@ -8,15 +8,17 @@ ghost use Rattle.relp_session.specs.declared.state.State.TheVariants.{Unopened};
 ghost use Rattle.stream_grammar.specs.Reading.{clear, Reads};
 ghost use Rattle.desk_access.specs.Carried.{Carried};
 ghost use Rattle.desk_access.specs.Endings.{IsAtMove};
-ghost use Rattle.conn_serve.specs.Relp.{relp};
+ghost use Rattle.conn_serve.specs.Runs.{relp_runs};
 ghost use Rattle.conn_serve.specs.Done.{Anyway, Done, Leads};
 ghost use Rattle.conn_serve.specs.Endings.{CountsFaults};
 ghost use Rattle.conn_serve.specs.Says.{CouldEnd, MaySay};
-ghost use Rattle.conn_serve.specs.Tokens.{no_tokens};
+ghost use Rattle.conn_serve.specs.Terms.{most_of, runs_of};
 ghost use Rattle.conn_serve.specs.Handled.{Served, Closing, ReadBy, IsIdle, GivesNext};
-ghost use Rattle.conn_serve.specs.RelpServing.{Handles};
+ghost use Rattle.conn_serve.specs.RelpServing.{Handles, IsStaged};
 
 use super::act::serve_frame;
+use super::run::Run;
+use super::store::store_all;
 use super::texts::Texts;
 use crate::connection::Connection;
 use crate::session::Session;
@@ -27,13 +29,15 @@ use relp_frame::{RelpFault, RelpWindow};
 use relp_session::RelpCore;
 use std::alloc::{AllocError, Global};
 
-/// The window over the bytes, how far the session is, the memory for its texts, and the fault that the
-/// window has met.
+/// The window over the bytes, how far the session is, the memory for its texts, the run that is stored next, whether that
+/// may have several events, and the fault that the window has met.
 #[derive(Drop)]
 pub struct RelpSession {
     window: RelpWindow,
     core: RelpCore,
     texts: Texts,
+    run: Run,
+    group: bool,
     fault: Option<RelpFault>,
 }
 
@@ -46,22 +50,26 @@ fn serve_next<L: Link, A: Access>(
     window: &mut RelpWindow,
     core: &mut RelpCore,
     texts: &mut Texts,
+    run: &mut Run,
+    group: bool,
 ) -> Result<bool, Talk>
-    requires early { connection.old.taken < 2 ^ 62 }
+    requires staged { IsStaged (most_of group) connection.old.number connection.old.taken run.old }
+    requires early { connection.old.taken + length run.old < 2 ^ 62 }
     requires may { A.may_take access.old connection.old.number connection.old.taken }
     requires says { MaySay (A.ran access.old) (L.permits link.old) (L.taken link.old)
         (λ calls text. (fault : Option TheFault) → Leads connection.old.taken
-        (Served (Handles connection.old.number core.old) (ReadBy stream.relp IsSpelling window.old fault))
-        (CouldEnd (Carried (relp connection.old.number))) calls text) }
+        (Served (Handles (most_of group) connection.old.number core.old run.old) (ReadBy stream.relp IsSpelling window.old fault))
+        (CouldEnd (Carried (relp_runs (most_of group) connection.old.number))) calls text) }
 
     ensures goes { (fault : Option TheFault) → OnOk result (Done (λ calls. A.ran access.old calls access.new) (L.taken link.old) (L.taken link.new)
         connection.old.taken connection.new.taken (Leads connection.old.taken
-        (Served (Handles connection.old.number core.old) (ReadBy stream.relp IsSpelling window.old fault))
-        (Served (Handles connection.old.number core.new) (ReadBy stream.relp IsSpelling window.new fault)))) }
+        (Served (Handles (most_of group) connection.old.number core.old run.old) (ReadBy stream.relp IsSpelling window.old fault))
+        (Served (Handles (most_of group) connection.old.number core.new run.new) (ReadBy stream.relp IsSpelling window.new fault)))) }
     ensures halts { (fault : Option TheFault) → IfErr result (λ talk. Done (λ calls. A.ran access.old calls access.new) (L.taken link.old) (L.taken link.new)
         connection.old.taken connection.new.taken (Leads connection.old.taken
-        (Served (Handles connection.old.number core.old) (ReadBy stream.relp IsSpelling window.old fault))
-        (Anyway (Carried (relp connection.old.number)) talk))) }
+        (Served (Handles (most_of group) connection.old.number core.old run.old) (ReadBy stream.relp IsSpelling window.old fault))
+        (Anyway (Carried (relp_runs (most_of group) connection.old.number)) talk))) }
+    ensures staged { OnOk result (IsStaged (most_of group) connection.old.number connection.new.taken run.new) }
     ensures only { IfErr result IsAtMove }
     ensures idle { IfOk result (λ served. served ≡ false → IsIdle ROOM window.new) }
     ensures fewer { IfOk result (λ served. served ≡ true → length window.new.whole < length window.old.whole) }
@@ -75,35 +83,38 @@ fn serve_next<L: Link, A: Access>(
     let Some(lent) = window.next() else {
         return Ok(false);
     };
-    serve_frame(link, access, connection, core, texts, lent)?;
+    serve_frame(link, access, connection, core, texts, run, group, lent)?;
     Ok(true)
 }
 
 impl RelpSession {
-    /// A session that has met no byte. The only error is want of memory.
-    pub fn new(alloc: Global) -> Result<RelpSession, AllocError>
+    /// A session that has met no byte, which stores runs if `group` says so. The only error is want of memory.
+    pub fn new(alloc: Global, group: bool) -> Result<RelpSession, AllocError>
         ensures window { IfOk result (λ s. s.window ≡ clear) }
         ensures reads { IfOk result (λ s. Reads stream.relp IsSpelling [] [] s.window) }
         ensures core { IfOk result (λ s. s.core ≡ Unopened) }
+        ensures group { IfOk result (λ s. s.group ≡ group) }
         ensures fault { IfOk result (λ s. s.fault ≡ None) }
     {
         Ok(RelpSession {
             window: RelpWindow::new(alloc)?,
             core: RelpCore::new(),
             texts: Texts::new(alloc),
+            run: Run::new(alloc),
+            group,
             fault: None,
         })
     }
 }
 
 impl Session for RelpSession {
-    ghost tokens = { λ _. no_tokens };
+    ghost terms = { λ s. runs_of (most_of s.group) };
 
-    ghost served = { λ number s. Served (Handles number s.core) (ReadBy stream.relp IsSpelling s.window s.fault) };
+    ghost served = { λ number s. Served (Handles (most_of s.group) number s.core []) (ReadBy stream.relp IsSpelling s.window s.fault) };
 
-    ghost carried = { λ tokens number. Carried (relp number) };
+    ghost carried = { λ terms number. Carried (relp_runs terms.most number) };
 
-    ghost closing = { λ number s. Closing (relp number) (Handles number s.core) };
+    ghost closing = { λ number s. Closing (relp_runs (most_of s.group) number) (Handles (most_of s.group) number s.core []) };
 
     ghost idle = { λ s. IsIdle ROOM s.window };
 
@@ -128,6 +139,8 @@ impl Session for RelpSession {
         access: &mut A,
         connection: &mut Connection,
     ) -> Result<(), Talk> {
+        let group = self.group;
+        self.run.clear();
         'frames: while serve_next(
             link,
             access,
@@ -135,8 +148,10 @@ impl Session for RelpSession {
             &mut self.window,
             &mut self.core,
             &mut self.texts,
+            &mut self.run,
+            group,
         )? {}
-        Ok(())
+        store_all(link, access, connection, &mut self.texts, &mut self.run)
     }
 
     fn fault(&self) -> Option<Talk> {

@@ -64,7 +64,7 @@ fn tell_receiver(rt: &impl Abort, alloc: Global, receiver: &Receiver, told: &mut
 }
 
 // A server: the places of RELP, Lumberjack and the collector, its workers, the connections of each, the token, the token with
-// acks, and what it forwards to.
+// acks, `group` where it stores together what came together, and what it forwards to.
 fn tell_server(rt: &impl Abort, alloc: Global, server: &Server, told: &mut String) {
     tell_place(rt, server.relp.as_ref(), told);
     tell_place(rt, server.lumberjack.as_ref(), told);
@@ -73,6 +73,7 @@ fn tell_server(rt: &impl Abort, alloc: Global, server: &Server, told: &mut Strin
     add(rt, told, &counts);
     add(rt, told, token_name(server.token));
     add(rt, told, token_name(server.ack_token));
+    add(rt, told, if server.group { " group" } else { "" });
     match &server.forward {
         Some(relay) => {
             tell_receiver(rt, alloc, &relay.receiver, told);

@@ -58,6 +58,8 @@ list --as=-x => --as: relp, json or hec
 list --as=json --as=json => an option is given twice
 list --as=json relp => unknown word or option
 list -- --as json => unknown word or option
+list --group => unknown word or option
+load --group relp 1 2 => unknown word or option
 list --as -- json => unknown word or option
 list --as -- => an option has no value
 list -- -- => unknown word or option

@@ -1,7 +1,7 @@
 //! The words of `serve`.
 
 /// What the words of `serve` ask for: the places of RELP, of Lumberjack and of the collector, workers, connections of each, the token, the
-/// token with acks, and the receiver with its place.
+/// token with acks, `group` where that is given, and the receiver with its place.
 pub const SERVES: &str = r#"serve --relp p => serve (p) - - 4 67108864 - - -, a device
 serve --lumberjack logs.example:5044 => serve - (logs.example:5044) - 4 67108864 - - -, a device
 serve --hec=0.0.0.0:8088 => serve - - (0.0.0.0:8088) 4 67108864 - - -, a device
@@ -16,6 +16,12 @@ serve --talks 1 --relp p => serve (p) - - 4 1 - - -, a device
 serve --relp p --talks=67108864 => serve (p) - - 4 67108864 - - -, a device
 serve --hec h --token $T --ack-token=$A => serve - - (h) 4 67108864 $T $A -, a device
 serve --relp p --ack-token $A => serve (p) - - 4 67108864 - $A -, a device
+serve --relp p --group => serve (p) - - 4 67108864 - - group -, a device
+serve --group --relp=p => serve (p) - - 4 67108864 - - group -, a device
+serve --group --hec h --lumberjack l --token $T => serve - (l) (h) 4 67108864 $T - group -, a device
+serve --group --relp p -- => serve (p) - - 4 67108864 - - group -, a device
+serve --relp p --group --forward relp --to d => serve (p) - - 4 67108864 - - group relp (d), a device
+serve --relp=--group => serve (--group) - - 4 67108864 - - -, a device
 serve --relp p --forward relp --to d => serve (p) - - 4 67108864 - - relp (d), a device
 serve --to=d --relp=p --forward=lumberjack --talks=2 --workers=3 => serve (p) - - 3 2 - - lumberjack (d), a device
 serve --relp=p --forward=hec --to d --out-token $T --out-channel=$A => serve (p) - - 4 67108864 - - hec $T $A 60 (d), a device
@@ -50,6 +56,15 @@ serve --relp=p --workers=4 --workers=4 => an option is given twice
 serve --relp=p --talks 0 => --talks: 1 to 67108864
 serve --relp=p --talks 67108865 => --talks: 1 to 67108864
 serve --relp=p --talks= => --talks: 1 to 67108864
+serve --group => serve: --relp, --lumberjack or --hec is needed
+serve --relp --group => an option has no value
+serve --relp p --group --group => an option is given twice
+serve --relp p --group yes => unknown word or option
+serve --relp p --group=true => an option takes no value
+serve --relp p --group= => an option takes no value
+serve --relp p --no-group => unknown word or option
+serve --relp p --grou => unknown word or option
+serve --relp p -- --group => unknown word or option
 serve --relp=p --token zz => --token: no GUID
 serve --relp=p --ack-token=zz => --ack-token: no GUID
 serve --relp=p --forward relp => --forward: --to is needed

@@ -33,6 +33,7 @@ fn replayed(rt: &impl Abort, alloc: Global, access: &mut Alone<MemDisk>) -> (u64
         proto: Proto::Relp,
         token: None,
         ack_token: None,
+        group: false,
     };
     let attended = attend(alloc, &mut link, &rules, access, 1 << 32);
     assert!(rt; attended.talk == Talk::Closed);

@@ -4,8 +4,8 @@ use Rattle.std.specs.Prelude.{nat_le, not, Ok, Err}
 use Rattle.std.proofs.lemmas.Bool.{cond-true, cond-false, le-leb, lt-leb, false≢true}
 use Rattle.std.proofs.lemmas.List.{take_more}
 use Rattle.known_numbers.specs.declared.stretch.Stretch.{Stretch}
-use Rattle.known_numbers.specs.Numbers.{Numbers, EndBy, IsSound as IsSoundKnown, count_of, marked}
-use Rattle.known_numbers.proofs.Marking.{marked_ends, marked_reaches, marked_rises}
+use Rattle.known_numbers.specs.Numbers.{Numbers, EndBy, IsWithin, IsInSome, IsKnown, IsSound as IsSoundKnown, count_of, marked}
+use Rattle.known_numbers.proofs.Marking.{marked_ends, marked_only, marked_reaches, marked_rises}
 use Rattle.spool_state.specs.SpoolState.{SpoolState, base, end, numbers_of, Follows, IsSound}
 use Rattle.spool_state.specs.Change.{registered}
 use Rattle.spool_state.proofs.Following.{follows_self}
@@ -135,6 +135,32 @@ whole_stretch end one from to ends f t =
 pub join_more : (start numbers : Numbers) (more : List Stretch) (i : ℕ) (d other : Stretch) → i < length more → other ≡ get_or more i d → numbers ≡ marked start (take i more) → marked numbers (other ∷ []) ≡ marked start (take (i + 1) more)
 join_more start _ more i d other lt same joined =
     (λ k. marked (joined k) (same k ∷ [])) ∙ sym (marked_more start (take i more) (get_or more i d)) ∙ ap (λ (l : List Stretch). marked start l) (sym (take_more more i d lt))
+
+-- a number of some stretches is one of more of them
+in_more : (xs ys : List Stretch) (n : ℕ) → IsInSome xs n → IsInSome (xs ++ ys) n
+in_more [] ys n is = absurd is
+in_more (x ∷ xs) ys n (inl here) = inl here
+in_more (x ∷ xs) ys n (inr there) = inr (in_more xs ys n there)
+
+in_last : (xs : List Stretch) (y : Stretch) (n : ℕ) → IsWithin y n → IsInSome (xs ++ y ∷ []) n
+in_last [] y n is = inl is
+in_last (x ∷ xs) y n is = inr (in_last xs y n is)
+
+-- no more become known than those of the stretches
+pub join_only : (start numbers : Numbers) (more : List Stretch) (i : ℕ) (d one : Stretch) (end : ℕ) → i < length more → one.from ≡ min (get_or more i d).from end → one.to ≡ min (get_or more i d).to end → (n : ℕ)
+    → (IsKnown numbers n → IsKnown start n ⊎ IsInSome (take i more) n) → IsKnown (marked numbers (one ∷ [])) n → IsKnown start n ⊎ IsInSome (take (i + 1) more) n
+join_only start numbers more i d one end lt from to n before known =
+    let longer : (IsInSome (take i more ++ get_or more i d ∷ []) n) → IsInSome (take (i + 1) more) n = λ h. subst (λ (l : List Stretch). IsInSome l n) (sym (take_more more i d lt)) h in
+    elim (marked_only numbers (one ∷ []) n known) [
+      | inl was ↦ elim (before was) [
+        | inl at_start ↦ inl at_start
+        | inr earlier ↦ inr (longer (in_more (take i more) (get_or more i d ∷ []) n earlier))
+      ]
+      | inr new ↦ elim new [
+        | inl within ↦ inr (longer (in_last (take i more) (get_or more i d) n (omega (arith, within.0, within.1, from, to), omega (arith, within.0, within.1, from, to))))
+        | inr none ↦ absurd none
+      ]
+    ]
 
 -- as many numbers up to the same cursor are the same numbers
 pub same_or_more : (start numbers : Numbers) → (numbers ≡ start) ⊎ (total_of start < total_of numbers) → numbers.cursor ≡ start.cursor → count_of numbers.stretches ≡ count_of start.stretches → numbers ≡ start

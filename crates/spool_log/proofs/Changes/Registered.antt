@@ -32,7 +32,7 @@ module _ (s : SpoolState) (old c : List ℕ) (stands : StandsFor s old) (same : 
   gate_stays : (place : ℕ) → get_or c (slot_at s.size place) 0 ≡ get_or old (slot_at s.size place) 0
   gate_stays place = byte_frame 4096 8192 old c (slot_at s.size place) same (inr (omega arith))
 
-  register_same : RegisterHas s.ordinal s.run s.cursor s.known c → StandsFor s c
+  pub register_same : RegisterHas s.ordinal s.run s.cursor s.known c → StandsFor s c
   register_same holds = record {
     long = same.len ∙ stands.long;
     header = header_stays ∙ stands.header;

@@ -12,6 +12,7 @@ ghost use Rattle.edge_disk.specs.Disk.{IsSettled, LeavesOnly};
 ghost use Rattle.spool_log.specs.Device.{LiesIn};
 ghost use Rattle.spool_log.specs.Knows.{IsStored};
 ghost use Rattle.spool_log.specs.State.{KnowsDevice};
+ghost use Rattle.spool_answers.specs.Leave.{LetsKeep};
 ghost use Rattle.spool_answers.specs.Stages.{last_of, StandsForOne, begin_stages, replace_stages};
 ghost use Rattle.spool_log.specs.Changing.Next.{IsHead};
 ghost use Rattle.spool_log.specs.Changing.Target.{stages_at, IsFreeIn, StartsConfirmed, Suits};
@@ -54,6 +55,7 @@ impl Memory {
         requires numbers { end_of self.old + length entries.now ≤ most_number }
         requires room { need_of entries.now ≤ room_of self.old }
         requires buffer { length buffer.old ≡ 65536 }
+        requires leave { LetsKeep D.tells D.moment D.may_tear D.may_release }
 
         ensures calls { Calls (IsErr result) (D.moment disk.old) (D.moment disk.new) }
         ensures same_device { (self.new.size ≡ self.old.size) × (self.new.slots ≡ self.old.slots) }
@@ -92,6 +94,7 @@ impl Memory {
         requires spare { length self.old.older.items + 1 < self.old.slots }
         requires closed { D.tells → (s : SpoolState) → IsStored s self.old (D.moment disk.old).reads → IsClosed s place }
         requires buffer { length buffer.old ≡ 65536 }
+        requires leave { LetsKeep D.tells D.moment D.may_tear D.may_release }
 
         ensures calls { Calls (IsErr result) (D.moment disk.old) (D.moment disk.new) }
         ensures same_device { (self.new.size ≡ self.old.size) × (self.new.slots ≡ self.old.slots) }
@@ -129,6 +132,7 @@ impl Memory {
         requires older { 0 < length self.old.older.items }
         requires confirmed { StartsConfirmed self.old.older.items (cursor_of self.old) }
         requires buffer { length buffer.old ≡ 65536 }
+        requires leave { LetsKeep D.tells D.moment D.may_tear D.may_release }
 
         ensures calls { Calls (IsErr result) (D.moment disk.old) (D.moment disk.new) }
         ensures same_device { (self.new.size ≡ self.old.size) × (self.new.slots ≡ self.old.slots) }
@@ -185,6 +189,7 @@ impl Memory {
         requires suits { Suits self.old (need_of entries.now) target }
         requires free { D.tells → (s : SpoolState) → IsStored s self.old (D.moment disk.old).reads → IsFreeIn target s }
         requires buffer { length buffer.old ≡ 65536 }
+        requires leave { LetsKeep D.tells D.moment D.may_tear D.may_release }
 
         ensures calls { Calls (IsErr result) (D.moment disk.old) (D.moment disk.new) }
         ensures same_device { (self.new.size ≡ self.old.size) × (self.new.slots ≡ self.old.slots) }

@@ -12,6 +12,7 @@ ghost use Rattle.edge_disk.specs.Disk.{IsSettled, LeavesOnly};
 ghost use Rattle.spool_slots.specs.Slot.{IsSlot};
 ghost use Rattle.spool_log.specs.Knows.{KnowsSlot};
 ghost use Rattle.spool_log.specs.Changing.Next.{IsNext};
+ghost use Rattle.spool_answers.specs.Leave.{LetsKeep};
 ghost use Rattle.spool_answers.specs.Stages.{StandsForOne, begin_stages};
 
 use edge_disk::{Disk, DiskFault};
@@ -44,6 +45,9 @@ pub(crate) fn begin_with<D: Disk>(
     requires limits { All IsEntry entries.now }
     requires room { need_of entries.now ≤ head.size - 18 }
     requires buffer { length buffer.old ≡ 65536 }
+    requires next { D.tells → ∥ ((s : SpoolState) × (place : ℕ) × StandsFor s (D.moment disk.old).reads × IsNext s place head
+        × (end s + length entries.now ≤ most_number)) ∥₁ }
+    requires leave { LetsKeep D.tells D.moment D.may_tear D.may_release }
 
     ensures calls { Calls (IsErr result) (D.moment disk.old) (D.moment disk.new) }
     ensures slot { IfOk result (IsSlot head.at head.size head.ordinal head.first (17 + need_of entries.now) (length entries.now)) }

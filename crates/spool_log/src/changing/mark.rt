@@ -1,6 +1,6 @@
 //! Numbers that become known as confirmed.
 ghost use Rattle.std.specs.Prelude.{◌≡◌, ◌↔◌, ◌⊎◌, ℕ, ◌+◌, ◌<◌, ◌≤◌, List, [], All, IsTrue, false, true, IfErr, IsErrOf};
-ghost use Rattle.known_numbers.specs.Numbers.{Numbers, EndBy, IsInSome, IsSound, count_of, marked};
+ghost use Rattle.known_numbers.specs.Numbers.{Numbers, EndBy, IsInSome, IsKnown, IsSound, count_of, marked};
 ghost use Rattle.known_numbers.specs.declared.stretch.Stretch.{Stretch as TheStretch};
 ghost use Rattle.spool_state.specs.SpoolState.{SpoolState, end};
 ghost use Rattle.edge_disk.specs.Calls.{Calls};
@@ -31,6 +31,8 @@ fn join(numbers: &mut KnownNumbers, content: &Content, more: &[Stretch], end: u6
     ensures joined { All (EndsBy end) more.now → numbers.new ≡ marked (numbers_in content.now) more.now }
     ensures new { IsTrue result ↔ (total_of (numbers_in content.now) < total_of numbers.new) }
     ensures same { (IsTrue result → ⊥) → numbers.new ≡ numbers_in content.now }
+    ensures keeps { (n : ℕ) → IsKnown (numbers_in content.now) n → IsKnown numbers.new n }
+    ensures only { (n : ℕ) → IsKnown numbers.new n → IsKnown (numbers_in content.now) n ⊎ IsInSome more.now n }
 {
     numbers.set(content.cursor, &content.known);
     let before = numbers.count();
@@ -55,6 +57,8 @@ impl<D: Disk> Spool<D> {
         requires sure { self.old.doubt ≡ false }
         requires may { MayFollow (cursor_of self.old.memory) (end_of self.old.memory) self.old.numbers }
         requires new { total_of (numbers_of self.old.memory) < total_of self.old.numbers }
+        requires keeps { (n : ℕ) → IsKnown (numbers_of self.old.memory) n → IsKnown self.old.numbers n }
+        requires earned { (n : ℕ) → IsKnown self.old.numbers n → IsKnown (numbers_of self.old.memory) n ⊎ D.may_release n }
 
         ensures answered { IfErr result IsAnswered }
         ensures worn { IfErr result (WornBy self.new.memory) }

@@ -1,6 +1,6 @@
 //! The register written with another run or other known numbers.
-ghost use Rattle.std.specs.Prelude.{◌≡◌, ◌+◌, ◌<◌, ◌≤◌, List, [], ◌∷◌, OnOk, OnErr, IsErrOf, MatchResult};
-ghost use Rattle.known_numbers.specs.Numbers.{Numbers, EndBy, IsSound};
+ghost use Rattle.std.specs.Prelude.{◌≡◌, ◌⊎◌, ℕ, ◌+◌, ◌<◌, ◌≤◌, List, [], ◌∷◌, OnOk, OnErr, IsErrOf, MatchResult};
+ghost use Rattle.known_numbers.specs.Numbers.{Numbers, EndBy, IsKnown, IsSound};
 ghost use Rattle.spool_state.specs.Layout.{most_run, most_number};
 ghost use Rattle.spool_state.specs.SpoolState.{SpoolState, base, end};
 ghost use Rattle.spool_state.specs.Change.{registered};
@@ -10,9 +10,10 @@ ghost use Rattle.edge_disk.specs.Disk.{IsSettled, LeavesOnly};
 ghost use Rattle.disk_cell.specs.Fault.{IsWornAt};
 ghost use Rattle.spool_log.specs.Knows.{IsStored};
 ghost use Rattle.spool_log.specs.State.{KnowsDevice};
+ghost use Rattle.spool_answers.specs.Leave.{LetsKeep};
 ghost use Rattle.spool_answers.specs.Stages.{StandsForOne};
 ghost use Rattle.spool_log.specs.Device.{MayFollow};
-ghost use Rattle.spool_log.specs.Memory.{cursor_of, end_of};
+ghost use Rattle.spool_log.specs.Memory.{run_of, cursor_of, numbers_of, end_of};
 
 use crate::Memory;
 use disk_cell::SetFault;
@@ -32,6 +33,10 @@ impl Memory {
         requires stored { D.tells → KnowsDevice self.old (D.moment disk.old).reads }
         requires run { run ≤ most_run }
         requires numbers { MayFollow (cursor_of self.old) (end_of self.old) numbers.now }
+        requires rises { run_of self.old ≤ run }
+        requires keeps { (n : ℕ) → IsKnown (numbers_of self.old) n → IsKnown numbers.now n }
+        requires earned { (n : ℕ) → IsKnown numbers.now n → IsKnown (numbers_of self.old) n ⊎ D.may_release n }
+        requires leave { LetsKeep D.tells D.moment D.may_tear D.may_release }
 
         ensures calls { Calls (IsErrOf result SetFault.DiskFault) (D.moment disk.old) (D.moment disk.new) }
         ensures same_device { (self.new.size ≡ self.old.size) × (self.new.slots ≡ self.old.slots) }

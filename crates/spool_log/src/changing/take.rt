@@ -99,6 +99,7 @@ impl<D: Disk> Spool<D> {
 
         ensures told { IfErr result IsAnswered }
         ensures refused { IfErr result (RefusedBy self.new.memory entries.now) }
+        ensures before { IfErr result (RefusedBy self.old.memory entries.now) }
         ensures numbers { IfOk result (λ receipt. (receipt.count ≡ length entries.now) × (receipt.first + receipt.count ≡ end_of self.new.memory)) }
         ensures calls { Calls (IsErrOf result TakeFault.DiskFault) (D.moment self.old.disk) (D.moment self.new.disk) }
         ensures taken { (s : SpoolState) → D.tells → IsIn s [] (view self.old.memory self.old.doubt (D.moment self.old.disk))
@@ -134,6 +135,7 @@ impl<D: Disk> Spool<D> {
 
         ensures met { IsErrOf result TakeFault.NoMemory → self.old.doubt ≡ true }
         ensures read_again { (at : ℕ) → IsErrOf result (TakeFault.NotSpool at) → self.old.doubt ≡ true }
+        ensures before { self.old.doubt ≡ false → IfErr result (RefusedBy self.old.memory entries.now) }
         ensures refused { IfErr result (RefusedBy self.new.memory entries.now) }
         ensures numbers { IfOk result (λ receipt. (receipt.count ≡ length entries.now) × (receipt.first + receipt.count ≡ end_of self.new.memory)) }
         ensures calls { Calls (IsErrOf result TakeFault.DiskFault) (D.moment self.old.disk) (D.moment self.new.disk) }

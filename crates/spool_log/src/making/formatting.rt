@@ -4,6 +4,7 @@ ghost use Rattle.spool_state.specs.Image.{slot_at, StandsFor};
 ghost use Rattle.spool_state.specs.Empty.{empty_state};
 ghost use Rattle.edge_disk.specs.Calls.{Calls};
 ghost use Rattle.edge_disk.specs.Disk.{IsSettled, LeavesOnly};
+ghost use Rattle.edge_disk.specs.Leave.{LetsAll};
 ghost use Rattle.spool_log.specs.Making.Format.{IsFormatStep, CameOf};
 
 use crate::making::steps::make_empty;
@@ -40,6 +41,7 @@ pub fn format<D: Disk>(disk: &mut D, slots: u32, size: u64) -> Result<(), Format
     requires few { slots ≤ 1024 }
     requires large { 4096 ≤ size }
     requires small { size ≤ 1073741824 }
+    requires free { LetsAll D.may_tear }
 
     ensures length { MatchResult result (λ _. (D.moment disk.old).size ≡ slot_at size slots) (CameOf (D.moment disk.old).size (slot_at size slots)) }
     ensures unchanged { (D.moment disk.old).size ≢ slot_at size slots → disk.new ≡ disk.old }

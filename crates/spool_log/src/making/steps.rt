@@ -11,6 +11,7 @@ ghost use Rattle.spool_state.specs.Empty.{empty_state, IsFront, IsBody};
 ghost use Rattle.edge_disk.specs.Calls.{Calls};
 ghost use Rattle.edge_disk.specs.Disk.{IsSettled, LeavesOnly};
 ghost use Rattle.edge_disk.specs.Gate.{ComesFrom};
+ghost use Rattle.edge_disk.specs.Leave.{LetsAll};
 ghost use Rattle.spool_log.specs.Making.Format.{HasNoName, IsFormatStep, KeepsFront, IsEraseStep, IsNameStep};
 
 use crate::reading::header::FIRST_SLOT;
@@ -28,6 +29,7 @@ const HEAD: [u8; 18] = [1, 0, 0, 0, 0, 0, 0, 0, 1, 0, 0, 0, 0, 0, 0, 0, 0, 0];
 fn erase_name<D: Disk>(disk: &mut D) -> Result<(), DiskFault>
     requires room { 12288 ≤ (D.moment disk.old).size }
     requires settled { D.tells → IsSettled (D.moment disk.old) }
+    requires free { LetsAll D.may_tear }
 
     ensures calls { Calls (IsErr result) (D.moment disk.old) (D.moment disk.new) }
     ensures durable { OnOk result (D.tells → IsSettled (D.moment disk.new)) }
@@ -48,6 +50,7 @@ fn write_name<D: Disk>(disk: &mut D) -> Result<(), DiskFault>
     requires room { 12288 ≤ (D.moment disk.old).size }
     requires settled { D.tells → IsSettled (D.moment disk.old) }
     requires none { D.tells → HasNoName (D.moment disk.old).reads }
+    requires free { LetsAll D.may_tear }
 
     ensures calls { Calls (IsErr result) (D.moment disk.old) (D.moment disk.new) }
     ensures durable { OnOk result (D.tells → IsSettled (D.moment disk.new)) }
@@ -72,6 +75,7 @@ fn numbers(slots: u32, size: u64) -> [u8; 12]
 #[tactic(auto, unfolding(spool_state::specs::Cells::content_text, spool_state::specs::Cells::known_text, spool_state::specs::Cells::body_text, spool_state::specs::Segment::head_text))]
 fn write_front<D: Disk>(disk: &mut D, slots: u32, size: u64) -> Result<(), DiskFault>
     requires room { 16384 ≤ (D.moment disk.old).size }
+    requires free { LetsAll D.may_tear }
 
     ensures calls { Calls (IsErr result) (D.moment disk.old) (D.moment disk.new) }
     ensures written { OnOk result (D.tells → IsFront slots size (D.moment disk.new).reads) }
@@ -86,6 +90,7 @@ fn write_front<D: Disk>(disk: &mut D, slots: u32, size: u64) -> Result<(), DiskF
 // Closes all slots but the first one. Nothing of it is durable yet.
 fn close_slots<D: Disk>(disk: &mut D, slots: u32, size: u64) -> Result<(), DiskFault>
     requires layout { IsLayout slots size (D.moment disk.old).size }
+    requires free { LetsAll D.may_tear }
 
     ensures calls { Calls (IsErr result) (D.moment disk.old) (D.moment disk.new) }
     ensures kept { OnOk result (D.tells → KeepsFront (slot_at size 1) (D.moment disk.old).reads (D.moment disk.new).reads) }
@@ -103,6 +108,7 @@ fn close_slots<D: Disk>(disk: &mut D, slots: u32, size: u64) -> Result<(), DiskF
 fn write_body<D: Disk>(disk: &mut D, slots: u32, size: u64) -> Result<(), DiskFault>
     requires layout { IsLayout slots size (D.moment disk.old).size }
     requires settled { D.tells → IsSettled (D.moment disk.old) }
+    requires free { LetsAll D.may_tear }
 
     ensures calls { Calls (IsErr result) (D.moment disk.old) (D.moment disk.new) }
     ensures durable { OnOk result (D.tells → IsSettled (D.moment disk.new)) }
@@ -118,6 +124,7 @@ fn write_body<D: Disk>(disk: &mut D, slots: u32, size: u64) -> Result<(), DiskFa
 /// written, the magic written. It takes no memory.
 pub(crate) fn make_empty<D: Disk>(disk: &mut D, slots: u32, size: u64) -> Result<(), DiskFault>
     requires layout { IsLayout slots size (D.moment disk.old).size }
+    requires free { LetsAll D.may_tear }
 
     ensures calls { Calls (IsErr result) (D.moment disk.old) (D.moment disk.new) }
     ensures durable { OnOk result (D.tells → IsSettled (D.moment disk.new)) }

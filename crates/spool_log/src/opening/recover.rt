@@ -6,6 +6,7 @@ ghost use Rattle.edge_disk.specs.Calls.{Calls};
 ghost use Rattle.edge_disk.specs.Disk.{IsSettled, LeavesOnly};
 ghost use Rattle.spool_log.specs.Knows.{IsStored};
 ghost use Rattle.spool_log.specs.State.{KnowsDevice};
+ghost use Rattle.spool_answers.specs.Leave.{LetsKeep};
 ghost use Rattle.spool_answers.specs.Stages.{StandsForOne};
 ghost use Rattle.spool_log.specs.Opening.{raise_stages, opened, CanOpen, Refuses, IsRefusedAs, IsOpening, IsRefusing};
 
@@ -46,6 +47,7 @@ impl Memory {
         requires long { (D.moment disk.old).size ≡ slot_at self.old.size self.old.slots }
         requires settled { D.tells → IsSettled (D.moment disk.old) }
         requires stored { D.tells → KnowsDevice self.old (D.moment disk.old).reads }
+        requires leave { LetsKeep D.tells D.moment D.may_tear D.may_release }
 
         ensures calls { Calls (IsErrOf result RecoverFault.DiskFault) (D.moment disk.old) (D.moment disk.new) }
         ensures same_device { (self.new.size ≡ self.old.size) × (self.new.slots ≡ self.old.slots) }
@@ -76,6 +78,8 @@ fn open<D: Disk>(
     numbers: &mut KnownNumbers,
     opening: Opening,
 ) -> Result<Memory, RecoverFault>
+    requires leave { LetsKeep D.tells D.moment D.may_tear D.may_release }
+
     ensures calls { Calls (IsErrOf result RecoverFault.DiskFault) (D.moment disk.old) (D.moment disk.new) }
     ensures long { IfOk result (λ memory. (D.moment disk.new).size ≡ slot_at memory.size memory.slots) }
     ensures durable { OnOk result (D.tells → IsSettled (D.moment disk.new)) }
@@ -119,6 +123,8 @@ impl<D: Disk> Spool<D> {
     /// run is to be raised and the register was written 2^63 times. `DiskFault` comes only where a call of the
     /// disk failed.
     pub fn recover(alloc: Global, mut disk: D, opening: Opening) -> Result<Spool<D>, Refusal<D>>
+        requires leave { LetsKeep D.tells D.moment D.may_tear D.may_release }
+
         ensures calls { MatchResult result (λ spool. Calls ⊥ (D.moment disk) (D.moment spool.disk))
             (λ refusal. Calls (refusal.fault ≡ RecoverFault.DiskFault) (D.moment disk) (D.moment refusal.disk)) }
         ensures sure { IfOk result (λ spool. spool.doubt ≡ false) }

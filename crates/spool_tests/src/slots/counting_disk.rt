@@ -20,6 +20,8 @@ impl<D: Disk> Disk for CountingDisk<D> {
 
     ghost may_release = { D.may_release };
 
+    ghost may_tear = { λ d at n. D.may_tear d.disk at n };
+
     ghost reads_too = { λ d images. D.reads_too d.disk images };
 
     ghost fits = { λ d. D.fits d.disk };

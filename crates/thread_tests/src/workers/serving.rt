@@ -46,6 +46,7 @@ fn post(rt: &impl Abort, alloc: Global, door: usize, failing: &[u64]) -> Post<Te
         proto: DOORS[door % 4],
         token: Some(TOKEN),
         ack_token: None,
+        group: false,
     };
     let door = TestDoor {
         door: MemDoor::of(alloc, links, failing),

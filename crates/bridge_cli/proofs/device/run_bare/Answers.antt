@@ -1,7 +1,7 @@
 use Rattle.edge_memory.specs.contracts.memory.MemDiskDisk.TheImpl.{ghosts}
 use Rattle.bridge_core.specs.Leave.{MayTake, WasRead, WereStreamed, HasExchangedAt}
 use Rattle.bridge_core.proofs.Alone.{no_command_is_told, usage_is_of_words}
-use Rattle.bridge_core.proofs.Leave.{all_released, nobody_answers, nothing_replayed}
+use Rattle.bridge_core.proofs.Leave.{all_released, all_torn, nobody_answers, nothing_replayed}
 use Rattle.bridge_cli.proofs.device.run_bare.Goals as goal
 
 pub bridge-requires-clause-answers : goal.bridge-requires-clause-answers
@@ -20,6 +20,10 @@ bridge-requires-clause-releases g c κs within =
     let streamed = WereStreamed g.S.Object.same g.S.Source.given c.args.input.now g.K.Object.same g.K.Sink.taken c.args.output.now in
     let at = HasExchangedAt g.N.L.Object.same g.N.L.Link.dialed g.N.L.Source.given g.N.L.Sink.taken in
     λ command asks. all_released ghosts.tells ghosts.moment c.in-Ok.disk streamed at ghosts.may_release (λ n. tt) command
+
+-- and anything be written to it
+pub bridge-requires-clause-tears : goal.bridge-requires-clause-tears
+bridge-requires-clause-tears g c κs within = λ command asks. all_torn ghosts.tells ghosts.moment ghosts.may_tear ghosts.may_release (λ disk at n. tt) command
 
 pub returns-in-Ok-clause-usage : goal.returns-in-Ok-clause-usage
 returns-in-Ok-clause-usage g c = usage_is_of_words _ _ _ c.bridge.ensures.run

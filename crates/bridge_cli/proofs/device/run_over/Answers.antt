@@ -1,6 +1,6 @@
 use Rattle.std.proofs.Common.{sym, subst}
 use Rattle.bridge_core.specs.Leave.{MayAnswer, MayReplay, MayTake, WasRead, MayRelease, WereStreamed, HasExchangedAt}
-use Rattle.bridge_core.proofs.Leave.{answers_within, replays_within, releases_within}
+use Rattle.bridge_core.proofs.Leave.{answers_within, replays_within, releases_within, tears_within}
 use Rattle.bridge_cli.proofs.device.run_over.Goals as goal
 
 -- what is durable on the disk that is watched is so on the disk
@@ -31,6 +31,11 @@ bridge-status-requires-clause-releases g c κs within =
     let release = g.D.Disk.may_release in
     λ command asks. releases_within tells moment (λ w. w.disk) c.new-disk.result streamed at release command
     (subst (λ d. MayRelease tells moment d streamed at release command) (sym c.new-disk.ensures) (c.requires.releases command asks))
+
+-- what may be written to the disk may be so to the one that is watched
+pub bridge-status-requires-clause-tears : goal.bridge-status-requires-clause-tears
+bridge-status-requires-clause-tears g c κs within =
+    λ command asks. tears_within g.D.Disk.tells g.D.Disk.moment (λ w. w.disk) g.D.Disk.may_tear g.D.Disk.may_release command (c.requires.tears command asks)
 
 pub returns : goal.returns
 returns g c =

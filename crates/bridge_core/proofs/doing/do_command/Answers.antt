@@ -10,11 +10,14 @@ format-note-requires-clause-size g c = (rw c.in-Format.is at c.requires.asked).1
 pub format-note-requires-clause-prints : goal.format-note-requires-clause-prints
 format-note-requires-clause-prints g c = rw c.in-Format.is at c.requires.prints
 
+pub format-note-requires-clause-tears : goal.format-note-requires-clause-tears
+format-note-requires-clause-tears g c = rw c.in-Format.is at c.requires.tears
+
 pub list-note-requires : goal.list-note-requires
-list-note-requires g c = record { prints = rw c.in-List.is at c.requires.prints }
+list-note-requires g c = record { prints = rw c.in-List.is at c.requires.prints; tears = rw c.in-List.is at c.requires.tears }
 
 pub replay-note-requires : goal.replay-note-requires
-replay-note-requires g c = record { answers = rw c.in-Replay.is at c.requires.replays }
+replay-note-requires g c = record { answers = rw c.in-Replay.is at c.requires.replays; tears = rw c.in-Replay.is at c.requires.tears }
 
 pub load-note-requires-clause-few : goal.load-note-requires-clause-few
 load-note-requires-clause-few g c = (rw c.in-Load.is at c.requires.asked).1.asks.few
@@ -30,9 +33,15 @@ drain_out-note-requires-clause-polls g c =
 pub drain_out-note-requires-clause-prints : goal.drain_out-note-requires-clause-prints
 drain_out-note-requires-clause-prints g c = rw c.in-Drain-default-None.is at c.requires.prints
 
+pub drain_out-note-requires-clause-tears : goal.drain_out-note-requires-clause-tears
+drain_out-note-requires-clause-tears g c = rw c.in-Drain-default-None.is at c.requires.tears
+
 pub drain_out-note-requires-clause-releases : goal.drain_out-note-requires-clause-releases
 drain_out-note-requires-clause-releases g c =
     rw c.outward_of-outward.ensures (rw (c.in-Drain-default-None.is, c.in-Drain-default-None.place-is) at c.requires.releases)
+
+pub drain_to-note-requires-clause-tears : goal.drain_to-note-requires-clause-tears
+drain_to-note-requires-clause-tears g c = rw c.in-Drain-default-Some.is at c.requires.tears
 
 pub drain_to-note-requires-clause-releases : goal.drain_to-note-requires-clause-releases
 drain_to-note-requires-clause-releases g c =
@@ -62,6 +71,9 @@ serve-note-requires-clause-dials g c κs within = rw c.in-Serve.is at c.requires
 
 pub serve-note-requires-clause-releases : goal.serve-note-requires-clause-releases
 serve-note-requires-clause-releases g c κs within = rw c.in-Serve.is at c.requires.releases
+
+pub serve-note-requires-clause-tears : goal.serve-note-requires-clause-tears
+serve-note-requires-clause-tears g c κs within = rw c.in-Serve.is at c.requires.tears
 
 pub serve-note-requires-clause-prints : goal.serve-note-requires-clause-prints
 serve-note-requires-clause-prints g c κs within = rw c.in-Serve.is at c.requires.prints

@@ -20,6 +20,9 @@ do_command-requires-clause-replays g c κs within = c.requires.replays c.in-Ok.c
 pub do_command-requires-clause-releases : goal.do_command-requires-clause-releases
 do_command-requires-clause-releases g c κs within = c.requires.releases c.in-Ok.command c.in-Ok.ensures.command
 
+pub do_command-requires-clause-tears : goal.do_command-requires-clause-tears
+do_command-requires-clause-tears g c κs within = c.requires.tears c.in-Ok.command c.in-Ok.ensures.command
+
 pub do_command-requires-clause-prints : goal.do_command-requires-clause-prints
 do_command-requires-clause-prints g c κs within = c.requires.prints c.in-Ok.command c.in-Ok.ensures.command
 

@@ -8,5 +8,5 @@ pub returns : goal.returns
 returns g c =
     let disk = c.args._disk.now in
     let moment = g.D.Disk.moment in
-    each_command_keeps_order _ (g.met.D.Disk.lawful disk) (λ told same.
+    each_command_keeps_order c.runs_of_one.ensures _ (g.met.D.Disk.lawful disk) (λ told same.
     subst (λ d. LeavesOnly (moment disk).image (moment disk) (moment d)) (sym same) (started (moment disk).image (moment disk) (g.met.D.Disk.lawful disk told) (λ image is. is)))

@@ -13,17 +13,17 @@ returns g c =
     let lawful = g.met.D.Disk.lawful in
     record {
       none = from_format moment _ AnyWords HoldsNoDisorder (λ image has. holds_none has.0 image has.1 has.2)
-          (λ old new called. (each_command_keeps_order _ (lawful old)
+          (λ old new called. (each_command_keeps_order c.runs_of_one.ensures _ (lawful old)
           (λ told same. subst (λ d. LeavesOnly (moment old).image (moment old) (moment d)) (sym same) (started (moment old).image (moment old) (lawful old told) (λ image is. is)))
           called.words called.note called.is called.told).none)
-          (λ old new called. (each_command_keeps_order _ (lawful old)
+          (λ old new called. (each_command_keeps_order c.runs_of_one.ensures _ (lawful old)
           (λ told same. subst (λ d. LeavesOnly (moment old).image (moment old) (moment d)) (sym same) (started (moment old).image (moment old) (lawful old told) (λ image is. is)))
           called.words called.note called.is called.told).made);
       some = from_format moment _ NotFormat HoldsInOrder (λ image has. has)
-          (λ old new called. (each_command_keeps_order _ (lawful old)
+          (λ old new called. (each_command_keeps_order c.runs_of_one.ensures _ (lawful old)
           (λ told same. subst (λ d. LeavesOnly (moment old).image (moment old) (moment d)) (sym same) (started (moment old).image (moment old) (lawful old told) (λ image is. is)))
           called.words called.note called.is called.told).some called.such)
-          (λ old new called. (each_command_keeps_order _ (lawful old)
+          (λ old new called. (each_command_keeps_order c.runs_of_one.ensures _ (lawful old)
           (λ told same. subst (λ d. LeavesOnly (moment old).image (moment old) (moment d)) (sym same) (started (moment old).image (moment old) (lawful old told) (λ image is. is)))
           called.words called.note called.is called.told).made);
     }

@@ -1,8 +1,6 @@
 use Rattle.std.proofs.Common.{inl, inr, refl, ◌∙◌, ap}
 use Rattle.conn_serve.proofs.Faults.{counts_none}
 use Rattle.commands.specs.Loading.{note_of_load}
-use Rattle.load_laws.proofs.Sure.{all_confirmed, only_memory}
-use Rattle.load_laws.proofs.Well.{can_load}
 use Rattle.commands.proofs.loading.load.Goals as goal
 
 pub returns-in-Ok : goal.returns-in-Ok
@@ -12,7 +10,7 @@ returns-in-Ok g c =
       told = inl (record {
         loaded = c.in-Ok.loaded;
         loaded_is = c.in-Ok.ensures.loaded;
-        all = all_confirmed c.args.proto c.args.number c.args.count few (can_load c.args.proto c.args.number c.args.count few) c.in-Ok.loaded c.in-Ok.ensures.loaded;
+        all = (c.load_comes_to_its_numbers.ensures c.args.proto c.args.number c.args.count few).0 c.in-Ok.loaded c.in-Ok.ensures.loaded;
         line = c.print_loaded.ensures.line;
       });
     }
@@ -20,7 +18,7 @@ returns-in-Ok g c =
 pub returns-in-Err : goal.returns-in-Err
 returns-in-Err g c =
     let few = c.requires.few in
-    let memory = c.load_note.ensures ∙ ap note_of_load (only_memory c.args.proto c.args.number c.args.count few (can_load c.args.proto c.args.number c.args.count few) c.in-Err.fault c.in-Err.ensures.failed) in
+    let memory = c.load_note.ensures ∙ ap note_of_load ((c.load_comes_to_its_numbers.ensures c.args.proto c.args.number c.args.count few).1 c.in-Err.fault c.in-Err.ensures.failed) in
     record {
       writes = counts_none _ _ _ (λ by. cc memory) refl;
       told = inr (record { memory = memory; silent = record { same = refl; taken = refl; faults = refl } });

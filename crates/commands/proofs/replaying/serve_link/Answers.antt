@@ -7,7 +7,7 @@ use Rattle.spool_log.specs.State.{view, IsIn}
 use Rattle.notes.specs.Notes.{note_of_talk}
 use Rattle.conn_serve.specs.Says.{HasCarried}
 use Rattle.conn_serve.specs.Serves.{CarriedAs, CarriedBy}
-use Rattle.conn_serve.specs.Tokens.{tokens_of}
+use Rattle.conn_serve.specs.Terms.{terms_of}
 use Rattle.conn_serve.proofs.Faults.{counts_as}
 use Rattle.commands.specs.Failed.{TellsDiskFault}
 use Rattle.commands.specs.Replayed.{Keeps}
@@ -37,7 +37,7 @@ returns-clause-calls g c =
     let after : c.of.result.disk ≡ c.attend-attended.new.access.desk.spool.disk = c.of.ensures.disk ∙ c.into_disk.ensures ∙ ap (λ d. d.spool.disk) c.into_desk-desk.ensures in
     subst (λ (d : _). TellsDiskFault (c.args.rules.proto ≡ Hec) c.of.result.note (g.D.Disk.moment d) (g.D.Disk.moment c.of.result.disk)) before
     (subst (λ (d : _). TellsDiskFault (c.args.rules.proto ≡ Hec) c.of.result.note (g.D.Disk.moment c.new-access.result.desk.spool.disk) (g.D.Disk.moment d)) (sym after)
-    (disk_calls c.args.rules.proto (tokens_of c.args.rules) _ _ run.bytes run.calls run.text c.attend-attended.result.talk c.of.result.note g.D.Disk.tells _ _ (c.of.ensures.note ∙ c.of_talk.ensures) run.carried run.made))
+    (disk_calls c.args.rules.proto (terms_of c.args.rules) _ _ run.bytes run.calls run.text c.attend-attended.result.talk c.of.result.note g.D.Disk.tells _ _ (c.of.ensures.note ∙ c.of_talk.ensures) run.carried run.made))
 
 pub returns-clause-reads : goal.returns-clause-reads
 returns-clause-reads g c =
@@ -73,7 +73,7 @@ returns-clause-served g c =
             (subst (λ (d : _). Keeps s (g.D.Disk.moment c.new-access.result.desk.spool.disk) (g.D.Disk.moment d) run.calls) (sym after)
             (ran_keeps s _ _ _ run.calls tells at run.made));
         counted = run.counted;
-        carried = subst (λ (n : ℕ). CarriedAs c.args.rules.proto (tokens_of c.args.rules) n (g.L.Source.left c.attend-attended.new.link) run.bytes
+        carried = subst (λ (n : ℕ). CarriedAs c.args.rules.proto (terms_of c.args.rules) n (g.L.Source.left c.attend-attended.new.link) run.bytes
             run.calls run.text c.attend-attended.result.talk) (number ∙ ap (λ (n : ℕ). n * 2 ^ 32) c.run-run.ensures) run.carried;
       };
     }

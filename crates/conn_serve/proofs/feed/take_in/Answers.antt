@@ -17,7 +17,7 @@ loop-fed-init g c = record {
   idle = c.requires.idle;
   extent = omega arith;
   same_number = refl;
-  same_tokens = refl;
+  same_terms = refl;
   may = c.requires.may;
   writes = refl;
   same = g.L.Object.same_refl _;
@@ -52,9 +52,9 @@ serve-requires-clause-says g c =
     let mid = g.S.Session.served number c.feed-fed.new.self in
     let fed = on_fed _ _ _ _ _ (take l.fed piece) (take n rest) from (g.S.Session.served number l.session) mid on inv.done in
     let parts : (take l.fed piece ++ take n rest) ++ drop (l.fed + n) piece ≡ piece = ap (λ (v : List ℕ). v ++ drop (l.fed + n) piece) (sym (take-add l.fed n piece)) ∙ take-append-drop (l.fed + n) piece in
-    says_as g.A.Access.ran l.access (g.L.Sink.permits l.link) (g.L.Sink.taken l.link) l.connection.taken (λ k. g.S.Session.served k c.feed-fed.new.self) (λ t k. CouldEnd (g.S.Session.carried t k)) _ _ _ _ inv.same_number (c.feed-fed.ensures.tokens ∙ inv.same_tokens)
+    says_as g.A.Access.ran l.access (g.L.Sink.permits l.link) (g.L.Sink.taken l.link) l.connection.taken (λ k. g.S.Session.served k c.feed-fed.new.self) (λ t k. CouldEnd (g.S.Session.carried t k)) _ _ _ _ inv.same_number (c.feed-fed.ensures.terms ∙ inv.same_terms)
     (says_on g.A.Access.ran c.args.access.now l.access g.met.A.Access.ran_more (g.L.Sink.permits c.args.link.now) (g.L.Sink.permits l.link) (g.L.Sink.taken c.args.link.now) (g.L.Sink.taken l.link) (g.met.L.Sink.permits_last _ _ inv.apart)
-    (g.S.Session.carried (g.S.Session.tokens c.args.session.now) number) _ _ (take l.fed piece ++ take n rest) (drop (l.fed + n) piece) piece parts from mid fed c.requires.says)
+    (g.S.Session.carried (g.S.Session.terms c.args.session.now) number) _ _ (take l.fed piece ++ take n rest) (drop (l.fed + n) piece) piece parts from mid fed c.requires.says)
 
 pub loop-fed-preserved : goal.loop-fed-preserved
 loop-fed-preserved g c =
@@ -82,7 +82,7 @@ loop-fed-preserved g c =
       idle = call.idle;
       extent = omega (arith, inv.extent, c.feed-fed.ensures.extent, call.extent);
       same_number = call.number ∙ inv.same_number;
-      same_tokens = call.tokens ∙ c.feed-fed.ensures.tokens ∙ inv.same_tokens;
+      same_terms = call.terms ∙ c.feed-fed.ensures.terms ∙ inv.same_terms;
       may = rw (← inv.same_number) call.may;
       writes = quiet_fine _ _ _ _ _ call.writes ∙ inv.writes;
       same = g.L.Object.same_trans _ _ _ inv.same call.same;
@@ -113,23 +113,23 @@ returns-in_err-serve g c =
     let on = λ (b : List ℕ) (cs : _) (t : List ℕ) (s : _). subst (λ (v : List ℕ). g.S.Session.served number c.feed-fed.new.self (b ++ take n v) cs t) left (c.feed-fed.ensures.fed number b cs t s) in
     let call = c.in_err-serve.ensures in
     let talk = c.in_err-serve.field-0.0 in
-    let tokens = g.S.Session.tokens c.args.session.now in
+    let terms = g.S.Session.terms c.args.session.now in
     let from = g.S.Session.served number c.args.session.now in
     let mid = g.S.Session.served number c.feed-fed.new.self in
-    let halts = halts_as _ _ _ _ _ _ tokens mid (λ t. Anyway (g.S.Session.carried t number) talk) (c.feed-fed.ensures.tokens ∙ inv.same_tokens)
-    (goes_as _ _ _ _ _ _ number (λ k. g.S.Session.served k c.feed-fed.new.self) (λ k. Anyway (g.S.Session.carried (g.S.Session.tokens c.feed-fed.new.self) k) talk) inv.same_number call.halts) in
+    let halts = halts_as _ _ _ _ _ _ terms mid (λ t. Anyway (g.S.Session.carried t number) talk) (c.feed-fed.ensures.terms ∙ inv.same_terms)
+    (goes_as _ _ _ _ _ _ number (λ k. g.S.Session.served k c.feed-fed.new.self) (λ k. Anyway (g.S.Session.carried (g.S.Session.terms c.feed-fed.new.self) k) talk) inv.same_number call.halts) in
     let fed = on_fed _ _ _ _ _ (take l.fed piece) (take n rest) from (g.S.Session.served number l.session) mid on inv.done in
     rw (err_of c.from_residual.result talk c.from_residual.ensures.1)
     (record {
       goes = tt;
-      halts = (on_halts _ _ _ _ _ (take l.fed piece ++ take n rest) (drop (l.fed + n) piece) piece from (g.S.Session.carried tokens number) talk (ap (λ (v : List ℕ). v ++ drop (l.fed + n) piece)
-          (sym (take-add l.fed n piece)) ∙ take-append-drop (l.fed + n) piece) (on_then _ _ _ _ _ _ _ _ _ (take l.fed piece ++ take n rest) from mid (Anyway (g.S.Session.carried tokens number) talk)
+      halts = (on_halts _ _ _ _ _ (take l.fed piece ++ take n rest) (drop (l.fed + n) piece) piece from (g.S.Session.carried terms number) talk (ap (λ (v : List ℕ). v ++ drop (l.fed + n) piece)
+          (sym (take-add l.fed n piece)) ∙ take-append-drop (l.fed + n) piece) (on_then _ _ _ _ _ _ _ _ _ (take l.fed piece ++ take n rest) from mid (Anyway (g.S.Session.carried terms number) talk)
           (λ xs ys p q. g.met.A.Access.ran_more _ _ _ xs ys p q) fed halts));
       bytes = λ i. (c.type_inv.piece i).fits;
       only = call.only;
       idle = tt;
       extent = tt;
-      tokens = tt;
+      terms = tt;
       number = call.number ∙ inv.same_number;
       may = tt;
       writes = counts_passed _ _ _ _ _ _ _ inv.writes call.writes;
@@ -146,8 +146,8 @@ returns-clause-only g c = tt
 pub returns-clause-idle : goal.returns-clause-idle
 returns-clause-idle g c = c.loop-fed.invariant.idle
 
-pub returns-clause-tokens : goal.returns-clause-tokens
-returns-clause-tokens g c = c.loop-fed.invariant.same_tokens
+pub returns-clause-terms : goal.returns-clause-terms
+returns-clause-terms g c = c.loop-fed.invariant.same_terms
 
 pub returns-clause-number : goal.returns-clause-number
 returns-clause-number g c = c.loop-fed.invariant.same_number

@@ -13,7 +13,7 @@ invariant-loop-fed g l =
       idle : g.S.Session.idle l.session;
       extent : g.S.Session.extent l.session ≤ g.S.Session.extent l.fn.session + l.fed;
       same_number : l.connection.number ≡ number;
-      same_tokens : g.S.Session.tokens l.session ≡ g.S.Session.tokens l.fn.session;
+      same_terms : g.S.Session.terms l.session ≡ g.S.Session.terms l.fn.session;
       may : g.A.Access.may_take l.access number l.connection.taken;
       writes : g.L.Sink.write_faults l.link ≡ g.L.Sink.write_faults l.fn.link;
       same : g.L.Object.same l.fn.link l.link;

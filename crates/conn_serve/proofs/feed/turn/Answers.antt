@@ -21,7 +21,7 @@ returns-in-Err g c =
       only = inl refl;
       idle = tt;
       extent = tt;
-      tokens = tt;
+      terms = tt;
       number = refl;
       may = tt;
       reads = record { later = read.cause.later; cause = λ is. read.cause.failed refl; quiet = λ none. absurd (none refl) };
@@ -71,8 +71,8 @@ returns-in-Ok-take_in-clause-idle g c = c.in-Ok-take_in.ensures.idle
 pub returns-in-Ok-take_in-clause-extent : goal.returns-in-Ok-take_in-clause-extent
 returns-in-Ok-take_in-clause-extent g c = piece_adds _ _ _ _ c.in-Ok-take_in.ensures.extent
 
-pub returns-in-Ok-take_in-clause-tokens : goal.returns-in-Ok-take_in-clause-tokens
-returns-in-Ok-take_in-clause-tokens g c = c.in-Ok-take_in.ensures.tokens
+pub returns-in-Ok-take_in-clause-terms : goal.returns-in-Ok-take_in-clause-terms
+returns-in-Ok-take_in-clause-terms g c = c.in-Ok-take_in.ensures.terms
 
 pub returns-in-Ok-take_in-clause-number : goal.returns-in-Ok-take_in-clause-number
 returns-in-Ok-take_in-clause-number g c = c.in-Ok-take_in.ensures.number
@@ -109,7 +109,7 @@ returns-in-Err-take_in g c =
       only = inr call.only;
       idle = tt;
       extent = tt;
-      tokens = tt;
+      terms = tt;
       number = call.number;
       may = tt;
       reads = counts_other _ _ _ _ _ (λ is. subst IsAtMove is call.only) (kept.2 ∙ read.cause.quiet refl);

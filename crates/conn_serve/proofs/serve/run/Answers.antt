@@ -1,6 +1,6 @@
 use Rattle.edge_io.proofs.Known.{appends_then}
 use Rattle.std.proofs.Common.{◌++◌, ℕ, ◌∙◌, sym, subst, arith}
-use Rattle.hec_session.specs.declared.tokens.Tokens.{Tokens}
+use Rattle.conn_serve.specs.Terms.{Terms}
 use Rattle.conn_serve.specs.Done.{told}
 use Rattle.conn_serve.specs.Endings.{MayEnd}
 use Rattle.conn_serve.proofs.Running.{progress_turn, serves_as, serves_turn, serves_close, so_far_of}
@@ -18,8 +18,8 @@ pub turn-requires-clause-may_end : goal.turn-requires-clause-may_end
 turn-requires-clause-may_end g c =
     let l = c.loop-total in
     let number = c.args.connection.now.number in
-    subst (λ (n : ℕ). MayEnd (g.S.Session.served n l.session) (g.S.Session.carried (g.S.Session.tokens l.session) n)) (sym l.invariant.same_number)
-    (subst (λ (t : Tokens). MayEnd (g.S.Session.served number l.session) (g.S.Session.carried t number)) (sym l.invariant.same_tokens) l.invariant.may_end)
+    subst (λ (n : ℕ). MayEnd (g.S.Session.served n l.session) (g.S.Session.carried (g.S.Session.terms l.session) n)) (sym l.invariant.same_number)
+    (subst (λ (t : Terms). MayEnd (g.S.Session.served number l.session) (g.S.Session.carried t number)) (sym l.invariant.same_terms) l.invariant.may_end)
 
 pub turn-requires-clause-says : goal.turn-requires-clause-says
 turn-requires-clause-says g c =
@@ -27,12 +27,12 @@ turn-requires-clause-says g c =
     let inv = l.invariant in
     let p = inv.progress in
     let number = c.args.connection.now.number in
-    let tokens = g.S.Session.tokens c.args.session.now in
+    let terms = g.S.Session.terms c.args.session.now in
     let start = told (g.L.Source.given c.args.link.now) (g.L.Source.left c.args.link.now) (g.L.Sink.taken c.args.link.now) in
     λ read piece same given.
-    says_as g.A.Access.ran l.access (g.L.Sink.permits read) (g.L.Sink.taken l.link) l.connection.taken (λ k. g.S.Session.served k l.session) (λ t k fed. HasCarried (g.S.Session.carried t k) (fed ++ piece)) _ _ _ _ inv.same_number inv.same_tokens
+    says_as g.A.Access.ran l.access (g.L.Sink.permits read) (g.L.Sink.taken l.link) l.connection.taken (λ k. g.S.Session.served k l.session) (λ t k fed. HasCarried (g.S.Session.carried t k) (fed ++ piece)) _ _ _ _ inv.same_number inv.same_terms
     (says_since g.A.Access.ran c.args.access.now l.access g.met.A.Access.ran_more (g.L.Sink.permits read) (g.L.Sink.permits read) (g.L.Sink.taken c.args.link.now) (g.L.Sink.taken l.link) (λ text may. may, inv.lasts)
-    (λ fed. HasCarried (g.S.Session.carried tokens number) (fed ++ piece)) (HasCarried (g.S.Session.carried tokens number) (p.bytes ++ piece))
+    (λ fed. HasCarried (g.S.Session.carried terms number) (fed ++ piece)) (HasCarried (g.S.Session.carried terms number) (p.bytes ++ piece))
     l.connection.taken p.bytes p.calls p.text (g.S.Session.served number l.session) (λ calls text e. e) p.made p.wrote p.counted p.served
     (c.requires.says read (p.bytes ++ piece) (g.L.Object.same_trans _ _ _ inv.same same) (appends_then _ _ _ p.bytes piece p.read given)))
 
@@ -47,10 +47,10 @@ close-requires-clause-says g c =
     let left = g.L.Source.left now.link in
     let p = progress_turn start _ (told (g.L.Source.given now.link) left (g.L.Sink.taken now.link)) _ _ (λ calls. g.A.Access.ran c.args.access.now calls now.access)
     (λ xs ys p q. g.met.A.Access.ran_more _ _ _ xs ys p q) _ _ _ _ _ inv.same_number (λ k. g.S.Session.served k l.session) (λ k. g.S.Session.served k now.session) c.in-Ok.len inv.progress went.goes in
-    let tokens = g.S.Session.tokens c.args.session.now in
-    let says = says_as g.A.Access.ran now.access (g.L.Sink.permits now.link) (g.L.Sink.taken now.link) now.connection.taken (λ k. g.S.Session.closing k now.session left c.in-Some.talk) (λ t k. HasCarried (g.S.Session.carried t k)) _ _ _ _ (went.number ∙ inv.same_number) (went.tokens ∙ inv.same_tokens)
+    let terms = g.S.Session.terms c.args.session.now in
+    let says = says_as g.A.Access.ran now.access (g.L.Sink.permits now.link) (g.L.Sink.taken now.link) now.connection.taken (λ k. g.S.Session.closing k now.session left c.in-Some.talk) (λ t k. HasCarried (g.S.Session.carried t k)) _ _ _ _ (went.number ∙ inv.same_number) (went.terms ∙ inv.same_terms)
     (says_since g.A.Access.ran c.args.access.now now.access g.met.A.Access.ran_more (g.L.Sink.permits now.link) (g.L.Sink.permits now.link) (g.L.Sink.taken c.args.link.now) (g.L.Sink.taken now.link) (λ text may. may, λ none. went.lasts (inv.lasts none))
-    (HasCarried (g.S.Session.carried tokens number)) (HasCarried (g.S.Session.carried tokens number) p.bytes)
+    (HasCarried (g.S.Session.carried terms number)) (HasCarried (g.S.Session.carried terms number) p.bytes)
     now.connection.taken p.bytes p.calls p.text (g.S.Session.closing number now.session left c.in-Some.talk) (λ calls text e. e) p.made p.wrote p.counted
     (c.in-Some.ensures.closing number left p.bytes p.calls p.text went.end p.served) (c.requires.says now.link p.bytes (g.L.Object.same_trans _ _ _ inv.same went.same) p.read)) in
     λ at calls text made goes. says at calls text made (goes left)
@@ -77,8 +77,8 @@ loop-total-preserved g c =
       progress = progress_turn start _ (told (g.L.Source.given now.link) (g.L.Source.left now.link) (g.L.Sink.taken now.link)) _ _ (λ calls. g.A.Access.ran c.args.access.now calls now.access)
           (λ xs ys p q. g.met.A.Access.ran_more _ _ _ xs ys p q) _ _ _ _ _ inv.same_number (λ k. g.S.Session.served k l.session) (λ k. g.S.Session.served k now.session) c.in-Ok.len inv.progress went.goes;
       idle = went.idle;
-      may_end = subst (λ (t : Tokens). MayEnd (g.S.Session.served number now.session) (g.S.Session.carried t number)) (went.tokens ∙ inv.same_tokens) (c.in_default.ensures.may_end number);
-      same_tokens = went.tokens ∙ inv.same_tokens;
+      may_end = subst (λ (t : Terms). MayEnd (g.S.Session.served number now.session) (g.S.Session.carried t number)) (went.terms ∙ inv.same_terms) (c.in_default.ensures.may_end number);
+      same_terms = went.terms ∙ inv.same_terms;
       same_number = went.number ∙ inv.same_number;
       may = rw (← inv.same_number) went.may;
       extent = omega (arith, inv.extent, went.extent);
@@ -94,8 +94,8 @@ returns-in-Err g c =
     let l = c.loop-total in
     let start = told (g.L.Source.given c.args.link.now) (g.L.Source.left c.args.link.now) (g.L.Sink.taken c.args.link.now) in
     record {
-      serves = serves_as (λ t. g.S.Session.carried t c.args.connection.now.number) _ _ _ _ _ _ _ _ _ _ l.invariant.same_tokens (serves_turn start _ _ _ _ _
-          (λ xs ys p q. g.met.A.Access.ran_more _ _ _ xs ys p q) _ _ _ _ _ l.invariant.same_number (λ k. g.S.Session.served k l.session) (g.S.Session.carried (g.S.Session.tokens l.session))
+      serves = serves_as (λ t. g.S.Session.carried t c.args.connection.now.number) _ _ _ _ _ _ _ _ _ _ l.invariant.same_terms (serves_turn start _ _ _ _ _
+          (λ xs ys p q. g.met.A.Access.ran_more _ _ _ xs ys p q) _ _ _ _ _ l.invariant.same_number (λ k. g.S.Session.served k l.session) (g.S.Session.carried (g.S.Session.terms l.session))
           c.in-Err.talk l.invariant.progress c.in-Err.ensures.halts);
       reads = counts_told _ _ _ _ _ _ l.invariant.reads c.in-Err.ensures.reads;
       writes = counts_told _ _ _ _ _ _ l.invariant.writes c.in-Err.ensures.writes;
@@ -113,8 +113,8 @@ returns-in-Some g c =
     let p = progress_turn start _ (told (g.L.Source.given now.link) (g.L.Source.left now.link) (g.L.Sink.taken now.link)) _ _ (λ calls. g.A.Access.ran c.args.access.now calls now.access)
     (λ xs ys p q. g.met.A.Access.ran_more _ _ _ xs ys p q) _ _ _ _ _ l.invariant.same_number (λ k. g.S.Session.served k l.session) (λ k. g.S.Session.served k now.session) c.in-Ok.len l.invariant.progress went.goes in
     record {
-      serves = serves_as (λ t. g.S.Session.carried t number) _ _ _ _ _ _ _ _ _ _ (went.tokens ∙ l.invariant.same_tokens) (serves_close start _ _ _ _ _ _ _ _ _ _ _ _ _ _
-          (λ k. g.S.Session.served k now.session) (λ k left. g.S.Session.closing k now.session left c.in-Some.talk) (g.S.Session.carried (g.S.Session.tokens now.session)) c.close.result
+      serves = serves_as (λ t. g.S.Session.carried t number) _ _ _ _ _ _ _ _ _ _ (went.terms ∙ l.invariant.same_terms) (serves_close start _ _ _ _ _ _ _ _ _ _ _ _ _ _
+          (λ k. g.S.Session.served k now.session) (λ k left. g.S.Session.closing k now.session left c.in-Some.talk) (g.S.Session.carried (g.S.Session.terms now.session)) c.close.result
           (λ xs ys p q. g.met.A.Access.ran_more _ _ _ xs ys p q) (went.number ∙ l.invariant.same_number) writes.0 writes.1 p (λ fed calls text s. c.in-Some.ensures.closing number
           (g.L.Source.left now.link) fed calls text went.end s) c.close.ensures.closes);
       reads = counts_none _ _ _ c.close.ensures.unread (writes.2 ∙ quiet_fine _ _ _ _ _ went.reads ∙ l.invariant.reads);

@@ -13,9 +13,9 @@ invariant-loop-total g l =
           (told (g.L.Source.given l.link) (g.L.Source.left l.link) (g.L.Sink.taken l.link))
           (λ calls. g.A.Access.ran l.fn.access calls l.access) l.connection.taken l.total;
       idle : g.S.Session.idle l.session;
-      may_end : MayEnd (g.S.Session.served number l.session) (g.S.Session.carried (g.S.Session.tokens l.fn.session) number);
+      may_end : MayEnd (g.S.Session.served number l.session) (g.S.Session.carried (g.S.Session.terms l.fn.session) number);
       same_number : l.connection.number ≡ number;
-      same_tokens : g.S.Session.tokens l.session ≡ g.S.Session.tokens l.fn.session;
+      same_terms : g.S.Session.terms l.session ≡ g.S.Session.terms l.fn.session;
       may : g.A.Access.may_take l.access number l.connection.taken;
       extent : g.S.Session.extent l.session ≤ l.total;
       below : l.total ≤ 1099511627776;

@@ -13,7 +13,7 @@ attend-attended-requires-clause-says c = λ read bytes same given now calls text
 pub returns-clause-replays : goal.returns-clause-replays
 returns-clause-replays c =
     λ x at. replays_of (λ calls. LeadsTo x calls (alone_at c.attend-attended.new.access)) _ c.rules.result c.args.proto _ _ _ _ _ _ c.attend-attended.result c.args.stream.items c.taken.result.now _
-    c.rules.ensures.proto c.rules.ensures.tokens c.of.ensures.left c.of-2.ensures.taken c.taken.ensures refl
+    c.rules.ensures.proto c.rules.ensures.terms c.of.ensures.left c.of-2.ensures.taken c.taken.ensures refl
     (λ calls made. leads_to x _ _ calls refl refl at made) c.attend-attended.ensures.carried
 
 pub returns-clause-read : goal.returns-clause-read

@@ -27,3 +27,12 @@ looks-preserved g c =
     let looks = looked.0 ++ one.0 ∷ [] in
     let more = look_more g.J.Naming.start to.outward to.place looked.0 one.0 c.args.seated.now.pass c.looks.seated.pass c.look.new.seated.pass _ _ _ looked.1 one.1 in
     (looks, subst (λ (net : NetState). AreLooks g.J.Naming.start to.outward to.place looks c.args.seated.now.pass c.look.new.seated.pass (g.N.Net.told c.args.net.now) net) (sym (g.met.N.Net.pauses_keep _ _ c.pause.ensures.apart)) more)
+
+pub looks-preserved-in-Idle-1 : goal.looks-preserved-in-Idle-1
+looks-preserved-in-Idle-1 g c =
+    let looked = c.looks.invariant in
+    let one = c.look.ensures in
+    let to = c.args.destination.now in
+    let looks = looked.0 ++ one.0 ∷ [] in
+    let more = look_more g.J.Naming.start to.outward to.place looked.0 one.0 c.args.seated.now.pass c.looks.seated.pass c.look.new.seated.pass _ _ _ looked.1 one.1 in
+    (looks, subst (λ (net : NetState). AreLooks g.J.Naming.start to.outward to.place looks c.args.seated.now.pass c.look.new.seated.pass (g.N.Net.told c.args.net.now) net) (sym (g.met.N.Net.pauses_keep _ _ c.wait_briefly.ensures.apart)) more)

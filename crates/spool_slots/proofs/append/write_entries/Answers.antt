@@ -4,7 +4,7 @@ use Rattle.spool_state.specs.Segment.{entries_text}
 use Rattle.spool_state.proofs.Entries.{entries_within, length-entries_more, parts_more}
 use Rattle.spool_slots.specs.Pen.{HasWritten}
 use Rattle.spool_slots.proofs.Faults.{calls_passed}
-use Rattle.spool_slots.proofs.Pens.{run_then}
+use Rattle.spool_slots.proofs.Pens.{run_then, lets_more}
 use Rattle.spool_slots.proofs.append.write_entries.Goals as goal
 
 pub write-requires-clause-room : goal.write-requires-clause-room
@@ -57,3 +57,20 @@ loop-entry-preserved g c =
           (ap (λ (l : List ℕ). ((before ++ done) ++ c.entry_head.result) ++ l) c.bytes.ensures ∙ ap (λ (l : List ℕ). ((before ++ done) ++ l) ++ e.event.text) c.entry_head.ensures ∙ parts_more before c.args.entries.now i e c.loop-entry-test.true c.entry-item.is)
           second;
     }
+
+pub write-requires-clause-leave : goal.write-requires-clause-leave
+write-requires-clause-leave g c =
+    let i = c.loop-entry.entry-index in
+    let e = c.entry-item.result in
+    lets_more g.D.Disk.tells g.D.Disk.moment g.D.Disk.may_tear c.args.pen.now.at (c.args.pen.now.filled + length (entries_text c.args.entries.now)) _ _ _ _ c.loop-entry.invariant.goes_on
+    (omega (arith, c.loop-entry.invariant.took, ap length c.entry_head.ensures, length-head_text e, length-entries_more c.args.entries.now i e c.loop-entry-test.true c.entry-item.is, entries_within c.args.entries.now (i + 1))) c.loop-entry.invariant.run c.requires.leave
+
+pub write-requires-in-loop-entry-clause-leave : goal.write-requires-in-loop-entry-clause-leave
+write-requires-in-loop-entry-clause-leave g c =
+    let i = c.loop-entry.entry-index in
+    let e = c.entry-item.result in
+    let more = length-entries_more c.args.entries.now i e c.loop-entry-test.true c.entry-item.is in
+    let within = entries_within c.args.entries.now (i + 1) in
+    lets_more g.D.Disk.tells g.D.Disk.moment g.D.Disk.may_tear c.args.pen.now.at (c.args.pen.now.filled + length (entries_text c.args.entries.now)) _ _ _ _ (omega (arith, c.loop-entry.invariant.goes_on, c.write.ensures.goes_on))
+    (omega (arith, c.loop-entry.invariant.took, c.in_ok-write.ensures.took, ap length c.entry_head.ensures, ap length c.bytes.ensures, length-head_text e, more, within))
+    (λ tells. run_then _ _ _ _ _ _ _ c.loop-entry.invariant.goes_on (omega (arith, c.loop-entry.invariant.took, ap length c.entry_head.ensures, length-head_text e, more, within)) (c.loop-entry.invariant.run tells) (c.write.ensures.any_moment tells)) c.requires.leave

@@ -2,7 +2,7 @@ use Rattle.std.proofs.Common.{◌+◌, ◌++◌, ◌∷◌, [], ℕ, List, lengt
 use Rattle.foundation.specs.Bytes.{put}
 use Rattle.spool_state.specs.Segment.{entries_text}
 use Rattle.spool_state.proofs.Segments.{group_parts}
-use Rattle.spool_slots.proofs.Pens.{none_written, run_then, none_run}
+use Rattle.spool_slots.proofs.Pens.{none_written, run_then, none_run, lets_more}
 use Rattle.spool_slots.proofs.append.write_group.Goals as goal
 
 pub returns-in_err-write-2-clause-any_moment : goal.returns-in_err-write-2-clause-any_moment
@@ -43,3 +43,28 @@ returns-clause-written g c = λ tells.
     let three = c.in_ok-write-2.ensures.written start base (c.group_head.result ++ entries_text entries) tells two in
     c.in_ok-finish.ensures.written start base ((c.group_head.result ++ entries_text entries) ++ 0 ∷ []) tells three
     ∙ ap (λ (l : List ℕ). put start (l ++ 0 ∷ []) base) (group_parts entries c.args.size c.group_head.result c.group_head.ensures c.requires.size)
+
+pub write-requires-clause-leave : goal.write-requires-clause-leave
+write-requires-clause-leave g c =
+    lets_more g.D.Disk.tells g.D.Disk.moment g.D.Disk.may_tear c.args.at (9 + length (entries_text c.args.entries.now)) _ _ _ _ (omega arith) (omega (arith, ap length c.group_head.ensures)) (λ tells. none_run c.args.at (9 + length (entries_text c.args.entries.now)) _ (g.met.D.Disk.lawful c.args.disk.now tells)) c.requires.leave
+
+pub write_entries-requires-clause-leave : goal.write_entries-requires-clause-leave
+write_entries-requires-clause-leave g c =
+    lets_more g.D.Disk.tells g.D.Disk.moment g.D.Disk.may_tear c.args.at (9 + length (entries_text c.args.entries.now)) _ _ _ _ (omega (arith, c.write.ensures.goes_on)) (omega (arith, c.in_ok-write.ensures.took, ap length c.group_head.ensures)) (λ tells.
+    let none = none_run c.args.at (9 + length (entries_text c.args.entries.now)) _ (g.met.D.Disk.lawful c.args.disk.now tells) in
+    run_then _ _ _ _ _ _ _ (omega arith) (omega arith) none (c.write.ensures.any_moment tells)) c.requires.leave
+
+pub write-requires-2-clause-leave : goal.write-requires-2-clause-leave
+write-requires-2-clause-leave g c =
+    lets_more g.D.Disk.tells g.D.Disk.moment g.D.Disk.may_tear c.args.at (9 + length (entries_text c.args.entries.now)) _ _ _ _ (omega (arith, c.write.ensures.goes_on, c.write_entries.ensures.goes_on)) (omega (arith, c.in_ok-write.ensures.took, c.in_ok-write_entries.ensures.took, ap length c.group_head.ensures)) (λ tells.
+    let none = none_run c.args.at (9 + length (entries_text c.args.entries.now)) _ (g.met.D.Disk.lawful c.args.disk.now tells) in
+    let one = run_then _ _ _ _ _ _ _ (omega arith) (omega arith) none (c.write.ensures.any_moment tells) in
+    run_then _ _ _ _ _ _ _ (omega (arith, c.write.ensures.goes_on)) (omega (arith, c.in_ok-write.ensures.took, ap length c.group_head.ensures)) one (c.write_entries.ensures.any_moment tells)) c.requires.leave
+
+pub finish-requires-clause-leave : goal.finish-requires-clause-leave
+finish-requires-clause-leave g c =
+    lets_more g.D.Disk.tells g.D.Disk.moment g.D.Disk.may_tear c.args.at (9 + length (entries_text c.args.entries.now)) _ _ _ _ (omega (arith, c.write.ensures.goes_on, c.write_entries.ensures.goes_on, c.write-2.ensures.goes_on)) (omega (arith, c.in_ok-write.ensures.took, c.in_ok-write_entries.ensures.took, c.in_ok-write-2.ensures.took, ap length c.group_head.ensures)) (λ tells.
+    let none = none_run c.args.at (9 + length (entries_text c.args.entries.now)) _ (g.met.D.Disk.lawful c.args.disk.now tells) in
+    let one = run_then _ _ _ _ _ _ _ (omega arith) (omega arith) none (c.write.ensures.any_moment tells) in
+    let two = run_then _ _ _ _ _ _ _ (omega (arith, c.write.ensures.goes_on)) (omega (arith, c.in_ok-write.ensures.took, ap length c.group_head.ensures)) one (c.write_entries.ensures.any_moment tells) in
+    run_then _ _ _ _ _ _ _ (omega (arith, c.write.ensures.goes_on, c.write_entries.ensures.goes_on)) (omega (arith, c.in_ok-write.ensures.took, c.in_ok-write_entries.ensures.took, ap length c.group_head.ensures)) two (c.write-2.ensures.any_moment tells)) c.requires.leave

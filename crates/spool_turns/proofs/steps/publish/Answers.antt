@@ -1,3 +1,4 @@
+use Rattle.std.specs.Prelude.{false}
 use Rattle.std.proofs.Common.{[], ◌∙◌, arith}
 use Rattle.spool_log.specs.State.{view}
 use Rattle.spool_desk.specs.Alone.{alone_view}
@@ -28,7 +29,7 @@ pub returns-clause-kept : goal.returns-clause-kept
 returns-clause-kept g c =
     let d = c.cursor-cursor.ensures.same.0 ∙ c.end-end.ensures.same.0 in
     let m = c.cursor-cursor.ensures.same.1 ∙ c.end-end.ensures.same.1 in
-    λ call i. record { by = 0; call = call; met = m i; after = standing_in (d i).spool.memory; clock = (g.D.Disk.moment (d i).spool.disk).clock }
+    λ call i. record { by = 0; call = call; joins = false; met = m i; after = standing_in (d i).spool.memory; clock = (g.D.Disk.moment (d i).spool.disk).clock }
 
 pub returns-clause-exact : goal.returns-clause-exact
 returns-clause-exact g c =

@@ -5,6 +5,7 @@ use Rattle.relp_frame.specs.Machine.{frame}
 use Rattle.relp_frame.proofs.WriteLaws.{spelling_fits}
 use Rattle.stream_grammar.specs.Reading.{Window}
 use Rattle.relp_frame.specs.declared.fault.RelpFault.{RelpFault}
+use Rattle.conn_serve.specs.Terms.{most_of}
 use Rattle.conn_serve.proofs.Faults.{counts_fine, counts_passed, err_of, quiet_fine}
 use Rattle.conn_serve.proofs.RelpSessions.{due_carried, fewer, served_frame, served_halt, served_still}
 use Rattle.conn_serve.proofs.relp.session.serve_next.Goals as goal
@@ -20,14 +21,14 @@ serve_frame-requires-clause-says g c =
     let after = c.next.follows.lender-at-none in
     let gives = subst (λ lent. LendsFirst c.args.window.now lent after) c.in-Some.is c.next.follows.holds-at-none in
     λ now calls text made due. c.requires.says now calls text made
-    (λ fault. due_carried _ c.args.connection.now.number c.args.window.now after c.args.core.now fault (frame c.in-Some.lent.txnr c.in-Some.lent.command.now c.in-Some.lent.body.now) gives calls text due)
+    (λ fault. due_carried _ (most_of c.args.group) c.args.connection.now.number c.args.window.now after c.args.core.now c.args.run.now fault (frame c.in-Some.lent.txnr c.in-Some.lent.command.now c.in-Some.lent.body.now) gives calls text due)
 
 pub returns-in_default : goal.returns-in_default
 returns-in_default g c =
     let after = c.next.follows.lender-at-none in
     let none = subst (λ lent. LendsFirst c.args.window.now lent after) c.in_default.is c.next.follows.holds-at-none in
     record {
-      goes = λ fault. served_still _ _ _ c.args.connection.now.number c.args.window.now after c.args.core.now fault none.1 (g.met.A.Access.ran_none _);
+      goes = λ fault. served_still _ _ _ (most_of c.args.group) c.args.connection.now.number c.args.window.now after c.args.core.now c.args.run.now fault none.1 (g.met.A.Access.ran_none _);
       halts = λ fault. tt;
       only = tt;
       idle = λ is. record { none = ap (λ (w : Window RelpFault). w.whole) none.1 ∙ none.0; space = none.2 };
@@ -35,6 +36,7 @@ returns-in_default g c =
       extent = ap (λ (w : Window RelpFault). w.at + length w.rest) none.1;
       number = refl;
       may = c.requires.may;
+      staged = c.requires.staged;
       writes = counts_fine _ _ _ _ _ refl;
       same = g.L.Object.same_refl _;
       apart = g.met.L.Sink.apart_refl _;
@@ -50,13 +52,14 @@ returns-in_err-serve_frame g c =
     rw (err_of c.from_residual.result talk c.from_residual.ensures.1)
     (record {
       goes = λ fault. tt;
-      halts = λ fault. served_halt _ _ _ _ _ number c.args.window.now after c.args.core.now fault (frame c.in-Some.lent.txnr c.in-Some.lent.command.now c.in-Some.lent.body.now) gives number refl talk call.only call.halts;
+      halts = λ fault. served_halt _ _ _ _ _ (most_of c.args.group) number c.args.window.now after c.args.core.now c.args.run.now fault (frame c.in-Some.lent.txnr c.in-Some.lent.command.now c.in-Some.lent.body.now) gives talk call.halts;
       only = call.only;
       idle = tt;
       fewer = tt;
       extent = tt;
       number = call.number;
       may = tt;
+      staged = tt;
       writes = counts_passed _ _ _ _ _ _ _ refl call.writes;
       same = call.same;
       apart = call.apart;
@@ -69,7 +72,7 @@ returns g c =
     let call = c.in_ok-serve_frame.ensures in
     let number = c.args.connection.now.number in
     record {
-      goes = λ fault. served_frame _ _ _ _ _ number c.args.window.now after c.args.core.now fault (frame c.in-Some.lent.txnr c.in-Some.lent.command.now c.in-Some.lent.body.now) gives number refl c.serve_frame.new.core call.after call.goes;
+      goes = λ fault. served_frame _ _ _ _ _ (most_of c.args.group) number c.args.window.now after c.args.core.now c.args.run.now fault (frame c.in-Some.lent.txnr c.in-Some.lent.command.now c.in-Some.lent.body.now) gives c.serve_frame.new.core c.serve_frame.new.run call.goes;
       halts = λ fault. tt;
       only = tt;
       idle = λ is. absurd cc;
@@ -77,6 +80,7 @@ returns g c =
       extent = ap (λ (w : Window RelpFault). w.at + length w.rest) gives.same;
       number = call.number;
       may = call.may;
+      staged = call.staged;
       writes = counts_fine _ _ _ _ _ (quiet_fine _ _ _ _ _ call.writes);
       same = call.same;
       apart = call.apart;

@@ -1,7 +1,7 @@
 use Rattle.std.proofs.Common.{◌∙◌, ap, refl, arith}
 use Rattle.edge_disk.proofs.Moments.{started, weaker}
 use Rattle.disk_cell.specs.Cell.{place_of}
-use Rattle.disk_cell.proofs.Setting.{set_moments, set_outside, known_step, known_then, closing_holds}
+use Rattle.disk_cell.proofs.Setting.{set_moments, set_outside, known_step, known_then, closing_holds, tears_closing, lets_cell}
 use Rattle.disk_cell.proofs.register.Register.set.Goals as goal
 
 pub returns-then-self-clause-any_moment : goal.returns-then-self-clause-any_moment
@@ -32,3 +32,12 @@ pub returns-clause-outside : goal.returns-clause-outside
 returns-clause-outside g c = λ tells.
     let old = g.met.D.Disk.lawful c.args.disk.now tells in
     set_outside c.args.self.now c.args.run c.args.cursor c.args.known.now _ _ _ c.requires.few (omega (arith, c.requires.room, old.reads_size)) (c.in_ok-close_other.ensures.outside tells) c.offset.result (c.offset.ensures ∙ ap (λ x. place_of x) c.other-counting.ensures) (c.in_ok-write_cell.ensures.written tells)
+
+pub close_other-requires-clause-leave : goal.close_other-requires-clause-leave
+close_other-requires-clause-leave g c = λ is_open.
+    c.requires.leave (omega (arith, c.args.self.now.last, c.if-self.false)) c.args.disk.now _ 1 (λ tells.
+    tears_closing c.args.self.now c.args.run c.args.cursor c.args.known.now c.requires.few _ (g.met.D.Disk.lawful c.args.disk.now tells) c.requires.room is_open (c.requires.known tells))
+
+pub write_cell-requires-clause-leave : goal.write_cell-requires-clause-leave
+write_cell-requires-clause-leave g c =
+    lets_cell c.args.self.now c.args.run c.args.cursor c.args.known.now c.requires.few g.D.Disk.tells g.D.Disk.moment g.D.Disk.may_tear _ _ (λ tells. g.met.D.Disk.lawful c.args.disk.now tells) c.requires.room (omega (arith, c.args.self.now.last)) c.close_other.ensures.any_moment c.offset.result (c.offset.ensures ∙ ap (λ x. place_of x) c.other-counting.ensures) (c.requires.leave (omega (arith, c.args.self.now.last, c.if-self.false)))

@@ -1,5 +1,9 @@
-use Rattle.std.proofs.Common.{inr, ◌+◌, ◌≤◌, length, arith, sym, ◌∙◌, subst}
-use Rattle.spool_state.specs.Segment.{IsGroup}
+use Rattle.std.proofs.Common.{inr, ◌+◌, ◌++◌, ◌≤◌, [], ◌∷◌, length, arith, sym, ◌∙◌, subst}
+use Rattle.std.proofs.Math.Logic.{∥∥₁_map}
+use Rattle.spool_state.specs.Segment.{IsGroup, group_text}
+use Rattle.spool_state.specs.Keeping.{KeepsSpool}
+use Rattle.edge_disk.specs.Gate.{GoesBehind}
+use Rattle.edge_disk.proofs.Leaving.{lets_as}
 use Rattle.spool_state.specs.SpoolState.{end}
 use Rattle.spool_state.proofs.Adding.{end_later}
 use Rattle.disk_cell.proofs.Frames.{knows_stays}
@@ -8,6 +12,7 @@ use Rattle.spool_log.specs.Device.{GoOn}
 use Rattle.spool_log.specs.Memory.{end_of}
 use Rattle.spool_log.proofs.Changes.Grown.{grown}
 use Rattle.spool_log.proofs.Changes.Added.{closed_here, holds_read, holds_images, add_moments, add_outside, add_knows, add_stands}
+use Rattle.spool_log.proofs.Changes.Leaving.{adding_keeps}
 use Rattle.spool_log.proofs.Scans.Marked.{marked_group}
 use Rattle.spool_log.proofs.memory.Memory.append.Goals as goal
 
@@ -90,3 +95,16 @@ invariant_of-self g c =
       cursor_upto = omega (arith, more.first_is, more.least, self.cursor_upto);
       known_upto = end_later (end_of self) (slot.first + slot.count) known (omega (arith, more.first_is, more.least)) self.known_upto;
     }
+
+pub append_entries-requires-clause-leave : goal.append_entries-requires-clause-leave
+append_entries-requires-clause-leave g c =
+    let m = g.D.Disk.moment c.args.disk.now in
+    let slot = c.args.self.now.active in
+    let group = c.args.entries.now in
+    let released = g.D.Disk.may_release in
+    let sound : IsGroup group = record { some = c.requires.some; entries = c.requires.limits } in
+    lets_as g.D.Disk.tells g.D.Disk.moment g.D.Disk.may_tear (GoesBehind m (slot.at + slot.gate) (group_text group ++ 0 ∷ [])) (KeepsSpool released) (λ t now torn goes.
+    ∥∥₁_map (c.requires.stored t) (λ p.
+    let s = p.0 in
+    let fits : end s + length group ≤ 9223372036854775808 = omega (arith, c.requires.numbers, end_known s slot p.1.stands.sound p.1.knows.active) in
+    adding_keeps released s m (c.requires.settled t) p.1.stands slot p.1.knows.active group sound fits c.requires.room now torn goes)) c.requires.leave

@@ -1,5 +1,6 @@
 use Rattle.std.proofs.Common.{◌≡◌, ℕ, ◌+◌, ◌*◌, List, [], ◌∷◌, ◌++◌, get_or, arith, refl, ap, subst, sym, ◌∙◌}
 use Rattle.std.specs.Prelude.{All}
+use Rattle.std.proofs.Math.Logic.{∥∥₁_map}
 use Rattle.std.proofs.lemmas.List.Elements.{All-nil, All-cons, All-append}
 use Rattle.spool_state.specs.Change.{begun}
 use Rattle.spool_state.specs.Image.{slot_at}
@@ -90,3 +91,13 @@ invariant_of-self g c =
       cursor_upto = omega (arith, first, self.cursor_upto);
       known_upto = end_later (end_of self) (slot.first + slot.count) self.register.content.known.items (omega (arith, first)) self.known_upto;
     }
+
+pub begin_with-requires-clause-next : goal.begin_with-requires-clause-next
+begin_with-requires-clause-next g c = λ tells.
+    ∥∥₁_map (c.requires.stored tells) (λ p.
+    let s = p.0 in
+    let knows = p.1.knows in
+    let sound = p.1.stands.sound in
+    let next = next_known s c.args.self.now.size c.args.self.now.active c.args.place _ _ _ sound knows.size knows.active (c.requires.closed tells s p.1) c.next_at-head.ensures
+    (place_of c.args.self.now.size c.args.place c.from.result s.size c.from.ensures knows.size) c.requires.small c.requires.full in
+    (s, c.args.place, p.1.stands, next, omega (arith, end_known s c.args.self.now.active sound knows.active, c.requires.numbers)))

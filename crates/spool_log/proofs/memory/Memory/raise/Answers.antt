@@ -1,7 +1,7 @@
-use Rattle.std.proofs.Common.{◌≡◌, ◌⊎◌, List, [], ◌∷◌, refl, sym, ◌∙◌, ap, subst}
+use Rattle.std.proofs.Common.{◌≡◌, ◌⊎◌, inl, List, [], ◌∷◌, refl, sym, ◌∙◌, ap, subst}
 use Rattle.std.specs.Prelude.{Result, IfErr}
 use Rattle.known_numbers.specs.declared.stretch.Stretch.{Stretch}
-use Rattle.known_numbers.specs.Numbers.{numbers_of, IsSound}
+use Rattle.known_numbers.specs.Numbers.{Numbers, numbers_of, IsKnown, IsSound}
 use Rattle.edge_disk.specs.Disk.{LeavesOnly}
 use Rattle.spool_log.specs.Device.{numbers_in}
 use Rattle.spool_answers.specs.Stages.{StandsForOne}
@@ -42,3 +42,13 @@ pub returns-in_err-write_register-clause-unchanged : goal.returns-in_err-write_r
 returns-in_err-write_register-clause-unchanged g c =
     subst (λ (r : Result Unit RecoverFault). IfErr r (λ fault. (fault ≡ DiskFault) ⊎ (c.write_register.new.disk ≡ c.args.disk.now))) (sym (err_is _ _ c.from_residual.ensures.1))
     (unwritten _ c.in_err-write_register.field-0.0 (c.write_register.new.disk ≡ c.args.disk.now) c.in_err-write_register.ensures.worn c.write_register.ensures.unchanged)
+
+pub write_register-requires-clause-keeps : goal.write_register-requires-clause-keeps
+write_register-requires-clause-keeps g c = λ n is.
+    let same = ap numbers_in (sym c.value-content.ensures) ∙ sym (c.set.ensures ∙ ap (λ (l : List Stretch). numbers_of c.value-content.result.now.cursor l) c.deref.ensures.value) in
+    subst (λ (a : Numbers). IsKnown a n) same is
+
+pub write_register-requires-clause-earned : goal.write_register-requires-clause-earned
+write_register-requires-clause-earned g c = λ n is.
+    let same = c.set.ensures ∙ ap (λ (l : List Stretch). numbers_of c.value-content.result.now.cursor l) c.deref.ensures.value ∙ ap numbers_in c.value-content.ensures in
+    inl (subst (λ (a : Numbers). IsKnown a n) same is)

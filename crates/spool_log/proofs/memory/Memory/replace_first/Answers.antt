@@ -1,4 +1,5 @@
 use Rattle.std.proofs.Common.{List, [], ◌∷◌, ◌++◌, refl, ap, subst, sym, ◌∙◌, arith}
+use Rattle.std.proofs.Math.Logic.{∥∥₁_prop, ∥∥₁_elim, ∥∥₁_map}
 use Rattle.spool_state.specs.SpoolState.{OpenSlot}
 use Rattle.spool_state.specs.Change.{added, begun, shut}
 use Rattle.spool_state.proofs.Shut.{end-shut}
@@ -8,6 +9,7 @@ use Rattle.spool_log.specs.Knows.{IsStored, KnowsSlot, KnowsSlots}
 use Rattle.spool_answers.specs.Stages.{last_of, replace_stages}
 use Rattle.spool_log.proofs.Numbers.{end_known}
 use Rattle.spool_log.proofs.Changes.Replacing.{first_stored, first_images, older_known, shut_stage, shut_stages, shut_outside, shut_here, next_shut}
+use Rattle.spool_log.proofs.Changes.Leaving.{tears_shut}
 use Rattle.spool_log.proofs.Changes.Starting.{register_kept}
 use Rattle.spool_log.specs.Reading.Marked.{IsMarked}
 use Rattle.spool_log.proofs.Scans.Marked.{marked_shut, marked_begun, marked_group}
@@ -72,3 +74,23 @@ returns-clause-stored g c = λ s tells stored.
       };
       register = subst (λ (r : Register). Cells.Knows r new.reads) (sym c.shift.ensures.register) kept_last;
     })
+
+pub shut-requires-clause-leave : goal.shut-requires-clause-leave
+shut-requires-clause-leave g c =
+    c.requires.leave c.args.disk.now _ 1 (λ tells d torn image same.
+    ∥∥₁_elim (c.requires.stored tells) ∥∥₁_prop (λ p.
+    let first = first_stored p.0 c.args.self.now _ p.1 c.requires.confirmed c.index-first.result.now c.index-first.ensures in
+    tears_shut g.D.Disk.may_release p.0 _ (c.requires.settled tells) p.1.stands first d torn image same))
+
+pub begin_with-requires-clause-next : goal.begin_with-requires-clause-next
+begin_with-requires-clause-next g c = λ tells.
+    ∥∥₁_map (c.requires.stored tells) (λ p.
+    let s = p.0 in
+    let settled = c.requires.settled tells in
+    let knows = p.1.knows in
+    let sound = p.1.stands.sound in
+    let first = first_stored s c.args.self.now _ p.1 c.requires.confirmed c.index-first.result.now c.index-first.ensures in
+    let run = c.shut.ensures.any_moment first.slot.segment tells (first_images s first _ settled p.1.stands) in
+    let here = shut_here s first _ settled p.1.stands _ run (g.met.D.Disk.lawful c.shut.new.disk tells) (c.in_ok-shut.ensures.closed tells) in
+    let next = next_shut s first sound c.args.self.now.size c.args.self.now.active _ c.next_at.result knows.size knows.active c.next_at.ensures c.requires.small c.requires.full in
+    (shut s first.rest, first.slot.place, here, next, omega (arith, end-shut s first.slot first.rest first.is sound, end_known s c.args.self.now.active sound knows.active, c.requires.numbers)))

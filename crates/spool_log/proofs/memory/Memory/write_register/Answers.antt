@@ -1,12 +1,18 @@
-use Rattle.std.proofs.Common.{◌≡◌, inl, inr, ◌+◌, ◌^◌, [], ◌∷◌, ap, sym, subst, arith}
+use Rattle.std.proofs.Common.{◌≡◌, inl, inr, ℕ, List, ◌+◌, ◌^◌, [], ◌∷◌, ap, sym, subst, arith}
 use Rattle.std.proofs.Math.Logic.{∥∥₁_map}
 use Rattle.std.proofs.lemmas.Bool.{cases_lt}
 use Rattle.spool_state.specs.Change.{registered}
+use Rattle.spool_state.specs.Keeping.{KeepsSpool}
 use Rattle.spool_state.proofs.Registered.{sound-registered}
 use Rattle.edge_disk.specs.Disk.{Moment, LeavesOnly}
+use Rattle.edge_disk.specs.Leave.{Lets}
+use Rattle.edge_disk.proofs.Leaving.{lets_as}
+use Rattle.known_numbers.specs.declared.stretch.Stretch.{Stretch}
+use Rattle.disk_cell.specs.Register.{GoesSet}
 use Rattle.disk_cell.proofs.Frames.{knows_images, knows_holds}
 use Rattle.spool_answers.specs.Stages.{StandsForOne}
 use Rattle.spool_log.proofs.Stored.{register_known, stays}
+use Rattle.spool_log.proofs.Changes.Leaving.{set_keeps}
 use Rattle.spool_log.proofs.Changes.Marking.{may_lie}
 use Rattle.spool_log.proofs.Changes.Registered.{has_as, register_new, set_moments, step_as}
 use Rattle.spool_log.proofs.memory.Memory.write_register.Goals as goal
@@ -71,3 +77,20 @@ returns-clause-any_moment g c = λ s tells stored.
     set_moments s c.args.self.now.register c.args.run numbers old _ (c.requires.settled tells) stored.stands knows.ordinal knows.run knows.cursor knows.known
     (sound-registered s c.args.run numbers.cursor numbers.stretches stored.stands.sound c.requires.run (omega (arith, c.in_ok-set.ensures.worn, knows.ordinal)) lie.0 lie.1 c.cursor.ensures.sound lie.2)
     (step_as c.args.self.now.register c.args.run c.cursor.result numbers.cursor c.stretches.result.now numbers.stretches old _ c.cursor.ensures.cursor c.stretches.ensures.stretches (c.set.ensures.any_moment tells))
+
+pub set-requires-clause-leave : goal.set-requires-clause-leave
+set-requires-clause-leave g c = λ fits.
+    let self = c.args.self.now in
+    let m = g.D.Disk.moment c.args.disk.now in
+    let numbers = c.args.numbers.now in
+    let run = c.args.run in
+    let released = g.D.Disk.may_release in
+    let lets = lets_as g.D.Disk.tells g.D.Disk.moment g.D.Disk.may_tear (GoesSet m self.register run numbers.cursor numbers.stretches) (KeepsSpool released) (λ t now torn goes.
+    ∥∥₁_map (c.requires.stored t) (λ p.
+    let s = p.0 in
+    let knows = p.1.knows in
+    let lie = may_lie s self numbers knows p.1.stands.sound c.requires.numbers in
+    let sound = sound-registered s run numbers.cursor numbers.stretches p.1.stands.sound c.requires.run (omega (arith, fits, knows.ordinal)) lie.0 lie.1 c.cursor.ensures.sound lie.2 in
+    set_keeps released s m (c.requires.settled t) p.1.stands self run numbers knows sound c.requires.rises c.requires.numbers.reaches c.requires.keeps c.requires.earned now torn goes)) c.requires.leave in
+    subst (λ (l : List Stretch). Lets g.D.Disk.tells g.D.Disk.moment g.D.Disk.may_tear (GoesSet m self.register run c.cursor.result l)) (sym c.stretches.ensures.stretches)
+    (subst (λ (n : ℕ). Lets g.D.Disk.tells g.D.Disk.moment g.D.Disk.may_tear (GoesSet m self.register run n numbers.stretches)) (sym c.cursor.ensures.cursor) lets)

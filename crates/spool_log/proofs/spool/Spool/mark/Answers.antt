@@ -1,6 +1,6 @@
 use Rattle.std.proofs.Common.{inl, inr, ℕ, ◌<◌, sym, ◌∙◌, ap, subst, arith}
 use Rattle.std.proofs.lemmas.Bool.{false≢true}
-use Rattle.known_numbers.specs.Numbers.{marked}
+use Rattle.known_numbers.specs.Numbers.{IsKnown, marked}
 use Rattle.spool_state.specs.SpoolState.{end}
 use Rattle.disk_cell.specs.declared.content.Content.{Content}
 use Rattle.spool_log.specs.Device.{numbers_in, MayFollow}
@@ -42,3 +42,13 @@ write_known-requires-clause-may g c =
 
 pub write_known-requires-clause-new : goal.write_known-requires-clause-new
 write_known-requires-clause-new g c = subst (λ (x : Content). total_of (numbers_in x) < total_of c.join.new.numbers) c.value.ensures (c.join.ensures.new.0 c.if-not-join.false)
+
+pub write_known-requires-clause-keeps : goal.write_known-requires-clause-keeps
+write_known-requires-clause-keeps g c = λ n is. c.join.ensures.keeps n (subst (λ (x : Content). IsKnown (numbers_in x) n) (sym c.value.ensures) is)
+
+pub write_known-requires-clause-earned : goal.write_known-requires-clause-earned
+write_known-requires-clause-earned g c = λ n is.
+    elim (c.join.ensures.only n is) [
+      | inl was ↦ inl (subst (λ (x : Content). IsKnown (numbers_in x) n) c.value.ensures was)
+      | inr more ↦ inr (c.requires.earned n more)
+    ]

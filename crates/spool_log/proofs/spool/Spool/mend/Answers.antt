@@ -27,6 +27,7 @@ returns-in_err-self-clause-mended g c = λ s doubt tells held.
 
 pub invariant_of-self-2 : goal.invariant_of-self-2
 invariant_of-self-2 g c = record {
+  lets = c.args.self.now.lets;
   long = c.read_device.ensures.calls.size ∙ c.in_ok-self.ensures.long;
   whole = c.args.self.now.whole;
   settled = λ is tells. still_settled _ _ (c.in_ok-sync.ensures.durable tells) (c.read_device.ensures.told tells);

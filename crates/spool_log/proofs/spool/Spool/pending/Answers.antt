@@ -16,6 +16,7 @@ use Rattle.spool_log.proofs.spool.Spool.pending.Goals as goal
 
 pub invariant_of-self : goal.invariant_of-self
 invariant_of-self g c = record {
+  lets = c.mend.new.self.lets;
   long = c.read_from.ensures.calls.size ∙ c.mend.new.self.long;
   whole = c.mend.new.self.whole;
   settled = λ is tells. still_settled _ _ (c.mend.new.self.settled is tells) (c.read_from.ensures.told tells);
@@ -27,6 +28,7 @@ invariant_of-self-2 g c =
     let memory = c.mend.new.self.memory in
     let same = c.read_up.ensures.same_device in
     record {
+      lets = c.mend.new.self.lets;
       long = c.read_from.ensures.calls.size ∙ c.mend.new.self.long ∙ (λ i. slot_at (sym same.0 i) (sym same.1 i));
       whole = c.mend.new.self.whole;
       settled = λ is tells. still_settled _ _ (c.mend.new.self.settled is tells) (c.read_from.ensures.told tells);

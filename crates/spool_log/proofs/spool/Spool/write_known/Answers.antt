@@ -28,6 +28,7 @@ invariant_of-self-in-Err-Worn g c =
     let same = c.write_register.ensures.unchanged last.0 in
     let known = c.in-Err-Worn.ensures.err in
     record {
+      lets = c.args.self.now.lets;
       long = c.write_register.ensures.calls.size ∙ c.args.self.now.long ∙ (λ i. slot_at (sym c.write_register.ensures.same_device.0 i) (sym c.write_register.ensures.same_device.1 i));
       whole = c.args.self.now.whole;
       settled = λ is tells. subst (λ (m : Moment). IsSettled m) (sym (ap g.D.Disk.moment same)) (c.args.self.now.settled c.requires.sure tells);

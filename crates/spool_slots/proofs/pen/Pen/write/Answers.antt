@@ -1,7 +1,7 @@
-use Rattle.std.proofs.Common.{◌++◌, ℕ, List, take, drop, ◌∙◌, ap, subst, arith, append_assoc, take-append-drop}
+use Rattle.std.proofs.Common.{◌+◌, ◌++◌, ℕ, List, length, take, drop, ◌∙◌, ap, subst, arith, append_assoc, take-append-drop}
 use Rattle.spool_slots.specs.Pen.{HasWritten}
 use Rattle.spool_slots.proofs.Faults.{calls_passed}
-use Rattle.spool_slots.proofs.Pens.{run_then}
+use Rattle.spool_slots.proofs.Pens.{run_then, lets_more}
 use Rattle.spool_slots.proofs.pen.Pen.write.Goals as goal
 
 pub returns-in_err-n-clause-any_moment : goal.returns-in_err-n-clause-any_moment
@@ -27,3 +27,8 @@ loop-rest-preserved g c =
             (c.in_ok-n.ensures.written start base (done ++ before) tells (c.loop-rest.invariant.written.2 start base done tells has)),
       );
     }
+
+pub take_some-requires-clause-leave : goal.take_some-requires-clause-leave
+take_some-requires-clause-leave g c =
+    let pen = c.args.self.now in
+    lets_more g.D.Disk.tells g.D.Disk.moment g.D.Disk.may_tear pen.at (pen.filled + length c.args.text.now) _ _ _ _ c.loop-rest.invariant.goes_on (omega (arith, c.loop-rest.invariant.took)) c.loop-rest.invariant.run c.requires.leave

@@ -5,7 +5,8 @@ use Rattle.spool_state.specs.Segment.{IsGroup, entries_of, group_text, need_of}
 use Rattle.spool_state.proofs.Once.{count_below}
 use Rattle.spool_state.proofs.Texts.{length-group_text, length-need, length-segment_text-with_group, entries_of-with_group}
 use Rattle.edge_disk.proofs.GateSteps.{piece_written, gate_opened}
-use Rattle.spool_slots.proofs.Steps.{append_run, append_holds, closed_after, body_from}
+use Rattle.edge_disk.proofs.Leaving.{tears_gate}
+use Rattle.spool_slots.proofs.Steps.{append_run, append_holds, closed_after, body_from, lets_filling}
 use Rattle.spool_slots.proofs.slot.Slot.append_entries.Goals as goal
 
 pub invariant_of-self : goal.invariant_of-self
@@ -81,3 +82,16 @@ returns-clause-closed_after g c = λ tells b image.
     (omega (arith, c.requires.place, lawful.reads_size, c.if-need-room.false, c.room-room.ensures, c.group_need-need.ensures, length-group_text entries, slot.inside))
     ((c.sync.ensures.told tells).same ∙ c.in_ok-write_group.ensures.written tells) (c.in_ok-open_gate.ensures.written tells) ((c.in_ok-open_gate.ensures.durable tells).only b image)
     (omega (arith, c.group_need-need.ensures, length-group_text entries))
+
+pub write_group-requires-clause-leave : goal.write_group-requires-clause-leave
+write_group-requires-clause-leave g c =
+    lets_filling g.D.Disk.tells g.D.Disk.moment g.D.Disk.may_tear (c.args.self.now.at + c.args.self.now.gate) c.args.entries.now _ c.requires.closed c.requires.leave
+
+pub open_gate-requires-clause-leave : goal.open_gate-requires-clause-leave
+open_gate-requires-clause-leave g c =
+    let slot = c.args.self.now in
+    let entries = c.args.entries.now in
+    let fits : need_of entries ≤ slot.size - slot.gate - 1 = omega (arith, c.if-need-room.false, c.room-room.ensures, c.group_need-need.ensures) in
+    c.requires.leave c.sync.new.self (slot.at + slot.gate) 1 (λ tells.
+    let is = (c.sync.ensures.told tells).same ∙ c.in_ok-write_group.ensures.written tells in
+    tears_gate (slot.at + slot.gate) (group_text entries ++ 0 ∷ []) _ _ (g.met.D.Disk.lawful c.args.disk.now tells) (omega (arith, c.requires.place, fits, slot.inside, length-need entries)) (c.requires.closed tells) (c.in_ok-sync.ensures.durable tells) is)

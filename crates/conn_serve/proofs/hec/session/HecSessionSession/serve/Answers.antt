@@ -8,6 +8,7 @@ use Rattle.conn_serve.specs.Handled.{Handled, Served}
 use Rattle.conn_serve.specs.Hec.{hec}
 use Rattle.conn_serve.specs.HecServing.{GivesAsked, ReadsBy}
 use Rattle.conn_serve.specs.Says.{CouldEnd}
+use Rattle.conn_serve.specs.Terms.{terms_with}
 use Rattle.conn_serve.proofs.Saying.{says_then}
 use Rattle.conn_serve.proofs.Leading.{done_start, done_then, done_ends, so_far_then}
 use Rattle.conn_serve.proofs.HecSessions.{due_carried, ends_starved, served_item, served_halt, served_same, so_far_few}
@@ -92,7 +93,7 @@ returns-then-is_starved g c =
       halts = done_ends _ _ _ served (Anyway (Carried (hec now.core number)) _) (g.met.A.Access.ran_none _) (λ fed called said s left more. ends_starved now.core number now.window now.met left fed called said s more);
       idle = tt;
       extent = tt;
-      tokens = tt;
+      terms = tt;
       goes = tt;
       only = tt;
       number = refl;
@@ -118,7 +119,7 @@ returns-in_err-asked g c =
       only = subst IsAtMove (sym c.in_err-asked.ensures.starved) tt;
       idle = tt;
       extent = tt;
-      tokens = tt;
+      terms = tt;
       number = l.invariant.same_number;
       may = tt;
       writes = counts_other _ _ _ _ _ (λ is. memory_is_whole (sym c.in_err-asked.ensures.starved ∙ is)) l.invariant.writes;
@@ -144,7 +145,7 @@ returns-in_err-serve_item g c =
       only = call.only;
       idle = tt;
       extent = tt;
-      tokens = tt;
+      terms = tt;
       number = call.number ∙ inv.same_number;
       may = tt;
       writes = counts_passed _ _ _ _ _ _ _ inv.writes call.writes;
@@ -158,8 +159,8 @@ returns-clause-halts g c = tt
 pub returns-clause-only : goal.returns-clause-only
 returns-clause-only g c = tt
 
-pub returns-clause-tokens : goal.returns-clause-tokens
-returns-clause-tokens g c = c.loop-asked.invariant.same_core
+pub returns-clause-terms : goal.returns-clause-terms
+returns-clause-terms g c = ap terms_with c.loop-asked.invariant.same_core
 
 pub returns-clause-number : goal.returns-clause-number
 returns-clause-number g c = c.loop-asked.invariant.same_number

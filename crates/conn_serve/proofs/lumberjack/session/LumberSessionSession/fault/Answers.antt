@@ -6,7 +6,7 @@ use Rattle.conn_serve.proofs.lumberjack.session.LumberSessionSession.fault.Goals
 pub returns-in_err-fault-clause-may_end : goal.returns-in_err-fault-clause-may_end
 returns-in_err-fault-clause-may_end c =
     let now = c.args.self.now in
-    if_none c.from_residual.result _ (λ number. windowed.may_end (kind number now.core now.staged.entries.items now.staged.last) now.window now.fault c.requires.none c.in_err-fault.was)
+    if_none c.from_residual.result _ (λ number. windowed.may_end (kind number now.core now.staged.entries.items now.staged.last) now.window now.fault c.requires.none c.in_err-fault.was (λ frames calls text h. tt))
 
 pub returns-clause-faulty : goal.returns-clause-faulty
 returns-clause-faulty c = λ number left fed calls text s.

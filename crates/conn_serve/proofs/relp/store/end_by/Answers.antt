@@ -4,7 +4,7 @@ use Rattle.relp_session.specs.Answer.{hint}
 use Rattle.spool_answers.specs.Take.{IsRefusal}
 use Rattle.conn_serve.proofs.Faults.{counts_from, counts_none, fault_at_move, fault_is_whole, memory_is_whole}
 use Rattle.desk_access.specs.Endings.{IsAtMove}
-use Rattle.conn_serve.proofs.relp.act.end_by.Goals as goal
+use Rattle.conn_serve.proofs.relp.store.end_by.Goals as goal
 
 pub returns-then-not-is_refusal-clause-only : goal.returns-then-not-is_refusal-clause-only
 returns-then-not-is_refusal-clause-only g c = rw c.talk_of.ensures (fault_at_move _)

@@ -1,5 +1,5 @@
 use Rattle.std.proofs.Common.{◌≡◌, vec_len}
-use Rattle.conn_serve.proofs.lumberjack.staged.Staged.stored.Given as goal
+use Rattle.conn_serve.proofs.staged.Staged.stored.Given as goal
 
 abbrev pub invariant-loop-entry : goal.invariant-loop-entry
 invariant-loop-entry l = l.self.last ≡ l.fn.self.last

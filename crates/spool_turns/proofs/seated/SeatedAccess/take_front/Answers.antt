@@ -1,0 +1,5 @@
+use Rattle.spool_turns.specs.Ran.{ran_one}
+use Rattle.spool_turns.proofs.seated.SeatedAccess.take_front.Goals as goal
+
+pub returns-clause-ran : goal.returns-clause-ran
+returns-clause-ran g c = (ran_one g.J.Naming.start _ _ _ _ _ c.take_front.ensures.call, λ some. c.take_front.ensures.real)

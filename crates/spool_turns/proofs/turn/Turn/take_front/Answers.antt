@@ -1,0 +1,51 @@
+use Rattle.std.proofs.Common.{◌∙◌, refl, sym, subst}
+use Rattle.std.specs.Prelude.{take}
+use Rattle.spool_turns.proofs.Fronts.{front_may}
+use Rattle.spool_desk.proofs.Fits.{front_alone}
+use Rattle.desk_access.specs.Batch.{MayTake, MayUse}
+use Rattle.desk_access.specs.Legal.{IsNext, IsUnused}
+use Rattle.spool_turns.specs.Passes.{Known, known_of, pass_in}
+use Rattle.spool_turns.proofs.Called.{turn_after, pass_after, calls_after, real_after}
+use Rattle.spool_turns.proofs.turn.Turn.take_front.Goals as goal
+
+pub invariant_of-self : goal.invariant_of-self
+invariant_of-self g c =
+    let i = c.self.invariant in
+    let h = c.admit.ensures in
+    let p = c.publish.ensures in
+    let e = c.add_record.ensures in
+    let may = subst (λ (k : Known). MayTake (IsNext g.J.Naming.run k.number k.own) (take c.fitting-count.result c.args.entries.now) × MayUse (IsUnused k.own) (take c.fitting-count.result c.args.entries.now)) (sym c.pass.view_is) (front_may _ _ c.fitting-count.result c.args.entries.now c.fitting-count.ensures.front.0 c.requires.next c.requires.plain) in
+    let after = turn_after _ _ _ _ _ _ _ _ _ _ _ _ _ i.1 i.2 i.3 may h.locked h.knew c.take-answer.ensures.makes p.run (p.kept _) p.exact p.locked (g.met.D.Disk.lawful _) _ e.locked in
+    (e.tables.0 ∙ p.table ∙ h.tables.0 ∙ i.0, after.0, after.1, after.2)
+
+pub invariant_of-pass : goal.invariant_of-pass
+invariant_of-pass g c =
+    let i = c.self.invariant in
+    let h = c.admit.ensures in
+    let p = c.publish.ensures in
+    let e = c.add_record.ensures in
+    let may = subst (λ (k : Known). MayTake (IsNext g.J.Naming.run k.number k.own) (take c.fitting-count.result c.args.entries.now) × MayUse (IsUnused k.own) (take c.fitting-count.result c.args.entries.now)) (sym c.pass.view_is) (front_may _ _ c.fitting-count.result c.args.entries.now c.fitting-count.ensures.front.0 c.requires.next c.requires.plain) in
+    let after = pass_after _ _ _ _ _ _ _ _ _ _ _ _ _ i.1 i.2 i.3 may h.locked h.knew c.take-answer.ensures.makes p.run (p.kept _) p.exact p.locked (g.met.D.Disk.lawful _) _ e.pass in
+    (e.tables.1 ∙ p.table ∙ h.tables.0 ∙ i.0, after.0, after.1)
+
+pub returns-clause-call : goal.returns-clause-call
+returns-clause-call g c =
+    let i = c.self.invariant in
+    let h = c.admit.ensures in
+    let p = c.publish.ensures in
+    let e = c.add_record.ensures in
+    let may = subst (λ (k : Known). MayTake (IsNext g.J.Naming.run k.number k.own) (take c.fitting-count.result c.args.entries.now) × MayUse (IsUnused k.own) (take c.fitting-count.result c.args.entries.now)) (sym c.pass.view_is) (front_may _ _ c.fitting-count.result c.args.entries.now c.fitting-count.ensures.front.0 c.requires.next c.requires.plain) in
+    calls_after _ _ _ _ _ _ _ _ _ _ _ _ _ i.1 i.2 i.3 may h.locked h.knew c.take-answer.ensures.makes p.run (p.kept _) p.exact p.locked (g.met.D.Disk.lawful _) _ _ c.pass.view_is e.pass
+
+pub returns-clause-real : goal.returns-clause-real
+returns-clause-real g c =
+    let i = c.self.invariant in
+    let h = c.admit.ensures in
+    let p = c.publish.ensures in
+    let e = c.add_record.ensures in
+    let may = subst (λ (k : Known). MayTake (IsNext g.J.Naming.run k.number k.own) (take c.fitting-count.result c.args.entries.now) × MayUse (IsUnused k.own) (take c.fitting-count.result c.args.entries.now)) (sym c.pass.view_is) (front_may _ _ c.fitting-count.result c.args.entries.now c.fitting-count.ensures.front.0 c.requires.next c.requires.plain) in
+    let real = real_after _ _ _ _ _ _ _ _ _ _ _ _ _ i.1 i.2 i.3 may h.locked h.knew c.take-answer.ensures.makes p.run (p.kept _) p.exact p.locked (g.met.D.Disk.lawful _) (known_of (pass_in c.add_record.result.me.0)) c.add_record.result.me refl e.pass in
+    (c.publish.new.alone, real.0, real.1)
+
+pub returns-clause-alone : goal.returns-clause-alone
+returns-clause-alone g c = front_alone _ _ _ _ _ c.fitting-count.ensures.fits c.take-answer.ensures.before
