@@ -1,13 +1,16 @@
-// senders PROTOCOL PORT LINKS AHEAD LOOK BYTES WINDOW GROUP TURNS SECONDS FILE
+// senders SERVERS LINKS AHEAD LOOK BYTES WINDOW GROUP TURNS SECONDS FILE
 //
-// Takes turns of so many seconds. In the one the bare loop goes over FILE: for each group a write of it, fdatasync, a write of its
-// gate's byte, fdatasync. A group has GROUP events of BYTES bytes. In the other LINKS connections send to PORT, each with at most AHEAD
-// frames, windows or requests of WINDOW events that aren't answered yet, until the time is over and all are answered. A connection
-// waits for the next answer; where LOOK isn't 0, it sleeps so many microseconds and then reads what came. Without turns of the loop
-// where FILE is -.
+// SERVERS are servers with a comma between them. Each is its places with a plus between them, and a place is PROTOCOL:PORT.
 //
-// Prints for each turn `loop` or `sent`, its events and its seconds, and last `times` and the microseconds from the sending of
-// a frame, window or request to its answer: the median, and that of 99 in 100.
+// Takes turns of so many seconds. In the first the bare loop goes over FILE: for each group a write of it, fdatasync, a write of its
+// gate's byte, fdatasync. A group has GROUP events of BYTES bytes. In each of the next ones LINKS connections send to each place of one
+// server, each with at most AHEAD frames, windows or requests of WINDOW events that aren't answered yet, until the time is over and all
+// are answered. A connection waits for the next answer; where LOOK isn't 0, it sleeps so many microseconds and then reads what came.
+// Without turns of the loop where FILE is -.
+//
+// Prints for each turn `loop`, its events and its seconds, or `sent` and the server's number from 0 before these; and last, for each
+// server, `times`, its number and the microseconds from the sending of a frame, window or request to its answer: the median, and that
+// of 99 in 100.
 #define _GNU_SOURCE
 #include <arpa/inet.h>
 #include <errno.h>
@@ -20,16 +23,28 @@
 #include <time.h>
 #include <unistd.h>
 
-#define MOST_AHEAD 256
+#define MOST_AHEAD 4096
+#define MOST_SERVERS 8
 #define MOST_TIMES 4000000
 
-static long port, ahead, look, bytes, window, group;
+static long ahead, look, bytes, window, group;
 static double end_at;
-static pthread_barrier_t begin, over;
+
+struct protocol;
+
+// A server: where its connections meet at the beginning and at the end of a turn, and the connections.
+struct server {
+    pthread_barrier_t begin, over;
+    struct sender *all;
+    int links;
+};
 
 // A connection: what was sent and what was answered, counted in frames, windows or requests; and when the last ones were sent.
 struct sender {
     pthread_t thread;
+    struct server *server;
+    const struct protocol *protocol;
+    long port;
     int link;
     long sent, answered, count;
     double at[MOST_AHEAD];
@@ -180,10 +195,10 @@ static const struct protocol {
     {"relp", open_relp, send_relp, take_relp},
     {"lumberjack", open_lumberjack, send_again, take_lumberjack},
     {"hec", open_hec, send_again, take_hec},
-}, *protocol;
+};
 
 static void dial(struct sender *it) {
-    struct sockaddr_in at = {.sin_family = AF_INET, .sin_port = htons(port), .sin_addr = {htonl(INADDR_LOOPBACK)}};
+    struct sockaddr_in at = {.sin_family = AF_INET, .sin_port = htons(it->port), .sin_addr = {htonl(INADDR_LOOPBACK)}};
     int one = 1;
     it->link = socket(AF_INET, SOCK_STREAM, 0);
     if (it->link < 0 || connect(it->link, (struct sockaddr *)&at, sizeof at)) stop("connect");
@@ -193,18 +208,18 @@ static void dial(struct sender *it) {
 static void *send_on(void *of) {
     struct sender *it = of;
     dial(it);
-    protocol->open(it);
+    it->protocol->open(it);
     for (;;) {
-        pthread_barrier_wait(&begin);
+        pthread_barrier_wait(&it->server->begin);
         if (end_at == 0) break;
         for (;;) {
             long free = ahead - (it->sent - it->answered);
-            if (free > 0 && now() < end_at) protocol->send(it, free);
+            if (free > 0 && now() < end_at) it->protocol->send(it, free);
             if (it->answered == it->sent) break;
             get(it);
-            protocol->take(it);
+            it->protocol->take(it);
         }
-        pthread_barrier_wait(&over);
+        pthread_barrier_wait(&it->server->over);
     }
     close(it->link);
     return NULL;
@@ -227,9 +242,9 @@ static void loop(double seconds) {
     printf("loop %ld %f\n", done, now() - start);
 }
 
-static long answered(struct sender *all, int links) {
+static long answered(const struct server *server) {
     long sum = 0;
-    for (int i = 0; i < links; i++) sum += all[i].answered;
+    for (int i = 0; i < server->links; i++) sum += server->all[i].answered;
     return sum;
 }
 
@@ -237,48 +252,76 @@ static int less(const void *a, const void *b) {
     return *(const int *)a - *(const int *)b;
 }
 
-static void print_times(struct sender *all, int links) {
+static void print_times(int number, const struct server *server) {
     long count = 0, half, most;
-    for (int i = 0; i < links; i++) count += all[i].count;
+    for (int i = 0; i < server->links; i++) count += server->all[i].count;
     int *each = malloc((count + 1) * sizeof(int)), *to = each;
-    for (int i = 0; i < links; i++) memcpy(to, all[i].times, all[i].count * sizeof(int)), to += all[i].count;
+    for (int i = 0; i < server->links; i++) {
+        const struct sender *it = server->all + i;
+        memcpy(to, it->times, it->count * sizeof(int)), to += it->count;
+    }
     qsort(each, count, sizeof(int), less);
     half = count ? each[count / 2] : 0, most = count ? each[count * 99 / 100] : 0;
-    printf("times %ld %ld\n", half, most);
+    printf("times %d %ld %ld\n", number, half, most);
+    free(each);
+}
+
+// Connects to each place of a server, as `relp:2514+hec:8088`.
+static void start(struct server *server, char *places, int links) {
+    int many = 1, at = 0;
+    for (char *sign = places; (sign = strchr(sign, '+')); sign++) many++;
+    server->links = many * links, server->all = calloc(server->links, sizeof *server->all);
+    pthread_barrier_init(&server->begin, NULL, server->links + 1), pthread_barrier_init(&server->over, NULL, server->links + 1);
+    for (char *rest, *place = strtok_r(places, "+", &rest); place; place = strtok_r(NULL, "+", &rest)) {
+        const struct protocol *protocol = protocols;
+        char *port = strchr(place, ':');
+        if (!port) stop(place);
+        *port++ = 0;
+        while (strcmp(protocol->name, place)) protocol++;
+        for (int i = 0; i < links; i++) {
+            struct sender *it = server->all + at++;
+            it->server = server, it->protocol = protocol, it->port = atol(port), it->times = malloc(MOST_TIMES * sizeof(int));
+            if (pthread_create(&it->thread, NULL, send_on, it)) stop("a thread");
+        }
+    }
+}
+
+static void take_turn(int number, struct server *server, double seconds) {
+    long before = answered(server);
+    double start = now();
+    end_at = start + seconds;
+    pthread_barrier_wait(&server->begin);
+    pthread_barrier_wait(&server->over);
+    printf("sent %d %ld %f\n", number, (answered(server) - before) * window, now() - start);
 }
 
 int main(int count, char **words) {
-    if (count != 12) return 64;
-    for (protocol = protocols; strcmp(protocol->name, words[1]); protocol++);
-    int links = atoi(words[3]), turns = atoi(words[9]);
-    double seconds = atof(words[10]);
-    port = atol(words[2]), ahead = atol(words[4]), look = atol(words[5]);
-    bytes = atol(words[6]), window = atol(words[7]), group = atol(words[8]);
-    if (strcmp(words[11], "-")) {
-        file = open(words[11], O_RDWR);
+    static struct server servers[MOST_SERVERS];
+    char *rest = NULL;
+    int many = 0;
+    if (count != 11) return 64;
+    int links = atoi(words[2]), turns = atoi(words[8]);
+    double seconds = atof(words[9]);
+    ahead = atol(words[3]), look = atol(words[4]), bytes = atol(words[5]), window = atol(words[6]), group = atol(words[7]);
+    if (ahead > MOST_AHEAD) return 64;
+    if (strcmp(words[10], "-")) {
+        file = open(words[10], O_RDWR);
         need = 9 + group * (29 + bytes), room = lseek(file, 0, SEEK_END) - need - 1, text = calloc(1, need);
-        if (file < 0 || !text) stop(words[11]);
+        if (file < 0 || !text) stop(words[10]);
         memset(text, 'x', need - 1);
     }
-    struct sender *all = calloc(links, sizeof *all);
-    pthread_barrier_init(&begin, NULL, links + 1), pthread_barrier_init(&over, NULL, links + 1);
-    for (int i = 0; i < links; i++) {
-        all[i].times = malloc(MOST_TIMES * sizeof(int));
-        if (pthread_create(&all[i].thread, NULL, send_on, all + i)) stop("a thread");
-    }
+    for (char *one = strtok_r(words[1], ",", &rest); one && many < MOST_SERVERS; one = strtok_r(NULL, ",", &rest))
+        start(&servers[many++], one, links);
     for (int turn = 0; turn < turns; turn++) {
         if (file >= 0) loop(seconds);
-        long before = answered(all, links);
-        double start = now();
-        end_at = start + seconds;
-        pthread_barrier_wait(&begin);
-        pthread_barrier_wait(&over);
-        printf("sent %ld %f\n", (answered(all, links) - before) * window, now() - start);
+        for (int i = 0; i < many; i++) take_turn(i, &servers[i], seconds);
     }
     if (file >= 0) loop(seconds);
     end_at = 0;
-    pthread_barrier_wait(&begin);
-    for (int i = 0; i < links; i++) pthread_join(all[i].thread, NULL);
-    print_times(all, links);
+    for (int i = 0; i < many; i++) {
+        pthread_barrier_wait(&servers[i].begin);
+        for (int j = 0; j < servers[i].links; j++) pthread_join(servers[i].all[j].thread, NULL);
+        print_times(i, &servers[i]);
+    }
     return 0;
 }

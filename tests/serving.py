@@ -69,6 +69,9 @@ def wait_until(holds, seconds):
 class Server:
     """bridge over one spool, and its ports: `relp`, `lumberjack` and `hec`. The spool is made anew, unless `slots` is None."""
 
+    # The words that each start has beside those of its caller, as `--group`.
+    manner = ()
+
     def __init__(self, program, folder, slots=8, size=4194304):
         self.program, self.folder, self.child = program, folder, None
         self.ports = dict(zip(("relp", "lumberjack", "hec"), free_ports(3)))
@@ -84,7 +87,7 @@ class Server:
         said = [word for place in places for word in (f"--{place}", f"127.0.0.1:{self.ports[place]}")]
         if to is not None:
             said += ["--forward", "relp", "--to", f"127.0.0.1:{to}"]
-        command = [self.program, self.spool, "serve", *said, "--token", TOKEN, "--ack-token", ACK_TOKEN, *words]
+        command = [self.program, self.spool, "serve", *said, "--token", TOKEN, "--ack-token", ACK_TOKEN, *self.manner, *words]
         pipes = {"stdin": subprocess.DEVNULL, "stdout": subprocess.PIPE, "stderr": subprocess.PIPE}
         self.child = subprocess.Popen(command, env=environment, **pipes)
 
@@ -107,6 +110,11 @@ class Server:
         _, err = self.child.communicate()
         status, self.child = self.child.returncode, None
         return status, err.decode()
+
+    def writes(self):
+        """How many times it has written to FILE so far (what it sends isn't among its writes)."""
+        with open(f"/proc/{self.child.pid}/io", encoding="ascii") as counts:
+            return int(dict(line.split(":") for line in counts)["syscw"])
 
     def processor_seconds(self):
         """How long it has had a processor so far."""
@@ -178,6 +186,13 @@ class RelpLink:
         number = self.send(text)
         while self.reply() != number:
             pass
+
+    def store_all(self, texts):
+        """Sends these events at once, and waits until as many answers of success came. Gives their numbers, in order."""
+        numbers = range(self.number + 1, self.number + len(texts) + 1)
+        self.number += len(texts)
+        self.link.sendall(b"".join(text_of_frame(number, b"syslog", text) for number, text in zip(numbers, texts)))
+        return [self.reply() for _ in texts]
 
     def close(self):
         """Ends the session, as RELP wants it."""

@@ -18,12 +18,26 @@ from spool import NotSpool, read_spool
 SLOT_SIZES = {100: 4096, 9000: 40960, 100000: 262144}
 
 
-class Feed:
-    """A sender by one protocol, which sends an event, or two as one window or request, until it is acknowledged."""
+@dataclass(frozen=True)
+class Way:
+    """How events come in: by which protocol, how many at once, and what the server's words are beside."""
 
-    def __init__(self, server, protocol, length):
-        self.server, self.port, self.protocol, self.length = server, server.ports[protocol], protocol, length
-        self.links, self.next = {}, 0
+    protocol: str
+    count: int
+    manner: tuple = ()
+
+
+# A frame of RELP, a window, a request; and frames of RELP that one write sends, of which the server stores what fits as one group.
+WAYS = {"relp": Way("relp", 1), "lumberjack": Way("lumberjack", 2), "hec": Way("hec", 2), "runs": Way("relp", 3, ("--group",))}
+
+
+class Feed:
+    """A sender by one protocol, which sends an event, or some as one window or request or as frames at once, until all are
+    acknowledged."""
+
+    def __init__(self, server, way, length):
+        self.server, self.port, self.protocol, self.length = server, server.ports[way.protocol], way.protocol, length
+        self.links, self.next, self.count = {}, 0, way.count
 
     def link(self, word):
         """The connection for this token, or the only one."""
@@ -43,17 +57,16 @@ class Feed:
     def store(self, tries):
         """Sends what is next, at most so many times. Gives whether it was acknowledged. Every other request to the collector is by
         the token with ack ids."""
-        count = 1 if self.protocol == "relp" else 2
-        texts = [text_of(self.protocol, number, self.length) for number in range(self.next, self.next + count)]
-        self.next += count
-        word = (TOKEN, ACK_TOKEN)[self.next // count % 2] if self.protocol == "hec" else ""
+        texts = [text_of(self.protocol, number, self.length) for number in range(self.next, self.next + self.count)]
+        self.next += self.count
+        word = (TOKEN, ACK_TOKEN)[self.next // self.count % 2] if self.protocol == "hec" else ""
         for _ in range(tries):
             if self.server.child.poll() is not None:
                 break
             try:
                 link = self.link(word)
                 if self.protocol == "relp":
-                    link.store(texts[0])
+                    link.store_all(texts)
                 elif self.protocol == "lumberjack":
                     link.store(texts)
                 else:
@@ -88,14 +101,15 @@ def is_up(server, port):
     return False
 
 
-def serve(program, library, folder, protocol, length, plan=(), tries=8, stores=4):
+def serve(program, library, folder, way, length, plan=(), tries=8, stores=4):
     """Serves a sender with calls that fail as planned, and kills the server then."""
-    server = serving.Server(program, folder, 6, SLOT_SIZES[length])
+    # (three at a time need room for those that are sent again, too)
+    server = serving.Server(program, folder, 12 if way.count > 2 else 6, SLOT_SIZES[length])
     with open(server.spool, "rb") as file:
         before = file.read()
     seen = calling.Seen(library, folder, server.spool, plan)
-    server.start("--workers", "2", places=[protocol], environment=seen.environment)
-    feed = Feed(server, protocol, length)
+    server.start("--workers", "2", *way.manner, places=[way.protocol], environment=seen.environment)
+    feed = Feed(server, way, length)
     done = is_up(server, feed.port) and [feed.store(tries) for _ in range(stores)]
     status, errors = server.kill()
     feed.drop()

@@ -112,6 +112,52 @@ def shrunk(check, program, library, folder):
         check(f"a FILE that shrank to {length}: it isn't extended", os.stat(path).st_size == length, os.stat(path).st_size)
 
 
+# ---- frames that one read brings
+
+
+def groups(check, program, library, folder):
+    """Three frames of RELP that one read brings, with `--group`: four calls of FILE, then one answer for all. Without it four calls and
+    an answer for each. A read asks for 8,192 bytes. Where one of the four calls fails, none of the three is answered, and all or none of
+    them stand in the spool, which the next connection stores them in again."""
+    texts = [text_of("relp", number) for number in range(3)]
+    four = ["write", "sync", "write", "sync"]
+    for words, times in ((), 3), (("--group",), 1):
+        name = " ".join(("three frames of one read", *words))
+        server, seen = start(program, library, folder, words=("--workers", "1", *words))
+        link = RelpLink(server.ports["relp"])
+        link.store_all(texts)
+        link.drop()
+        server.kill()
+        calls = [call for call in seen.calls() if call.kind in ("read", "write", "sync", "recv", "send")]
+        came = max((number for number, call in enumerate(calls) if call.kind == "recv" and texts[0] in call.data), default=0)
+        after = [call.kind for call in calls[came + 1 :] if call.kind != "recv"]
+        check(f"{name}: the calls", after == [*four, "send"] * times, after)
+        reads = {call.asked for call in calls[: came + 1] if call.kind == "recv"}
+        check(f"{name}: how much a read asks for", reads == {8192}, reads)
+    for place, kind in enumerate(four):
+        name = f"a run of frames whose {kind} {place // 2 + 1} fails"
+        server, seen = start(program, library, folder, words=("--workers", "1", "--group"))
+        link = RelpLink(server.ports["relp"])
+        done = [call.kind for call in seen.calls()].count(kind)
+        server.kill()
+        link.drop()
+        number = done + 1 + place // 2
+        server, seen = start(program, library, folder, [calling.fails(kind, number, errno.EIO)], words=("--workers", "1", "--group"))
+        link = RelpLink(server.ports["relp"])
+        try:
+            said = link.store_all(texts)
+        except ConnectionError:
+            said = []
+        link.drop()
+        again = RelpLink(server.ports["relp"])
+        again.store(b"again")
+        again.drop()
+        server.kill()
+        stored = server.list()
+        check(f"{name}: no answer", said == [], said)
+        check(f"{name}: all or none", stored in ([b"again"], [*texts, b"again"]), stored)
+
+
 # ---- sockets
 
 

@@ -144,9 +144,11 @@ class Served:
 
 def relp_events(port, known):
     link = serving.RelpLink(port, 5)
-    for text in (b"first", b"second"):
-        link.store(text)
-        known.add(text)
+    link.store(b"first")
+    known.add(b"first")
+    texts = [b"second", b"third"]
+    link.store_all(texts)
+    known.update(texts)
     link.drop()
 
 
@@ -171,10 +173,11 @@ def send(sender, port, known):
         pass
 
 
-def serve_once(bench, number):
-    """A server with one connection at each of its places, which forwards; with the call for memory of this number refused."""
+def serve_once(bench, manner, number):
+    """A server with one connection at each of its places, which forwards, with these words too; with the call for memory of this number
+    refused."""
     server, receiver, known = serving.Server(bench.program, bench.folder, 2, 2097152), serving.RelpReceiver(), set()
-    server.start("--workers", "1", "--talks", "1", to=receiver.port, environment=bench.environment(number))
+    server.start("--workers", "1", "--talks", "1", *manner, to=receiver.port, environment=bench.environment(number))
     senders = [(relp_events, "relp"), (lumber_events, "lumberjack"), (hec_events, "hec")]
     threads = [threading.Thread(target=send, args=(sender, server.ports[place], known)) for sender, place in senders]
     for thread in threads:
