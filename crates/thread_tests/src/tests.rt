@@ -5,16 +5,18 @@ use crate::workers::{rows, serving};
 #[test]
 fn threads_share_desks(rt: HostRuntime) {
     let alloc = rt.alloc();
-    for row in &answers::ROWS {
-        pair::check(&rt, alloc, row);
-    }
-    for (seats, counts) in threads::ROWS {
-        assert!(rt;
-            threads::have_taken(&rt, alloc, seats, counts),
-            "{seats} passes"
-        );
-    }
-    for case in &rows::CASES {
-        serving::check(&rt, alloc, case);
+    for group in [false, true] {
+        for row in &answers::ROWS {
+            pair::check(&rt, alloc, row, group);
+        }
+        for (seats, counts) in threads::ROWS {
+            assert!(rt;
+                threads::have_taken(&rt, alloc, seats, group, counts),
+                "{seats} passes, group {group}"
+            );
+        }
+        for case in &rows::CASES {
+            serving::check(&rt, alloc, case, group);
+        }
     }
 }
