@@ -183,6 +183,6 @@ pub(crate) fn check(rt: &(impl Abort + Wait), alloc: Global, row: &Row, group: b
     let said = said(rt, alloc, MemDisk::of(bytes, failing), group, *upto);
     assert!(rt;
         said.as_str() == *want,
-        "call {call}, group {group}: {said}"
+        "call {call}: {said}"
     );
 }

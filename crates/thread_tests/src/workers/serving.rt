@@ -212,5 +212,5 @@ pub(crate) fn check(
 ) {
     let (name, .., want) = case;
     let said = outcome(rt, alloc, case, group);
-    assert!(rt; said.as_str() == *want, "{name}, group {group}: {said}");
+    assert!(rt; said.as_str() == *want, "{name}: {said}");
 }
