@@ -27,9 +27,6 @@ known_marks p marks w place is h = known_grown w marks place ∙ subst (λ (q : 
 pub marks_known : (p : Progress) (marks : List Bool) (w place : ℕ) → p ≡ Opened marks → get_or (grown w marks) place false ≡ true → IsKnown p place
 marks_known p marks w place is h = subst (λ (q : Progress). IsKnown q place) (sym is) (sym (known_grown w marks place) ∙ h)
 
-pub knows_grown : (also : List ℕ) (p : Progress) (marks : List Bool) (w first : ℕ) (beyond : Option ℕ) → p ≡ Opened marks → Knows also p first beyond → Knows also (Opened (grown w marks)) first beyond
-knows_grown also p marks w first beyond is k = knows_same also p (Opened (grown w marks)) first beyond (λ place h. marks_known p marks w place is h) (λ place h. known_marks p marks w place is h) k
-
 -- the session is open: no entry is acknowledged yet
 pub knows_opened : (also : List ℕ) (p : Progress) (first : ℕ) (beyond : Option ℕ) → p ≡ Unopened → Knows also p first beyond → Knows also (Opened []) first beyond
 knows_opened also p first beyond is k =
@@ -48,6 +45,9 @@ beyond_some index x place h = go (index == 0) h
     go true e = absurd cc
     go false e = cc
 
+none_some_place : (place : ℕ) → Some place ≡ None → ⊥
+none_some_place place e = cc
+
 pub front_rises : (ps : List ℕ) (w index : ℕ) → AllPairs (λ (a b : ℕ). a < b) ps → All (λ (p : ℕ). p < w) ps → index < length ps → first_open ps w ≤ first_open (remove ps index) w
 front_rises [] w index order below lt = absurd (omega (arith, lt))
 front_rises (p ∷ []) w zero order below lt = let h = All-head (λ (q : ℕ). q < w) p [] below in omega (arith, h)
@@ -64,15 +64,26 @@ new_place (p ∷ ps) w (suc k) place order below lt is =
     inr (ap (λ (b : Bool). if b then None else Some (slice_index (p ∷ ps) (suc k))) no ∙ ap Some (sym is))
 
 -- one that is to be told by itself comes after the first that isn't acknowledged
-pub beyond_at : (ps : List ℕ) (w index place told : ℕ) → AllPairs (λ (a b : ℕ). a < b) ps → All (λ (p : ℕ). p < w) ps → index < length ps → told ≡ first_open ps w → beyond_of index (slice_index ps index) ≡ Some place → (told ≡ first_open (remove ps index) w) × (told < place) × (place < w)
-beyond_at [] w index place told order below lt is h = absurd (omega (arith, lt))
-beyond_at (p ∷ ps) w zero place told order below lt is h = absurd cc
-beyond_at (p ∷ ps) w (suc k) place told order below lt is h =
+pub beyond_at : (ps : List ℕ) (w index place : ℕ) → AllPairs (λ (a b : ℕ). a < b) ps → All (λ (p : ℕ). p < w) ps → index < length ps → beyond_of index (slice_index ps index) ≡ Some place → (first_open (remove ps index) w < place) × (place < w)
+beyond_at [] w index place order below lt h = absurd (omega (arith, lt))
+beyond_at (p ∷ ps) w zero place order below lt h = absurd cc
+beyond_at (p ∷ ps) w (suc k) place order below lt h =
     let x = slice_index (p ∷ ps) (suc k) in
     let e : x ≡ place = beyond_some (suc k) x place h in
     let o : p < x = order 0 (suc k) 0 (omega arith) lt in
     let b : x < w = All-get_or (λ (q : ℕ). q < w) (p ∷ ps) (suc k) 0 lt below in
-    (is, omega (arith, o, e, is), omega (arith, b, e))
+    (omega (arith, o, e), omega (arith, b, e))
+
+-- after it not all is told
+pub not_told : (ps : List ℕ) (w index told : ℕ) → AllPairs (λ (a b : ℕ). a < b) ps → All (λ (p : ℕ). p < w) ps → index < length ps → told ≤ first_open ps w → told ≡ first_open (remove ps index) w → beyond_of index (slice_index ps index) ≡ None → ⊥
+not_told [] w index told order below lt le is none = omega (arith, lt)
+not_told (p ∷ []) w zero told order below lt le is none = let h = All-head (λ (q : ℕ). q < w) p [] below in omega (arith, h, le, is)
+not_told (p ∷ q ∷ ps) w zero told order below lt le is none = let h : p < q = order 0 1 0 (omega arith) (omega arith) in omega (arith, h, le, is)
+not_told (p ∷ ps) w (suc k) told order below lt le is none =
+    let no : (suc k == 0) ≡ false = ne_eqb (suc k) 0 (λ q. omega arith) in
+    let some : beyond_of (suc k) (slice_index (p ∷ ps) (suc k)) ≡ Some (slice_index (p ∷ ps) (suc k)) = ap (λ (b : Bool). if b then None else Some (slice_index (p ∷ ps) (suc k))) no in
+    let not : Some (slice_index (p ∷ ps) (suc k)) ≡ None = sym some ∙ none in
+    absurd (none_some_place (slice_index (p ∷ ps) (suc k)) not)
 
 -- one mark more, of the entry at an index of those that were not acknowledged
 pub knows_marked : (also : List ℕ) (p : Progress) (marks before after : List Bool) (ps : List ℕ) (w index : ℕ) (was : Option ℕ) → p ≡ Opened marks → grown w marks ≡ before ++ false ∷ after → slice_index ps index ≡ length before
