@@ -94,7 +94,7 @@ record Answers (s : Sender) (marks : List Bool) (txnr index : ℕ) : Type 0 wher
 answers : (s : Sender) (marks : List Bool) (txnr index : ℕ) → Keeps s → length (grown s.written marks) ≡ s.written → s.unanswered ≡ open_from 0 (grown s.written marks) → IsFirstOf s.unanswered txnr index → Answers s marks txnr index
 answers s marks txnr index k len places first =
     let r : Marked 0 (grown s.written marks) txnr (remove (open_from 0 (grown s.written marks)) index) (slice_index (open_from 0 (grown s.written marks)) index) =
-      mark_first (grown s.written marks) 0 txnr index (subst (λ (l : List ℕ). IsFirstOf l txnr index) places first) in
+    mark_first (grown s.written marks) 0 txnr index (subst (λ (l : List ℕ). IsFirstOf l txnr index) places first) in
     let at : 0 + length r.before ≡ length r.before = omega arith in
     record {
       before = r.before;

@@ -1,5 +1,5 @@
 -- Frames that one text has together.
-use Rattle.std.proofs.Common.{◌≡◌, inl, inr, ℕ, zero, suc, ◌+◌, ◌<◌, ◌≤◌, ◌∙◌, List, [], ◌∷◌, ◌++◌, length, take, drop, refl, sym, ap, subst, arith, append_assoc, length-drop}
+use Rattle.std.proofs.Common.{◌≡◌, inl, inr, ℕ, zero, suc, ◌+◌, ◌<◌, ◌≤◌, ◌∙◌, List, [], ◌∷◌, ◌++◌, length, take, drop, refl, sym, ap, subst, arith, append_assoc}
 use Rattle.std.specs.Prelude.{◌⊎◌}
 use Rattle.std.proofs.Math.ListN.{length-append}
 use Rattle.event_form.specs.declared.event.Entry.{Entry}
@@ -11,7 +11,7 @@ use Rattle.relp_sender.specs.Sender.{Sender, HasTold, places_from, wrote}
 use Rattle.relp_sender.specs.Sends.{SendsOn}
 use Rattle.relp_sender.specs.Due.{IsJoined}
 use Rattle.relp_sender.specs.Spending.{count_of, due_reports, spent}
-use Rattle.relp_sender.specs.Turns.{NoneLeft, Stays}
+use Rattle.relp_sender.specs.Turns.{NoneLeft}
 use Rattle.relp_sender.proofs.TextLaws.{append_none}
 use Rattle.relp_sender.proofs.Telling.{sends_none, sends_then}
 use Rattle.relp_sender.proofs.Writing.{sends_entry, wrote_one}
@@ -47,9 +47,9 @@ wrote_next k s =
     let all : (s.unanswered ++ places) ++ last ≡ s.unanswered ++ places_from s.written (suc k) = append_assoc s.unanswered places last ∙ ap (λ (l : List ℕ). s.unanswered ++ l) (sym (places_next s.written k)) in
     let e : suc k ≡ k + 1 = omega arith in
     ap (λ (es : List Entry). record s { waiting = es; written = s.written + k + 1; unanswered = (s.unanswered ++ places) ++ last }) (drop_next k s.waiting)
-        ∙ ap (λ (m : ℕ). record s { waiting = drop (suc k) s.waiting; written = m; unanswered = (s.unanswered ++ places) ++ last }) n
-        ∙ ap (λ (l : List ℕ). record s { waiting = drop (suc k) s.waiting; written = s.written + suc k; unanswered = l }) all
-        ∙ ap (λ (m : ℕ). wrote m s) e
+    ∙ ap (λ (m : ℕ). record s { waiting = drop (suc k) s.waiting; written = m; unanswered = (s.unanswered ++ places) ++ last }) n
+    ∙ ap (λ (l : List ℕ). record s { waiting = drop (suc k) s.waiting; written = s.written + suc k; unanswered = l }) all
+    ∙ ap (λ (m : ℕ). wrote m s) e
 
 pub length-wrote : (k : ℕ) (s : Sender) → length (s.unanswered ++ places_from s.written k) ≡ length s.unanswered + k
 length-wrote k s = omega (arith, length-append s.unanswered (places_from s.written k), length-places_from s.written k)
@@ -61,9 +61,6 @@ front_wrote (p ∷ places) written k = refl
 
 pub told_wrote : (k : ℕ) (s : Sender) → HasTold s → HasTold (wrote k s)
 told_wrote k s t = record { front = t.front ∙ sym (front_wrote s.unanswered s.written k); beyond = t.beyond }
-
-pub stays_wrote : (k : ℕ) (s : Sender) → k ≤ length s.waiting → Stays s (wrote k s)
-stays_wrote k s le = record { finished = refl; first = refl; given = omega (arith, le, length-drop k s.waiting); reader = refl }
 
 -- nothing is to be reported
 due_none : (s : Sender) → HasTold s → due_reports s ≡ 0
@@ -86,9 +83,9 @@ many_next k s e es is more rest =
     let both = sends_then s t (wrote k t) (event_text w e.event) (frames_text (w + 1) (take k es)) [] [] one rest in
     let n : w + 1 + k ≡ w + suc k = omega arith in
     let same : wrote k t ≡ wrote (suc k) s =
-      ap (λ (l : List Entry). record s { waiting = drop (suc k) l; written = w + 1 + k; unanswered = places ++ places_from (w + 1) k }) (sym more)
-      ∙ ap (λ (m : ℕ). record s { waiting = drop (suc k) s.waiting; written = m; unanswered = places ++ places_from (w + 1) k }) n
-      ∙ ap (λ (l : List ℕ). record s { waiting = drop (suc k) s.waiting; written = w + suc k; unanswered = l }) (append_assoc s.unanswered (w ∷ []) (places_from (w + 1) k)) in
+    ap (λ (l : List Entry). record s { waiting = drop (suc k) l; written = w + 1 + k; unanswered = places ++ places_from (w + 1) k }) (sym more)
+    ∙ ap (λ (m : ℕ). record s { waiting = drop (suc k) s.waiting; written = m; unanswered = places ++ places_from (w + 1) k }) n
+    ∙ ap (λ (l : List ℕ). record s { waiting = drop (suc k) s.waiting; written = w + suc k; unanswered = l }) (append_assoc s.unanswered (w ∷ []) (places_from (w + 1) k)) in
     subst (λ (l : List Entry). SendsOn s (frames_text w (take (suc k) l)) [] (wrote (suc k) s)) (sym more) (subst (SendsOn s (event_text w e.event ++ frames_text (w + 1) (take k es)) []) same both)
 
 first_entry : (es : List Entry) → 0 < length es → (e : Entry) × (rest : List Entry) × (es ≡ e ∷ rest)

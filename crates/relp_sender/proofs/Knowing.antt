@@ -45,9 +45,6 @@ beyond_some index x place h = go (index == 0) h
     go true e = absurd cc
     go false e = cc
 
-none_some_place : (place : ℕ) → Some place ≡ None → ⊥
-none_some_place place e = cc
-
 pub front_rises : (ps : List ℕ) (w index : ℕ) → AllPairs (λ (a b : ℕ). a < b) ps → All (λ (p : ℕ). p < w) ps → index < length ps → first_open ps w ≤ first_open (remove ps index) w
 front_rises [] w index order below lt = absurd (omega (arith, lt))
 front_rises (p ∷ []) w zero order below lt = let h = All-head (λ (q : ℕ). q < w) p [] below in omega (arith, h)
@@ -73,17 +70,6 @@ beyond_at (p ∷ ps) w (suc k) place order below lt h =
     let o : p < x = order 0 (suc k) 0 (omega arith) lt in
     let b : x < w = All-get_or (λ (q : ℕ). q < w) (p ∷ ps) (suc k) 0 lt below in
     (omega (arith, o, e), omega (arith, b, e))
-
--- after it not all is told
-pub not_told : (ps : List ℕ) (w index told : ℕ) → AllPairs (λ (a b : ℕ). a < b) ps → All (λ (p : ℕ). p < w) ps → index < length ps → told ≤ first_open ps w → told ≡ first_open (remove ps index) w → beyond_of index (slice_index ps index) ≡ None → ⊥
-not_told [] w index told order below lt le is none = omega (arith, lt)
-not_told (p ∷ []) w zero told order below lt le is none = let h = All-head (λ (q : ℕ). q < w) p [] below in omega (arith, h, le, is)
-not_told (p ∷ q ∷ ps) w zero told order below lt le is none = let h : p < q = order 0 1 0 (omega arith) (omega arith) in omega (arith, h, le, is)
-not_told (p ∷ ps) w (suc k) told order below lt le is none =
-    let no : (suc k == 0) ≡ false = ne_eqb (suc k) 0 (λ q. omega arith) in
-    let some : beyond_of (suc k) (slice_index (p ∷ ps) (suc k)) ≡ Some (slice_index (p ∷ ps) (suc k)) = ap (λ (b : Bool). if b then None else Some (slice_index (p ∷ ps) (suc k))) no in
-    let not : Some (slice_index (p ∷ ps) (suc k)) ≡ None = sym some ∙ none in
-    absurd (none_some_place (slice_index (p ∷ ps) (suc k)) not)
 
 -- one mark more, of the entry at an index of those that were not acknowledged
 pub knows_marked : (also : List ℕ) (p : Progress) (marks before after : List Bool) (ps : List ℕ) (w index : ℕ) (was : Option ℕ) → p ≡ Opened marks → grown w marks ≡ before ++ false ∷ after → slice_index ps index ≡ length before

@@ -1,22 +1,17 @@
 -- What a frame of the peer leaves that was taken.
-use Rattle.std.proofs.Common.{◌≡◌, inl, inr, ℕ, zero, suc, ◌+◌, ◌-◌, ◌<◌, ◌≤◌, ◌∙◌, Bool, List, [], ◌∷◌, length, sym, ap, subst, arith}
-use Rattle.std.specs.Prelude.{◌⊎◌, Option, Some, None, min, slice_index}
-use Rattle.std.specs.List.{remove}
-use Rattle.std.proofs.lemmas.List.Edits.{length-remove}
+use Rattle.std.proofs.Common.{◌≡◌, inl, inr, ℕ, ◌≤◌, ◌∙◌, Bool, List, ◌∷◌, sym, subst, arith}
+use Rattle.std.specs.Prelude.{◌⊎◌, None}
 use Rattle.event_form.specs.declared.turn.Turn.{Turn}
 use Rattle.event_form.specs.declared.turn.Turn.TheVariants.{Write, Confirmed, Also, Need, Wait, Pause, Done, Refused, PeerClosed, PeerFault, Unconfirmed}
 use Rattle.event_form.specs.Turn.{IsResting}
 use Rattle.relp_frame.specs.declared.frame.Placed.{Placed}
-use Rattle.relp_frame.specs.Reading.{Reader}
 use Rattle.relp_sender.specs.declared.hearing.Heard.{Heard}
 use Rattle.relp_sender.specs.declared.due.Due.TheVariants.{Hear}
 use Rattle.relp_sender.specs.Hearing.{IsHeard}
-use Rattle.relp_sender.specs.Window.{first_open, beyond_of}
-use Rattle.relp_sender.specs.Sender.{Sender, HasTold, Keeps}
+use Rattle.relp_sender.specs.Sender.{Sender}
 use Rattle.relp_sender.specs.Due.{HearsNext, IsAcknowledgment, IsDue}
-use Rattle.relp_sender.specs.Spending.{IsSpent, count_of, due_reports, spent}
+use Rattle.relp_sender.specs.Spending.{IsSpent}
 use Rattle.relp_sender.specs.Turns.{IsTurn}
-use Rattle.relp_sender.proofs.Knowing.{not_told}
 
 -- ---- the frame that was taken is the one that was judged
 
@@ -37,35 +32,6 @@ took goes_on s now x y p rest is same_as hears waits =
       may = elim h.may [ inl due ↦ inl due | inr a ↦ inr a.3 ];
       is = subst (λ (q : Placed). IsHeard s.stage s.unanswered q.at q.frame y) same h.is;
     }
-
--- ---- what is left to be told
-
-count_most : (o : Option ℕ) → count_of o ≤ 1
-count_most None = omega arith
-count_most (Some place) = omega arith
-
-due_more : (ps : List ℕ) (w index told : ℕ) → index < length ps
-    → min 1 (first_open (remove ps index) w - told) + count_of (beyond_of index (slice_index ps index)) ≤ min 1 (first_open ps w - told) + 1
-due_more [] w index told lt = absurd (omega (arith, lt))
-due_more (p ∷ ps) w zero told lt = omega arith
-due_more (p ∷ ps) w (suc k) told lt = omega (arith, count_most (beyond_of (suc k) (slice_index (p ∷ ps) (suc k))))
-
-pub spent_acknowledged : (index : ℕ) (s : Sender) (r : Reader) (left : List ℕ) (after : Option ℕ) → s.beyond ≡ None → index < length s.unanswered → left ≡ remove s.unanswered index → after ≡ beyond_of index (slice_index s.unanswered index)
-    → spent s ≤ spent (record s { reader = r; unanswered = left; beyond = after })
-spent_acknowledged index s r left after alone lt a b =
-    let t : Sender = record s { reader = r; unanswered = left; beyond = after } in
-    let was : due_reports s ≡ min 1 (first_open s.unanswered s.written - s.told) = omega (arith, ap count_of alone) in
-    let front : first_open left s.written ≡ first_open (remove s.unanswered index) s.written = ap (λ (l : List ℕ). first_open l s.written) a in
-    let beside : count_of after ≡ count_of (beyond_of index (slice_index s.unanswered index)) = ap count_of b in
-    let more : due_reports t ≤ min 1 (first_open s.unanswered s.written - s.told) + 1 = omega (arith, due_more s.unanswered s.written index s.told lt, front, beside) in
-    let fewer = length-remove s.unanswered index lt in
-    let count : length left ≡ length (remove s.unanswered index) = ap length a in
-    omega (arith, was, more, fewer, count)
-
-pub rests_acknowledged : (index : ℕ) (s : Sender) (r : Reader) (left : List ℕ) (after : Option ℕ) → Keeps s → index < length s.unanswered → left ≡ remove s.unanswered index → after ≡ beyond_of index (slice_index s.unanswered index)
-    → HasTold (record s { reader = r; unanswered = left; beyond = after }) → ⊥
-rests_acknowledged index s r left after k lt a b t =
-    not_told s.unanswered s.written index s.told k.order k.below lt k.told (t.front ∙ ap (λ (l : List ℕ). first_open l s.written) a) (sym b ∙ t.beyond)
 
 -- ---- a turn after some frames were taken
 

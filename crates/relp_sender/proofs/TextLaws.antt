@@ -24,7 +24,7 @@ frames_next (d ∷ es) place (suc k) e lt is =
     let t = event_text place d.event in
     let at : place + 1 + k ≡ place + suc k = omega arith in
     ap (λ (l : List ℕ). t ++ l) (frames_next es (place + 1) k e (omega (arith, lt)) is ∙ ap (λ (n : ℕ). frames_text (place + 1) (take k es) ++ event_text n e.event) at)
-        ∙ sym (append_assoc t (frames_text (place + 1) (take k es)) (event_text (place + suc k) e.event))
+    ∙ sym (append_assoc t (frames_text (place + 1) (take k es)) (event_text (place + suc k) e.event))
 
 pub frames_then : (es : List Entry) (e : Entry) (w : ℕ) → length es ≡ w → frames_text 0 (es ++ e ∷ []) ≡ frames_text 0 es ++ event_text w e.event
 frames_then es e w count =

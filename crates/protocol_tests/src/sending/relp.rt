@@ -4,8 +4,8 @@ mod rows;
 
 use self::driven::{DrivenRelp, FIRST};
 use self::rows::{
-    ANSWERED, CLOSED, HELLO, IN_ORDER, LONG, MIXED, MIXED_TOLD, ONE_ANSWERED, OPEN, ROWS, Row, SENT,
-    SENT_ENTRIES, TOGETHER,
+    ANSWERED, CLOSED, HELLO, IN_ORDER, LONG, MIXED, MIXED_TOLD, ONE_ANSWERED, OPEN, ROWS, Row,
+    SENT, SENT_ENTRIES, TOGETHER,
 };
 use super::entries::Entries;
 use super::session::{Session, send};
@@ -103,7 +103,11 @@ fn freed(rt: &impl Abort, alloc: Global, count: usize, answers: u64, frames: u64
     let entries = [(Origin::Relp, HELLO, 1, count)];
     let session = talk(rt, alloc, &entries, peer.as_bytes(), 65_536);
     session.check(rt, out.as_bytes(), &told);
-    assert!(rt; session.sizes.len() == texts, "{} texts for {texts}", session.sizes.len());
+    assert!(rt;
+        session.sizes.len() == texts,
+        "{} texts for {texts}",
+        session.sizes.len()
+    );
 }
 
 /// Windows that are filled and freed.

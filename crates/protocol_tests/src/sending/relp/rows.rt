@@ -200,7 +200,8 @@ pub const TOGETHER: &[(usize, &str)] = &[
 ];
 
 /// Answers of one piece to five entries: one is out of order, and one is to no frame.
-pub const MIXED: &[u8] = b"1 rsp 6 200 OK\n2 rsp 6 200 OK\n3 rsp 6 200 OK\n6 rsp 6 200 OK\n9 rsp 6 200 OK\n4 rsp 6 200 OK\n5 rsp 6 200 OK\n";
+pub const MIXED: &[u8] =
+    b"1 rsp 6 200 OK\n2 rsp 6 200 OK\n3 rsp 6 200 OK\n6 rsp 6 200 OK\n9 rsp 6 200 OK\n4 rsp 6 200 OK\n5 rsp 6 200 OK\n";
 
 /// What is told by them.
 pub const MIXED_TOLD: &str = "c2 a4-5 c5 Done";
