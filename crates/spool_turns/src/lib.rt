@@ -14,7 +14,12 @@
 //! the lock has the journal, and a pass comes under the lock for the time of a call.
 #![tactic(auto)]
 
+mod away;
+mod copies;
+mod going;
+mod hall;
 mod laws;
+mod letter;
 mod naming;
 mod pass;
 mod rule;
@@ -25,6 +30,7 @@ mod turn;
 mod unnamed;
 mod view;
 
+pub use away::Away;
 pub use laws::ids_of_runs_differ;
 pub use naming::Naming;
 pub use pass::Pass;
