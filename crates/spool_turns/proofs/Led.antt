@@ -1,5 +1,5 @@
 -- A journal that goes on by a call of one caller.
-use Rattle.std.proofs.Common.{◌≡◌, inl, inr, ℕ, ◌+◌, ◌≤◌, List, [], ◌∷◌, ◌++◌, refl, sym, ◌∙◌, ap, subst, arith}
+use Rattle.std.proofs.Common.{◌≡◌, inl, inr, ℕ, ◌+◌, ◌≤◌, ◌==◌, Bool, true, cond, List, [], ◌∷◌, ◌++◌, refl, sym, ◌∙◌, ap, subst, arith}
 use Rattle.std.specs.Prelude.{Option, false}
 use Rattle.std.proofs.lemmas.Grind.{common_steps}
 use Rattle.foundation.specs.Faults.{Rose}
@@ -9,10 +9,10 @@ use Rattle.edge_disk.proofs.Moments.{started, both, weaker}
 use Rattle.spool_log.specs.State.{View, IsIn}
 use Rattle.hec_ids.specs.Table.{Table}
 use Rattle.desk_access.specs.declared.standing.Standing.{Standing}
-use Rattle.desk_access.specs.Call.{Record, NoneJoins, failed_of}
+use Rattle.desk_access.specs.Call.{Record, NoneJoins, own_of, failures_in, failures_of, failed_as, failed_of}
 use Rattle.desk_access.specs.Desk.{DeskState, Goes, StandsWithin, Stood}
 use Rattle.spool_desk.specs.Alone.{AloneView, alone_view, IsAt, LeadsFrom, RunsTo, HasSeen}
-use Rattle.desk_access.specs.Journal.{goes_then, failed_then, rose_then, stood_first, stood_later, stood_here}
+use Rattle.desk_access.specs.Journal.{goes_then, own_then, failures_then, failed_then, rose_then, stood_first, stood_later, stood_here}
 use Rattle.desk_access.specs.Since.{EachSince, since_none, since_one, since_then}
 use Rattle.spool_turns.specs.Rules.{made_by}
 use Rattle.spool_turns.specs.Passes.{Beginning}
@@ -66,6 +66,19 @@ none_made : (n : ℕ) (log : List Record) (one : Record) → NoneJoins log → o
 none_made n [] one none alone = (alone, tt)
 none_made n (first ∷ log) one none alone = (none.0, none_made n log one none.1 alone)
 
+-- nor was a caller told more often that the disk failed
+own_failures : (n : ℕ) (one : Record) → one.joins ≡ false → failures_of (own_of n (one ∷ [])) ≤ failed_of (one ∷ [])
+own_failures n one alone = by (one.by == n) where
+  here : failed_as one.joins one.call ≡ failures_in one.call
+  here = ap (λ (b : Bool). failed_as b one.call) alone
+
+  by : (b : Bool) → failures_of (cond b (one.call ∷ []) []) ≤ failed_of (one ∷ [])
+  by true = omega (arith, here)
+  by false = omega arith
+
+each_more : (n : ℕ) (log more : List Record) → failures_of (own_of n log) ≤ failed_of log → failures_of (own_of n more) ≤ failed_of more → failures_of (own_of n (log ++ more)) ≤ failed_of (log ++ more)
+each_more n log more first second = omega (arith, first, second, failed_then log more, failures_then (own_of n log) (own_of n more), ap failures_of (own_then n log more))
+
 rose_zero : (a b : ℕ) → a ≤ b → Rose 0 a b
 rose_zero a b le = grind (arith, common_steps)
 
@@ -86,6 +99,7 @@ replays_none tells start run began v lawful is begins at = record {
   quiet = λ none. sym is.faults;
   size = sym is.size;
   alone = λ off. tt;
+  each = λ number. omega arith;
 }
 
 -- no call leads from the one moment to the other
@@ -120,6 +134,7 @@ module _ (tells : Type 0) (start : DeskState → Type 0) (run : ℕ) (began : Be
     quiet = λ none. r.quiet (omega (arith, none, failed_made n log one)) ∙ h.quiet (omega (arith, none, failed_made n log one));
     size = r.size ∙ h.size;
     alone = λ off. none_made n log one (h.alone off) alone;
+    each = λ number. each_more number log (made_by n one ∷ []) (h.each number) (own_failures number (made_by n one) alone);
   }
 
 -- ---- the words of the end and the cursor
@@ -172,4 +187,5 @@ replays_less tells start run began log v w spool ids no_end no_cursor h = record
   quiet = subst (λ (s : View). failed_of log ≡ 0 → s.moment.faults ≡ began.moment.faults) (sym spool) h.quiet;
   size = subst (λ (s : View). s.moment.size ≡ began.moment.size) (sym spool) h.size;
   alone = h.alone;
+  each = h.each;
 }

@@ -7,7 +7,7 @@ use Rattle.edge_disk.specs.declared.disk.Disk.{Ghosts}
 use Rattle.edge_disk.specs.Disk.{Moment, LeavesOnly}
 use Rattle.spool_log.specs.State.{view}
 use Rattle.spool_desk.specs.declared.desk.Desk.{Desk}
-use Rattle.desk_access.specs.Call.{Call, Record, NoneJoins, own_of, calls_of, failed_of}
+use Rattle.desk_access.specs.Call.{Call, Record, NoneJoins, own_of, calls_of, failures_of, failed_of}
 use Rattle.desk_access.specs.Desk.{DeskState, Goes, Stood}
 use Rattle.desk_access.specs.Durable.{KeepsSince}
 use Rattle.desk_access.specs.History.{IsDesk, Was}
@@ -54,6 +54,8 @@ pub record Replays (tells : Type 0) (start : DeskState → Type 0) (run : ℕ) (
   pub size : new.spool.moment.size ≡ began.moment.size
   -- unless that was allowed, no take was stored as one group with that of another caller
   pub alone : began.grouped ≡ false → NoneJoins log
+  -- no caller was told more often that the disk failed than changes failed
+  pub each : (number : ℕ) → failures_of (own_of number log) ≤ failed_of log
 
 -- The journal was really made: each of its calls is one that its caller might make, and there is a desk to which it led. Where the type
 -- of disk is left open, such a desk can only be one that the program had.
