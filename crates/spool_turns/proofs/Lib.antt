@@ -8,3 +8,4 @@ pub mod Issuing
 pub mod Lists
 pub mod Closing
 pub mod Fronts
+pub mod Outward

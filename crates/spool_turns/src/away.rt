@@ -14,7 +14,7 @@ pub struct Away<J: Naming> {
 }
 
 impl<J: Naming> Model for Away<J> {
-    ghost use Rattle.std.specs.Prelude.{◌≡◌, ◌<◌, false};
+    ghost use Rattle.std.specs.Prelude.{◌≡◌, ◌<◌, false, true};
     ghost use Rattle.spool_turns.specs.Passes.{IsClaim, number_in, handed_in};
     ghost use Rattle.spool_turns.specs.Sent.{Sent, sent_of};
 
@@ -23,5 +23,5 @@ impl<J: Naming> Model for Away<J> {
     ghost view = { λ a. sent_of a.seat.me.0 };
 
     ghost invariant = { λ a. (a.seat.table_id ≡ J.table) × IsClaim a.seat.me × (number_in a.seat.me.0 ≡ a.number) × (a.number < J.seats)
-        × ((handed_in a.seat.me.0).front ≡ false) };
+        × ((handed_in a.seat.me.0).front ≡ false) × (J.began.grouped ≡ true) };
 }

@@ -28,7 +28,7 @@ pub(crate) fn send<J: Naming>(
     front: bool,
 ) -> Letter<J>
     requires tables { (seat.old.table_id ≡ steps.now.table_id) × (steps.now.table_id ≡ J.table) × (steps.now.table_id.words ≡ 4) }
-    requires pass { IsPass seat.old.me × Sound J.start (pass_in seat.old.me.0) × ((pass_in seat.old.me.0).out ≡ None) }
+    requires pass { IsPass seat.old.me × ((pass_in seat.old.me.0).out ≡ None) }
     requires number { ((pass_in seat.old.me.0).number ≡ number) × (number < J.seats) }
     requires some { 0 < length entries.items }
     requires few { length entries.items < 2 ^ 32 }

@@ -8,14 +8,15 @@ use edge_disk::Disk;
 use std::alloc::{AllocError, Global};
 use std::sync::{Condvar, Mutex, Wait};
 
-/// What the caller that leads works with: the letters that it answers and the answers, each with room for one of every pass. There
-/// is one tray, and who has it leads.
+/// What the caller that leads works with: places for the letters that it answers and for the answers, each with room for one of every pass.
+/// There is one tray, and who has it leads.
 #[derive(Drop)]
 pub(crate) struct Tray<D: Disk, J: Naming> {
     pub(crate) letters: Vec<Letter<J>>,
     pub(crate) answers: Vec<Answer<D, J>>,
     ghost letters_have_room: { J.seats ≤ vec_capacity letters },
     ghost answers_have_room: { J.seats ≤ vec_capacity answers },
+    ghost none_answered: { vec_len answers ≡ 0 },
 }
 
 /// What lies in the hall: the tray where nobody leads, and at the place of each pass what it handed in and what came back.
@@ -72,9 +73,11 @@ impl<D: Disk, J: Naming> Waiting<D, J> {
         letters
     }
 
-    // Takes the tray, and puts the answers that it has at their places.
-    fn take_in(&mut self, tray: Tray<D, J>) {
-        let Tray { letters, answers } = tray;
+    // Puts the answers at their places, and the tray back.
+    fn take_in(&mut self, letters: Vec<Letter<J>>, answers: Vec<Answer<D, J>>)
+        requires letters { J.seats ≤ vec_capacity letters }
+        requires answers { J.seats ≤ vec_capacity answers }
+    {
         let answers = self.empty(answers);
         self.tray = Some(Tray { letters, answers });
     }
@@ -82,7 +85,9 @@ impl<D: Disk, J: Naming> Waiting<D, J> {
     // Puts the answers at their places.
     fn empty(&mut self, answers: Vec<Answer<D, J>>) -> Vec<Answer<D, J>>
         requires room { J.seats ≤ vec_capacity answers }
+
         ensures room { J.seats ≤ vec_capacity result }
+        ensures none { vec_len result ≡ 0 }
     {
         let mut answers = answers;
         while let Some(answer) = answers.pop() {
@@ -160,18 +165,27 @@ impl<D: Disk, J: Naming> Hall<D, J> {
         unreachable!()
     }
 
-    /// The tray with all letters that were left, in the order of their numbers.
-    pub(crate) fn filled<R: Wait>(&self, rt: &R, tray: Tray<D, J>) -> Tray<D, J>
-        ensures { vec_len result.letters ≤ J.seats }
+    /// All letters that were left, in the order of their numbers, in a vector with room for them.
+    pub(crate) fn letters<R: Wait>(&self, rt: &R, room: Vec<Letter<J>>) -> Vec<Letter<J>>
+        requires room { J.seats ≤ vec_capacity room }
+
+        ensures room { J.seats ≤ vec_capacity result }
+        ensures few { vec_len result ≤ J.seats }
     {
-        let Tray { letters, answers } = tray;
-        let letters = self.waiting.lock(rt).fill(letters);
-        Tray { letters, answers }
+        self.waiting.lock(rt).fill(room)
     }
 
     /// Puts the answers at their places, and the tray back. Who waits looks again.
-    pub(crate) fn give_back<R: Wait>(&self, rt: &R, tray: Tray<D, J>) {
-        self.waiting.lock(rt).take_in(tray);
+    pub(crate) fn give_back<R: Wait>(
+        &self,
+        rt: &R,
+        letters: Vec<Letter<J>>,
+        answers: Vec<Answer<D, J>>,
+    )
+        requires letters { J.seats ≤ vec_capacity letters }
+        requires answers { J.seats ≤ vec_capacity answers }
+    {
+        self.waiting.lock(rt).take_in(letters, answers);
         self.told.notify_all();
     }
 }

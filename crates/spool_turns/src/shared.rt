@@ -50,6 +50,7 @@ pub struct Shared<D: Disk, J: Naming> {
     pub(crate) group: bool,
     pub(crate) alloc: Global,
     pub(crate) run: u32,
+    ghost group_is: { group ≡ J.began.grouped },
     ghost run_is: { run ≡ J.run },
     ghost run_of_start: { (x : DeskState) → J.start x → run ≡ x.spool.run },
     ghost table_is: { table.shared.table_id ≡ J.table },
@@ -114,8 +115,9 @@ impl<D: Disk, J: Naming> Shared<D, J> {
     }
 
     /// Hands in entries that are to be taken as one group, and doesn't wait until they are: the next caller that leads takes them. They are
-    /// as those of `take`, at least one. The pass is out until its answer is collected.
+    /// as those of `take`, at least one. The pass is out until its answer is collected. The desk was opened with `group`.
     pub fn hand_in<R: Wait>(&self, rt: &R, pass: Pass<J>, entries: Vec<Entry>) -> Away<J>
+        requires group { J.began.grouped ≡ true }
         requires some { 0 < length entries.items }
         requires few { length entries.items < 2 ^ 32 }
         requires limits { All IsEntry entries.items }
@@ -162,6 +164,7 @@ impl<D: Disk, J: Naming> Shared<D, J> {
         entries: Vec<Entry>,
         front: bool,
     ) -> Front
+        requires group { J.began.grouped ≡ true }
         requires some { 0 < length entries.items }
         requires few { length entries.items < 2 ^ 32 }
         requires limits { All IsEntry entries.items }
@@ -186,7 +189,8 @@ impl<D: Disk, J: Naming> Shared<D, J> {
 
     // The answer to what the pass of that number handed in. Where it isn't there, and nobody leads, this caller does.
     fn answer_for<R: Wait>(&self, rt: &R, number: u32) -> Answer<D, J>
-        requires { number < J.seats }
+        requires group { J.began.grouped ≡ true }
+        requires number { number < J.seats }
         ensures { result ≡ number }
     {
         for _ in rt.forever() {
@@ -199,12 +203,18 @@ impl<D: Disk, J: Naming> Shared<D, J> {
     }
 
     // Answers all that was handed in by the time at which the desk is free.
-    fn lead<R: Wait>(&self, rt: &R, tray: Tray<D, J>) {
+    fn lead<R: Wait>(&self, rt: &R, tray: Tray<D, J>)
+        requires { J.began.grouped ≡ true }
+    {
+        let Tray {
+            letters,
+            mut answers,
+        } = tray;
         let mut turn = self.turn.lock(rt);
-        let Tray { letters, answers } = self.hall.filled(rt, tray);
-        let (letters, answers) = turn.answer_all(&self.table.shared, letters, answers);
+        let mut letters = self.hall.letters(rt, letters);
+        turn.answer_all(&self.table.shared, &mut letters, &mut answers);
         drop(turn);
-        self.hall.give_back(rt, Tray { letters, answers });
+        self.hall.give_back(rt, letters, answers);
     }
 
     /// The first `most` of the entries with numbers from `from` that aren't known as confirmed, each with its number.

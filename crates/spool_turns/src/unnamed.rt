@@ -136,7 +136,6 @@ impl<D: Disk> Unnamed<D> {
         let turn = Turn {
             alone,
             locked,
-            group,
             of: PhantomData,
         };
         let shared = Shared {
