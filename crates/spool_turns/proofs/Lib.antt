@@ -8,3 +8,5 @@ pub mod Issuing
 pub mod Lists
 pub mod Closing
 pub mod Fronts
+pub mod JointRecords
+pub mod Entering

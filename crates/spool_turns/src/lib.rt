@@ -14,7 +14,11 @@
 //! the lock has the journal, and a pass comes under the lock for the time of a call.
 #![tactic(auto)]
 
+mod answering;
+mod joining;
+mod joint;
 mod laws;
+mod letter;
 mod naming;
 mod pass;
 mod rule;
