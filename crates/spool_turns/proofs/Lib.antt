@@ -9,3 +9,5 @@ pub mod Lists
 pub mod Closing
 pub mod Fronts
 pub mod Outward
+pub mod JointRecords
+pub mod Entering

@@ -19,10 +19,13 @@
 //! the lock has the journal, and a pass comes under the lock for the time of a call.
 #![tactic(auto)]
 
+mod answering;
 mod away;
 mod copies;
 mod going;
 mod hall;
+mod joining;
+mod joint;
 mod laws;
 mod letter;
 mod naming;
@@ -30,7 +33,6 @@ mod pass;
 mod rule;
 mod seated;
 mod shared;
-mod stub;
 mod steps;
 mod turn;
 mod unnamed;
