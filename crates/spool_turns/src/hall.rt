@@ -143,11 +143,7 @@ impl<D: Disk, J: Naming> Hall<D, J> {
     }
 
     /// Waits until the answer for the pass of that number is there, or nobody leads. Then the caller gets the tray, and leads.
-    pub(crate) fn wait_for<R: Wait>(
-        &self,
-        rt: &R,
-        number: u32,
-    ) -> Result<Answer<D, J>, Tray<D, J>>
+    pub(crate) fn wait_for<R: Wait>(&self, rt: &R, number: u32) -> Result<Answer<D, J>, Tray<D, J>>
         requires { number < J.seats }
         ensures { IfOk result (λ answer. answer ≡ number) }
     {

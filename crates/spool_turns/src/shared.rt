@@ -60,6 +60,9 @@ pub struct Shared<D: Disk, J: Naming> {
 impl<D: Disk, J: Naming> Shared<D, J> {
     /// Takes the entries as one group. They are of one connection of this pass, of which they are the next ones. Either no
     /// entry's unit is an id, or all have one id as their unit, which this pass issued and which no other take used.
+    ///
+    /// With `group` copies of them are handed in, and may be stored as one group with what other passes hand in. Where no memory is found for
+    /// the copies the entries are taken by themselves.
     pub fn take<R: Wait>(
         &self,
         rt: &R,
@@ -86,6 +89,8 @@ impl<D: Disk, J: Naming> Shared<D, J> {
 
     /// Takes a front of the entries as one group: as many as the active slot has room for, and the first one at least. They are of
     /// one connection of this pass, of which they are the next ones, and no entry's unit is an id.
+    ///
+    /// With `group` they are handed in, and may be stored as one group with what other passes hand in.
     pub fn take_front<R: Wait>(&self, rt: &R, pass: &mut Pass<J>, entries: Vec<Entry>) -> Front
         requires some { 0 < length entries.items }
         requires few { length entries.items < 2 ^ 32 }

@@ -1,7 +1,8 @@
 //! Two passes that hand in before either collects: their takes are stored as one group.
-ghost use Rattle.std.specs.Prelude.{◌≡◌, ◌≤◌, [], true};
+ghost use Rattle.std.specs.Prelude.{◌≡◌, [], ◌∷◌, true};
 ghost use Rattle.event_form.specs.Entry.{IsEntry};
 ghost use Rattle.desk_access.specs.Batch.{IsPlain};
+ghost use Rattle.desk_access.specs.Legal.{IsNext};
 ghost use Rattle.spool_turns.specs.Named.{IsName};
 
 use crate::desks::{calls_to_open, formatted, named, to_share};
@@ -33,21 +34,26 @@ fn first_entry(rt: &impl Abort, alloc: Global, conn: u64) -> Entry
     }
 }
 
-// The pass of that number hands in the first entry of its first connection.
+// The entry by itself.
+fn only(rt: &impl Abort, alloc: Global, entry: Entry) -> Vec<Entry>
+    ensures { result.items ≡ entry ∷ [] }
+{
+    Vec::from_array(alloc, [entry]).expect(rt, "memory")
+}
+
+// A pass hands in the first entry of its connection.
 fn hands_in<J: Naming, R: Abort + Wait>(
     rt: &R,
     alloc: Global,
     shared: &Shared<MemDisk, J>,
     pass: Pass<J>,
-    number: u32,
+    conn: u64,
 ) -> Away<J>
     requires group { J.began.grouped ≡ true }
-    requires number { (pass.number ≡ number) × (number ≤ 63) }
-    requires own { pass.own ≡ [] }
+    requires next { IsNext J.run pass.number pass.own conn 0 }
 {
-    let conn = first_conn(shared.run(), number);
     let entry = first_entry(rt, alloc, conn);
-    let entries = Vec::from_array(alloc, [entry]).expect(rt, "memory");
+    let entries = only(rt, alloc, entry);
     shared.hand_in(rt, pass, entries)
 }
 
@@ -64,8 +70,9 @@ fn tell<J: Naming, R: Abort + Wait>(
     requires last { (last.number ≡ 1) × (last.own ≡ []) }
 {
     let alloc = *said.allocator();
-    let first = hands_in(rt, alloc, shared, first, 0);
-    let last = hands_in(rt, alloc, shared, last, 1);
+    let run = shared.run();
+    let first = hands_in(rt, alloc, shared, first, first_conn(run, 0));
+    let last = hands_in(rt, alloc, shared, last, first_conn(run, 1));
     let (mut first, told) = shared.collect(rt, first);
     say_take(rt, said, told.answer);
     let (last, told) = shared.collect(rt, last);
@@ -97,7 +104,10 @@ fn say_slot(rt: &impl Abort, said: &mut String, bytes: &[u8]) {
     let alloc = *said.allocator();
     let bytes = bytes.to_vec(alloc).expect(rt, "memory");
     let mut disk = MemDisk::of(bytes, Vec::new(alloc));
-    assert!(rt; disk.bytes().len() >= 12_288 + 4_096, "the device has two slots");
+    assert!(rt;
+        disk.bytes().len() >= 12_288 + 4_096,
+        "the device has two slots"
+    );
     let mut window = Window::new(alloc).expect(rt, "memory");
     let found = Slot::scan(&mut disk, &mut window, 12_288, 4_096).ok();
     let slot = found.expect(rt, "the slot").expect(rt, "an open slot");

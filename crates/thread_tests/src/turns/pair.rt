@@ -38,7 +38,11 @@ pub(crate) fn say_take(rt: &impl Abort, said: &mut String, answer: Result<Receip
 }
 
 /// Adds a line for each entry: its number, its connection and its index.
-pub(crate) fn say_places(rt: &impl Abort, said: &mut String, given: Result<Vec<Numbered>, PendFault>) {
+pub(crate) fn say_places(
+    rt: &impl Abort,
+    said: &mut String,
+    given: Result<Vec<Numbered>, PendFault>,
+) {
     for Numbered { number, entry } in &given.ok().expect(rt, "the entries") {
         writeln!(said, "{number} {} {}", entry.conn, entry.index).expect(rt, "memory");
     }
