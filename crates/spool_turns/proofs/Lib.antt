@@ -10,3 +10,5 @@ pub mod Closing
 pub mod Fronts
 pub mod JointRecords
 pub mod Entering
+pub mod EnteringAll
+pub mod Grouping
