@@ -11,3 +11,5 @@ pub mod Fronts
 pub mod Outward
 pub mod JointRecords
 pub mod Entering
+pub mod EnteringAll
+pub mod Grouping

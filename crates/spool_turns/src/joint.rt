@@ -1,5 +1,5 @@
 //! Letters of several passes that are stored as one group.
-ghost use Rattle.std.specs.Prelude.{◌≡◌, ◌+◌, ◌-◌, ◌^◌, ◌<◌, ◌≤◌, List, true, false, [], ◌∷◌, ◌++◌, length, reverse, None, IfSome, IfOk, IfErr};
+ghost use Rattle.std.specs.Prelude.{◌≡◌, ◌+◌, ◌-◌, ◌^◌, ◌<◌, ◌≤◌, List, true, false, [], ◌∷◌, ◌++◌, length, take, drop, reverse, None, IfSome, IfOk, IfErr};
 ghost use Rattle.std.specs.Vec.{vec_len, vec_capacity};
 ghost use Rattle.event_form.specs.declared.event.Entry.{Entry};
 ghost use Rattle.spool_state.specs.Segment.{entries_text};
@@ -142,6 +142,18 @@ fn answer_of(
     })
 }
 
+// So many entries of a group from that place on.
+fn part_at(group: &[Entry], from: usize, count: usize) -> &[Entry]
+    requires { from + count ≤ length group.now }
+
+    ensures part { result.now ≡ take count (drop from group.now) }
+    ensures count { length result.now ≡ count }
+{
+    let (_, rest) = group.split_at(from);
+    let (part, _) = rest.split_at(count);
+    part
+}
+
 // Enters the takes of the letters in the journal, in their order. The group was stored where the numbers `before` stood, or the disk
 // failed. The desk is for the proof alone.
 fn enter_all<D: Disk, J: Naming>(
@@ -174,13 +186,13 @@ fn enter_all<D: Disk, J: Naming>(
     let mut from = 0;
     let mut left = letters.into_iter();
     while let Some(letter) = left.next() {
-        let to = from + letter.count();
+        let count = letter.count();
         let first = &group[..from];
-        let part = &group[from..to];
+        let part = part_at(group, from, count);
         let answer = answer_of(stored, before.end, first, part);
         let one = enter(steps, locked, alone, before, first, part, answer, letter);
         entered.push_reserved(one);
-        from = to;
+        from += count;
     }
 }
 
