@@ -12,3 +12,4 @@ pub mod JointRecords
 pub mod Entering
 pub mod EnteringAll
 pub mod Grouping
+pub mod AnsweredAlone
