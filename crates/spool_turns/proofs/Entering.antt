@@ -149,7 +149,7 @@ module _ (tells : Type 0) (start : DeskState → Type 0) (run seats : ℕ) (bega
 same_entries : (entries part : List Entry) (out : Option Handed) (m : PassView) (front : Bool) → part ≡ entries_out out → out ≡ Some (handed_by m entries front) → part ≡ entries
 same_entries entries part out m front is out_is = is ∙ ap entries_out out_is
 
-receipt_of : (answer : Result Receipt TakeFault) (n k : ℕ) → n ≡ k → IfOk answer (λ receipt. (receipt.count ≡ n) × (receipt.first + receipt.count ≤ 2 ^ 63)) → IfOk answer (λ receipt. (receipt.count ≡ k) × (receipt.first + receipt.count ≤ 2 ^ 63))
+pub receipt_of : (answer : Result Receipt TakeFault) (n k : ℕ) → n ≡ k → IfOk answer (λ receipt. (receipt.count ≡ n) × (receipt.first + receipt.count ≤ 2 ^ 63)) → IfOk answer (λ receipt. (receipt.count ≡ k) × (receipt.first + receipt.count ≤ 2 ^ 63))
 receipt_of answer n k is ok = subst (λ (i : ℕ). IfOk answer (λ receipt. (receipt.count ≡ i) × (receipt.first + receipt.count ≤ 2 ^ 63))) is ok
 
 -- A letter whose entries stand in the group, by its seat from: its take is entered with this answer, as the record one of the journal of f.

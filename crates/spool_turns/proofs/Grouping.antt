@@ -1,5 +1,5 @@
 -- Letters that are stored as one group: what lies under the lock afterwards.
-use Rattle.std.proofs.Common.{◌≡◌, ℕ, ◌+◌, ◌-◌, ◌≤◌, ◌<◌, Bool, true, false, List, [], ◌∷◌, ◌++◌, length, refl, sym, ap, ◌∙◌, subst, arith}
+use Rattle.std.proofs.Common.{◌≡◌, ℕ, suc, ◌+◌, ◌-◌, ◌≤◌, ◌<◌, Bool, true, false, List, [], ◌∷◌, ◌++◌, length, refl, sym, ap, ◌∙◌, subst, arith, length-append}
 use Rattle.std.specs.Prelude.{Result, IfErr, is_ok}
 use Rattle.atomic_table.specs.Table.{Me}
 use Rattle.event_form.specs.declared.event.Entry.{Entry}
@@ -23,7 +23,7 @@ use Rattle.spool_turns.proofs.JointRecords.{joint_are, answered_all, all_join, e
 use Rattle.spool_turns.proofs.Entering.{replays_many, replays_still}
 
 -- the numbers of passes and how many they are, by their parts
-callers_of : List Part → List ℕ
+abbrev callers_of : List Part → List ℕ
 callers_of [] = []
 callers_of (part ∷ parts) = part.by ∷ callers_of parts
 
@@ -36,15 +36,23 @@ same_numbers xs ys same = by_parts xs ∙ ap callers_of same ∙ sym (by_parts y
 
 count_parts : (passes : List PassView) → length passes ≡ length (parts_of passes)
 count_parts [] = refl
-count_parts (m ∷ passes) = ap (λ (n : ℕ). n + 1) (count_parts passes)
+count_parts (m ∷ passes) = ap suc (count_parts passes)
 
 pub same_count : (xs ys : List PassView) → parts_of xs ≡ parts_of ys → length xs ≡ length ys
 same_count xs ys same = count_parts xs ∙ ap (λ (l : List Part). length l) same ∙ sym (count_parts ys)
 
+-- a group has an entry
+pub some_entries : (parts : List Part) → 0 < length parts → ArePartsOf parts → 0 < length (joined parts)
+some_entries [] none are = absurd (omega (arith, none))
+some_entries (part ∷ parts) some are = omega (arith, are.0, length-append part.entries (joined parts))
+
+pub count_of_parts : (passes : List PassView) → 0 < length passes → 0 < length (parts_of passes)
+count_of_parts passes some = omega (arith, some, count_parts passes)
+
 -- The group was stored, or the disk failed: old is the desk before that one take, mid behind it, and new once the words are written. me is
 -- the seat under the lock before.
 module _ (tells : Type 0) (start : DeskState → Type 0) (run seats : ℕ) (began : Beginning) (me : Me ℕ View) (old mid new : AloneView) (passes : List PassView) (entries : List Entry)
-    (before : Standing) (result : Result Receipt TakeFault)
+    (before : Standing) (result : Result Receipt TakeFault) (stored : Bool) (stored_is : stored ≡ is_ok result)
     (grouped : began.grouped ≡ true) (turn : IsTurn seats me old) (replays : Replays tells start run began (facts_in me.0).log old)
     (some : 0 < length passes) (are : ArePartsOf (parts_of passes)) (rising : AreRising 0 (parts_of passes)) (entries_are : entries ≡ joined (parts_of passes))
     (before_is : before ≡ standing_in old.spool.memory) (only : IfErr result (λ fault. fault ≡ Take.DiskFault))
@@ -53,12 +61,13 @@ module _ (tells : Type 0) (start : DeskState → Type 0) (run seats : ℕ) (bega
   f = facts_in me.0
 
   abbrev records : List Record
-  records = records_behind (is_ok result) before mid.spool.moment.clock [] (parts_of passes)
+  records = records_behind stored before mid.spool.moment.clock [] (parts_of passes)
 
-  made_all : (parts : List Part) → 0 < length parts → ArePartsOf parts → entries ≡ joined parts → RunsTo tells old (records_behind (is_ok result) before mid.spool.moment.clock [] parts) mid
+  made_all : (parts : List Part) → 0 < length parts → ArePartsOf parts → entries ≡ joined parts → RunsTo tells old (records_behind stored before mid.spool.moment.clock [] parts) mid
   made_all [] none all is = absurd (omega (arith, none))
   made_all (part ∷ parts) some' all is =
-      subst (λ (l : List Record). RunsTo tells old l mid) (joint_are result mid.spool.moment.clock before (part ∷ parts) all only)
+      subst (λ (l : List Record). RunsTo tells old l mid)
+      (joint_are result mid.spool.moment.clock before (part ∷ parts) all only ∙ ap (λ (b : Bool). records_behind b before mid.spool.moment.clock [] (part ∷ parts)) (sym stored_is))
       (subst (λ (s : Standing). RunsTo tells old (joint_of result mid.spool.moment.clock s (part ∷ parts)) mid) (sym before_is) (made part parts (sym is) all))
 
   pub runs_all : RunsTo tells old records mid
@@ -76,8 +85,8 @@ module _ (tells : Type 0) (start : DeskState → Type 0) (run seats : ℕ) (bega
   pub replays_all : (tells → IsLawful mid.spool.moment) → (tells → IsLawful new.spool.moment) → RunsTo tells mid [] new → Replays tells start run began (f.log ++ records) new
   replays_all lawful lawful_new told =
       replays_still tells start run began mid new (f.log ++ records) lawful_new
-      (replays_many tells start run began old mid f.log records lawful (answered_all (is_ok result) before mid.spool.moment.clock [] (parts_of passes))
-          (λ off. absurd (cc (sym off ∙ grouped))) (λ n. each_fails n (is_ok result) before mid.spool.moment.clock (parts_of passes) rising) replays runs_all)
+      (replays_many tells start run began old mid f.log records lawful (answered_all stored before mid.spool.moment.clock [] (parts_of passes))
+          (λ off. absurd (cc (sym off ∙ grouped))) (λ n. each_fails n stored before mid.spool.moment.clock (parts_of passes) rising) replays runs_all)
       told
 
   -- the seat once all takes are entered, and once the words are written
@@ -93,14 +102,14 @@ module _ (tells : Type 0) (start : DeskState → Type 0) (run seats : ℕ) (bega
 
     pub joint_all : (behind : List PassView) → AreBehind (length f.log) behind → AreJoint (facts_in wrote.0).log behind
     joint_all behind seen = by (parts_of passes) (omega (arith, some, count_parts passes)) are log_all where
-      by : (parts : List Part) → 0 < length parts → ArePartsOf parts → (facts_in wrote.0).log ≡ f.log ++ records_behind (is_ok result) before mid.spool.moment.clock [] parts → AreJoint (facts_in wrote.0).log behind
+      by : (parts : List Part) → 0 < length parts → ArePartsOf parts → (facts_in wrote.0).log ≡ f.log ++ records_behind stored before mid.spool.moment.clock [] parts → AreJoint (facts_in wrote.0).log behind
       by [] none all is = absurd (omega (arith, none))
       by (part ∷ parts) some' all is = record {
         before = f.log;
         one = _;
-        behind = records_behind (is_ok result) before mid.spool.moment.clock part.entries parts;
+        behind = records_behind stored before mid.spool.moment.clock part.entries parts;
         parts = is;
-        join = all_join (is_ok result) before mid.spool.moment.clock part.entries parts all.0;
+        join = all_join stored before mid.spool.moment.clock part.entries parts all.0;
         seen = seen;
       }
 

@@ -13,3 +13,4 @@ pub mod JointRecords
 pub mod Entering
 pub mod EnteringAll
 pub mod Grouping
+pub mod AnsweredAlone

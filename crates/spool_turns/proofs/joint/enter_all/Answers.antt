@@ -1,4 +1,4 @@
-use Rattle.std.proofs.Common.{rules, ◌≡◌, ◌+◌, ◌-◌, ◌≤◌, ◌<◌, List, [], ◌∷◌, ◌++◌, length, refl, sym, ap, ◌∙◌, subst, arith}
+use Rattle.std.proofs.Common.{◌≡◌, ℕ, ◌+◌, ◌-◌, ◌≤◌, ◌<◌, List, [], ◌∷◌, ◌++◌, length, refl, sym, ap, ◌∙◌, subst, arith}
 use Rattle.std.specs.Prelude.{take, drop}
 use Rattle.std.specs.Vec.Iter.{into_iter_items}
 use Rattle.std.proofs.lemmas.List.{nil_from_length, length-take-le}
@@ -103,7 +103,7 @@ loop-letter-preserved g c =
     let p = c.push_reserved.ensures in
     let there = entering_next _ _ _ _ _ _ _ _ _ c.loop-letter.from c.loop-letter.locked.me c.in-Some.letter left c.loop-letter.entered.items h _ _ c.enter-one.new.locked.me c.enter-one.result part c.answer_of-answer.ensures.is e.locked e.pass e.met in (
       e.table,
-      subst (λ k. all k.0 c.enter-one.new.locked.me left k.1) (λ j. (c.loop-letter.from + sym c.count-count.ensures.0 j, sym p.items j)) there,
+      subst (λ (k : ℕ × List PassView). all k.0 c.enter-one.new.locked.me left k.1) (λ j. (c.loop-letter.from + sym c.count-count.ensures.0 j, sym p.items j)) there,
       omega (arith, p.len, p.capacity, i.2, c.in-Some.ensures.cases.1),
     )
 
