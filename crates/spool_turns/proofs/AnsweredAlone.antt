@@ -54,7 +54,7 @@ module _ {D : Type 0} (disks : Ghosts D) (start : DeskState → Type 0) (run sea
       let real = real_after disks.tells start run seats began me hosted wrote old mid (alone_at now) m call turn replays legal may hosts knew made told same exact writes lawful (known_of (pass_in it.0)) it refl is in
       let wrote_is = writes ∙ ap (λ (x : Me ℕ View). calling_of (published (alone_at now) (facts_in x.0)) (caller_in x.0)) hosts in
       let view_is : pass_in it.0 ≡ after_call (published (alone_at now) (facts_in me.0)) m (record_of call (alone_at now)) =
-          ap (λ (x : Me ℕ View). pass_in x.0) is ∙ ap (λ (x : Me ℕ View). after_call (facts_in x.0) (caller_in x.0) (record_of call (alone_at now))) wrote_is in
+      ap (λ (x : Me ℕ View). pass_in x.0) is ∙ ap (λ (x : Me ℕ View). after_call (facts_in x.0) (caller_in x.0) (record_of call (alone_at now))) wrote_is in
       record {
         pass = past.0;
         number_is = ap (λ (v : PassView). v.number) view_is ∙ l.number_is;

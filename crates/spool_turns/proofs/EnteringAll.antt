@@ -83,9 +83,10 @@ module _ (start : DeskState → Type 0) (run seats : ℕ) (stored : Bool) (befor
       → (me ≡ locked_of (facts f0.made (f0.log ++ records_behind stored before clock [] (parts_of letters)) f0.end f0.cursor)) × (parts_of entered ≡ parts_of letters)
   entering_last from me left entered none h =
       let log_is : (facts_in me.0).log ≡ f0.log ++ records_behind stored before clock [] (parts_of letters) =
-          sym (append-nil (facts_in me.0).log) ∙ ap (λ (l : List PassView). (facts_in me.0).log ++ records_behind stored before clock (take from group) (parts_of l)) (sym none) ∙ h.whole in
-      (h.locked ∙ ap (λ (l : List Record). locked_of (facts f0.made l f0.end f0.cursor)) log_is,
-       sym (append-nil (parts_of entered)) ∙ ap (λ (l : List PassView). parts_of entered ++ parts_of l) (sym none) ∙ h.parts)
+      sym (append-nil (facts_in me.0).log) ∙ ap (λ (l : List PassView). (facts_in me.0).log ++ records_behind stored before clock (take from group) (parts_of l)) (sym none) ∙ h.whole in (
+        h.locked ∙ ap (λ (l : List Record). locked_of (facts f0.made l f0.end f0.cursor)) log_is,
+        sym (append-nil (parts_of entered)) ∙ ap (λ (l : List PassView). parts_of entered ++ parts_of l) (sym none) ∙ h.parts,
+      )
 
   module _ (from : ℕ) (me : Me ℕ View) (m : PassView) (left entered : List PassView) (h : IsEntering from me (m ∷ left) entered) where
     abbrev own : List Entry
@@ -116,7 +117,7 @@ module _ (start : DeskState → Type 0) (run seats : ℕ) (stored : Bool) (befor
         let log = (facts_in me.0).log in
         let same = same_record part answer part_is answer_is in
         let there : it ≡ locked_of (facts f0.made (log ++ made_by m.number one ∷ []) f0.end f0.cursor) =
-            it_is ∙ (λ i. locked_of (with_record (facts_in (h.locked i).0) (made_by m.number (same i)))) in
+        it_is ∙ (λ i. locked_of (with_record (facts_in (h.locked i).0) (made_by m.number (same i)))) in
         let log_is : (facts_in it.0).log ≡ log ++ made_by m.number one ∷ [] = ap (λ (x : Me ℕ View). (facts_in x.0).log) there in
         let records = records_behind stored before clock (take from group ++ own) (parts_of left) in
         let next : take from group ++ own ≡ take (from + length own) group = sym stands.next in

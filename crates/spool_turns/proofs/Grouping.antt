@@ -86,7 +86,7 @@ module _ (tells : Type 0) (start : DeskState → Type 0) (run seats : ℕ) (bega
   replays_all lawful lawful_new told =
       replays_still tells start run began mid new (f.log ++ records) lawful_new
       (replays_many tells start run began old mid f.log records lawful (answered_all stored before mid.spool.moment.clock [] (parts_of passes))
-          (λ off. absurd (cc (sym off ∙ grouped))) (λ n. each_fails n stored before mid.spool.moment.clock (parts_of passes) rising) replays runs_all)
+      (λ off. absurd (cc (sym off ∙ grouped))) (λ n. each_fails n stored before mid.spool.moment.clock (parts_of passes) rising) replays runs_all)
       told
 
   -- the seat once all takes are entered, and once the words are written

@@ -94,13 +94,7 @@ impl<D: Disk, J: Naming> Turn<D, J> {
             answers.push_reserved(answer);
             return;
         };
-        answer_group(
-            steps,
-            &mut self.locked,
-            &mut self.alone,
-            group,
-            answers,
-        );
+        answer_group(steps, &mut self.locked, &mut self.alone, group, answers);
     }
 
     /// Stores what the letters bring, and answers them in their order. Letters whose entries have room together are stored as one group,

@@ -121,12 +121,7 @@ pub(crate) fn gather<D: Disk, J: Naming>(
 
 // The answer of the take of a part that stands behind those entries, in a group that was stored where the numbers ended so, or in which
 // the disk failed.
-fn answer_of(
-    stored: bool,
-    end: u64,
-    first: &[Entry],
-    part: &[Entry],
-) -> Result<Receipt, TakeFault>
+fn answer_of(stored: bool, end: u64, first: &[Entry], part: &[Entry]) -> Result<Receipt, TakeFault>
     requires numbers { end + (length first.now + length part.now) ≤ 2 ^ 63 }
 
     ensures is { result ≡ part_answer stored end first.now part.now }

@@ -12,7 +12,8 @@ ghost use Rattle.spool_turns.specs.Replays.{IsExact};
 
 use crate::rule::{
     Admits, Compares, HandedIn, HandsOver, Learns, LoadsCursor, LoadsEnd, MakesPass, Merges,
-    PassSeat, Recorded, Records, SeesAll, SendsOut, SettlesClaim, Steps, TakesBack, WritesCursor, WritesEnd,
+    PassSeat, Recorded, Records, SeesAll, SendsOut, SettlesClaim, Steps, TakesBack, WritesCursor,
+    WritesEnd,
 };
 use desk_access::Access;
 use edge_disk::Disk;

@@ -9,8 +9,17 @@ loop-group-init c = (ap (λ (l : List Entry). l ++ into_iter_items c.args.group.
 pub unreachable-requires : goal.unreachable-requires
 unreachable-requires c =
     let i = c.loop-group.invariant in
-    omega (arith, c.requires.some, ap (λ (l : List Entry). length l) i.0, length-append c.loop-group.place.items (into_iter_items c.loop-group.group),
-        c.loop-group-test.true, c.len.ensures, c.loop-group.place.ok.0, c.loop-group.group.rest.ok.0, c.in_default.ensures.cases.0)
+    omega (
+      arith,
+      c.requires.some,
+      ap (λ (l : List Entry). length l) i.0,
+      length-append c.loop-group.place.items (into_iter_items c.loop-group.group),
+      c.loop-group-test.true,
+      c.len.ensures,
+      c.loop-group.place.ok.0,
+      c.loop-group.group.rest.ok.0,
+      c.in_default.ensures.cases.0,
+    )
 
 pub push_reserved-requires : goal.push_reserved-requires
 push_reserved-requires c = omega (arith, c.loop-group-test.true, c.len.ensures, c.loop-group.invariant.2, c.requires.room)

@@ -20,7 +20,7 @@ loop-letter-preserved g c =
     let rest = c.pop.new.self.items in
     let parts = ap parts_of p.items ∙ parts_both group (one ∷ []) in
     let numbers = ap (λ (l : List PassView). reverse (numbers_of l)) p.items ∙ ap reverse (numbers_both group (one ∷ []))
-        ∙ reverse-append (numbers_of group) (one.number ∷ []) ∙ ap (λ (n : ℕ). n ∷ reverse (numbers_of group)) j.0 in (
+    ∙ reverse-append (numbers_of group) (one.number ∷ []) ∙ ap (λ (n : ℕ). n ∷ reverse (numbers_of group)) j.0 in (
       i.0 ∙ ap (λ (l : List ℕ). l ++ reverse (numbers_of group)) s.items ∙ append_assoc rest (c.in-Some.letter ∷ []) (reverse (numbers_of group)) ∙ ap (λ (l : List ℕ). rest ++ l) (sym numbers),
       subst ArePartsOf (sym parts) (are_parts_then (parts_of group) (part_of one) i.1 j.2 j.3),
       subst (AreRising 0) (sym parts) (rising_then 0 (parts_of group) (part_of one) i.2 (omega (arith, i.3, j.6))),

@@ -28,7 +28,8 @@ invariant_of-result g c =
     let e = c.add_record-seat.ensures in
     let t = c.take-answer.ensures in
     let answered = answered_alone g.D.Disk n.start n.run n.seats n.began c.self.inside.locked.me c.admit.new.locked.me c.publish.new.locked.me _ _ c.publish.new.alone c.letter.inside.seat.me c.letter.inside.number
-        c.deref-all.result.now c.letter.inside.front c.count_of-count.result c.take-answer.result i.1 i.2 i.3 h.locked h.knew t.makes p.run (p.kept _) p.exact p.locked (g.met.D.Disk.lawful _) l k.within.0 k.within.1 k.whole t.receipt
-        (λ is. front_alone _ _ _ _ _ (k.fits is) t.before) c.add_record-seat.result.me e.pass in
-    (e.tables.1 ∙ p.table ∙ h.tables.0 ∙ i.0,
-     subst (λ (es : List Entry). IsAnswered g.D.Disk n.start n.run n.seats n.began c.letter.inside.number es c.count_of-count.result c.take-answer.result c.add_record-seat.result.me) c.deref-all.ensures.value answered)
+    c.deref-all.result.now c.letter.inside.front c.count_of-count.result c.take-answer.result i.1 i.2 i.3 h.locked h.knew t.makes p.run (p.kept _) p.exact p.locked (g.met.D.Disk.lawful _) l k.within.0 k.within.1 k.whole t.receipt
+    (λ is. front_alone _ _ _ _ _ (k.fits is) t.before) c.add_record-seat.result.me e.pass in (
+      e.tables.1 ∙ p.table ∙ h.tables.0 ∙ i.0,
+      subst (λ (es : List Entry). IsAnswered g.D.Disk n.start n.run n.seats n.began c.letter.inside.number es c.count_of-count.result c.take-answer.result c.add_record-seat.result.me) c.deref-all.ensures.value answered,
+    )
