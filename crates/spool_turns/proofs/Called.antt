@@ -76,8 +76,11 @@ module _ (tells : Type 0) (start : DeskState → Type 0) (run seats : ℕ) (bega
     lawful = λ x s. let p = after.leads x s in let e = exact p.after (replays.begins x s).told p.reached in (p.after, p.goes, e.0, e.1);
   }
 
-  pub pass_after : (it : Me ℕ View) → it ≡ pass_of (after_call (facts_in wrote.0) (caller_in wrote.0) (record_of call new)) → IsPass it × Sound start (pass_in it.0)
-  pass_after it is = subst (λ (x : Me ℕ View). IsPass x × Sound start (pass_in x.0)) (sym (pass_is it is)) (refl, sound_after)
+  pub pass_after : (it : Me ℕ View) → it ≡ pass_of (after_call (facts_in wrote.0) (caller_in wrote.0) (record_of call new))
+      → IsPass it × Sound start (pass_in it.0) × ((pass_in it.0).number ≡ m.number) × ((pass_in it.0).out ≡ m.out)
+  pass_after it is =
+      subst (λ (x : Me ℕ View). IsPass x × Sound start (pass_in x.0) × ((pass_in x.0).number ≡ m.number) × ((pass_in x.0).out ≡ m.out)) (sym (pass_is it is))
+      (refl, sound_after, refl, refl)
 
   seen_here : (facts_in me.0).log ++ made_by m.number (record_of call new) ∷ [] ≡ ((m.seen ++ knew.seen.0) ++ made_by m.number (record_of call new) ∷ []) ++ []
   seen_here =

@@ -76,7 +76,7 @@ own_failures n one alone = by (one.by == n) where
   by true = omega (arith, here)
   by false = omega arith
 
-each_more : (n : ℕ) (log more : List Record) → failures_of (own_of n log) ≤ failed_of log → failures_of (own_of n more) ≤ failed_of more → failures_of (own_of n (log ++ more)) ≤ failed_of (log ++ more)
+pub each_more : (n : ℕ) (log more : List Record) → failures_of (own_of n log) ≤ failed_of log → failures_of (own_of n more) ≤ failed_of more → failures_of (own_of n (log ++ more)) ≤ failed_of (log ++ more)
 each_more n log more first second = omega (arith, first, second, failed_then log more, failures_then (own_of n log) (own_of n more), ap failures_of (own_then n log more))
 
 rose_zero : (a b : ℕ) → a ≤ b → Rose 0 a b

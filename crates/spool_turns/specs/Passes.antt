@@ -46,6 +46,10 @@ abbrev pub pass_or : Option PassView → PassView
 pass_or None = no_pass
 pass_or (Some m) = m
 
+abbrev pub hosted_in : View → Option PassView
+hosted_in (Locked f caller) = caller
+hosted_in _ = None
+
 abbrev pub caller_in : View → PassView
 caller_in (Locked f caller) = pass_or caller
 caller_in _ = no_pass
@@ -53,6 +57,9 @@ caller_in _ = no_pass
 -- the seat under the lock between calls and during one, and the seat of a pass
 abbrev pub locked_of : Facts → Me ℕ View
 locked_of f = (Locked f None, [])
+
+abbrev pub hosting_of : Facts → Option PassView → Me ℕ View
+hosting_of f caller = (Locked f caller, [])
 
 abbrev pub calling_of : Facts → PassView → Me ℕ View
 calling_of f m = (Locked f (Some m), [])
@@ -65,6 +72,10 @@ IsPass me = me ≡ pass_of (pass_in me.0)
 
 abbrev pub IsLocked : Me ℕ View → Type 0
 IsLocked me = me ≡ locked_of (facts_in me.0)
+
+-- it is the seat under the lock, between calls or during one
+abbrev pub IsHosting : Me ℕ View → Type 0
+IsHosting me = me ≡ hosting_of (facts_in me.0) (hosted_in me.0)
 
 -- the seat of a pass that is out: the claim to it
 abbrev pub claim_at : ℕ → Handed → Me ℕ View

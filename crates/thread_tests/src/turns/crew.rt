@@ -31,9 +31,9 @@ pub struct Shift<D: Disk> {
 
 /// A pass that made no call, and its first connection.
 #[derive(Drop)]
-struct Job<J: Naming> {
-    pass: Pass<J>,
-    conn: u64,
+pub(crate) struct Job<J: Naming> {
+    pub(crate) pass: Pass<J>,
+    pub(crate) conn: u64,
 }
 
 // A pass after its takes, and how many they were.
@@ -43,8 +43,8 @@ struct Worked<J: Naming> {
     taken: Result<u64, AllocError>,
 }
 
-// What each pass is to do, the one with the greatest number first.
-fn jobs<J: Naming>(
+/// What each pass is to do, the one with the greatest number first.
+pub(crate) fn jobs<J: Naming>(
     alloc: Global,
     mut passes: Vec<Pass<J>>,
     run: u32,

@@ -20,13 +20,13 @@ use std::sync::Wait;
 // The channel that asks.
 const CHANNEL: u128 = 0x0aee_ac95_ac74_4aa9_b30d_6c4c_0ac5_81ba;
 
-// Adds a line with this answer.
-fn say(rt: &impl Abort, said: &mut String, answer: &impl Debug) {
+/// Adds a line with this answer.
+pub(crate) fn say(rt: &impl Abort, said: &mut String, answer: &impl Debug) {
     writeln!(said, "{answer:?}").expect(rt, "memory");
 }
 
-// Adds a line with what a take answered.
-fn say_take(rt: &impl Abort, said: &mut String, answer: Result<Receipt, TakeFault>) {
+/// Adds a line with what a take answered.
+pub(crate) fn say_take(rt: &impl Abort, said: &mut String, answer: Result<Receipt, TakeFault>) {
     let written = match answer {
         Ok(Receipt { first, count }) => {
             writeln!(said, "Ok(Receipt {{ first: {first}, count: {count} }})")
@@ -37,8 +37,12 @@ fn say_take(rt: &impl Abort, said: &mut String, answer: Result<Receipt, TakeFaul
     written.expect(rt, "memory");
 }
 
-// Adds a line for each entry: its number, its connection and its index.
-fn say_places(rt: &impl Abort, said: &mut String, given: Result<Vec<Numbered>, PendFault>) {
+/// Adds a line for each entry: its number, its connection and its index.
+pub(crate) fn say_places(
+    rt: &impl Abort,
+    said: &mut String,
+    given: Result<Vec<Numbered>, PendFault>,
+) {
     for Numbered { number, entry } in &given.ok().expect(rt, "the entries") {
         writeln!(said, "{number} {} {}", entry.conn, entry.index).expect(rt, "memory");
     }
@@ -183,6 +187,10 @@ pub(crate) fn check(rt: &(impl Abort + Wait), alloc: Global, row: &Row, group: b
     let said = said(rt, alloc, MemDisk::of(bytes, failing), group, *upto);
     assert!(rt;
         said.as_str() == *want,
+<<<<<<< HEAD
+        "call {call}, group {group}: {said}"
+=======
         "call {call}: {said}"
+>>>>>>> e2dd5394a708eb1af8781ab2ec996c9ed57b0e9a
     );
 }
