@@ -62,7 +62,7 @@ module _ {D E : Type 0} (tells tells' : Type 0) (on : D → Moment) (onto : E �
   run_of_others none is source_same target_same silent = record {
     disks = inl (
       subst (λ (d : D). Calls (note ≡ Note.DiskFault) (on source) (on d)) (sym source_same)
-      (calls_as ⊥ (note ≡ Note.DiskFault) (on source) (on source) (calls_none (on source)) (λ by. cc) (λ never. absurd never)),
+          (calls_as ⊥ (note ≡ Note.DiskFault) (on source) (on source) (calls_none (on source)) (λ by. cc) (λ never. absurd never)),
       subst (λ (e : E). Calls ⊥ (onto target) (onto e)) (sym target_same) (calls_none (onto target)),
     );
     writes = counts_none (note ≡ Note.WriteFault) output.faults output.faults_after (λ by. cc) silent.faults;

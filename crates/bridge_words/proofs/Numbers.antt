@@ -58,6 +58,7 @@ within least most text n is = by (number text) is where
   chosen : (m : ℕ) (b : Bool) → (nat_le least m && nat_le m most) ≡ b → cond b (Some m) None ≡ Some n → n ≤ most
   chosen m true e at = let same : m ≡ n = cc in subst (λ (k : ℕ). k ≤ most) same (leb-true _ _ (and_parts _ _ e).1)
   chosen m false e at = absurd (cc)
+
   by : (o : Option ℕ) → option_and_then (λ m. if nat_le least m && nat_le m most then Some m else None) o ≡ Some n → n ≤ most
   by None at = absurd (cc)
   by (Some m) at = chosen m (nat_le least m && nat_le m most) refl at

@@ -2,9 +2,9 @@
 ghost use Rattle.std.specs.Prelude.{◌≡◌, ℕ, IfOk, map, string_bytes};
 ghost use Rattle.bridge_words.specs.Words.{IsNeed};
 
+use crate::Command;
 use crate::pair::{FilePath, Pair};
 use crate::reading::{Asked, Unread, read};
-use crate::Command;
 use std::alloc::{AllocError, Global};
 
 /// Which device the words want.

@@ -7,9 +7,9 @@ ghost use Rattle.bridge_words.specs.Values.{value_of, rows_in, guid, proto_at, f
 ghost use Rattle.bridge_words.specs.Values.{proto_in, form_in, forward_in};
 
 use crate::ListForm;
-use crate::pair::FilePath;
 use crate::fault::WordsFault;
 use crate::number::number_within;
+use crate::pair::FilePath;
 use crate::reading::Unread;
 use clap::ArgMatches;
 use edge_io::Proto;

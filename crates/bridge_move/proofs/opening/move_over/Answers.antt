@@ -15,12 +15,16 @@ returns-in-Err-clause-disks g c =
 pub returns-in-Err-clause-moved : goal.returns-in-Err-clause-moved
 returns-in-Err-clause-moved g c =
     rw (c.of.ensures.note, c.recover_note.ensures, c.of.ensures.source, c.of.ensures.target)
-    (inl (record {
-      fault = c.in-Err.field-0.fault;
-      note_is = refl;
-      why = c.in-Err.ensures.broken;
-      any_moment = λ told. closed_images c.in-Err.field-0.fault _ _ (c.in-Err.ensures.any_moment told);
-    }, refl, record { same = refl; taken = refl; faults = refl }))
+    (inl (
+      record {
+        fault = c.in-Err.field-0.fault;
+        note_is = refl;
+        why = c.in-Err.ensures.broken;
+        any_moment = λ told. closed_images c.in-Err.field-0.fault _ _ (c.in-Err.ensures.any_moment told);
+      },
+      refl,
+      record { same = refl; taken = refl; faults = refl },
+    ))
 
 -- the target is refused
 
