@@ -1,6 +1,6 @@
 -- What a refusal says of entries that have room.
-use Rattle.std.proofs.Common.{◌≡◌, ◌⊎◌, inl, inr, ℕ, false, List, arith}
-use Rattle.std.specs.Prelude.{Bool, Result, Ok, Err, IfErr, take}
+use Rattle.std.proofs.Common.{◌≡◌, ◌⊎◌, inl, inr, ℕ, true, false, List, arith, refl, sym, ◌∙◌}
+use Rattle.std.specs.Prelude.{Bool, Result, Ok, Err, IfErr, IsErrOf, take}
 use Rattle.event_form.specs.declared.event.Entry.{Entry}
 use Rattle.spool_answers.specs.declared.fault.Receipt.{Receipt}
 use Rattle.spool_answers.specs.declared.fault.TakeFault.{TakeFault}
@@ -24,3 +24,14 @@ pub front_alone : (doubt : Bool) (memory : Memory) (entries : List Entry) (count
 front_alone doubt memory entries count (Ok receipt) fits before = tt
 front_alone doubt memory entries count (Err fault) (inl one) before = λ is. one
 front_alone doubt memory entries count (Err fault) (inr fits) before = λ is. absurd (never_refused doubt memory (take count entries) fault fits (before fits.sure) is)
+
+-- they are refused by a failing disk alone
+pub disk_alone : (doubt : Bool) (memory : Memory) (group : List Entry) (result : Result Receipt TakeFault) → FitsInRoom doubt memory group → IfErr result (RefusedBy memory group)
+    → (IsErrOf result Take.NoMemory → doubt ≡ true) → ((at : ℕ) → IsErrOf result (Take.NotSpool at) → doubt ≡ true) → IfErr result (λ fault. fault ≡ Take.DiskFault)
+disk_alone doubt memory group (Ok receipt) fits before met again = tt
+disk_alone doubt memory group (Err (Take.TooLarge need most)) fits before met again = absurd (never_refused doubt memory group (Take.TooLarge need most) fits before tt)
+disk_alone doubt memory group (Err (Take.Spent end)) fits before met again = absurd (never_refused doubt memory group (Take.Spent end) fits before tt)
+disk_alone doubt memory group (Err (Take.Full need room)) fits before met again = absurd (never_refused doubt memory group (Take.Full need room) fits before tt)
+disk_alone doubt memory group (Err (Take.NotSpool at)) fits before met again = absurd (cc (sym fits.sure ∙ again at refl))
+disk_alone doubt memory group (Err Take.NoMemory) fits before met again = absurd (cc (sym fits.sure ∙ met refl))
+disk_alone doubt memory group (Err Take.DiskFault) fits before met again = refl

@@ -42,8 +42,6 @@ impl<D: Disk> Alone<D> {
     ghost use Rattle.desk_access.specs.Desk.{DeskState, desk_of};
     ghost use Rattle.spool_desk.specs.Fitting.{FitsInRoom};
     ghost use Rattle.event_form.specs.Entry.{IsEntry};
-    ghost use Rattle.spool_state.specs.Segment.{need_of};
-    ghost use Rattle.spool_log.specs.Memory.{room_of, end_of};
     ghost use Rattle.desk_access.specs.JointRecords.{Part, joined, ArePartsOf, joint_of};
     ghost use Rattle.spool_desk.specs.Alone.{alone_at, IsAt, HoldsNone, Mended, RunsTo};
 
@@ -89,16 +87,15 @@ impl<D: Disk> Alone<D> {
 
     /// Takes the entries of several callers as one group, which has room in the active slot of a spool that isn't in doubt. What
     /// each caller handed in is a part, and the calls are the takes of the parts: answered Ok each has its place in the group, and
-    /// where the disk failed all failed in one, and mending finds all of them or none.
+    /// where the disk failed all failed in one, and mending finds all of them or none. There is no other fault.
     pub fn take_jointly(&mut self, entries: &[Entry]) -> Result<Receipt, TakeFault>
         requires few { (0 < length entries.now) × (length entries.now < 2 ^ 32) }
         requires limits { All IsEntry entries.now }
-        requires sure { self.old.desk.spool.doubt ≡ false }
-        requires fits { (need_of entries.now ≤ room_of self.old.desk.spool.memory) × (end_of self.old.desk.spool.memory + length entries.now ≤ 2 ^ 63) }
+        requires fits { FitsInRoom self.old.desk.spool.doubt self.old.desk.spool.memory entries.now }
 
         ensures made { (part : Part) (parts : List Part) → joined (part ∷ parts) ≡ entries.now → ArePartsOf (part ∷ parts)
             → RunsTo D.tells (alone_at self.old) (joint_of result (D.moment self.new.desk.spool.disk).clock (standing_in self.old.desk.spool.memory) (part ∷ parts)) (alone_at self.new) }
-        ensures before { IfErr result (RefusedBy self.old.desk.spool.memory entries.now) }
+        ensures only { IfErr result (λ fault. fault ≡ TakeFault.DiskFault) }
     {
         let all = entries;
         self.desk.spool.take(all)

@@ -2,7 +2,7 @@
 use Rattle.std.proofs.Common.{◌≡◌, ℕ, zero, suc, ◌+◌, ◌-◌, arith, List, [], ◌∷◌, ◌++◌, refl, sym, ap, ◌∙◌, subst}
 use Rattle.std.proofs.lemmas.List.{append-nil}
 use Rattle.atomic_table.specs.Table.{Me}
-use Rattle.edge_disk.specs.Disk.{Moment, IsLawful}
+use Rattle.edge_disk.specs.Disk.{IsLawful}
 use Rattle.desk_access.specs.Call.{Call, takes, pends, confirms, marks, counts, issues, settles, forgets, asks, Record, own_of}
 use Rattle.desk_access.specs.Desk.{DeskState}
 use Rattle.spool_desk.specs.Alone.{AloneView, RunsTo, Makes, record_of}
@@ -11,7 +11,7 @@ use Rattle.desk_access.specs.Legal.{May, Met}
 use Rattle.desk_access.proofs.Nexts.{met_then}
 use Rattle.spool_turns.specs.Rules.{View, Facts, PassView, made_by, Knows, after_call, with_record, end_at, cursor_at}
 use Rattle.spool_turns.specs.Own.{own_of-snoc, own_of-rest}
-use Rattle.spool_turns.specs.Passes.{Known, known, known_of, LeadsAbove, MayFollow, Sound, Calls, IsTurn, IsPass, locked_of, calling_of, pass_of, facts_in, caller_in, pass_in, fresh}
+use Rattle.spool_turns.specs.Passes.{Beginning, Known, known, known_of, LeadsAbove, MayFollow, Sound, Calls, IsTurn, IsPass, locked_of, calling_of, pass_of, facts_in, caller_in, pass_in, fresh}
 use Rattle.spool_turns.specs.Replays.{Replays, IsExact}
 use Rattle.spool_turns.proofs.Led.{replays_more}
 
@@ -20,16 +20,24 @@ abbrev pub published : AloneView → Facts → Facts
 published v f = cursor_at v.cursor_known (end_at v.end_known f)
 
 -- What the type of the locked value keeps: of its seat me, and of the desk v.
-abbrev pub Locks : (tells : Type 0) (start : DeskState → Type 0) (run seats : ℕ) (began : Moment) → Me ℕ View → AloneView → Type 0
+abbrev pub Locks : (tells : Type 0) (start : DeskState → Type 0) (run seats : ℕ) (began : Beginning) → Me ℕ View → AloneView → Type 0
 Locks tells start run seats began me v = IsTurn seats me v × Replays tells start run began (facts_in me.0).log v × Met run (seats - 1) [] (facts_in me.0).log
 
--- nothing follows any call
+-- nothing need follow a call
 pub nothing_behind : (call : Call) → MayFollow call []
-nothing_behind call = refl
+nothing_behind (takes group result) = tt
+nothing_behind (pends from most result) = refl
+nothing_behind (confirms upto result) = refl
+nothing_behind (marks stretches result) = refl
+nothing_behind (counts number) = refl
+nothing_behind (issues channel result) = refl
+nothing_behind (settles channel id answer) = refl
+nothing_behind (forgets channel id answer) = refl
+nothing_behind (asks channel ids known) = refl
 
 -- A call is made so: me is the locked seat at the start; hosted is that seat with the view m of the pass that calls, and wrote
 -- the same once the words are written; old, mid and new are the desk then.
-module _ (tells : Type 0) (start : DeskState → Type 0) (run seats : ℕ) (began : Moment) (me hosted wrote : Me ℕ View) (old mid new : AloneView) (m : PassView) (call : Call)
+module _ (tells : Type 0) (start : DeskState → Type 0) (run seats : ℕ) (began : Beginning) (me hosted wrote : Me ℕ View) (old mid new : AloneView) (m : PassView) (call : Call)
     (turn : IsTurn seats me old) (replays : Replays tells start run began (facts_in me.0).log old) (legal : Met run (seats - 1) [] (facts_in me.0).log) (may : May run (seats - 1) m.number m.own call)
     (hosts : hosted ≡ calling_of (facts_in me.0) m) (knew : Knows (facts_in me.0) m)
     (made : Makes tells old call mid) (told : RunsTo tells mid [] new) (same : record_of call new ≡ record_of call mid) (exact : IsExact tells new)
@@ -68,8 +76,11 @@ module _ (tells : Type 0) (start : DeskState → Type 0) (run seats : ℕ) (bega
     lawful = λ x s. let p = after.leads x s in let e = exact p.after (replays.begins x s).told p.reached in (p.after, p.goes, e.0, e.1);
   }
 
-  pub pass_after : (it : Me ℕ View) → it ≡ pass_of (after_call (facts_in wrote.0) (caller_in wrote.0) (record_of call new)) → IsPass it × Sound start (pass_in it.0)
-  pass_after it is = subst (λ (x : Me ℕ View). IsPass x × Sound start (pass_in x.0)) (sym (pass_is it is)) (refl, sound_after)
+  pub pass_after : (it : Me ℕ View) → it ≡ pass_of (after_call (facts_in wrote.0) (caller_in wrote.0) (record_of call new))
+      → IsPass it × Sound start (pass_in it.0) × ((pass_in it.0).number ≡ m.number) × ((pass_in it.0).out ≡ m.out)
+  pass_after it is =
+      subst (λ (x : Me ℕ View). IsPass x × Sound start (pass_in x.0) × ((pass_in x.0).number ≡ m.number) × ((pass_in x.0).out ≡ m.out)) (sym (pass_is it is))
+      (refl, sound_after, refl, refl)
 
   seen_here : (facts_in me.0).log ++ made_by m.number (record_of call new) ∷ [] ≡ ((m.seen ++ knew.seen.0) ++ made_by m.number (record_of call new) ∷ []) ++ []
   seen_here =

@@ -5,7 +5,6 @@ use Rattle.std.specs.Prelude.{if◌then◌else◌, All}
 use Rattle.std.proofs.lemmas.Bool.{cases_lt, eq-eqb, eqb-true, eqb-false}
 use Rattle.std.proofs.lemmas.List.Elements.{All-nil, All-cons}
 use Rattle.event_form.specs.declared.event.Entry.{Entry}
-use Rattle.edge_disk.specs.Disk.{Moment}
 use Rattle.desk_access.specs.Call.{Call, asks, Record, own_of, calls_of}
 use Rattle.desk_access.specs.Desk.{DeskState, Goes}
 use Rattle.desk_access.specs.Durable.{KeepsSince}
@@ -21,7 +20,7 @@ use Rattle.desk_access.proofs.Lasting.{goes_grows, goes_kept, which_one, stood_w
 use Rattle.desk_access.proofs.LegalEntries.{legal_journal}
 use Rattle.desk_access.proofs.Told.{told_was_taken}
 use Rattle.spool_turns.specs.Own.{own_of-snoc, own_of-snoc-other}
-use Rattle.spool_turns.specs.Passes.{Known, Calls, IsAsked}
+use Rattle.spool_turns.specs.Passes.{Beginning, Known, Calls, IsAsked}
 use Rattle.spool_turns.specs.OwnEntries.{groups_by, AddsOwn}
 use Rattle.spool_turns.specs.Issuing.{ids_of, AreFrom}
 use Rattle.spool_turns.specs.Whole.{Keeps}
@@ -52,7 +51,7 @@ pub each_may : (run confirming number : ℕ) (log : List Record) → Met run con
 each_may run confirming number log m = may_make run confirming number [] log m
 
 -- what it adds is legal
-pub adds_legal : (tells : Type 0) (start : DeskState → Type 0) (run confirming : ℕ) (began : Moment) (log : List Record) (v : AloneView) → Replays tells start run began log v → Met run confirming [] log
+pub adds_legal : (tells : Type 0) (start : DeskState → Type 0) (run confirming : ℕ) (began : Beginning) (log : List Record) (v : AloneView) → Replays tells start run began log v → Met run confirming [] log
     → (x : DeskState) → start x → (groups : List (List Entry)) → AddsGroups (calls_of log) groups → IsLegal run groups
 adds_legal tells start run confirming began log v h m x s groups adds =
     let b = h.begins x s in
@@ -97,7 +96,7 @@ asked_held start run seats v w channel ids known p x s =
     record { before = journal; one = one; seen = is; at = parts.0; goes = parts.1; held = (table_then parts.0 parts.2.0 one parts.2.1).0 }
 
 -- what each caller added is its own
-pub each_own : (tells : Type 0) (start : DeskState → Type 0) (run confirming : ℕ) (began : Moment) (log : List Record) (v : AloneView) → Replays tells start run began log v → Met run confirming [] log
+pub each_own : (tells : Type 0) (start : DeskState → Type 0) (run confirming : ℕ) (began : Beginning) (log : List Record) (v : AloneView) → Replays tells start run began log v → Met run confirming [] log
     → (x : DeskState) → start x → (groups : List (List Entry)) → AddsGroups (calls_of log) groups → (number : ℕ) → AddsOwn run number (own_of number log) groups (groups_by number log groups)
 each_own tells start run confirming began log v h m x s groups adds number =
     let b = h.begins x s in
@@ -107,7 +106,7 @@ each_own tells start run confirming began log v h m x s groups adds number =
     subst (λ (r : ℕ). AddsOwn r number (own_of number log) groups (groups_by number log groups)) b.of_run (adds_own x p.after log confirming number groups b.rules p.goes met adds legal)
 
 -- the ids are new
-pub new_ids : (tells : Type 0) (start : DeskState → Type 0) (run : ℕ) (began : Moment) (log : List Record) (v : AloneView) → Replays tells start run began log v
+pub new_ids : (tells : Type 0) (start : DeskState → Type 0) (run : ℕ) (began : Beginning) (log : List Record) (v : AloneView) → Replays tells start run began log v
     → (x : DeskState) → start x → AreFrom x.ids.next (ids_of (calls_of log)) × All (IsOfRun run) (ids_of (calls_of log))
 new_ids tells start run began log v h x s =
     let b = h.begins x s in
@@ -115,7 +114,7 @@ new_ids tells start run began log v h x s =
     (ids_from x p.after log p.goes, subst (λ (r : ℕ). All (IsOfRun r) (ids_of (calls_of log))) b.of_run (ids_of_run x p.after log b.rules p.goes))
 
 -- what a crash leaves then, and left before
-pub keeps : (tells : Type 0) (start : DeskState → Type 0) (run confirming : ℕ) (began : Moment) (log : List Record) (v : AloneView) → Replays tells start run began log v → Met run confirming [] log
+pub keeps : (tells : Type 0) (start : DeskState → Type 0) (run confirming : ℕ) (began : Beginning) (log : List Record) (v : AloneView) → Replays tells start run began log v → Met run confirming [] log
     → (x : DeskState) → start x → (c : List ℕ) → v.spool.moment.image c → Keeps x log c
 keeps tells start run confirming began log v h m x s c image =
     let b = h.begins x s in
@@ -131,12 +130,12 @@ keeps tells start run confirming began log v h m x s c image =
       legal = λ opens. whole_legal x p.after log confirming one.0 b.rules p.goes (subst (λ (r : ℕ). Met r confirming [] log) (sym b.of_run) m) grows opens;
     }
 
-pub left_before : (tells : Type 0) (start : DeskState → Type 0) (run : ℕ) (began : Moment) (log : List Record) (v : AloneView) → Replays tells start run began log v
-    → (x : DeskState) → start x → (c : List ℕ) → v.spool.moment.image_since began.clock c → Was x (calls_of log) c
+pub left_before : (tells : Type 0) (start : DeskState → Type 0) (run : ℕ) (began : Beginning) (log : List Record) (v : AloneView) → Replays tells start run began log v
+    → (x : DeskState) → start x → (c : List ℕ) → v.spool.moment.image_since began.moment.clock c → Was x (calls_of log) c
 left_before tells start run began log v h x s c since = stood_was x log c (h.begins x s).rules ((h.leads x s).any_moment.each c since)
 
 -- what it left since a call was answered
-pub stays_since : (tells : Type 0) (start : DeskState → Type 0) (run : ℕ) (began : Moment) (log : List Record) (v : AloneView) → Replays tells start run began log v
+pub stays_since : (tells : Type 0) (start : DeskState → Type 0) (run : ℕ) (began : Beginning) (log : List Record) (v : AloneView) → Replays tells start run began log v
     → (x : DeskState) → start x → KeepsSince log v.spool.moment
 stays_since tells start run began log v h x s = let p = h.leads x s in keeps_since x p.after v.spool.moment log (h.begins x s).rules p.since
 

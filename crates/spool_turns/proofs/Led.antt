@@ -1,5 +1,5 @@
 -- A journal that goes on by a call of one caller.
-use Rattle.std.proofs.Common.{◌≡◌, inl, inr, ℕ, ◌+◌, ◌≤◌, List, [], ◌∷◌, ◌++◌, refl, sym, ◌∙◌, ap, subst, arith}
+use Rattle.std.proofs.Common.{◌≡◌, inl, inr, ℕ, ◌+◌, ◌≤◌, ◌==◌, Bool, true, cond, List, [], ◌∷◌, ◌++◌, refl, sym, ◌∙◌, ap, subst, arith}
 use Rattle.std.specs.Prelude.{Option, false}
 use Rattle.std.proofs.lemmas.Grind.{common_steps}
 use Rattle.foundation.specs.Faults.{Rose}
@@ -9,12 +9,13 @@ use Rattle.edge_disk.proofs.Moments.{started, both, weaker}
 use Rattle.spool_log.specs.State.{View, IsIn}
 use Rattle.hec_ids.specs.Table.{Table}
 use Rattle.desk_access.specs.declared.standing.Standing.{Standing}
-use Rattle.desk_access.specs.Call.{Record, NoneJoins, failed_of}
+use Rattle.desk_access.specs.Call.{Record, NoneJoins, own_of, failures_in, failures_of, failed_as, failed_of}
 use Rattle.desk_access.specs.Desk.{DeskState, Goes, StandsWithin, Stood}
 use Rattle.spool_desk.specs.Alone.{AloneView, alone_view, IsAt, LeadsFrom, RunsTo, HasSeen}
-use Rattle.desk_access.specs.Journal.{goes_then, failed_then, rose_then, stood_first, stood_later, stood_here}
+use Rattle.desk_access.specs.Journal.{goes_then, own_then, failures_then, failed_then, rose_then, stood_first, stood_later, stood_here}
 use Rattle.desk_access.specs.Since.{EachSince, since_none, since_one, since_then}
 use Rattle.spool_turns.specs.Rules.{made_by}
+use Rattle.spool_turns.specs.Passes.{Beginning}
 use Rattle.spool_turns.specs.Replays.{BeganAt, Begins, LeadsBy, Replays, IsExact}
 
 -- ---- the same calls, by another caller
@@ -65,11 +66,24 @@ none_made : (n : ℕ) (log : List Record) (one : Record) → NoneJoins log → o
 none_made n [] one none alone = (alone, tt)
 none_made n (first ∷ log) one none alone = (none.0, none_made n log one none.1 alone)
 
+-- nor was a caller told more often that the disk failed
+own_failures : (n : ℕ) (one : Record) → one.joins ≡ false → failures_of (own_of n (one ∷ [])) ≤ failed_of (one ∷ [])
+own_failures n one alone = by (one.by == n) where
+  here : failed_as one.joins one.call ≡ failures_in one.call
+  here = ap (λ (b : Bool). failed_as b one.call) alone
+
+  by : (b : Bool) → failures_of (cond b (one.call ∷ []) []) ≤ failed_of (one ∷ [])
+  by true = omega (arith, here)
+  by false = omega arith
+
+pub each_more : (n : ℕ) (log more : List Record) → failures_of (own_of n log) ≤ failed_of log → failures_of (own_of n more) ≤ failed_of more → failures_of (own_of n (log ++ more)) ≤ failed_of (log ++ more)
+each_more n log more first second = omega (arith, first, second, failed_then log more, failures_then (own_of n log) (own_of n more), ap failures_of (own_then n log more))
+
 rose_zero : (a b : ℕ) → a ≤ b → Rose 0 a b
 rose_zero a b le = grind (arith, common_steps)
 
 -- no call yet
-pub replays_none : (tells : Type 0) (start : DeskState → Type 0) (run : ℕ) (began : Moment) (v : AloneView) → (tells → IsLawful v.spool.moment) → BeganAt began v.spool.moment → ((x : DeskState) → start x → Begins tells run x) → ((x : DeskState) → start x → IsAt x v)
+pub replays_none : (tells : Type 0) (start : DeskState → Type 0) (run : ℕ) (began : Beginning) (v : AloneView) → (tells → IsLawful v.spool.moment) → BeganAt began.moment v.spool.moment → ((x : DeskState) → start x → Begins tells run x) → ((x : DeskState) → start x → IsAt x v)
     → Replays tells start run began [] v
 replays_none tells start run began v lawful is begins at = record {
   begins = begins;
@@ -77,30 +91,31 @@ replays_none tells start run began v lawful is begins at = record {
     after = x;
     goes = refl;
     reached = at x s;
-    any_moment = from_then (Stood x []) began v.spool.moment v.spool.moment is (started (Stood x []) v.spool.moment (lawful (begins x s).told) (λ c image. stood_here x [] c ((at x s).spool.each c image)));
+    any_moment = from_then (Stood x []) began.moment v.spool.moment v.spool.moment is (started (Stood x []) v.spool.moment (lawful (begins x s).told) (λ c image. stood_here x [] c ((at x s).spool.each c image)));
     since = since_none x x v.spool.moment;
   };
   later = omega (arith, is.faults);
-  cause = rose_zero began.faults v.spool.moment.faults (omega (arith, is.faults));
+  cause = rose_zero began.moment.faults v.spool.moment.faults (omega (arith, is.faults));
   quiet = λ none. sym is.faults;
   size = sym is.size;
-  alone = tt;
+  alone = λ off. tt;
+  each = λ number. omega arith;
 }
 
 -- no call leads from the one moment to the other
 pub stays : (tells : Type 0) (a b : AloneView) → RunsTo tells a [] b → (x : DeskState) → tells → IsAt x a → IsAt x b
 stays tells a b r x told at = let p = r.leads x told at in subst (λ (y : DeskState). IsAt y b) p.goes p.reached
 
-module _ (tells : Type 0) (start : DeskState → Type 0) (run : ℕ) (began : Moment) (n : ℕ) (b c : AloneView) (log : List Record) (one : Record)
+module _ (tells : Type 0) (start : DeskState → Type 0) (run : ℕ) (began : Beginning) (n : ℕ) (b c : AloneView) (log : List Record) (one : Record)
     (lawful : tells → IsLawful c.spool.moment) (answered : one.clock ≡ c.spool.moment.clock) (alone : one.joins ≡ false) where
-  led : tells → (x : DeskState) (p : LeadsBy x began log b) → LeadsFrom p.after b (one ∷ []) c → LeadsBy x began (log ++ made_by n one ∷ []) c
+  led : tells → (x : DeskState) (p : LeadsBy x began.moment log b) → LeadsFrom p.after b (one ∷ []) c → LeadsBy x began.moment (log ++ made_by n one ∷ []) c
   led told x p q =
       let goes = goes_renumbered n p.after q.after (one ∷ []) q.goes in
       record {
         after = q.after;
         goes = goes_then x p.after q.after log (made_by n one ∷ []) p.goes goes;
         reached = q.reached;
-        any_moment = both (Stood x log) (Stood p.after (one ∷ [])) (Stood x (log ++ made_by n one ∷ [])) began b.spool.moment c.spool.moment p.any_moment q.any_moment
+        any_moment = both (Stood x log) (Stood p.after (one ∷ [])) (Stood x (log ++ made_by n one ∷ [])) began.moment b.spool.moment c.spool.moment p.any_moment q.any_moment
             (λ image h. stood_first x log (made_by n one ∷ []) image h)
             (λ image h. stood_later x p.after log (made_by n one ∷ []) image p.goes (stood_renumbered n p.after (one ∷ []) image h));
         since = since_then x p.after q.after log (made_by n one ∷ []) b.spool.moment c.spool.moment p.goes goes p.since
@@ -114,11 +129,12 @@ module _ (tells : Type 0) (start : DeskState → Type 0) (run : ℕ) (began : Mo
     begins = h.begins;
     leads = λ x s. let p = h.leads x s in let told = (h.begins x s).told in led told x p (r.leads p.after told p.reached);
     later = omega (arith, h.later, r.later);
-    cause = subst (λ (k : ℕ). Rose k began.faults c.spool.moment.faults) (sym (failed_made n log one))
-        (rose_then (failed_of log) (failed_of (one ∷ [])) began.faults b.spool.moment.faults c.spool.moment.faults h.cause r.cause h.later r.later);
+    cause = subst (λ (k : ℕ). Rose k began.moment.faults c.spool.moment.faults) (sym (failed_made n log one))
+        (rose_then (failed_of log) (failed_of (one ∷ [])) began.moment.faults b.spool.moment.faults c.spool.moment.faults h.cause r.cause h.later r.later);
     quiet = λ none. r.quiet (omega (arith, none, failed_made n log one)) ∙ h.quiet (omega (arith, none, failed_made n log one));
     size = r.size ∙ h.size;
-    alone = none_made n log one h.alone alone;
+    alone = λ off. none_made n log one (h.alone off) alone;
+    each = λ number. each_more number log (made_by n one ∷ []) (h.each number) (own_failures number (made_by n one) alone);
   }
 
 -- ---- the words of the end and the cursor
@@ -156,19 +172,20 @@ exact_both tells spool ids met e e' k k' b c is_b is_c less less' first second =
     )
 
 -- what is known of the desk when its words are given up
-pub replays_less : (tells : Type 0) (start : DeskState → Type 0) (run : ℕ) (began : Moment) (log : List Record) (v w : AloneView) → w.spool ≡ v.spool → w.ids ≡ v.ids → w.end_known ≡ 0 → w.cursor_known ≡ 0 → Replays tells start run began log v → Replays tells start run began log w
+pub replays_less : (tells : Type 0) (start : DeskState → Type 0) (run : ℕ) (began : Beginning) (log : List Record) (v w : AloneView) → w.spool ≡ v.spool → w.ids ≡ v.ids → w.end_known ≡ 0 → w.cursor_known ≡ 0 → Replays tells start run began log v → Replays tells start run began log w
 replays_less tells start run began log v w spool ids no_end no_cursor h = record {
   begins = h.begins;
   leads = λ x s. let p = h.leads x s in record {
     after = p.after;
     goes = p.goes;
     reached = record { rules = p.reached.rules; spool = subst (IsIn p.after.spool p.after.doubt) (sym spool) p.reached.spool; ids = p.reached.ids ∙ sym ids; end_known = omega (arith, no_end); cursor_known = omega (arith, no_cursor) };
-    any_moment = subst (λ (s : View). LeavesOnly (Stood x log) began s.moment) (sym spool) p.any_moment;
+    any_moment = subst (λ (s : View). LeavesOnly (Stood x log) began.moment s.moment) (sym spool) p.any_moment;
     since = subst (λ (s : View). EachSince x log p.after s.moment) (sym spool) p.since;
   };
-  later = subst (λ (s : View). began.faults ≤ s.moment.faults) (sym spool) h.later;
-  cause = subst (λ (s : View). Rose (failed_of log) began.faults s.moment.faults) (sym spool) h.cause;
-  quiet = subst (λ (s : View). failed_of log ≡ 0 → s.moment.faults ≡ began.faults) (sym spool) h.quiet;
-  size = subst (λ (s : View). s.moment.size ≡ began.size) (sym spool) h.size;
+  later = subst (λ (s : View). began.moment.faults ≤ s.moment.faults) (sym spool) h.later;
+  cause = subst (λ (s : View). Rose (failed_of log) began.moment.faults s.moment.faults) (sym spool) h.cause;
+  quiet = subst (λ (s : View). failed_of log ≡ 0 → s.moment.faults ≡ began.moment.faults) (sym spool) h.quiet;
+  size = subst (λ (s : View). s.moment.size ≡ began.moment.size) (sym spool) h.size;
   alone = h.alone;
+  each = h.each;
 }

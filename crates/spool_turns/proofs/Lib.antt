@@ -8,3 +8,9 @@ pub mod Issuing
 pub mod Lists
 pub mod Closing
 pub mod Fronts
+pub mod Outward
+pub mod JointRecords
+pub mod Entering
+pub mod EnteringAll
+pub mod Grouping
+pub mod AnsweredAlone

@@ -6,6 +6,7 @@ use Rattle.edge_disk.specs.Disk.{Moment}
 use Rattle.desk_access.specs.Desk.{DeskState}
 use Rattle.spool_desk.specs.Alone.{alone_at, IsAt}
 use Rattle.spool_turns.specs.declared.unnamed.Unnamed.{Unnamed}
+use Rattle.spool_turns.specs.Passes.{Beginning}
 use Rattle.spool_turns.specs.Replays.{BeganAt}
 
 -- its table of seats
@@ -22,8 +23,8 @@ moment_of {disks = disks} u = disks.moment u.alone.desk.spool.disk
 
 -- The name has the desk's table of seats and its run; each state that it says the desk began in is one that the desk may
 -- be in, and so is the moment of the disk.
-pub record IsName {D : Type 0} {disks : Ghosts D} (table : TableId) (run : ℕ) (start : DeskState → Type 0) (began : Moment) (u : Unnamed D disks) : Type 0 where
+pub record IsName {D : Type 0} {disks : Ghosts D} (table : TableId) (run : ℕ) (start : DeskState → Type 0) (began : Beginning) (u : Unnamed D disks) : Type 0 where
   pub table_is : table_of u ≡ table
   pub run_is : u.run ≡ run
   pub start_is : (x : DeskState) → start x → start_of u x
-  pub began_is : BeganAt began (moment_of u)
+  pub began_is : BeganAt began.moment (moment_of u)

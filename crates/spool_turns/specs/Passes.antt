@@ -1,23 +1,34 @@
 -- What a caller of the shared desk knows.
-use Rattle.std.specs.Prelude.{◌≡◌, ℕ, zero, suc, ◌-◌, ◌≤◌, ◌==◌, if◌then◌else◌, Bool, false, List, [], ◌∷◌, ◌++◌, map, Option, None, Some}
+use Rattle.std.specs.Prelude.{◌≡◌, ℕ, zero, suc, ◌-◌, ◌≤◌, ◌==◌, if◌then◌else◌, Bool, true, false, List, [], ◌∷◌, ◌++◌, map, Option, None, Some}
 use mathlib.Core.List.{IsPrefix}
 use Rattle.atomic_table.specs.Table.{Me}
 use Rattle.atomic_table.specs.Seated.{TableId}
 use Rattle.edge_disk.specs.Disk.{Moment}
 use Rattle.spool_state.specs.SpoolState.{end}
 use Rattle.hec_ids.specs.Table.{holds_settled}
-use Rattle.desk_access.specs.Call.{Call, Record, own_of}
+use Rattle.desk_access.specs.Call.{Call, takes, Record, own_of}
 use Rattle.desk_access.specs.Desk.{DeskState, Goes}
 use Rattle.desk_access.specs.Legal.{Met}
 use Rattle.spool_desk.specs.Alone.{AloneView}
 use Rattle.spool_turns.specs.Rules.{View, Locked, Pass, Claim, Handed, Facts, facts, PassView, pass_view}
 
--- the name of no table, and a moment of no disk
+-- How a desk was given: the moment of its disk then, and whether takes of several callers may be stored as one group.
+pub record Beginning : Type 1 where
+  pub moment : Moment
+  pub grouped : Bool
+
+abbrev pub begun : Moment → Bool → Beginning
+begun moment grouped = record { moment = moment; grouped = grouped }
+
+-- the name of no table, a moment of no disk, and a desk that was given at none
 abbrev pub no_table : TableId
 no_table = record { words = 0; slots = 0; views_name = 0; atom = 0; block = 0; offset = 0; slot_names = [] }
 
 abbrev pub no_moment : Moment
 no_moment = record { size = 0; reads = []; image = λ c. ⊥; clock = 0; image_since = λ t c. ⊥; faults = 0 }
+
+abbrev pub no_beginning : Beginning
+no_beginning = begun no_moment false
 
 -- what a view holds
 abbrev pub no_pass : PassView
@@ -35,6 +46,10 @@ abbrev pub pass_or : Option PassView → PassView
 pass_or None = no_pass
 pass_or (Some m) = m
 
+abbrev pub hosted_in : View → Option PassView
+hosted_in (Locked f caller) = caller
+hosted_in _ = None
+
 abbrev pub caller_in : View → PassView
 caller_in (Locked f caller) = pass_or caller
 caller_in _ = no_pass
@@ -42,6 +57,9 @@ caller_in _ = no_pass
 -- the seat under the lock between calls and during one, and the seat of a pass
 abbrev pub locked_of : Facts → Me ℕ View
 locked_of f = (Locked f None, [])
+
+abbrev pub hosting_of : Facts → Option PassView → Me ℕ View
+hosting_of f caller = (Locked f caller, [])
 
 abbrev pub calling_of : Facts → PassView → Me ℕ View
 calling_of f m = (Locked f (Some m), [])
@@ -54,6 +72,10 @@ IsPass me = me ≡ pass_of (pass_in me.0)
 
 abbrev pub IsLocked : Me ℕ View → Type 0
 IsLocked me = me ≡ locked_of (facts_in me.0)
+
+-- it is the seat under the lock, between calls or during one
+abbrev pub IsHosting : Me ℕ View → Type 0
+IsHosting me = me ≡ hosting_of (facts_in me.0) (hosted_in me.0)
 
 -- the seat of a pass that is out: the claim to it
 abbrev pub claim_at : ℕ → Handed → Me ℕ View
@@ -110,13 +132,24 @@ pub record Sound (start : DeskState → Type 0) (m : PassView) : Type 0 where
   pub own : own_of m.number m.seen ≡ m.own
   pub lawful : (x : DeskState) → start x → LeadsBelow x m.seen m.end_known m.cursor_known
 
--- What the caller has seen behind the record of its call: nothing, since no calls of others are made with it in one change.
-abbrev pub MayFollow : Call → List Record → Type 0
-MayFollow call behind = behind ≡ []
+abbrev pub IsTake : Call → Type 0
+IsTake (takes group result) = Unit {0}
+IsTake _ = ⊥
 
--- The journal after a call begins with all that the caller had seen, and its last record is the call's own. It is lawful,
--- each of its calls is one that its caller might make, the caller's own calls are all that it has of its number, and the end and
--- the cursor after it are no less than what the caller had loaded.
+-- each of the records is a take that was stored as one group with the take of the record before it
+abbrev pub AllJoin : List Record → Type 0
+AllJoin [] = Unit {0}
+AllJoin (one ∷ records) = (one.joins ≡ true) × IsTake one.call × AllJoin records
+
+-- What the caller has seen behind the record of its call: behind a take the takes that were stored as one group with it, and
+-- behind any other call nothing.
+abbrev pub MayFollow : Call → List Record → Type 0
+MayFollow (takes group result) behind = AllJoin behind
+MayFollow _ behind = behind ≡ []
+
+-- The journal after a call begins with all that the caller had seen, and its last record is the call's own, but for takes of
+-- others that were stored as one group with it. It is lawful, each of its calls is one that its caller might make, the caller's own
+-- calls are all that it has of its number, and the end and the cursor after it are no less than what the caller had loaded.
 pub record Calls (start : DeskState → Type 0) (run seats : ℕ) (v : Known) (call : Call) (w : Known) : Type 0 where
   pub between : List Record
   pub others : own_of v.number between ≡ []

@@ -1,5 +1,5 @@
 -- What the calls of a journal did to a desk that many callers share.
-use Rattle.std.specs.Prelude.{◌≡◌, ◌⊎◌, ℕ, ◌-◌, ◌<◌, ◌≤◌, List, [], ◌∷◌, ◌++◌, All, None}
+use Rattle.std.specs.Prelude.{◌≡◌, ◌⊎◌, ℕ, ◌-◌, ◌<◌, ◌≤◌, List, [], ◌∷◌, ◌++◌, All, None, false}
 use Rattle.event_form.specs.declared.event.Entry.{Entry}
 use Rattle.foundation.specs.Faults.{Rose}
 use Rattle.spool_state.specs.SpoolState.{end}
@@ -7,7 +7,7 @@ use Rattle.edge_disk.specs.declared.disk.Disk.{Ghosts}
 use Rattle.edge_disk.specs.Disk.{Moment, LeavesOnly}
 use Rattle.spool_log.specs.State.{view}
 use Rattle.spool_desk.specs.declared.desk.Desk.{Desk}
-use Rattle.desk_access.specs.Call.{Call, Record, NoneJoins, own_of, calls_of, failed_of}
+use Rattle.desk_access.specs.Call.{Call, Record, NoneJoins, own_of, calls_of, failures_of, failed_of}
 use Rattle.desk_access.specs.Desk.{DeskState, Goes, Stood}
 use Rattle.desk_access.specs.Durable.{KeepsSince}
 use Rattle.desk_access.specs.History.{IsDesk, Was}
@@ -15,7 +15,7 @@ use Rattle.desk_access.specs.Since.{EachSince}
 use Rattle.spool_desk.specs.declared.alone.Alone.{Alone}
 use Rattle.spool_desk.specs.Alone.{AloneView, alone_view, alone_at, IsAt}
 use Rattle.desk_access.specs.Legal.{May, Met, AddsGroups, IsOfRun, IsLegal}
-use Rattle.spool_turns.specs.Passes.{Known, Stands}
+use Rattle.spool_turns.specs.Passes.{Beginning, Known, Stands}
 use Rattle.spool_turns.specs.OwnEntries.{groups_by, AddsOwn}
 use Rattle.spool_turns.specs.Issuing.{ids_of, AreFrom}
 use Rattle.spool_turns.specs.Whole.{Keeps}
@@ -45,19 +45,21 @@ pub record LeadsBy (x : DeskState) (began : Moment) (log : List Record) (new : A
 
 -- From each state in which the desk may have been given, this journal leads to where it is. As often as a call of it was
 -- answered that the disk failed, it did; where none was, no call of the disk failed.
-pub record Replays (tells : Type 0) (start : DeskState → Type 0) (run : ℕ) (began : Moment) (log : List Record) (new : AloneView) : Type 0 where
+pub record Replays (tells : Type 0) (start : DeskState → Type 0) (run : ℕ) (began : Beginning) (log : List Record) (new : AloneView) : Type 0 where
   pub begins : (x : DeskState) → start x → Begins tells run x
-  pub leads : (x : DeskState) → start x → LeadsBy x began log new
-  pub later : began.faults ≤ new.spool.moment.faults
-  pub cause : Rose (failed_of log) began.faults new.spool.moment.faults
-  pub quiet : failed_of log ≡ 0 → new.spool.moment.faults ≡ began.faults
-  pub size : new.spool.moment.size ≡ began.size
-  -- no take was stored as one group with that of another caller
-  pub alone : NoneJoins log
+  pub leads : (x : DeskState) → start x → LeadsBy x began.moment log new
+  pub later : began.moment.faults ≤ new.spool.moment.faults
+  pub cause : Rose (failed_of log) began.moment.faults new.spool.moment.faults
+  pub quiet : failed_of log ≡ 0 → new.spool.moment.faults ≡ began.moment.faults
+  pub size : new.spool.moment.size ≡ began.moment.size
+  -- unless that was allowed, no take was stored as one group with that of another caller
+  pub alone : began.grouped ≡ false → NoneJoins log
+  -- no caller was told more often that the disk failed than changes failed
+  pub each : (number : ℕ) → failures_of (own_of number log) ≤ failed_of log
 
 -- The journal was really made: each of its calls is one that its caller might make, and there is a desk to which it led. Where the type
 -- of disk is left open, such a desk can only be one that the program had.
-abbrev pub IsReal : {D : Type 0} (disks : Ghosts D) → (DeskState → Type 0) → ℕ → ℕ → Moment → List Record → Type 0
+abbrev pub IsReal : {D : Type 0} (disks : Ghosts D) → (DeskState → Type 0) → ℕ → ℕ → Beginning → List Record → Type 0
 IsReal {D} disks start run seats began log =
     (a : Alone D disks) × Replays disks.tells start run began log (alone_at a) × Met run (seats - 1) [] log
 
@@ -76,7 +78,7 @@ HasNumber [] number = ⊥
 HasNumber (pass ∷ passes) number = (pass.number ≡ number) ⊎ HasNumber passes number
 
 -- The desk that these passes leave, by the one journal of all their calls, from each state x in which it may have been given.
-pub record Closes (tells : Type 0) (start : DeskState → Type 0) (run seats : ℕ) (began : Moment)
+pub record Closes (tells : Type 0) (start : DeskState → Type 0) (run seats : ℕ) (began : Beginning)
     (log : List Record) (passes : List Known) (new : AloneView) : Type 0 where
   -- the journal is lawful, and led to where the desk is
   pub replays : Replays tells start run began log new
@@ -91,7 +93,7 @@ pub record Closes (tells : Type 0) (start : DeskState → Type 0) (run seats : �
   pub issued : (x : DeskState) → start x → AreFrom x.ids.next (ids_of (calls_of log)) × All (IsOfRun run) (ids_of (calls_of log))
   -- What a crash leaves then has all that was taken, and what it left before is a later state than that of the opening.
   pub kept : (x : DeskState) → start x → (c : List ℕ) → new.spool.moment.image c → Keeps x log c
-  pub was : (x : DeskState) → start x → (c : List ℕ) → new.spool.moment.image_since began.clock c → Was x (calls_of log) c
+  pub was : (x : DeskState) → start x → (c : List ℕ) → new.spool.moment.image_since began.moment.clock c → Was x (calls_of log) c
   -- What was taken by a call stays from the moment on at which the call was answered.
   pub stays : (x : DeskState) → start x → KeepsSince log new.spool.moment
   -- What each pass has seen is a beginning of the journal, and its own calls are all that the journal has of its number.

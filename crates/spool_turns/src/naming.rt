@@ -2,12 +2,12 @@
 use std::marker::Brand;
 
 /// Which desk is meant: its table of seats, how many passes it has, the run of its spool, the states in which it may
-/// have been given, and the moment of its disk then. Nothing of it stands in memory. A program picks it where it passes
+/// have been given, the moment of its disk then, and whether takes of several callers may be stored as one group. Nothing of it stands in memory. A program picks it where it passes
 /// [`std::marker::Brand`] to a function that is generic in it and makes the desk.
 pub trait Naming {
     ghost use Rattle.std.specs.Prelude.{ℕ};
     ghost use Rattle.atomic_table.specs.Seated.{TableId};
-    ghost use Rattle.edge_disk.specs.Disk.{Moment};
+    ghost use Rattle.spool_turns.specs.Passes.{Beginning};
     ghost use Rattle.desk_access.specs.Desk.{DeskState};
 
     /// The table of seats.
@@ -22,12 +22,12 @@ pub trait Naming {
     /// The states in which the desk may have been given.
     ghost start: { DeskState → Type 0 };
 
-    /// The moment of its disk then.
-    ghost began: { Moment };
+    /// The moment of its disk then, and whether takes of several callers may be stored as one group.
+    ghost began: { Beginning };
 }
 
 impl Naming for Brand {
-    ghost use Rattle.spool_turns.specs.Passes.{no_table, no_moment};
+    ghost use Rattle.spool_turns.specs.Passes.{no_table, no_beginning};
 
     ghost table = { no_table };
 
@@ -37,5 +37,5 @@ impl Naming for Brand {
 
     ghost start = { λ _. ⊥ };
 
-    ghost began = { no_moment };
+    ghost began = { no_beginning };
 }

@@ -16,18 +16,20 @@ use std::marker::{Model, PhantomData};
 #[derive(Drop)]
 pub struct Pass<J: Naming> {
     pub(crate) seat: PassSeat,
+    pub(crate) number: u32,
     pub(crate) of: PhantomData<J>,
 }
 
 impl<J: Naming> Model for Pass<J> {
-    ghost use Rattle.std.specs.Prelude.{◌≡◌};
+    ghost use Rattle.std.specs.Prelude.{◌≡◌, ◌<◌, None};
     ghost use Rattle.spool_turns.specs.Passes.{Known, known_of, pass_in, IsPass, Sound};
 
     ghost Value = { Known };
 
     ghost view = { λ p. known_of (pass_in p.seat.me.0) };
 
-    ghost invariant = { λ p. (p.seat.table_id ≡ J.table) × IsPass p.seat.me × Sound J.start (pass_in p.seat.me.0) };
+    ghost invariant = { λ p. (p.seat.table_id ≡ J.table) × IsPass p.seat.me × Sound J.start (pass_in p.seat.me.0)
+        × ((pass_in p.seat.me.0).number ≡ p.number) × (p.number < J.seats) × ((pass_in p.seat.me.0).out ≡ None) };
 }
 
 impl<J: Naming> Pass<J> {

@@ -14,6 +14,11 @@ ghost use Rattle.desk_access.specs.Legal.{IsNext, IsUnused, IsStored};
 ghost use Rattle.spool_turns.specs.Passes.{Calls, IsAsked, LeadsBelow};
 ghost use Rattle.spool_turns.specs.Replays.{Closes, IsReal, desk_at};
 
+use crate::away::Away;
+use crate::copies::copies_of;
+use crate::going::{collect, send};
+use crate::hall::{Hall, Tray};
+use crate::letter::Answer;
 use crate::naming::Naming;
 use crate::pass::Pass;
 use crate::rule::SeatTable;
@@ -25,6 +30,7 @@ use hec_ids::IssueFault;
 use known_numbers::Stretch;
 use spool_answers::{ConfirmFault, Numbered, PendFault, Receipt, TakeFault};
 use spool_desk::Desk;
+use std::alloc::Global;
 use std::sync::{Mutex, Wait};
 
 /// A desk of many callers, each of which has a pass. Its calls answer as those of [`spool_log::Spool`] and
@@ -32,11 +38,19 @@ use std::sync::{Mutex, Wait};
 ///
 /// The calls of all passes have one order, their journal. One lock is round the desk, and beside it lies the table of
 /// seats, by which a pass loads the end and the cursor without waiting. The journal takes no memory.
+///
+/// What callers hand in lies in a hall, which has a lock of its own, until one of those that wait for an answer leads: it stores all that
+/// lies there. Where the desk was opened with `group` each take goes by the hall, so that takes of several callers are stored as one
+/// group, for one pair of syncs.
 #[derive(Drop)]
 pub struct Shared<D: Disk, J: Naming> {
     pub(crate) table: SeatTable,
     pub(crate) turn: Mutex<Turn<D, J>>,
+    pub(crate) hall: Hall<D, J>,
+    pub(crate) group: bool,
+    pub(crate) alloc: Global,
     pub(crate) run: u32,
+    ghost group_is: { group ≡ J.began.grouped },
     ghost run_is: { run ≡ J.run },
     ghost run_of_start: { (x : DeskState) → J.start x → run ≡ x.spool.run },
     ghost table_is: { table.shared.table_id ≡ J.table },
@@ -46,6 +60,9 @@ pub struct Shared<D: Disk, J: Naming> {
 impl<D: Disk, J: Naming> Shared<D, J> {
     /// Takes the entries as one group. They are of one connection of this pass, of which they are the next ones. Either no
     /// entry's unit is an id, or all have one id as their unit, which this pass issued and which no other take used.
+    ///
+    /// With `group` copies of them are handed in, and may be stored as one group with what other passes hand in. Where no memory is found for
+    /// the copies the entries are taken by themselves.
     pub fn take<R: Wait>(
         &self,
         rt: &R,
@@ -61,11 +78,19 @@ impl<D: Disk, J: Naming> Shared<D, J> {
         ensures real { IsReal ⟦<D as Disk>⟧ J.start J.run J.seats J.began pass.new.seen }
         ensures receipt { IfOk result (λ receipt. (receipt.count ≡ length entries.now) × (receipt.first + receipt.count ≤ 2 ^ 63)) }
     {
+        if self.group && !entries.is_empty() {
+            // Where no memory is found for what is handed in, the take is made by itself.
+            if let Ok(copies) = copies_of(self.alloc, entries) {
+                return self.exchange(rt, pass, copies, false).answer;
+            }
+        }
         self.turn.lock(rt).take(&self.table.shared, pass, entries)
     }
 
     /// Takes a front of the entries as one group: as many as the active slot has room for, and the first one at least. They are of
     /// one connection of this pass, of which they are the next ones, and no entry's unit is an id.
+    ///
+    /// With `group` they are handed in, and may be stored as one group with what other passes hand in.
     pub fn take_front<R: Wait>(&self, rt: &R, pass: &mut Pass<J>, entries: Vec<Entry>) -> Front
         requires some { 0 < length entries.items }
         requires few { length entries.items < 2 ^ 32 }
@@ -80,6 +105,9 @@ impl<D: Disk, J: Naming> Shared<D, J> {
         ensures receipt { IfOk result.answer (λ receipt. (receipt.count ≡ result.count) × (receipt.first + receipt.count ≤ 2 ^ 63)) }
         ensures alone { IfErr result.answer (λ fault. IsRefusal fault → result.count ≡ 1) }
     {
+        if self.group {
+            return self.exchange(rt, pass, entries, true);
+        }
         let (count, answer) = self
             .turn
             .lock(rt)
@@ -89,6 +117,109 @@ impl<D: Disk, J: Naming> Shared<D, J> {
             count,
             answer,
         }
+    }
+
+    /// Hands in entries that are to be taken as one group, and doesn't wait until they are: the next caller that leads takes them. They are
+    /// as those of `take`, at least one. The pass is out until its answer is collected. The desk was opened with `group`.
+    pub fn hand_in<R: Wait>(&self, rt: &R, pass: Pass<J>, entries: Vec<Entry>) -> Away<J>
+        requires group { J.began.grouped ≡ true }
+        requires some { 0 < length entries.items }
+        requires few { length entries.items < 2 ^ 32 }
+        requires limits { All IsEntry entries.items }
+        requires next { MayTake (IsNext J.run pass.number pass.own) entries.items }
+        requires units { MayUse (IsUnused pass.own) entries.items }
+
+        ensures pass { result.pass ≡ pass }
+        ensures entries { result.entries ≡ entries.items }
+    {
+        let Pass {
+            mut seat,
+            number,
+            of,
+        } = pass;
+        let letter = send(&self.table.shared, &mut seat, number, entries, false);
+        self.hall.leave(rt, letter);
+        Away { seat, number, of }
+    }
+
+    /// The pass again, with the entries that it handed in and the answer of the take of them. Where nobody has taken them yet it waits, or
+    /// leads.
+    pub fn collect<R: Wait>(&self, rt: &R, away: Away<J>) -> (Pass<J>, Front)
+        ensures call { Calls J.start J.run J.seats away.pass (takes away.entries result.1.answer) result.0 }
+        ensures real { IsReal ⟦<D as Disk>⟧ J.start J.run J.seats J.began result.0.seen }
+        ensures same { result.1.entries.items ≡ away.entries }
+        ensures whole { result.1.count ≡ length away.entries }
+        ensures receipt { IfOk result.1.answer (λ receipt. (receipt.count ≡ length away.entries) × (receipt.first + receipt.count ≤ 2 ^ 63)) }
+    {
+        let Away {
+            mut seat,
+            number,
+            of,
+        } = away;
+        let answer = self.answer_for(rt, number);
+        let front = collect(&self.table.shared, &mut seat, answer);
+        (Pass { seat, number, of }, front)
+    }
+
+    // Hands in entries, and waits for the answer.
+    fn exchange<R: Wait>(
+        &self,
+        rt: &R,
+        pass: &mut Pass<J>,
+        entries: Vec<Entry>,
+        front: bool,
+    ) -> Front
+        requires group { J.began.grouped ≡ true }
+        requires some { 0 < length entries.items }
+        requires few { length entries.items < 2 ^ 32 }
+        requires limits { All IsEntry entries.items }
+        requires next { MayTake (IsNext J.run pass.old.number pass.old.own) entries.items }
+        requires units { MayUse (IsUnused pass.old.own) entries.items }
+        requires plain { front ≡ true → All IsPlain entries.items }
+
+        ensures call { Calls J.start J.run J.seats pass.old (takes (take result.count entries.items) result.answer) pass.new }
+        ensures real { IsReal ⟦<D as Disk>⟧ J.start J.run J.seats J.began pass.new.seen }
+        ensures same { result.entries.items ≡ entries.items }
+        ensures front { (0 < result.count) × (result.count ≤ length entries.items) }
+        ensures whole { front ≡ false → result.count ≡ length entries.items }
+        ensures receipt { IfOk result.answer (λ receipt. (receipt.count ≡ result.count) × (receipt.first + receipt.count ≤ 2 ^ 63)) }
+        ensures alone { front ≡ true → IfErr result.answer (λ fault. IsRefusal fault → result.count ≡ 1) }
+    {
+        let number = pass.number;
+        let letter = send(&self.table.shared, &mut pass.seat, number, entries, front);
+        self.hall.leave(rt, letter);
+        let answer = self.answer_for(rt, number);
+        collect(&self.table.shared, &mut pass.seat, answer)
+    }
+
+    // The answer to what the pass of that number handed in. Where it isn't there, and nobody leads, this caller does.
+    fn answer_for<R: Wait>(&self, rt: &R, number: u32) -> Answer<D, J>
+        requires group { J.began.grouped ≡ true }
+        requires number { number < J.seats }
+        ensures { result ≡ number }
+    {
+        for _ in rt.forever() {
+            match self.hall.wait_for(rt, number) {
+                Ok(answer) => return answer,
+                Err(tray) => self.lead(rt, tray),
+            }
+        }
+        unreachable!()
+    }
+
+    // Answers all that was handed in by the time at which the desk is free.
+    fn lead<R: Wait>(&self, rt: &R, tray: Tray<D, J>)
+        requires { J.began.grouped ≡ true }
+    {
+        let Tray {
+            letters,
+            mut answers,
+        } = tray;
+        let mut turn = self.turn.lock(rt);
+        let mut letters = self.hall.letters(rt, letters);
+        turn.answer_all(&self.table.shared, &mut letters, &mut answers);
+        drop(turn);
+        self.hall.give_back(rt, letters, answers);
     }
 
     /// The first `most` of the entries with numbers from `from` that aren't known as confirmed, each with its number.
@@ -256,15 +387,11 @@ impl<D: Disk, J: Naming> Shared<D, J> {
 
     /// The desk again, as one lawful journal of all calls left it. What each pass has seen is a beginning of that journal, what the
     /// journal adds is legal, and so is each pass's own part of it. Whatever a crash leaves has each entry that was taken, at its number
-    /// or below the cursor.
+    /// or below the cursor. What was handed in and not taken yet isn't taken any more.
     pub fn close(self, passes: Vec<Pass<J>>) -> Desk<D>
         ensures { (log : List Record) × Closes D.tells J.start J.run J.seats J.began log passes.items (desk_at result) }
     {
-        let Shared {
-            table,
-            turn,
-            run: _,
-        } = self;
+        let Shared { table, turn, .. } = self;
         turn.into_inner().close(&table.shared, passes)
     }
 }

@@ -6,13 +6,14 @@ ghost use Rattle.spool_desk.specs.Alone.{alone_at, record_of, RunsTo};
 ghost use Rattle.spool_turns.specs.Rules.{Knows, Fresh, made_by, after_call, with_record, one_pass_more, new_pass};
 ghost use Rattle.spool_turns.specs.Rules.{handed_by, sent_out, back_again};
 ghost use Rattle.spool_turns.specs.Passes.{claim_at, IsClaim, number_in, handed_in};
-ghost use Rattle.spool_turns.specs.Rules.{end_at, cursor_at, merged, compared_pass, knowing_end, knowing_cursor};
-ghost use Rattle.spool_turns.specs.Passes.{IsLocked, IsCalling, IsPass, locked_of, calling_of, pass_of, facts_in, caller_in, pass_in};
+ghost use Rattle.spool_turns.specs.Rules.{end_at, cursor_at, caught_up, merged, compared_pass, knowing_end, knowing_cursor};
+ghost use Rattle.spool_turns.specs.Passes.{IsLocked, IsHosting, IsCalling, IsPass, locked_of, hosting_of, calling_of, pass_of, facts_in, hosted_in, caller_in, pass_in};
 ghost use Rattle.spool_turns.specs.Replays.{IsExact};
 
 use crate::rule::{
     Admits, Compares, HandedIn, HandsOver, Learns, LoadsCursor, LoadsEnd, MakesPass, Merges,
-    PassSeat, Recorded, Records, SendsOut, SettlesClaim, Steps, TakesBack, WritesCursor, WritesEnd,
+    PassSeat, Recorded, Records, SeesAll, SendsOut, SettlesClaim, Steps, TakesBack, WritesCursor,
+    WritesEnd,
 };
 use desk_access::Access;
 use edge_disk::Disk;
@@ -47,7 +48,41 @@ pub(crate) fn admit(steps: &Steps, locked: &mut PassSeat, seat: &mut PassSeat)
     steps.load::<Learns>(locked, 0);
 }
 
-/// Writes the words of the end and the cursor, as the desk answers them.
+/// The pass comes under the lock, sees the whole journal and the words as they are, and leaves it.
+pub(crate) fn see_all(steps: &Steps, locked: &mut PassSeat, mut seat: PassSeat) -> PassSeat
+    requires tables { (locked.old.table_id ≡ steps.now.table_id) × (seat.table_id ≡ steps.now.table_id) × (steps.now.table_id.words ≡ 4) }
+    requires views { IsLocked locked.old.me × IsPass seat.me }
+
+    ensures same { (locked.new.table_id ≡ locked.old.table_id) × (locked.new.me ≡ locked.old.me) }
+    ensures table { result.table_id ≡ seat.table_id }
+    ensures pass { result.me ≡ pass_of (caught_up (facts_in locked.old.me.0) (pass_in seat.me.0)) }
+    ensures knew { Knows (facts_in locked.old.me.0) (pass_in seat.me.0) }
+{
+    admit(steps, locked, &mut seat);
+    steps.load::<SeesAll>(locked, 0);
+    steps.split_seat::<Admits>(locked)
+}
+
+/// Writes the words of the end and the cursor, as the desk answers them. A pass may be under the lock.
+pub(crate) fn write_words<D: Disk>(steps: &Steps, locked: &mut PassSeat, alone: &mut Alone<D>)
+    requires tables { (locked.old.table_id ≡ steps.now.table_id) × (steps.now.table_id.words ≡ 4) }
+    requires view { IsHosting locked.old.me }
+    requires words { ((facts_in locked.old.me.0).end ≤ alone.old.end_told) × ((facts_in locked.old.me.0).cursor ≤ alone.old.cursor_told) }
+
+    ensures run { RunsTo D.tells (alone_at alone.old) [] (alone_at alone.new) }
+    ensures kept { (call : Call) → record_of call (alone_at alone.new) ≡ record_of call (alone_at alone.old) }
+    ensures exact { IsExact D.tells (alone_at alone.new) }
+    ensures table { locked.new.table_id ≡ locked.old.table_id }
+    ensures locked { locked.new.me
+        ≡ hosting_of (cursor_at alone.new.cursor_told (end_at alone.new.end_told (facts_in locked.old.me.0))) (hosted_in locked.old.me.0) }
+{
+    let end = alone.end();
+    let cursor = alone.cursor();
+    steps.store::<WritesEnd>(locked, 1, end);
+    steps.store::<WritesCursor>(locked, 2, cursor);
+}
+
+/// Writes the words of the end and the cursor during the call of a pass.
 pub(crate) fn publish<D: Disk>(steps: &Steps, locked: &mut PassSeat, alone: &mut Alone<D>)
     requires tables { (locked.old.table_id ≡ steps.now.table_id) × (steps.now.table_id.words ≡ 4) }
     requires view { IsCalling locked.old.me }
@@ -60,10 +95,7 @@ pub(crate) fn publish<D: Disk>(steps: &Steps, locked: &mut PassSeat, alone: &mut
     ensures locked { locked.new.me
         ≡ calling_of (cursor_at alone.new.cursor_told (end_at alone.new.end_told (facts_in locked.old.me.0))) (caller_in locked.old.me.0) }
 {
-    let end = alone.end();
-    let cursor = alone.cursor();
-    steps.store::<WritesEnd>(locked, 1, end);
-    steps.store::<WritesCursor>(locked, 2, cursor);
+    write_words(steps, locked, alone);
 }
 
 /// Adds a record of the call to the journal and to what the caller knows, and lets the caller go. What is passed

@@ -335,7 +335,7 @@ impl<D: Disk, J: Naming> Turn<D, J> {
         } = self;
         check_numbers(steps, &mut locked);
         while let Some(pass) = passes.pop() {
-            let Pass { seat, of: _ } = pass;
+            let Pass { seat, .. } = pass;
             check_pass(steps, &mut locked, seat);
         }
         alone.into_desk()

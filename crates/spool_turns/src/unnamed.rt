@@ -5,6 +5,7 @@ ghost use Rattle.spool_desk.specs.Alone.{alone_at};
 ghost use Rattle.spool_turns.specs.Rules.{first_view};
 ghost use Rattle.spool_turns.specs.Replays.{IsExact};
 
+use crate::hall::Hall;
 use crate::naming::Naming;
 use crate::pass::Pass;
 use crate::rule::{PassSeat, SeatTable};
@@ -93,9 +94,16 @@ impl<D: Disk> Unnamed<D> {
     }
 
     /// The shared desk under a name that is its own, and so many passes, which have seen nothing and have the numbers
-    /// from 0 on. The one with the greatest number may confirm. The error comes only for want of memory.
-    pub fn named<J: Naming>(self, alloc: Global, seats: u32) -> Result<Opened<D, J>, NoShare<D>>
+    /// from 0 on. The one with the greatest number may confirm. With `group` takes of several passes may be stored as one group; without it each
+    /// take is stored by itself. The error comes only for want of memory.
+    pub fn named<J: Naming>(
+        self,
+        alloc: Global,
+        seats: u32,
+        group: bool,
+    ) -> Result<Opened<D, J>, NoShare<D>>
         requires seats { seats ≡ J.seats }
+        requires group { group ≡ J.began.grouped }
         requires name { IsName J.table J.run J.start J.began self }
 
         ensures passes { IfOk result (λ opened. opened.passes.items ≡ fresh 0 seats self.alone.end_told self.alone.cursor_told) }
@@ -107,6 +115,11 @@ impl<D: Disk> Unnamed<D> {
             mut locked,
             run,
         } = self;
+        let Ok(hall) = Hall::new(alloc, seats) else {
+            return Err(NoShare {
+                desk: alone.into_desk(),
+            });
+        };
         let Ok(mut passes) = Vec::with_capacity(alloc, seats as usize) else {
             return Err(NoShare {
                 desk: alone.into_desk(),
@@ -116,6 +129,7 @@ impl<D: Disk> Unnamed<D> {
             let seat = make_pass(&table.shared, &mut locked, u64::from(i));
             passes.push_reserved(Pass {
                 seat,
+                number: i,
                 of: PhantomData,
             });
         }
@@ -127,6 +141,9 @@ impl<D: Disk> Unnamed<D> {
         let shared = Shared {
             table,
             turn: Mutex::new(turn),
+            hall,
+            group,
+            alloc,
             run,
         };
         Ok(Opened { shared, passes })

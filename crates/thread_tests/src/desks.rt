@@ -39,19 +39,21 @@ pub(crate) fn to_share(rt: &impl Abort, alloc: Global, disk: MemDisk) -> Unnamed
     unnamed.expect(rt, "memory")
 }
 
-/// That desk under its name, with so many passes.
+/// That desk under its name, with so many passes. With `group` takes of several of them may be stored as one group.
 pub(crate) fn named<J: Naming, R: Abort>(
     rt: &R,
     alloc: Global,
     unnamed: Unnamed<MemDisk>,
     seats: u32,
+    group: bool,
 ) -> Opened<MemDisk, J>
     requires seats { seats ≡ J.seats }
+    requires group { group ≡ J.began.grouped }
     requires name { IsName J.table J.run J.start J.began unnamed }
 
     ensures { result.passes.items ≡ fresh 0 seats unnamed.alone.end_told unnamed.alone.cursor_told }
 {
-    let opened = unnamed.named::<J>(alloc, seats).ok();
+    let opened = unnamed.named::<J>(alloc, seats, group).ok();
     opened.expect(rt, "memory")
 }
 

@@ -8,6 +8,10 @@ pub use taking::{entry, take_many};
 #[cfg(test)]
 pub(crate) mod answers;
 #[cfg(test)]
+pub(crate) mod crowd;
+#[cfg(test)]
+pub(crate) mod joint;
+#[cfg(test)]
 pub(crate) mod pair;
 #[cfg(test)]
 pub(crate) mod threads;

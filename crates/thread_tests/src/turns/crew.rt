@@ -31,9 +31,9 @@ pub struct Shift<D: Disk> {
 
 /// A pass that made no call, and its first connection.
 #[derive(Drop)]
-struct Job<J: Naming> {
-    pass: Pass<J>,
-    conn: u64,
+pub(crate) struct Job<J: Naming> {
+    pub(crate) pass: Pass<J>,
+    pub(crate) conn: u64,
 }
 
 // A pass after its takes, and how many they were.
@@ -43,8 +43,8 @@ struct Worked<J: Naming> {
     taken: Result<u64, AllocError>,
 }
 
-// What each pass is to do, the one with the greatest number first.
-fn jobs<J: Naming>(
+/// What each pass is to do, the one with the greatest number first.
+pub(crate) fn jobs<J: Naming>(
     alloc: Global,
     mut passes: Vec<Pass<J>>,
     run: u32,
@@ -131,13 +131,18 @@ fn work_shift<D: Disk + Drop + Send, J: Naming + Send + Sync, R: Threads + Wait 
     alloc: Global,
     unnamed: Unnamed<D>,
     seats: u32,
+    group: bool,
     takes: u64,
 ) -> Result<Shift<D>, AllocError>
     requires seats { seats ≡ J.seats }
     requires few { seats ≤ 64 }
+    requires group { group ≡ J.began.grouped }
     requires name { IsName J.table J.run J.start J.began unnamed }
 {
-    let opened = unnamed.named::<J>(alloc, seats).ok().ok_or(AllocError)?;
+    let opened = unnamed
+        .named::<J>(alloc, seats, group)
+        .ok()
+        .ok_or(AllocError)?;
     let Opened { shared, passes } = opened;
     let (taken, passes) = crew(rt, alloc, &shared, passes, seats, takes)?;
     Ok(Shift {
@@ -146,12 +151,14 @@ fn work_shift<D: Disk + Drop + Send, J: Naming + Send + Sync, R: Threads + Wait 
     })
 }
 
-/// So many passes share the desk, at most 64, and each takes so many groups of one entry in a thread of its own.
+/// So many passes share the desk, at most 64, and each takes so many groups of one entry in a thread of its own. With `group` takes of
+/// several passes may be stored as one group.
 pub fn work_together<D: Disk + Drop + Send, R: Threads + Wait + Sync>(
     rt: &R,
     alloc: Global,
     desk: Desk<D>,
     seats: u32,
+    group: bool,
     takes: u64,
 ) -> Result<Shift<D>, AllocError>
     requires sure { desk.spool.doubt ≡ false }
@@ -159,5 +166,5 @@ pub fn work_together<D: Disk + Drop + Send, R: Threads + Wait + Sync>(
     requires few { seats ≤ 64 }
 {
     let unnamed = Unnamed::new(alloc, desk).ok().ok_or(AllocError)?;
-    work_shift::<D, Brand, R>(rt, alloc, unnamed, seats, takes)
+    work_shift::<D, Brand, R>(rt, alloc, unnamed, seats, group, takes)
 }

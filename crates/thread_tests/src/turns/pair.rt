@@ -20,13 +20,13 @@ use std::sync::Wait;
 // The channel that asks.
 const CHANNEL: u128 = 0x0aee_ac95_ac74_4aa9_b30d_6c4c_0ac5_81ba;
 
-// Adds a line with this answer.
-fn say(rt: &impl Abort, said: &mut String, answer: &impl Debug) {
+/// Adds a line with this answer.
+pub(crate) fn say(rt: &impl Abort, said: &mut String, answer: &impl Debug) {
     writeln!(said, "{answer:?}").expect(rt, "memory");
 }
 
-// Adds a line with what a take answered.
-fn say_take(rt: &impl Abort, said: &mut String, answer: Result<Receipt, TakeFault>) {
+/// Adds a line with what a take answered.
+pub(crate) fn say_take(rt: &impl Abort, said: &mut String, answer: Result<Receipt, TakeFault>) {
     let written = match answer {
         Ok(Receipt { first, count }) => {
             writeln!(said, "Ok(Receipt {{ first: {first}, count: {count} }})")
@@ -37,8 +37,12 @@ fn say_take(rt: &impl Abort, said: &mut String, answer: Result<Receipt, TakeFaul
     written.expect(rt, "memory");
 }
 
-// Adds a line for each entry: its number, its connection and its index.
-fn say_places(rt: &impl Abort, said: &mut String, given: Result<Vec<Numbered>, PendFault>) {
+/// Adds a line for each entry: its number, its connection and its index.
+pub(crate) fn say_places(
+    rt: &impl Abort,
+    said: &mut String,
+    given: Result<Vec<Numbered>, PendFault>,
+) {
     for Numbered { number, entry } in &given.ok().expect(rt, "the entries") {
         writeln!(said, "{number} {} {}", entry.conn, entry.index).expect(rt, "memory");
     }
@@ -145,12 +149,14 @@ fn two_passes<J: Naming, R: Abort + Wait>(
     rt: &R,
     said: &mut String,
     unnamed: Unnamed<MemDisk>,
+    group: bool,
     upto: u64,
 ) -> Desk<MemDisk>
     requires seats { 2 ≡ J.seats }
+    requires group { group ≡ J.began.grouped }
     requires name { IsName J.table J.run J.start J.began unnamed }
 {
-    let opened = named::<J, R>(rt, *said.allocator(), unnamed, 2);
+    let opened = named::<J, R>(rt, *said.allocator(), unnamed, 2, group);
     let Opened { shared, mut passes } = opened;
     let last = passes.pop().expect(rt, "the second pass");
     let first = passes.pop().expect(rt, "the first pass");
@@ -160,10 +166,10 @@ fn two_passes<J: Naming, R: Abort + Wait>(
 
 // What two passes are told over this disk, a line for each answer; and what the desk that they leave has, its end, and whether
 // that is in doubt.
-fn said<R: Abort + Wait>(rt: &R, alloc: Global, disk: MemDisk, upto: u64) -> String {
+fn said<R: Abort + Wait>(rt: &R, alloc: Global, disk: MemDisk, group: bool, upto: u64) -> String {
     let mut said = String::new(alloc);
     let unnamed = to_share(rt, alloc, disk);
-    let mut desk = two_passes::<Brand, R>(rt, &mut said, unnamed, upto);
+    let mut desk = two_passes::<Brand, R>(rt, &mut said, unnamed, group, upto);
     writeln!(said, "closed").expect(rt, "memory");
     say_places(rt, &mut said, desk.spool.pending(0, 10));
     say(rt, &mut said, &desk.spool.end());
@@ -171,13 +177,20 @@ fn said<R: Abort + Wait>(rt: &R, alloc: Global, disk: MemDisk, upto: u64) -> Str
     said
 }
 
-/// Two passes are told the answers of the row.
-pub(crate) fn check(rt: &(impl Abort + Wait), alloc: Global, row: &Row) {
+/// Two passes are told the answers of the row, where takes may be stored as one group and where they may not.
+pub(crate) fn check(rt: &(impl Abort + Wait), alloc: Global, row: &Row, group: bool) {
     let (call, upto, want) = row;
     let bytes = formatted(rt, alloc, 4096).bytes().to_vec(alloc);
     let bytes = bytes.expect(rt, "memory");
     let failing = calls_to_open(rt, alloc, &bytes).saturating_add(*call);
     let failing = [failing].to_vec(alloc).expect(rt, "memory");
-    let said = said(rt, alloc, MemDisk::of(bytes, failing), *upto);
-    assert!(rt; said.as_str() == *want, "call {call}: {said}");
+    let said = said(rt, alloc, MemDisk::of(bytes, failing), group, *upto);
+    assert!(rt;
+        said.as_str() == *want,
+<<<<<<< HEAD
+        "call {call}, group {group}: {said}"
+=======
+        "call {call}: {said}"
+>>>>>>> e2dd5394a708eb1af8781ab2ec996c9ed57b0e9a
+    );
 }

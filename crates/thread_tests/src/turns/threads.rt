@@ -39,12 +39,13 @@ pub(crate) fn have_taken<R: Abort + Threads + Wait + Sync>(
     rt: &R,
     alloc: Global,
     seats: u32,
+    group: bool,
     counts: [u64; 8],
 ) -> bool
     requires { seats ≤ 64 }
 {
     let desk = opened(rt, alloc, formatted(rt, alloc, 1_000_000));
-    let mut shift = work_together(rt, alloc, desk, seats, TAKES).expect(rt, "memory");
+    let mut shift = work_together(rt, alloc, desk, seats, group, TAKES).expect(rt, "memory");
     let spool = &mut shift.desk.spool;
     let end = spool.end();
     let given = spool.pending(0, 10_000).ok().expect(rt, "the entries");

@@ -14,29 +14,32 @@ use std::process::Abort;
 use std::sync::Wait;
 use std::thread::Threads;
 
-// Serves at the doors, over the desk under its name.
+// Serves at the doors, over the desk under its name. With `group` takes of several workers may be stored as one group.
 fn serve_named<J: Naming + Send + Sync, R: Abort + Threads + Wait + Sync>(
     rt: &R,
     alloc: Global,
     unnamed: Unnamed<MemDisk>,
+    group: bool,
     posts: Vec<Post<TestDoor>>,
     talks: u32,
 ) -> Served<TestDoor, MemDisk>
     requires seats { vec_len posts ≡ J.seats }
     requires few { vec_len posts ≤ 64 }
     requires talks { talks ≤ 2 ^ 26 }
+    requires group { group ≡ J.began.grouped }
     requires name { IsName J.table J.run J.start J.began unnamed }
 {
     let seats = posts.len() as u32;
-    let opened = named::<J, R>(rt, alloc, unnamed, seats);
+    let opened = named::<J, R>(rt, alloc, unnamed, seats, group);
     let served = serve_alone(rt, alloc, opened, posts, talks).ok();
     served.expect(rt, "memory")
 }
 
-/// Serves at the doors, over an empty spool that was opened once.
+/// Serves at the doors, over an empty spool that was opened once. With `group` takes of several workers may be stored as one group.
 pub(crate) fn served<R: Abort + Threads + Wait + Sync>(
     rt: &R,
     alloc: Global,
+    group: bool,
     posts: Vec<Post<TestDoor>>,
     talks: u32,
 ) -> Served<TestDoor, MemDisk>
@@ -44,5 +47,5 @@ pub(crate) fn served<R: Abort + Threads + Wait + Sync>(
     requires talks { talks ≤ 2 ^ 26 }
 {
     let unnamed = to_share(rt, alloc, formatted(rt, alloc, 65_536));
-    serve_named::<Brand, R>(rt, alloc, unnamed, posts, talks)
+    serve_named::<Brand, R>(rt, alloc, unnamed, group, posts, talks)
 }

@@ -190,17 +190,31 @@ fn posts(rt: &impl Abort, alloc: Global, places: &[usize], failing: &[u64]) -> V
 }
 
 // What workers leave that serve as the case has it.
-fn outcome(rt: &(impl Abort + Threads + Wait + Sync), alloc: Global, case: &Case) -> String {
+fn outcome(
+    rt: &(impl Abort + Threads + Wait + Sync),
+    alloc: Global,
+    case: &Case,
+    group: bool,
+) -> String {
     let (_, places, most, failing, _) = case;
     let posts = posts(rt, alloc, places, failing);
     assert!(rt; posts.len() <= 64);
-    let mut served = served(rt, alloc, posts, u32::from(*most));
+    let mut served = served(rt, alloc, group, posts, u32::from(*most));
     said(rt, alloc, places, &mut served)
 }
 
-/// Workers leave what the case has.
-pub(crate) fn check(rt: &(impl Abort + Threads + Wait + Sync), alloc: Global, case: &Case) {
+/// Workers leave what the case has, where takes of several may be stored as one group and where they may not.
+pub(crate) fn check(
+    rt: &(impl Abort + Threads + Wait + Sync),
+    alloc: Global,
+    case: &Case,
+    group: bool,
+) {
     let (name, .., want) = case;
-    let said = outcome(rt, alloc, case);
+    let said = outcome(rt, alloc, case, group);
+<<<<<<< HEAD
+    assert!(rt; said.as_str() == *want, "{name}, group {group}: {said}");
+=======
     assert!(rt; said.as_str() == *want, "{name}: {said}");
+>>>>>>> e2dd5394a708eb1af8781ab2ec996c9ed57b0e9a
 }

@@ -20,7 +20,7 @@ invariant_of-pass g c =
     let p = c.publish.ensures in
     let e = c.add_record.ensures in
     let after = pass_after _ _ _ _ _ _ _ _ _ _ _ _ _ i.1 i.2 i.3 (subst (λ (k : Known). IsStored k.own c.args.id) (sym c.pass.view_is) c.requires.taken) h.locked h.knew c.settle-answer.ensures.makes p.run (p.kept _) p.exact p.locked (g.met.D.Disk.lawful _) _ e.pass in
-    (e.tables.1 ∙ p.table ∙ h.tables.0 ∙ i.0, after.0, after.1)
+    (e.tables.1 ∙ p.table ∙ h.tables.0 ∙ i.0, after.0, after.1, after.2 ∙ c.pass.invariant.3, c.pass.invariant.4, after.3 ∙ c.pass.invariant.5)
 
 pub returns-clause-call : goal.returns-clause-call
 returns-clause-call g c =

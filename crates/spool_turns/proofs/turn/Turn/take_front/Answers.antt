@@ -26,7 +26,7 @@ invariant_of-pass g c =
     let e = c.add_record.ensures in
     let may = subst (λ (k : Known). MayTake (IsNext g.J.Naming.run k.number k.own) (take c.fitting-count.result c.args.entries.now) × MayUse (IsUnused k.own) (take c.fitting-count.result c.args.entries.now)) (sym c.pass.view_is) (front_may _ _ c.fitting-count.result c.args.entries.now c.fitting-count.ensures.front.0 c.requires.next c.requires.plain) in
     let after = pass_after _ _ _ _ _ _ _ _ _ _ _ _ _ i.1 i.2 i.3 may h.locked h.knew c.take-answer.ensures.makes p.run (p.kept _) p.exact p.locked (g.met.D.Disk.lawful _) _ e.pass in
-    (e.tables.1 ∙ p.table ∙ h.tables.0 ∙ i.0, after.0, after.1)
+    (e.tables.1 ∙ p.table ∙ h.tables.0 ∙ i.0, after.0, after.1, after.2 ∙ c.pass.invariant.3, c.pass.invariant.4, after.3 ∙ c.pass.invariant.5)
 
 pub returns-clause-call : goal.returns-clause-call
 returns-clause-call g c =

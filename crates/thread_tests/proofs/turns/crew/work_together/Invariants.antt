@@ -1,5 +1,6 @@
 use Rattle.spool_turns.specs.Named.{table_of, start_of, moment_of}
+use Rattle.spool_turns.specs.Passes.{begun}
 use Rattle.thread_tests.proofs.turns.crew.work_together.Given as goal
 
 abbrev pub ghosts-work_shift : goal.ghosts-work_shift
-ghosts-work_shift g a = record { table = table_of a.unnamed; seats = a.seats; run = a.unnamed.run; start = start_of a.unnamed; began = moment_of a.unnamed }
+ghosts-work_shift g a = record { table = table_of a.unnamed; seats = a.seats; run = a.unnamed.run; start = start_of a.unnamed; began = begun (moment_of a.unnamed) a.group }

@@ -1,5 +1,6 @@
 use Rattle.spool_turns.specs.Named.{table_of, start_of, moment_of}
+use Rattle.spool_turns.specs.Passes.{begun}
 use Rattle.thread_tests.proofs.turns.pair.said.Given as goal
 
 abbrev pub ghosts-two_passes : goal.ghosts-two_passes
-ghosts-two_passes g a = record { table = table_of a.unnamed; seats = 2; run = a.unnamed.run; start = start_of a.unnamed; began = moment_of a.unnamed }
+ghosts-two_passes g a = record { table = table_of a.unnamed; seats = 2; run = a.unnamed.run; start = start_of a.unnamed; began = begun (moment_of a.unnamed) a.group }
