@@ -79,9 +79,9 @@ module _ (P : List ℕ → Type 0) (holds : (s : SpoolState) (c : List ℕ) → 
   opened_only is = weaker (IsOpening Raise old) P old new is.any_moment while_opened
 
   -- the server ran
-  pub served : (tells : Type 0) (talks : ℕ) (rules : List Rules) (doors doors' : List DoorState) (reports : List WorkerReport) (destination : Option Destination) (net net' : NetState) (last : Option Outcome) (memory : Memory) (in_doubt : Bool)
-      → RunsOver tells old new talks rules doors doors' reports destination net net' last memory in_doubt → tells → LeavesOnly P old new
-  served tells talks rules doors doors' reports destination net net' last memory in_doubt over told =
+  pub served : (tells : Type 0) (grouped : Bool) (talks : ℕ) (rules : List Rules) (doors doors' : List DoorState) (reports : List WorkerReport) (destination : Option Destination) (net net' : NetState) (last : Option Outcome) (memory : Memory) (in_doubt : Bool)
+      → RunsOver tells old new grouped talks rules doors doors' reports destination net net' last memory in_doubt → tells → LeavesOnly P old new
+  served tells grouped talks rules doors doors' reports destination net net' last memory in_doubt over told =
       let opening = over.opened told in
       let x = opening.0 in
       let is = opening.1 in

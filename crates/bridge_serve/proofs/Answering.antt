@@ -15,7 +15,7 @@ use Rattle.desk_access.specs.Journal.{own_then}
 use Rattle.conn_serve.specs.declared.rules.Rules.{Rules}
 use Rattle.conn_serve.specs.Says.{HasCarried}
 use Rattle.conn_serve.specs.Serves.{CarriedBy}
-use Rattle.spool_turns.specs.Passes.{Known}
+use Rattle.spool_turns.specs.Passes.{Beginning, Known, begun}
 use Rattle.spool_turns.specs.Ran.{Ran}
 use Rattle.spool_turns.specs.Replays.{IsReal}
 use Rattle.serve_workers.specs.Answering.{MayAnswer as WorkerMay}
@@ -40,14 +40,14 @@ stands_may tells moment given server Permits number rules DoorPermits may at k f
     (λ i. (at.number_is i, at.rules_are i)) is))
 
 -- of a spool that was opened for storing, and of the desk over it
-module _ {D : Type 0} (disks : Ghosts D) (given now : D) (memory : Memory) (in_doubt : Bool) (clock run seats : ℕ)
+module _ {D : Type 0} (disks : Ghosts D) (given now : D) (memory : Memory) (in_doubt : Bool) (clock : ℕ) (grouped : Bool) (run seats : ℕ)
     (from : IsOpenedFrom disks.tells (disks.moment given) (view memory in_doubt (disks.moment now))) (later : disks.tells → (disks.moment given).clock ≤ clock)
     (of_run : (x : DeskState) → IsOpenedDesk disks.tells (disks.moment given).reads x → x.spool.run ≡ run) where
   abbrev start : DeskState → Type 0
   start = IsOpenedDesk disks.tells (disks.moment given).reads
 
-  abbrev began : Moment
-  began = opened_at disks.tells (disks.moment given) clock
+  abbrev began : Beginning
+  began = begun (opened_at disks.tells (disks.moment given) clock) grouped
 
   -- the link that was served so far, with the calls that promise nothing
   abbrev link : (rules : Rules) (conn : ℕ) (bytes : List ℕ) (calls : List Call) (text : List ℕ) → HasCarried (CarriedBy rules conn) bytes calls text → Served

@@ -1,6 +1,6 @@
 -- What failed in a run, as its note says.
 use Rattle.std.proofs.Common.{◌≡◌, ◌⊎◌, inl, inr, ℕ, zero, suc, ◌+◌, ◌<◌, ◌≤◌, Bool, true, false, List, [], ◌∷◌, ◌++◌, length, refl, sym, ◌∙◌, ap, subst, arith}
-use Rattle.std.specs.Prelude.{All, Option, None, Some, Err, slice_get, if◌then◌else◌, ◌==◌, ◌||◌}
+use Rattle.std.specs.Prelude.{All, Option, None, Some, Err, slice_get, if◌then◌else◌, ◌||◌}
 use Rattle.std.specs.List.{list_any}
 use Rattle.std.proofs.lemmas.List.Elements.{All-head, All-tail}
 use Rattle.foundation.specs.Faults.{Rose}
@@ -9,7 +9,7 @@ use Rattle.edge_io.specs.Net.{Bound, NetState, SameHung, HasNetCause}
 use Rattle.edge_io.specs.declared.net_fault.NetFault.{NetFault}
 use Rattle.edge_io.specs.declared.net_fault.NetFault.TheVariants as Net
 use Rattle.spool_answers.specs.declared.fault.PendFault.TheVariants as Pend
-use Rattle.desk_access.specs.Call.{Record, own_of, calls_of, failures_in, failures_of, pends}
+use Rattle.desk_access.specs.Call.{failures_of, pends}
 use Rattle.desk_access.specs.Desk.{DeskState}
 use Rattle.desk_access.specs.Journal.{failures_then}
 use Rattle.conn_serve.specs.declared.rules.Rules.{Rules}
@@ -200,14 +200,7 @@ found_disk start outward place look pass pass' net net' is disk = by look.found 
       let many = (failed one.sent one.until one.start one.calls held.ended.session held.ended.refused).0 (sent_by_disk one.sent disk) in
       omega (arith, many, ap failures_of held.made.own, failures_then held.begun.own one.calls)
 
--- ---- a caller's part of the journal
-
-pub own_failures : (number : ℕ) (log : List Record) → failures_of (own_of number log) ≤ failures_of (calls_of log)
-own_failures number [] = omega arith
-own_failures number (one ∷ log) = by (one.by == number) (own_failures number log) where
-  by : (b : Bool) → failures_of (own_of number log) ≤ failures_of (calls_of log) → failures_of (if b then one.call ∷ own_of number log else own_of number log) ≤ failures_in one.call + failures_of (calls_of log)
-  by true le = omega (arith, le)
-  by false le = omega (arith, le)
+-- ---- the last of the passes
 
 pub last_of_all : {X : Type 0} (P : X → Type 0) (xs : List X) (x : X) → All P (xs ++ x ∷ []) → P x
 last_of_all P [] x all = All-head P x [] all

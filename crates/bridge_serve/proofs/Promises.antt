@@ -2,7 +2,6 @@
 use Rattle.std.proofs.Common.{◌≡◌, inl, inr, ℕ, ◌+◌, ◌-◌, ◌^◌, ◌<◌, ◌≤◌, List, [], ◌∷◌, length, refl, sym, ◌∙◌, ap, subst, arith}
 use Rattle.std.specs.Prelude.{Option, None, Some, IsSome, get_or}
 use Rattle.std.proofs.lemmas.List.Elements.{All-head}
-use Rattle.edge_disk.specs.Disk.{Moment}
 use Rattle.edge_io.specs.Door.{DoorState}
 use Rattle.edge_io.specs.Net.{NetState}
 use Rattle.edge_io.specs.declared.net_fault.NetFault.TheVariants as Net
@@ -19,7 +18,7 @@ use Rattle.conn_serve.specs.declared.rules.Rules.{Rules}
 use Rattle.forward_core.specs.Protocols.{settings_as}
 use Rattle.forward_core.specs.declared.sent.Sent.{Sent}
 use Rattle.forward_core.specs.declared.sent.Sent.TheVariants as Ending
-use Rattle.spool_turns.specs.Passes.{Known, Stands}
+use Rattle.spool_turns.specs.Passes.{Beginning, Known, Stands}
 use Rattle.serve_workers.specs.declared.worker.WorkerReport.{WorkerReport}
 use Rattle.serve_workers.proofs.Placing.{new_last}
 use Rattle.serve_forwarder.specs.declared.destination.Destination.{Destination}
@@ -96,7 +95,7 @@ standing s (stage ∷ stages) c (inr later) = let t = standing stage stages c la
 
 -- ---- the sessions
 
-module _ (tells : Type 0) (start : DeskState → Type 0) (run seats : ℕ) (began : Moment) (new : AloneView) (talks : ℕ) (rules : List Rules)
+module _ (tells : Type 0) (start : DeskState → Type 0) (run seats : ℕ) (began : Beginning) (new : AloneView) (talks : ℕ) (rules : List Rules)
     (doors doors' : List DoorState) (reports : List WorkerReport) (many : seats ≡ length rules + 1)
     (sure : (x : DeskState) → start x → x.doubt ≡ []) where
   -- a forwarder with no place to forward to made no call
@@ -141,7 +140,7 @@ first_one s (stage ∷ stages) = inl refl
 
 -- ---- all of them
 
-module _ (tells : Type 0) (start : DeskState → Type 0) (run seats : ℕ) (began : Moment) (new : AloneView) (r : ServerRun tells start run seats began new) (few : length r.rules ≤ 64) (most : r.talks ≤ 2 ^ 26)
+module _ (tells : Type 0) (start : DeskState → Type 0) (run seats : ℕ) (began : Beginning) (new : AloneView) (r : ServerRun tells start run seats began new) (few : length r.rules ≤ 64) (most : r.talks ≤ 2 ^ 26)
     (sure : (x : DeskState) → start x → x.doubt ≡ []) where
   -- a state that a crash leaves, which the sessions led to
   found : (x : DeskState) → start x → (c : List ℕ) → new.spool.moment.image c → (s : SpoolState) × StandsFor s c × HasSent r.destination (looks_of r.served) x r.served.log s

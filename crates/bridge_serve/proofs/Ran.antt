@@ -14,7 +14,6 @@ use Rattle.spool_log.specs.Memory.{end_of}
 use Rattle.spool_log.specs.Opening.{opened}
 use Rattle.spool_log.specs.State.{View, IsIn}
 use Rattle.desk_access.specs.Call.{failures_of}
-use Rattle.desk_access.specs.Journal.{failures_split, none_joined}
 use Rattle.desk_access.specs.Desk.{DeskState}
 use Rattle.spool_turns.specs.Passes.{Stands}
 use Rattle.serve_workers.specs.declared.worker.WorkerReport.{WorkerReport}
@@ -34,14 +33,14 @@ use Rattle.bridge_serve.specs.Served.{IsUnserved, RunsOver, IsRunAt}
 use Rattle.bridge_serve.proofs.Opening.{desk_is}
 use Rattle.bridge_serve.proofs.Lines.{memory_last}
 use Rattle.bridge_serve.proofs.Promises.{promises}
-use Rattle.bridge_serve.proofs.Causes.{IsTold, not_usage, not_length, workers_tell, not_workers, forwarded_later, forwarded_binds_none, run_told, last_read, last_write, last_dial, last_disk, own_failures, last_of_all, door_rose}
+use Rattle.bridge_serve.proofs.Causes.{IsTold, not_usage, not_length, workers_tell, not_workers, forwarded_later, forwarded_binds_none, run_told, last_read, last_write, last_dial, last_disk, last_of_all, door_rose}
 
 none_in_doubt : (x : DeskState) (s : SpoolState) → x ≡ desk_in (opened Raise s) → x.doubt ≡ []
 none_in_doubt x s is = ap (λ (d : DeskState). d.doubt) is
 
-module _ (tells : Type 0) (old new : Moment) (talks : ℕ) (rules : List Rules) (doors doors' : List DoorState) (reports : List WorkerReport)
+module _ (tells : Type 0) (old new : Moment) (grouped : Bool) (talks : ℕ) (rules : List Rules) (doors doors' : List DoorState) (reports : List WorkerReport)
     (destination : Option Destination) (net net' : NetState) (last : Option Outcome) (memory : Memory) (in_doubt : Bool)
-    (over : RunsOver tells old new talks rules doors doors' reports destination net net' last memory in_doubt)
+    (over : RunsOver tells old new grouped talks rules doors doors' reports destination net net' last memory in_doubt)
     (note : Note) (is : IsNoteOf (note_of_run reports last) note) where
   told : IsTold note
   told = elim is [
@@ -74,8 +73,7 @@ module _ (tells : Type 0) (old new : Moment) (talks : ℕ) (rules : List Rules) 
           cause = λ by.
               let one = last_disk _ destination _ _ _ net net' last over.served.forwarded (of_look Note.DiskFault (λ e. cc) (λ e. cc) (λ e. cc) by) in
               let stands = last_of_all (Stands over.served.log) over.served.workers' over.served.forwarder' closes.pass in
-              let most = own_failures over.served.forwarder'.number over.served.log in
-              omega (arith, closes.replays.cause, one, most, ap failures_of stands.1, failures_split over.served.log, none_joined over.served.log closes.replays.alone);
+              omega (arith, closes.replays.cause, one, closes.replays.each over.served.forwarder'.number, ap failures_of stands.1);
         };
       }
 
@@ -124,7 +122,7 @@ module _ (tells : Type 0) (old new : Moment) (talks : ℕ) (rules : List Rules) 
       → PrintsLast (note_of_run reports last)
       (serve_line (talks_of reports) (end_of memory - last_end) (opening_left + (end_of memory - last_end) - pending_in memory) (pending_in memory))
       note writes writes' taken taken'
-      → IsRunAt talks destination tells old new net net' rules doors doors' writes writes' taken taken' note
+      → IsRunAt grouped talks destination tells old new net net' rules doors doors' writes writes' taken taken' note
   ran_at v last_end opening_left writes writes' taken taken' from end_is left_is r d d' few most printed = record {
     reports = reports;
     last = last;
@@ -175,10 +173,10 @@ module _ (tells : Type 0) (old new : Moment) (talks : ℕ) (rules : List Rules) 
 -- ---- what was bound
 
 -- a run binds no door
-pub run_binds_none : (talks : ℕ) (destination : Option Destination) (tells : Type 0) (old new : Moment) (net net' : NetState) (rules : List Rules)
+pub run_binds_none : (grouped : Bool) (talks : ℕ) (destination : Option Destination) (tells : Type 0) (old new : Moment) (net net' : NetState) (rules : List Rules)
     (doors doors' : List DoorState) (writes writes' : ℕ) (taken taken' : Option (List ℕ)) (note : Note)
-    → IsRunAt talks destination tells old new net net' rules doors doors' writes writes' taken taken' note → net'.bound ≡ net.bound
-run_binds_none talks destination tells old new net net' rules doors doors' writes writes' taken taken' note run =
+    → IsRunAt grouped talks destination tells old new net net' rules doors doors' writes writes' taken taken' note → net'.bound ≡ net.bound
+run_binds_none grouped talks destination tells old new net net' rules doors doors' writes writes' taken taken' note run =
     forwarded_binds_none _ destination _ _ _ net net' run.last run.over.served.forwarded
 
 -- where no worker began it makes no difference that doors were bound before

@@ -9,7 +9,7 @@ use Rattle.desk_access.specs.Call.{Call, own_of}
 use Rattle.desk_access.specs.Desk.{DeskState, Stood}
 use Rattle.desk_access.specs.Journal.{own_then}
 use Rattle.forward_core.specs.declared.outward.Outward.{Outward}
-use Rattle.spool_turns.specs.Passes.{Known}
+use Rattle.spool_turns.specs.Passes.{Beginning, Known}
 use Rattle.spool_turns.specs.Ran.{Ran}
 use Rattle.spool_turns.specs.Replays.{IsReal}
 use Rattle.serve_forwarder.specs.Released.{HasAsked, MayRelease as ForwarderMay}
@@ -38,13 +38,13 @@ may_release tells moment given None At Release may = may
 may_release tells moment given (Some relay) At Release may = may
 
 -- of a spool that was opened for storing, and of the desk over it
-module _ {D : Type 0} (disks : Ghosts D) (given now : D) (memory : Memory) (in_doubt : Bool) (clock run seats : ℕ)
+module _ {D : Type 0} (disks : Ghosts D) (given now : D) (memory : Memory) (in_doubt : Bool) (clock : ℕ) (grouped : Bool) (run seats : ℕ)
     (from : IsOpenedFrom disks.tells (disks.moment given) (view memory in_doubt (disks.moment now))) (later : disks.tells → (disks.moment given).clock ≤ clock) where
   abbrev start : DeskState → Type 0
   start = IsOpenedDesk disks.tells (disks.moment given).reads
 
-  abbrev began : Moment
-  began = opened_at disks.tells (disks.moment given) clock
+  abbrev began : Beginning
+  began = record { moment = opened_at disks.tells (disks.moment given) clock; grouped = grouped }
 
   -- the state in which it was opened
   began_in : disks.tells → (x : DeskState) × start x

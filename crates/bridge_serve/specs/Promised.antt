@@ -20,16 +20,17 @@ use Rattle.conn_serve.specs.declared.rules.Rules.{Rules}
 use Rattle.forward_core.specs.Protocols.{HintsAs, settings_as}
 use Rattle.forward_core.specs.declared.outward.Outward.{Outward}
 use Rattle.forward_core.specs.declared.sent.Sent.TheVariants.{PeerClosed}
-use Rattle.spool_turns.specs.Passes.{Known}
+use Rattle.spool_turns.specs.Passes.{Beginning, Known}
 use Rattle.spool_turns.specs.Whole.{OpensLegal}
 use Rattle.serve_workers.specs.declared.worker.WorkerReport.{WorkerReport}
-use Rattle.serve_workers.specs.Served.{by_disk, how_many, RisesBy}
+use Rattle.serve_workers.specs.Served.{RisesBy}
 use Rattle.serve_forwarder.specs.declared.destination.Destination.{Destination}
 use Rattle.serve_forwarder.specs.declared.looking.Outcome.{Outcome}
 use Rattle.serve_forwarder.specs.Looks.{Look, sessions_of, calls_of as calls_of_looks, outcome_of}
 use Rattle.serve_forwarder.specs.Sessions.{Session, TellsSessions}
 use Rattle.serve_run.specs.Running.{Forwarded, HasServed}
 use Rattle.serve_laws.specs.Parts.{Part, links_of, AreParts}
+use Rattle.serve_laws.specs.Faults.{CountsEnded}
 use Rattle.serve_laws.specs.Durable.{IsLinkDurable, IsTalkDurable}
 use Rattle.serve_laws.specs.Contributes.{Contributes, BeginsInOrder, KeepsOrder, IsOfParts, taken_over, EndRises}
 use Rattle.serve_laws.specs.Leaves.{IsDone, NoneIsLeftOn}
@@ -93,7 +94,7 @@ looks_in start None workers pass pass' net net' last forwarded = []
 looks_in start (Some destination) workers pass pass' net net' last forwarded = forwarded.2.looks ++ forwarded.2.look ∷ []
 
 -- the same of a run of the server
-abbrev pub looks_of : {tells : Type 0} {start : DeskState → Type 0} {run seats talks : ℕ} {began : Moment} {rules : List Rules}
+abbrev pub looks_of : {tells : Type 0} {start : DeskState → Type 0} {run seats talks : ℕ} {began : Beginning} {rules : List Rules}
     {doors doors' : List DoorState} {reports : List WorkerReport} {destination : Option Destination} {net net' : NetState}
     {last : Option Outcome} {new : AloneView}
     → HasServed tells start run seats began talks rules doors doors' reports destination net net' last new → List Look
@@ -141,7 +142,7 @@ TellsLast start number log (Some destination) looks last =
 -- ---- of a run
 
 -- What a run promises whose journal began with the desk in such a state, and that ended with that note.
-pub record Promises {tells : Type 0} {start : DeskState → Type 0} {run seats talks : ℕ} {began : Moment} {rules : List Rules}
+pub record Promises {tells : Type 0} {start : DeskState → Type 0} {run seats talks : ℕ} {began : Beginning} {rules : List Rules}
     {doors doors' : List DoorState} {reports : List WorkerReport} {destination : Option Destination} {net net' : NetState}
     {last : Option Outcome} {new : AloneView}
     (served : HasServed tells start run seats began talks rules doors doors' reports destination net net' last new) (note : Note) : Type 0 where
@@ -167,7 +168,7 @@ pub record Promises {tells : Type 0} {start : DeskState → Type 0} {run seats t
   -- Where the spool was in order at the opening, it is so after each crash, now or meanwhile.
   pub order : (x : DeskState) → start x → OpensLegal x → (c : List ℕ) → new.spool.moment.image c
       → EachPart (LinksInOrder run served.log c) 0 rules doors doors' parts
-  pub order_was : (x : DeskState) → start x → OpensLegal x → (c : List ℕ) → new.spool.moment.image_since began.clock c
+  pub order_was : (x : DeskState) → start x → OpensLegal x → (c : List ℕ) → new.spool.moment.image_since began.moment.clock c
       → EachPart (LinksBeginInOrder c) 0 rules doors doors' parts
   -- Nothing is left where the last look found nothing or its session was acknowledged to the end; so at the note `Fine`, where there
   -- is a place to forward to.
@@ -186,5 +187,6 @@ pub record Promises {tells : Type 0} {start : DeskState → Type 0} {run seats t
       → (s : SpoolState) × StandsFor s c × HasSent destination (looks_of served) x served.log s
   pub known : (x : DeskState) (is : start x) (c : List ℕ) (image : new.spool.moment.image c)
       → let found = sessions x is c image in KnowsOnlyTold destination (looks_of served) x served.log found.0 found.2
-  -- At most as many connections ended since the disk failed as calls of the disk did.
-  pub disk_faults : Rose (sum_by (λ part. how_many by_disk (links_of part)) parts) began.faults new.spool.moment.faults
+  -- At most as many connections ended since the disk failed as calls of the disk did. Where takes of several workers may be stored as
+  -- one group, one call may end a connection of each of them: then it is so at each worker.
+  pub disk_faults : CountsEnded began.grouped parts began.moment.faults new.spool.moment.faults

@@ -30,8 +30,9 @@ use std::sync::Wait;
 use std::thread::Threads;
 
 // Runs the server over a desk that has a name, by which the passes of workers and forwarder are passes of this desk and no other. The
-// disk as it was before the opening stands in the proof alone, which says by it which name that is. The error is want of memory before
-// a worker began, and gives back the desk and the posts as they were.
+// disk as it was before the opening stands in the proof alone, which says by it which name that is. With `group` takes of several
+// workers may be stored as one group. The error is want of memory before a worker began, and gives back the desk and the posts as they
+// were.
 fn run_named<
     D: Disk + Drop + Send,
     N: Net + Send,
@@ -42,6 +43,7 @@ fn run_named<
     alloc: Global,
     _before: Snapshot<D>,
     unnamed: Unnamed<D>,
+    group: bool,
     posts: Vec<Post<N::P>>,
     talks: u32,
     destination: Option<&Destination>,
@@ -55,6 +57,7 @@ where
     requires few { vec_len posts ≤ 64 }
     requires talks { talks ≤ 2 ^ 26 }
     requires polls { IfSome destination (λ d. 0 < d.now.outward.polls) }
+    requires group { group ≡ J.began.grouped }
     requires name { IsName J.table J.run J.start J.began unnamed }
     requires says { (i : ℕ) (post : _) → slice_get posts.items i ≡ Some post
         → MayAnswer (IsReal ⟦<D as Disk>⟧ J.start J.run J.seats J.began) J.start (first_conn J.run i) (N.P.permits post.door) post.rules }
@@ -70,7 +73,7 @@ where
         × ((none.desk ≡ unnamed.alone.desk) ⊎ HasNotServed D.tells J.start J.run J.seats J.began (desk_at none.desk))) }
 {
     let seats = posts.len() as u32 + 1;
-    let opened = match unnamed.named::<J>(alloc, seats) {
+    let opened = match unnamed.named::<J>(alloc, seats, group) {
         Ok(opened) => opened,
         Err(NoShare { desk }) => return Err(Unserved { desk, posts }),
     };
@@ -78,8 +81,9 @@ where
 }
 
 /// Runs the server over a spool that was opened for storing, from a disk as it was `before`: a worker at each of the doors, which ends
-/// after `talks` connections at the latest, and a forwarder beside them where there is a destination. The result has the desk, the
-/// doors, what the workers report, and what came of the forwarder's last look.
+/// after `talks` connections at the latest, and a forwarder beside them where there is a destination. With `group` takes of several
+/// workers may be stored as one group. The result has the desk, the doors, what the workers report, and what came of the forwarder's
+/// last look.
 ///
 /// The error is want of memory before a worker began, and gives back the desk and the posts as they were.
 pub(crate) fn run_over<D: Disk + Drop + Send, N: Net + Send, R: Threads + Wait + Sync>(
@@ -87,6 +91,7 @@ pub(crate) fn run_over<D: Disk + Drop + Send, N: Net + Send, R: Threads + Wait +
     alloc: Global,
     before: Snapshot<D>,
     spool: Spool<D>,
+    group: bool,
     posts: Vec<Post<N::P>>,
     talks: u32,
     destination: Option<&Destination>,
@@ -108,7 +113,7 @@ where
         (HasExchangedAt N.L.same N.L.dialed N.L.given N.L.taken d.now.place) D.may_release) }
 
     ensures many { IfOk result (λ served. (vec_len served.doors ≡ vec_len posts) × (vec_len served.reports ≡ vec_len posts)) }
-    ensures over { IfOk result (λ served. RunsOver D.tells (D.moment before.value) (D.moment served.desk.spool.disk) talks
+    ensures over { IfOk result (λ served. RunsOver D.tells (D.moment before.value) (D.moment served.desk.spool.disk) group talks
         (map (λ (post : _). post.rules) posts.items) (map (λ (post : _). N.P.told post.door) posts.items)
         (map (λ (door : _). N.P.told door) served.doors.items) served.reports.items (option_copied destination.entry)
         (N.told net.old) (N.told net.new) served.last served.desk.spool.memory served.desk.spool.doubt) }
@@ -123,6 +128,7 @@ where
             alloc,
             before,
             unnamed,
+            group,
             posts,
             talks,
             destination,

@@ -97,6 +97,7 @@ fn serve_posts<D: Disk + Drop + Send, K: Sink, N: Net + Send, R: Threads + Wait 
     alloc: Global,
     before: Snapshot<D>,
     spool: Spool<D>,
+    group: bool,
     posts: Posts<N::P>,
     talks: u32,
     destination: Option<Destination>,
@@ -129,7 +130,7 @@ where
     ensures ran { (IsUnserved D.tells (D.moment before.value) (D.moment result.disk) (N.told net.old) (N.told net.new)
         (K.taken output.old) (K.taken output.new) result.note × (net.new ≡ net.old)
         × (result.doors.items ≡ map (λ (post : _). post.door) posts.posts.items))
-        ⊎ IsRunAt talks destination D.tells (D.moment before.value) (D.moment result.disk) (N.told net.old) (N.told net.new)
+        ⊎ IsRunAt group talks destination D.tells (D.moment before.value) (D.moment result.disk) (N.told net.old) (N.told net.new)
         (map (λ (post : _). post.rules) posts.posts.items) (map (λ (post : _). N.P.told post.door) posts.posts.items)
         (map (λ (door : _). N.P.told door) result.doors.items)
         (K.write_faults output.old) (K.write_faults output.new) (K.taken output.old) (K.taken output.new) result.note }
@@ -141,6 +142,7 @@ where
         alloc,
         before,
         spool,
+        group,
         posts,
         talks,
         destination.as_ref(),
@@ -225,6 +227,7 @@ where
             alloc,
             before,
             spool,
+            server.group,
             posts,
             server.talks,
             destination_of(server.forward),

@@ -1,6 +1,8 @@
 //! `serve` over doors in memory: what it prints, and what each call that fails leaves.
 
-use crate::failing::{DISK, Failing, NET, OUTPUT, PEER_READ, PEER_WRITE, READ, calls_of, net};
+use crate::failing::{
+    DISK, Failing, NET, OUTPUT, PEER_READ, PEER_WRITE, READ, WRITE, calls_of, net,
+};
 use crate::parts::MEMORY;
 use crate::places::{EVENTS, GROUPED, WORDS};
 use crate::play::{Left, formatted, made, plain};
@@ -34,6 +36,8 @@ pub(crate) struct Sessions {
 #[derive(Drop)]
 pub(crate) struct Served {
     pub left: Left,
+    /// Whether it was one with `--group`.
+    pub is_grouped: bool,
     pub sessions: Sessions,
     /// The events that are pending, a line each.
     pub pending: Vec<u8>,
@@ -76,13 +80,14 @@ fn comes_next(failing: Failing, left: &mut Left) -> bool {
     false
 }
 
-// A run with these words in which that call fails.
+// A run in which that call fails, with `--group` or without it.
 fn run<R: Abort + Threads + Wait + Sync>(
     rt: &R,
     alloc: Global,
-    words: &str,
+    is_grouped: bool,
     failing: Failing,
 ) -> Served {
+    let words = if is_grouped { GROUPED } else { WORDS };
     let device = formatted(rt, alloc);
     let mut left = made(
         rt,
@@ -98,6 +103,7 @@ fn run<R: Abort + Threads + Wait + Sync>(
     Served {
         sessions: sessions_of(rt, alloc, &left.net),
         left,
+        is_grouped,
         pending: list.output.taken().to_vec(alloc).expect(rt, MEMORY),
         comes_next,
     }
@@ -201,37 +207,46 @@ fn is_right(rt: &impl Abort, alloc: Global, object: usize, number: u64, run: &Se
     is_told && are_kept(run) && is_printed(rt, alloc, object, number, run)
 }
 
-// How many calls each run makes of each object, at least, and at most; in the order of their numbers. Of the peer these are the one
+// How many calls each run makes of each object, at least and at most; in the order of their numbers. Of the peer these are the one
 // read of a session, and the writes of its open, its events and its close; of the net three binds, and a dial for each session, which
-// confirms an event at least; of the disk those of an opening and of four groups, and at most those of seven sessions besides. Last, how
-// many fewer they are with `--group`: one read brings both events of RELP, which are one group then, and their answers are one write.
-const CALLS: [(&str, u64, u64, u64); 14] = [
-    ("accept at r", 1, 1, 0),
-    ("accept at l", 1, 1, 0),
-    ("accept at h", 1, 1, 0),
-    ("read at r", 2, 2, 0),
-    ("read at l", 2, 2, 0),
-    ("read at h", 3, 3, 0),
-    ("write at r", 3, 3, 1),
-    ("write at l", 1, 1, 0),
-    ("write at h", 1, 1, 0),
-    ("read of the peer", 1, 1, 0),
-    ("write to the peer", 3, 9, 0),
-    ("net", 4, 10, 0),
-    ("output", 1, 1, 0),
-    ("disk", 30, 160, 4),
+// confirms an event at least; of the disk those of an opening and of four groups, and at most those of seven sessions besides.
+const CALLS: [(&str, u64, u64); 14] = [
+    ("accept at r", 1, 1),
+    ("accept at l", 1, 1),
+    ("accept at h", 1, 1),
+    ("read at r", 2, 2),
+    ("read at l", 2, 2),
+    ("read at h", 3, 3),
+    ("write at r", 3, 3),
+    ("write at l", 1, 1),
+    ("write at h", 1, 1),
+    ("read of the peer", 1, 1),
+    ("write to the peer", 3, 9),
+    ("net", 4, 10),
+    ("output", 1, 1),
+    ("disk", 30, 160),
 ];
+
+// How many calls fewer that are with `--group`, of what is made at least and at most. One read brings both events of RELP, which are one
+// group then, and their answers are one write; and the groups of the three places may be one.
+fn fewer_grouped(object: usize) -> (u64, u64) {
+    match object {
+        WRITE => (1, 1),
+        DISK => (12, 4),
+        _ => (0, 0),
+    }
+}
 
 // Whether a run in which that call fails left what it has to, and made the call or not as the counts say.
 fn is_right_failing<R: Abort + Threads + Wait + Sync>(
     rt: &R,
     alloc: Global,
-    words: &str,
+    is_grouped: bool,
     (object, number): (usize, u64),
     least: u64,
     most: u64,
 ) -> bool {
-    let run = run(rt, alloc, words, Some((object, number)));
+    let run = run(rt, alloc, is_grouped, Some((object, number)));
     let is_counted = if is_reached(object, &run) {
         number < most
     } else {
@@ -240,26 +255,26 @@ fn is_right_failing<R: Abort + Threads + Wait + Sync>(
     is_right(rt, alloc, object, number, &run) && is_counted
 }
 
-// One call after another of each object fails in runs with these words, until one is none of the run's.
-fn serve_by<R: Abort + Threads + Wait + Sync>(
-    rt: &R,
-    alloc: Global,
-    words: &str,
-    is_grouped: bool,
-) {
-    assert!(rt; is_whole(&run(rt, alloc, words, None)));
-    for (object, (name, least, most, fewer)) in CALLS.iter().enumerate() {
-        let fewer = if is_grouped { *fewer } else { 0 };
-        let (least, most) = (least.saturating_sub(fewer), most.saturating_sub(fewer));
+// One call after another of each object fails, until one is none of the run's.
+fn serve_by<R: Abort + Threads + Wait + Sync>(rt: &R, alloc: Global, is_grouped: bool) {
+    assert!(rt; is_whole(&run(rt, alloc, is_grouped, None)));
+    for (object, (name, least, most)) in CALLS.iter().enumerate() {
+        let (least_fewer, most_fewer) = if is_grouped {
+            fewer_grouped(object)
+        } else {
+            (0, 0)
+        };
+        let least = least.saturating_sub(least_fewer);
+        let most = most.saturating_sub(most_fewer);
         for number in 0..=most {
-            let is_right = is_right_failing(rt, alloc, words, (object, number), least, most);
-            assert!(rt; is_right, "{name} {number} of {words}");
+            let is_right = is_right_failing(rt, alloc, is_grouped, (object, number), least, most);
+            assert!(rt; is_right, "{name} {number}, group {is_grouped}");
         }
     }
 }
 
 /// One call after another of each object fails, until one is none of the run's; where events are stored one by one, and together.
 pub(crate) fn serve_places<R: Abort + Threads + Wait + Sync>(rt: &R, alloc: Global) {
-    serve_by(rt, alloc, WORDS, false);
-    serve_by(rt, alloc, GROUPED, true);
+    serve_by(rt, alloc, false);
+    serve_by(rt, alloc, true);
 }

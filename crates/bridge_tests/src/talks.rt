@@ -71,9 +71,9 @@ fn ends_talk(place: &Place, door: &MemDoor, status: Option<u8>) -> bool {
 }
 
 /// Whether each talk ended as it has to where that call fails; there is none where its accept fails. One call of the disk may end one
-/// talk, whichever made it.
+/// talk, whichever made it; with `--group` it may end each talk of which a group was stored with it.
 pub(crate) fn talks_end(object: usize, run: &Served) -> bool {
-    let mut has_fault = object != DISK;
+    let mut may_fault = object == DISK;
     let doors = run.left.doors.as_slice();
     for number in 0..doors.len() {
         let Some(place) = PLACES.get(number) else {
@@ -91,10 +91,10 @@ pub(crate) fn talks_end(object: usize, run: &Served) -> bool {
         if ends_talk(place, &doors[number], status) {
             continue;
         }
-        if has_fault || !ends_talk(place, &doors[number], Some(73)) {
+        if !may_fault || !ends_talk(place, &doors[number], Some(73)) {
             return false;
         }
-        has_fault = true;
+        may_fault = run.is_grouped;
     }
     true
 }

@@ -1,6 +1,6 @@
 -- Numbers of one to ten digits.
 use Rattle.std.proofs.Common.{◌≡◌, ◌∙◌, ℕ, ◌^◌, ◌<◌, ◌≤◌, [], ◌∷◌, length, get_or, true≢false, refl, sym, ap, subst, arith, lt-ltb, ltb-true}
-use Rattle.std.specs.Prelude.{Bool, true, false, cond, nat_lt, None, Some}
+use Rattle.std.specs.Prelude.{Bool, true, false, cond, nat_lt, nat_le, ◌&&◌, if◌then◌else◌, Option, None, Some, option_and_then}
 use Rattle.std.specs.List.{list_all}
 use Rattle.std.specs.Char.{digit_value}
 use Rattle.std.specs.Str.Parse.{AllDigits, IsNumeral, digits_value}
@@ -8,7 +8,7 @@ use Rattle.std.proofs.lemmas.Bool.{and_parts}
 use Rattle.std.proofs.lemmas.Int.Digits.{digits_value-lt}
 use Rattle.std.proofs.Math.Nat.{pow-le-pow_right}
 use Rattle.clap.specs.Walk.{Text}
-use Rattle.bridge_words.specs.Values.{is_number, number}
+use Rattle.bridge_words.specs.Values.{is_number, number, number_within}
 use borrow.Author.Tests.{leb-true, le-leb}
 
 digits_pass : (text : Text) → AllDigits 10 text → list_all (λ d. nat_lt (digit_value d) 10) text ≡ true
@@ -51,3 +51,14 @@ fits text h few =
     let below : digits_value 10 text < 10 ^ length text = digits_value-lt 10 text h.1 in
     let most : 10 ^ length text ≤ 10 ^ 10 = pow-le-pow_right {n = 10} (omega arith) few in
     omega arith
+
+-- a number in a range is no more than the most
+pub within : (least most : ℕ) (text : Text) (n : ℕ) → number_within least most text ≡ Some n → n ≤ most
+within least most text n is = by (number text) is where
+  chosen : (m : ℕ) (b : Bool) → (nat_le least m && nat_le m most) ≡ b → cond b (Some m) None ≡ Some n → n ≤ most
+  chosen m true e at = let same : m ≡ n = cc in subst (λ (k : ℕ). k ≤ most) same (leb-true _ _ (and_parts _ _ e).1)
+  chosen m false e at = absurd (cc)
+
+  by : (o : Option ℕ) → option_and_then (λ m. if nat_le least m && nat_le m most then Some m else None) o ≡ Some n → n ≤ most
+  by None at = absurd (cc)
+  by (Some m) at = chosen m (nat_le least m && nat_le m most) refl at

@@ -10,7 +10,7 @@ use Rattle.bridge_words.specs.declared.command.Relay.{Relay}
 use Rattle.bridge_words.specs.declared.command.Server.{Server}
 use Rattle.bridge_words.specs.declared.command.Command.TheVariants.{Format, List as ListCommand, Replay, Drain, Load, Serve}
 use Rattle.bridge_words.specs.declared.reading.Unread.{Unread}
-use Rattle.bridge_words.specs.Words.{IsSize, IsServe, IsCommandBy, IsNamed, IsCommand, name_of}
+use Rattle.bridge_words.specs.Words.{IsSize, IsServe, IsCommandBy, IsNamed, IsCommand, IsNoCommand, IsPair, IsMove, name_of}
 
 -- texts that a test tells apart are apart
 pub apart : (a b : Text) → bytes_eq a b ≡ false → a ≡ b → ⊥
@@ -88,3 +88,32 @@ one_command c d words x y =
 -- the spool that words ask for is one of a size that there is
 pub sized : (command : Command) (words : List Text) → IsCommand command words → (slots size : ℕ) → command ≡ Format slots size → IsSize slots size
 sized command words is slots size at = (subst (λ (c : Command). IsCommandBy c is.rows) at is.asks).in_range
+
+-- ---- a move
+
+-- no command has its name
+pub no_move_name : (command : Command) → name_of command ≡ codes "move" → ⊥
+no_move_name (Format slots size) is = apart _ _ refl is
+no_move_name (ListCommand form) is = apart _ _ refl is
+no_move_name (Replay proto token ack_token) is = apart _ _ refl is
+no_move_name (Drain receiver place) is = apart _ _ refl is
+no_move_name (Load proto number count) is = apart _ _ refl is
+no_move_name (Serve server) is = apart _ _ refl is
+
+pub move_is_no_command : (target : Text) (tag : ℕ) (words : List Text) → IsMove target tag words → IsNoCommand words
+move_is_no_command target tag words move command is =
+    let both : ◌≡◌ {A = Option (Text × List Row)} (Some (name_of command, is.rows)) (Some (codes "move", move.rows)) = sym is.found ∙ move.found in
+    no_move_name command (same_name _ _ _ _ both)
+
+same_pair : (a b : Text) (m n : ℕ) (words : List Text) → IsMove a m words → (is : IsMove b n words) → IsPair a m is.rows
+same_pair a b m n words x y =
+    let both : ◌≡◌ {A = Option (Text × List Row)} (Some (codes "move", x.rows)) (Some (codes "move", y.rows)) = sym x.found ∙ y.found in
+    subst (IsPair a m) (same_rows _ _ _ _ both) x.asks
+
+pub one_target : (a b : Text) (m n : ℕ) (words : List Text) → IsMove a m words → IsMove b n words → a ≡ b
+one_target a b m n words x y =
+    let p = (same_pair a b m n words x y).target_is in let q = y.asks.target_is in cc
+
+pub one_tag : (a b : Text) (m n : ℕ) (words : List Text) → IsMove a m words → IsMove b n words → m ≡ n
+one_tag a b m n words x y =
+    let p = (same_pair a b m n words x y).tag_is in let q = y.asks.tag_is in cc

@@ -1,5 +1,5 @@
 -- How options may be spelt, as the words of clap have it: computed for words of which the values are any.
-use Rattle.std.proofs.Common.{◌≡◌, ℕ, List, [], ◌∷◌, ◌++◌, refl, ap, inl, codes, arith}
+use Rattle.std.proofs.Common.{◌≡◌, ℕ, List, [], ◌∷◌, ◌++◌, refl, ap, inl, inr, codes, arith}
 use Rattle.std.specs.Prelude.{Bool, true, false, Option, None, Some, option_map, Result, Ok}
 use Rattle.std.specs.Option.{ok_or, option_map_or}
 use Rattle.clap.specs.Walk.{Row, Text}
@@ -13,8 +13,12 @@ use Rattle.bridge_words.specs.declared.command.Receiver.TheVariants.{Relp as ToR
 use Rattle.bridge_words.specs.declared.fault.WordsFault.{WordsFault}
 use Rattle.bridge_words.specs.declared.fault.WordsFault.TheVariants as wrong
 use Rattle.bridge_words.specs.Grammar.{refusals, named}
-use Rattle.bridge_words.specs.Values.{value_of, guid, relp_in, lumberjack_in, hec_in, workers_in, talks_in, token_in, ack_token_in, group_in}
-use Rattle.bridge_words.specs.Words.{IsCommand, IsNoCommand, IsServe, relp_server, relay_in}
+use Rattle.bridge_words.specs.Values.{value_of, number_within, guid, relp_in, lumberjack_in, hec_in, workers_in, talks_in, token_in, ack_token_in, group_in}
+use Rattle.bridge_words.specs.Wrong.IsWrong.{found}
+use Rattle.bridge_words.specs.Wrong.WrongBy.{in_move}
+use Rattle.bridge_words.specs.Words.{IsCommand, IsNoCommand, IsServe, IsMove, IsNoMove, relp_server, relay_in}
+use Rattle.bridge_words.proofs.Numbers.{within}
+use Rattle.bridge_words.proofs.Wrongs.{wrong_is_no_move}
 
 -- what was found of the words
 abbrev rows_of_words : List Text → List Row
@@ -26,6 +30,10 @@ token_or number = ok_or (option_map Some number) wrong.Token
 
 abbrev ack_token_or : Option ℕ → Result (Option ℕ) WordsFault
 ack_token_or number = ok_or (option_map Some number) wrong.AckToken
+
+-- a tag that is read
+abbrev tag_or : Option ℕ → Result ℕ WordsFault
+tag_or number = ok_or number wrong.Tag
 
 abbrev joined_words : Text → Text → List Text
 joined_words t a = codes "replay" ∷ codes "hec" ∷ (codes "--token=" ++ t) ∷ (codes "--ack-token=" ++ a) ∷ []
@@ -145,3 +153,26 @@ grouped_twice place = refused _ kind.ArgumentConflict [] refl
 pub grouped_by : (place value : Text) → IsNoCommand (codes "serve" ∷ relp_words place ∷ (codes "--group=" ++ value) ∷ [])
 unfolding refusals clap_on_literals
 grouped_by place value = refused _ kind.TooManyValues [] refl
+
+-- ---- `move`
+
+abbrev move_words : Text → Text → List Text
+move_words target t = codes "move" ∷ codes "--" ∷ target ∷ t ∷ []
+
+pub moves : (target t : Text) (tag : ℕ) → number_within 0 4294967295 t ≡ Some tag → IsMove target tag (move_words target t)
+unfolding refusals named value_of clap_on_literals
+moves target t tag is = record {
+  rows = rows_of_words (move_words target t);
+  taken = refl;
+  found = refl;
+  asks = record { target_is = refl; tag_is = ap tag_or is; small = within 0 4294967295 t tag is };
+}
+
+pub no_tag : (target t : Text) → number_within 0 4294967295 t ≡ None → IsNoMove (move_words target t)
+unfolding refusals named value_of clap_on_literals
+no_tag target t none = wrong_is_no_move wrong.Tag (move_words target t)
+    (found (codes "move") (rows_of_words (move_words target t)) refl (in_move refl (inr (ap tag_or none))))
+
+pub moves_both : (target : Text) → IsNoMove (codes "move" ∷ codes "--" ∷ target ∷ [])
+unfolding refusals clap_on_literals
+moves_both target into tag c = let none = c.taken in absurd (cc)

@@ -1,5 +1,5 @@
 -- Words with which something is wrong are no command.
-use Rattle.std.proofs.Common.{◌≡◌, ◌∙◌, ◌⊎◌, inl, inr, ℕ, List, refl, sym, subst}
+use Rattle.std.proofs.Common.{◌≡◌, ◌∙◌, ◌⊎◌, inl, inr, ℕ, List, refl, sym, subst, codes}
 use Rattle.std.specs.Prelude.{Option, None, Some, Result, Ok, Err}
 use Rattle.clap.specs.Walk.{Row, Text}
 use Rattle.clap.specs.Kinds.{IsAmong}
@@ -13,11 +13,11 @@ use Rattle.bridge_words.specs.declared.command.Server.{Server}
 use Rattle.bridge_words.specs.declared.fault.WordsFault.{WordsFault}
 use Rattle.bridge_words.specs.declared.reading.Unread.TheVariants.{Wrong}
 use Rattle.bridge_words.specs.Grammar.{refusals}
-use Rattle.bridge_words.specs.Words.{IsFormat, IsReplay, IsDrain, IsLoad, HasDoor, AreDoors, IsServe, IsCommandBy, IsNoCommand, name_of}
-use Rattle.bridge_words.specs.Wrong.{fault_for, unread_for, WrongFormat, WrongReplay, WrongDrain, WrongLoad, WrongDoors, WrongServe, WrongBy, IsWrong}
-use Rattle.bridge_words.specs.Wrong.WrongBy.{no_name, in_format, in_list, in_replay, in_drain, in_load, in_serve}
+use Rattle.bridge_words.specs.Words.{IsFormat, IsReplay, IsDrain, IsLoad, HasDoor, AreDoors, IsServe, IsCommandBy, IsNoCommand, IsPair, IsNoMove, name_of}
+use Rattle.bridge_words.specs.Wrong.{fault_for, unread_for, WrongFormat, WrongReplay, WrongDrain, WrongLoad, WrongDoors, WrongServe, WrongMove, WrongBy, IsWrong}
+use Rattle.bridge_words.specs.Wrong.WrongBy.{no_name, in_format, in_list, in_replay, in_drain, in_load, in_serve, in_move}
 use Rattle.bridge_words.specs.Wrong.IsWrong.{refused, nameless, found}
-use Rattle.bridge_words.proofs.Once.{apart, same_name, same_rows}
+use Rattle.bridge_words.proofs.Once.{apart, no_move_name, same_name, same_rows}
 
 -- what is read is not wrong
 never : {A : Type 0} (r : Result A WordsFault) (x : A) (w : WordsFault) → r ≡ Ok x → r ≡ Err w → ⊥
@@ -63,7 +63,7 @@ no_serve w rows server (inr (inr (inr (inr (inl h))))) is = never _ _ _ is.ack_t
 no_serve w rows server (inr (inr (inr (inr (inr h))))) is = never _ _ _ is.forward_is h
 
 wrong_by : (name : Text) (w : WordsFault) (rows : List Row) (command : Command) → WrongBy name w rows → name_of command ≡ name → IsCommandBy command rows → ⊥
-wrong_by name w rows command (no_name none is) at asks = none command at
+wrong_by name w rows command (no_name none other is) at asks = none command at
 wrong_by name w rows (Format slots size) (in_format is h) at asks = no_format w rows slots size h asks
 wrong_by name w rows command (in_format is h) at asks = apart (name_of command) _ refl (at ∙ is)
 wrong_by name w rows (ListCommand form) (in_list is h) at asks = never _ _ _ asks h
@@ -76,6 +76,7 @@ wrong_by name w rows (Load proto number count) (in_load is h) at asks = no_load 
 wrong_by name w rows command (in_load is h) at asks = apart (name_of command) _ refl (at ∙ is)
 wrong_by name w rows (Serve server) (in_serve is h) at asks = no_serve w rows server h asks
 wrong_by name w rows command (in_serve is h) at asks = apart (name_of command) _ refl (at ∙ is)
+wrong_by name w rows command (in_move is h) at asks = no_move_name command (at ∙ is)
 
 pub wrong_is_none : (w : WordsFault) (words : List Text) → IsWrong w words → IsNoCommand words
 wrong_is_none w words (refused why among is) command c = subst (IsAmong why) c.taken among
@@ -83,6 +84,29 @@ wrong_is_none w words (nameless none is) command c = let both : ◌≡◌ {A = O
 wrong_is_none w words (found name rows at h) command c =
     let both : ◌≡◌ {A = Option (Text × List Row)} (Some (name_of command, c.rows)) (Some (name, rows)) = sym c.found ∙ at in
     wrong_by name w rows command h (same_name _ _ _ _ both) (subst (IsCommandBy command) (same_rows _ _ _ _ both) c.asks)
+
+-- and move nothing
+
+no_pair : (w : WordsFault) (rows : List Row) (target : Text) (tag : ℕ) → WrongMove w rows → IsPair target tag rows → ⊥
+no_pair w rows target tag (inl h) is = never _ _ _ is.target_is h
+no_pair w rows target tag (inr h) is = never _ _ _ is.tag_is h
+
+wrong_move : (name : Text) (w : WordsFault) (rows : List Row) (target : Text) (tag : ℕ) → WrongBy name w rows → codes "move" ≡ name → IsPair target tag rows → ⊥
+wrong_move name w rows target tag (no_name none other is) at asks = other (sym at)
+wrong_move name w rows target tag (in_format is h) at asks = apart (codes "move") _ refl (at ∙ is)
+wrong_move name w rows target tag (in_list is h) at asks = apart (codes "move") _ refl (at ∙ is)
+wrong_move name w rows target tag (in_replay is h) at asks = apart (codes "move") _ refl (at ∙ is)
+wrong_move name w rows target tag (in_drain is h) at asks = apart (codes "move") _ refl (at ∙ is)
+wrong_move name w rows target tag (in_load is h) at asks = apart (codes "move") _ refl (at ∙ is)
+wrong_move name w rows target tag (in_serve is h) at asks = apart (codes "move") _ refl (at ∙ is)
+wrong_move name w rows target tag (in_move is h) at asks = no_pair w rows target tag h asks
+
+pub wrong_is_no_move : (w : WordsFault) (words : List Text) → IsWrong w words → IsNoMove words
+wrong_is_no_move w words (refused why among is) target tag c = subst (IsAmong why) c.taken among
+wrong_is_no_move w words (nameless none is) target tag c = let both : ◌≡◌ {A = Option (Text × List Row)} None (Some (codes "move", c.rows)) = sym none ∙ c.found in absurd (cc)
+wrong_is_no_move w words (found name rows at h) target tag c =
+    let both : ◌≡◌ {A = Option (Text × List Row)} (Some (codes "move", c.rows)) (Some (name, rows)) = sym c.found ∙ at in
+    wrong_move name w rows target tag h (same_name _ _ _ _ both) (subst (IsPair target tag) (same_rows _ _ _ _ both) c.asks)
 
 -- what a kind of clap's errors says, where it isn't for want of memory
 fault_is : (why : ErrorKind) (w : WordsFault) → unread_for why ≡ Wrong w → w ≡ fault_for why

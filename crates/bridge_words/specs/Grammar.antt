@@ -54,6 +54,10 @@ serve_app =
     (option (codes "talks") (option (codes "workers")
     (option (codes "hec") (option (codes "lumberjack") (option (codes "relp") (new_app (codes "serve"))))))))))))))
 
+-- `move TARGET TAG`
+abbrev pub move_app : App
+move_app = needs (codes "tag") (needs (codes "target") (new_app (codes "move")))
+
 -- one command is named, no word is `help`, and there is no option but the commands' own
 abbrev pub top_app : App
 top_app = let app = new_app (codes "bridge") in
@@ -69,8 +73,8 @@ top_app = let app = new_app (codes "bridge") in
 
 abbrev pub bridge_app : App
 bridge_app =
-    with_subcommand (with_subcommand (with_subcommand (with_subcommand (with_subcommand (with_subcommand top_app
-    format_app.top) list_app.top) replay_app.top) drain_app.top) load_app.top) serve_app.top
+    with_subcommand (with_subcommand (with_subcommand (with_subcommand (with_subcommand (with_subcommand (with_subcommand top_app
+    format_app.top) list_app.top) replay_app.top) drain_app.top) load_app.top) serve_app.top) move_app.top
 
 -- the command line is this one, and none of its arguments is of all commands
 pub record IsApp (app : App) (c : Command) : Type 0 where

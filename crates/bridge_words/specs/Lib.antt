@@ -1,5 +1,6 @@
 pub mod Grammar
 pub mod Values
 pub mod Words
+pub mod Asked
 pub mod Wrong
 pub mod Lines

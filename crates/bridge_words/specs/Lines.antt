@@ -13,6 +13,10 @@ spool_line slots size = decimal slots ++ (codes " slots of " ++ (decimal size ++
 abbrev pub drain_line : ℕ → ℕ → List ℕ
 drain_line confirmed left = decimal confirmed ++ (codes " confirmed, " ++ (decimal left ++ (codes " left" ++ 10 ∷ [])))
 
+-- what is printed of entries that were moved into another spool: how many were, and how many are left
+abbrev pub move_line : ℕ → ℕ → List ℕ
+move_line moved left = decimal moved ++ (codes " moved, " ++ (decimal left ++ (codes " left" ++ 10 ∷ [])))
+
 -- what is printed of a server that ended: how many connections were served to their end, how many entries were taken, how
 -- many were confirmed, and how many are left
 abbrev pub serve_line : ℕ → ℕ → ℕ → ℕ → List ℕ

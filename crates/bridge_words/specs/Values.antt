@@ -125,6 +125,13 @@ number_in rows = must_be wrong.Number (number_within 0 2147483647) (value_of (co
 abbrev pub count_in : List Row → Result ℕ WordsFault
 count_in rows = must_be wrong.Count (number_within 0 100000) (value_of (codes "count") rows)
 
+-- TARGET, which is any text, and TAG
+abbrev pub target_in : List Row → Result Text WordsFault
+target_in rows = must_be wrong.MissingWord Some (value_of (codes "target") rows)
+
+abbrev pub tag_in : List Row → Result ℕ WordsFault
+tag_in rows = must_be wrong.Tag (number_within 0 4294967295) (value_of (codes "tag") rows)
+
 -- the value of `--as`
 abbrev pub form_in : List Row → Result ListForm WordsFault
 form_in rows = is_else form.Plain wrong.Form form_at (value_of (codes "as") rows)

@@ -11,9 +11,9 @@ use Rattle.bridge_words.specs.declared.command.Receiver.{Receiver}
 use Rattle.bridge_words.specs.declared.command.Receiver.TheVariants.{Hec as ToHec}
 use Rattle.bridge_words.specs.declared.fault.WordsFault.{WordsFault}
 use Rattle.bridge_words.specs.declared.need.Need.{Need}
-use Rattle.bridge_words.specs.declared.need.Need.TheVariants.{NoCommand, Nothing, Existing, Make}
+use Rattle.bridge_words.specs.declared.need.Need.TheVariants.{NoCommand, Nothing, Existing, Make, Pair}
 use Rattle.bridge_words.specs.Grammar.{refusals, named}
-use Rattle.bridge_words.specs.Values.{slots_in, size_in, proto_in, place_in, number_in, count_in, form_in, token_in, ack_token_in, out_token_in, out_channel_in, polls_in, receiver_of}
+use Rattle.bridge_words.specs.Values.{slots_in, size_in, proto_in, place_in, number_in, count_in, form_in, token_in, ack_token_in, out_token_in, out_channel_in, polls_in, receiver_of, target_in, tag_in}
 use Rattle.bridge_words.specs.Values.{relp_in, lumberjack_in, hec_in, workers_in, talks_in, group_in, forward_in, to_in, relay_of}
 
 -- ---- the table
@@ -165,6 +165,30 @@ IsNoCommand words = (command : Command) → IsCommand command words → ⊥
 abbrev pub IsSomeCommand : List Text → Type 0
 IsSomeCommand words = (command : Command) × IsCommand command words
 
+-- ---- two spools
+
+-- `move TARGET TAG`
+pub record IsPair (target : Text) (tag : ℕ) (rows : List Row) : Type 0 where
+  pub target_is : target_in rows ≡ Ok target
+  pub tag_is : tag_in rows ≡ Ok tag
+  pub small : tag ≤ 4294967295
+
+-- The words move the pending entries of one spool into another, which is this target, under this tag. They are no command, which has
+-- one spool at most: clap refuses none of them, and what it finds under the name `move` asks for it.
+pub record IsMove (target : Text) (tag : ℕ) (words : List Text) : Type 0 where
+  pub rows : List Row
+  pub taken : refusals words ≡ []
+  pub found : named words ≡ Some (codes "move", rows)
+  pub asks : IsPair target tag rows
+
+-- the words move nothing
+abbrev pub IsNoMove : List Text → Type 0
+IsNoMove words = (target : Text) (tag : ℕ) → IsMove target tag words → ⊥
+
+-- and something
+abbrev pub IsSomeMove : List Text → Type 0
+IsSomeMove words = (target : Text) × (tag : ℕ) × IsMove target tag words
+
 -- ---- the device
 
 -- A `format` wants a device of its length, made where there is none; a `load` wants none; the others one that exists.
@@ -176,6 +200,9 @@ need_for (Drain receiver place) = Existing
 need_for (Load proto number count) = Nothing
 need_for (Serve server) = Existing
 
--- the words want this
+-- The words want this: those of a command what it wants, those of a move FILE and its target, and all others nothing.
 abbrev pub IsNeed : List Text → Need → Type 0
-IsNeed words need = ((need ≡ NoCommand) × IsNoCommand words) ⊎ ((command : Command) × IsCommand command words × (need ≡ need_for command))
+IsNeed words need =
+    ((need ≡ NoCommand) × IsNoCommand words × IsNoMove words)
+    ⊎ (((command : Command) × IsCommand command words × (need ≡ need_for command))
+    ⊎ ((target : Text) × (tag : ℕ) × IsMove target tag words × (need ≡ Pair target tag)))

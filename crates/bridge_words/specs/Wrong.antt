@@ -1,4 +1,4 @@
--- What is wrong with words that are no command, and the text for it.
+-- What is wrong with words that are no command and move nothing, and the text for it.
 use Rattle.std.specs.Prelude.{◌≡◌, ◌⊎◌, List, None, Some, Ok, Err, codes}
 use Rattle.clap.specs.Walk.{Row, Text}
 use Rattle.clap.specs.Kinds.{IsAmong}
@@ -11,7 +11,7 @@ use Rattle.bridge_words.specs.declared.reading.Unread.{Unread}
 use Rattle.bridge_words.specs.declared.reading.Unread.TheVariants.{NoMemory, Wrong}
 use Rattle.bridge_words.specs.Grammar.{refusals, named}
 use Rattle.bridge_words.specs.Values.{slots_in, size_in, proto_in, place_in, number_in, count_in, form_in, token_in, ack_token_in}
-use Rattle.bridge_words.specs.Values.{relp_in, lumberjack_in, hec_in, workers_in, talks_in}
+use Rattle.bridge_words.specs.Values.{relp_in, lumberjack_in, hec_in, workers_in, talks_in, target_in, tag_in}
 use Rattle.bridge_words.specs.Words.{name_of, receiver_in, relay_in}
 
 -- what a kind of clap's errors says of the words
@@ -58,15 +58,19 @@ WrongDoors w rows = (relp_in rows ≡ Err w) ⊎ ((lumberjack_in rows ≡ Err w)
 abbrev pub WrongServe : WordsFault → List Row → Type 0
 WrongServe w rows = WrongDoors w rows ⊎ ((workers_in rows ≡ Err w) ⊎ ((talks_in rows ≡ Err w) ⊎ ((token_in rows ≡ Err w) ⊎ ((ack_token_in rows ≡ Err w) ⊎ (relay_in rows ≡ Err w)))))
 
--- there is no command of this name, or what was found of its words is wrong by this
+abbrev pub WrongMove : WordsFault → List Row → Type 0
+WrongMove w rows = (target_in rows ≡ Err w) ⊎ (tag_in rows ≡ Err w)
+
+-- there is no command of this name, and it isn't `move`; or what was found of its words is wrong by this
 pub data WrongBy (name : Text) (w : WordsFault) (rows : List Row) : Type 0 where
-  no_name : ((command : Command) → name_of command ≡ name → ⊥) → w ≡ fault.UnknownWord → WrongBy name w rows
+  no_name : ((command : Command) → name_of command ≡ name → ⊥) → (name ≡ codes "move" → ⊥) → w ≡ fault.UnknownWord → WrongBy name w rows
   in_format : name ≡ codes "format" → WrongFormat w rows → WrongBy name w rows
   in_list : name ≡ codes "list" → WrongList w rows → WrongBy name w rows
   in_replay : name ≡ codes "replay" → WrongReplay w rows → WrongBy name w rows
   in_drain : name ≡ codes "drain" → WrongDrain w rows → WrongBy name w rows
   in_load : name ≡ codes "load" → WrongLoad w rows → WrongBy name w rows
   in_serve : name ≡ codes "serve" → WrongServe w rows → WrongBy name w rows
+  in_move : name ≡ codes "move" → WrongMove w rows → WrongBy name w rows
 
 -- ---- the words
 
@@ -90,6 +94,7 @@ fault_text fault.Proto = codes "PROTO: relp, lumberjack or hec"
 fault_text fault.Place = codes "PLACE: empty"
 fault_text fault.Number = codes "NUMBER: 0 to 2147483647"
 fault_text fault.Count = codes "COUNT: 0 to 100000"
+fault_text fault.Tag = codes "TAG: 0 to 4294967295"
 fault_text fault.Form = codes "--as: relp, json or hec"
 fault_text fault.Token = codes "--token: no GUID"
 fault_text fault.AckToken = codes "--ack-token: no GUID"

@@ -3,7 +3,7 @@ ghost use Rattle.std.specs.Prelude.{◌≡◌, Ok, Some, None, map, string_bytes
 ghost use Rattle.bridge_words.specs.declared.command.Command.{Command};
 ghost use Rattle.bridge_words.specs.Words.{IsCommand, IsNoCommand};
 
-use crate::reading::{Unread, read};
+use crate::reading::{Asked, Unread, read};
 use edge_io::Proto;
 use notes::Place;
 use std::alloc::{AllocError, Global};
@@ -108,7 +108,7 @@ pub enum Command {
 }
 
 impl Command {
-    /// The command that the words are, or nothing where they are none:
+    /// The command that the words are, or nothing where they are none, as those of `move` are, which has two devices:
     ///
     /// - `format SLOTS SIZE`, with numbers of 1 to 10 decimal digits, leading zeros allowed;
     /// - `list [--as FORM]`, with the form `relp`, `json` or `hec`;
@@ -133,8 +133,8 @@ impl Command {
         ensures none { result ≡ Ok None → IsNoCommand (map string_bytes words.now) }
     {
         match read(alloc, words) {
-            Ok(command) => Ok(Some(command)),
-            Err(Unread::Wrong(_)) => Ok(None),
+            Ok(Asked::Command(command)) => Ok(Some(command)),
+            Ok(Asked::Move(_)) | Err(Unread::Wrong(_)) => Ok(None),
             Err(Unread::NoMemory) => Err(AllocError),
         }
     }

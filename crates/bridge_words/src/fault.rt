@@ -1,13 +1,13 @@
-//! What is wrong with words that are no command.
-ghost use Rattle.std.specs.Prelude.{◌≡◌, Ok, Some, None, map, string_bytes};
+//! What is wrong with words that are no command and move nothing.
+ghost use Rattle.std.specs.Prelude.{◌≡◌, ◌⊎◌, Ok, Some, None, map, string_bytes};
 ghost use Rattle.bridge_words.specs.declared.fault.WordsFault.{WordsFault};
-ghost use Rattle.bridge_words.specs.Words.{IsSomeCommand, IsNoCommand};
+ghost use Rattle.bridge_words.specs.Words.{IsSomeCommand, IsSomeMove, IsNoCommand, IsNoMove};
 ghost use Rattle.bridge_words.specs.Wrong.{IsWrong, fault_text};
 
 use crate::reading::{Unread, read};
 use std::alloc::{AllocError, Global};
 
-/// What is wrong with words that are no command.
+/// What is wrong with words that are no command and move nothing.
 #[derive(Clone, Copy, PartialEq, Eq)]
 pub enum WordsFault {
     /// No command is named.
@@ -34,6 +34,8 @@ pub enum WordsFault {
     Number,
     /// COUNT isn't 0 to 100,000.
     Count,
+    /// TAG isn't 0 to 4,294,967,295.
+    Tag,
     /// `--as` names no form.
     Form,
     /// `--token` is no GUID.
@@ -80,6 +82,7 @@ impl WordsFault {
             WordsFault::Place => "PLACE: empty",
             WordsFault::Number => "NUMBER: 0 to 2147483647",
             WordsFault::Count => "COUNT: 0 to 100000",
+            WordsFault::Tag => "TAG: 0 to 4294967295",
             WordsFault::Form => "--as: relp, json or hec",
             WordsFault::Token => "--token: no GUID",
             WordsFault::AckToken => "--ack-token: no GUID",
@@ -97,14 +100,15 @@ impl WordsFault {
     }
 }
 
-/// What is wrong with the words, or nothing where they are a command.
+/// What is wrong with the words, or nothing where they are a command or a move.
 pub fn wrong_words(alloc: Global, words: &[String]) -> Result<Option<WordsFault>, AllocError>
-    ensures none { result ≡ Ok None → IsSomeCommand (map string_bytes words.now) }
+    ensures none { result ≡ Ok None → IsSomeCommand (map string_bytes words.now) ⊎ IsSomeMove (map string_bytes words.now) }
     ensures some { (fault : WordsFault) → result ≡ Ok (Some fault) → IsNoCommand (map string_bytes words.now) }
+    ensures no_move { (fault : WordsFault) → result ≡ Ok (Some fault) → IsNoMove (map string_bytes words.now) }
     ensures wrong { (fault : WordsFault) → result ≡ Ok (Some fault) → IsWrong fault (map string_bytes words.now) }
 {
     match read(alloc, words) {
-        Ok(_command) => Ok(None),
+        Ok(_asked) => Ok(None),
         Err(Unread::Wrong(fault)) => Ok(Some(fault)),
         Err(Unread::NoMemory) => Err(AllocError),
     }

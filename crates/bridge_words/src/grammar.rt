@@ -4,7 +4,7 @@ ghost use Rattle.std.specs.Prelude.{◌≡◌, IfOk, MatchOption, None, Some, ma
 ghost use Rattle.clap.specs.Words.{FailsBy, subcommand_rows_of};
 ghost use Rattle.bridge_words.specs.Values.{rows_in};
 ghost use Rattle.clap.specs.Simple.{App, new_app, with_subcommand};
-ghost use Rattle.bridge_words.specs.Grammar.{IsApp, word, option, flag, top_app, format_app, list_app, replay_app, drain_app, load_app, serve_app, bridge_app, refusals, named};
+ghost use Rattle.bridge_words.specs.Grammar.{IsApp, word, option, flag, top_app, format_app, list_app, replay_app, drain_app, load_app, serve_app, move_app, bridge_app, refusals, named};
 
 use clap::{Arg, ArgAction, ArgMatches, Command, Error};
 use std::alloc::{AllocError, Global};
@@ -140,6 +140,15 @@ fn serve_words<'a>(alloc: Global) -> Result<Command<'a>, AllocError>
     with_option(alloc, serve, "polls")
 }
 
+// `move TARGET TAG`
+fn move_words<'a>(alloc: Global) -> Result<Command<'a>, AllocError>
+    ensures { IfOk result (IsApp move_app) }
+{
+    let pair = command_named(alloc, "move");
+    let pair = with_word(alloc, pair, "target", true);
+    with_word(alloc, pair, "tag", true)
+}
+
 // The command line without its commands.
 fn top_words<'a>(alloc: Global) -> Result<Command<'a>, AllocError>
     ensures { IfOk result (IsApp top_app) }
@@ -163,7 +172,8 @@ fn whole_words<'a>(alloc: Global) -> Result<Command<'a>, AllocError>
     let bridge = with_command(bridge, replay_words(alloc));
     let bridge = with_command(bridge, drain_words(alloc));
     let bridge = with_command(bridge, load_words(alloc));
-    with_command(bridge, serve_words(alloc))
+    let bridge = with_command(bridge, serve_words(alloc));
+    with_command(bridge, move_words(alloc))
 }
 
 /// What clap finds in the words. Its error has one of the kinds that are wrong with them, or memory ran out.

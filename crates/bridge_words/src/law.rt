@@ -5,12 +5,27 @@ ghost use Rattle.edge_io.specs.declared.proto.Proto.TheVariants.{Hec};
 ghost use Rattle.bridge_words.specs.declared.command.Command.{Command};
 ghost use Rattle.bridge_words.specs.declared.command.Command.TheVariants.{Replay, Drain, Serve};
 ghost use Rattle.bridge_words.specs.declared.command.Receiver.TheVariants.{Relp as ToRelp};
-ghost use Rattle.bridge_words.specs.Values.{guid};
-ghost use Rattle.bridge_words.specs.Words.{IsCommand, IsNoCommand, relp_server};
+ghost use Rattle.bridge_words.specs.Values.{guid, number_within};
+ghost use Rattle.bridge_words.specs.Words.{IsCommand, IsMove, IsNoCommand, IsNoMove, relp_server};
 
 /// Words are one command at most.
 pub fn one_command()
     ensures { (c d : Command) (words : List Text) → IsCommand c words → IsCommand d words → c ≡ d }
+{}
+
+/// Words that move entries are no command, and they move into one target under one tag.
+pub fn one_move()
+    ensures no_command { (target : Text) (tag : ℕ) (words : List Text) → IsMove target tag words → IsNoCommand words }
+    ensures target { (a b : Text) (m n : ℕ) (words : List Text) → IsMove a m words → IsMove b n words → a ≡ b }
+    ensures tag { (a b : Text) (m n : ℕ) (words : List Text) → IsMove a m words → IsMove b n words → m ≡ n }
+{}
+
+/// How a move is spelt: with a target that is any text, where it stands after `--`, and a tag that is a number below 2^32; and with both.
+pub fn moving()
+    ensures moves { (target t : Text) (tag : ℕ) → number_within 0 4294967295 t ≡ Some tag
+        → IsMove target tag (codes "move" ∷ codes "--" ∷ target ∷ t ∷ []) }
+    ensures no_tag { (target t : Text) → number_within 0 4294967295 t ≡ None → IsNoMove (codes "move" ∷ codes "--" ∷ target ∷ t ∷ []) }
+    ensures both { (target : Text) → IsNoMove (codes "move" ∷ codes "--" ∷ target ∷ []) }
 {}
 
 /// How options are spelt, at `replay`, whatever their values are: they stand in any order, each once, and only after the

@@ -10,12 +10,14 @@ mod law;
 mod line;
 mod need;
 mod number;
+mod pair;
 mod reading;
 mod server;
 mod values;
 
 pub use command::{Command, ListForm, Receiver, Relay, Server};
 pub use fault::{WordsFault, wrong_words};
-pub use law::{grouping, one_command, spelling};
-pub use line::{drain_line, entry_line, serve_line, spool_line};
+pub use law::{grouping, moving, one_command, one_move, spelling};
+pub use line::{drain_line, entry_line, move_line, serve_line, spool_line};
 pub use need::{Need, need_of};
+pub use pair::FilePath;

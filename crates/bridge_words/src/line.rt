@@ -1,7 +1,7 @@
 //! The lines that bridge prints.
 ghost use Rattle.std.specs.Prelude.{◌≡◌, ◌++◌, OnOk, IfOk, string_bytes};
 ghost use Rattle.std.specs.Fmt.{decimal};
-ghost use Rattle.bridge_words.specs.Lines.{spool_line, drain_line, serve_line, origin_word, entry_line};
+ghost use Rattle.bridge_words.specs.Lines.{spool_line, drain_line, move_line, serve_line, origin_word, entry_line};
 
 use event_form::{Entry, Origin};
 use itoa::Buffer;
@@ -22,6 +22,13 @@ pub fn drain_line(alloc: Global, confirmed: u64, left: u64) -> Result<String, Al
     ensures { IfOk result (λ line. string_bytes line ≡ drain_line confirmed left) }
 {
     format!(in alloc; "{confirmed} confirmed, {left} left\n")
+}
+
+/// The line that says how many entries were moved, and how many are left.
+pub fn move_line(alloc: Global, moved: u64, left: u64) -> Result<String, AllocError>
+    ensures { IfOk result (λ line. string_bytes line ≡ move_line moved left) }
+{
+    format!(in alloc; "{moved} moved, {left} left\n")
 }
 
 /// The line that says how many connections a server served to their end, how many entries it took, how many were

@@ -1,13 +1,15 @@
 //! The one reading of the words: clap finds what stands where, and each word is then tested.
-ghost use Rattle.std.specs.Prelude.{◌≡◌, Err, IfOk, codes, map, string_bytes};
+ghost use Rattle.std.specs.Prelude.{◌≡◌, ◌≢◌, Err, IfOk, codes, map, string_bytes};
 ghost use Rattle.bridge_words.specs.declared.fault.WordsFault.{WordsFault};
 ghost use Rattle.bridge_words.specs.declared.reading.Unread.TheVariants.{NoMemory, Wrong};
 ghost use Rattle.bridge_words.specs.Values.{rows_in, receiver_of};
-ghost use Rattle.bridge_words.specs.Words.{IsNamed, IsCommand, receiver_in, HasPolls};
+ghost use Rattle.bridge_words.specs.Asked.{IsAskedBy, IsAsked};
+ghost use Rattle.bridge_words.specs.Words.{IsNamed, receiver_in, HasPolls};
 ghost use Rattle.bridge_words.specs.Wrong.{unread_for, WrongFormat, WrongList, WrongReplay, WrongDrain, WrongLoad, WrongBy, IsWrong};
 
 use crate::fault::WordsFault;
 use crate::grammar::{found, parse};
+use crate::pair::{Pair, pair_in};
 use crate::server::serve_in;
 use crate::values::{form_in, guid_for, number_for, number_or, place_for, proto_in};
 use crate::{Command, Receiver};
@@ -23,6 +25,15 @@ pub(crate) enum Unread {
     NoMemory,
     /// They are no command.
     Wrong(WordsFault),
+}
+
+/// What words ask for.
+#[derive(Drop)]
+pub(crate) enum Asked {
+    /// What is done over one device, or over none.
+    Command(Command),
+    /// A move from one device into another.
+    Move(Pair),
 }
 
 impl From<AllocError> for Unread {
@@ -152,8 +163,9 @@ fn load_in(matches: &ArgMatches<'_>) -> Result<Command, Unread>
     })
 }
 
-// The command of this name for which its words ask.
+// The command of this name for which its words ask. The name isn't `move`.
 fn command_in(alloc: Global, name: &str, matches: &ArgMatches<'_>) -> Result<Command, Unread>
+    requires other { name.now ≢ codes "move" }
     ensures command { IfOk result (IsNamed name.now (rows_in matches.now)) }
     ensures wrong { (fault : WordsFault) → result ≡ Err (Wrong fault) → WrongBy name.now fault (rows_in matches.now) }
 {
@@ -174,9 +186,22 @@ fn command_in(alloc: Global, name: &str, matches: &ArgMatches<'_>) -> Result<Com
     }
 }
 
-/// The command that the words are, or what is wrong with them.
-pub(crate) fn read(alloc: Global, words: &[String]) -> Result<Command, Unread>
-    ensures command { IfOk result (λ command. IsCommand command (map string_bytes words.now)) }
+// What the words under this name ask for.
+fn asked_in(alloc: Global, name: &str, matches: &ArgMatches<'_>) -> Result<Asked, Unread>
+    ensures asked { IfOk result (IsAskedBy name.now (rows_in matches.now)) }
+    ensures wrong { (fault : WordsFault) → result ≡ Err (Wrong fault) → WrongBy name.now fault (rows_in matches.now) }
+{
+    if name == "move" {
+        let pair = pair_in(alloc, matches)?;
+        return Ok(Asked::Move(pair));
+    }
+    let command = command_in(alloc, name, matches)?;
+    Ok(Asked::Command(command))
+}
+
+/// What the words ask for, or what is wrong with them.
+pub(crate) fn read(alloc: Global, words: &[String]) -> Result<Asked, Unread>
+    ensures asked { IfOk result (IsAsked (map string_bytes words.now)) }
     ensures wrong { (fault : WordsFault) → result ≡ Err (Wrong fault) → IsWrong fault (map string_bytes words.now) }
 {
     let matches = match parse(alloc, words) {
@@ -184,7 +209,7 @@ pub(crate) fn read(alloc: Global, words: &[String]) -> Result<Command, Unread>
         Err(error) => return Err(unread_for(error.kind())),
     };
     match found(&matches) {
-        Some((name, matches)) => command_in(alloc, name, matches),
+        Some((name, matches)) => asked_in(alloc, name, matches),
         None => Err(Unread::Wrong(WordsFault::NoCommand)),
     }
 }

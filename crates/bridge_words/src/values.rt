@@ -1,6 +1,7 @@
 //! The words of the commands, each read from what clap found.
 ghost use Rattle.std.specs.Prelude.{◌≡◌, ◌≤◌, None, Some, Ok, Err, IfOk, MatchOption};
 ghost use Rattle.bridge_words.specs.declared.fault.WordsFault.{WordsFault};
+ghost use Rattle.bridge_words.specs.declared.fault.WordsFault.TheVariants.{MissingWord};
 ghost use Rattle.bridge_words.specs.declared.reading.Unread.TheVariants.{Wrong};
 ghost use Rattle.bridge_words.specs.Values.{value_of, rows_in, guid, proto_at, form_at, number_within, must_be, may_be, is_else, place_for, is_given};
 ghost use Rattle.bridge_words.specs.Values.{proto_in, form_in, forward_in};
@@ -8,6 +9,7 @@ ghost use Rattle.bridge_words.specs.Values.{proto_in, form_in, forward_in};
 use crate::ListForm;
 use crate::fault::WordsFault;
 use crate::number::number_within;
+use crate::pair::FilePath;
 use crate::reading::Unread;
 use clap::ArgMatches;
 use edge_io::Proto;
@@ -170,5 +172,20 @@ pub(crate) fn place_for(
         Some(text) if text.is_empty() => Err(Unread::Wrong(WordsFault::Place)),
         Some(text) => Ok(Some(Place::of(alloc, text)?)),
         None => Ok(None),
+    }
+}
+
+/// A path that must stand for this word, copied.
+pub(crate) fn path_for(
+    alloc: Global,
+    matches: &ArgMatches<'_>,
+    id: &str,
+) -> Result<FilePath, Unread>
+    ensures path { IfOk result (λ path. must_be MissingWord Some (value_of id.now (rows_in matches.now)) ≡ Ok path) }
+    ensures wrong { (fault : WordsFault) → result ≡ Err (Wrong fault) → must_be MissingWord Some (value_of id.now (rows_in matches.now)) ≡ Err fault }
+{
+    match value_of(matches, id) {
+        Some(text) => Ok(FilePath::of(alloc, text)?),
+        None => Err(Unread::Wrong(WordsFault::MissingWord)),
     }
 }

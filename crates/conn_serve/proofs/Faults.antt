@@ -45,6 +45,9 @@ counts_passed T U talk fault a b c is h = counts_from _ _ a b c is (λ e. cc) (�
 pub counts_other : (T : Type 0) (talk fault : Talk) (a c : ℕ) → (talk ≡ fault → ⊥) → c ≡ a → CountsFaults (IsErrOf {T = T} (Err talk) fault) a c
 counts_other T talk fault a c other is = counts_none _ a c (λ e. other cc) is
 
+pub read_is_no_write : ReadFault ≡ WriteFault → ⊥
+read_is_no_write is = cc
+
 -- of a text that was written, or was cut short
 module _ (Cut : Type 0) where
   pub said_only : (r : Result (Unit {0}) Talk) → IfErr r (λ talk. (talk ≡ WriteFault) × Cut) → IfErr r IsAtMove

@@ -15,6 +15,7 @@ mod LumberActing
 mod LumberSessions
 mod Feeding
 mod Running
+mod Beginning
 mod Grouping
 mod Acks
 mod LumberAcks

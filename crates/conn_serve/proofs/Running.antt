@@ -1,6 +1,6 @@
 -- A connection from its first byte on.
 use Rattle.std.proofs.Common.{◌≡◌, ℕ, ◌+◌, ◌<◌, ◌≤◌, ◌^◌, List, [], ◌++◌, Option, length, take, refl, sym, subst, arith, length-append, length-take}
-use Rattle.std.proofs.lemmas.List.{append-nil, take-append-le}
+use Rattle.std.proofs.lemmas.List.{append-nil}
 use Rattle.edge_io.proofs.Known.{appends_none, appends_then, appends_keeps, consumes_none, consumes_then, consumes_keeps}
 use Rattle.std.specs.Io.KnownBytes.{Appends, Consumes, Keeps}
 use Rattle.event_form.specs.declared.talk.Attended.{Attended}
@@ -75,7 +75,7 @@ turn_unread ran given given' left left' written written' n Served Carried none k
   is = λ fed called said counted served. subst (λ (l : List ℕ). Carried l (called ++ []) (said ++ [])) (sym (append-nil fed)) (leads_start n Carried fed called said counted (on fed called said served));
 }
 
--- The first bytes of a buffer are a piece of at most so many, also where others follow them in it.
+-- The first bytes of a buffer are a piece of at most so many.
 pub piece_few : (len most : ℕ) (l : List ℕ) → len ≤ most → length (take len l) ≤ most
 piece_few len most l few = omega (arith, few, length-take len l)
 
@@ -85,31 +85,25 @@ piece_fits x len most limit l few fits = omega (arith, few, fits, length-take le
 pub piece_adds : (x y len : ℕ) (l : List ℕ) → x ≤ y + length (take len l) → x ≤ y + len
 piece_adds x y len l more = omega (arith, more, length-take len l)
 
-pub piece_size : (len : ℕ) (a b : List ℕ) → len ≤ length a → length (take len (a ++ b)) ≡ len
-piece_size len a b fits = omega (arith, fits, length-take len (a ++ b), length-append a b)
-
--- what was read is the front of the buffer, whatever follows there
-pub appends_first : (given given' : Option (List ℕ)) (len : ℕ) (a b : List ℕ) → len ≤ length a → Appends given given' (take len a) → Appends given given' (take len (a ++ b))
-appends_first given given' len a b fits read = subst (Appends given given') (sym (take-append-le len a b fits)) read
+pub piece_size : (len : ℕ) (l : List ℕ) → len ≤ length l → length (take len l) ≡ len
+piece_size len l fits = omega (arith, fits, length-take len l)
 
 -- a piece was read, and this was done with it
-pub turn_read : (ran : List Call → Type 0) (given given' given'' left left' left'' written written' written'' : Option (List ℕ)) (n n' len : ℕ) (a b : List ℕ) (Is : List ℕ → List Call → List ℕ → Type 0)
-    → len ≤ length a → Appends given given' (take len a) → given'' ≡ given' → Consumes left left' (take len a) → left'' ≡ left' → AreBytes (take len (a ++ b)) → written' ≡ written → Done ran written' written'' n n' (Is (take len (a ++ b)))
+pub turn_read : (ran : List Call → Type 0) (given given' given'' left left' left'' written written' written'' : Option (List ℕ)) (n n' : ℕ) (piece : List ℕ) (Is : List ℕ → List Call → List ℕ → Type 0)
+    → Appends given given' piece → given'' ≡ given' → Consumes left left' piece → left'' ≡ left' → AreBytes piece → written' ≡ written → Done ran written' written'' n n' (Is piece)
     → Turn ran (told given left written) (told given'' left'' written'') n n' Is
-turn_read ran given given' given'' left left' left'' written written' written'' n n' len a b Is fits read same_given consumed same_left are_bytes same_written d =
-    let front : take len (a ++ b) ≡ take len a = rw take-append-le in
-    record {
-      piece = take len (a ++ b);
-      calls = d.calls;
-      text = d.text;
-      read = subst (λ (o : Option (List ℕ)). Appends given o (take len (a ++ b))) (sym same_given) (subst (Appends given given') (sym front) read);
-      consumed = subst (λ (o : Option (List ℕ)). Consumes left o (take len (a ++ b))) (sym same_left) (subst (Consumes left left') (sym front) consumed);
-      are_bytes = are_bytes;
-      wrote = subst (λ (o : Option (List ℕ)). Appends o written'' d.text) same_written d.wrote;
-      made = d.made;
-      counted = d.counted;
-      is = d.is;
-    }
+turn_read ran given given' given'' left left' left'' written written' written'' n n' piece Is read same_given consumed same_left are_bytes same_written d = record {
+  piece = piece;
+  calls = d.calls;
+  text = d.text;
+  read = subst (λ (o : Option (List ℕ)). Appends given o piece) (sym same_given) read;
+  consumed = subst (λ (o : Option (List ℕ)). Consumes left o piece) (sym same_left) consumed;
+  are_bytes = are_bytes;
+  wrote = subst (λ (o : Option (List ℕ)). Appends o written'' d.text) same_written d.wrote;
+  made = d.made;
+  counted = d.counted;
+  is = d.is;
+}
 
 -- A turn follows.
 module _ (start now next : Told) (first second both : List Call → Type 0) (join : (xs ys : List Call) → first xs → second ys → both (xs ++ ys)) (taken taken' total k number : ℕ) (same : k ≡ number) where

@@ -13,6 +13,11 @@ abbrev pub most_of : Bool → ℕ
 most_of true = 512
 most_of false = 1
 
+-- how many bytes a read asks for at most
+abbrev pub piece_of : Bool → ℕ
+piece_of true = 65536
+piece_of false = 8192
+
 -- those of its rules
 abbrev pub terms_of : Rules → Terms
 terms_of rules = record { most = most_of rules.group; tokens = record { token = rules.token; ack_token = rules.ack_token } }

@@ -5,16 +5,30 @@ ghost use Rattle.desk_access.specs.Endings.{IsAtMove};
 ghost use Rattle.conn_serve.specs.Done.{AreBytes, Done, Leads, LeadsOn, SoFar, Turn, told};
 ghost use Rattle.conn_serve.specs.Endings.{CountsFaults, MayEnd};
 ghost use Rattle.conn_serve.specs.Says.{HasCarried, MaySay};
+ghost use Rattle.conn_serve.specs.Terms.{piece_of};
 
 use crate::connection::Connection;
 use crate::session::Session;
 use desk_access::Access;
 use edge_io::Link;
 use event_form::Talk;
-use std::alloc::Global;
+use std::alloc::{AllocError, Global};
 
-/// How many bytes a read asks for at most.
-pub const PIECE: usize = 8192;
+// How many bytes a read asks for at most.
+const PIECE: usize = 8_192;
+
+// How many it asks for where the events that it brings are stored as one group: some 550 events of 100 bytes, where a group has 512 at
+// most.
+const LONG_PIECE: usize = 65_536;
+
+/// The memory that the reads of a connection fill, each from its beginning: as many bytes as one asks for at most, by whether the
+/// events that one brings are stored as one group. The only error is want of memory.
+pub fn buffer(alloc: Global, group: bool) -> Result<Vec<u8>, AllocError>
+    ensures { IfOk result (λ buf. length buf.items ≡ piece_of group) }
+{
+    let len = if group { LONG_PIECE } else { PIECE };
+    vec![in alloc; 0; len]
+}
 
 /// Takes in a piece that was read, to its end: feeds as much of it as there is room for and serves the
 /// frames that are whole by then, in turn. What it writes for them, a connection may have written that has
@@ -61,21 +75,20 @@ pub fn take_in<L: Link, A: Access, S: Session>(
     Ok(())
 }
 
-/// Reads once, at most `room` bytes, and takes in what came. Answers how many bytes it was; 0 is the end
-/// of the input. `says` is of each piece that the read may bring. The error is the ending of the connection.
+/// Reads once, at most as many bytes as `buf` has, and takes in what came. Answers how many bytes it was; 0 is the
+/// end of the input. `says` is of each piece that the read may bring. The error is the ending of the connection.
 pub fn turn<L: Link, A: Access, S: Session>(
     alloc: Global,
     link: &mut L,
     access: &mut A,
     connection: &mut Connection,
     session: &mut S,
-    room: usize,
+    buf: &mut [u8],
 ) -> Result<usize, Talk>
-    requires some { 0 < room }
-    requires few { room ≤ PIECE }
+    requires some { 0 < length buf.old }
     requires idle { S.idle session.old }
-    requires fits { S.extent session.old + room ≤ 2 ^ 40 }
-    requires so_far { SoFar (S.served connection.old.number session.old) connection.old.taken room }
+    requires fits { S.extent session.old + length buf.old ≤ 2 ^ 40 }
+    requires so_far { SoFar (S.served connection.old.number session.old) connection.old.taken (length buf.old) }
     requires may { A.may_take access.old connection.old.number connection.old.taken }
     requires says { (read : L) (piece : List ℕ) → L.same link.old read → Appends (L.given link.old) (L.given read) piece
         → MaySay (A.ran access.old) (L.permits read) (L.taken link.old) (Leads connection.old.taken
@@ -83,7 +96,7 @@ pub fn turn<L: Link, A: Access, S: Session>(
         (λ fed. HasCarried (S.carried (S.terms session.old) connection.old.number) (fed ++ piece))) }
     requires may_end { MayEnd (S.served connection.old.number session.old) (S.carried (S.terms session.old) connection.old.number) }
 
-    ensures room { IfOk result (λ len. len ≤ room) }
+    ensures room { IfOk result (λ len. len ≤ length buf.old) }
     ensures goes { IfOk result (λ len. Turn (λ calls. A.ran access.old calls access.new)
         (told (L.given link.old) (L.left link.old) (L.taken link.old))
         (told (L.given link.new) (L.left link.new) (L.taken link.new)) connection.old.taken connection.new.taken
@@ -106,8 +119,7 @@ pub fn turn<L: Link, A: Access, S: Session>(
     ensures same { L.same link.old link.new }
     ensures lasts { L.taken link.old ≡ None → L.taken link.new ≡ None }
 {
-    let mut buf = [0; PIECE];
-    let len = match link.read(&mut buf[..room]) {
+    let len = match link.read(buf) {
         Ok(len) => len,
         Err(_) => return Err(Talk::ReadFault),
     };

@@ -10,7 +10,7 @@ pub struct Rules {
     pub token: Option<u128>,
     /// The token whose requests are answered with an id, which the sender asks about.
     pub ack_token: Option<u128>,
-    /// Whether events of RELP that one read brings are stored as one group: 512 of them at most. Else each
-    /// is stored by itself.
+    /// Whether events of RELP that one read brings are stored as one group: 512 of them at most. Then a read of any
+    /// protocol asks for at most 65,536 bytes. Else each is stored by itself, and a read asks for at most 8,192.
     pub group: bool,
 }

@@ -7,9 +7,10 @@ ghost use Rattle.conn_serve.specs.Done.{Done, Leads, SoFar};
 ghost use Rattle.conn_serve.specs.Endings.{MayEnd, CountsFaults};
 ghost use Rattle.conn_serve.specs.Says.{HasCarried, MaySay};
 ghost use Rattle.conn_serve.specs.Serves.{CarriedBy, Serves};
+ghost use Rattle.conn_serve.specs.Terms.{piece_of};
 
 use crate::connection::Connection;
-use crate::feed::{PIECE, turn};
+use crate::feed::{buffer, turn};
 use crate::hec::session::HecSession;
 use crate::lumberjack::session::LumberSession;
 use crate::relp::session::RelpSession;
@@ -73,14 +74,16 @@ fn close<L: Link, A: Access, S: Session>(
 
 // Serves the connection to its end. The order in which endings are judged stands here: what a frame
 // that waits asks for, then the fault of the bytes, the end of the input, a read that fails, and the
-// most bytes that a connection may have.
+// most bytes that a connection may have. Each read fills `buf` from its beginning.
 fn run<L: Link, A: Access, S: Session>(
     alloc: Global,
     link: &mut L,
     access: &mut A,
     connection: &mut Connection,
     session: &mut S,
+    buf: &mut [u8],
 ) -> Talk
+    requires some { 0 < length buf.old }
     requires start { S.served connection.old.number session.old [] [] [] }
     requires idle { S.idle session.old }
     requires unfed { S.extent session.old ≡ 0 }
@@ -99,8 +102,8 @@ fn run<L: Link, A: Access, S: Session>(
 {
     let mut total = 0;
     while total < LIMIT {
-        let room = (LIMIT - total).min(PIECE as u64) as usize;
-        let len = match turn(alloc, link, access, connection, session, room) {
+        let room = (LIMIT - total).min(buf.len() as u64) as usize;
+        let len = match turn(alloc, link, access, connection, session, &mut buf[..room]) {
             Ok(len) => len,
             Err(talk) => return talk,
         };
@@ -112,11 +115,56 @@ fn run<L: Link, A: Access, S: Session>(
     Talk::TooMuch { at: LIMIT }
 }
 
-/// Serves one connection to its end, by the protocol of the rules. It reads pieces of at most 8,192 bytes
-/// and does what the protocol's table says for each whole frame, one after another. `conn` is the
-/// connection's number in the spool; its entries are counted from 0. Each text is written as one piece.
-/// `carried` says which bytes were read, each a number below 256, which calls were made on the desk, which
-/// bytes were written, and how many entries were taken.
+// Serves the connection as `attend` does. Each read fills `buf` from its beginning, and asks for no more than it has.
+fn attend_by<L: Link, A: Access>(
+    alloc: Global,
+    link: &mut L,
+    rules: &Rules,
+    access: &mut A,
+    conn: u64,
+    buf: &mut [u8],
+) -> Attended
+    requires piece { length buf.old ≡ piece_of rules.now.group }
+    requires may { A.may_take access.old conn 0 }
+    requires says { (read : L) (bytes : List ℕ) → L.same link.old read → Appends (L.given link.old) (L.given read) bytes
+        → MaySay (A.ran access.old) (L.permits read) (L.taken link.old) (HasCarried (CarriedBy rules.now conn) bytes) }
+
+    ensures carried { Serves (CarriedBy rules.now conn) (L.given link.old) (L.given link.new) (L.left link.old) (L.left link.new)
+        (L.taken link.old) (L.taken link.new) (λ calls. A.ran access.old calls access.new) result }
+    ensures reads { CountsFaults (result.talk ≡ Talk.ReadFault) (L.read_faults link.old) (L.read_faults link.new) }
+    ensures writes { CountsFaults (result.talk ≡ Talk.WriteFault) (L.write_faults link.old) (L.write_faults link.new) }
+    ensures same { L.same link.old link.new }
+{
+    let mut connection = Connection {
+        number: conn,
+        taken: 0,
+    };
+    let talk = match rules.proto {
+        Proto::Relp => match RelpSession::new(alloc, rules.group) {
+            Ok(mut session) => run(alloc, link, access, &mut connection, &mut session, buf),
+            Err(_) => Talk::NoMemory,
+        },
+        Proto::Lumberjack => match LumberSession::new(alloc) {
+            Ok(mut session) => run(alloc, link, access, &mut connection, &mut session, buf),
+            Err(_) => Talk::NoMemory,
+        },
+        Proto::Hec => match HecSession::new(alloc, rules.token, rules.ack_token) {
+            Ok(mut session) => run(alloc, link, access, &mut connection, &mut session, buf),
+            Err(_) => Talk::NoMemory,
+        },
+    };
+    Attended {
+        talk,
+        taken: connection.taken,
+    }
+}
+
+/// Serves one connection to its end, by the protocol of the rules. It reads pieces of at most 8,192 bytes, or
+/// of 65,536 where the rules say that events of one piece are stored together, and does what the protocol's
+/// table says for each whole frame, one after another. `conn` is the connection's number in the spool; its
+/// entries are counted from 0. Each text is written as one piece. `carried` says which bytes were read, each a
+/// number below 256, which calls were made on the desk, which bytes were written, and how many entries were
+/// taken.
 ///
 /// `says` is the leave to write, which the caller gives: once these bytes were read from the link and these calls
 /// made on the desk, the link may take what a connection by these rules has written by then that ends there, at once
@@ -165,26 +213,11 @@ pub fn attend<L: Link, A: Access>(
     ensures writes { CountsFaults (result.talk ≡ Talk.WriteFault) (L.write_faults link.old) (L.write_faults link.new) }
     ensures same { L.same link.old link.new }
 {
-    let mut connection = Connection {
-        number: conn,
-        taken: 0,
+    let Ok(mut buf) = buffer(alloc, rules.group) else {
+        return Attended {
+            talk: Talk::NoMemory,
+            taken: 0,
+        };
     };
-    let talk = match rules.proto {
-        Proto::Relp => match RelpSession::new(alloc, rules.group) {
-            Ok(mut session) => run(alloc, link, access, &mut connection, &mut session),
-            Err(_) => Talk::NoMemory,
-        },
-        Proto::Lumberjack => match LumberSession::new(alloc) {
-            Ok(mut session) => run(alloc, link, access, &mut connection, &mut session),
-            Err(_) => Talk::NoMemory,
-        },
-        Proto::Hec => match HecSession::new(alloc, rules.token, rules.ack_token) {
-            Ok(mut session) => run(alloc, link, access, &mut connection, &mut session),
-            Err(_) => Talk::NoMemory,
-        },
-    };
-    Attended {
-        talk,
-        taken: connection.taken,
-    }
+    attend_by(alloc, link, rules, access, conn, &mut buf)
 }

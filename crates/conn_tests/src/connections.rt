@@ -2,7 +2,8 @@
 use crate::ends::end_text;
 use crate::faults::a_failed_call_of_the_disk_ends_the_connection;
 use crate::fields::{bytes_of, check_form, numbers_of};
-use crate::harness::{check_bytes, repeated, serve};
+use crate::harness::{check_bytes, is_grouped, repeated, serve};
+use crate::reads::one_read_brings_long_runs;
 use crate::{
     hec_endings, hec_refused, hec_rows, hec_unsaid, lumberjack_endings, lumberjack_rows,
     relp_endings, relp_rows, relp_runs,
@@ -27,6 +28,11 @@ fn check(rt: &impl Abort, alloc: Global, proto: Proto, row: &str, step: usize) {
     check_bytes(rt, alloc, row, "out", &left.written);
     check_bytes(rt, alloc, row, "entries", &left.entries);
     assert!(rt; left.count == taken, "another count of entries in {row}");
+    let piece = if is_grouped(rt, row) { 65_536 } else { 8_192 };
+    assert!(rt;
+        left.asked == (piece, piece),
+        "reads of other lengths in {row}"
+    );
 }
 
 // Serves a row's input in each of its steps.
@@ -43,10 +49,10 @@ fn each_row_is_served(rt: &impl Abort, alloc: Global) {
     for (proto, rows, count) in [
         (Proto::Relp, relp_rows::ROWS, 11),
         (Proto::Relp, relp_endings::ENDINGS, 6),
-        (Proto::Relp, relp_runs::RUNS, 6),
-        (Proto::Lumberjack, lumberjack_rows::ROWS, 10),
+        (Proto::Relp, relp_runs::RUNS, 7),
+        (Proto::Lumberjack, lumberjack_rows::ROWS, 11),
         (Proto::Lumberjack, lumberjack_endings::ENDINGS, 17),
-        (Proto::Hec, hec_rows::ROWS, 4),
+        (Proto::Hec, hec_rows::ROWS, 5),
         (Proto::Hec, hec_refused::REFUSED, 2),
         (Proto::Hec, hec_endings::ENDINGS, 11),
         (Proto::Hec, hec_unsaid::UNSAID, 7),
@@ -74,5 +80,6 @@ fn whole_connections(rt: HostRuntime) {
     let alloc = rt.alloc();
     each_row_is_served(&rt, alloc);
     a_failed_call_of_the_disk_ends_the_connection(&rt, alloc);
+    one_read_brings_long_runs(&rt, alloc);
     a_thousand_requests_are_answered(&rt, alloc);
 }

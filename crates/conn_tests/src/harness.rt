@@ -1,6 +1,7 @@
 //! One connection over a spool in memory.
 ghost use Rattle.std.specs.Prelude.{◌<◌};
 
+use crate::asked::Asked;
 use crate::fields::{bytes_of, number_of, numbers_of};
 use conn_serve::{Rules, attend};
 use desk_access::Access;
@@ -32,6 +33,8 @@ pub(crate) struct Left {
     pub(crate) entries: Vec<u8>,
     /// How many entries these are.
     pub(crate) count: u64,
+    /// How many bytes a read asked for at least, and at most.
+    pub(crate) asked: (usize, usize),
 }
 
 // A disk with an empty spool of one slot, of `slot SIZE` bytes: 4,096 where the row doesn't say it, and 1,000,000 at most. The calls
@@ -77,14 +80,14 @@ fn link_of(
     row: &str,
     times: usize,
     step: usize,
-) -> Both<MemSource, MemSink>
+) -> Both<Asked<MemSource>, MemSink>
     requires { 0 < step }
 {
     let input = repeated(rt, alloc, &bytes_of(rt, alloc, row, "in"), times);
     let reads = numbers_of(rt, alloc, row, "reads");
     let writes = numbers_of(rt, alloc, row, "writes");
     Both {
-        source: MemSource::of(input, step, reads),
+        source: Asked::of(MemSource::of(input, step, reads)),
         sink: MemSink::of(alloc, writes),
     }
 }
@@ -121,6 +124,11 @@ fn entries_of(rt: &impl Abort, alloc: Global, desk: &mut Alone<MemDisk>) -> (Vec
     (shown, pending.len() as u64)
 }
 
+/// Whether the row says that events which one read brings are stored as one group.
+pub(crate) fn is_grouped(rt: &impl Abort, row: &str) -> bool {
+    number_of(rt, row, "group", 0) == 1
+}
+
 /// Serves a connection whose bytes are those of the row, so many times, at most `step` of them in a read. These calls of the disk fail,
 /// beside the row's. None: the device wasn't opened.
 pub(crate) fn serve(
@@ -140,7 +148,7 @@ pub(crate) fn serve(
         proto,
         token: Some(TOKEN),
         ack_token: Some(ACK_TOKEN),
-        group: number_of(rt, row, "group", 0) == 1,
+        group: is_grouped(rt, row),
     };
     let attended = attend(alloc, &mut link, &rules, &mut desk, CONN);
     let written = link.sink.taken().to_vec(alloc).expect(rt, "memory");
@@ -150,6 +158,7 @@ pub(crate) fn serve(
         written,
         entries,
         count,
+        asked: (link.source.fewest, link.source.most),
     })
 }
 

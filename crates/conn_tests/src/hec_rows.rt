@@ -23,6 +23,23 @@ out {"text":"Success","code":0}
 entries 7 0 0 o{"event":"a"}\n
 entries 7 1 0 o{"event":{"b":1.50}}\n
 
+row requests of one read, where events of RELP would be one group
+in POST /services/collector/event HTTP/1.1\r\n
+in Authorization: Splunk 11111111-2222-3333-4444-555555555555\r\nContent-Length: 11\r\n\r\n
+in {"event":1}
+in POST /services/collector/event HTTP/1.1\r\n
+in Authorization: Splunk 11111111-2222-3333-4444-555555555555\r\nContent-Length: 11\r\n\r\n
+in {"event":2}
+group 1
+steps 1 7 100000
+ends Ended, 2 taken
+out HTTP/1.1 200 OK\r\nContent-Type: application/json\r\nContent-Length: 27\r\n\r\n
+out {"text":"Success","code":0}
+out HTTP/1.1 200 OK\r\nContent-Type: application/json\r\nContent-Length: 27\r\n\r\n
+out {"text":"Success","code":0}
+entries 7 0 0 o{"event":1}\n
+entries 7 1 0 o{"event":2}\n
+
 row raw lines
 in POST /services/collector/raw?channel=cccccccc-2222-3333-4444-555555555555&sourcetype=x HTTP/1.1\r\n
 in Authorization: Splunk 11111111-2222-3333-4444-555555555555\r\nContent-Length: 4\r\n\r\n

@@ -4,6 +4,8 @@
 #![tactic(auto)]
 
 #[cfg(test)]
+mod asked;
+#[cfg(test)]
 mod connections;
 #[cfg(test)]
 mod ends;
@@ -25,6 +27,8 @@ mod hec_unsaid;
 mod lumberjack_endings;
 #[cfg(test)]
 mod lumberjack_rows;
+#[cfg(test)]
+mod reads;
 #[cfg(test)]
 mod relp_endings;
 #[cfg(test)]

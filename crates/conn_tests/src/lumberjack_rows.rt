@@ -16,6 +16,21 @@ out 2A\0\0\0\x02
 entries 7 0 1 j{"a":1}\n
 entries 7 1 2 j{}\n
 
+row windows of one read, where events of RELP would be one group
+in 2W\0\0\0\x02
+in 2J\0\0\0\x01\0\0\0\x07{"a":1}
+in 2J\0\0\0\x02\0\0\0\x02{}
+in 2W\0\0\0\x01
+in 2J\0\0\0\x01\0\0\0\x02[]
+group 1
+steps 1 7 100000
+ends Ended, 3 taken
+out 2A\0\0\0\x02
+out 2A\0\0\0\x01
+entries 7 0 1 j{"a":1}\n
+entries 7 1 2 j{}\n
+entries 7 2 1 j[]\n
+
 row a new window cuts the old one
 in 2W\0\0\0\x03
 in 2J\0\0\0\x01\0\0\0\x02{}

@@ -3,9 +3,9 @@
 ghost use Rattle.std.specs.Prelude.{◌≡◌, ◌⊎◌, ◌<◌, ◌^◌, IfOk};
 ghost use Rattle.foundation.specs.Faults.{HasCause};
 
-use crate::opening::{open_file, set_length, sync_folder};
+use crate::opening::{open_file, open_two, set_length, sync_folder};
 use crate::tracked_file::TrackedFile;
-use crate::{OpenFault, Sharing};
+use crate::{OpenFault, PairFault, Sharing};
 use edge_disk::{Disk, DiskFault};
 use std::fs::File;
 use std::io;
@@ -62,6 +62,22 @@ impl FileDisk {
     {
         let (file, len) = open_file(rt, path, false, sharing)?;
         Ok(disk_of(file, len))
+    }
+
+    /// Opens two files that exist as [`FileDisk::open`] does, each for this program alone, and says why they aren't opened: the first
+    /// before the second, and `OneFile` where both names are of one file, also by a link, or of one block device.
+    ///
+    /// Of two programs that want the same two files at one time, in whatever order, one gets both: they are locked in an order that is the
+    /// same for both programs, and no lock is waited for.
+    pub fn open_both(
+        rt: &HostRuntime,
+        first: &str,
+        second: &str,
+    ) -> Result<(FileDisk, FileDisk), PairFault>
+        ensures { IfOk result (λ disks. ((file_moment disks.0).faults ≡ 0) × ((file_moment disks.1).faults ≡ 0)) }
+    {
+        let [(one, len), (other, other_len)] = open_two(rt, first, second)?;
+        Ok((disk_of(one, len), disk_of(other, other_len)))
     }
 
     /// Opens or makes as [`FileDisk::make`] does, and says why a file isn't opened. Nothing of a file in use

@@ -5,6 +5,7 @@
 
 mod byte_range;
 mod file;
+mod file_id;
 mod open_fault;
 mod opening;
 mod tracked_file;
@@ -12,5 +13,5 @@ mod unsynced;
 
 pub use byte_range::ByteRange;
 pub use file::FileDisk;
-pub use open_fault::{OpenFault, Sharing};
+pub use open_fault::{OpenFault, PairFault, Sharing};
 pub use unsynced::Unsynced;

@@ -1,6 +1,6 @@
 //! Disks that are files.
 use edge_disk::Disk;
-use edge_file::{FileDisk, OpenFault, Sharing};
+use edge_file::{FileDisk, OpenFault, PairFault, Sharing};
 use std::env;
 use std::fs::{self, Permissions};
 use std::os::unix::fs::{PermissionsExt, symlink};
@@ -164,6 +164,43 @@ fn a_link_is_its_target(rt: &impl Abort, host: &HostRuntime, path: &str) {
     fs::remove_file(host, path).expect(rt, "remove the link");
 }
 
+// Why two files aren't opened together, if they aren't.
+fn pair_fault(host: &HostRuntime, first: &str, second: &str) -> Option<PairFault> {
+    FileDisk::open_both(host, first, second).err()
+}
+
+// Two files are opened together, each for this program alone, and not one of them as both, by whichever names.
+fn two_files_are_opened(rt: &impl Abort, host: &HostRuntime, path: &str) {
+    let other = format!(in host.alloc(); "{path}_other").expect(rt, "memory");
+    let hard = format!(in host.alloc(); "{path}_hard").expect(rt, "memory");
+    let soft = format!(in host.alloc(); "{path}_soft").expect(rt, "memory");
+    drop(FileDisk::make(host, path, 2).expect(rt, "make"));
+    assert!(rt; pair_fault(host, path, &other) == Some(PairFault::Second(OpenFault::NotFound)));
+    assert!(rt; pair_fault(host, &other, path) == Some(PairFault::First(OpenFault::NotFound)));
+    drop(FileDisk::make(host, &other, 3).expect(rt, "make the other"));
+    fs::hard_link(host, path, hard.as_str()).expect(rt, "a hard link");
+    symlink(host, path, soft.as_str()).expect(rt, "a symbolic link");
+    for (first, second) in [(path, path), (path, &hard), (&soft, path), (&hard, &soft)] {
+        assert!(rt; pair_fault(host, first, second) == Some(PairFault::OneFile));
+    }
+    let (first, second) = FileDisk::open_both(host, path, &other).expect(rt, "both");
+    assert!(rt; first.len() == 2 && second.len() == 3);
+    for name in [path, &other, &hard, &soft] {
+        assert!(rt; is_in_use(FileDisk::open_locked(host, name, Sharing::Shared)));
+    }
+    drop(first);
+    assert!(rt; pair_fault(host, path, &other) == Some(PairFault::Second(OpenFault::InUse)));
+    assert!(rt; pair_fault(host, &other, path) == Some(PairFault::First(OpenFault::InUse)));
+    drop(second);
+    let (second, first) = FileDisk::open_both(host, &other, path).expect(rt, "both, exchanged");
+    assert!(rt; first.len() == 2 && second.len() == 3);
+    drop(first);
+    drop(second);
+    for name in [path, &other, &hard, &soft] {
+        fs::remove_file(host, name).expect(rt, "remove");
+    }
+}
+
 /// Files in the folder for temporary files, and one that is made by its name alone, in the current folder.
 pub(crate) fn files_are_disks(rt: &impl Abort, host: &HostRuntime) {
     let name = file_name(rt, host);
@@ -175,6 +212,7 @@ pub(crate) fn files_are_disks(rt: &impl Abort, host: &HostRuntime) {
     a_file_is_its_owners_alone(rt, host, &path);
     a_file_that_shrank_is_a_fault(rt, host, &path);
     a_link_is_its_target(rt, host, &path);
+    two_files_are_opened(rt, host, &path);
     check_made(rt, host, &name, 2, [0, 0]);
     fs::remove_file(host, name.as_str()).expect(rt, "remove");
 }

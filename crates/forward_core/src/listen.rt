@@ -9,7 +9,7 @@ use crate::sent::Sent;
 use edge_io::Link;
 
 /// How many bytes a read asks for at most.
-const PIECE: usize = 8192;
+const PIECE: usize = 65_536;
 
 /// How many bytes of the peer a session may read.
 const LIMIT: u64 = 1 << 40;

@@ -1,7 +1,7 @@
 -- The peer of a load by RELP acknowledges all entries.
 use Rattle.std.proofs.Common.{◌≡◌, inl, inr, ℕ, zero, suc, ◌+◌, ◌-◌, ◌<◌, ◌≤◌, ◌^◌, Bool, true, false, List, [], ◌∷◌, ◌++◌, length, refl, sym, ◌∙◌, ap, subst, arith, append_assoc, length-append}
-use Rattle.std.specs.Prelude.{Some, None, codes, replicate}
-use Rattle.std.proofs.lemmas.List.{append-nil, length-replicate}
+use Rattle.std.specs.Prelude.{Some, None, codes, slice_index_or}
+use Rattle.std.proofs.lemmas.List.{append-nil}
 use Rattle.event_form.specs.declared.event.Entry.{Entry}
 use Rattle.stream_grammar.specs.Framing.{AreSpelled, BeginsAList}
 use Rattle.stream_grammar.proofs.Faults.{fault_or_stream}
@@ -13,7 +13,7 @@ use Rattle.relp_frame.proofs.FrameLaws.{relp_machine}
 use Rattle.relp_frame.proofs.WriteLaws.{canonical_spells}
 use Rattle.relp_sender.specs.declared.stage.Stop.{Stop}
 use Rattle.relp_sender.specs.declared.stage.Stop.TheVariants as stop
-use Rattle.relp_sender.specs.Marks.{NoneAwaits, allowed, count_known, grown, known_front}
+use Rattle.relp_sender.specs.Marks.{Awaits, IsEarliest, allowed, count_known, known_front, marked_at}
 use Rattle.relp_sender.specs.Progress.{Progress, Unopened, Opened, Stops, Takes, TakesAll, known_by}
 use Rattle.relp_sender.specs.Reply.{code_of}
 use Rattle.relp_sender.specs.Texts.{txnr_of}
@@ -78,18 +78,6 @@ Fronts (suc k) [] = ⊥
 Fronts (suc k) (true ∷ marks) = Fronts k marks
 Fronts (suc k) (false ∷ marks) = ⊥
 
-none_fronts : (n : ℕ) → Fronts zero (replicate n false)
-none_fronts zero = tt
-none_fronts (suc n) = none_fronts n
-
-fronts_more : (k : ℕ) (marks : List Bool) (n : ℕ) → Fronts k marks → Fronts k (marks ++ replicate n false)
-fronts_more zero [] n f = none_fronts n
-fronts_more zero (true ∷ marks) n f = absurd f
-fronts_more zero (false ∷ marks) n f = fronts_more zero marks n f
-fronts_more (suc k) [] n f = absurd f
-fronts_more (suc k) (true ∷ marks) n f = fronts_more k marks n f
-fronts_more (suc k) (false ∷ marks) n f = absurd f
-
 count_fronts : (k : ℕ) (marks : List Bool) → Fronts k marks → count_known marks ≡ k
 count_fronts zero [] f = refl
 count_fronts zero (true ∷ marks) f = absurd f
@@ -106,23 +94,25 @@ front_fronts (suc k) [] f = absurd f
 front_fronts (suc k) (true ∷ marks) f = omega (arith, front_fronts k marks f)
 front_fronts (suc k) (false ∷ marks) f = absurd f
 
--- the next one awaits its reply
-awaited : (k i : ℕ) (marks : List Bool) (txnr : ℕ) → Fronts k marks → k < length marks → txnr_of (i + k) ≡ txnr → NoneAwaits i marks txnr → ⊥
-awaited zero i [] txnr f lt is none = omega (arith, lt)
-awaited zero i (true ∷ marks) txnr f lt is none = f
-awaited zero i (false ∷ marks) txnr f lt is none = let at : i ≡ i + 0 = omega arith in none.0 (ap txnr_of at ∙ is)
-awaited (suc k) i [] txnr f lt is none = f
-awaited (suc k) i (true ∷ marks) txnr f lt is none = let at : i + 1 + k ≡ i + suc k = omega arith in awaited k (i + 1) marks txnr f (omega (arith, lt)) (ap txnr_of at ∙ is) none
-awaited (suc k) i (false ∷ marks) txnr f lt is none = f
+-- those after them aren't
+unknown_next : (k q : ℕ) (marks : List Bool) → Fronts k marks → k ≤ q → slice_index_or marks q false ≡ false
+unknown_next zero q [] f le = refl
+unknown_next zero q (true ∷ marks) f le = absurd f
+unknown_next zero zero (false ∷ marks) f le = refl
+unknown_next zero (suc q) (false ∷ marks) f le = unknown_next zero q marks f (omega arith)
+unknown_next (suc k) q [] f le = absurd f
+unknown_next (suc k) zero (true ∷ marks) f le = absurd (omega (arith, le))
+unknown_next (suc k) (suc q) (true ∷ marks) f le = unknown_next k q marks f (omega (arith, le))
+unknown_next (suc k) q (false ∷ marks) f le = absurd f
 
--- and is acknowledged by it
-fronts_next : (k i : ℕ) (before after : List Bool) (txnr : ℕ) → Fronts k (before ++ false ∷ after) → txnr_of (i + k) ≡ txnr → NoneAwaits i before txnr → Fronts (suc k) (before ++ true ∷ after)
-fronts_next zero i [] after txnr f is none = f
-fronts_next zero i (true ∷ before) after txnr f is none = absurd f
-fronts_next zero i (false ∷ before) after txnr f is none = let at : i ≡ i + 0 = omega arith in absurd (none.0 (ap txnr_of at ∙ is))
-fronts_next (suc k) i [] after txnr f is none = absurd f
-fronts_next (suc k) i (true ∷ before) after txnr f is none = let at : i + 1 + k ≡ i + suc k = omega arith in fronts_next k (i + 1) before after txnr f (ap txnr_of at ∙ is) none
-fronts_next (suc k) i (false ∷ before) after txnr f is none = absurd f
+-- and with its mark one more is
+fronts_next : (k : ℕ) (marks : List Bool) → Fronts k marks → Fronts (suc k) (marked_at k marks)
+fronts_next zero [] f = tt
+fronts_next zero (true ∷ marks) f = absurd f
+fronts_next zero (false ∷ marks) f = f
+fronts_next (suc k) [] f = absurd f
+fronts_next (suc k) (true ∷ marks) f = fronts_next k marks f
+fronts_next (suc k) (false ∷ marks) f = absurd f
 
 -- the first so many are acknowledged
 record Brought (k : ℕ) (p : Progress) : Type 0 where
@@ -130,18 +120,26 @@ record Brought (k : ℕ) (p : Progress) : Type 0 where
   is : p ≡ Opened marks
   fronts : Fronts k marks
 
+-- the reply is to the next one
+the_next : (n k : ℕ) (marks : List Bool) (place : ℕ) → k < n → n ≤ 100000 → Fronts k marks → IsEarliest (allowed n marks) marks (k + 2) place → place ≡ k
+the_next n k marks place lt few f e =
+    let a = e.awaits in
+    let low : place < 999999998 = omega (arith, a.within, few) in
+    let number : txnr_of place ≡ place + 2 = omega (arith, low) in
+    omega (arith, a.number, number)
+
 one_brought : (n k : ℕ) (marks : List Bool) (p : Progress) → k < n → n ≤ 100000 → Fronts k marks → Takes n (Opened marks) (reply_frame (k + 2)) p → Brought (suc k) p
-one_brought n k marks p lt few f (reply, (marked, is, why)) =
-    let now = grown (allowed n marks) marks in
-    let fronts : Fronts k now = fronts_more k marks (allowed n marks - length marks) f in
-    let number : txnr_of (0 + k) ≡ k + 2 = omega (arith, lt, few) in
-    let long : k < length now = omega (arith, lt, count_fronts k marks f, length-append marks (replicate (allowed n marks - length marks) false), length-replicate (allowed n marks - length marks) false) in
+one_brought n k marks p lt few f (reply, why) =
+    let next : Awaits (allowed n marks) marks (k + 2) k = record {
+      within = omega (arith, lt, count_fronts k marks f);
+      unanswered = unknown_next k k marks f (omega arith);
+      number = omega (arith, lt, few);
+    } in
     elim why [
-      | inl none ↦ absurd (awaited k 0 now (k + 2) fronts long number none.0)
+      | inl none ↦ absurd (none.0 k next)
       | inr acks ↦
-          let a = acks.0 in
-          let next = fronts_next k 0 a.before a.after (k + 2) (subst (Fronts k) a.was fronts) number a.earliest in
-          record { marks = marked; is = is; fronts = subst (Fronts (suc k)) (sym a.now) next }
+          let place : acks.0 ≡ k = the_next n k marks acks.0 lt few f acks.1 in
+          record { marks = marked_at acks.0 marks; is = acks.3; fronts = subst (λ (q : ℕ). Fronts (suc k) (marked_at q marks)) (sym place) (fronts_next k marks f) }
     ]
 
 all_brought : (n k count : ℕ) (p q : Progress) → k + count ≤ n → n ≤ 100000 → Brought k p → TakesAll n p (replies (k + 2) count) q → Brought (k + count) q

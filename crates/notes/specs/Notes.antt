@@ -4,7 +4,7 @@ use Rattle.std.specs.Fmt.{decimal}
 use Rattle.event_form.specs.declared.talk.Talk.{Talk}
 use Rattle.event_form.specs.declared.talk.Why.{Why}
 use Rattle.notes.specs.declared.note.Note.{Note}
-use Rattle.notes.specs.declared.note.Note.TheVariants.{Fine, Usage, NotSpool, WrongLength, Fault, Full, TooLarge, Busy, Refused, PeerClosed, Unconfirmed, NoMemory, ReadFault, WriteFault, DiskFault, NetFault, Truncated, RunsSpent, Spent, Worn, NoMore, TooMuch}
+use Rattle.notes.specs.declared.note.Note.TheVariants.{Fine, Usage, NotSpool, WrongLength, Fault, Full, TooLarge, Busy, Refused, PeerClosed, Unconfirmed, NoMemory, ReadFault, WriteFault, DiskFault, NetFault, Truncated, RunsSpent, Spent, Worn, NoMore, TooMuch, Strange}
 
 abbrev pub status_of : Note → ℕ
 status_of Fine = 0
@@ -29,6 +29,7 @@ status_of (Spent end) = 77
 status_of (Worn ordinal) = 77
 status_of (NoMore run) = 77
 status_of (TooMuch at) = 77
+status_of (Strange number) = 79
 
 abbrev pub why_word : Why → List ℕ
 why_word Why.Digits = codes "digits"
@@ -49,7 +50,7 @@ why_word Why.Reply = codes "bad reply"
 -- the text has no end of line, and numbers are decimal
 abbrev pub text_of : Note → List ℕ
 text_of Fine = []
-text_of Usage = codes "usage: bridge FILE format|replay|list|drain|serve|load"
+text_of Usage = codes "usage: bridge FILE format|replay|list|drain|serve|load|move"
 text_of (NotSpool at) = codes "not a spool at " ++ decimal at
 text_of (WrongLength have want) = codes "device has " ++ (decimal have ++ (codes " bytes, " ++ (decimal want ++ codes " wanted")))
 text_of (Fault at why) = codes "fault at " ++ (decimal at ++ (codes ": " ++ why_word why))
@@ -70,6 +71,7 @@ text_of (Spent end) = codes "history spent at " ++ decimal end
 text_of (Worn ordinal) = codes "register spent at " ++ decimal ordinal
 text_of (NoMore run) = codes "ids of run " ++ (decimal run ++ codes " spent")
 text_of (TooMuch at) = codes "connection spent at " ++ decimal at
+text_of (Strange number) = codes "entry " ++ (decimal number ++ codes " is another")
 
 -- what is told of a connection that ended so
 abbrev pub note_of_talk : Talk → Note

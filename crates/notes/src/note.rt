@@ -55,6 +55,8 @@ pub enum Note {
     NoMore { run: u32 },
     /// `at` bytes of the input were read, 2^40, which are all that a connection may have.
     TooMuch { at: u64 },
+    /// The spool into which entries are moved has another one under the tag and the number of this entry.
+    Strange { number: u64 },
 }
 
 // A number between two texts.
@@ -132,6 +134,7 @@ impl Note {
             Note::RunsSpent { .. } => 76,
             Note::Spent { .. } | Note::Worn { .. } | Note::NoMore { .. } | Note::TooMuch { .. } =>
                 77,
+            Note::Strange { .. } => 79,
         }
     }
 
@@ -142,7 +145,7 @@ impl Note {
             Note::Fine => Ok(String::new(alloc)),
             Note::Usage => String::from_str(
                 alloc,
-                "usage: bridge FILE format|replay|list|drain|serve|load",
+                "usage: bridge FILE format|replay|list|drain|serve|load|move",
             ),
             Note::NotSpool { at } => ended_by(alloc, "not a spool at ", at),
             Note::WrongLength { have, want } => {
@@ -180,6 +183,7 @@ impl Note {
             Note::Worn { ordinal } => ended_by(alloc, "register spent at ", ordinal),
             Note::NoMore { run } => numbered(alloc, "ids of run ", u64::from(run), " spent"),
             Note::TooMuch { at } => ended_by(alloc, "connection spent at ", at),
+            Note::Strange { number } => numbered(alloc, "entry ", number, " is another"),
         }
     }
 }

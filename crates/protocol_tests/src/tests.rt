@@ -16,6 +16,9 @@ fn streams_sessions_and_senders(rt: HostRuntime) {
     receiving::lumber::connections(&rt, alloc);
     receiving::lumber::large_windows(&rt, alloc);
     relp::sessions(&rt, alloc);
+    relp::answers_together(&rt, alloc);
+    relp::long_texts(&rt, alloc);
+    relp::windows(&rt, alloc);
     relp::every_second_entry(&rt, alloc);
     relp::recorded(&rt, alloc);
     lumber::sessions(&rt, alloc);

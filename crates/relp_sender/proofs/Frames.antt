@@ -1,5 +1,5 @@
 -- A frame of the peer.
-use Rattle.std.proofs.Common.{◌≡◌, ◌≢◌, inl, inr, ℕ, suc, ◌+◌, ◌<◌, ◌∙◌, Bool, true, false, List, [], ◌∷◌, ◌++◌, length, take, drop, refl, sym, ap, subst, arith}
+use Rattle.std.proofs.Common.{◌≡◌, ◌≢◌, inl, inr, ℕ, suc, ◌+◌, ◌<◌, ◌≤◌, ◌∙◌, Bool, true, false, List, [], ◌∷◌, ◌++◌, length, take, drop, get_or, refl, sym, ap, subst, arith}
 use Rattle.std.specs.Prelude.{◌⊎◌, All, Option, Some, None, slice_index}
 use Rattle.std.specs.List.{remove}
 use Rattle.std.proofs.lemmas.Bool.{false≢true}
@@ -18,17 +18,18 @@ use Rattle.relp_sender.specs.declared.hearing.Heard.{Heard}
 use Rattle.relp_sender.specs.declared.hearing.Heard.TheVariants.{Ignored, Opens, Acknowledged, Stopped}
 use Rattle.relp_sender.specs.Texts.{txnr_of}
 use Rattle.relp_sender.specs.Reply.{code_of, IsReply}
-use Rattle.relp_sender.specs.Marks.{NoneAwaits, Acknowledges, grown, allowed, open_from}
+use Rattle.relp_sender.specs.Marks.{NoneAwaits, IsEarliest, grown, allowed, count_known, marked_at, open_from}
 use Rattle.relp_sender.specs.Window.{IsFirstOf, first_open, beyond_of}
 use Rattle.relp_sender.specs.Hearing.{IsUnawaited, IsAwaited, IsStop, IsHeard}
-use Rattle.relp_sender.specs.Progress.{Progress, Unopened, Opened, Takes, TakesAll, Stops, Awaits}
-use Rattle.relp_sender.specs.Sender.{Sender, Keeps, KeepsAt, HasTold, given, MustHear}
-use Rattle.relp_sender.specs.Due.{heard}
+use Rattle.relp_sender.specs.Progress.{Progress, Unopened, Opened, Takes, TakesAll, Stops, IsOutstanding}
+use Rattle.relp_sender.specs.Sender.{Sender, Keeps, KeepsAt, given, MustHear}
+use Rattle.relp_sender.specs.declared.due.Due.TheVariants.{Hear}
+use Rattle.relp_sender.specs.Due.{IsAcknowledgment, IsDue, heard}
 use Rattle.relp_sender.specs.Sends.{History, SendsOn, CanHave, HasRead, HasMarks, Knows, Stands, StopsAt, Said}
-use Rattle.relp_sender.proofs.Marking.{mark_first, none_awaits, grown_whole, marked_length, allowed_full, allowed_all}
+use Rattle.relp_sender.proofs.Marking.{Marked, mark_first, none_awaits, earliest_of, grown_marked, grown_short, grown_whole, known_grown, count_open, count_grown, marked_length, allowed_full, allowed_all, allowed_least}
 use Rattle.relp_sender.proofs.TextLaws.{append_none}
 use Rattle.relp_sender.proofs.Giving.{no_stop, no_place}
-use Rattle.relp_sender.proofs.Knowing.{knows_grown, knows_opened, knows_marked, knows_also, front_rises, beyond_at}
+use Rattle.relp_sender.proofs.Knowing.{knows_same, knows_opened, knows_marked, knows_also, front_rises, beyond_at}
 
 -- the window and the entries leave nothing to be written
 pub allowed_is : (s : Sender) (marks : List Bool) → Keeps s → length (grown s.written marks) ≡ s.written → s.unanswered ≡ open_from 0 (grown s.written marks) → MustHear Open s
@@ -40,13 +41,15 @@ allowed_is s marks k len places must n can =
       | inr rest ↦ allowed_all n s.written marks len (omega (arith, k.few, count)) (let all : n ≡ given s = can.all rest.1 in let none : length s.waiting ≡ 0 = ap length rest.0 in omega (arith, all, none))
     ]
 
-abbrev TakesOf : ℕ → List Bool → Frame → Progress → Type 0
-TakesOf w marks f next = IsReply f × ((marked : List Bool) × (next ≡ Opened marked)
-    × ((NoneAwaits 0 (grown w marks) f.txnr × (marked ≡ grown w marks))
-    ⊎ (Acknowledges (grown w marks) f.txnr marked × (code_of f.body ≡ Some 200))))
+-- how many are acknowledged
+pub acknowledged_of : (s : Sender) (marks : List Bool) → length (grown s.written marks) ≡ s.written → s.unanswered ≡ open_from 0 (grown s.written marks) → count_known marks + length s.unanswered ≡ s.written
+acknowledged_of s marks len places =
+    let count : length s.unanswered ≡ length (open_from 0 (grown s.written marks)) = ap length places in
+    omega (arith, count, count_open (grown s.written marks) 0, count_grown s.written marks, len)
 
-takes_at : (p : Progress) (marks : List Bool) (n w : ℕ) (f : Frame) (next : Progress) → p ≡ Opened marks → allowed n marks ≡ w → TakesOf w marks f next → Takes n p f next
-takes_at p marks n w f next is e t = subst (λ (q : Progress). Takes n q f next) (sym is) (subst (λ (k : ℕ). TakesOf k marks f next) (sym e) t)
+-- what was written may be
+written_may : (s : Sender) (marks : List Bool) → Keeps s → length (grown s.written marks) ≡ s.written → s.unanswered ≡ open_from 0 (grown s.written marks) → (n : ℕ) → CanHave s n → s.written ≤ allowed n marks
+written_may s marks k len places n can = allowed_least n s.written marks (omega (arith, can.most)) (omega (arith, acknowledged_of s marks len places, k.few))
 
 -- what a frame makes of what stands
 record Steps (stage : Stage) (s : Sender) (unanswered : List ℕ) (beyond : Option ℕ) (f : Frame) (h : History) : Type 0 where
@@ -58,13 +61,6 @@ record Steps (stage : Stage) (s : Sender) (unanswered : List ℕ) (beyond : Opti
 abbrev KnowsOf : Sender → History → Type 0
 KnowsOf s h = Knows h.also h.progress (first_open s.unanswered s.written) s.beyond
 
--- marks grown to the frames written are whole
-grown_marks : (w : ℕ) (marks : List Bool) (unanswered : List ℕ) → length (grown w marks) ≡ w → unanswered ≡ open_from 0 (grown w marks) → HasMarks (Opened (grown w marks)) w unanswered
-grown_marks w marks unanswered len places =
-    let m = grown w marks in
-    let whole : grown w m ≡ m = grown_whole w m len in
-    (m, refl, subst (λ (l : List Bool). length l ≡ w) (sym whole) len, subst (λ (l : List Bool). unanswered ≡ open_from 0 l) (sym whole) places)
-
 ignored : (stage : Stage) (s : Sender) (f : Frame) (h : History) → Keeps s → MustHear stage s → Stands stage h.progress s.written s.unanswered → KnowsOf s h → IsReply f → IsUnawaited stage s.unanswered f.txnr → Steps stage s s.unanswered s.beyond f h
 ignored Fresh s f h k must stands knows reply none = absurd must
 ignored Opening s f h k must stands knows reply none = record {
@@ -75,53 +71,73 @@ ignored Opening s f h k must stands knows reply none = record {
 }
 ignored Open s f h k must stands knows reply none =
     let marks = stands.0 in
-    let m = grown s.written marks in
-    let none' : NoneAwaits 0 m f.txnr = none_awaits m 0 f.txnr (subst (All (λ (q : ℕ). txnr_of q ≢ f.txnr)) stands.3 none) in
+    let written : NoneAwaits s.written marks f.txnr = none_awaits s.written f.txnr marks stands.2 (subst (All (λ (q : ℕ). txnr_of q ≢ f.txnr)) stands.3 none) in
     record {
-      next = Opened m;
-      takes = λ n can. takes_at h.progress marks n s.written f (Opened m) stands.1 (allowed_is s marks k stands.2 stands.3 must n can) (reply, (m, refl, inl (none', refl)));
-      stands = grown_marks s.written marks s.unanswered stands.2 stands.3;
-      knows = knows_grown h.also h.progress marks s.written (first_open s.unanswered s.written) s.beyond stands.1 knows;
+      next = Opened marks;
+      takes = λ n can. (let all : NoneAwaits (allowed n marks) marks f.txnr = subst (λ (w : ℕ). NoneAwaits w marks f.txnr) (sym (allowed_is s marks k stands.2 stands.3 must n can)) written in
+          subst (λ (q : Progress). Takes n q f (Opened marks)) (sym stands.1) (reply, inl (all, refl)));
+      stands = (marks, refl, stands.2, stands.3);
+      knows = subst (λ (q : Progress). Knows h.also q (first_open s.unanswered s.written) s.beyond) stands.1 knows;
     }
 ignored Closed s f h k must stands knows reply none = absurd must
 
-acknowledged : (s : Sender) (f : Frame) (h : History) (index : ℕ) → Keeps s → HasTold s → MustHear Open s → HasMarks h.progress s.written s.unanswered → KnowsOf s h → IsReply f → IsFirstOf s.unanswered f.txnr index → code_of f.body ≡ Some 200
-    → Steps Open s (remove s.unanswered index) (beyond_of index (slice_index s.unanswered index)) f h
-acknowledged s f h index k told must stands knows reply first code =
-    let marks = stands.0 in
-    let m = grown s.written marks in
-    let r = mark_first m 0 f.txnr index (subst (λ (l : List ℕ). IsFirstOf l f.txnr index) stands.3 first) in
-    let marked = r.before ++ true ∷ r.after in
-    let len : length marked ≡ s.written = marked_length r.before r.after ∙ sym (ap length r.was) ∙ stands.2 in
-    let whole : grown s.written marked ≡ marked = grown_whole s.written marked len in
-    let place : 0 + length r.before ≡ length r.before = omega arith in
-    let a : Acknowledges m f.txnr marked = record { before = r.before; after = r.after; was = r.was; now = refl; number = sym (ap txnr_of place) ∙ r.number; earliest = r.earliest } in
-    let left : remove s.unanswered index ≡ open_from 0 marked = ap (λ (l : List ℕ). remove l index) stands.3 ∙ sym r.left_is in
-    let at : slice_index s.unanswered index ≡ length r.before = ap (λ (l : List ℕ). slice_index l index) stands.3 ∙ r.place_is ∙ place in
+-- the entry that a reply acknowledges
+record Answers (s : Sender) (marks : List Bool) (txnr index : ℕ) : Type 0 where
+  before : List Bool
+  after : List Bool
+  was : grown s.written marks ≡ before ++ false ∷ after
+  now : grown s.written (marked_at (length before) marks) ≡ before ++ true ∷ after
+  place : slice_index s.unanswered index ≡ length before
+  left : remove s.unanswered index ≡ open_from 0 (before ++ true ∷ after)
+  earliest : (n : ℕ) → CanHave s n → IsEarliest (allowed n marks) marks txnr (length before)
+
+answers : (s : Sender) (marks : List Bool) (txnr index : ℕ) → Keeps s → length (grown s.written marks) ≡ s.written → s.unanswered ≡ open_from 0 (grown s.written marks) → IsFirstOf s.unanswered txnr index → Answers s marks txnr index
+answers s marks txnr index k len places first =
+    let r : Marked 0 (grown s.written marks) txnr (remove (open_from 0 (grown s.written marks)) index) (slice_index (open_from 0 (grown s.written marks)) index) =
+    mark_first (grown s.written marks) 0 txnr index (subst (λ (l : List ℕ). IsFirstOf l txnr index) places first) in
+    let at : 0 + length r.before ≡ length r.before = omega arith in
     record {
-      next = Opened marked;
-      takes = λ n can. takes_at h.progress marks n s.written f (Opened marked) stands.1 (allowed_is s marks k stands.2 stands.3 must n can) (reply, (marked, refl, inr (a, code)));
-      stands = (marked, refl, subst (λ (l : List Bool). length l ≡ s.written) (sym whole) len, subst (λ (l : List Bool). remove s.unanswered index ≡ open_from 0 l) (sym whole) left);
-      knows = knows_marked h.also h.progress marks r.before r.after s.unanswered s.written index s.beyond stands.1 r.was at k.order k.below first.inside told.beyond knows;
+      before = r.before;
+      after = r.after;
+      was = r.was;
+      now = grown_marked r.before marks r.after s.written (grown_short s.written marks len) r.was;
+      place = ap (λ (l : List ℕ). slice_index l index) places ∙ r.place_is ∙ at;
+      left = ap (λ (l : List ℕ). remove l index) places ∙ sym r.left_is;
+      earliest = λ n can. earliest_of s.written (allowed n marks) txnr marks r.before r.after len r.was r.number r.earliest (written_may s marks k len places n can);
     }
 
-awaits : (stage : Stage) (s : Sender) (f : Frame) (p : Progress) → Keeps s → MustHear stage s → Stands stage p s.written s.unanswered → IsAwaited stage s.unanswered f.txnr → (n : ℕ) → CanHave s n → Awaits n p f.txnr
-awaits Fresh s f p k must stands a n can = absurd a
-awaits Opening s f p k must stands a n can = subst (λ (q : Progress). Awaits n q f.txnr) (sym stands) a
-awaits Open s f p k must stands a n can =
+acknowledged : (s : Sender) (f : Frame) (h : History) (index : ℕ) → Keeps s → s.beyond ≡ None → HasMarks h.progress s.written s.unanswered → KnowsOf s h → IsReply f → IsFirstOf s.unanswered f.txnr index → code_of f.body ≡ Some 200
+    → Steps Open s (remove s.unanswered index) (beyond_of index (slice_index s.unanswered index)) f h
+acknowledged s f h index k alone stands knows reply first code =
     let marks = stands.0 in
-    let m = grown s.written marks in
-    let r = mark_first m 0 f.txnr a.0 (subst (λ (l : List ℕ). IsFirstOf l f.txnr a.0) stands.3 a.1) in
-    let place : 0 + length r.before ≡ length r.before = omega arith in
-    let there : Acknowledges m f.txnr (r.before ++ true ∷ r.after) = record { before = r.before; after = r.after; was = r.was; now = refl; number = sym (ap txnr_of place) ∙ r.number; earliest = r.earliest } in
-    let e = allowed_is s marks k stands.2 stands.3 must n can in
-    subst (λ (q : Progress). Awaits n q f.txnr) (sym stands.1) (r.before ++ true ∷ r.after, subst (λ (w : ℕ). Acknowledges (grown w marks) f.txnr (r.before ++ true ∷ r.after)) (sym e) there)
-awaits Closed s f p k must stands a n can = absurd a
+    let a = answers s marks f.txnr index k stands.2 stands.3 first in
+    let now = a.before ++ true ∷ a.after in
+    let marked = marked_at (length a.before) marks in
+    let len : length now ≡ s.written = marked_length a.before a.after ∙ sym (ap length a.was) ∙ stands.2 in
+    let first_now = first_open (remove s.unanswered index) s.written in
+    let next = beyond_of index (slice_index s.unanswered index) in
+    let known : Knows h.also (Opened now) first_now next = knows_marked h.also h.progress marks a.before a.after s.unanswered s.written index s.beyond stands.1 a.was a.place k.order k.below first.inside alone knows in
+    let as_now : (q : ℕ) → get_or marked q false ≡ get_or now q false = λ q. sym (known_grown s.written marked q) ∙ ap (λ (l : List Bool). get_or l q false) a.now in
+    record {
+      next = Opened marked;
+      takes = λ n can. subst (λ (q : Progress). Takes n q f (Opened marked)) (sym stands.1) (reply, inr (length a.before, a.earliest n can, code, refl));
+      stands = (marked, refl, ap length a.now ∙ len, a.left ∙ ap (open_from 0) (sym a.now));
+      knows = knows_same h.also (Opened now) (Opened marked) first_now next (λ q h. sym (as_now q) ∙ h) (λ q h. as_now q ∙ h) known;
+    }
 
-stops : (stop : Stop) (s : Sender) (at : ℕ) (f : Frame) (p : Progress) → Keeps s → MustHear s.stage s → Stands s.stage p s.written s.unanswered → IsStop s.stage s.unanswered at f stop → (n : ℕ) → CanHave s n → Stops n p f stop
-stops Hint s at f p k must stands h n can = h
-stops (Refused unit code) s at f p k must stands h n can = (h.0, awaits s.stage s f p k must stands h.1 n can, h.2, h.3, h.4)
-stops (BadReply place) s at f p k must stands h n can = elim h.1 [ inl o ↦ inl o | inr o ↦ inr (o.0, awaits s.stage s f p k must stands o.1 n can, o.2) ]
+awaits : (stage : Stage) (s : Sender) (f : Frame) (p : Progress) → Keeps s → Stands stage p s.written s.unanswered → IsAwaited stage s.unanswered f.txnr → (n : ℕ) → CanHave s n → IsOutstanding n p f.txnr
+awaits Fresh s f p k stands a n can = absurd a
+awaits Opening s f p k stands a n can = subst (λ (q : Progress). IsOutstanding n q f.txnr) (sym stands) a
+awaits Open s f p k stands a n can =
+    let marks = stands.0 in
+    let x = answers s marks f.txnr a.0 k stands.2 stands.3 a.1 in
+    subst (λ (q : Progress). IsOutstanding n q f.txnr) (sym stands.1) (length x.before, (x.earliest n can).awaits)
+awaits Closed s f p k stands a n can = absurd a
+
+stops : (stop : Stop) (s : Sender) (at : ℕ) (f : Frame) (p : Progress) → Keeps s → Stands s.stage p s.written s.unanswered → IsStop s.stage s.unanswered at f stop → (n : ℕ) → CanHave s n → Stops n p f stop
+stops Hint s at f p k stands h n can = h
+stops (Refused unit code) s at f p k stands h n can = (h.0, awaits s.stage s f p k stands h.1 n can, h.2, h.3, h.4)
+stops (BadReply place) s at f p k stands h n can = elim h.1 [ inl o ↦ inl o | inr o ↦ inr (o.0, awaits s.stage s f p k stands o.1 n can, o.2) ]
 
 stops_at : (stop : Stop) (stage : Stage) (unanswered : List ℕ) (at : ℕ) (f : Frame) (fed : List ℕ) (taken : List Frame) → IsStop stage unanswered at f stop → BeginsAt fed taken at → StopsAt fed taken stop
 stops_at Hint stage unanswered at f fed taken h b = tt
@@ -170,8 +186,13 @@ can_have s t n a b c can =
     let w : length t.waiting ≡ length s.waiting = ap length b in
     record { most = omega (arith, can.most, a, w); all = λ e. (let x : n ≡ given t = can.all (c ∙ e) in omega (arith, x, a, w)) }
 
-pub sends_heard : (x : Heard) (s : Sender) (r : Reader) (at : ℕ) (f : Frame) → Keeps s → s.stop ≡ None → HasTold s → MustHear s.stage s → IsHeard s.stage s.unanswered at f x → TakesFrom s.reader at f r → SendsOn s [] [] (heard s r x)
-sends_heard Ignored s r at f k goes told must h took hist was =
+-- only an acknowledgment may be heard where that isn't due
+due_of : (s : Sender) (x : Heard) → (IsAcknowledgment x → ⊥) → IsDue Hear s ⊎ IsAcknowledgment x → IsDue Hear s
+due_of s x not may = elim may [ inl due ↦ due | inr a ↦ absurd (not a) ]
+
+pub sends_heard : (x : Heard) (s : Sender) (r : Reader) (at : ℕ) (f : Frame) → Keeps s → s.stop ≡ None → s.beyond ≡ None → IsDue Hear s ⊎ IsAcknowledgment x → IsHeard s.stage s.unanswered at f x → TakesFrom s.reader at f r → SendsOn s [] [] (heard s r x)
+sends_heard Ignored s r at f k goes alone may h took hist was =
+    let must : MustHear s.stage s = (due_of s Ignored (λ a. a) may).2 in
     let step = ignored s.stage s f hist k must was.stands was.knows h.0 h.1 in (
       f ∷ [],
       step.next,
@@ -186,7 +207,7 @@ sends_heard Ignored s r at f k goes told must h took hist was =
         knows = knows_also hist.also step.next (first_open s.unanswered s.written) s.beyond step.knows;
       },
     )
-sends_heard Opens s r at f k goes told must h took hist was =
+sends_heard Opens s r at f k goes alone may h took hist was =
     let step = opens s.stage s f hist h.1 k.at was.stands was.knows h.0 h.2 h.3 in (
       f ∷ [],
       step.next,
@@ -201,10 +222,9 @@ sends_heard Opens s r at f k goes told must h took hist was =
         knows = knows_also hist.also step.next (first_open s.unanswered s.written) s.beyond step.knows;
       },
     )
-sends_heard (Acknowledged index) s r at f k goes told must h took hist was =
-    let must' : MustHear Open s = subst (λ (t : Stage). MustHear t s) h.1 must in
+sends_heard (Acknowledged index) s r at f k goes alone may h took hist was =
     let stands' : HasMarks hist.progress s.written s.unanswered = subst (λ (t : Stage). Stands t hist.progress s.written s.unanswered) h.1 was.stands in
-    let step = acknowledged s f hist index k told must' stands' was.knows h.0 h.2 h.3 in
+    let step = acknowledged s f hist index k alone stands' was.knows h.0 h.2 h.3 in
     let left = remove s.unanswered index in (
       f ∷ [],
       step.next,
@@ -219,7 +239,7 @@ sends_heard (Acknowledged index) s r at f k goes told must h took hist was =
         knows = knows_also hist.also step.next (first_open left s.written) (beyond_of index (slice_index s.unanswered index)) step.knows;
       },
     )
-sends_heard (Stopped stop) s r at f k goes told must h took hist was =
+sends_heard (Stopped stop) s r at f k goes alone may h took hist was =
     let got = took hist.fed hist.taken (read_of hist.fed hist.taken hist.progress s s.stop goes was.read) in
     let same : hist.taken ++ [] ≡ hist.taken = append_none hist.taken in (
       [],
@@ -235,7 +255,7 @@ sends_heard (Stopped stop) s r at f k goes told must h took hist was =
           f,
           subst (λ (l : List Frame). Reads hist.fed (l ++ f ∷ []) r) (sym same) got.1,
           subst (λ (l : List Frame). StopsAt hist.fed l stop) (sym same) (stops_at stop s.stage s.unanswered at f hist.fed hist.taken h got.0),
-          λ n can. stops stop s at f hist.progress k must was.stands h n (can_have s (heard s r (Stopped stop)) n refl refl refl can),
+          λ n can. stops stop s at f hist.progress k was.stands h n (can_have s (heard s r (Stopped stop)) n refl refl refl can),
         );
         knows = knows_also hist.also hist.progress (first_open s.unanswered s.written) s.beyond was.knows;
       },
@@ -259,10 +279,10 @@ must_same Opening s t b c d m = m
 must_same Open s t b c d m = let e : length t.unanswered ≡ length s.unanswered = ap length b in elim m [ inl x ↦ inl (e ∙ x) | inr x ↦ inr (c ∙ x.0, d ∙ x.1, omega (arith, e, x.2)) ]
 must_same Closed s t b c d m = m
 
-pub keeps_heard : (x : Heard) (s : Sender) (r : Reader) (at : ℕ) (f : Frame) → Keeps s → s.asked ≡ false → s.stop ≡ None → HasTold s → MustHear s.stage s → IsHeard s.stage s.unanswered at f x → Keeps (heard s r x)
-keeps_heard Ignored s r at f k asked goes told must h = record { few = k.few; below = k.below; order = k.order; told = k.told; beyond = λ place e. absurd (no_place s.beyond place told.beyond e); number = k.number; events = k.events; at = at_same s.stage s (heard s r Ignored) refl refl refl refl k.at; need = λ e. absurd (false≢true (sym asked ∙ e)); ended = λ stop e. absurd (no_stop s.stop stop goes e) }
-keeps_heard Opens s r at f k asked goes told must h = record { few = k.few; below = k.below; order = k.order; told = k.told; beyond = λ place e. absurd (no_place s.beyond place told.beyond e); number = k.number; events = k.events; at = at_open s.stage s r h.1 k.at; need = λ e. absurd (false≢true (sym asked ∙ e)); ended = λ stop e. absurd (no_stop s.stop stop goes e) }
-keeps_heard (Acknowledged index) s r at f k asked goes told must h =
+pub keeps_heard : (x : Heard) (s : Sender) (r : Reader) (at : ℕ) (f : Frame) → Keeps s → s.asked ≡ false → s.stop ≡ None → s.beyond ≡ None → IsDue Hear s ⊎ IsAcknowledgment x → IsHeard s.stage s.unanswered at f x → Keeps (heard s r x)
+keeps_heard Ignored s r at f k asked goes alone may h = record { few = k.few; below = k.below; order = k.order; told = k.told; beyond = λ place e. absurd (no_place s.beyond place alone e); number = k.number; events = k.events; at = at_same s.stage s (heard s r Ignored) refl refl refl refl k.at; need = λ e. absurd (false≢true (sym asked ∙ e)); ended = λ stop e. absurd (no_stop s.stop stop goes e) }
+keeps_heard Opens s r at f k asked goes alone may h = record { few = k.few; below = k.below; order = k.order; told = k.told; beyond = λ place e. absurd (no_place s.beyond place alone e); number = k.number; events = k.events; at = at_open s.stage s r h.1 k.at; need = λ e. absurd (false≢true (sym asked ∙ e)); ended = λ stop e. absurd (no_stop s.stop stop goes e) }
+keeps_heard (Acknowledged index) s r at f k asked goes alone may h =
     let n = length-remove s.unanswered index h.2.inside in
     let at' : KeepsAt Open s = subst (λ (t : Stage). KeepsAt t s) h.1 k.at in
     record {
@@ -270,24 +290,24 @@ keeps_heard (Acknowledged index) s r at f k asked goes told must h =
       below = All-append (λ (p : ℕ). p < s.written) (take index s.unanswered) (drop (suc index) s.unanswered) (All-take (λ (p : ℕ). p < s.written) index s.unanswered k.below) (All-drop (λ (p : ℕ). p < s.written) (suc index) s.unanswered k.below);
       order = all_pairs_remove (λ (a b : ℕ). a < b) s.unanswered index h.2.inside k.order;
       told = omega (arith, k.told, front_rises s.unanswered s.written index k.order k.below h.2.inside);
-      beyond = λ place e. (let b = beyond_at s.unanswered s.written index place s.told k.order k.below h.2.inside told.front e in record { front = b.0; after = b.1; written = b.2 });
+      beyond = λ place e. (let b = beyond_at s.unanswered s.written index place k.order k.below h.2.inside e in record { after = b.0; written = b.1 });
       number = k.number;
       events = k.events;
       at = subst (λ (t : Stage). KeepsAt t (heard s r (Acknowledged index))) (sym h.1) at';
       need = λ e. absurd (false≢true (sym asked ∙ e));
       ended = λ stop e. absurd (no_stop s.stop stop goes e);
     }
-keeps_heard (Stopped stop) s r at f k asked goes told must h = record { few = k.few; below = k.below; order = k.order; told = k.told; beyond = λ place e. absurd (no_place s.beyond place told.beyond e); number = k.number; events = k.events; at = at_same s.stage s (heard s r (Stopped stop)) refl refl refl refl k.at; need = λ e. absurd (false≢true (sym asked ∙ e)); ended = λ _ e. (record { front = told.front; beyond = told.beyond }, must_same s.stage s (heard s r (Stopped stop)) refl refl refl must) }
+keeps_heard (Stopped stop) s r at f k asked goes alone may h = record { few = k.few; below = k.below; order = k.order; told = k.told; beyond = λ place e. absurd (no_place s.beyond place alone e); number = k.number; events = k.events; at = at_same s.stage s (heard s r (Stopped stop)) refl refl refl refl k.at; need = λ e. absurd (false≢true (sym asked ∙ e)); ended = λ _ e. (let due = due_of s (Stopped stop) (λ a. a) may in (record { front = due.1.front; beyond = due.1.beyond }, must_same s.stage s (heard s r (Stopped stop)) refl refl refl due.2)) }
 
 -- the same with what the window is left with
-pub sends_acknowledged : (index : ℕ) (s : Sender) (r : Reader) (at : ℕ) (f : Frame) (left : List ℕ) (after : Option ℕ) → Keeps s → s.stop ≡ None → HasTold s → MustHear s.stage s → IsHeard s.stage s.unanswered at f (Acknowledged index) → TakesFrom s.reader at f r
+pub sends_acknowledged : (index : ℕ) (s : Sender) (r : Reader) (at : ℕ) (f : Frame) (left : List ℕ) (after : Option ℕ) → Keeps s → s.stop ≡ None → s.beyond ≡ None → IsHeard s.stage s.unanswered at f (Acknowledged index) → TakesFrom s.reader at f r
     → left ≡ remove s.unanswered index → after ≡ beyond_of index (slice_index s.unanswered index) → SendsOn s [] [] (record s { reader = r; unanswered = left; beyond = after })
-sends_acknowledged index s r at f left after k goes told must h took a b =
+sends_acknowledged index s r at f left after k goes alone h took a b =
     subst (λ (l : List ℕ). SendsOn s [] [] (record s { reader = r; unanswered = l; beyond = after })) (sym a)
-    (subst (λ (o : Option ℕ). SendsOn s [] [] (record s { reader = r; unanswered = remove s.unanswered index; beyond = o })) (sym b) (sends_heard (Acknowledged index) s r at f k goes told must h took))
+    (subst (λ (o : Option ℕ). SendsOn s [] [] (record s { reader = r; unanswered = remove s.unanswered index; beyond = o })) (sym b) (sends_heard (Acknowledged index) s r at f k goes alone (inr tt) h took))
 
-pub keeps_acknowledged : (index : ℕ) (s : Sender) (r : Reader) (at : ℕ) (f : Frame) (left : List ℕ) (after : Option ℕ) → Keeps s → s.asked ≡ false → s.stop ≡ None → HasTold s → MustHear s.stage s → IsHeard s.stage s.unanswered at f (Acknowledged index)
+pub keeps_acknowledged : (index : ℕ) (s : Sender) (r : Reader) (at : ℕ) (f : Frame) (left : List ℕ) (after : Option ℕ) → Keeps s → s.asked ≡ false → s.stop ≡ None → s.beyond ≡ None → IsHeard s.stage s.unanswered at f (Acknowledged index)
     → left ≡ remove s.unanswered index → after ≡ beyond_of index (slice_index s.unanswered index) → Keeps (record s { reader = r; unanswered = left; beyond = after })
-keeps_acknowledged index s r at f left after k asked goes told must h a b =
+keeps_acknowledged index s r at f left after k asked goes alone h a b =
     subst (λ (l : List ℕ). Keeps (record s { reader = r; unanswered = l; beyond = after })) (sym a)
-    (subst (λ (o : Option ℕ). Keeps (record s { reader = r; unanswered = remove s.unanswered index; beyond = o })) (sym b) (keeps_heard (Acknowledged index) s r at f k asked goes told must h))
+    (subst (λ (o : Option ℕ). Keeps (record s { reader = r; unanswered = remove s.unanswered index; beyond = o })) (sym b) (keeps_heard (Acknowledged index) s r at f k asked goes alone (inr tt) h))

@@ -27,9 +27,6 @@ known_marks p marks w place is h = known_grown w marks place ∙ subst (λ (q : 
 pub marks_known : (p : Progress) (marks : List Bool) (w place : ℕ) → p ≡ Opened marks → get_or (grown w marks) place false ≡ true → IsKnown p place
 marks_known p marks w place is h = subst (λ (q : Progress). IsKnown q place) (sym is) (sym (known_grown w marks place) ∙ h)
 
-pub knows_grown : (also : List ℕ) (p : Progress) (marks : List Bool) (w first : ℕ) (beyond : Option ℕ) → p ≡ Opened marks → Knows also p first beyond → Knows also (Opened (grown w marks)) first beyond
-knows_grown also p marks w first beyond is k = knows_same also p (Opened (grown w marks)) first beyond (λ place h. marks_known p marks w place is h) (λ place h. known_marks p marks w place is h) k
-
 -- the session is open: no entry is acknowledged yet
 pub knows_opened : (also : List ℕ) (p : Progress) (first : ℕ) (beyond : Option ℕ) → p ≡ Unopened → Knows also p first beyond → Knows also (Opened []) first beyond
 knows_opened also p first beyond is k =
@@ -64,15 +61,15 @@ new_place (p ∷ ps) w (suc k) place order below lt is =
     inr (ap (λ (b : Bool). if b then None else Some (slice_index (p ∷ ps) (suc k))) no ∙ ap Some (sym is))
 
 -- one that is to be told by itself comes after the first that isn't acknowledged
-pub beyond_at : (ps : List ℕ) (w index place told : ℕ) → AllPairs (λ (a b : ℕ). a < b) ps → All (λ (p : ℕ). p < w) ps → index < length ps → told ≡ first_open ps w → beyond_of index (slice_index ps index) ≡ Some place → (told ≡ first_open (remove ps index) w) × (told < place) × (place < w)
-beyond_at [] w index place told order below lt is h = absurd (omega (arith, lt))
-beyond_at (p ∷ ps) w zero place told order below lt is h = absurd cc
-beyond_at (p ∷ ps) w (suc k) place told order below lt is h =
+pub beyond_at : (ps : List ℕ) (w index place : ℕ) → AllPairs (λ (a b : ℕ). a < b) ps → All (λ (p : ℕ). p < w) ps → index < length ps → beyond_of index (slice_index ps index) ≡ Some place → (first_open (remove ps index) w < place) × (place < w)
+beyond_at [] w index place order below lt h = absurd (omega (arith, lt))
+beyond_at (p ∷ ps) w zero place order below lt h = absurd cc
+beyond_at (p ∷ ps) w (suc k) place order below lt h =
     let x = slice_index (p ∷ ps) (suc k) in
     let e : x ≡ place = beyond_some (suc k) x place h in
     let o : p < x = order 0 (suc k) 0 (omega arith) lt in
     let b : x < w = All-get_or (λ (q : ℕ). q < w) (p ∷ ps) (suc k) 0 lt below in
-    (is, omega (arith, o, e, is), omega (arith, b, e))
+    (omega (arith, o, e), omega (arith, b, e))
 
 -- one mark more, of the entry at an index of those that were not acknowledged
 pub knows_marked : (also : List ℕ) (p : Progress) (marks before after : List Bool) (ps : List ℕ) (w index : ℕ) (was : Option ℕ) → p ≡ Opened marks → grown w marks ≡ before ++ false ∷ after → slice_index ps index ≡ length before

@@ -5,6 +5,8 @@ pub mod Knowing
 pub mod Frames
 pub mod Writing
 pub mod Telling
+pub mod Joining
+pub mod Taking
 pub mod Whole
 pub mod OneDue
 pub mod Spending

@@ -7,7 +7,7 @@ use Rattle.std.proofs.lemmas.Grind.{common_steps, replicate_next}
 use Rattle.std.proofs.lemmas.List.Elements.{All-head, All-tail}
 use Rattle.std.proofs.Math.ListN.{length-append}
 use Rattle.relp_sender.specs.Texts.{txnr_of}
-use Rattle.relp_sender.specs.Marks.{count_known, known_front, open_from, NoneAwaits, grown, allowed}
+use Rattle.relp_sender.specs.Marks.{IsEarliest, NoneAwaits, count_known, known_front, marked_at, open_from, grown, allowed}
 use Rattle.relp_sender.specs.Window.{IsFirstOf, first_open}
 
 pub count_open : (m : List Bool) (i : ℕ) → count_known m + length (open_from i m) ≡ length m
@@ -22,11 +22,24 @@ front_open (true ∷ m) i =
     ap (λ (n : ℕ). first_open (open_from (i + 1) m) n) e ∙ front_open m (i + 1) ∙ omega arith
 front_open (false ∷ m) i = omega arith
 
-pub none_awaits : (m : List Bool) (i txnr : ℕ) → All (λ (p : ℕ). txnr_of p ≢ txnr) (open_from i m) → NoneAwaits i m txnr
-none_awaits [] i txnr all = tt
-none_awaits (true ∷ m) i txnr all = none_awaits m (i + 1) txnr all
-none_awaits (false ∷ m) i txnr all =
-    (All-head (λ (p : ℕ). txnr_of p ≢ txnr) i (open_from (i + 1) m) all, none_awaits m (i + 1) txnr (All-tail (λ (p : ℕ). txnr_of p ≢ txnr) i (open_from (i + 1) m) all))
+-- no entry without a mark has a frame of this number, the first mark's place given
+abbrev pub NoneIn : ℕ → List Bool → ℕ → Type 0
+NoneIn place [] txnr = Unit {0}
+NoneIn place (true ∷ marks) txnr = NoneIn (place + 1) marks txnr
+NoneIn place (false ∷ marks) txnr = (txnr_of place ≢ txnr) × NoneIn (place + 1) marks txnr
+
+none_in : (m : List Bool) (i txnr : ℕ) → All (λ (p : ℕ). txnr_of p ≢ txnr) (open_from i m) → NoneIn i m txnr
+none_in [] i txnr all = tt
+none_in (true ∷ m) i txnr all = none_in m (i + 1) txnr all
+none_in (false ∷ m) i txnr all =
+    (All-head (λ (p : ℕ). txnr_of p ≢ txnr) i (open_from (i + 1) m) all, none_in m (i + 1) txnr (All-tail (λ (p : ℕ). txnr_of p ≢ txnr) i (open_from (i + 1) m) all))
+
+not_in : (m : List Bool) (i q txnr : ℕ) → NoneIn i m txnr → q < length m → get_or m q false ≡ false → txnr_of (i + q) ≡ txnr → ⊥
+not_in [] i q txnr none lt free is = omega (arith, lt)
+not_in (true ∷ m) i zero txnr none lt free is = false≢true (sym free)
+not_in (true ∷ m) i (suc q) txnr none lt free is = let e : i + 1 + q ≡ i + suc q = omega arith in not_in m (i + 1) q txnr none (omega (arith, lt)) free (ap txnr_of e ∙ is)
+not_in (false ∷ m) i zero txnr none lt free is = let e : i ≡ i + 0 = omega arith in none.0 (ap txnr_of e ∙ is)
+not_in (false ∷ m) i (suc q) txnr none lt free is = let e : i + 1 + q ≡ i + suc q = omega arith in not_in m (i + 1) q txnr none.1 (omega (arith, lt)) free (ap txnr_of e ∙ is)
 
 -- the marks with one more, at the first place that awaits that number
 pub record Marked (i : ℕ) (m : List Bool) (txnr : ℕ) (left : List ℕ) (place : ℕ) : Type 0 where
@@ -35,7 +48,7 @@ pub record Marked (i : ℕ) (m : List Bool) (txnr : ℕ) (left : List ℕ) (plac
   pub was : m ≡ before ++ false ∷ after
   pub left_is : open_from i (before ++ true ∷ after) ≡ left
   pub number : txnr_of (i + length before) ≡ txnr
-  pub earliest : NoneAwaits i before txnr
+  pub earliest : NoneIn i before txnr
   pub place_is : place ≡ i + length before
 
 pub mark_first : (m : List Bool) (i txnr index : ℕ) → IsFirstOf (open_from i m) txnr index → Marked i m txnr (remove (open_from i m) index) (slice_index (open_from i m) index)
@@ -166,3 +179,64 @@ front_known [] q lt = absurd (omega (arith, lt))
 front_known (true ∷ m) zero lt = refl
 front_known (true ∷ m) (suc q) lt = front_known m q (omega (arith, lt))
 front_known (false ∷ m) q lt = absurd (omega (arith, lt))
+
+-- ---- the first entry that awaits a number
+
+pub none_awaits : (w txnr : ℕ) (marks : List Bool) → length (grown w marks) ≡ w → All (λ (p : ℕ). txnr_of p ≢ txnr) (open_from 0 (grown w marks)) → NoneAwaits w marks txnr
+none_awaits w txnr marks len all = λ q a.
+    let at : 0 + q ≡ q = omega arith in
+    not_in (grown w marks) 0 q txnr (none_in (grown w marks) 0 txnr all) (omega (arith, a.within, len)) (known_grown w marks q ∙ a.unanswered) (ap txnr_of at ∙ a.number)
+
+at_front : (before rest : List Bool) (q : ℕ) → q < length before → get_or before q false ≡ get_or (before ++ rest) q false
+at_front [] rest q lt = absurd (omega (arith, lt))
+at_front (b ∷ before) rest zero lt = refl
+at_front (b ∷ before) rest (suc q) lt = at_front before rest q (omega (arith, lt))
+
+at_here : (before after : List Bool) (b : Bool) → get_or (before ++ b ∷ after) (length before) false ≡ b
+at_here [] after b = refl
+at_here (c ∷ before) after b = at_here before after b
+
+-- of the entries that may be written, of which so many were
+pub earliest_of : (w v txnr : ℕ) (marks before after : List Bool) → length (grown w marks) ≡ w → grown w marks ≡ before ++ false ∷ after → txnr_of (0 + length before) ≡ txnr → NoneIn 0 before txnr → w ≤ v → IsEarliest v marks txnr (length before)
+earliest_of w v txnr marks before after len parts number none le =
+    let at : length before ≡ 0 + length before = omega arith in
+    let long : length (grown w marks) ≡ length before + length (false ∷ after) = ap length parts ∙ length-append before (false ∷ after) in
+    let same : (q : ℕ) → get_or marks q false ≡ get_or (before ++ false ∷ after) q false = λ q. sym (known_grown w marks q) ∙ ap (λ (l : List Bool). get_or l q false) parts in
+    record {
+      awaits = record { within = omega (arith, long, len, le); unanswered = same (length before) ∙ at_here before after false; number = ap txnr_of at ∙ number };
+      earlier = λ q a. (let at_q : 0 + q ≡ q = omega arith in
+          not_in before 0 q txnr none a.within (at_front before (false ∷ after) q a.within ∙ sym (same q) ∙ a.unanswered) (ap txnr_of at_q ∙ a.number));
+    }
+
+-- with its mark
+pub grown_marked : (before marks after : List Bool) (w : ℕ) → length marks ≤ w → grown w marks ≡ before ++ false ∷ after → grown w (marked_at (length before) marks) ≡ before ++ true ∷ after
+grown_marked [] [] after zero le is = absurd (omega (arith, ap length is))
+grown_marked [] [] after (suc w) le is =
+    let all : suc w - 0 ≡ suc w = omega arith in
+    let rest : suc w - length (true ∷ []) ≡ w = omega arith in
+    let grew : false ∷ replicate w false ≡ false ∷ after = ap (λ (k : ℕ). replicate k false) (sym all) ∙ is in
+    let tail : replicate w false ≡ after = cc in
+    ap (λ (k : ℕ). true ∷ replicate k false) rest ∙ ap (λ (l : List Bool). true ∷ l) tail
+grown_marked [] (b ∷ marks) after w le is =
+    let tail : marks ++ replicate (w - length (b ∷ marks)) false ≡ after = cc in
+    ap (λ (l : List Bool). true ∷ l) tail
+grown_marked (c ∷ before) [] after zero le is = absurd (omega (arith, ap length is))
+grown_marked (c ∷ before) [] after (suc w) le is =
+    let all : suc w - 0 ≡ suc w = omega arith in
+    let none : w - 0 ≡ w = omega arith in
+    let grew : false ∷ replicate w false ≡ c ∷ (before ++ false ∷ after) = ap (λ (k : ℕ). replicate k false) (sym all) ∙ is in
+    let head : false ≡ c = cc in
+    let tail : replicate w false ≡ before ++ false ∷ after = cc in
+    let next = grown_marked before [] after w (omega arith) (ap (λ (k : ℕ). replicate k false) none ∙ tail) in
+    let x = marked_at (length before) [] in
+    let less : suc w - length (false ∷ x) ≡ w - length x = omega arith in
+    ap (λ (k : ℕ). false ∷ (x ++ replicate k false)) less ∙ ap (λ (l : List Bool). false ∷ l) next ∙ ap (λ (b : Bool). b ∷ (before ++ true ∷ after)) head
+grown_marked (c ∷ before) (b ∷ marks) after zero le is = absurd (omega (arith, le))
+grown_marked (c ∷ before) (b ∷ marks) after (suc w) le is =
+    let same : w - length marks ≡ suc w - length (b ∷ marks) = omega arith in
+    let head : b ≡ c = cc in
+    let tail : marks ++ replicate (suc w - length (b ∷ marks)) false ≡ before ++ false ∷ after = cc in
+    let next = grown_marked before marks after w (omega (arith, le)) (ap (λ (k : ℕ). marks ++ replicate k false) same ∙ tail) in
+    let x = marked_at (length before) marks in
+    let less : suc w - length (b ∷ x) ≡ w - length x = omega arith in
+    ap (λ (k : ℕ). b ∷ (x ++ replicate k false)) less ∙ ap (λ (l : List Bool). b ∷ l) next ∙ ap (λ (d : Bool). d ∷ (before ++ true ∷ after)) head

@@ -18,10 +18,10 @@ use Rattle.relp_sender.specs.Text.{session_text, text_by, closing_text}
 use Rattle.relp_sender.specs.Sender.{Sender, Keeps, KeepsAt, HasTold, given, MustHear, IsDone, MayAsk}
 use Rattle.relp_sender.specs.Sends.{History, Sends, CanHave, HasMarks, Stands, Said}
 use Rattle.relp_sender.specs.Turns.{IsTurn, IsWhole, IsWholeOf, IsFirstOf, Begins, TellsAll}
-use Rattle.relp_sender.proofs.Marking.{count_open, count_grown, front_open, front_grown, allowed_all, allowed_least}
+use Rattle.relp_sender.proofs.Marking.{front_open, front_grown, allowed_all, allowed_least}
 use Rattle.relp_sender.proofs.TextLaws.{append_none, frames_append}
 use Rattle.relp_sender.proofs.Knowing.{known_below}
-use Rattle.relp_sender.proofs.Frames.{allowed_is}
+use Rattle.relp_sender.proofs.Frames.{acknowledged_of, allowed_is}
 use Rattle.relp_sender.proofs.Writing.{empty_of}
 
 -- ---- texts
@@ -68,11 +68,6 @@ open_session L front rest p marks w over some is parts count may =
 
 count_of : (entries front : List Entry) (s : Sender) → entries ≡ front ++ s.waiting → length front ≡ s.written → length entries ≡ given s
 count_of entries front s whole count = ap length whole ∙ omega (arith, count, length-append front s.waiting)
-
-acknowledged_of : (s : Sender) (marks : List Bool) → length (grown s.written marks) ≡ s.written → s.unanswered ≡ open_from 0 (grown s.written marks) → count_known marks + length s.unanswered ≡ s.written
-acknowledged_of s marks len places =
-    let count : length s.unanswered ≡ length (open_from 0 (grown s.written marks)) = ap length places in
-    omega (arith, count, count_open (grown s.written marks) 0, count_grown s.written marks, len)
 
 open_few : (s : Sender) (marks : List Bool) → Keeps s → s.unanswered ≡ open_from 0 (grown s.written marks) → length (open_from 0 (grown s.written marks)) ≤ 1024
 open_few s marks k places = let c : length s.unanswered ≡ length (open_from 0 (grown s.written marks)) = ap length places in omega (arith, k.few, c)

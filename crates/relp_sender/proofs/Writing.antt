@@ -64,16 +64,16 @@ keeps_open s places k asked goes told is may empty =
     }
 
 -- the sender that wrote an entry's frame
-abbrev pub wrote : Sender → List Entry → List ℕ → Sender
-wrote s es places = record s { waiting = es; written = s.written + 1; unanswered = places }
+abbrev pub wrote_one : Sender → List Entry → List ℕ → Sender
+wrote_one s es places = record s { waiting = es; written = s.written + 1; unanswered = places }
 
 front_same : (u : List ℕ) (w : ℕ) → first_open (u ++ w ∷ []) (w + 1) ≡ first_open u w
 front_same [] w = refl
 front_same (p ∷ u) w = refl
 
-pub sends_entry : (s : Sender) (text : List ℕ) (e : Entry) (es : List Entry) (places : List ℕ) → s.stage ≡ Open → s.waiting ≡ e ∷ es → text ≡ event_text s.written e.event → places ≡ s.unanswered ++ s.written ∷ [] → SendsOn s text [] (wrote s es places)
+pub sends_entry : (s : Sender) (text : List ℕ) (e : Entry) (es : List Entry) (places : List ℕ) → s.stage ≡ Open → s.waiting ≡ e ∷ es → text ≡ event_text s.written e.event → places ≡ s.unanswered ++ s.written ∷ [] → SendsOn s text [] (wrote_one s es places)
 sends_entry s text e es places is more text_is grew h was =
-    let t = wrote s es places in
+    let t = wrote_one s es places in
     let as_many : length s.waiting ≡ length es + 1 = ap length more ∙ omega arith in
     let can : (n : ℕ) → CanHave t n → CanHave s n = λ n c. record { most = omega (arith, c.most, as_many); all = λ f. (let a : n ≡ given t = c.all f in omega (arith, a, as_many)) } in
     let said : Said Open was.front h.out = subst (λ (x : Stage). Said x was.front h.out) is was.said in
@@ -101,7 +101,7 @@ sends_entry s text e es places is more text_is grew h was =
       },
     )
 
-pub keeps_entry : (s : Sender) (e : Entry) (es : List Entry) (places : List ℕ) → Keeps s → s.asked ≡ false → s.stop ≡ None → HasTold s → s.stage ≡ Open → s.waiting ≡ e ∷ es → length s.unanswered < 1024 → places ≡ s.unanswered ++ s.written ∷ [] → Keeps (wrote s es places)
+pub keeps_entry : (s : Sender) (e : Entry) (es : List Entry) (places : List ℕ) → Keeps s → s.asked ≡ false → s.stop ≡ None → HasTold s → s.stage ≡ Open → s.waiting ≡ e ∷ es → length s.unanswered < 1024 → places ≡ s.unanswered ++ s.written ∷ [] → Keeps (wrote_one s es places)
 keeps_entry s e es places k asked goes told is more room grew =
     let as_many : length s.waiting ≡ length es + 1 = ap length more ∙ omega arith in
     let grown_by : length places ≡ length s.unanswered + 1 = ap length grew ∙ length-append s.unanswered (s.written ∷ []) in
@@ -116,7 +116,7 @@ keeps_entry s e es places k asked goes told is more room grew =
       beyond = λ place x. absurd (no_place s.beyond place told.beyond x);
       number = omega (arith, k.number, as_many);
       events = All-tail (λ (x : Entry). IsEvent x.event) e es (subst (All (λ (x : Entry). IsEvent x.event)) more k.events);
-      at = subst (λ (x : Stage). KeepsAt x (wrote s es places)) (sym is) (let a : 0 < s.written + 1 + length es = omega arith in a);
+      at = subst (λ (x : Stage). KeepsAt x (wrote_one s es places)) (sym is) (let a : 0 < s.written + 1 + length es = omega arith in a);
       need = λ a. absurd (false≢true (sym asked ∙ a));
       ended = λ stop a. absurd (no_stop s.stop stop goes a);
     }
@@ -148,9 +148,6 @@ may_open Fresh s not may = absurd (elim not [ inl e ↦ cc | inr e ↦ cc ])
 may_open Opening s not may = absurd may
 may_open Open s not may = refl
 may_open Closed s not may = absurd may
-
-pub room_of : (s : Sender) (e : Entry) (es : List Entry) → s.waiting ≡ e ∷ es → MayWrite Open s → length s.unanswered < 1024
-room_of s e es more may = elim may [ inl a ↦ a.1 | inr a ↦ absurd (let x : length s.waiting ≡ 0 = ap length a.0 in let y : length s.waiting ≡ length es + 1 = ap length more ∙ omega arith in omega (arith, x, y)) ]
 
 pub empty_of : {A : Type 0} (xs : List A) → length xs ≡ 0 → xs ≡ []
 empty_of {A = A} [] e = refl

@@ -5,10 +5,9 @@ use Rattle.relp_frame.specs.declared.frame.Frame.{Frame}
 use Rattle.relp_sender.specs.declared.stage.Stop.{Stop}
 use Rattle.relp_sender.specs.declared.stage.Stop.TheVariants.{Hint, Refused, BadReply}
 use Rattle.relp_sender.specs.Reply.{code_of, IsReply, IsHint}
-use Rattle.relp_sender.specs.Marks.{Acknowledges, NoneAwaits, allowed, grown, known_front}
+use Rattle.relp_sender.specs.Marks.{Awaits, IsEarliest, NoneAwaits, allowed, known_front, marked_at}
 
--- The session isn't open, or it is, and these are the marks of the frames that were written when the last
--- of the peer's frames was taken.
+-- The session isn't open, or it is, and these marks say which entries are acknowledged.
 pub data Progress : Type 0 where
   Unopened : Progress
   Opened : List Bool → Progress
@@ -24,17 +23,16 @@ known_by Unopened = 0
 known_by (Opened marks) = known_front marks
 
 -- an unanswered frame has this transaction number
-abbrev pub Awaits : ℕ → Progress → ℕ → Type 0
-Awaits n Unopened txnr = txnr ≡ 1
-Awaits n (Opened marks) txnr = (marked : List Bool) × Acknowledges (grown (allowed n marks) marks) txnr marked
+abbrev pub IsOutstanding : ℕ → Progress → ℕ → Type 0
+IsOutstanding n Unopened txnr = txnr ≡ 1
+IsOutstanding n (Opened marks) txnr = (place : ℕ) × Awaits (allowed n marks) marks txnr place
 
 -- a reply to no unanswered frame is ignored; one with code 200 opens the session, or acknowledges the
 -- earliest unanswered frame with its transaction number
 abbrev pub Takes : ℕ → Progress → Frame → Progress → Type 0
 Takes n Unopened f next = IsReply f × (((f.txnr ≢ 1) × (next ≡ Unopened)) ⊎ ((f.txnr ≡ 1) × (code_of f.body ≡ Some 200) × (next ≡ Opened [])))
-Takes n (Opened marks) f next = IsReply f × ((marked : List Bool) × (next ≡ Opened marked)
-    × ((NoneAwaits 0 (grown (allowed n marks) marks) f.txnr × (marked ≡ grown (allowed n marks) marks))
-    ⊎ (Acknowledges (grown (allowed n marks) marks) f.txnr marked × (code_of f.body ≡ Some 200))))
+Takes n (Opened marks) f next = IsReply f × ((NoneAwaits (allowed n marks) marks f.txnr × (next ≡ Opened marks))
+    ⊎ ((place : ℕ) × IsEarliest (allowed n marks) marks f.txnr place × (code_of f.body ≡ Some 200) × (next ≡ Opened (marked_at place marks))))
 
 -- the same of frames, one after another
 abbrev pub TakesAll : ℕ → Progress → List Frame → Progress → Type 0
@@ -44,5 +42,5 @@ TakesAll n p (f ∷ frames) next = (q : Progress) × Takes n p f q × TakesAll n
 -- the session ends at this frame
 abbrev pub Stops : ℕ → Progress → Frame → Stop → Type 0
 Stops n p f Hint = IsHint f
-Stops n p f (Refused unit code) = IsReply f × Awaits n p f.txnr × (unit ≡ f.txnr) × (code_of f.body ≡ Some code) × (code ≢ 200)
-Stops n p f (BadReply at) = ((IsHint f → ⊥) × (IsReply f → ⊥)) ⊎ (IsReply f × Awaits n p f.txnr × (code_of f.body ≡ None))
+Stops n p f (Refused unit code) = IsReply f × IsOutstanding n p f.txnr × (unit ≡ f.txnr) × (code_of f.body ≡ Some code) × (code ≢ 200)
+Stops n p f (BadReply at) = ((IsHint f → ⊥) × (IsReply f → ⊥)) ⊎ (IsReply f × IsOutstanding n p f.txnr × (code_of f.body ≡ None))

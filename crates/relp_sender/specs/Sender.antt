@@ -1,5 +1,5 @@
 -- What contracts see of a sender.
-use Rattle.std.specs.Prelude.{◌≡◌, ◌⊎◌, ℕ, ◌+◌, ◌<◌, ◌≤◌, ◌^◌, Bool, true, false, List, [], length, Option, Some, None, All}
+use Rattle.std.specs.Prelude.{◌≡◌, ◌⊎◌, ℕ, zero, suc, ◌+◌, ◌<◌, ◌≤◌, ◌^◌, Bool, true, false, List, [], ◌∷◌, ◌++◌, length, drop, Option, Some, None, All}
 use Rattle.std.specs.List.{AllPairs}
 use Rattle.event_form.specs.declared.event.Entry.{Entry}
 use Rattle.event_form.specs.Event.{IsEvent}
@@ -29,6 +29,15 @@ pub record Sender : Type 0 where
 -- how many entries were given
 abbrev pub given : Sender → ℕ
 given s = s.written + length s.waiting
+
+-- so many places from one on
+abbrev pub places_from : ℕ → ℕ → List ℕ
+places_from place zero = []
+places_from place (suc count) = place ∷ places_from (place + 1) count
+
+-- the sender once the frames of so many of the entries that wait were written
+abbrev pub wrote : ℕ → Sender → Sender
+wrote count s = record s { waiting = drop count s.waiting; written = s.written + count; unanswered = s.unanswered ++ places_from s.written count }
 
 -- all that is acknowledged was told
 pub record HasTold (s : Sender) : Type 0 where
@@ -78,8 +87,7 @@ KeepsAt Closed s = (s.waiting ≡ []) × (s.unanswered ≡ []) × (s.finished �
 
 -- the place of an entry that is acknowledged after the first that isn't
 pub record IsBeyond (s : Sender) (place : ℕ) : Type 0 where
-  pub front : s.told ≡ first_open s.unanswered s.written
-  pub after : s.told < place
+  pub after : first_open s.unanswered s.written < place
   pub written : place < s.written
 
 pub record Keeps (s : Sender) : Type 0 where

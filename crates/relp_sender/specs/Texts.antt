@@ -1,5 +1,5 @@
 -- What is written to a receiver of RELP: texts by the entries alone.
-use Rattle.std.specs.Prelude.{ℕ, ◌+◌, ◌%◌, List, [], ◌∷◌, ◌++◌, codes}
+use Rattle.std.specs.Prelude.{ℕ, ◌+◌, ◌%◌, ◌<◌, List, [], ◌∷◌, ◌++◌, length, codes}
 use Rattle.event_form.specs.declared.event.Event.{Event}
 use Rattle.event_form.specs.declared.event.Entry.{Entry}
 use Rattle.event_map.proofs.Functions.{text_of}
@@ -25,3 +25,8 @@ close_text place = frame_text (txnr_of place) (codes "close") []
 abbrev pub frames_text : ℕ → List Entry → List ℕ
 frames_text place [] = []
 frames_text place (e ∷ es) = event_text place e.event ++ frames_text (place + 1) es
+
+-- with the frame of the first of these entries, which stands at that place, the text would have more than 65,536 bytes
+abbrev pub IsTooLongWith : List ℕ → ℕ → List Entry → Type 0
+IsTooLongWith text place [] = ⊥
+IsTooLongWith text place (e ∷ es) = 65536 < length text + length (event_text place e.event)

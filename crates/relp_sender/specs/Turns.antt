@@ -1,17 +1,20 @@
 -- Where each turn comes, and what holds there.
-use Rattle.std.specs.Prelude.{◌≡◌, ◌⊎◌, ◌↔◌, ℕ, ◌+◌, ◌-◌, ◌<◌, true, List, [], ◌∷◌, ◌++◌, length, Option, Some, None, Contains}
+use Rattle.std.specs.Prelude.{◌≡◌, ◌⊎◌, ◌↔◌, ℕ, ◌+◌, ◌-◌, ◌<◌, ◌≤◌, true, List, [], ◌∷◌, ◌++◌, length, Option, Some, None, Contains}
 use Rattle.event_form.specs.declared.turn.Turn.{Turn}
 use Rattle.event_form.specs.declared.turn.Turn.TheVariants.{Write, Confirmed, Also, Need, Wait, Pause, Done, Refused, PeerClosed, PeerFault, Unconfirmed}
 use Rattle.event_form.specs.declared.talk.Why.TheVariants.{Reply}
 use Rattle.event_form.specs.declared.event.Entry.{Entry}
+use Rattle.event_form.specs.declared.event.Event.{Event}
 use Rattle.relp_frame.specs.declared.fault.RelpFault.{RelpFault}
 use Rattle.relp_frame.specs.Why.{why_of}
 use Rattle.relp_sender.specs.declared.stage.Stop.TheVariants as stops
 use Rattle.relp_sender.specs.declared.due.Due.{Due}
 use Rattle.relp_sender.specs.declared.due.Due.TheVariants.{Stopped, Confirm, Tell, Send, Ask, End, Hear}
+use Rattle.relp_sender.specs.declared.stage.Stage.TheVariants.{Open}
 use Rattle.relp_sender.specs.declared.stage.Stop.{Stop}
 use Rattle.relp_sender.specs.Progress.{IsKnown, known_by}
 use Rattle.relp_sender.specs.Text.{session_text}
+use Rattle.relp_sender.specs.Texts.{event_text, IsTooLongWith}
 use Rattle.relp_sender.specs.Window.{first_open}
 use Rattle.relp_sender.specs.Sender.{Sender, HasTold, Needs, given}
 use Rattle.relp_sender.specs.Due.{IsDue}
@@ -37,6 +40,16 @@ IsTurn (PeerFault at why) s =
     ((s.stop ≡ Some (stops.BadReply at)) × (why ≡ Reply))
     ⊎ (IsDue Hear s × (s.reader.waiting ≡ []) × ((e : RelpFault) × (s.reader.fault ≡ Some e) × (at ≡ e.at) × (why ≡ why_of e.why)))
 IsTurn (Unconfirmed asked) s = ⊥
+
+-- no entry is left whose frame the text might have too: none waits, the window is full, or the text would be too long
+abbrev pub NoneLeft : List ℕ → Sender → Type 0
+NoneLeft text s = (s.waiting ≡ []) ⊎ ((length s.unanswered ≡ 1024) ⊎ IsTooLongWith text s.written s.waiting)
+
+-- Frames are joined: in an open session a text has those of all entries that it may have, and one of more than 65,536 bytes
+-- is one frame.
+abbrev pub IsJoint : Turn → Sender → Type 0
+IsJoint (Write text) s = s.stage ≡ Open → NoneLeft text s × ((length text ≤ 65536) ⊎ ((place : ℕ) × (e : Event) × (text ≡ event_text place e)))
+IsJoint turn s = Unit {0}
 
 -- how many of the first entries were told before a turn and after it
 abbrev pub IsToldOn : Turn → ℕ → ℕ → Type 0

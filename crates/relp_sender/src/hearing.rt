@@ -1,5 +1,6 @@
 //! What a frame of the peer does.
-ghost use Rattle.std.specs.Prelude.{◌<◌, ◌^◌, All};
+ghost use Rattle.std.specs.Prelude.{◌<◌, ◌^◌, ◌↔◌, All, IsTrue};
+ghost use Rattle.relp_sender.specs.Due.{IsAcknowledgment};
 ghost use Rattle.relp_sender.specs.Hearing.{IsHeard, IsByCode};
 
 use crate::reply::{code_of, is_hint, is_reply};
@@ -19,6 +20,15 @@ pub(crate) enum Heard {
     Acknowledged(usize),
     /// It ends the session.
     Stopped(Stop),
+}
+
+impl Heard {
+    /// Whether it acknowledges a frame.
+    pub(crate) fn is_acknowledgment(self) -> bool
+        ensures { IsTrue result ↔ IsAcknowledgment self }
+    {
+        matches!(self, Heard::Acknowledged(_))
+    }
 }
 
 /// What a reply does that answers an unanswered frame: what it is to do with code 200, else the end of the

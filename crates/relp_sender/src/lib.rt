@@ -7,6 +7,7 @@
 
 mod due;
 mod hearing;
+mod joined;
 mod next;
 mod reply;
 mod sender;

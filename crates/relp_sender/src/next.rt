@@ -1,4 +1,5 @@
 //! The next text.
+use crate::joined::Joined;
 use event_form::Blob;
 use std::collections::VecDeque;
 
@@ -9,8 +10,8 @@ pub(crate) enum Next {
     Nothing,
     /// The frame that opens the session, and room for the places of the frames that aren't answered.
     Open(Blob, VecDeque<u64>),
-    /// The frame of the next entry.
-    Frame(Blob),
+    /// The frames of the next entries.
+    Frames(Joined),
     /// The frame that closes the session.
     Close(Blob),
 }

@@ -10,7 +10,7 @@ ghost use Rattle.relp_sender.specs.Due.{IsDue};
 ghost use Rattle.relp_sender.specs.Sender.{Keeps, given};
 ghost use Rattle.relp_sender.specs.Sends.{History, Sends, SendsOn, untouched};
 ghost use Rattle.relp_sender.specs.Spending.{IsSpent, spent};
-ghost use Rattle.relp_sender.specs.Turns.{Acts, Begins, Hears, IsFirstOf, IsToldOn, IsTurn, IsWhole, IsWholeOf, Stays, TellsAll, TellsKnown, also_of};
+ghost use Rattle.relp_sender.specs.Turns.{Acts, Begins, Hears, IsFirstOf, IsJoint, IsToldOn, IsTurn, IsWhole, IsWholeOf, Stays, TellsAll, TellsKnown, also_of};
 ghost use Rattle.relp_sender.specs.Window.{first_open};
 
 mod acting;
@@ -133,8 +133,12 @@ impl RelpSender {
         }
     }
 
-    /// Does the next thing: takes the peer's frames that are there, and then reports what is acknowledged, gives the
-    /// bytes that may be written, asks for more entries, or says how the session ended.
+    /// Does the next thing: reports what is acknowledged, gives the bytes that may be written, asks for more entries, or says
+    /// how the session ended. Where nothing of it is to be done it first takes the peer's frames that are there: the next one,
+    /// and then as many as acknowledge frames that were written, in their order.
+    ///
+    /// Frames are given joined: a text has those of all entries that wait and for which the window has room, or as many as make
+    /// at most 65,536 bytes, and one frame where it alone has more.
     ///
     /// The only error is want of memory. After it the sender is as before.
     pub fn turn(&mut self) -> Result<Turn, AllocError>
@@ -151,6 +155,7 @@ impl RelpSender {
         ensures all { IfOk result (λ turn. IsResting turn → turn ≢ Need
             → (h : History) (more : List Entry) → Sends h self.new → IsFirstOf self.new more → IsWholeOf h more) }
         ensures done { IfOk result (λ turn. turn ≡ Done → (self.new.finished ≡ true) × (self.new.told ≡ given self.new)) }
+        ensures joint { IfOk result (λ turn. IsJoint turn self.new) }
         ensures stays { Stays self.old self.new }
         ensures told { IfOk result (λ turn. IsToldOn turn self.old.told self.new.told) }
         ensures most { (h : History) → Sends h self.new → TellsKnown h self.new }
@@ -161,7 +166,10 @@ impl RelpSender {
     {
         let next = self.prepare()?;
         self.asked = false;
-        while self.take_frame() {}
+        let mut goes_on = false;
+        while self.take_frame(goes_on) {
+            goes_on = true;
+        }
         let turn = self.act(next);
         self.settle();
         Ok(turn)

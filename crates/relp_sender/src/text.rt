@@ -1,10 +1,8 @@
-//! What is written.
+//! The frames that open and close a session.
 ghost use Rattle.std.specs.Prelude.{◌≡◌, ◌<◌, ◌≤◌, ◌^◌, length, IfOk};
-ghost use Rattle.event_form.specs.Event.{IsEvent};
-ghost use Rattle.relp_sender.specs.Texts.{txnr_of, open_text, event_text, close_text};
+ghost use Rattle.relp_sender.specs.Texts.{txnr_of, open_text, close_text};
 
-use event_form::{Blob, Event};
-use event_map::as_text;
+use event_form::Blob;
 use relp_frame::write_parts;
 use std::alloc::{AllocError, Global};
 
@@ -29,20 +27,6 @@ pub(crate) fn open_text(alloc: Global) -> Result<Blob, AllocError>
         b"relp_version=0\nrelp_software=bridge,1,local\ncommands=syslog",
         &mut out,
     )?;
-    Ok(Blob::of(out))
-}
-
-/// The frame of the entry at this place.
-#[tactic(auto, unfolding(crate::specs::Texts::event_text))]
-pub(crate) fn event_text(alloc: Global, place: u64, event: &Event) -> Result<Blob, AllocError>
-    requires place { place ≤ 2 ^ 63 }
-    requires event { IsEvent event.now }
-    ensures value { IfOk result (λ text. text ≡ event_text place event.now) }
-    ensures some { IfOk result (λ text. 0 < length text) }
-{
-    let body = as_text(alloc, event)?;
-    let mut out = Vec::new(alloc);
-    write_parts(txnr_of(place), b"syslog", body.bytes(), &mut out)?;
     Ok(Blob::of(out))
 }
 

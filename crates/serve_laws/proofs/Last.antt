@@ -3,7 +3,6 @@ use Rattle.std.proofs.Common.{◌≡◌, ℕ, ◌-◌, ◌≤◌, List, [], ◌�
 use Rattle.std.specs.Prelude.{All, Option, None, Some, Result, Ok, Err}
 use Rattle.std.proofs.lemmas.List.Elements.{All-nil, All-cons, All-head}
 use Rattle.event_form.specs.declared.event.Entry.{Entry}
-use Rattle.edge_disk.specs.Disk.{Moment}
 use Rattle.edge_io.specs.Net.{NetState}
 use Rattle.spool_state.specs.SpoolState.{SpoolState, end}
 use Rattle.spool_answers.specs.declared.fault.PendFault.{PendFault}
@@ -21,7 +20,7 @@ use Rattle.desk_access.proofs.Nexts.{all_left, all_right}
 use Rattle.desk_access.proofs.OneState.{one_state}
 use Rattle.desk_access.proofs.Steps.{goes_later}
 use Rattle.forward_core.specs.declared.outward.Outward.{Outward}
-use Rattle.spool_turns.specs.Passes.{Known}
+use Rattle.spool_turns.specs.Passes.{Beginning, Known}
 use Rattle.spool_turns.specs.Ran.{Ran}
 use Rattle.serve_forwarder.specs.declared.destination.Destination.{Destination}
 use Rattle.serve_forwarder.specs.declared.looking.Outcome.{Outcome}
@@ -121,7 +120,7 @@ module _ (start : DeskState → Type 0) (log : List Record) (met last : Known) (
 
 -- ---- of a run
 
-module _ (tells : Type 0) (start : DeskState → Type 0) (run seats : ℕ) (began : Moment) (new : AloneView) (r : ServerRun tells start run seats began new) where
+module _ (tells : Type 0) (start : DeskState → Type 0) (run seats : ℕ) (began : Beginning) (new : AloneView) (r : ServerRun tells start run seats began new) where
   forwarded_last : (destination : Option Destination) (net net' : NetState) (last : Option Outcome) (f : Forwarded start destination r.served.workers' r.served.forwarder r.served.forwarder' net net' last)
       → LooksLast start (seats - 1) r.served.log destination r.served.workers' r.served.forwarder r.served.forwarder' net net' last f
   forwarded_last None net net' last f = tt
@@ -140,5 +139,5 @@ module _ (tells : Type 0) (start : DeskState → Type 0) (run seats : ℕ) (bega
       subst (λ (n : ℕ). IsLastOfAll start n served.log h.look) number
       (looked_last start served.log h.met served.forwarder' whole only destination.outward destination.place h.look h.net_beside net' (λ x s. (served.closes.replays.begins x s).rules) h.looked_last)
 
-pub last_look_is_last : (tells : Type 0) (start : DeskState → Type 0) (run seats : ℕ) (began : Moment) (new : AloneView) → LastLookIsLast tells start run seats began new
+pub last_look_is_last : (tells : Type 0) (start : DeskState → Type 0) (run seats : ℕ) (began : Beginning) (new : AloneView) → LastLookIsLast tells start run seats began new
 last_look_is_last tells start run seats began new r = forwarded_last tells start run seats began new r r.destination r.net r.net' r.last r.served.forwarded

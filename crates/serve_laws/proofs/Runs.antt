@@ -3,7 +3,6 @@ use Rattle.std.proofs.Common.{◌≡◌, ℕ, ◌-◌, List, [], ◌∷◌, ◌+
 use Rattle.std.specs.Prelude.{All}
 use Rattle.std.proofs.lemmas.List.Elements.{All-head}
 use Rattle.event_form.specs.declared.event.Entry.{Entry}
-use Rattle.edge_disk.specs.Disk.{Moment}
 use Rattle.spool_state.specs.SpoolState.{SpoolState}
 use Rattle.spool_answers.specs.Stages.{StandsForOne}
 use Rattle.spool_desk.specs.Alone.{AloneView}
@@ -11,7 +10,7 @@ use Rattle.desk_access.specs.Call.{Record, calls_of}
 use Rattle.desk_access.specs.Desk.{DeskState}
 use Rattle.desk_access.specs.Legal.{AddsGroups, IsLegal, Met}
 use Rattle.desk_access.proofs.Nexts.{all_left, all_right}
-use Rattle.spool_turns.specs.Passes.{Stands}
+use Rattle.spool_turns.specs.Passes.{Beginning, Stands}
 use Rattle.spool_turns.specs.Replays.{HasNumber}
 use Rattle.serve_workers.specs.Works.{first_conn}
 use Rattle.serve_laws.specs.Parts.{links_of}
@@ -29,7 +28,7 @@ use Rattle.serve_laws.proofs.Whole.{all_of_parts}
 use Rattle.serve_laws.proofs.Taken.{end_rises}
 use Rattle.serve_laws.proofs.Meeting.{number_kept, forwarded_leaves}
 
-module _ (tells : Type 0) (start : DeskState → Type 0) (run seats : ℕ) (began : Moment) (new : AloneView) where
+module _ (tells : Type 0) (start : DeskState → Type 0) (run seats : ℕ) (began : Beginning) (new : AloneView) where
   -- ---- of a closed journal
 
   pub acknowledged_is_durable : AcknowledgedIsDurable tells start run seats began new
@@ -74,7 +73,7 @@ module _ (tells : Type 0) (start : DeskState → Type 0) (run seats : ℕ) (bega
 
   pub disk_faults_are_counted : DiskFaultsAreCounted tells start run seats began new
   disk_faults_are_counted log passes closes talks rules doors doors' reports parts are =
-      disk_faults_counted run talks log rules doors doors' reports parts began.faults new.spool.moment.faults are closes.replays.cause closes.replays.alone
+      disk_faults_counted began.grouped run talks log rules doors doors' reports parts began.moment.faults new.spool.moment.faults are closes.replays.cause closes.replays.alone closes.replays.each
 
   -- ---- of a run
 

@@ -7,9 +7,9 @@ use Rattle.spool_desk.specs.Alone.{AloneView}
 use Rattle.desk_access.specs.Call.{Call, Record, own_of, calls_of}
 use Rattle.desk_access.specs.Desk.{DeskState}
 use Rattle.desk_access.specs.Legal.{AddsGroups, IsLegal, Met}
-use Rattle.edge_disk.specs.Disk.{Moment}
 use Rattle.conn_serve.specs.Says.{PromisesNothing}
 use Rattle.conn_serve.specs.declared.rules.Rules.{Rules}
+use Rattle.spool_turns.specs.Passes.{Beginning}
 use Rattle.spool_turns.specs.Replays.{Replays}
 use Rattle.spool_turns.proofs.Closing.{adds_legal, keeps, stays_since}
 use Rattle.serve_workers.specs.Served.{Served, IsServed}
@@ -18,7 +18,7 @@ use Rattle.serve_laws.proofs.Durable.{link_durable}
 
 -- A journal that led to the desk as it stands has the calls made for this link, all but those that promise nothing: all that the link's
 -- text acknowledges is durable then.
-pub says_durable : (tells : Type 0) (start : DeskState → Type 0) (run seats : ℕ) (began : Moment) (log : List Record) (v : AloneView)
+pub says_durable : (tells : Type 0) (start : DeskState → Type 0) (run seats : ℕ) (began : Beginning) (log : List Record) (v : AloneView)
     → Replays tells start run began log v → Met run (seats - 1) [] log → (x : DeskState) → start x
     → (number : ℕ) (earlier made late : List Call) (by : Rules) (one : Served) → IsServed by one
     → own_of number log ≡ earlier ++ made → one.calls ≡ made ++ late → All PromisesNothing late → IsLinkDurable log number v.spool.moment by one

@@ -1,6 +1,5 @@
 -- The last look of a run.
 use Rattle.std.specs.Prelude.{◌≡◌, ℕ, ◌-◌, ◌<◌, ◌≤◌, List, [], ◌++◌, length, All, Option, None, Some, Result, Ok, Err}
-use Rattle.edge_disk.specs.Disk.{Moment}
 use Rattle.edge_io.specs.Net.{NetState}
 use Rattle.spool_state.specs.SpoolState.{end}
 use Rattle.spool_answers.specs.declared.fault.PendFault.{PendFault}
@@ -8,7 +7,7 @@ use Rattle.spool_answers.specs.declared.numbered.Numbered.{Numbered}
 use Rattle.spool_desk.specs.Alone.{AloneView}
 use Rattle.desk_access.specs.Call.{Call, Record, calls_of}
 use Rattle.desk_access.specs.Desk.{DeskState, Goes}
-use Rattle.spool_turns.specs.Passes.{Known}
+use Rattle.spool_turns.specs.Passes.{Beginning, Known}
 use Rattle.serve_forwarder.specs.declared.destination.Destination.{Destination}
 use Rattle.serve_forwarder.specs.declared.looking.Outcome.{Outcome}
 use Rattle.serve_forwarder.specs.Sessions.{Session}
@@ -51,7 +50,7 @@ LooksLast start number log None workers pass pass' net net' last forwarded = Uni
 LooksLast start number log (Some destination) workers pass pass' net net' last forwarded = IsLastOfAll start number log forwarded.2.look
 
 -- So it is in a run of the server: as the forwarder looks for the last time it has seen all that the workers did, and they do no more.
-abbrev pub LastLookIsLast : Type 0 → (DeskState → Type 0) → ℕ → ℕ → Moment → AloneView → Type 0
+abbrev pub LastLookIsLast : Type 0 → (DeskState → Type 0) → ℕ → ℕ → Beginning → AloneView → Type 0
 LastLookIsLast tells start run seats began new =
     (r : ServerRun tells start run seats began new)
     → LooksLast start (seats - 1) r.served.log r.destination r.served.workers' r.served.forwarder r.served.forwarder'

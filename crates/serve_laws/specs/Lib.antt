@@ -1,4 +1,5 @@
 pub mod Parts
+pub mod Faults
 pub mod Durable
 pub mod Contributes
 pub mod Leaves

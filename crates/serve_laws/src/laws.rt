@@ -70,7 +70,9 @@ pub fn order_was_kept<D: Disk, J: Naming>(_desk: &Desk<D>)
     ensures { OrderWasKept D.tells J.start J.run J.seats J.began (desk_at _desk.now) }
 {}
 
-/// The disk's count of faults rose by at least the number of links, of all workers, that ended because the disk failed.
+/// The disk's count of faults rose by at least the number of links, of all workers, that ended because the disk failed. Where takes of
+/// several callers may be stored as one group, one failure can end a link at each worker: there the count rose by at least the number of
+/// links that ended so at any one worker.
 pub fn disk_faults_are_counted<D: Disk, J: Naming>(_desk: &Desk<D>)
     ensures { DiskFaultsAreCounted D.tells J.start J.run J.seats J.began (desk_at _desk.now) }
 {}

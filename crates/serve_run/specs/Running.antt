@@ -1,14 +1,13 @@
 -- What a run of the server did.
 use Rattle.std.specs.Prelude.{◌≡◌, ℕ, List, [], ◌∷◌, ◌++◌, length, All, Option, None, Some}
 use mathlib.Core.List.{IsPrefix}
-use Rattle.edge_disk.specs.Disk.{Moment}
 use Rattle.edge_io.specs.Door.{DoorState}
 use Rattle.edge_io.specs.Net.{NetState}
 use Rattle.spool_desk.specs.Alone.{AloneView}
 use Rattle.desk_access.specs.Call.{Record}
 use Rattle.desk_access.specs.Desk.{DeskState}
 use Rattle.conn_serve.specs.declared.rules.Rules.{Rules}
-use Rattle.spool_turns.specs.Passes.{Known}
+use Rattle.spool_turns.specs.Passes.{Beginning, Known}
 use Rattle.spool_turns.specs.Replays.{Closes}
 use Rattle.serve_workers.specs.declared.worker.WorkerReport.{WorkerReport}
 use Rattle.serve_workers.specs.Crews.{AreNew, HaveWorked}
@@ -59,7 +58,7 @@ pub record HasRun (start : DeskState → Type 0) (run talks : ℕ) (rules : List
 -- One journal of all calls led to the desk that comes back. Each worker's part of it is the calls of the links that it served at its
 -- door. The part of the forwarder, whose pass has the greatest number, is the calls of its looks. All lists are in the order of the
 -- workers.
-pub record HasServed (tells : Type 0) (start : DeskState → Type 0) (run seats : ℕ) (began : Moment) (talks : ℕ) (rules : List Rules)
+pub record HasServed (tells : Type 0) (start : DeskState → Type 0) (run seats : ℕ) (began : Beginning) (talks : ℕ) (rules : List Rules)
     (doors doors' : List DoorState) (reports : List WorkerReport) (destination : Option Destination) (net net' : NetState)
     (last : Option Outcome) (new : AloneView) : Type 0 where
   pub log : List Record
@@ -74,5 +73,5 @@ pub record HasServed (tells : Type 0) (start : DeskState → Type 0) (run seats 
   pub forwarded : Forwarded start destination workers' forwarder forwarder' net net' last
 
 -- No call was made on the desk.
-abbrev pub HasNotServed : Type 0 → (DeskState → Type 0) → ℕ → ℕ → Moment → AloneView → Type 0
+abbrev pub HasNotServed : Type 0 → (DeskState → Type 0) → ℕ → ℕ → Beginning → AloneView → Type 0
 HasNotServed tells start run seats began new = (passes : List Known) × Closes tells start run seats began [] passes new

@@ -9,7 +9,7 @@ use edge_io::Proto;
 fn sessions(rt: HostRuntime) {
     let alloc = rt.alloc();
     check_rows(&rt, alloc, Proto::Relp, relp::ROWS, 10);
-    check_rows(&rt, alloc, Proto::Relp, relp::FAULTS, 6);
+    check_rows(&rt, alloc, Proto::Relp, relp::FAULTS, 7);
     check_rows(&rt, alloc, Proto::Relp, relp::CUTS, 4);
     check_rows(&rt, alloc, Proto::Lumberjack, lumberjack::ROWS, 7);
     check_rows(&rt, alloc, Proto::Hec, hec::ROWS, 18);

@@ -1,6 +1,6 @@
 -- A letter whose take is a change of its own.
 use Rattle.std.proofs.Common.{◌≡◌, ℕ, ◌-◌, ◌≤◌, ◌<◌, Bool, true, false, List, [], length, refl, sym, ap, ◌∙◌, subst, arith}
-use Rattle.std.specs.Prelude.{◌+◌, ◌^◌, take, Result, Some, IfOk, IfErr}
+use Rattle.std.specs.Prelude.{◌+◌, ◌^◌, take, Result, IfOk, IfErr}
 use Rattle.std.proofs.lemmas.List.{take_all, length-take-le}
 use Rattle.atomic_table.specs.Table.{Me}
 use Rattle.event_form.specs.declared.event.Entry.{Entry}
@@ -16,7 +16,7 @@ use Rattle.desk_access.specs.Legal.{May, Met, IsNext, IsUnused}
 use Rattle.spool_desk.specs.declared.alone.Alone.{Alone}
 use Rattle.spool_desk.specs.Alone.{AloneView, alone_at, RunsTo, Makes, record_of}
 use Rattle.spool_turns.specs.Rules.{View, PassView, Knows, after_call, handed_by}
-use Rattle.spool_turns.specs.Passes.{Beginning, known, known_of, IsTurn, calling_of, pass_of, facts_in, caller_in, pass_in}
+use Rattle.spool_turns.specs.Passes.{Beginning, known_of, IsTurn, calling_of, pass_of, facts_in, caller_in, pass_in}
 use Rattle.spool_turns.specs.Replays.{Replays, IsExact}
 use Rattle.spool_turns.specs.Letters.{IsLetter, IsAnswered, claimed}
 use Rattle.spool_turns.proofs.Fronts.{front_may}

@@ -1,5 +1,5 @@
 -- What the passes of a group know once their takes are entered, and once they have seen the whole group.
-use Rattle.std.proofs.Common.{◌≡◌, ℕ, ◌+◌, ◌-◌, ◌≤◌, ◌<◌, Bool, false, List, [], ◌∷◌, ◌++◌, length, refl, sym, ap, ◌∙◌, subst, arith, append_assoc}
+use Rattle.std.proofs.Common.{◌≡◌, ℕ, ◌+◌, ◌-◌, ◌≤◌, Bool, false, List, [], ◌∷◌, ◌++◌, length, refl, sym, ap, ◌∙◌, subst, arith, append_assoc}
 use Rattle.std.specs.Prelude.{◌^◌, take, Option, Some, Result, Ok, Err, IfOk, IfErr}
 use Rattle.std.proofs.lemmas.List.{append-nil, take_all}
 use Rattle.atomic_table.specs.Table.{Me}
@@ -13,16 +13,16 @@ use Rattle.edge_disk.specs.declared.disk.Disk.{Ghosts}
 use Rattle.edge_disk.specs.Disk.{IsLawful}
 use Rattle.edge_disk.proofs.Moments.{both}
 use Rattle.desk_access.specs.Call.{Call, takes, Record, NoneJoins, own_of, failures_of, failed_of}
-use Rattle.desk_access.specs.Desk.{DeskState, Goes, Stood}
-use Rattle.desk_access.specs.Journal.{goes_then, own_then, failures_then, failed_then, rose_then, stood_first, stood_later}
+use Rattle.desk_access.specs.Desk.{DeskState, Stood}
+use Rattle.desk_access.specs.Journal.{goes_then, own_then, failed_then, rose_then, stood_first, stood_later}
 use Rattle.desk_access.specs.Legal.{May, Met}
 use Rattle.desk_access.specs.Since.{AreAnswered, since_then, since_together}
 use Rattle.desk_access.proofs.Nexts.{met_then}
 use Rattle.spool_desk.specs.declared.alone.Alone.{Alone}
 use Rattle.spool_desk.specs.Alone.{AloneView, alone_at, LeadsFrom, RunsTo}
-use Rattle.spool_turns.specs.Rules.{View, Facts, PassView, Handed, made_by, Knows, after_call, caught_up, with_record, handed_by}
+use Rattle.spool_turns.specs.Rules.{View, Facts, PassView, Handed, made_by, Knows, after_call, caught_up, handed_by}
 use Rattle.spool_turns.specs.Own.{own_of-snoc, own_of-rest}
-use Rattle.spool_turns.specs.Passes.{Beginning, Known, known, known_of, LeadsAbove, AllJoin, Sound, Calls, IsTurn, IsPass, pass_of, pass_in, facts_in, locked_of}
+use Rattle.spool_turns.specs.Passes.{Beginning, Known, known, known_of, LeadsAbove, AllJoin, Sound, Calls, IsTurn, pass_of, pass_in, facts_in}
 use Rattle.spool_turns.specs.Replays.{LeadsBy, Replays, IsExact}
 use Rattle.spool_turns.specs.Letters.{IsAnswered, claimed}
 use Rattle.spool_turns.specs.Joining.{entries_out, IsJoined, IsEntered}

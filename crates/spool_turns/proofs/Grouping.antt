@@ -1,5 +1,5 @@
 -- Letters that are stored as one group: what lies under the lock afterwards.
-use Rattle.std.proofs.Common.{◌≡◌, ℕ, suc, ◌+◌, ◌-◌, ◌≤◌, ◌<◌, Bool, true, false, List, [], ◌∷◌, ◌++◌, length, refl, sym, ap, ◌∙◌, subst, arith, length-append}
+use Rattle.std.proofs.Common.{◌≡◌, ℕ, suc, ◌≤◌, ◌<◌, Bool, true, List, [], ◌∷◌, ◌++◌, length, refl, sym, ap, ◌∙◌, subst, arith, length-append}
 use Rattle.std.specs.Prelude.{Result, IfErr, is_ok}
 use Rattle.atomic_table.specs.Table.{Me}
 use Rattle.event_form.specs.declared.event.Entry.{Entry}
@@ -8,16 +8,15 @@ use Rattle.spool_answers.specs.declared.fault.Receipt.{Receipt}
 use Rattle.spool_answers.specs.declared.fault.TakeFault.{TakeFault}
 use Rattle.spool_answers.specs.declared.fault.TakeFault.TheVariants as Take
 use Rattle.desk_access.specs.declared.standing.Standing.{Standing}
-use Rattle.desk_access.specs.Call.{Record, NoneJoins}
+use Rattle.desk_access.specs.Call.{Record}
 use Rattle.desk_access.specs.Desk.{DeskState}
 use Rattle.desk_access.specs.JointRecords.{Part, joined, ArePartsOf, joint_of}
-use Rattle.desk_access.specs.Legal.{Met}
 use Rattle.spool_desk.specs.Standing.{standing_in}
 use Rattle.spool_desk.specs.Alone.{AloneView, RunsTo}
 use Rattle.spool_turns.specs.Rules.{View, Facts, facts, PassView}
 use Rattle.spool_turns.specs.Passes.{Beginning, AllJoin, IsTurn, hosting_of, hosted_in, locked_of, facts_in}
 use Rattle.spool_turns.specs.Replays.{Replays}
-use Rattle.spool_turns.specs.Joining.{parts_of, numbers_of, part_of, AreRising, AreBehind, AreJoint, records_behind, LeadOn}
+use Rattle.spool_turns.specs.Joining.{parts_of, numbers_of, AreRising, AreBehind, AreJoint, records_behind, LeadOn}
 use Rattle.spool_turns.proofs.Called.{published}
 use Rattle.spool_turns.proofs.JointRecords.{joint_are, answered_all, all_join, each_fails, lead_on, rest_joins}
 use Rattle.spool_turns.proofs.Entering.{replays_many, replays_still}

@@ -1,7 +1,6 @@
 -- The records of letters that are stored as one group.
-use Rattle.std.proofs.Common.{◌≡◌, inl, inr, ℕ, zero, suc, ◌+◌, ◌-◌, ◌≤◌, ◌<◌, ◌==◌, Bool, true, false, cond, List, [], ◌∷◌, ◌++◌, length, reverse, refl, sym, ap, ◌∙◌, subst, arith, append_assoc, length-append, eqb-true, eq-eqb, ne_eqb}
-use Rattle.std.specs.Prelude.{All, Some, Result, Ok, Err, IfOk, IfErr, is_ok}
-use Rattle.std.proofs.lemmas.List.{append-nil, reverse-append}
+use Rattle.std.proofs.Common.{◌≡◌, ℕ, ◌+◌, ◌-◌, ◌≤◌, ◌<◌, ◌==◌, Bool, true, false, cond, List, [], ◌∷◌, ◌++◌, length, refl, sym, ap, ◌∙◌, subst, arith, append_assoc, length-append, eqb-true, ne_eqb}
+use Rattle.std.specs.Prelude.{All, Some, Result, Ok, Err, IfErr, is_ok}
 use Rattle.std.proofs.lemmas.List.Concat.{flat_map-append}
 use Rattle.std.proofs.lemmas.List.Elements.{All-append}
 use Rattle.event_form.specs.declared.event.Entry.{Entry}
@@ -21,7 +20,7 @@ use Rattle.desk_access.specs.Since.{AreAnswered}
 use Rattle.desk_access.proofs.Steps.{goes_later}
 use Rattle.spool_turns.specs.Passes.{AllJoin}
 use Rattle.spool_turns.specs.Rules.{PassView}
-use Rattle.spool_turns.specs.Joining.{part_of, parts_of, numbers_of, entries_out, AreRising, joins_behind, standing_behind, part_answer, records_behind, LeadOn, AreBehind}
+use Rattle.spool_turns.specs.Joining.{part_of, parts_of, numbers_of, AreRising, joins_behind, standing_behind, part_answer, records_behind, LeadOn, AreBehind}
 
 pub text_join : (a b : List Entry) → length (entries_text (a ++ b)) ≡ length (entries_text a) + length (entries_text b)
 text_join a b = ap length (flat_map-append entry_text a b) ∙ length-append (entries_text a) (entries_text b)

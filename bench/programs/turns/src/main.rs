@@ -1,6 +1,6 @@
 //! What the lock of a shared desk costs: groups of one entry taken by 1, 4 and 16 threads, beside one thread over a
-//! desk that it has alone. Over a disk in memory, and over the file that the first word names; with no word it does
-//! nothing.
+//! desk that it has alone; where each take is stored by itself, and where those of several threads may be stored as one
+//! group. Over a disk in memory, and over the file that the first word names; with no word it does nothing.
 #![tactic(auto)]
 
 ghost use Rattle.std.specs.Prelude.{◌≡◌, ◌<◌, ◌≤◌, false, IfOk};
@@ -119,13 +119,14 @@ fn shared<D: Disk + Drop + Send, R: Threads + Wait + Sync + Clock>(
     disk: D,
     takes: u64,
     seats: u32,
+    group: bool,
 ) -> anyhow::Result<Duration>
     requires { (0 < seats) × (seats ≤ 64) }
 {
     let desk = desk_on(alloc, disk)?;
     let each = takes / u64::from(seats);
     let start = Instant::now(rt)?;
-    let shift = work_together(rt, alloc, desk, seats, each)?;
+    let shift = work_together(rt, alloc, desk, seats, group, each)?;
     let time = start.elapsed(rt)?;
     if shift.taken != takes {
         bail!("{} of {takes} were taken", shift.taken);
@@ -150,6 +151,7 @@ fn rounds<M: Disks, R: Threads + Wait + Sync + Clock>(
     alloc: Global,
     disks: &M,
     takes: u64,
+    group: bool,
 ) -> anyhow::Result<Times> {
     let mut own = Duration::MAX;
     let mut crews = [Duration::MAX; 3];
@@ -159,7 +161,7 @@ fn rounds<M: Disks, R: Threads + Wait + Sync + Clock>(
         let mut times = [Duration::MAX; 3];
         for (seats, time) in CREWS.iter().zip(times.iter_mut()) {
             let seats = (*seats).clamp(1, 64);
-            *time = shared(rt, alloc, disks.make()?, takes, seats)?;
+            *time = shared(rt, alloc, disks.make()?, takes, seats, group)?;
         }
         for (best, time) in crews.iter_mut().zip(times.iter()) {
             *best = (*best).min(*time);
@@ -180,9 +182,15 @@ fn each(time: Duration, takes: u64) -> f64 {
     time.as_secs_f64() * 1e6 / nearest_usize_to_f64(takes as usize)
 }
 
-fn print(rt: &HostRuntime, what: &str, takes: u64, times: &Times) -> anyhow::Result<()> {
+fn print(
+    rt: &HostRuntime,
+    what: &str,
+    manner: &str,
+    takes: u64,
+    times: &Times,
+) -> anyhow::Result<()> {
     let own = times.own;
-    println!(rt; "{what}: {takes} takes of one entry, the best of {ROUNDS} runs each")?;
+    println!(rt; "{what}{manner}: {takes} takes of one entry, the best of {ROUNDS} runs each")?;
     println!(rt; "    alone: {:.3} microseconds a take", each(own, takes))?;
     for (seats, time) in CREWS.iter().zip(times.crews.iter()) {
         println!(rt;
@@ -210,12 +218,16 @@ fn main(rt: HostRuntime) -> anyhow::Result<()> {
         return Ok(());
     };
     let alloc = rt.alloc();
-    let times = rounds(&rt, alloc, &InMemory { alloc }, TAKES)?;
-    print(&rt, "memory", TAKES, &times)?;
+    let memory = InMemory { alloc };
     let file = InFile {
         rt: &rt,
         path: path.as_str(),
     };
-    let times = rounds(&rt, alloc, &file, FILE_TAKES)?;
-    print(&rt, "a file", FILE_TAKES, &times)
+    for (group, manner) in [(false, ""), (true, ", in groups")] {
+        let times = rounds(&rt, alloc, &memory, TAKES, group)?;
+        print(&rt, "memory", manner, TAKES, &times)?;
+        let times = rounds(&rt, alloc, &file, FILE_TAKES, group)?;
+        print(&rt, "a file", manner, FILE_TAKES, &times)?;
+    }
+    Ok(())
 }

@@ -3,7 +3,10 @@ mod driven;
 mod rows;
 
 use self::driven::{DrivenRelp, FIRST};
-use self::rows::{ANSWERED, CLOSED, HELLO, ONE_ANSWERED, OPEN, ROWS, Row, SENT, SENT_ENTRIES};
+use self::rows::{
+    ANSWERED, CLOSED, HELLO, IN_ORDER, LONG, MIXED, MIXED_TOLD, ONE_ANSWERED, OPEN, ROWS, Row,
+    SENT, SENT_ENTRIES, TOGETHER,
+};
 use super::entries::Entries;
 use super::session::{Session, send};
 use event_form::Origin;
@@ -57,6 +60,64 @@ pub(crate) fn sessions(rt: &impl Abort, alloc: Global) {
     for row in ROWS {
         session(rt, alloc, row);
     }
+}
+
+/// Answers that come together are told together, those out of order aside.
+pub(crate) fn answers_together(rt: &impl Abort, alloc: Global) {
+    let out = written(rt, alloc, 3, 3, true);
+    let entries = [(Origin::Relp, HELLO, 1, 3)];
+    for (size, told) in TOGETHER {
+        talk(rt, alloc, &entries, IN_ORDER, *size).check(rt, out.as_bytes(), told);
+    }
+    let out = written(rt, alloc, 5, 5, true);
+    let entries = [(Origin::Relp, HELLO, 1, 5)];
+    talk(rt, alloc, &entries, MIXED, 4_096).check(rt, out.as_bytes(), MIXED_TOLD);
+}
+
+/// Frames are joined, as far as a text may be long.
+pub(crate) fn long_texts(rt: &impl Abort, alloc: Global) {
+    for (times, count, sizes) in LONG {
+        let entries = [(Origin::Relp, b"x".as_slice(), *times, *count)];
+        let session = talk(rt, alloc, &entries, b"1 rsp 6 200 OK\n", 4_096);
+        let Some((open, texts)) = session.sizes.as_slice().split_first() else {
+            panic!(rt; "no text")
+        };
+        assert!(rt; *open == OPEN.len() && session.turns.as_str() == "closed");
+        assert!(rt; texts == *sizes, "texts of {times} letters");
+    }
+}
+
+/// Entries of which the window is full, and answers to the first so many in one piece: what they free is written joined, a text for
+/// each batch.
+fn freed(rt: &impl Abort, alloc: Global, count: usize, answers: u64, frames: u64, texts: usize) {
+    let mut peer = String::new(alloc);
+    for number in 0..answers {
+        write!(peer, "{} rsp 6 200 OK\n", number.saturating_add(1)).expect(rt, "memory");
+    }
+    let mut told = String::new(alloc);
+    if answers > 1 {
+        write!(told, "c{} ", answers.saturating_sub(1)).expect(rt, "memory");
+    }
+    told.push_str("closed").expect(rt, "memory");
+    let out = written(rt, alloc, count, frames, false);
+    let entries = [(Origin::Relp, HELLO, 1, count)];
+    let session = talk(rt, alloc, &entries, peer.as_bytes(), 65_536);
+    session.check(rt, out.as_bytes(), &told);
+    assert!(rt;
+        session.sizes.len() == texts,
+        "{} texts for {texts}",
+        session.sizes.len()
+    );
+}
+
+/// Windows that are filled and freed.
+pub(crate) fn windows(rt: &impl Abort, alloc: Global) {
+    freed(rt, alloc, 300, 1, 300, 4);
+    freed(rt, alloc, 2_000, 1, 1_024, 9);
+    freed(rt, alloc, 1_100, 301, 1_100, 10);
+    freed(rt, alloc, 2_000, 301, 1_324, 12);
+    // All answers lie ready: those to frames that aren't written yet wait for these.
+    freed(rt, alloc, 1_101, 1_025, 1_101, 10);
 }
 
 /// Every second of 600 entries is acknowledged, and the others aren't.

@@ -1,13 +1,14 @@
 //! What a sender does where no frame of the peer is to be taken.
 ghost use Rattle.std.specs.Prelude.{◌≡◌, ◌≢◌, true, false, [], Some};
 ghost use Rattle.event_form.specs.declared.turn.Turn.TheVariants.{Need};
-ghost use Rattle.event_form.specs.Turn.{text_of};
+ghost use Rattle.event_form.specs.Turn.{IsResting, text_of};
 ghost use Rattle.relp_sender.specs.declared.due.Due.{Due};
 ghost use Rattle.relp_sender.specs.declared.due.Due.TheVariants.{Stopped, Confirm, Tell, Ask, Hear};
 ghost use Rattle.relp_sender.specs.Due.{IsDue, Suits};
+ghost use Rattle.relp_sender.specs.Sender.{HasTold};
 ghost use Rattle.relp_sender.specs.Sends.{SendsOn};
 ghost use Rattle.relp_sender.specs.Spending.{IsSpent, spent};
-ghost use Rattle.relp_sender.specs.Turns.{Acts, IsToldOn, IsTurn, Stays, also_of};
+ghost use Rattle.relp_sender.specs.Turns.{Acts, IsJoint, IsToldOn, IsTurn, Stays, also_of};
 
 use super::RelpSender;
 use crate::due::Due;
@@ -28,6 +29,8 @@ impl RelpSender {
         ensures stays { Stays self.old self.new }
         ensures told { IsToldOn result self.old.told self.new.told }
         ensures spent { IsSpent result (spent self.old) (spent self.new) }
+        ensures rests { IsResting result → HasTold self.old }
+        ensures joint { IsJoint result self.new }
         ensures acts { (due : Due) → IsDue due self.old → Acts due self.old result self.new }
     {
         if let Some(stop) = self.stop {

@@ -191,6 +191,17 @@ ends WriteFault
 open
 stay 0
 
+row the frames of a batch are one text
+- The first 128 entries; the write after it is that of the other two.
+count 130
+line 1 rsp 6 200 OK
+steps 65536
+writes 2
+ends WriteFault
+open
+entries 128
+stay 0..130
+
 row the write of the close fails
 count 1
 line 1 rsp 6 200 OK

@@ -37,7 +37,7 @@ run_named-requires-clause-says g c κs within =
     let from = c.requires.opened in
     let later = λ (told : g.D.Disk.tells). subst (λ (d : _). old.clock ≤ (g.D.Disk.moment d.spool.disk).clock) (sym c.in-Ok.ensures.desk)
     (from.any_moment told).later in
-    λ i post at. worker_may g.D.Disk c.args.before.value c.args.spool.disk c.args.spool.memory c.args.spool.doubt _ unnamed.run _ from later
+    λ i post at. worker_may g.D.Disk c.args.before.value c.args.spool.disk c.args.spool.memory c.args.spool.doubt _ _ unnamed.run _ from later
     (λ x is. let d = desk_is g.D.Disk.tells _ _ x from.opens is in
     ap (λ (y : _). y.spool.run) d.desk ∙ sym (unnamed.run_is ∙ ap (λ (k : _). run_of k.spool.memory) c.in-Ok.ensures.desk ∙ d.held.knows.run))
     i post.rules (g.N.P.Door.permits post.door) (c.requires.answers i post at)
@@ -49,7 +49,7 @@ run_named-requires-clause-earned g c κs within =
     let later = λ (told : g.D.Disk.tells). subst (λ (d : _). old.clock ≤ (g.D.Disk.moment d.spool.disk).clock) (sym c.in-Ok.ensures.desk)
     (from.any_moment told).later in
     if_some c.args.destination _ _
-    (λ d may. forwarder_may g.D.Disk c.args.before.value c.args.spool.disk c.args.spool.memory c.args.spool.doubt _ c.in-Ok.unnamed.run _ from later
+    (λ d may. forwarder_may g.D.Disk c.args.before.value c.args.spool.disk c.args.spool.memory c.args.spool.doubt _ _ c.in-Ok.unnamed.run _ from later
     d.now.outward _ g.D.Disk.may_release may) c.requires.releases
 
 pub returns-in-Ok-clause-over : goal.returns-in-Ok-clause-over
@@ -57,7 +57,7 @@ returns-in-Ok-clause-over g c =
     let old = g.D.Disk.moment c.args.before.value in
     let later = λ (told : g.D.Disk.tells). subst (λ (d : _). old.clock ≤ (g.D.Disk.moment d.spool.disk).clock) (sym c.in-Ok.ensures.desk)
     (c.requires.opened.any_moment told).later in
-    if_ok _ _ c.run_named.result (λ served is. runs_over g.D.Disk.tells old _ _ _ _ _ _ _ _ _ _ _ _ _ _ _ _ _ c.requires.opened later
+    if_ok _ _ c.run_named.result (λ served is. runs_over g.D.Disk.tells old _ _ _ _ _ _ _ _ _ _ _ _ _ _ _ _ _ _ c.requires.opened later
     (omega (arith, c.args.posts.ok.0, length-map c.args.posts.items (λ (post : _). g.N.P.Door.told post.door))) is) c.run_named.ensures.served
 
 pub returns-in-Ok-clause-err : goal.returns-in-Ok-clause-err
@@ -75,7 +75,7 @@ returns-in-Ok-clause-err g c =
             subst (λ (d : _). Calls ⊥ old (g.D.Disk.moment d.spool.disk)) (sym whole) from.calls,
             λ told. subst (λ (d : _). IsOpenedOnly old (g.D.Disk.moment d.spool.disk)) (sym whole) (opened_only tells old _ from told),
           )
-      | inr made ↦ (is.0, is.1, given_calls tells old _ _ _ _ _ made, given_back tells old _ _ _ _ _ from later made)
+      | inr made ↦ (is.0, is.1, given_calls tells old _ _ _ _ _ _ made, given_back tells old _ _ _ _ _ _ from later made)
     ]) c.run_named.ensures.err
 
 pub returns-in-Err-clause-err : goal.returns-in-Err-clause-err

@@ -1,6 +1,7 @@
 use Rattle.std.proofs.Common.{◌+◌}
 use Rattle.std.specs.Prelude.{vec_len}
 use Rattle.spool_turns.specs.Named.{table_of, moment_of}
+use Rattle.spool_turns.specs.Passes.{begun}
 use Rattle.bridge_serve.specs.Opened.{IsOpenedDesk, opened_at}
 use Rattle.bridge_serve.proofs.running.run_over.Given as goal
 
@@ -11,5 +12,5 @@ ghosts-run_named g a = record {
   seats = vec_len a.posts + 1;
   run = a.unnamed.run;
   start = IsOpenedDesk g.D.Disk.tells (g.D.Disk.moment a._before.value).reads;
-  began = opened_at g.D.Disk.tells (g.D.Disk.moment a._before.value) (moment_of a.unnamed).clock;
+  began = begun (opened_at g.D.Disk.tells (g.D.Disk.moment a._before.value) (moment_of a.unnamed).clock) a.group;
 }

@@ -68,7 +68,7 @@ returns-in-Ok-bind_doors-clause-served g c =
                 (all_unused c.args.server _ _ _ _ bound told)),
           )
       | inr run ↦
-          let binds = run_binds_none _ _ _ _ _ _ _ _ _ _ _ _ _ _ _ run in
+          let binds = run_binds_none _ _ _ _ _ _ _ _ _ _ _ _ _ _ _ _ run in
           let same = net_bound _ _ _ cause rest binds in
           inr (record { doors = _; rules = _; bound = bound; told = tells_same _ _ _ _ told binds; ran = rw same at run })
     ])

@@ -44,4 +44,4 @@ returns-then-eq-6-clause-wrong c = λ fault is. in_serve (same_text _ _ c.if-eq-
 pub returns-else-eq-6-clause-wrong : goal.returns-else-eq-6-clause-wrong
 returns-else-eq-6-clause-wrong c = λ fault is.
     let same : fault ≡ UnknownWord = cc in
-    no_name (unknown c.args.name.now c.if-eq.ensures c.if-eq-2.ensures c.if-eq-3.ensures c.if-eq-4.ensures c.if-eq-5.ensures c.if-eq-6.ensures) same
+    no_name (unknown c.args.name.now c.if-eq.ensures c.if-eq-2.ensures c.if-eq-3.ensures c.if-eq-4.ensures c.if-eq-5.ensures c.if-eq-6.ensures) c.requires.other same

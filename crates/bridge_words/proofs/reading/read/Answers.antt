@@ -11,4 +11,4 @@ returns-in-Err-clause-wrong c = λ fault is.
     kind_is _ fault (map string_bytes c.args.words.now) c.in-Err.ensures.refusals (ap unread_for (sym c.kind.ensures) ∙ sym c.unread_for.ensures ∙ said)
 
 pub returns-in-Some-clause-wrong : goal.returns-in-Some-clause-wrong
-returns-in-Some-clause-wrong c = λ fault is. found _ _ (sym c.in-Ok.ensures.named ∙ c.in-Some.ensures) (c.command_in.ensures.wrong fault is)
+returns-in-Some-clause-wrong c = λ fault is. found _ _ (sym c.in-Ok.ensures.named ∙ c.in-Some.ensures) (c.asked_in.ensures.wrong fault is)

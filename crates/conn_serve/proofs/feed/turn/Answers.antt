@@ -1,9 +1,9 @@
-use Rattle.std.proofs.Common.{rules, take, ◌≤◌, ◌∙◌, inl, inr, refl, sym, subst}
+use Rattle.std.proofs.Common.{arith, length, rules, take, ◌≤◌, ◌∙◌, inl, inr, refl, sym, subst}
 use Rattle.std.specs.Io.KnownBytes.{IsAtEnd}
 use Rattle.desk_access.specs.Endings.{IsAtMove}
-use Rattle.conn_serve.proofs.Faults.{counts_fine, counts_other, counts_passed, quiet_fine}
+use Rattle.conn_serve.proofs.Faults.{counts_fine, counts_other, counts_passed, quiet_fine, read_is_no_write}
 use Rattle.conn_serve.proofs.Leading.{done_map, so_far_less}
-use Rattle.conn_serve.proofs.Running.{appends_first, piece_adds, piece_few, piece_fits, piece_size, turn_read, turn_unread}
+use Rattle.conn_serve.proofs.Running.{piece_adds, piece_few, piece_fits, piece_size, turn_read, turn_unread}
 use Rattle.conn_serve.proofs.Saying.{says_read}
 use Rattle.conn_serve.proofs.feed.turn.Goals as goal
 
@@ -25,33 +25,33 @@ returns-in-Err g c =
       number = refl;
       may = tt;
       reads = record { later = read.cause.later; cause = λ is. read.cause.failed refl; quiet = λ none. absurd (none refl) };
-      writes = counts_other _ _ _ _ _ (λ is. cc) keeps.1;
+      writes = counts_other _ _ _ _ _ read_is_no_write keeps.1;
       same = read.same;
       lasts = λ none. keeps.0 ∙ none;
     }
 
 pub take_in-requires : goal.take_in-requires
 take_in-requires g c =
-    let few : c.in-Ok.len ≤ c.args.room = search rules in
+    let few : c.in-Ok.len ≤ length c.args.buf.now = omega (arith, c.in-Ok.ensures.bound) in
     record {
       idle = c.requires.idle;
       fits = piece_fits _ _ _ _ _ few c.requires.fits;
       so_far = so_far_less _ _ _ _ (piece_few _ _ _ few) c.requires.so_far;
       may = c.requires.may;
       says = says_read (g.A.Access.ran c.args.access.now) (g.L.Sink.permits c.read.new.self) (g.L.Sink.taken c.args.link.now) (g.L.Sink.taken c.read.new.self) _ (g.met.L.Link.reads_keep _ _ c.in-Ok.ensures.apart).0
-          (c.requires.says c.read.new.self (take c.in-Ok.len _) c.in-Ok.ensures.same (appends_first _ _ _ _ _ c.in-Ok.ensures.bound c.in-Ok.ensures.given));
+          (c.requires.says c.read.new.self (take c.in-Ok.len c.read.new.buf) c.in-Ok.ensures.same c.in-Ok.ensures.given);
     }
 
 pub returns-in-Ok-take_in-clause-room : goal.returns-in-Ok-take_in-clause-room
-returns-in-Ok-take_in-clause-room g c = search rules
+returns-in-Ok-take_in-clause-room g c = omega (arith, c.in-Ok.ensures.bound)
 
 pub returns-in-Ok-take_in-clause-goes : goal.returns-in-Ok-take_in-clause-goes
 returns-in-Ok-take_in-clause-goes g c =
     let read = c.in-Ok.ensures in
     let call = c.in-Ok-take_in.ensures in
     let kept = g.met.L.Link.writes_keep _ _ call.apart in
-    turn_read _ _ _ _ _ _ _ _ _ _ _ _ _ _ _ _ read.bound read.given kept.0 read.left.0 kept.1 call.bytes (g.met.L.Link.reads_keep _ _ read.apart).0
-    (done_map _ _ _ _ _ _ _ call.goes (λ calls text is. (piece_size _ _ _ read.bound, is)))
+    turn_read _ _ _ _ _ _ _ _ _ _ _ _ _ _ read.given kept.0 read.left.0 kept.1 call.bytes (g.met.L.Link.reads_keep _ _ read.apart).0
+    (done_map _ _ _ _ _ _ _ call.goes (λ calls text is. (piece_size _ _ read.bound, is)))
 
 pub returns-in-Ok-take_in-clause-halts : goal.returns-in-Ok-take_in-clause-halts
 returns-in-Ok-take_in-clause-halts g c = tt
@@ -103,7 +103,7 @@ returns-in-Err-take_in g c =
     record {
       room = tt;
       goes = tt;
-      halts = turn_read _ _ _ _ _ _ _ _ _ _ _ _ _ _ _ _ read.bound read.given kept.0 read.left.0 kept.1 call.bytes keeps.0
+      halts = turn_read _ _ _ _ _ _ _ _ _ _ _ _ _ _ read.given kept.0 read.left.0 kept.1 call.bytes keeps.0
           (done_map _ _ _ _ _ _ _ call.halts (λ calls text is fed called said counted served. is fed called said counted served (g.L.Source.left c.take_in.new.link)));
       end = tt;
       only = inr call.only;

@@ -1,5 +1,5 @@
 use Rattle.edge_io.proofs.Known.{appends_then}
-use Rattle.std.proofs.Common.{◌++◌, ℕ, ◌∙◌, sym, subst, arith}
+use Rattle.std.proofs.Common.{◌++◌, ℕ, ◌∙◌, sym, subst, arith, length-take}
 use Rattle.conn_serve.specs.Terms.{Terms}
 use Rattle.conn_serve.specs.Done.{told}
 use Rattle.conn_serve.specs.Endings.{MayEnd}
@@ -12,7 +12,7 @@ use Rattle.conn_serve.proofs.serve.run.Goals as goal
 pub turn-requires-clause-so_far : goal.turn-requires-clause-so_far
 turn-requires-clause-so_far g c =
     let l = c.loop-total in
-    so_far_of (λ k. g.S.Session.served k l.session) _ _ _ _ _ _ l.connection.number c.args.connection.now.number l.invariant.same_number (omega (arith, l.invariant.below, c.min-room.ensures)) l.invariant.progress
+    so_far_of (λ k. g.S.Session.served k l.session) _ _ _ _ _ _ l.connection.number c.args.connection.now.number l.invariant.same_number (omega (arith, l.invariant.below, c.min-room.ensures, length-take c.min-room.result c.loop-total.buf)) l.invariant.progress
 
 pub turn-requires-clause-may_end : goal.turn-requires-clause-may_end
 turn-requires-clause-may_end g c =
@@ -63,7 +63,7 @@ close-requires-clause-so_far g c =
     let now = c.turn.new in
     let p = progress_turn start _ (told (g.L.Source.given now.link) (g.L.Source.left now.link) (g.L.Sink.taken now.link)) _ _ (λ calls. g.A.Access.ran c.args.access.now calls now.access)
     (λ xs ys p q. g.met.A.Access.ran_more _ _ _ xs ys p q) _ _ _ _ _ l.invariant.same_number (λ k. g.S.Session.served k l.session) (λ k. g.S.Session.served k now.session) c.in-Ok.len l.invariant.progress went.goes in
-    so_far_of (λ k. g.S.Session.served k now.session) _ _ _ _ _ 0 now.connection.number c.args.connection.now.number (went.number ∙ l.invariant.same_number) (omega (arith, l.invariant.below, went.room, c.min-room.ensures)) p
+    so_far_of (λ k. g.S.Session.served k now.session) _ _ _ _ _ 0 now.connection.number c.args.connection.now.number (went.number ∙ l.invariant.same_number) (omega (arith, l.invariant.below, went.room, c.min-room.ensures, length-take c.min-room.result c.loop-total.buf)) p
 
 pub loop-total-preserved : goal.loop-total-preserved
 loop-total-preserved g c =
@@ -82,7 +82,7 @@ loop-total-preserved g c =
       same_number = went.number ∙ inv.same_number;
       may = rw (← inv.same_number) went.may;
       extent = omega (arith, inv.extent, went.extent);
-      below = omega (arith, inv.below, went.room, c.min-room.ensures);
+      below = omega (arith, inv.below, went.room, c.min-room.ensures, length-take c.min-room.result c.loop-total.buf);
       same = g.L.Object.same_trans _ _ _ inv.same went.same;
       lasts = λ none. went.lasts (inv.lasts none);
       reads = quiet_fine _ _ _ _ _ went.reads ∙ inv.reads;

@@ -61,14 +61,6 @@ pub const ROWS: &[Row] = &[
         closed: true,
         told: "a2-3 a1-2 c3 Done",
     },
-    // Answers in order, each told.
-    Row {
-        count: 3,
-        peer: b"1 rsp 6 200 OK\n2 rsp 6 200 OK\n3 rsp 6 200 OK\n4 rsp 6 200 OK\n",
-        frames: 3,
-        closed: true,
-        told: "c1 c2 c3 Done",
-    },
     // The open is refused.
     Row {
         count: 3,
@@ -193,6 +185,41 @@ pub const ROWS: &[Row] = &[
         closed: false,
         told: "a998-999 closed",
     },
+];
+
+/// Three entries, and answers in order.
+pub const IN_ORDER: &[u8] = b"1 rsp 6 200 OK\n2 rsp 6 200 OK\n3 rsp 6 200 OK\n4 rsp 6 200 OK\n";
+
+/// In pieces of which size they come, and what is told: those of one piece together.
+pub const TOGETHER: &[(usize, &str)] = &[
+    (1, "c1 c2 c3 Done"),
+    (15, "c1 c2 c3 Done"),
+    (30, "c1 c3 Done"),
+    (45, "c2 c3 Done"),
+    (60, "c3 Done"),
+];
+
+/// Answers of one piece to five entries: one is out of order, and one is to no frame.
+pub const MIXED: &[u8] =
+    b"1 rsp 6 200 OK\n2 rsp 6 200 OK\n3 rsp 6 200 OK\n6 rsp 6 200 OK\n9 rsp 6 200 OK\n4 rsp 6 200 OK\n5 rsp 6 200 OK\n";
+
+/// What is told by them.
+pub const MIXED_TOLD: &str = "c2 a4-5 c5 Done";
+
+/// How often a letter is repeated in the text of each entry, how many entries there are, and how many bytes the texts have after the
+/// one that opens the session. A frame of so long a text has 16 bytes more, and 15 where its length has four digits.
+pub const LONG: &[(usize, usize, &[usize])] = &[
+    // Two frames have just 65,536 bytes.
+    (32_752, 4, &[65_536, 65_536]),
+    // Two would have 65,538.
+    (32_753, 3, &[32_769, 32_769, 32_769]),
+    // The third would be too much.
+    (30_000, 5, &[60_032, 60_032, 30_016]),
+    // One alone has more, and the longest text.
+    (70_000, 2, &[70_016, 70_016]),
+    (131_072, 2, &[131_089, 131_089]),
+    // Of six with 9,984 bytes each a seventh has no room.
+    (9_969, 7, &[59_904, 9_984]),
 ];
 
 /// The ten entries that were sent to an `imrelp` (librelp 1.11.0), what it was sent, and what it answered.

@@ -1,4 +1,3 @@
-use Rattle.desk_access.specs.Call.{Record}
 use Rattle.spool_turns.specs.Joining.{joint_record}
 use Rattle.spool_turns.proofs.joining.enter.Given as goal
 

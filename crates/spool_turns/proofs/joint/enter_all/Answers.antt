@@ -1,11 +1,9 @@
-use Rattle.std.proofs.Common.{◌≡◌, ℕ, ◌+◌, ◌-◌, ◌≤◌, ◌<◌, List, [], ◌∷◌, ◌++◌, length, refl, sym, ap, ◌∙◌, subst, arith}
+use Rattle.std.proofs.Common.{ℕ, ◌+◌, List, length, sym, ap, ◌∙◌, subst, arith}
 use Rattle.std.specs.Prelude.{take, drop}
 use Rattle.std.specs.Vec.Iter.{into_iter_items}
 use Rattle.std.proofs.lemmas.List.{nil_from_length, length-take-le}
-use Rattle.event_form.specs.declared.event.Entry.{Entry}
 use Rattle.spool_turns.specs.Rules.{PassView}
 use Rattle.spool_turns.specs.Passes.{facts_in}
-use Rattle.spool_turns.specs.Joining.{entries_out}
 use Rattle.spool_turns.proofs.EnteringAll.{IsEntering, locked_again, entering_first, entering_last, stands, leads_there, entering_next}
 use Rattle.spool_turns.proofs.joint.enter_all.Goals as goal
 

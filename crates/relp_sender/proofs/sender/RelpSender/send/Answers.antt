@@ -1,39 +1,49 @@
-use Rattle.std.proofs.Common.{◌≡◌, ◌∙◌, ◌∷◌, false, ap, sym, subst}
-use Rattle.event_form.specs.declared.event.Entry.{Entry}
-use Rattle.relp_sender.specs.declared.due.Due.TheVariants.{Send}
-use Rattle.relp_sender.specs.declared.next.Next.TheVariants.{Frame}
-use Rattle.relp_sender.specs.declared.stage.Stage.{Stage}
-use Rattle.relp_sender.specs.Due.{IsDue, IsNext}
-use Rattle.relp_sender.specs.Sender.{HasRoom, MayWrite}
-use Rattle.relp_sender.specs.Texts.{event_text}
-use Rattle.relp_sender.specs.contracts.sender.RelpSender.{the_view}
-use Rattle.relp_sender.proofs.Writing.{sends_entry, keeps_entry, may_open, room_of}
+use Rattle.std.proofs.Common.{◌≡◌, ◌∙◌, ◌<◌, ℕ, [], length, ap, sym, subst, arith}
+use Rattle.relp_sender.specs.Sender.{Sender, wrote}
+use Rattle.relp_sender.specs.Sends.{SendsOn}
+use Rattle.relp_sender.specs.Spending.{spent}
+use Rattle.relp_sender.specs.Turns.{IsJoint}
+use Rattle.event_form.specs.declared.turn.Turn.TheVariants.{Write}
+use Rattle.relp_sender.proofs.Joining.{joint_wrote, length-wrote, sends_joined, spent_wrote, wrote_next, wrote_none}
+use Rattle.relp_sender.proofs.Writing.{may_open}
 use Rattle.relp_sender.proofs.sender.RelpSender.send.Goals as goal
 
-pub returns-clause-sends : goal.returns-clause-sends
-returns-clause-sends c = λ h was.
-    let s = the_view c.self.inside in
-    let due : IsDue Send s = rw (← c.self.view_is) at c.requires.due in
-    let n : IsNext s (Frame c.args.text) = rw (← c.self.view_is) at c.requires.next in
-    let e = c.in-Some._entry in
-    let es = c.pop_front.new.self.items in
-    let more : s.waiting ≡ e ∷ es = c.in-Some.ensures.items in
-    let both : n.0 ∷ n.1 ≡ e ∷ es = sym n.3 ∙ more in
-    let same : n.0 ≡ e = cc in
-    sends_entry s c.args.text e es c.push_back_reserved.new.self.items (may_open s.stage s n.2 due.2) more (n.4 ∙ ap (λ (x : Entry). event_text s.written x.event) same) c.push_back_reserved.ensures.items h (rw (← c.self.view_is) at was)
+pub loop-written-init : goal.loop-written-init
+loop-written-init c = record { in_range = omega arith; is = sym (wrote_none c.args.self.now) }
 
-pub invariant_of-self : goal.invariant_of-self
-invariant_of-self c =
-    let s = the_view c.self.inside in
-    let due : IsDue Send s = rw (← c.self.view_is) at c.requires.due in
-    let asked : s.asked ≡ false = rw (← c.self.view_is) at c.requires.asked in
-    let n : IsNext s (Frame c.args.text) = rw (← c.self.view_is) at c.requires.next in
-    let e = c.in-Some._entry in
-    let es = c.pop_front.new.self.items in
-    let more : s.waiting ≡ e ∷ es = c.in-Some.ensures.items in
-    let is = may_open s.stage s n.2 due.2 in
-    let may = subst (λ (x : Stage). MayWrite x s) is due.2 in (
-      keeps_entry s e es c.push_back_reserved.new.self.items c.self.invariant.0 asked due.0 due.1 is more (room_of s e es more may) c.push_back_reserved.ensures.items,
-      c.self.invariant.1,
-      subst (HasRoom s.stage) (sym c.push_back_reserved.ensures.capacity) c.self.invariant.2,
-    )
+pub loop-written-preserved : goal.loop-written-preserved
+loop-written-preserved c =
+    record {
+      in_range = omega arith;
+      is = c.advance.ensures ∙ ap (wrote 1) c.loop-written.invariant.is ∙ wrote_next c.loop-written.written c.args.self.now;
+    }
+
+pub advance-requires-clause-room : goal.advance-requires-clause-room
+advance-requires-clause-room c =
+    let s = c.args.self.now in
+    let k = c.loop-written.written in
+    subst (λ (t : Sender). length t.unanswered < 1024) (sym c.loop-written.invariant.is) (omega (arith, length-wrote k s, c.requires.next.1.room, c.loop-written-test.true))
+
+pub returns-clause-sends : goal.returns-clause-sends
+returns-clause-sends c =
+    let s = c.args.self.now in
+    let n = c.args.joined.count in
+    let all : c.loop-written.written ≡ n = omega (arith, c.loop-written.invariant.in_range, c.loop-written-test.false) in
+    let is : c.loop-written.self ≡ wrote n s = c.loop-written.invariant.is ∙ ap (λ (k : ℕ). wrote k s) all in
+    subst (SendsOn s c.args.joined.text []) (sym is) (sends_joined n s c.args.joined.text (may_open s.stage s c.requires.next.0 c.requires.due.2) c.requires.next.1)
+
+pub returns-clause-joint : goal.returns-clause-joint
+returns-clause-joint c =
+    let s = c.args.self.now in
+    let n = c.args.joined.count in
+    let all : c.loop-written.written ≡ n = omega (arith, c.loop-written.invariant.in_range, c.loop-written-test.false) in
+    let is : c.loop-written.self ≡ wrote n s = c.loop-written.invariant.is ∙ ap (λ (k : ℕ). wrote k s) all in
+    subst (IsJoint (Write c.args.joined.text)) (sym is) (λ _. joint_wrote n s c.args.joined.text c.requires.next.1)
+
+pub returns-clause-spent : goal.returns-clause-spent
+returns-clause-spent c =
+    let s = c.args.self.now in
+    let n = c.args.joined.count in
+    let all : c.loop-written.written ≡ n = omega (arith, c.loop-written.invariant.in_range, c.loop-written-test.false) in
+    let is : c.loop-written.self ≡ wrote n s = c.loop-written.invariant.is ∙ ap (λ (k : ℕ). wrote k s) all in
+    subst (λ (t : Sender). spent s < spent t) (sym is) (spent_wrote n s c.requires.next.1.some c.requires.next.1.room c.requires.due.1)

@@ -1,4 +1,4 @@
-use Rattle.std.proofs.Common.{◌≡◌, List, ◌∙◌, sym, subst, ap, refl}
+use Rattle.std.proofs.Common.{List, ◌∙◌, sym, subst}
 use Rattle.event_form.specs.declared.event.Entry.{Entry}
 use Rattle.spool_desk.proofs.Fits.{front_alone}
 use Rattle.spool_turns.specs.Letters.{IsLetter, IsAnswered}

@@ -1,4 +1,4 @@
-use Rattle.std.proofs.Common.{◌≡◌, ℕ, List, [], ◌++◌, reverse, refl, sym, ap, ◌∙◌, arith, eqb-true}
+use Rattle.std.proofs.Common.{ℕ, List, ◌++◌, reverse, refl, sym, ap, ◌∙◌, arith, eqb-true}
 use Rattle.std.specs.Vec.{vec_len}
 use Rattle.std.proofs.lemmas.List.{append-nil, nil_from_length, reverse-reverse}
 use Rattle.spool_turns.proofs.turn.Turn.answer_all.Goals as goal
