@@ -70,10 +70,11 @@ fn calls_of(rt: &impl Abort, alloc: Global, row: &str) -> u64 {
         let Some(left) = serve_burst(rt, alloc, row, &[call]) else {
             continue;
         };
-        if left.attended.talk != Talk::DiskFault {
+        if left.attended.talk == Talk::DiskFault {
+            calls = calls.saturating_add(1);
+        } else if calls > 0 {
             return calls;
         }
-        calls = calls.saturating_add(1);
     }
     panic!(rt; "more calls than a row makes")
 }
