@@ -8,7 +8,7 @@ use std::alloc::Global;
 use std::process::Abort;
 
 /// The bytes of the disks.
-pub(crate) const SIZE: usize = 300_000;
+pub(crate) const SIZE: usize = 160_000;
 
 // How many bytes are written at once: short writes, and long ones, each beside a page's edge and on it.
 const LENGTHS: [usize; 9] = [
@@ -90,7 +90,7 @@ impl<D: Disk> Beside<D> {
             0 | 1 => end,
             2 => end.saturating_sub(dice.below(5_000)),
             3 => start.saturating_sub(len),
-            4 => dice.below(73) * 4_096,
+            4 => dice.below(39) * 4_096,
             _ => dice.below(SIZE),
         };
         let at = wanted.min(SIZE - len);
