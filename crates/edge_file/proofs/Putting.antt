@@ -18,19 +18,19 @@ put_append at x y b room =
     let lxy : length (x ++ y) ≡ length x + length y = grind (arith, common_steps) in
     let l3 = length-put at (x ++ y) b (omega arith) in
     ext_get_or 0 _ _ (l2 ∙ l1 ∙ sym l3) (λ i lt. elim (cases_lt i (at + length x)) [
-    | inl before ↦
-        put_below (at + length x) y (put at x b) i (omega arith) before ∙ elim (cases_lt i at) [
-        | inl below ↦ put_below at x b i (omega arith) below ∙ sym (put_below at (x ++ y) b i (omega arith) below)
-        | inr ge ↦ put_at at x b (i - at) i (omega arith) (omega arith) (omega arith) ∙ sym (put_at at (x ++ y) b (i - at) i (omega arith) (omega arith) (omega arith) ∙ grind (arith, places))
+      | inl before ↦
+          put_below (at + length x) y (put at x b) i (omega arith) before ∙ elim (cases_lt i at) [
+            | inl below ↦ put_below at x b i (omega arith) below ∙ sym (put_below at (x ++ y) b i (omega arith) below)
+            | inr ge ↦ put_at at x b (i - at) i (omega arith) (omega arith) (omega arith) ∙ sym (put_at at (x ++ y) b (i - at) i (omega arith) (omega arith) (omega arith) ∙ grind (arith, places))
+          ]
+      | inr ge ↦ elim (cases_lt i (at + length x + length y)) [
+        | inl within ↦
+            put_at (at + length x) y (put at x b) (i - (at + length x)) i (omega arith) (omega arith) (omega arith)
+            ∙ sym (put_at at (x ++ y) b (i - at) i (omega arith) (omega arith) (omega arith) ∙ grind (arith, places))
+        | inr past ↦
+            put_above (at + length x) y (put at x b) i (omega arith) (omega arith) ∙ put_above at x b i (omega arith) (omega arith) ∙ sym (put_above at (x ++ y) b i (omega arith) (omega arith))
       ]
-    | inr ge ↦ elim (cases_lt i (at + length x + length y)) [
-      | inl within ↦
-          put_at (at + length x) y (put at x b) (i - (at + length x)) i (omega arith) (omega arith) (omega arith)
-          ∙ sym (put_at at (x ++ y) b (i - at) i (omega arith) (omega arith) (omega arith) ∙ grind (arith, places))
-      | inr past ↦
-          put_above (at + length x) y (put at x b) i (omega arith) (omega arith) ∙ put_above at x b i (omega arith) (omega arith) ∙ sym (put_above at (x ++ y) b i (omega arith) (omega arith))
-    ]
-  ])
+    ])
 
 -- over a range that a write has torn
 pub put_torn : (at : ℕ) (piece a b : List ℕ) → at + length piece ≤ length a → SameBut at (length piece) a b → put at piece b ≡ put at piece a
@@ -38,12 +38,12 @@ put_torn at piece a b room same =
     let l1 = length-put at piece a room in
     let l2 = length-put at piece b (omega (arith, same.len)) in
     ext_get_or 0 _ _ (l2 ∙ same.len ∙ sym l1) (λ i lt. elim (cases_lt i at) [
-    | inl below ↦ put_below at piece b i (omega (arith, same.len)) below ∙ same.below i below ∙ sym (put_below at piece a i room below)
-    | inr ge ↦ elim (cases_lt i (at + length piece)) [
-      | inl within ↦ put_at at piece b (i - at) i (omega (arith, same.len)) (omega arith) (omega arith) ∙ sym (put_at at piece a (i - at) i room (omega arith) (omega arith))
-      | inr past ↦ put_above at piece b i (omega (arith, same.len)) past ∙ same.above i past ∙ sym (put_above at piece a i room past)
-    ]
-  ])
+      | inl below ↦ put_below at piece b i (omega (arith, same.len)) below ∙ same.below i below ∙ sym (put_below at piece a i room below)
+      | inr ge ↦ elim (cases_lt i (at + length piece)) [
+        | inl within ↦ put_at at piece b (i - at) i (omega (arith, same.len)) (omega arith) (omega arith) ∙ sym (put_at at piece a (i - at) i room (omega arith) (omega arith))
+        | inr past ↦ put_above at piece b i (omega (arith, same.len)) past ∙ same.above i past ∙ sym (put_above at piece a i room past)
+      ]
+    ])
 
 -- A write has torn the range of a piece and what comes behind it, and the piece is put over that again.
 pub torn_behind : (at n : ℕ) (piece a b : List ℕ) → at + length piece ≤ length a → SameBut at (length piece + n) a b → SameBut (at + length piece) n (put at piece a) (put at piece b)

@@ -60,7 +60,8 @@ impl<D: Disk> WholePages<D> {
         ensures seen { D.tells → seen self.new.held (D.moment self.new.disk) ≡ seen self.old.held (D.moment self.old.disk) }
     {
         if !self.held.bytes.is_empty() {
-            self.disk.write_at(self.held.at, self.held.bytes.as_slice())?;
+            self.disk
+                .write_at(self.held.at, self.held.bytes.as_slice())?;
             self.held.bytes.clear();
         }
         Ok(())
@@ -111,8 +112,7 @@ impl<D: Disk> WholePages<D> {
         if self.held.goes_on(at) {
             return self.write_page(piece);
         }
-        self.write_held()?;
-        Ok(0)
+        self.write_held().map(|()| 0)
     }
 
     // Writes a piece but for its last bytes, which are held. Nothing is held before.
@@ -216,7 +216,11 @@ impl<D: Disk> Disk for WholePages<D> {
         ensures none { OnOk result (self.new.held.bytes.items ≡ []) }
         ensures below { OnOk result (D.tells → IsSettled (D.moment self.new.disk)) }
     {
-        self.write_held()?;
-        self.disk.sync()
+        let written = self.write_held();
+        if written.is_ok() {
+            self.disk.sync()
+        } else {
+            written
+        }
     }
 }

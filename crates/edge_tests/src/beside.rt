@@ -76,8 +76,7 @@ impl<D: Disk> Beside<D> {
         let end = at.saturating_add(len);
         assert!(rt; end <= self.bytes.len() && end as u64 <= self.disk.len() && end < usize::MAX);
         let mut buf = vec![in alloc; 9; len].expect(rt, "memory");
-        self.disk.read_at(at as u64, &mut buf).is_ok()
-            && buf.as_slice() == &self.bytes[at..end]
+        self.disk.read_at(at as u64, &mut buf).is_ok() && buf.as_slice() == &self.bytes[at..end]
     }
 
     // Writes where the last write ended, a little before that, just before it began, at a page's edge, or anywhere.
@@ -126,4 +125,10 @@ pub(crate) fn text(rt: &impl Abort, alloc: Global) -> Vec<u8> {
         *byte = (place % 251) as u8;
     }
     text
+}
+
+/// The first `len` bytes of a text that has as many.
+pub(crate) fn front<'a>(rt: &impl Abort, text: &'a [u8], len: usize) -> &'a [u8] {
+    assert!(rt; len <= text.len());
+    &text[..len]
 }

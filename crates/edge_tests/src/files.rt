@@ -1,5 +1,5 @@
 //! Disks that are files.
-use crate::beside::{Beside, Dice, SIZE, text};
+use crate::beside::{Beside, Dice, SIZE, front, text};
 use edge_disk::Disk;
 use edge_file::{FileDisk, OpenFault, Sharing};
 use std::env;
@@ -166,14 +166,14 @@ fn a_held_part_that_has_no_room_is_a_fault(rt: &impl Abort, host: &HostRuntime, 
     let text = text(rt, host.alloc());
     let disk = FileDisk::make(host, path, SIZE as u64).expect(rt, "make");
     let mut beside = Beside::new(rt, host.alloc(), disk);
-    let is_written = beside.write(rt, 0, &text[..65_537]);
+    let is_written = beside.write(rt, 0, front(rt, &text, 65_537));
     assert!(rt; is_written);
-    fs::write(host, path, &text[..65_536]).expect(rt, "shorten");
+    fs::write(host, path, front(rt, &text, 65_536)).expect(rt, "shorten");
     let mut buf = [0; 4];
     assert!(rt; beside.disk.read_at(0, &mut buf).is_err() && beside.disk.sync().is_err());
     assert!(rt; !beside.write(rt, 65_537, b"a") && !beside.write(rt, 9, b"b"));
-    assert!(rt; holds(rt, host, path, &text[..65_536]));
-    fs::write(host, path, &beside.bytes[..65_536]).expect(rt, "shorten");
+    assert!(rt; holds(rt, host, path, front(rt, &text, 65_536)));
+    fs::write(host, path, front(rt, &beside.bytes, 65_536)).expect(rt, "shorten");
     let mut options = OpenOptions::new();
     options.write(true);
     let file = options.open(host, path).expect(rt, "open");

@@ -1,7 +1,6 @@
 //! Disks that hold back the last part of a page, over disks in memory.
-ghost use Rattle.std.specs.Prelude.{◌≡◌};
 
-use crate::beside::{Beside, Dice, SIZE, text};
+use crate::beside::{Beside, Dice, SIZE, front, text};
 use edge_disk::{Disk, DiskFault};
 use edge_file::WholePages;
 use edge_memory::{Crash, MemDisk};
@@ -16,31 +15,31 @@ enum Call {
     Sync,
 }
 
-// A disk in memory that writes down its calls.
+// A disk as it is, which writes down its calls.
 #[derive(Drop)]
-struct Seen {
-    disk: MemDisk,
+struct Seen<D> {
+    disk: D,
     calls: Vec<Call>,
 }
 
-impl Disk for Seen {
-    ghost tells = { ⟦<MemDisk as Disk>⟧.tells };
+impl<D: Disk> Disk for Seen<D> {
+    ghost tells = { D.tells };
 
-    ghost tells_images = { λ d. ⟦<MemDisk as Disk>⟧.tells_images d.disk };
+    ghost tells_images = { λ d. D.tells_images d.disk };
 
-    ghost moment = { λ d. ⟦<MemDisk as Disk>⟧.moment d.disk };
+    ghost moment = { λ d. D.moment d.disk };
 
-    ghost may_release = { ⟦<MemDisk as Disk>⟧.may_release };
+    ghost may_release = { D.may_release };
 
-    ghost may_tear = { λ d at n. ⟦<MemDisk as Disk>⟧.may_tear d.disk at n };
+    ghost may_tear = { λ d at n. D.may_tear d.disk at n };
 
-    ghost reads_too = { λ d images. tt };
+    ghost reads_too = { λ d images. D.reads_too d.disk images };
 
-    ghost fits = { λ d. ⟦<MemDisk as Disk>⟧.fits d.disk };
+    ghost fits = { λ d. D.fits d.disk };
 
-    ghost lawful = { λ d tells. ⟦<MemDisk as Disk>⟧.lawful d.disk tells };
+    ghost lawful = { λ d tells. D.lawful d.disk tells };
 
-    ghost stands_in = { λ d t c tells. ⟦<MemDisk as Disk>⟧.stands_in d.disk t c tells };
+    ghost stands_in = { λ d t c tells. D.stands_in d.disk t c tells };
 
     fn len(&self) -> u64 {
         self.disk.len()
@@ -97,56 +96,69 @@ const WRITES: [(usize, usize); 8] = [
     (4_096, 65_537),
 ];
 
-// The calls below that these writes and a sync make: whole pages where long writes go on, each byte once and in order; a short
-// write at once; and what is held before a write elsewhere and before the sync.
-const CALLS: [Call; 13] = [
-    Call::Write(100, 65_436),
-    Call::Write(65_536, 4_096),
-    Call::Write(69_632, 61_440),
-    Call::Write(131_072, 4_096),
-    Call::Write(135_168, 1_004),
-    Call::Write(70_000, 65_168),
-    Call::Write(135_168, 371),
-    Call::Write(8_000, 61_632),
-    Call::Write(69_632, 3_904),
-    Call::Write(150_000, 10),
-    Call::Write(4_096, 65_536),
-    Call::Write(69_632, 1),
-    Call::Sync,
-];
+// Whether the calls below are those that these writes, a sync, a long write and two reads make: whole pages where long writes go on,
+// each byte once and in order; a short write at once; and what is held before a write elsewhere, a sync and a read.
+fn are_due(calls: &[Call]) -> bool {
+    let due = [
+        Call::Write(100, 65_436),
+        Call::Write(65_536, 4_096),
+        Call::Write(69_632, 61_440),
+        Call::Write(131_072, 4_096),
+        Call::Write(135_168, 1_004),
+        Call::Write(70_000, 65_168),
+        Call::Write(135_168, 371),
+        Call::Write(8_000, 61_632),
+        Call::Write(69_632, 3_904),
+        Call::Write(150_000, 10),
+        Call::Write(4_096, 65_536),
+        Call::Write(69_632, 1),
+        Call::Sync,
+        Call::Write(8_000, 61_632),
+        Call::Write(69_632, 3_904),
+        Call::Read,
+        Call::Read,
+    ];
+    calls == due.as_slice()
+}
 
-pub(crate) fn whole_pages_are_written_in_order(rt: &impl Abort, alloc: Global) {
-    let text = text(rt, alloc);
-    let seen = Seen {
+// A disk of zeros that writes down its calls.
+fn seen_zeros(rt: &impl Abort, alloc: Global) -> Seen<MemDisk> {
+    Seen {
         disk: MemDisk::plain(alloc, SIZE as u64).expect(rt, "memory"),
         calls: Vec::new(alloc),
-    };
-    let mut beside = Beside::new(rt, alloc, WholePages::new(seen));
+    }
+}
+
+// Makes the writes, each of which passes.
+fn make_writes<D: Disk>(rt: &impl Abort, text: &[u8], beside: &mut Beside<D>) {
     for (at, len) in WRITES {
-        assert!(rt; len <= text.len());
-        let is_written = beside.write(rt, at, &text[..len]);
+        let is_written = beside.write(rt, at, front(rt, text, len));
         assert!(rt; is_written);
     }
-    let is_synced = beside.disk.sync().is_ok();
-    // A read writes what is held first, and then there is none.
-    let is_written = beside.write(rt, 8_000, &text[..65_536]);
-    let is_read = beside.reads(rt, alloc, 0, 10) && beside.reads(rt, alloc, 0, SIZE);
-    assert!(rt; is_synced && is_written && is_read);
+}
+
+// The calls that the disk below has written down. It has what the list has.
+fn calls_of(rt: &impl Abort, beside: Beside<WholePages<Seen<MemDisk>>>) -> Vec<Call> {
     let Beside {
         disk,
         bytes,
         last: _,
     } = beside;
     let Seen { disk, calls } = disk.into_disk();
-    assert!(rt; calls.len() == 17 && disk.bytes() == bytes.as_slice());
-    let (first, then) = calls.as_slice().split_at(13);
-    let reading = [
-        Call::Write(8_000, 61_632),
-        Call::Write(69_632, 3_904),
-        Call::Read,
-        Call::Read,
-    ];
-    assert!(rt; first == CALLS.as_slice() && then == reading.as_slice());
+    assert!(rt; disk.bytes() == bytes.as_slice());
+    calls
+}
+
+pub(crate) fn whole_pages_are_written_in_order(rt: &impl Abort, alloc: Global) {
+    let text = text(rt, alloc);
+    let mut beside = Beside::new(rt, alloc, WholePages::new(seen_zeros(rt, alloc)));
+    make_writes(rt, &text, &mut beside);
+    let is_synced = beside.disk.sync().is_ok();
+    let is_written = beside.write(rt, 8_000, front(rt, &text, 65_536));
+    let is_read = beside.reads(rt, alloc, 0, 10) && beside.reads(rt, alloc, 0, SIZE);
+    assert!(rt; is_synced && is_written && is_read);
+    let calls = calls_of(rt, beside);
+    assert!(rt; are_due(&calls));
 }
 
 // Makes the writes and a sync over a disk of which the call of this number fails, and what failed once more. What was written before
@@ -157,12 +169,13 @@ fn faults_of(rt: &impl Abort, alloc: Global, text: &[u8], number: u64) -> usize 
     let mut beside = Beside::new(rt, alloc, WholePages::new(MemDisk::of(zeros, failing)));
     let mut faults = 0usize;
     for (at, len) in WRITES {
-        assert!(rt; len <= text.len() && at <= SIZE && len <= SIZE - at);
-        if !beside.write(rt, at, &text[..len]) {
+        assert!(rt; at <= SIZE && len <= SIZE);
+        if !beside.write(rt, at, front(rt, text, len)) {
             faults = faults.saturating_add(1);
             let end = at + len;
-            let is_read = beside.reads(rt, alloc, 0, at) && beside.reads(rt, alloc, end, SIZE - end);
-            let is_written = beside.write(rt, at, &text[..len]);
+            let is_read = beside.reads(rt, alloc, 0, at)
+                && beside.reads(rt, alloc, end, SIZE.saturating_sub(end));
+            let is_written = beside.write(rt, at, front(rt, text, len));
             assert!(rt; is_read && is_written);
         }
     }
