@@ -1,8 +1,9 @@
 //! Disks that are files.
+use crate::beside::{Beside, Dice, SIZE, front, text};
 use edge_disk::Disk;
 use edge_file::{FileDisk, OpenFault, PairFault, Sharing};
 use std::env;
-use std::fs::{self, Permissions};
+use std::fs::{self, OpenOptions, Permissions};
 use std::os::unix::fs::{PermissionsExt, symlink};
 use std::process::{self, Abort};
 use std::rt::Files;
@@ -142,6 +143,49 @@ fn a_file_that_shrank_is_a_fault(rt: &impl Abort, host: &HostRuntime, path: &str
     fs::remove_file(host, path).expect(rt, "remove");
 }
 
+// Whatever is written to a file of many pages, in whatever order: each read gives it, and so does the file after a sync.
+fn a_file_of_many_pages(rt: &impl Abort, host: &HostRuntime, path: &str) {
+    let text = text(rt, host.alloc());
+    for seed in 500..504u64 {
+        let mut dice = Dice::new(seed);
+        let disk = FileDisk::make(host, path, SIZE as u64).expect(rt, "make");
+        let mut beside = Beside::new(rt, host.alloc(), disk);
+        for _ in 0..3 {
+            beside.calls(rt, host.alloc(), &text, &mut dice);
+            let is_synced = beside.disk.sync().is_ok();
+            assert!(rt; is_synced && holds(rt, host, path, &beside.bytes));
+        }
+        drop(beside);
+        fs::remove_file(host, path).expect(rt, "remove");
+    }
+}
+
+// The last part of a long write that the file has no more room for is a fault of the call that writes it, and is written once there is
+// room again.
+fn a_held_part_that_has_no_room_is_a_fault(rt: &impl Abort, host: &HostRuntime, path: &str) {
+    let text = text(rt, host.alloc());
+    let disk = FileDisk::make(host, path, SIZE as u64).expect(rt, "make");
+    let mut beside = Beside::new(rt, host.alloc(), disk);
+    let is_written = beside.write(rt, 0, front(rt, &text, 65_537));
+    assert!(rt; is_written);
+    fs::write(host, path, front(rt, &text, 65_536)).expect(rt, "shorten");
+    let mut buf = [0; 4];
+    assert!(rt; beside.disk.read_at(0, &mut buf).is_err() && beside.disk.sync().is_err());
+    assert!(rt; !beside.write(rt, 65_537, b"a") && !beside.write(rt, 9, b"b"));
+    assert!(rt; holds(rt, host, path, front(rt, &text, 65_536)));
+    fs::write(host, path, front(rt, &beside.bytes, 65_536)).expect(rt, "shorten");
+    let mut options = OpenOptions::new();
+    options.write(true);
+    let file = options.open(host, path).expect(rt, "open");
+    file.set_len(SIZE as u64).expect(rt, "lengthen");
+    drop(file);
+    let is_written = beside.write(rt, 65_537, b"a");
+    assert!(rt; is_written && beside.disk.sync().is_ok());
+    assert!(rt; holds(rt, host, path, &beside.bytes));
+    drop(beside);
+    fs::remove_file(host, path).expect(rt, "remove");
+}
+
 // A symbolic link stands for the file that it leads to, which is made where it isn't there.
 fn a_link_is_its_target(rt: &impl Abort, host: &HostRuntime, path: &str) {
     let folder = format!(in host.alloc(); "{path}_folder").expect(rt, "memory");
@@ -211,6 +255,8 @@ pub(crate) fn files_are_disks(rt: &impl Abort, host: &HostRuntime) {
     a_file_is_shared(rt, host, &path);
     a_file_is_its_owners_alone(rt, host, &path);
     a_file_that_shrank_is_a_fault(rt, host, &path);
+    a_file_of_many_pages(rt, host, &path);
+    a_held_part_that_has_no_room_is_a_fault(rt, host, &path);
     a_link_is_its_target(rt, host, &path);
     two_files_are_opened(rt, host, &path);
     check_made(rt, host, &name, 2, [0, 0]);
