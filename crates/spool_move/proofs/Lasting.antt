@@ -1,11 +1,11 @@
 -- Runs one after another lose nothing.
-use Rattle.std.proofs.Common.{◌≡◌, ◌⊎◌, inl, inr, ℕ, zero, suc, ◌+◌, ◌-◌, ◌<◌, ◌≤◌, Bool, true, false, cond, List, [], ◌∷◌, ◌++◌, length, map, take, drop, get_or, Ok, refl, sym, ◌∙◌, ap, subst, arith, length-drop, take-append-drop}
-use Rattle.std.specs.Prelude.{All, ◌==◌, count_by}
+use Rattle.std.proofs.Common.{◌≡◌, ◌⊎◌, inl, inr, ℕ, zero, suc, ◌+◌, ◌-◌, ◌<◌, ◌≤◌, List, [], ◌∷◌, ◌++◌, length, take, drop, get_or, Ok, refl, sym, ◌∙◌, ap, subst, arith, length-drop, take-append-drop}
+use Rattle.std.specs.Prelude.{All, AllPairs, ◌≢◌}
 use Rattle.std.specs.List.{Contains}
 use Rattle.std.proofs.Math.Seq.{take-add}
-use Rattle.std.proofs.lemmas.Bool.{cases_Bool, cases_lt, eqb-true, false_from_ne_true}
-use Rattle.std.proofs.lemmas.List.{append-nil, drop-drop, drop_all, map-append, take-take, take_all}
-use Rattle.std.proofs.lemmas.List.Elements.{All-cons, All-head, All-nil, All-tail, Contains-append_cases, Contains-append_left, Contains-get_or}
+use Rattle.std.proofs.lemmas.Bool.{cases_lt}
+use Rattle.std.proofs.lemmas.List.{append-nil, drop-drop, drop_all, length-map, map-append, take-take, take_all}
+use Rattle.std.proofs.lemmas.List.Elements.{All-cons, All-nil, Contains-append_cases, Contains-append_left, Contains-get_or}
 use Rattle.event_form.specs.declared.event.Entry.{Entry}
 use Rattle.edge_disk.specs.Disk.{Moment, IsLawful}
 use Rattle.spool_state.specs.SpoolState.{SpoolState, end}
@@ -18,7 +18,7 @@ use Rattle.spool_move.specs.Turns.{Turn, OfSource, OfTarget, AreTurns, WasLeft}
 use Rattle.spool_move.specs.Runs.{IsMoved, IsRun, IsNextPair, AreNextPairs, tagged, IsFirst, HasMoved, AreMoved, StandOnce, AllMoved, RunsLoseNothing, MovedStandOnce, RunsMoveAll, last_pair}
 use Rattle.spool_move.proofs.Looking.{cons_cases}
 use Rattle.spool_move.proofs.Numbers.{tagged_append, tagged_moved, missing_past, missing_none}
-use Rattle.spool_move.proofs.Rising.{Rises, rises_parts, left_rises, all_from}
+use Rattle.spool_move.proofs.Rising.{Rises, rises_parts, left_rises, one_place}
 
 -- ---- a run goes on from where the one before was ended
 
@@ -152,26 +152,18 @@ move_all_there tells tells' on onto lawful lawful' = λ tag first a a' b b' late
 
 -- ---- each stands in one of them, and once
 
-count_none : {X : Type 0} (p : X → Bool) (xs : List X) → All (λ x. p x ≡ false) xs → count_by p xs ≡ 0
-count_none p [] all = refl
-count_none {X} p (x ∷ xs) all =
-    ap (λ (b : Bool). cond b 1 0 + count_by p xs) (All-head (λ (y : X). p y ≡ false) x xs all) ∙ ap (λ (n : ℕ). 0 + n) (count_none p xs (All-tail (λ (y : X). p y ≡ false) x xs all))
+moved_index : (tag : ℕ) (xs : List NumberedEntry) (i : ℕ) (e : Entry) (x : NumberedEntry) → i < length xs → (get_or (all_moved tag xs) i e).index ≡ (get_or xs i x).number
+moved_index tag [] i e x lt = absurd (omega arith)
+moved_index tag (y ∷ xs) zero e x lt = refl
+moved_index tag (y ∷ xs) (suc i) e x lt = moved_index tag xs i e x (omega arith)
 
-count_once : (from n : ℕ) (xs : List NumberedEntry) → Rises from xs → count_by (λ one. one.number == n) xs ≤ 1
-count_once from n [] rises = omega arith
-count_once from n (x ∷ xs) rises = elim (cases_Bool (x.number == n)) [
-  | inl is ↦
-      let same : x.number ≡ n = eqb-true x.number n is in
-      let none : count_by (λ (one : NumberedEntry). one.number == n) xs ≡ 0 =
-      count_none (λ (one : NumberedEntry). one.number == n) xs (λ k d lt. false_from_ne_true ((get_or xs k d).number == n) (λ at.
-      let later = all_from (x.number + 1) xs rises.1 k d lt in omega (arith, later, same, eqb-true (get_or xs k d).number n at))) in
-      omega (arith, ap (λ (b : Bool). cond b 1 0) is, none)
-  | inr off ↦ omega (arith, ap (λ (b : Bool). cond b 1 0) off, count_once (x.number + 1) n xs rises.1)
-]
-
-count_moved : (tag n : ℕ) (xs : List NumberedEntry) → count_by (λ e. e.index == n) (all_moved tag xs) ≡ count_by (λ one. one.number == n) xs
-count_moved tag n [] = refl
-count_moved tag n (x ∷ xs) = ap (λ (k : ℕ). cond (x.number == n) 1 0 + k) (count_moved tag n xs)
+moved_apart : (tag : ℕ) (xs : List NumberedEntry) → Rises 0 xs → AllPairs (λ e other. e.index ≢ other.index) (all_moved tag xs)
+moved_apart tag xs rises i j e before lt same =
+    let long : length (all_moved tag xs) ≡ length xs = length-map xs (moved tag) in
+    let x : NumberedEntry = record { number = 0; entry = e } in
+    let first = moved_index tag xs i e x (omega (arith, before, lt, long)) in
+    let second = moved_index tag xs j e x (omega (arith, lt, long)) in
+    omega (arith, before, one_place 0 xs i j x rises (omega (arith, before, lt, long)) (omega (arith, lt, long)) (sym first ∙ same ∙ second))
 
 moved_contains : (tag : ℕ) (xs : List NumberedEntry) (one : NumberedEntry) → Contains xs one → Contains (all_moved tag xs) (moved tag one)
 moved_contains tag [] one there = absurd (omega (arith, there.1))
@@ -197,6 +189,6 @@ stand_once = λ tag m walked given s t at.
                 inr (subst (λ (l : List Entry). Contains l (moved tag one)) (sym at.target) (moved_contains tag (take walked first) one there))
             | inr behind ↦ inl (subst (λ (l : List NumberedEntry). Contains l one) (sym at.source) behind)
           ];
-      once_in_source = λ n. count_once 0 n (left s) (left_rises s);
-      once_in_target = λ n. omega (arith, ap (count_by (λ (e : Entry). e.index == n)) at.target, count_moved tag n (take walked first), count_once 0 n (take walked first) front.0);
+      once_in_source = λ i j d before lt same. omega (arith, before, one_place 0 (left s) i j d (left_rises s) (omega (arith, before, lt)) lt same);
+      once_in_target = subst (λ (l : List Entry). AllPairs (λ e other. e.index ≢ other.index) l) (sym at.target) (moved_apart tag (take walked first) front.0);
     }

@@ -8,6 +8,7 @@ use Rattle.std.proofs.lemmas.Bool.{and_parts, eqb-true, eq-eqb, false_from_ne_tr
 use Rattle.std.proofs.lemmas.List.Elements.{All-contains, All-head, All-nil, All-push, Contains-get_or}
 use Rattle.event_form.specs.declared.event.Entry.{Entry}
 use Rattle.spool_state.specs.SpoolState.{SpoolState, end, IsSound}
+use Rattle.spool_log.specs.declared.memory.Memory.{Memory}
 use Rattle.spool_state.specs.Left.{NumberedEntry, left}
 use Rattle.spool_move.specs.declared.fault.MoveFault.{MoveFault}
 use Rattle.spool_move.specs.declared.fault.MoveFault.TheVariants.{Strange, TooLarge, Spent, Full, Worn, NotSpool, SourceFault, TargetFault, NoMemory}
@@ -15,7 +16,8 @@ use Rattle.spool_move.specs.declared.presence.Own.{Own}
 use Rattle.spool_move.specs.declared.presence.Own.TheVariants.{NotLeft, Same, Other}
 use Rattle.spool_move.specs.Moved.{connection_of, is_present}
 use Rattle.spool_move.specs.Strange.{IsStrange, IsPlain, NoneIsStrange, IsFirstStrange}
-use Rattle.spool_move.specs.Reading.{IsOwned, IsOwn, IsPresence, IsReading, IsSearched, FindsFault}
+use Rattle.spool_move.specs.Reading.{IsOfLook, IsOwned, IsReading, IsSearched, IsUnread, FindsFault}
+use Rattle.spool_move.specs.Said.{IsSaidBy}
 use Rattle.spool_move.proofs.Rising.{left_above, left_rises, one_entry}
 
 -- whether the entry is the one of this tag and number
@@ -134,3 +136,27 @@ finds_reading tag m there NoMemory is = tt
 -- before the first
 pub searched_none : (tag : ℕ) (m : SpoolState) (set : BTreeSet ℕ) → ((n : ℕ) → contains nat_cmp set n ≡ false) → IsSearched tag m [] set
 searched_none tag m set none = record { none_strange = All-nil (λ (e : NumberedEntry). IsPlain tag m e.entry); presence = λ k d lt. none _ }
+
+-- ---- which faults there are
+
+pub look_unread : (fault : MoveFault) → IsUnread fault → IsOfLook fault
+look_unread (Strange n) is = absurd is
+look_unread (TooLarge need most) is = absurd is
+look_unread (Spent at) is = absurd is
+look_unread (Full need free) is = absurd is
+look_unread (Worn ordinal) is = absurd is
+look_unread (NotSpool at) is = tt
+look_unread SourceFault is = tt
+look_unread TargetFault is = tt
+look_unread NoMemory is = tt
+
+pub look_said : (fault : MoveFault) (source target : Memory) → IsOfLook fault → IsSaidBy source target fault
+look_said (Strange n) source target is = tt
+look_said (TooLarge need most) source target is = absurd is
+look_said (Spent at) source target is = absurd is
+look_said (Full need free) source target is = absurd is
+look_said (Worn ordinal) source target is = absurd is
+look_said (NotSpool at) source target is = tt
+look_said SourceFault source target is = tt
+look_said TargetFault source target is = tt
+look_said NoMemory source target is = tt

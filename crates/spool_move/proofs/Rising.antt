@@ -97,7 +97,7 @@ from_first from xs rises = filter_all (λ e. nat_le from e.number) xs (λ i d lt
 
 -- ---- a number has one entry
 
-one_place : (from : ℕ) (xs : List NumberedEntry) (i j : ℕ) (d : NumberedEntry) → Rises from xs → i < length xs → j < length xs → (get_or xs i d).number ≡ (get_or xs j d).number → i ≡ j
+pub one_place : (from : ℕ) (xs : List NumberedEntry) (i j : ℕ) (d : NumberedEntry) → Rises from xs → i < length xs → j < length xs → (get_or xs i d).number ≡ (get_or xs j d).number → i ≡ j
 one_place from [] i j d rises li lj same = absurd (omega arith)
 one_place from (x ∷ xs) zero zero d rises li lj same = refl
 one_place from (x ∷ xs) zero (suc j) d rises li lj same = absurd (omega (arith, same, all_from (x.number + 1) xs rises.1 j d (omega arith)))

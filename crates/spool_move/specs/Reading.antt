@@ -58,6 +58,18 @@ IsUnread SourceFault = Unit {0}
 IsUnread TargetFault = Unit {0}
 IsUnread NoMemory = Unit {0}
 
+-- or a strange entry was found
+abbrev pub IsOfLook : MoveFault → Type 0
+IsOfLook (Strange number) = Unit {0}
+IsOfLook (TooLarge need most) = ⊥
+IsOfLook (Spent at) = ⊥
+IsOfLook (Full need free) = ⊥
+IsOfLook (Worn ordinal) = ⊥
+IsOfLook (NotSpool at) = Unit {0}
+IsOfLook SourceFault = Unit {0}
+IsOfLook TargetFault = Unit {0}
+IsOfLook NoMemory = Unit {0}
+
 -- The faults by which a reading of these entries ends: the first strange one is found, or a reading failed.
 abbrev pub FindsFault : ℕ → SpoolState → List NumberedEntry → MoveFault → Type 0
 FindsFault tag m there (Strange number) = IsFirstStrange tag m there number

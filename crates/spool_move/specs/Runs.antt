@@ -1,5 +1,5 @@
 -- Runs of a move, one after another, over disks that nobody else changes meanwhile.
-use Rattle.std.specs.Prelude.{◌≡◌, ◌⊎◌, ◌≢◌, ℕ, ◌≤◌, ◌==◌, List, [], ◌∷◌, length, map, take, drop, count_by, All, Result, Ok, ◌&&◌}
+use Rattle.std.specs.Prelude.{◌≡◌, ◌⊎◌, ◌≢◌, ℕ, ◌≤◌, ◌==◌, List, [], ◌∷◌, length, map, take, drop, All, AllPairs, Result, Ok}
 use Rattle.std.specs.List.{filter, Contains}
 use Rattle.edge_disk.specs.Disk.{Moment}
 use Rattle.event_form.specs.declared.event.Entry.{Entry}
@@ -64,8 +64,8 @@ AreMoved tag first c d = (walked : ℕ) × (given : ℕ) × (s : SpoolState) × 
 -- Each of the first entries is left in the source or in the target, and never twice in one of them.
 pub record StandOnce (tag : ℕ) (first : List NumberedEntry) (s t : SpoolState) : Type 0 where
   pub somewhere : All (λ one. Contains (left s) one ⊎ Contains (tagged tag (left t)) (moved tag one)) first
-  pub once_in_source : (number : ℕ) → count_by (λ one. one.number == number) (left s) ≤ 1
-  pub once_in_target : (number : ℕ) → count_by (λ e. e.index == number) (tagged tag (left t)) ≤ 1
+  pub once_in_source : AllPairs (λ one other. one.number ≢ other.number) (left s)
+  pub once_in_target : AllPairs (λ e other. e.index ≢ other.index) (tagged tag (left t))
 
 -- all of them are in the target alone, in order
 abbrev pub AllMoved : ℕ → List NumberedEntry → List ℕ → List ℕ → Type 0

@@ -8,7 +8,7 @@ ghost use Rattle.spool_answers.specs.Pend.{given_entries};
 ghost use Rattle.spool_log.specs.Memory.{end_of};
 ghost use Rattle.spool_log.specs.State.{view, IsIn};
 ghost use Rattle.spool_move.specs.Strange.{IsStrange, NoneIsStrange};
-ghost use Rattle.spool_move.specs.Reading.{as_entry, IsOwn, IsReading, IsUnread, IsSearched, FindsFault};
+ghost use Rattle.spool_move.specs.Reading.{as_entry, IsOfLook, IsOwn, IsReading, IsUnread, IsSearched, FindsFault};
 
 use crate::MoveFault;
 use crate::entry::{connection, is_same};
@@ -71,6 +71,7 @@ fn look_at<D: Disk>(
 ) -> Result<(), MoveFault>
     ensures calls { Calls (IsErrOf result MoveFault.SourceFault) (D.moment source.old.disk) (D.moment source.new.disk) }
     ensures other { IsErrOf result MoveFault.TargetFault → ⊥ }
+    ensures known { IfErr result (λ fault. IsOfLook fault) }
     ensures looked { (m : SpoolState) (before : List NumberedEntry) → D.tells
         → IsIn m [] (view source.old.memory source.old.doubt (D.moment source.old.disk)) → IsSearched tag m before present.old
         → MatchResult result (λ _. IsSearched tag m (before ++ as_entry one.now ∷ []) present.new)
@@ -113,6 +114,7 @@ fn look_at_page<D: Disk>(
 ) -> Result<(), MoveFault>
     ensures calls { Calls (IsErrOf result MoveFault.SourceFault) (D.moment source.old.disk) (D.moment source.new.disk) }
     ensures other { IsErrOf result MoveFault.TargetFault → ⊥ }
+    ensures known { IfErr result (λ fault. IsOfLook fault) }
     ensures looked { (m : SpoolState) (before : List NumberedEntry) → D.tells
         → IsIn m [] (view source.old.memory source.old.doubt (D.moment source.old.disk)) → IsSearched tag m before present.old
         → MatchResult result (λ _. IsSearched tag m (before ++ given_entries page.now) present.new)
@@ -141,6 +143,7 @@ pub(crate) fn read_present<D: Disk, E: Disk>(
 ) -> Result<BTreeSet<u64>, MoveFault>
     ensures source_calls { Calls (IsErrOf result MoveFault.SourceFault) (D.moment source.old.disk) (D.moment source.new.disk) }
     ensures target_calls { Calls (IsErrOf result MoveFault.TargetFault) (E.moment target.old.disk) (E.moment target.new.disk) }
+    ensures known { IfErr result (λ fault. IsOfLook fault) }
     ensures searched { (m u : SpoolState) → D.tells → E.tells
         → IsIn m [] (view source.old.memory source.old.doubt (D.moment source.old.disk))
         → IsIn u [] (view target.old.memory target.old.doubt (E.moment target.old.disk))

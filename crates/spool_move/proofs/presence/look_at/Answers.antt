@@ -1,8 +1,9 @@
 use Rattle.std.proofs.Common.{◌≡◌, ◌≤◌, ◌∙◌, ℕ, inl, sym, ap, subst, arith}
 use Rattle.spool_state.specs.SpoolState.{SpoolState, end}
-use Rattle.spool_move.specs.Reading.{as_entry, IsOwn}
+use Rattle.spool_move.specs.Reading.{as_entry, IsOfLook, IsOwn}
 use Rattle.spool_move.specs.declared.presence.Own.{Own}
-use Rattle.spool_move.proofs.Present.{other_tag, index_below, index_gone, index_present, strange_here}
+use Rattle.spool_move.proofs.Present.{other_tag, index_below, index_gone, index_present, look_unread, strange_here}
+use Rattle.spool_move.proofs.Results.{match_err}
 use Rattle.spool_move.proofs.Standing.{end_is, inserted}
 use Rattle.spool_move.proofs.presence.look_at.Goals as goal
 
@@ -34,3 +35,7 @@ returns-in-Ok-clause-looked g c = λ m before tells held was.
     (c.if-entry-connection.false ∙ c.connection.ensures)
     (omega (arith, c.if-end-entry.false, c.end.ensures.end, end_is m c.args.source.now.memory held.knows held.sound)) own.0 own.1
     (λ n. inserted c.args.present.now c.insert.new.self c.args.one.now.entry.index n c.in-Ok.ensures.updates)
+
+pub returns-in_err-compare-clause-known : goal.returns-in_err-compare-clause-known
+returns-in_err-compare-clause-known g c =
+    match_err c.from_residual.result c.in_err-compare.field-0.0 (λ _. Unit {0}) (λ fault. IsOfLook fault) c.from_residual.ensures.1 (look_unread c.in_err-compare.field-0.0 c.in_err-compare.ensures.unread)
