@@ -3,14 +3,16 @@ ghost use Rattle.std.specs.Prelude.{◌≡◌, ◌≢◌, ◌⊎◌, ℕ, List, 
 ghost use Rattle.notes.specs.declared.note.Note.TheVariants.{Usage, NoMemory, DiskFault};
 ghost use Rattle.bridge_words.specs.declared.need.Need.{Need};
 ghost use Rattle.bridge_words.specs.declared.need.Need.TheVariants.{Existing};
-ghost use Rattle.bridge_words.specs.Words.{IsNeed, IsNoCommand};
+ghost use Rattle.bridge_words.specs.Words.{IsNeed, IsNoCommand, IsNoMove};
 ghost use Rattle.bridge_parts.specs.Run.{disk_run, input_run, net_run, output_run, run_of};
 ghost use Rattle.bridge_core.specs.Failed.{TellsReadFault, TellsWriteFault, TellsDial};
 ghost use Rattle.bridge_core.specs.Headline.{KeepsPromises};
 ghost use Rattle.bridge_core.specs.Leave.{ForWords, MayAnswer, MayReplay, MayTake, WasRead, MayRelease, WereStreamed, HasExchangedAt, MayTear, MayBind, MayDial, MayPrint};
+ghost use Rattle.bridge_move.specs.Leave.{ForMoves};
 ghost use Rattle.cli_parts.specs.declared.progress.Watched.{Watched};
 ghost use Rattle.edge_file.specs.declared.file.FileDisk.{FileDisk};
 
+use crate::pair::run_move;
 use bridge_core::{Ended, bridge};
 use bridge_words::{Need, need_of};
 use cli_parts::{Opening, Progress, Watched, make_disk, open_text};
@@ -56,7 +58,7 @@ where
         (input_run S.given S.left S.read_faults input.old input.new) (output_run K.taken K.write_faults output.old output.new)
         (net_run N.told net.old net.new) (map (λ (door : _). N.P.told door) result.doors.items)) result.note }
 {
-    let disk = Watched::new(disk, Progress::new(rt, is_shown));
+    let disk = Watched::new(disk, Progress::new(rt, is_shown), "FILE");
     let Ended {
         status,
         note,
@@ -103,8 +105,8 @@ where
     }
 }
 
-// Says why the file wasn't opened.
-fn refuse(rt: &HostRuntime, file: &str, fault: OpenFault) -> Note
+/// Says why the file wasn't opened.
+pub(crate) fn refuse(rt: &HostRuntime, file: &str, fault: OpenFault) -> Note
     ensures { result ≡ DiskFault }
 {
     let why = open_text(fault);
@@ -113,9 +115,9 @@ fn refuse(rt: &HostRuntime, file: &str, fault: OpenFault) -> Note
 }
 
 /// Does what the words ask for, in threads of `threads` where that takes some, over the device that they want: `file`, opened
-/// or made, or one in memory without a byte where they want none. A `file` that can't be opened is a fault of the disk, and
-/// standard error says why in a line of its own. `list` shares `file` with others that list it; every other command has it
-/// alone while it runs.
+/// or made, or one in memory without a byte where they want none; or a move over `file` and the other that they name. A `file` that can't be
+/// opened is a fault of the disk, and standard error says why in a line of its own. `list` shares `file` with others that list it; every
+/// other command has it alone while it runs.
 pub fn run_words<S: Source, K: Sink, N: Net + Send, R: Threads + Wait + Sync>(
     rt: &HostRuntime,
     threads: &R,
@@ -137,9 +139,10 @@ where
         (MayReplay ⟦<FileDisk as Disk>⟧.tells ⟦<FileDisk as Disk>⟧.moment disk (WasRead S.same S.given input.old)
         (MayTake K.same K.taken K.permits output.old)) }
     requires prints { ForWords (map string_bytes words.now) (MayPrint ((sink : K) (text : List ℕ) → K.permits sink text)) }
+    requires prints_move { ForMoves (map string_bytes words.now) (λ _. (sink : K) (text : List ℕ) → K.permits sink text) }
 
-    ensures usage { result ≡ Usage → IsNoCommand (map string_bytes words.now) }
-    ensures no_command { IsNoCommand (map string_bytes words.now) → result ≡ Usage ⊎ result ≡ NoMemory }
+    ensures usage { result ≡ Usage → IsNoCommand (map string_bytes words.now) × IsNoMove (map string_bytes words.now) }
+    ensures no_command { IsNoCommand (map string_bytes words.now) → IsNoMove (map string_bytes words.now) → result ≡ Usage ⊎ result ≡ NoMemory }
     ensures reads { TellsReadFault (map string_bytes words.now) result (S.read_faults input.old) (S.read_faults input.new)
         (N.told net.old) (N.told net.new) }
     ensures writes { TellsWriteFault (map string_bytes words.now) result (K.write_faults output.old) (K.write_faults output.new)
@@ -164,6 +167,7 @@ where
                 Err(fault) => refuse(rt, file, fault),
             }
         }
+        Ok(Need::Pair { target, .. }) => run_move(rt, file, target.as_str(), words, output),
         Ok(Need::NoCommand) => run_bare(threads, alloc, words, input, output, net),
         Ok(Need::Nothing) => run_bare(threads, alloc, words, input, output, net),
         Err(_) => Note::NoMemory,

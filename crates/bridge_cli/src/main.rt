@@ -3,6 +3,7 @@
 #![tactic(auto)]
 
 mod device;
+mod pair;
 mod program;
 
 use cli_parts::exit_code;

@@ -7,7 +7,7 @@ use Rattle.bridge_words.specs.declared.command.Command.TheVariants.{Format, List
 use Rattle.bridge_words.specs.declared.need.Need.{Need}
 use Rattle.bridge_words.specs.declared.need.Need.TheVariants.{Existing}
 use Rattle.bridge_words.specs.Words.{IsNeed, need_for}
-use Rattle.bridge_words.proofs.Once.{one_command}
+use Rattle.bridge_words.proofs.Once.{one_command, move_is_no_command}
 use Rattle.bridge_serve.proofs.Releasing.{any_some, if_some}
 use Rattle.bridge_core.specs.Leave.{ForWords, MayAnswer, MayRelease, MayReplay, MayTear}
 
@@ -86,8 +86,10 @@ nobody_answers tells moment given Permits words need other is (Replay proto toke
 nobody_answers tells moment given Permits words need other is (Drain receiver place) asks = tt
 nobody_answers tells moment given Permits words need other is (Load proto number count) asks = tt
 nobody_answers tells moment given Permits words need other (inl none) (Serve server) asks = absurd (none.1 (Serve server) asks)
-nobody_answers tells moment given Permits words need other (inr some) (Serve server) asks =
+nobody_answers tells moment given Permits words need other (inr (inl some)) (Serve server) asks =
     absurd (other (some.2 ∙ ap need_for (one_command some.0 (Serve server) words some.1 asks)))
+nobody_answers tells moment given Permits words need other (inr (inr move)) (Serve server) asks =
+    absurd (move_is_no_command move.0 move.1 words move.2 (Serve server) asks)
 
 pub nothing_replayed : {D : Type 0} (tells : Type 0) (moment : D → Moment) (given : D) (Read Take : List ℕ → Type 0)
     (words : List (List ℕ)) (need : Need) → (need ≡ Existing → ⊥) → IsNeed words need → ForWords words (MayReplay tells moment given Read Take)
@@ -98,5 +100,7 @@ nothing_replayed tells moment given Read Take words need other is (Load proto nu
 nothing_replayed tells moment given Read Take words need other is (Serve server) asks = tt
 nothing_replayed tells moment given Read Take words need other (inl none) (Replay proto token ack_token) asks =
     absurd (none.1 (Replay proto token ack_token) asks)
-nothing_replayed tells moment given Read Take words need other (inr some) (Replay proto token ack_token) asks =
+nothing_replayed tells moment given Read Take words need other (inr (inl some)) (Replay proto token ack_token) asks =
     absurd (other (some.2 ∙ ap need_for (one_command some.0 (Replay proto token ack_token) words some.1 asks)))
+nothing_replayed tells moment given Read Take words need other (inr (inr move)) (Replay proto token ack_token) asks =
+    absurd (move_is_no_command move.0 move.1 words move.2 (Replay proto token ack_token) asks)

@@ -6,7 +6,7 @@ use Rattle.bridge_words.specs.declared.command.Command.TheVariants.{Drain, Serve
 use Rattle.bridge_words.specs.declared.command.Receiver.{Receiver}
 use Rattle.bridge_words.specs.declared.command.Receiver.TheVariants.{Relp, Lumberjack, Hec}
 use Rattle.bridge_words.specs.declared.need.Need.{Need}
-use Rattle.bridge_words.specs.declared.need.Need.TheVariants.{NoCommand}
+use Rattle.bridge_words.specs.declared.need.Need.TheVariants.{NoCommand, Pair}
 use Rattle.bridge_words.specs.Words.{IsCommand, IsNoCommand, IsNeed}
 use Rattle.bridge_words.proofs.Once.{one_command}
 use Rattle.notes.specs.declared.note.Note.{Note}
@@ -18,10 +18,12 @@ use Rattle.bridge_core.specs.Done.{Does}
 pub does_as : (command other : Command) (words : List (List ℕ)) (run : Run) (note : Note) → IsCommand command words → Does command run note → IsCommand other words → Does other run note
 does_as command other words run note is done other_is = subst (λ (x : Command). Does x run note) (one_command command other words is other_is) done
 
--- words that want a device are a command
-pub needs_device : (need : Need) (words : List (List ℕ)) → (need ≡ NoCommand → ⊥) → IsNeed words need → IsNoCommand words → ⊥
-needs_device need words other (inl is) none = other is.0
-needs_device need words other (inr is) none = none is.0 is.1
+-- words that want a device alone are a command
+pub needs_device : (need : Need) (words : List (List ℕ)) → (need ≡ NoCommand → ⊥) → ((target : List ℕ) (tag : ℕ) → need ≡ Pair target tag → ⊥)
+    → IsNeed words need → IsNoCommand words → ⊥
+needs_device need words other alone (inl is) none = other is.0
+needs_device need words other alone (inr (inl is)) none = none is.0 is.1
+needs_device need words other alone (inr (inr is)) none = alone is.0 is.1 is.3
 
 -- the words are a command, so they are not none
 pub no_asked : (command : Command) (words : List (List ℕ)) → IsCommand command words → IsNoCommand words → ⊥

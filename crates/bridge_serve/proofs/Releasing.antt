@@ -9,7 +9,7 @@ use Rattle.desk_access.specs.Call.{Call, own_of}
 use Rattle.desk_access.specs.Desk.{DeskState, Stood}
 use Rattle.desk_access.specs.Journal.{own_then}
 use Rattle.forward_core.specs.declared.outward.Outward.{Outward}
-use Rattle.spool_turns.specs.Passes.{Beginning, Known, begun}
+use Rattle.spool_turns.specs.Passes.{Beginning, Known}
 use Rattle.spool_turns.specs.Ran.{Ran}
 use Rattle.spool_turns.specs.Replays.{IsReal}
 use Rattle.serve_forwarder.specs.Released.{HasAsked, MayRelease as ForwarderMay}
@@ -44,7 +44,7 @@ module _ {D : Type 0} (disks : Ghosts D) (given now : D) (memory : Memory) (in_d
   start = IsOpenedDesk disks.tells (disks.moment given).reads
 
   abbrev began : Beginning
-  began = begun (opened_at disks.tells (disks.moment given) clock) grouped
+  began = record { moment = opened_at disks.tells (disks.moment given) clock; grouped = grouped }
 
   -- the state in which it was opened
   began_in : disks.tells → (x : DeskState) × start x

@@ -1,6 +1,7 @@
 //! Tests of the top call: scripts of calls, with what each is given and what it has to leave; senders that wait; and `serve`.
 
 use crate::meets::talks_meet;
+use crate::moves::entries_move;
 use crate::script::{run_script, run_scripts};
 use crate::served::serve_places;
 use crate::waiting::wait_for_answers;
@@ -65,4 +66,9 @@ fn links_are_served(rt: HostRuntime) {
     wait_for_answers(&rt, rt.alloc());
     talks_meet(&rt, rt.alloc());
     serve_places(&rt, rt.alloc());
+}
+
+#[test]
+fn entries_are_moved(rt: HostRuntime) {
+    entries_move(&rt, rt.alloc());
 }

@@ -121,9 +121,9 @@ in text 2 syslog 5 hello%0a
 out text 2 rsp 6 200 OK%0a
 ends 0
 call drain hec there --out-token 11111111-2222-3333-4444-555555555555
-ends 64 usage: bridge FILE format|replay|list|drain|serve|load
+ends 64 usage: bridge FILE format|replay|list|drain|serve|load|move
 same
 call drain hec there --out-channel cccccccc-2222-3333-4444-555555555555
-ends 64 usage: bridge FILE format|replay|list|drain|serve|load
+ends 64 usage: bridge FILE format|replay|list|drain|serve|load|move
 same
 "#;

@@ -7,22 +7,22 @@ device 20480
 call
 in text 1 open 0%0a
 read 0
-ends 64 usage: bridge FILE format|replay|list|drain|serve|load
+ends 64 usage: bridge FILE format|replay|list|drain|serve|load|move
 same
 call format 0 4096
 in text 1 open 0%0a
 read 0
-ends 64 usage: bridge FILE format|replay|list|drain|serve|load
+ends 64 usage: bridge FILE format|replay|list|drain|serve|load|move
 same
 call replay hec --token 1
 in text 1 open 0%0a
 read 0
-ends 64 usage: bridge FILE format|replay|list|drain|serve|load
+ends 64 usage: bridge FILE format|replay|list|drain|serve|load|move
 same
 call replay lumber
 in text 1 open 0%0a
 read 0
-ends 64 usage: bridge FILE format|replay|list|drain|serve|load
+ends 64 usage: bridge FILE format|replay|list|drain|serve|load|move
 same
 call list
 in text 1 open 0%0a
@@ -106,22 +106,22 @@ ends 0
 call list --as lumberjack
 in text 1 open 0%0a
 read 0
-ends 64 usage: bridge FILE format|replay|list|drain|serve|load
+ends 64 usage: bridge FILE format|replay|list|drain|serve|load|move
 same
 call list --as
 in text 1 open 0%0a
 read 0
-ends 64 usage: bridge FILE format|replay|list|drain|serve|load
+ends 64 usage: bridge FILE format|replay|list|drain|serve|load|move
 same
 call list json
 in text 1 open 0%0a
 read 0
-ends 64 usage: bridge FILE format|replay|list|drain|serve|load
+ends 64 usage: bridge FILE format|replay|list|drain|serve|load|move
 same
 call list --as json hec
 in text 1 open 0%0a
 read 0
-ends 64 usage: bridge FILE format|replay|list|drain|serve|load
+ends 64 usage: bridge FILE format|replay|list|drain|serve|load|move
 same"#;
 
 /// What stands before a `format` is gone after it; a write fails.

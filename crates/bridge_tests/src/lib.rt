@@ -29,6 +29,8 @@ mod marks;
 #[cfg(test)]
 mod meets;
 #[cfg(test)]
+mod moves;
+#[cfg(test)]
 mod parts;
 #[cfg(test)]
 mod peers;

@@ -1,7 +1,7 @@
-//! Whether FILE is well, for an operator who watches standard error.
+//! Whether FILE, or the TARGET of a move, is well, for an operator who watches standard error.
 use edge_disk::DiskFault;
 
-/// A call of FILE.
+/// A call of the file.
 #[derive(Clone, Copy, PartialEq, Eq)]
 pub(crate) enum Call {
     /// A read of the bytes from this offset on.
@@ -12,10 +12,10 @@ pub(crate) enum Call {
     Sync,
 }
 
-/// Whether the calls of FILE succeed, as far as they show it.
+/// Whether the calls of the file succeed, as far as they show it.
 #[derive(Clone, Copy, PartialEq, Eq)]
 enum Health {
-    /// None has failed, or one succeeded that shows that FILE is well again.
+    /// None has failed, or one succeeded that shows that the file is well again.
     Well,
     /// A read at this offset failed, and none there has succeeded since.
     Unread { at: u64 },
@@ -37,19 +37,22 @@ impl Health {
     }
 }
 
-/// What is said of FILE on standard error: a line where a call of it fails, and one where it is well again. Not
+/// What is said of a file on standard error: a line where a call of it fails, and one where it is well again. Not
 /// one for each call: while it is failing nothing more is said.
 #[derive(Drop)]
 pub(crate) struct HealthLines<'a> {
     rt: &'a HostRuntime,
+    // What the lines call the file.
+    name: &'static str,
     health: Health,
 }
 
 impl<'a> HealthLines<'a> {
-    /// No call was made.
-    pub(crate) fn new(rt: &'a HostRuntime) -> HealthLines<'a> {
+    /// No call was made of the file that the lines call so.
+    pub(crate) fn new(rt: &'a HostRuntime, name: &'static str) -> HealthLines<'a> {
         HealthLines {
             rt,
+            name,
             health: Health::Well,
         }
     }
@@ -62,16 +65,20 @@ impl<'a> HealthLines<'a> {
             return;
         }
         self.health = after;
-        let line = match (after, call) {
-            (Health::Well, _) => "FILE is well again",
-            (_, Call::Read { .. }) => "a read of FILE failed",
+        let name = self.name;
+        let _ = match (after, call) {
+            (Health::Well, _) => eprintln!(self.rt; "bridge: {name} is well again"),
+            (_, Call::Read { .. }) => eprintln!(self.rt; "bridge: a read of {name} failed"),
             (_, Call::Write) => {
-                "a write of FILE failed; nothing is acknowledged until FILE is well again"
+                eprintln!(self.rt;
+                    "bridge: a write of {name} failed; nothing is acknowledged until {name} is well again"
+                )
             }
             (_, Call::Sync) => {
-                "a sync of FILE failed; nothing is acknowledged until FILE is well again"
+                eprintln!(self.rt;
+                    "bridge: a sync of {name} failed; nothing is acknowledged until {name} is well again"
+                )
             }
         };
-        let _ = eprintln!(self.rt; "bridge: {line}");
     }
 }

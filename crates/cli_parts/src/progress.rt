@@ -61,11 +61,11 @@ pub struct Watched<'a, D> {
 }
 
 impl<'a, D: Disk> Watched<'a, D> {
-    /// The disk, with the progress of the command that reads it.
-    pub fn new(disk: D, progress: Progress<'a>) -> Watched<'a, D>
+    /// The disk, with the progress of the command that reads it, and what lines about its health call it.
+    pub fn new(disk: D, progress: Progress<'a>, name: &'static str) -> Watched<'a, D>
         ensures { result.disk ≡ disk }
     {
-        let health = HealthLines::new(progress.rt);
+        let health = HealthLines::new(progress.rt, name);
         Watched {
             disk,
             progress,

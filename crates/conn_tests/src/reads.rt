@@ -48,54 +48,48 @@ out 1 rsp 66 200 OK\nrelp_version=0\nrelp_software=bridge,1,local\ncommands=sysl
     row.push_str(head).expect(rt, "memory");
     for index in 0..events {
         let txnr = index.saturating_add(2);
-        let sent = format!(in alloc; "in {txnr} syslog {size} \\{{{size}}}\\n\n");
-        let said = format!(in alloc; "out {txnr} rsp 6 200 OK\\n\n");
-        let stored = format!(in alloc; "entries 7 {index} {txnr} r\\{{{size}}}\\n\n");
-        for line in [sent, said, stored] {
-            row.push_str(&line.expect(rt, "memory"))
-                .expect(rt, "memory");
-        }
+        let lines = format!(in alloc;
+            "in {txnr} syslog {size} \\{{{size}}}\\n\nout {txnr} rsp 6 200 OK\\n\nentries 7 {index} {txnr} r\\{{{size}}}\\n\n"
+        );
+        row.push_str(&lines.expect(rt, "memory"))
+            .expect(rt, "memory");
     }
     row.push_str(more).expect(rt, "memory");
     row
 }
 
-// Serves a burst that comes in one read, with this line more in its row; this call of the disk fails. None: the device wasn't opened.
-fn serve_burst(
-    rt: &impl Abort,
-    alloc: Global,
-    burst: &Burst,
-    more: &str,
-    failing: &[u64],
-) -> Option<Left> {
-    let row = row_of(rt, alloc, burst, more);
-    serve(rt, alloc, Proto::Relp, &row, failing, 1, 100_000)
+// Serves a burst that comes in one read. This call of the disk fails. None: the device wasn't opened.
+fn serve_burst(rt: &impl Abort, alloc: Global, row: &str, failing: &[u64]) -> Option<Left> {
+    serve(rt, alloc, Proto::Relp, row, failing, 1, 100_000)
 }
 
-// How many calls of the disk the connection makes: those that end it where they fail.
-fn calls_of(rt: &impl Abort, alloc: Global, burst: &Burst) -> u64 {
+// How many calls of the disk the connection makes: those after the opening's that end it where they fail, one after another.
+fn calls_of(rt: &impl Abort, alloc: Global, row: &str) -> u64 {
     let mut calls = 0_u64;
     for call in 0..MOST_CALLS {
-        if let Some(left) = serve_burst(rt, alloc, burst, "", &[call]) {
-            if left.attended.talk == Talk::DiskFault {
-                calls = calls.saturating_add(1);
-            }
+        let Some(left) = serve_burst(rt, alloc, row, &[call]) else {
+            continue;
+        };
+        if left.attended.talk == Talk::DiskFault {
+            calls = calls.saturating_add(1);
+        } else if calls > 0 {
+            return calls;
         }
     }
-    calls
+    panic!(rt; "more calls than a row makes")
 }
 
-// How many texts it writes: those that end it where they fail.
+// How many texts it writes: those that end it where they fail, one after another.
 fn texts_of(rt: &impl Abort, alloc: Global, burst: &Burst) -> u64 {
-    let mut texts = 0_u64;
     for text in 0..MOST_TEXTS {
         let more = format!(in alloc; "writes {text}").expect(rt, "memory");
-        let left = serve_burst(rt, alloc, burst, &more, &[]).expect(rt, "not opened");
-        if left.attended.talk == Talk::WriteFault {
-            texts = texts.saturating_add(1);
+        let row = row_of(rt, alloc, burst, &more);
+        let left = serve_burst(rt, alloc, &row, &[]).expect(rt, "not opened");
+        if left.attended.talk != Talk::WriteFault {
+            return text;
         }
     }
-    texts
+    panic!(rt; "more texts than a row writes")
 }
 
 /// All events that one read of up to 65,536 bytes brings are stored and answered before the next read, which fails here; up to 512 of
@@ -103,7 +97,7 @@ fn texts_of(rt: &impl Abort, alloc: Global, burst: &Burst) -> u64 {
 pub(crate) fn one_read_brings_long_runs(rt: &impl Abort, alloc: Global) {
     for burst in BURSTS {
         let row = row_of(rt, alloc, burst, "reads 1");
-        let left = serve_burst(rt, alloc, burst, "reads 1", &[]).expect(rt, "not opened");
+        let left = serve_burst(rt, alloc, &row, &[]).expect(rt, "not opened");
         let Attended { talk, taken } = left.attended;
         assert!(rt;
             talk == Talk::ReadFault && taken == burst.events,
@@ -112,7 +106,7 @@ pub(crate) fn one_read_brings_long_runs(rt: &impl Abort, alloc: Global) {
         assert!(rt; left.asked == (65_536, 65_536), "reads of other lengths");
         check_bytes(rt, alloc, &row, "out", &left.written);
         check_bytes(rt, alloc, &row, "entries", &left.entries);
-        let calls = calls_of(rt, alloc, burst);
+        let calls = calls_of(rt, alloc, &row);
         let texts = texts_of(rt, alloc, burst);
         assert!(rt;
             calls == burst.calls && texts == burst.texts,

@@ -1,10 +1,7 @@
--- A disk that is a file: it tells its size and its count of faults, and no bytes.
-use Rattle.std.specs.Prelude.{ℕ, []}
+-- A disk that is a file: it tells what its file does, its size and its count of faults, and no bytes.
 use Rattle.edge_disk.specs.Disk.{Moment}
+use Rattle.edge_file.specs.CountedFile.{counted_moment}
 use Rattle.edge_file.specs.declared.file.FileDisk.{FileDisk}
 
-abbrev pub silent_moment : ℕ → ℕ → Moment
-silent_moment size faults = record { size = size; reads = []; image = λ _. ⊥; clock = 0; image_since = λ _ _. ⊥; faults = faults }
-
 abbrev pub file_moment : FileDisk → Moment
-file_moment d = silent_moment d.file.len d.faults
+file_moment d = counted_moment d.pages.disk

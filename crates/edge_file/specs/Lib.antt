@@ -1,2 +1,5 @@
 pub mod ByteRange
+pub mod CountedFile
 pub mod FileDisk
+pub mod Held
+pub mod HeldLaws

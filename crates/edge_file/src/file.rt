@@ -1,14 +1,12 @@
 //! A disk that is a file: the trusted edge. What a file reads, and what it keeps over a crash, is the
 //! system's word, so it tells no bytes. It counts its faults.
 ghost use Rattle.std.specs.Prelude.{◌≡◌, ◌⊎◌, ◌<◌, ◌^◌, IfOk};
-ghost use Rattle.foundation.specs.Faults.{HasCause};
 
-use crate::opening::{open_file, set_length, sync_folder};
-use crate::tracked_file::TrackedFile;
-use crate::{OpenFault, Sharing};
+use crate::counted_file::CountedFile;
+use crate::opening::{open_file, open_two, set_length, sync_folder};
+use crate::{OpenFault, PairFault, Sharing, WholePages};
 use edge_disk::{Disk, DiskFault};
 use std::fs::File;
-use std::io;
 
 /// A file or a block device as a disk. Its length is the file's as it was opened. A read or a write at
 /// which the file has become shorter is a fault.
@@ -16,12 +14,15 @@ use std::io;
 /// After a sync or a write that failed, each call first makes good what was written since the last good sync,
 /// and is a fault while that fails.
 ///
+/// The last part of a page of a long write is held back, as [`WholePages`] says: so where the system can't write it, the
+/// write that goes on there, the read or the sync is the fault, and where the program ends before its next sync, the file
+/// may lack it.
+///
 /// While it is open the file is locked, so that no two programs change one disk. The lock is the system's
 /// advisory one on the whole file: it ends with the value, and with the process however that ends.
 #[derive(Drop)]
 pub struct FileDisk {
-    file: TrackedFile,
-    faults: u64,
+    pages: WholePages<CountedFile>,
 }
 
 impl FileDisk {
@@ -64,6 +65,22 @@ impl FileDisk {
         Ok(disk_of(file, len))
     }
 
+    /// Opens two files that exist as [`FileDisk::open`] does, each for this program alone, and says why they aren't opened: the first
+    /// before the second, and `OneFile` where both names are of one file, also by a link, or of one block device.
+    ///
+    /// Of two programs that want the same two files at one time, in whatever order, one gets both: they are locked in an order that is the
+    /// same for both programs, and no lock is waited for.
+    pub fn open_both(
+        rt: &HostRuntime,
+        first: &str,
+        second: &str,
+    ) -> Result<(FileDisk, FileDisk), PairFault>
+        ensures { IfOk result (λ disks. ((file_moment disks.0).faults ≡ 0) × ((file_moment disks.1).faults ≡ 0)) }
+    {
+        let [(one, len), (other, other_len)] = open_two(rt, first, second)?;
+        Ok((disk_of(one, len), disk_of(other, other_len)))
+    }
+
     /// Opens or makes as [`FileDisk::make`] does, and says why a file isn't opened. Nothing of a file in use
     /// is changed.
     pub fn make_locked(rt: &HostRuntime, path: &str, len: u64) -> Result<FileDisk, OpenFault>
@@ -78,25 +95,11 @@ impl FileDisk {
 }
 
 fn disk_of(file: File, len: u64) -> FileDisk
-    ensures faults { result.faults ≡ 0 }
-    ensures len { result.file.len ≡ len }
+    ensures faults { result.pages.disk.faults ≡ 0 }
+    ensures len { result.pages.disk.file.len ≡ len }
 {
     FileDisk {
-        file: TrackedFile::new(file, len),
-        faults: 0,
-    }
-}
-
-// Counts a failure.
-fn count(outcome: io::Result<()>, faults: &mut u64) -> Result<(), DiskFault>
-    ensures { HasCause faults.old faults.new result }
-{
-    match outcome {
-        Ok(()) => Ok(()),
-        Err(_) => {
-            *faults = faults.saturating_add(1);
-            Err(DiskFault)
-        }
+        pages: WholePages::new(CountedFile::new(file, len)),
     }
 }
 
@@ -115,28 +118,25 @@ impl Disk for FileDisk {
 
     ghost reads_too = { λ d images. images };
 
-    ghost fits = { λ d. d.file.fits };
+    ghost fits = { λ d. d.pages.disk.file.fits };
 
     ghost lawful = { λ d tells. absurd tells };
 
     ghost stands_in = { λ d t c tells. absurd tells };
 
     fn len(&self) -> u64 {
-        self.file.len()
+        self.pages.len()
     }
 
     fn read_at(&mut self, at: u64, buf: &mut [u8]) -> Result<(), DiskFault> {
-        let outcome = self.file.read_at(at, buf);
-        count(outcome, &mut self.faults)
+        self.pages.read_at(at, buf)
     }
 
     fn write_at(&mut self, at: u64, piece: &[u8]) -> Result<(), DiskFault> {
-        let outcome = self.file.write_at(at, piece);
-        count(outcome, &mut self.faults)
+        self.pages.write_at(at, piece)
     }
 
     fn sync(&mut self) -> Result<(), DiskFault> {
-        let outcome = self.file.sync();
-        count(outcome, &mut self.faults)
+        self.pages.sync()
     }
 }

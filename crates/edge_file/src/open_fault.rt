@@ -26,6 +26,17 @@ pub enum OpenFault {
     Other,
 }
 
+/// Why two files were not opened as disks.
+#[derive(Clone, Copy, Debug, PartialEq, Eq)]
+pub enum PairFault {
+    /// The first was not opened, for this reason.
+    First(OpenFault),
+    /// The second was not.
+    Second(OpenFault),
+    /// Both names are of one file or one block device.
+    OneFile,
+}
+
 impl From<io::Error> for OpenFault {
     fn from(error: io::Error) -> OpenFault {
         match error.kind() {

@@ -1,8 +1,9 @@
 //! How a file is opened as a disk: its lock, its length, and its name in its folder.
 ghost use Rattle.std.specs.Prelude.{◌≡◌, ◌⊎◌, ◌<◌, IfOk};
 
+use crate::file_id::FileId;
 use crate::tracked_file::end_of;
-use crate::{OpenFault, Sharing};
+use crate::{OpenFault, PairFault, Sharing};
 use std::fs::{self, File, OpenOptions};
 use std::io;
 use std::os::unix::fs::{FileTypeExt, OpenOptionsExt};
@@ -10,6 +11,17 @@ use std::path::Path;
 
 // Who may read and write a file that is made: its owner alone, since it holds what senders log.
 const MODE: u32 = 0o600;
+
+// The file, which is not locked. It is made where it isn't there and `create` says so; then only its owner may read and
+// write it, from the first moment on.
+fn open_unlocked(rt: &HostRuntime, path: &str, create: bool) -> io::Result<File> {
+    let mut options = OpenOptions::new();
+    options.read(true);
+    options.write(true);
+    options.create(create);
+    options.mode(MODE);
+    options.open(rt, path)
+}
 
 /// The file, locked, and its length in bytes. It is made where it isn't there and `create` says so; then only
 /// its owner may read and write it, from the first moment on.
@@ -19,18 +31,51 @@ pub(crate) fn open_file(
     create: bool,
     sharing: Sharing,
 ) -> Result<(File, u64), OpenFault> {
-    let mut options = OpenOptions::new();
-    options.read(true);
-    options.write(true);
-    options.create(create);
-    options.mode(MODE);
-    let mut file = options.open(rt, path)?;
+    let mut file = open_unlocked(rt, path, create)?;
     match sharing {
         Sharing::Exclusive => file.try_lock()?,
         Sharing::Shared => file.try_lock_shared()?,
     }
     let len = len_of(&mut file)?;
     Ok((file, len))
+}
+
+// A file that exists, not locked, and which it is.
+fn open_known(rt: &HostRuntime, path: &str) -> io::Result<(File, FileId)> {
+    let file = open_unlocked(rt, path, false)?;
+    let id = FileId::of(&file)?;
+    Ok((file, id))
+}
+
+// The length in bytes of a file that is locked for this program alone now.
+fn lock(file: &mut File) -> Result<u64, OpenFault> {
+    file.try_lock()?;
+    let len = len_of(file)?;
+    Ok(len)
+}
+
+/// Two files that exist, each locked for this program alone, and their lengths in bytes. Which of them is locked first depends on the
+/// files alone, and not on which is named first.
+pub(crate) fn open_two(
+    rt: &HostRuntime,
+    first: &str,
+    second: &str,
+) -> Result<[(File, u64); 2], PairFault> {
+    let (mut one, one_id) = open_known(rt, first).map_err(|error| PairFault::First(error.into()))?;
+    let (mut other, other_id) = open_known(rt, second).map_err(|error| PairFault::Second(
+        error.into(),
+    ))?;
+    if one_id == other_id {
+        return Err(PairFault::OneFile);
+    }
+    if one_id < other_id {
+        let len = lock(&mut one).map_err(PairFault::First)?;
+        let other_len = lock(&mut other).map_err(PairFault::Second)?;
+        return Ok([(one, len), (other, other_len)]);
+    }
+    let other_len = lock(&mut other).map_err(PairFault::Second)?;
+    let len = lock(&mut one).map_err(PairFault::First)?;
+    Ok([(one, len), (other, other_len)])
 }
 
 // A block device's metadata has no length.

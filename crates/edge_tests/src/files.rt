@@ -1,8 +1,9 @@
 //! Disks that are files.
+use crate::beside::{Beside, Dice, SIZE, front, text};
 use edge_disk::Disk;
-use edge_file::{FileDisk, OpenFault, Sharing};
+use edge_file::{FileDisk, OpenFault, PairFault, Sharing};
 use std::env;
-use std::fs::{self, Permissions};
+use std::fs::{self, OpenOptions, Permissions};
 use std::os::unix::fs::{PermissionsExt, symlink};
 use std::process::{self, Abort};
 use std::rt::Files;
@@ -142,6 +143,49 @@ fn a_file_that_shrank_is_a_fault(rt: &impl Abort, host: &HostRuntime, path: &str
     fs::remove_file(host, path).expect(rt, "remove");
 }
 
+// Whatever is written to a file of many pages, in whatever order: each read gives it, and so does the file after a sync.
+fn a_file_of_many_pages(rt: &impl Abort, host: &HostRuntime, path: &str) {
+    let text = text(rt, host.alloc());
+    for seed in 500..504u64 {
+        let mut dice = Dice::new(seed);
+        let disk = FileDisk::make(host, path, SIZE as u64).expect(rt, "make");
+        let mut beside = Beside::new(rt, host.alloc(), disk);
+        for _ in 0..3 {
+            beside.calls(rt, host.alloc(), &text, &mut dice);
+            let is_synced = beside.disk.sync().is_ok();
+            assert!(rt; is_synced && holds(rt, host, path, &beside.bytes));
+        }
+        drop(beside);
+        fs::remove_file(host, path).expect(rt, "remove");
+    }
+}
+
+// The last part of a long write that the file has no more room for is a fault of the call that writes it, and is written once there is
+// room again.
+fn a_held_part_that_has_no_room_is_a_fault(rt: &impl Abort, host: &HostRuntime, path: &str) {
+    let text = text(rt, host.alloc());
+    let disk = FileDisk::make(host, path, SIZE as u64).expect(rt, "make");
+    let mut beside = Beside::new(rt, host.alloc(), disk);
+    let is_written = beside.write(rt, 0, front(rt, &text, 65_537));
+    assert!(rt; is_written);
+    fs::write(host, path, front(rt, &text, 65_536)).expect(rt, "shorten");
+    let mut buf = [0; 4];
+    assert!(rt; beside.disk.read_at(0, &mut buf).is_err() && beside.disk.sync().is_err());
+    assert!(rt; !beside.write(rt, 65_537, b"a") && !beside.write(rt, 9, b"b"));
+    assert!(rt; holds(rt, host, path, front(rt, &text, 65_536)));
+    fs::write(host, path, front(rt, &beside.bytes, 65_536)).expect(rt, "shorten");
+    let mut options = OpenOptions::new();
+    options.write(true);
+    let file = options.open(host, path).expect(rt, "open");
+    file.set_len(SIZE as u64).expect(rt, "lengthen");
+    drop(file);
+    let is_written = beside.write(rt, 65_537, b"a");
+    assert!(rt; is_written && beside.disk.sync().is_ok());
+    assert!(rt; holds(rt, host, path, &beside.bytes));
+    drop(beside);
+    fs::remove_file(host, path).expect(rt, "remove");
+}
+
 // A symbolic link stands for the file that it leads to, which is made where it isn't there.
 fn a_link_is_its_target(rt: &impl Abort, host: &HostRuntime, path: &str) {
     let folder = format!(in host.alloc(); "{path}_folder").expect(rt, "memory");
@@ -164,6 +208,43 @@ fn a_link_is_its_target(rt: &impl Abort, host: &HostRuntime, path: &str) {
     fs::remove_file(host, path).expect(rt, "remove the link");
 }
 
+// Why two files aren't opened together, if they aren't.
+fn pair_fault(host: &HostRuntime, first: &str, second: &str) -> Option<PairFault> {
+    FileDisk::open_both(host, first, second).err()
+}
+
+// Two files are opened together, each for this program alone, and not one of them as both, by whichever names.
+fn two_files_are_opened(rt: &impl Abort, host: &HostRuntime, path: &str) {
+    let other = format!(in host.alloc(); "{path}_other").expect(rt, "memory");
+    let hard = format!(in host.alloc(); "{path}_hard").expect(rt, "memory");
+    let soft = format!(in host.alloc(); "{path}_soft").expect(rt, "memory");
+    drop(FileDisk::make(host, path, 2).expect(rt, "make"));
+    assert!(rt; pair_fault(host, path, &other) == Some(PairFault::Second(OpenFault::NotFound)));
+    assert!(rt; pair_fault(host, &other, path) == Some(PairFault::First(OpenFault::NotFound)));
+    drop(FileDisk::make(host, &other, 3).expect(rt, "make the other"));
+    fs::hard_link(host, path, hard.as_str()).expect(rt, "a hard link");
+    symlink(host, path, soft.as_str()).expect(rt, "a symbolic link");
+    for (first, second) in [(path, path), (path, &hard), (&soft, path), (&hard, &soft)] {
+        assert!(rt; pair_fault(host, first, second) == Some(PairFault::OneFile));
+    }
+    let (first, second) = FileDisk::open_both(host, path, &other).expect(rt, "both");
+    assert!(rt; first.len() == 2 && second.len() == 3);
+    for name in [path, &other, &hard, &soft] {
+        assert!(rt; is_in_use(FileDisk::open_locked(host, name, Sharing::Shared)));
+    }
+    drop(first);
+    assert!(rt; pair_fault(host, path, &other) == Some(PairFault::Second(OpenFault::InUse)));
+    assert!(rt; pair_fault(host, &other, path) == Some(PairFault::First(OpenFault::InUse)));
+    drop(second);
+    let (second, first) = FileDisk::open_both(host, &other, path).expect(rt, "both, exchanged");
+    assert!(rt; first.len() == 2 && second.len() == 3);
+    drop(first);
+    drop(second);
+    for name in [path, &other, &hard, &soft] {
+        fs::remove_file(host, name).expect(rt, "remove");
+    }
+}
+
 /// Files in the folder for temporary files, and one that is made by its name alone, in the current folder.
 pub(crate) fn files_are_disks(rt: &impl Abort, host: &HostRuntime) {
     let name = file_name(rt, host);
@@ -174,7 +255,10 @@ pub(crate) fn files_are_disks(rt: &impl Abort, host: &HostRuntime) {
     a_file_is_shared(rt, host, &path);
     a_file_is_its_owners_alone(rt, host, &path);
     a_file_that_shrank_is_a_fault(rt, host, &path);
+    a_file_of_many_pages(rt, host, &path);
+    a_held_part_that_has_no_room_is_a_fault(rt, host, &path);
     a_link_is_its_target(rt, host, &path);
+    two_files_are_opened(rt, host, &path);
     check_made(rt, host, &name, 2, [0, 0]);
     fs::remove_file(host, name.as_str()).expect(rt, "remove");
 }

@@ -6,6 +6,8 @@
 #[cfg(test)]
 mod accepts;
 #[cfg(test)]
+mod beside;
+#[cfg(test)]
 mod bytes;
 #[cfg(test)]
 mod disks;
@@ -15,6 +17,8 @@ mod files;
 mod marks;
 #[cfg(test)]
 mod nets;
+#[cfg(test)]
+mod pages;
 #[cfg(test)]
 mod ranges;
 #[cfg(test)]

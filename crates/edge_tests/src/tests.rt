@@ -1,5 +1,5 @@
 //! All that holds of bytes, numbers, streams, nets and disks.
-use crate::{accepts, bytes, disks, files, marks, nets, ranges, sockets, streams, waits};
+use crate::{accepts, bytes, disks, files, marks, nets, pages, ranges, sockets, streams, waits};
 use std::alloc::Global;
 use std::process::Abort;
 
@@ -24,6 +24,9 @@ fn nets_and_disks(rt: &impl Abort, alloc: Global) {
     disks::calls_fail_by_their_numbers(rt, alloc);
     disks::gates_open_and_close_on_a_plain_disk(rt, alloc);
     disks::a_call_without_memory_changes_nothing(rt, alloc);
+    pages::what_is_written_is_read_and_synced(rt, alloc);
+    pages::whole_pages_are_written_in_order(rt, alloc);
+    pages::a_held_part_survives_a_fault(rt, alloc);
     ranges::ranges_are_what_was_written(rt);
     ranges::ranges_have_room_for_64(rt);
 }

@@ -5,6 +5,7 @@ use crate::json::{nexts, objects, values};
 use crate::words::note_texts;
 use crate::words::rows::{COMMANDS, NO_COMMANDS};
 use crate::words::rows_of_drain::{DRAINS, NO_DRAINS};
+use crate::words::rows_of_move::{MOVES, NO_MOVES};
 use crate::words::rows_of_replay::{NO_REPLAYS, REPLAYS};
 use crate::words::rows_of_serve::{NO_SERVES, SERVES};
 use crate::{entries, maps, words};
@@ -48,6 +49,8 @@ fn events_and_their_forms(rt: HostRuntime) {
         NO_DRAINS,
         SERVES,
         NO_SERVES,
+        MOVES,
+        NO_MOVES,
     ] {
         words::check(&rt, alloc, table);
     }

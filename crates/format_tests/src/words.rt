@@ -3,6 +3,7 @@ pub mod commands;
 pub mod note_texts;
 pub mod rows;
 pub mod rows_of_drain;
+pub mod rows_of_move;
 pub mod rows_of_replay;
 pub mod rows_of_serve;
 
@@ -39,7 +40,18 @@ fn words_of(rt: &impl Abort, alloc: Global, text: &str) -> Vec<String> {
     words
 }
 
-// What the words are: a command and which device it wants, or why they are none.
+// A move: its target and its tag.
+fn move_told(rt: &impl Abort, alloc: Global, need: Need) -> String {
+    match need {
+        Need::Pair { target, tag } => {
+            let target = target.as_str();
+            format!(in alloc; "two devices, ({target}), tag {tag}").expect(rt, "memory")
+        }
+        _ => String::new(alloc),
+    }
+}
+
+// What the words are: a command and which device it wants, a move, or why they are neither.
 fn told(rt: &impl Abort, alloc: Global, words: &[String]) -> String {
     let need = need_of(alloc, words).expect(rt, "memory");
     let fault = wrong_words(alloc, words).expect(rt, "memory");
@@ -48,11 +60,13 @@ fn told(rt: &impl Abort, alloc: Global, words: &[String]) -> String {
             assert!(rt; fault == None);
             commands::told(rt, alloc, &command, need)
         }
-        None => {
-            assert!(rt; need == Need::NoCommand);
-            let text = fault.expect(rt, "a fault").text();
-            String::from_str(alloc, text).expect(rt, "memory")
-        }
+        None => match fault {
+            Some(fault) => {
+                assert!(rt; matches!(&need, Need::NoCommand));
+                String::from_str(alloc, fault.text()).expect(rt, "memory")
+            }
+            None => move_told(rt, alloc, need),
+        },
     }
 }
 
@@ -67,7 +81,7 @@ pub fn check(rt: &impl Abort, alloc: Global, table: &str) {
 }
 
 // What is wrong with words, and the text for it.
-const FAULTS: [(WordsFault, &str); 25] = [
+const FAULTS: [(WordsFault, &str); 26] = [
     (WordsFault::NoCommand, "no command is named"),
     (WordsFault::UnknownWord, "unknown word or option"),
     (WordsFault::MissingWord, "a word is missing"),
@@ -80,6 +94,7 @@ const FAULTS: [(WordsFault, &str); 25] = [
     (WordsFault::Place, "PLACE: empty"),
     (WordsFault::Number, "NUMBER: 0 to 2147483647"),
     (WordsFault::Count, "COUNT: 0 to 100000"),
+    (WordsFault::Tag, "TAG: 0 to 4294967295"),
     (WordsFault::Form, "--as: relp, json or hec"),
     (WordsFault::Token, "--token: no GUID"),
     (WordsFault::AckToken, "--ack-token: no GUID"),

@@ -125,6 +125,7 @@ pub fn told(rt: &impl Abort, alloc: Global, command: &Command, need: Need) -> St
         Need::Nothing => String::from_str(alloc, ", no device"),
         Need::Existing => String::from_str(alloc, ", a device"),
         Need::Make { len } => format!(in alloc; ", a device of {len}"),
+        Need::Pair { .. } => String::from_str(alloc, ", two devices"),
     };
     add(rt, &mut told, &need.expect(rt, "memory"));
     told

@@ -1,17 +1,17 @@
 //! Why a run ended, and the lines that are printed.
-use bridge_words::{drain_line, entry_line, serve_line, spool_line};
+use bridge_words::{drain_line, entry_line, move_line, serve_line, spool_line};
 use event_form::{Blob, Entry, Event, Origin, Why};
 use notes::{Note, note_text};
 use std::alloc::{AllocError, Global};
 use std::process::Abort;
 
 // Notes, their statuses and their texts.
-const NOTES: [(Note, u8, &str); 27] = [
+const NOTES: [(Note, u8, &str); 28] = [
     (Note::Fine, 0, ""),
     (
         Note::Usage,
         64,
-        "usage: bridge FILE format|replay|list|drain|serve|load",
+        "usage: bridge FILE format|replay|list|drain|serve|load|move",
     ),
     (Note::NotSpool { at: 4096 }, 65, "not a spool at 4096"),
     (
@@ -131,6 +131,7 @@ const NOTES: [(Note, u8, &str); 27] = [
         77,
         "connection spent at 1099511627776",
     ),
+    (Note::Strange { number: 12 }, 79, "entry 12 is another"),
 ];
 
 // The rows. A test's proof sees none of them this way, so that it stays short.
@@ -167,6 +168,14 @@ fn counts(rt: &impl Abort, alloc: Global) {
             rt,
             drain_line(alloc, 0, MOST),
             "0 confirmed, 18446744073709551615 left\n"
+        )
+    );
+    assert!(rt; is(rt, move_line(alloc, 100_000, 0), "100000 moved, 0 left\n"));
+    assert!(rt;
+        is(
+            rt,
+            move_line(alloc, 0, MOST),
+            "0 moved, 18446744073709551615 left\n"
         )
     );
     assert!(rt;

@@ -5,10 +5,10 @@ use Rattle.bridge_cli.proofs.device.run_words.Goals as goal
 -- the file was made
 
 pub returns-in-Ok-clause-usage : goal.returns-in-Ok-clause-usage
-returns-in-Ok-clause-usage g c = usage_is_of_words _ _ _ c.run_over.ensures.run.4.0
+returns-in-Ok-clause-usage g c = λ is. let none = usage_is_of_words _ _ _ c.run_over.ensures.run.4.0 is in (none, absurd (needs_device _ _ (λ by. cc) (λ target tag by. cc) c.in-Ok-Make.ensures none))
 
 pub returns-in-Ok-clause-no_command : goal.returns-in-Ok-clause-no_command
-returns-in-Ok-clause-no_command g c = no_command_is_told _ _ _ c.run_over.ensures.run.4.0
+returns-in-Ok-clause-no_command g c = λ none _. no_command_is_told _ _ _ c.run_over.ensures.run.4.0 none
 
 pub returns-in-Ok-clause-reads : goal.returns-in-Ok-clause-reads
 returns-in-Ok-clause-reads g c = c.run_over.ensures.run.4.0.reads
@@ -20,15 +20,15 @@ pub returns-in-Ok-clause-dials : goal.returns-in-Ok-clause-dials
 returns-in-Ok-clause-dials g c = c.run_over.ensures.run.4.0.dials
 
 pub returns-in-Err-make_disk-clause-no_command : goal.returns-in-Err-make_disk-clause-no_command
-returns-in-Err-make_disk-clause-no_command g c = λ none. absurd (needs_device _ _ (λ is. cc) c.in-Ok-Make.ensures none)
+returns-in-Err-make_disk-clause-no_command g c = λ none _. absurd (needs_device _ _ (λ is. cc) (λ target tag is. cc) c.in-Ok-Make.ensures none)
 
 -- it was there
 
 pub returns-in-Ok-open_locked-clause-usage : goal.returns-in-Ok-open_locked-clause-usage
-returns-in-Ok-open_locked-clause-usage g c = usage_is_of_words _ _ _ c.run_over-in-Ok-open_locked.ensures.run.4.0
+returns-in-Ok-open_locked-clause-usage g c = λ is. let none = usage_is_of_words _ _ _ c.run_over-in-Ok-open_locked.ensures.run.4.0 is in (none, absurd (needs_device _ _ (λ by. cc) (λ target tag by. cc) c.in-Ok-Existing.ensures none))
 
 pub returns-in-Ok-open_locked-clause-no_command : goal.returns-in-Ok-open_locked-clause-no_command
-returns-in-Ok-open_locked-clause-no_command g c = no_command_is_told _ _ _ c.run_over-in-Ok-open_locked.ensures.run.4.0
+returns-in-Ok-open_locked-clause-no_command g c = λ none _. no_command_is_told _ _ _ c.run_over-in-Ok-open_locked.ensures.run.4.0 none
 
 pub returns-in-Ok-open_locked-clause-reads : goal.returns-in-Ok-open_locked-clause-reads
 returns-in-Ok-open_locked-clause-reads g c = c.run_over-in-Ok-open_locked.ensures.run.4.0.reads
@@ -40,7 +40,7 @@ pub returns-in-Ok-open_locked-clause-dials : goal.returns-in-Ok-open_locked-clau
 returns-in-Ok-open_locked-clause-dials g c = c.run_over-in-Ok-open_locked.ensures.run.4.0.dials
 
 pub returns-in-Err-open_locked-clause-no_command : goal.returns-in-Err-open_locked-clause-no_command
-returns-in-Err-open_locked-clause-no_command g c = λ none. absurd (needs_device _ _ (λ is. cc) c.in-Ok-Existing.ensures none)
+returns-in-Err-open_locked-clause-no_command g c = λ none _. absurd (needs_device _ _ (λ is. cc) (λ target tag is. cc) c.in-Ok-Existing.ensures none)
 
 -- no device is wanted
 

@@ -1,0 +1,94 @@
+//! The top call of a move, over the two files that its words name.
+ghost use Rattle.std.specs.Prelude.{◌≡◌, ℕ, List, map, string_bytes};
+ghost use Rattle.spool_answers.specs.Leave.{LetsKeep};
+ghost use Rattle.spool_move.specs.Leave.{MayMove};
+ghost use Rattle.conn_serve.specs.Endings.{CountsFaults};
+ghost use Rattle.notes.specs.declared.note.Note.TheVariants.{DiskFault, WriteFault};
+ghost use Rattle.bridge_words.specs.Words.{IsSomeMove};
+ghost use Rattle.bridge_parts.specs.Run.{output_run};
+ghost use Rattle.bridge_move.specs.Ended.{IsMoveNote};
+ghost use Rattle.bridge_move.specs.Leave.{ForMoves};
+ghost use Rattle.bridge_move.specs.MoveRun.{IsMoveRun};
+ghost use Rattle.cli_parts.specs.declared.progress.Watched.{Watched};
+
+use crate::device::refuse;
+use bridge_move::{Moved, bridge_move};
+use cli_parts::{Progress, Showing, Watched};
+use edge_disk::Disk;
+use edge_file::{FileDisk, PairFault};
+use edge_io::Sink;
+use notes::Note;
+
+// Runs the words over both disks, which are watched meanwhile. The reading of the first may be shown. What was done is what `bridge_move`
+// does, and nothing else.
+fn move_over<D: Disk, E: Disk, K: Sink>(
+    rt: &HostRuntime,
+    words: &[String],
+    source: D,
+    target: E,
+    is_shown: bool,
+    output: &mut K,
+) -> Moved<D, E>
+    requires earned { ForMoves (map string_bytes words.now) (λ tag. MayMove D.tells D.moment E.tells E.moment tag D.may_release) }
+    requires tears { LetsKeep D.tells D.moment D.may_tear D.may_release }
+    requires tears_target { LetsKeep E.tells E.moment E.may_tear E.may_release }
+    requires prints { (k : K) (text : List ℕ) → K.permits k text }
+
+    ensures run { (before after : Watched D) × (before_target after_target : Watched E) × (before.disk ≡ source) × (after.disk ≡ result.source)
+        × (before_target.disk ≡ target) × (after_target.disk ≡ result.target)
+        × IsMoveRun D.tells E.tells (λ (watched : Watched D). D.moment watched.disk) (λ (watched : Watched E). E.moment watched.disk)
+        (map string_bytes words.now) before after before_target after_target (output_run K.taken K.write_faults output.old output.new) result.note }
+{
+    let source = Watched::new(source, Progress::new(rt, is_shown), "FILE");
+    let target = Watched::new(target, Progress::new(rt, false), "TARGET");
+    let Moved {
+        status,
+        note,
+        source,
+        target,
+    } = bridge_move(rt.alloc(), words, source, target, output);
+    Moved {
+        status,
+        note,
+        source: source.into_disk(),
+        target: target.into_disk(),
+    }
+}
+
+// Says why the two files weren't opened.
+fn refuse_pair(rt: &HostRuntime, file: &str, target: &str, fault: PairFault) -> Note
+    ensures { result ≡ DiskFault }
+{
+    match fault {
+        PairFault::First(fault) => refuse(rt, file, fault),
+        PairFault::Second(fault) => refuse(rt, target, fault),
+        PairFault::OneFile => {
+            let _ = eprintln!(rt; "bridge: {file} and {target} are one file");
+            Note::DiskFault
+        }
+    }
+}
+
+/// Does what the words of a move ask for, over the two files, each of which this program has alone meanwhile. One that can't be opened is
+/// a fault of the disk, and so is one file as both; standard error says which, in a line of its own.
+pub(crate) fn run_move<K: Sink>(
+    rt: &HostRuntime,
+    file: &str,
+    target: &str,
+    words: &[String],
+    output: &mut K,
+) -> Note
+    requires moves { IsSomeMove (map string_bytes words.now) }
+    requires prints { (k : K) (text : List ℕ) → K.permits k text }
+
+    ensures known { IsMoveNote result }
+    ensures writes { CountsFaults (result ≡ WriteFault) (K.write_faults output.old) (K.write_faults output.new) }
+{
+    match FileDisk::open_both(rt, file, target) {
+        Ok((source, target)) => {
+            let is_shown = Showing::Always.is_seen(rt);
+            move_over(rt, words, source, target, is_shown, output).note
+        }
+        Err(fault) => refuse_pair(rt, file, target, fault),
+    }
+}

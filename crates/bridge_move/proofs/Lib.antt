@@ -1,0 +1,4 @@
+pub mod Ending
+pub mod Both
+pub mod Opened
+pub mod Words

@@ -1,0 +1,85 @@
+-- The devices of a move, opened as they are.
+use Rattle.std.proofs.Common.{◌≡◌, ◌⊎◌, inl, inr, ℕ, ◌+◌, ◌-◌, List, [], drop, length, refl, sym, ◌∙◌, ap, subst, arith, length-drop}
+use Rattle.std.specs.Prelude.{Bool, false, Result, Ok, Err, IfErr, IsOk}
+use Rattle.edge_disk.specs.Disk.{Moment, LeavesOnly}
+use Rattle.edge_disk.proofs.Moments.{weaker}
+use Rattle.spool_state.specs.SpoolState.{SpoolState}
+use Rattle.spool_state.specs.Image.{StandsFor}
+use Rattle.spool_state.specs.Left.{left}
+use Rattle.spool_log.specs.declared.fault.RecoverFault.{RecoverFault}
+use Rattle.spool_log.specs.declared.fault.RecoverFault.TheVariants as Recover
+use Rattle.spool_log.specs.declared.memory.Memory.{Memory}
+use Rattle.spool_log.specs.declared.opening.Opening.TheVariants.{Keep}
+use Rattle.spool_log.specs.Opening.{IsRefusing, Opens}
+use Rattle.spool_log.specs.State.{View, view, IsIn}
+use Rattle.spool_move.specs.declared.fault.MoveFault.{MoveFault}
+use Rattle.spool_move.specs.Moves.{Moves, IsAnyMoment}
+use Rattle.spool_move.specs.Turns.{LeavesBoth}
+use Rattle.notes.specs.declared.note.Note.{Note}
+use Rattle.bridge_parts.specs.Pending.{pending_in}
+use Rattle.bridge_parts.specs.Run.{OutputRun}
+use Rattle.bridge_parts.proofs.Numbers.{pending_seen}
+use Rattle.bridge_move.specs.Ended.{EndsOpen}
+use Rattle.bridge_move.specs.MoveRun.{MovesFromDevices, MovesOpened}
+use Rattle.bridge_move.proofs.Both.{both_weaker, both_opened}
+
+-- refused, it has what it had
+pub closed_images : (fault : RecoverFault) (old new : Moment) → LeavesOnly (IsRefusing Keep fault old) old new → LeavesOnly old.image old new
+closed_images fault old new only = weaker _ old.image old new only (same fault) where
+  same : (fault : RecoverFault) (c : List ℕ) → IsRefusing Keep fault old c → old.image c
+  same (Recover.NotSpool at) c h = h
+  same (Recover.RunsSpent run) c h = h
+  same (Recover.Worn ordinal) c h = h
+  same Recover.DiskFault c h = h
+  same Recover.NoMemory c h = h
+
+-- opened, it is not in doubt
+pub opened_sure : (tells : Type 0) (reads : List ℕ) (memory : Memory) (doubt : Bool) (m : Moment) → doubt ≡ false
+    → (tells → (s : SpoolState) × Opens Keep s reads (view memory doubt m)) → tells → (s : SpoolState) × Opens Keep s reads (view memory false m)
+opened_sure tells reads memory doubt m sure opened told = subst (λ (b : Bool). (s : SpoolState) × Opens Keep s reads (view memory b m)) sure (opened told)
+
+-- where all were moved none is left
+none_left : (tag : ℕ) (s t : SpoolState) (result : Result ℕ MoveFault) (from into : View) → IsOk result → Moves tag s t result from into → pending_in from.memory ≡ 0
+none_left tag s t (Err fault) from into ok moves = absurd (cc)
+none_left tag s t (Ok count) from into ok moves =
+    let reaches = moves.reaches in
+    omega (arith, pending_seen reaches.s [] from reaches.source, ap length reaches.stands.source.left_is, length-drop (length (left s)) (left s))
+
+module _ {D E : Type 0} (tells tells' : Type 0) (on : D → Moment) (onto : E → Moment) (tag : ℕ) (memory memory' : Memory) (source next source' : D) (target next' target' : E)
+    (output : OutputRun) (note : Note) where
+  -- both were opened, and entries were moved
+  pub moves_opened : EndsOpen tells tells' tag memory memory' (on next) (on source') (onto next') (onto target') output note
+      → (tells → (s : SpoolState) × Opens Keep s (on source).reads (view memory false (on next)))
+      → (tells' → (t : SpoolState) × Opens Keep t (onto target).reads (view memory' false (onto next')))
+      → (tells → LeavesOnly (on source).image (on source) (on next)) → (tells' → LeavesOnly (onto target).image (onto target) (onto next'))
+      → ((s t : SpoolState) → tells → tells' → IsIn s [] (view memory false (on next)) → IsIn t [] (view memory' false (onto next'))
+      → LeavesBoth on onto (IsAnyMoment tag s [] t [] (on next) (onto next')) next next' source' target')
+      → MovesOpened tells tells' on onto tag source source' target target' output note
+  moves_opened ends opens opens' only only' leaves = record {
+    result = ends.result;
+    source_memory = ends.source_memory;
+    source_doubt = ends.source_doubt;
+    target_memory = ends.target_memory;
+    target_doubt = ends.target_doubt;
+    told = ends.told;
+    said = ends.said;
+    none_left = λ ok told told'.
+        let o = opens told in let o' = opens' told' in
+        none_left tag o.0 o'.0 ends.result _ _ ok (ends.moves o.0 o'.0 told told' o.1.reached o'.1.reached);
+    moved = λ told told'.
+        let o = opens told in let o' = opens' told' in
+        record {
+          source_state = o.0;
+          target_state = o'.0;
+          source_stood = o.1.stood;
+          target_stood = o'.1.stood;
+          moves = ends.moves o.0 o'.0 told told' o.1.reached o'.1.reached;
+          any_moment =
+              both_opened on onto (IsAnyMoment tag o.0 [] o'.0 [] (on source) (onto target)) source next source' target next' target' (only told) (only' told')
+              (λ c d image image'. inl (image, image'))
+              (both_weaker on onto _ _ next next' source' target' (λ c d any. elim any [
+                | inl images ↦ inl ((only told).now c images.0, (only' told').now d images.1)
+                | inr moving ↦ inr moving
+              ]) (leaves o.0 o'.0 told told' o.1.reached o'.1.reached));
+        };
+  }

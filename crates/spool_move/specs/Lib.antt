@@ -1,0 +1,11 @@
+pub mod Moved
+pub mod Strange
+pub mod Stands
+pub mod Turns
+pub mod Leave
+pub mod Fault
+pub mod Said
+pub mod Moves
+pub mod Reading
+pub mod Walking
+pub mod Runs
