@@ -6,8 +6,7 @@ use std::alloc::Global;
 use std::process::Abort;
 
 /// What stands in the target once `hello` and `x` were moved with tag 7.
-pub(crate) const BOTH_MOVED: &str =
-    "0 9223372036854775815 0 0 5\n1 9223372036854775815 1 0 1\n";
+pub(crate) const BOTH_MOVED: &str = "0 9223372036854775815 0 0 5\n1 9223372036854775815 1 0 1\n";
 
 /// What stands in the source before.
 pub(crate) const BOTH_LEFT: &str = "0 4294967296 0 2 5\n1 4294967296 1 2 1\n";
@@ -77,8 +76,10 @@ pub(crate) fn strange_entries_are_found(rt: &impl Abort, alloc: Global) {
     let done = confirmed(rt, alloc, &other, &[(0, 1)]);
     let passed = run_over(rt, alloc, &done, target, 7);
     assert!(rt; passed.answer == Ok(1));
-    assert!(rt; pending(rt, alloc, passed.target.bytes()).as_str()
-        == "0 9223372036854775815 0 0 5\n1 9223372036854775815 1 0 1\n2 9223372036854775815 2 0 4\n");
+    assert!(rt;
+        pending(rt, alloc, passed.target.bytes()).as_str()
+            == "0 9223372036854775815 0 0 5\n1 9223372036854775815 1 0 1\n2 9223372036854775815 2 0 4\n"
+    );
 }
 
 /// A target that is full: what was taken is given up by the source, and the rest stays there.
@@ -86,10 +87,18 @@ pub(crate) fn a_target_fills_up(rt: &impl Abort, alloc: Global) {
     let long = vec![in alloc; b'a'; 2003].expect(rt, "memory");
     let from = device(rt, alloc, 2, 4096, &[&long[..2000], &long]);
     let full = run_over(rt, alloc, &from, &device(rt, alloc, 1, 4096, &[]), 7);
-    assert!(rt; full.answer == Err(MoveFault::Full { need: 2041, room: 2040 }));
+    assert!(rt;
+        full.answer
+            == Err(MoveFault::Full {
+                need: 2041,
+                room: 2040
+            })
+    );
     assert!(rt; cursor(rt, alloc, full.source.bytes()) == 1);
     assert!(rt; pending(rt, alloc, full.source.bytes()).as_str() == "1 4294967296 1 2 2003\n");
-    assert!(rt; pending(rt, alloc, full.target.bytes()).as_str() == "0 9223372036854775815 0 0 2000\n");
+    assert!(rt;
+        pending(rt, alloc, full.target.bytes()).as_str() == "0 9223372036854775815 0 0 2000\n"
+    );
     // Into another target the rest is moved.
     let rest = run_over(rt, alloc, full.source.bytes(), &empty(rt, alloc), 7);
     assert!(rt; rest.answer == Ok(1));
@@ -98,19 +107,33 @@ pub(crate) fn a_target_fills_up(rt: &impl Abort, alloc: Global) {
     let wide = vec![in alloc; b'a'; 5000].expect(rt, "memory");
     let from = device(rt, alloc, 1, 8192, &[b"x", &wide]);
     let large = run_over(rt, alloc, &from, &empty(rt, alloc), 7);
-    assert!(rt; large.answer == Err(MoveFault::TooLarge { need: 5038, most: 4078 }));
+    assert!(rt;
+        large.answer
+            == Err(MoveFault::TooLarge {
+                need: 5038,
+                most: 4078
+            })
+    );
     assert!(rt; cursor(rt, alloc, large.source.bytes()) == 1);
 }
 
 /// A source of which some numbers are known out of order: the others are moved.
 pub(crate) fn known_numbers_are_passed(rt: &impl Abort, alloc: Global) {
-    let all = device(rt, alloc, 1, 4096, &[b"a", b"bb", b"ccc", b"dddd", b"eeeee"]);
+    let all = device(
+        rt,
+        alloc,
+        1,
+        4096,
+        &[b"a", b"bb", b"ccc", b"dddd", b"eeeee"],
+    );
     let from = confirmed(rt, alloc, &all, &[(1, 2), (3, 4)]);
     let moved = run_over(rt, alloc, &from, &empty(rt, alloc), 7);
     assert!(rt; moved.answer == Ok(3));
     assert!(rt; cursor(rt, alloc, moved.source.bytes()) == 5);
-    assert!(rt; pending(rt, alloc, moved.target.bytes()).as_str()
-        == "0 9223372036854775815 0 0 1\n1 9223372036854775815 2 0 3\n2 9223372036854775815 4 0 5\n");
+    assert!(rt;
+        pending(rt, alloc, moved.target.bytes()).as_str()
+            == "0 9223372036854775815 0 0 1\n1 9223372036854775815 2 0 3\n2 9223372036854775815 4 0 5\n"
+    );
 }
 
 /// Two sources into one target, each with a tag of its own.
@@ -119,8 +142,10 @@ pub(crate) fn tags_are_apart(rt: &impl Abort, alloc: Global) {
     let second = device(rt, alloc, 1, 4096, &[b"other"]);
     let both = run_over(rt, alloc, &second, first.target.bytes(), 4_294_967_295);
     assert!(rt; both.answer == Ok(1));
-    assert!(rt; pending(rt, alloc, both.target.bytes()).as_str()
-        == "0 9223372036854775808 0 0 5\n1 9223372036854775808 1 0 1\n2 9223372041149743103 0 0 5\n");
+    assert!(rt;
+        pending(rt, alloc, both.target.bytes()).as_str()
+            == "0 9223372036854775808 0 0 5\n1 9223372036854775808 1 0 1\n2 9223372041149743103 0 0 5\n"
+    );
 }
 
 /// A target that was drained between two runs, of which the first gave nothing up: what was sent may be moved again, and none is lost.
@@ -131,6 +156,8 @@ pub(crate) fn drained_between_runs(rt: &impl Abort, alloc: Global) {
     let again = run_over(rt, alloc, &from, &drained, 7);
     assert!(rt; again.answer == Ok(1));
     assert!(rt; pending(rt, alloc, again.source.bytes()).as_str() == "");
-    assert!(rt; pending(rt, alloc, again.target.bytes()).as_str()
-        == "1 9223372036854775815 1 0 1\n2 9223372036854775815 0 0 5\n");
+    assert!(rt;
+        pending(rt, alloc, again.target.bytes()).as_str()
+            == "1 9223372036854775815 1 0 1\n2 9223372036854775815 0 0 5\n"
+    );
 }

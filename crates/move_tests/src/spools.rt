@@ -69,7 +69,9 @@ pub(crate) fn device(
     let len = (12_288 + u64::from(slots) * size) as usize;
     let zeros = vec![in alloc; 0; len].expect(rt, "memory");
     let mut disk = MemDisk::of(zeros, Vec::new(alloc));
-    format(&mut disk, slots, size).ok().expect(rt, "a new spool");
+    format(&mut disk, slots, size)
+        .ok()
+        .expect(rt, "a new spool");
     let mut spool = opened(rt, alloc, disk);
     take_texts(rt, alloc, &mut spool, texts);
     copied(rt, alloc, spool.into_disk().bytes())
@@ -80,7 +82,9 @@ pub(crate) fn plain(rt: &impl Abort, alloc: Global, slots: u32, size: u64) -> Sp
     assert!(rt; slots >= 1 && slots <= 9 && size >= 4096 && size <= 1_000_000);
     let len = 12_288 + u64::from(slots) * size;
     let mut disk = MemDisk::plain(alloc, len).expect(rt, "memory");
-    format(&mut disk, slots, size).ok().expect(rt, "a new spool");
+    format(&mut disk, slots, size)
+        .ok()
+        .expect(rt, "a new spool");
     opened(rt, alloc, disk)
 }
 
@@ -165,8 +169,12 @@ pub(crate) fn pending(rt: &impl Abort, alloc: Global, device: &[u8]) -> String {
     for one in &spool.pending(0, 100_000).ok().expect(rt, "entries") {
         let entry = &one.entry;
         let len = entry.event.text.bytes().len();
-        write!(text, "{} {} {} {} {len}\n", one.number, entry.conn, entry.index, entry.unit)
-            .expect(rt, "memory");
+        write!(
+            text,
+            "{} {} {} {} {len}\n",
+            one.number, entry.conn, entry.index, entry.unit
+        )
+        .expect(rt, "memory");
     }
     text
 }

@@ -72,7 +72,12 @@ fn stops(rt: &impl Abort, alloc: Global, from: &Pair, of_source: u64, of_target:
         let is_fault = cut.answer == Err(MoveFault::SourceFault)
             || cut.answer == Err(MoveFault::TargetFault);
         assert!(rt; is_fault == was_stopped);
-        goes_on(rt, alloc, &cut.source.crash(*choice), &cut.target.crash(*other));
+        goes_on(
+            rt,
+            alloc,
+            &cut.source.crash(*choice),
+            &cut.target.crash(*other),
+        );
     }
     was_stopped
 }

@@ -1,5 +1,5 @@
 -- What a page comes to, at each answer.
-use Rattle.std.proofs.Common.{◌≡◌, ◌⊎◌, inl, inr, ℕ, ◌+◌, ◌<◌, ◌≤◌, Bool, true, false, List, [], ◌∷◌, ◌++◌, length, take, drop, Ok, Err, refl, sym, ◌∙◌, ap, subst, arith, length-drop, take-append-drop}
+use Rattle.std.proofs.Common.{◌≡◌, inl, inr, ℕ, ◌+◌, ◌<◌, ◌≤◌, false, List, [], ◌∷◌, ◌++◌, length, take, drop, Ok, Err, refl, sym, ◌∙◌, ap, subst, arith, length-drop, take-append-drop}
 use Rattle.std.specs.Prelude.{All, Result}
 use Rattle.std.specs.List.{Contains}
 use Rattle.std.specs.BTreeSet.{BTreeSet, contains}
@@ -8,7 +8,7 @@ use Rattle.std.proofs.Math.Seq.{take-add}
 use Rattle.std.proofs.lemmas.Bool.{cases_lt}
 use Rattle.std.proofs.lemmas.List.{drop-drop, drop-append-le, length-take, nil_from_length, take_all}
 use Rattle.std.proofs.lemmas.List.Elements.{All-contains, Contains-append_right}
-use Rattle.edge_disk.specs.Disk.{Moment, LeavesOnly, IsLawful}
+use Rattle.edge_disk.specs.Disk.{Moment, LeavesOnly}
 use Rattle.spool_state.specs.Image.{StandsFor}
 use Rattle.spool_state.specs.SpoolState.{SpoolState, base, end}
 use Rattle.spool_state.specs.Left.{NumberedEntry, left, left_from}
@@ -21,17 +21,17 @@ use Rattle.spool_log.specs.State.{View, IsIn}
 use Rattle.spool_move.specs.declared.fault.MoveFault.{MoveFault}
 use Rattle.spool_move.specs.declared.fault.MoveFault.TheVariants.{Strange, TooLarge, Spent, Full, Worn, NotSpool, SourceFault, TargetFault, NoMemory}
 use Rattle.spool_move.specs.declared.walking.course.Course.{Course}
-use Rattle.spool_move.specs.Moved.{all_moved, is_present, missing, moved}
+use Rattle.spool_move.specs.Moved.{all_moved, is_present, missing}
 use Rattle.spool_move.specs.Stands.{HasTaken, Stands, IsMoving}
-use Rattle.spool_move.specs.Leave.{IsKept, IsSafe}
+use Rattle.spool_move.specs.Leave.{IsSafe}
 use Rattle.spool_move.specs.Moves.{Reaches, Stops, Refuses, IsWorn, IsDone, Moves}
-use Rattle.spool_move.specs.Reading.{IsReading, IsSearched}
+use Rattle.spool_move.specs.Reading.{IsReading}
 use Rattle.spool_move.specs.Turns.{LeavesBoth}
-use Rattle.spool_move.specs.Walking.{absent, after_last, HasWalked, IsWalking, IsCounted, IsRefused, PageEnds, TakesPage, AfterRefusal, HasGivenTo, IsGiving, IsGiven, IsWornAt, GivesUp, GivesFirst, AnswersFault, IsOnCourse, WalksPage, IsWanting, answer_after}
+use Rattle.spool_move.specs.Walking.{absent, after_last, HasWalked, IsWalking, IsCounted, IsRefused, TakesPage, AfterRefusal, HasGivenTo, IsGiving, IsGiven, IsWornAt, AnswersFault, IsOnCourse, answer_after}
 use Rattle.spool_move.proofs.Copies.{copied}
 use Rattle.spool_move.proofs.Looking.{cons_here}
 use Rattle.spool_move.proofs.Rising.{all_from, left_rises_from}
-use Rattle.spool_move.proofs.Turning.{both_then, both_still, source_turn, target_turn}
+use Rattle.spool_move.proofs.Turning.{both_then, source_turn, target_turn}
 use Rattle.spool_move.proofs.Walks.{stands_taken, stands_given, taken_on, taken_count, page_few, page_within, page_first, page_behind, page_has}
 
 -- a state in the midst of the move, from a course

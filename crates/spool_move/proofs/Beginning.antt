@@ -1,25 +1,21 @@
 -- A run from its beginning: both spools are mended, and the target's entries read.
-use Rattle.std.proofs.Common.{◌≡◌, ◌⊎◌, inl, inr, ℕ, Bool, false, List, [], Err, refl, sym, ap, arith}
-use Rattle.std.specs.Prelude.{Result}
+use Rattle.std.proofs.Common.{◌≡◌, inl, inr, ℕ, Bool, false, List, [], Err, refl, arith}
 use Rattle.std.specs.BTreeSet.{BTreeSet}
 use Rattle.std.proofs.Math.Logic.{∥∥₁_prop, ∥∥₁_elim}
 use Rattle.edge_disk.specs.Disk.{Moment, IsSettled, LeavesOnly}
 use Rattle.spool_state.specs.SpoolState.{SpoolState}
 use Rattle.spool_state.specs.Left.{left}
 use Rattle.spool_state.proofs.Following.{follows_self}
-use Rattle.spool_answers.specs.declared.fault.PendFault.{PendFault}
 use Rattle.spool_answers.specs.Stages.{IsOneOf}
 use Rattle.spool_log.specs.declared.memory.Memory.{Memory}
-use Rattle.spool_log.specs.Outcome.{StaysInDoubt, IsMended}
 use Rattle.spool_log.specs.State.{View, view, IsIn, KnowsDevice}
 use Rattle.spool_move.specs.declared.fault.MoveFault.{MoveFault}
 use Rattle.spool_move.specs.declared.fault.MoveFault.TheVariants.{Strange, TooLarge, Spent, Full, Worn, NotSpool, SourceFault, TargetFault, NoMemory}
-use Rattle.spool_move.specs.declared.walking.course.Course.{Course}
 use Rattle.spool_move.specs.Stands.{IsMoving}
 use Rattle.spool_move.specs.Turns.{LeavesBoth}
 use Rattle.spool_move.specs.Moves.{Moves, Stops, IsAnyMoment}
 use Rattle.spool_move.specs.Reading.{IsSearched, FindsFault}
-use Rattle.spool_move.specs.Walking.{IsOnCourse, IsUnderWay}
+use Rattle.spool_move.specs.Walking.{IsOnCourse}
 use Rattle.spool_move.proofs.Growing.{taken_none}
 use Rattle.spool_move.proofs.Standing.{is_in}
 use Rattle.spool_move.proofs.Turning.{both_then, source_turn, target_turn}

@@ -1,14 +1,13 @@
 -- Numbers given up outside doubt.
-use Rattle.std.proofs.Common.{◌≡◌, ◌⊎◌, inl, inr, ℕ, ◌<◌, ◌≤◌, Bool, true, false, cond, List, [], ◌∷◌, Ok, Err, refl, sym, ◌∙◌, ap, arith}
+use Rattle.std.proofs.Common.{◌≡◌, ◌⊎◌, inl, inr, ℕ, ◌≤◌, List, [], ◌∷◌, Ok, Err, refl, sym, ◌∙◌, ap, arith}
 use Rattle.std.specs.Prelude.{All, not, nat_le}
-use Rattle.std.specs.List.{filter}
-use Rattle.std.proofs.lemmas.Bool.{cases_lt, cond_both, leb-true, leb-false, le-leb, lt-leb}
+use Rattle.std.proofs.lemmas.Bool.{cases_lt, cond_both, leb-true, le-leb, lt-leb}
 use Rattle.known_numbers.specs.Numbers.{Numbers, IsKnown, marked}
 use Rattle.known_numbers.proofs.Marking.{confirmed_same, confirmed_reaches, marked_only, marked_rises}
 use Rattle.edge_disk.specs.Disk.{LeavesOnly}
 use Rattle.edge_disk.proofs.Moments.{weaker}
 use Rattle.spool_state.specs.SpoolState.{SpoolState, numbers_of, IsSound}
-use Rattle.spool_state.specs.Left.{NumberedEntry, is_known, unknown, left, left_from}
+use Rattle.spool_state.specs.Left.{is_known, left, left_from}
 use Rattle.spool_state.proofs.Following.{follows_self}
 use Rattle.spool_state.proofs.Lefts.{left_unknown, left_from-cursor}
 use Rattle.spool_state.proofs.Registered.{with_marked, follows_marked, left-marked}

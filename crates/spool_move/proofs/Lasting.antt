@@ -1,5 +1,5 @@
 -- Runs one after another lose nothing.
-use Rattle.std.proofs.Common.{◌≡◌, ◌⊎◌, inl, inr, ℕ, zero, suc, ◌+◌, ◌-◌, ◌<◌, ◌≤◌, List, [], ◌∷◌, ◌++◌, length, take, drop, get_or, Ok, refl, sym, ◌∙◌, ap, subst, arith, length-drop, take-append-drop}
+use Rattle.std.proofs.Common.{◌≡◌, inl, inr, ℕ, zero, suc, ◌+◌, ◌-◌, ◌<◌, ◌≤◌, List, [], ◌∷◌, ◌++◌, length, take, drop, get_or, Ok, refl, sym, ◌∙◌, ap, subst, arith, length-drop, take-append-drop}
 use Rattle.std.specs.Prelude.{All, AllPairs, ◌≢◌}
 use Rattle.std.specs.List.{Contains}
 use Rattle.std.proofs.Math.Seq.{take-add}
@@ -10,12 +10,11 @@ use Rattle.event_form.specs.declared.event.Entry.{Entry}
 use Rattle.edge_disk.specs.Disk.{Moment, IsLawful}
 use Rattle.spool_state.specs.SpoolState.{SpoolState, end}
 use Rattle.spool_state.specs.Left.{NumberedEntry, left, numbered}
-use Rattle.spool_state.specs.Image.{StandsFor}
 use Rattle.spool_state.proofs.Laws.{one_state}
 use Rattle.spool_move.specs.Moved.{moved, all_moved, missing}
 use Rattle.spool_move.specs.Stands.{Stands}
 use Rattle.spool_move.specs.Turns.{Turn, OfSource, OfTarget, AreTurns, WasLeft}
-use Rattle.spool_move.specs.Runs.{IsMoved, IsRun, IsNextPair, AreNextPairs, tagged, IsFirst, HasMoved, AreMoved, StandOnce, AllMoved, RunsLoseNothing, MovedStandOnce, RunsMoveAll, last_pair}
+use Rattle.spool_move.specs.Runs.{IsRun, IsNextPair, AreNextPairs, tagged, IsFirst, HasMoved, AreMoved, AllMoved, RunsLoseNothing, MovedStandOnce, RunsMoveAll, last_pair}
 use Rattle.spool_move.proofs.Looking.{cons_cases}
 use Rattle.spool_move.proofs.Numbers.{tagged_append, tagged_moved, missing_past, missing_none}
 use Rattle.spool_move.proofs.Rising.{Rises, rises_parts, left_rises, one_place}
@@ -72,8 +71,7 @@ module _ (tag : ℕ) (first : List NumberedEntry) (rises : Rises 0 first) where
   done_all : (walked given : ℕ) (m u s t : SpoolState) → HasMoved tag first walked given m u → Stands tag m u (length (left m)) (length (left m)) s t → (left s ≡ []) × (tagged tag (left t) ≡ all_moved tag first)
   done_all walked given m u s t was stands =
       let next = goes_on walked given m u s t (length (left m)) (length (left m)) was stands in
-      let all : given + length (left m) ≡ length first = omega (arith, ap length was.source, length-drop given first, was.within, was.behind) in
-      (
+      let all : given + length (left m) ≡ length first = omega (arith, ap length was.source, length-drop given first, was.within, was.behind) in (
         next.1.source ∙ drop_all (given + length (left m)) first (omega (arith, all)),
         next.1.target ∙ ap (all_moved tag) (take_all next.0 first (omega (arith, all, next.1.behind))),
       )
@@ -88,8 +86,7 @@ module _ (tag : ℕ) (first : List NumberedEntry) (rises : Rises 0 first) where
     -- what a run began with
     began : (result : _) (a a' : D) (b b' : E) (turns : List (Turn D E)) (run : IsRun on onto tag result a b turns a' b') → AreKept a b → (walked : ℕ) × (given : ℕ) × HasMoved tag first walked given run.s run.t
     began result a a' b b' turns run kept =
-        let here = kept (on a).reads (onto b).reads (lawful a).reads_image (lawful' b).reads_image in
-        (
+        let here = kept (on a).reads (onto b).reads (lawful a).reads_image (lawful' b).reads_image in (
           here.0,
           here.1,
           subst (λ (x : SpoolState). HasMoved tag first here.0 here.1 x run.t) (one_state here.2 run.s (on a).reads here.4 run.source)

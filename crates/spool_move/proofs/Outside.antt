@@ -1,10 +1,10 @@
 -- Calls of a spool that isn't in doubt.
-use Rattle.std.proofs.Common.{◌≡◌, ◌⊎◌, inl, inr, ℕ, List, [], ◌∷◌, subst, arith}
+use Rattle.std.proofs.Common.{inl, inr, ℕ, List, [], subst, arith}
 use Rattle.std.specs.Prelude.{Result}
 use Rattle.std.specs.Global.{Vec}
 use Rattle.known_numbers.specs.declared.stretch.Stretch.{Stretch}
 use Rattle.event_form.specs.declared.event.Entry.{Entry}
-use Rattle.edge_disk.specs.Disk.{Moment, LeavesOnly}
+use Rattle.edge_disk.specs.Disk.{LeavesOnly}
 use Rattle.edge_disk.proofs.Moments.{weaker}
 use Rattle.spool_state.specs.SpoolState.{SpoolState}
 use Rattle.spool_answers.specs.declared.numbered.Numbered.{Numbered}

@@ -1,21 +1,18 @@
 -- Which entries are present, as the target's entries are looked at one after another.
-use Rattle.std.proofs.Common.{◌≡◌, ◌≢◌, ◌⊎◌, inl, inr, ⊎_elim, ℕ, ◌<◌, ◌≤◌, Bool, true, false, List, [], ◌∷◌, ◌++◌, length, get_or, refl, sym, ◌∙◌, ap, subst, arith, append_assoc}
-use Rattle.std.specs.Prelude.{All, ◌==◌, ◌&&◌, ◌||◌, Result, Ok, Err}
+use Rattle.std.proofs.Common.{◌≡◌, ℕ, ◌<◌, ◌≤◌, Bool, true, false, List, [], ◌∷◌, ◌++◌, get_or, refl, sym, ◌∙◌, ap, arith, append_assoc}
+use Rattle.std.specs.Prelude.{◌==◌, ◌&&◌, ◌||◌}
 use Rattle.std.specs.List.{Contains, list_any}
 use Rattle.std.specs.BTreeSet.{BTreeSet, contains}
 use Rattle.std.specs.Ordering.{nat_cmp}
 use Rattle.std.proofs.lemmas.Bool.{and_parts, eqb-true, eq-eqb, false_from_ne_true}
-use Rattle.std.proofs.lemmas.List.Elements.{All-contains, All-head, All-nil, All-push, Contains-get_or}
-use Rattle.event_form.specs.declared.event.Entry.{Entry}
+use Rattle.std.proofs.lemmas.List.Elements.{All-contains, All-nil, All-push, Contains-get_or}
 use Rattle.spool_state.specs.SpoolState.{SpoolState, end, IsSound}
 use Rattle.spool_log.specs.declared.memory.Memory.{Memory}
 use Rattle.spool_state.specs.Left.{NumberedEntry, left}
 use Rattle.spool_move.specs.declared.fault.MoveFault.{MoveFault}
 use Rattle.spool_move.specs.declared.fault.MoveFault.TheVariants.{Strange, TooLarge, Spent, Full, Worn, NotSpool, SourceFault, TargetFault, NoMemory}
-use Rattle.spool_move.specs.declared.presence.Own.{Own}
-use Rattle.spool_move.specs.declared.presence.Own.TheVariants.{NotLeft, Same, Other}
 use Rattle.spool_move.specs.Moved.{connection_of, is_present}
-use Rattle.spool_move.specs.Strange.{IsStrange, IsPlain, NoneIsStrange, IsFirstStrange}
+use Rattle.spool_move.specs.Strange.{IsStrange, IsPlain, IsFirstStrange}
 use Rattle.spool_move.specs.Reading.{IsOfLook, IsOwned, IsReading, IsSearched, IsUnread, FindsFault}
 use Rattle.spool_move.specs.Said.{IsSaidBy}
 use Rattle.spool_move.proofs.Rising.{left_above, left_rises, one_entry}

@@ -1,10 +1,10 @@
 -- A page walked entry by entry.
-use Rattle.std.proofs.Common.{◌≡◌, ◌⊎◌, inl, inr, ℕ, ◌+◌, ◌≤◌, Bool, true, false, cond, List, [], ◌∷◌, ◌++◌, length, take, drop, Ok, Err, refl, sym, ◌∙◌, ap, subst, arith, append_assoc, length-append}
+use Rattle.std.proofs.Common.{◌≡◌, inl, inr, ℕ, ◌+◌, Bool, true, false, cond, List, [], ◌∷◌, ◌++◌, length, take, drop, Ok, Err, refl, sym, ◌∙◌, ap, subst, arith, append_assoc, length-append}
 use Rattle.std.specs.Prelude.{not}
 use Rattle.std.specs.BTreeSet.{BTreeSet, contains}
 use Rattle.std.specs.Ordering.{nat_cmp}
 use Rattle.std.proofs.Math.Seq.{take-append-add, take-append_seam, drop-append_seam}
-use Rattle.std.proofs.lemmas.List.{append-nil, map-append, take-append-le, take_all}
+use Rattle.std.proofs.lemmas.List.{map-append, take-append-le, take_all}
 use Rattle.std.proofs.lemmas.List.Elements.{filter-append}
 use Rattle.event_form.specs.declared.event.Entry.{Entry}
 use Rattle.edge_disk.specs.Disk.{Moment, IsLawful, LeavesOnly}
@@ -20,7 +20,7 @@ use Rattle.spool_move.specs.declared.walking.course.Course.{Course}
 use Rattle.spool_move.specs.Moved.{all_moved, moved}
 use Rattle.spool_move.specs.Stands.{HasTaken}
 use Rattle.spool_move.specs.Reading.{as_entry}
-use Rattle.spool_move.specs.Walking.{absent, after_last, HasWalked, IsCounted, IsTaking, IsWalked, IsWalking, TakesOne, TakesPage, WalksOne}
+use Rattle.spool_move.specs.Walking.{absent, after_last, IsTaking, IsWalking, TakesOne, TakesPage, WalksOne}
 use Rattle.spool_move.proofs.Growing.{taken_none, taken_then}
 
 -- ---- one entry, which the set has or hasn't

@@ -1,5 +1,5 @@
 -- One entry taken outside doubt.
-use Rattle.std.proofs.Common.{◌≡◌, ◌⊎◌, inl, inr, ℕ, List, [], ◌∷◌, Ok, Err, arith}
+use Rattle.std.proofs.Common.{◌⊎◌, inl, inr, [], ◌∷◌, Ok, Err}
 use Rattle.event_form.specs.declared.event.Entry.{Entry}
 use Rattle.edge_disk.specs.Disk.{LeavesOnly}
 use Rattle.edge_disk.proofs.Moments.{weaker}
@@ -8,7 +8,6 @@ use Rattle.spool_answers.specs.declared.fault.Receipt.{Receipt}
 use Rattle.spool_answers.specs.declared.fault.TakeFault.{TakeFault}
 use Rattle.spool_answers.specs.declared.fault.TakeFault.TheVariants as Take
 use Rattle.spool_answers.specs.Stages.{group_stages}
-use Rattle.spool_answers.specs.Take.{take_stages}
 use Rattle.spool_log.specs.Outcome.{TakesFrom}
 use Rattle.spool_log.specs.State.{View, IsIn, LeavesStages}
 use Rattle.desk_access.proofs.Stages.{group_some}

@@ -1,5 +1,5 @@
 -- Turns of two disks, one after another.
-use Rattle.std.proofs.Common.{◌≡◌, ◌⊎◌, inl, inr, ⊎_elim, ℕ, List, [], ◌∷◌, ◌++◌, refl, sym, subst}
+use Rattle.std.proofs.Common.{◌⊎◌, inl, inr, ⊎_elim, ℕ, List, [], ◌∷◌, ◌++◌, refl, sym, subst}
 use Rattle.edge_disk.specs.Disk.{Moment, LeavesOnly}
 use Rattle.spool_move.specs.Turns.{Turn, OfSource, OfTarget, AreTurns, WasLeft, LeavesBoth}
 

@@ -1,11 +1,11 @@
 -- A page of the source's entries, walked and given up.
-use Rattle.std.proofs.Common.{◌≡◌, ◌⊎◌, inl, inr, ℕ, ◌+◌, ◌<◌, ◌≤◌, List, [], ◌∷◌, ◌++◌, length, take, drop, refl, sym, ◌∙◌, ap, subst, arith, length-drop, length-take, length-append, take-append-drop}
-use Rattle.std.specs.Prelude.{All, not, nat_le}
-use Rattle.std.specs.List.{Contains, filter}
+use Rattle.std.proofs.Common.{◌≡◌, inl, inr, ℕ, ◌+◌, ◌<◌, ◌≤◌, List, ◌++◌, length, take, drop, sym, ◌∙◌, ap, subst, arith, length-drop, length-take, length-append, take-append-drop}
+use Rattle.std.specs.Prelude.{not}
+use Rattle.std.specs.List.{Contains}
 use Rattle.std.specs.BTreeSet.{BTreeSet, contains}
 use Rattle.std.specs.Ordering.{nat_cmp}
 use Rattle.std.proofs.Math.Seq.{take-add}
-use Rattle.std.proofs.lemmas.List.{drop-drop, map-append, take-take, take_all}
+use Rattle.std.proofs.lemmas.List.{drop-drop, map-append, take-take}
 use Rattle.std.proofs.lemmas.List.Elements.{All-drop, All-take, Contains-append_cases, filter-append}
 use Rattle.event_form.specs.declared.event.Entry.{Entry}
 use Rattle.spool_state.specs.SpoolState.{SpoolState}
@@ -13,7 +13,7 @@ use Rattle.spool_state.specs.Left.{NumberedEntry, left, left_from}
 use Rattle.spool_state.proofs.Following.{follows_then}
 use Rattle.spool_state.proofs.Unknown.{filter_like}
 use Rattle.spool_move.specs.Moved.{moved, all_moved, is_present, missing}
-use Rattle.spool_move.specs.Stands.{HasGivenUp, HasTaken, Stands}
+use Rattle.spool_move.specs.Stands.{HasTaken, Stands}
 use Rattle.spool_move.specs.Reading.{IsSearched}
 use Rattle.spool_move.specs.Walking.{absent, after_last, HasGivenTo}
 use Rattle.spool_move.proofs.Growing.{taken_then}

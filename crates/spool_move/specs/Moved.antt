@@ -1,5 +1,5 @@
 -- Entries of a source as they are moved into a target, and which of them it has.
-use Rattle.std.specs.Prelude.{◌≡◌, ℕ, ◌+◌, ◌^◌, ◌==◌, ◌&&◌, not, Bool, List, length, map, take}
+use Rattle.std.specs.Prelude.{◌≡◌, ℕ, ◌+◌, ◌^◌, ◌==◌, ◌&&◌, not, Bool, List, map}
 use Rattle.std.specs.List.{filter, list_any}
 use Rattle.event_form.specs.declared.event.Entry.{Entry}
 use Rattle.spool_state.specs.Left.{NumberedEntry}

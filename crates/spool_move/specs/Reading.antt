@@ -1,5 +1,5 @@
 -- The reading of the target's entries, before anything is moved.
-use Rattle.std.specs.Prelude.{◌≡◌, ◌≢◌, ℕ, List, All, Result, Ok, Err}
+use Rattle.std.specs.Prelude.{◌≡◌, ◌≢◌, ℕ, List, All}
 use Rattle.std.specs.List.{Contains}
 use Rattle.std.specs.BTreeSet.{BTreeSet, contains}
 use Rattle.std.specs.Ordering.{nat_cmp}
@@ -12,7 +12,7 @@ use Rattle.spool_move.specs.declared.fault.MoveFault.TheVariants.{Strange, TooLa
 use Rattle.spool_move.specs.declared.presence.Own.{Own}
 use Rattle.spool_move.specs.declared.presence.Own.TheVariants.{NotLeft, Same, Other}
 use Rattle.spool_move.specs.Moved.{is_present}
-use Rattle.spool_move.specs.Strange.{IsStrange, NoneIsStrange, IsFirstStrange}
+use Rattle.spool_move.specs.Strange.{NoneIsStrange, IsFirstStrange}
 
 -- an entry that was read, as the state has it
 abbrev pub as_entry : Numbered → NumberedEntry

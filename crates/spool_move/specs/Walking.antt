@@ -1,5 +1,5 @@
 -- The walk through the source's entries, page by page.
-use Rattle.std.specs.Prelude.{◌≡◌, ◌⊎◌, ℕ, ◌+◌, ◌≤◌, not, true, false, List, [], ◌∷◌, length, All, take, drop, Bool, Result, Ok, Err}
+use Rattle.std.specs.Prelude.{◌≡◌, ◌⊎◌, ℕ, ◌+◌, ◌≤◌, not, true, false, List, [], ◌∷◌, length, take, drop, Bool, Result, Ok, Err}
 use Rattle.std.specs.List.{filter}
 use Rattle.std.specs.BTreeSet.{BTreeSet, contains}
 use Rattle.std.specs.Ordering.{nat_cmp}
@@ -17,7 +17,6 @@ use Rattle.spool_move.specs.declared.fault.MoveFault.{MoveFault}
 use Rattle.spool_move.specs.declared.fault.MoveFault.TheVariants.{Strange, TooLarge, Spent, Full, Worn, NotSpool, SourceFault, TargetFault, NoMemory}
 use Rattle.spool_move.specs.declared.walking.course.Course.{Course}
 use Rattle.spool_move.specs.Moved.{all_moved, missing, moved}
-use Rattle.spool_move.specs.Strange.{NoneIsStrange}
 use Rattle.spool_move.specs.Stands.{HasTaken}
 use Rattle.spool_move.specs.Moves.{Reaches, IsDone, Moves}
 use Rattle.spool_move.specs.Reading.{IsSearched}

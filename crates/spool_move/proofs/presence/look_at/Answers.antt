@@ -1,5 +1,4 @@
-use Rattle.std.proofs.Common.{◌≡◌, ◌≤◌, ◌∙◌, ℕ, inl, sym, ap, subst, arith}
-use Rattle.spool_state.specs.SpoolState.{SpoolState, end}
+use Rattle.std.proofs.Common.{◌∙◌, inl, sym, subst, arith}
 use Rattle.spool_move.specs.Reading.{as_entry, IsOfLook, IsOwn}
 use Rattle.spool_move.specs.declared.presence.Own.{Own}
 use Rattle.spool_move.proofs.Present.{other_tag, index_below, index_gone, index_present, look_unread, strange_here}

@@ -1,7 +1,6 @@
-use Rattle.std.proofs.Common.{◌≡◌, ◌+◌, ◌++◌, ◌∷◌, ◌∙◌, List, [], take, drop, get_or, sym, ap, subst, append_assoc}
-use Rattle.std.proofs.lemmas.List.{append-nil, take_all}
-use Rattle.edge_disk.proofs.Calls.{calls_none, calls_as, calls_on}
-use Rattle.edge_disk.proofs.Moments.{started}
+use Rattle.std.proofs.Common.{◌≡◌, ◌+◌, ◌++◌, ◌∷◌, ◌∙◌, List, [], take, drop, sym, ap, subst, append_assoc}
+use Rattle.std.proofs.lemmas.List.{take_all}
+use Rattle.edge_disk.proofs.Calls.{calls_as, calls_on}
 use Rattle.spool_state.specs.Left.{NumberedEntry}
 use Rattle.spool_answers.specs.declared.numbered.Numbered.{Numbered}
 use Rattle.spool_answers.specs.Pend.{given_entries}

@@ -1,4 +1,4 @@
-use Rattle.std.proofs.Common.{◌≡◌, ◌++◌, List, [], take}
+use Rattle.std.proofs.Common.{◌++◌, List, [], take}
 use Rattle.edge_disk.specs.Calls.{Calls}
 use Rattle.edge_disk.specs.Disk.{LeavesOnly}
 use Rattle.spool_state.specs.SpoolState.{SpoolState}

@@ -123,8 +123,7 @@ loop-page-preserved g c =
       searched = λ m u tells tells' held held'.
           let kept = inv.target_kept u tells' held' in
           let read = sure_pends u c.loop-page.from 128 _ _ _ kept.0 (c.in-Ok.ensures.pends u [] tells' kept.0) in
-          let so_far = inv.searched m u tells tells' held held' in
-          (
+          let so_far = inv.searched m u tells tells' held held' in (
             so_far.0 ++ given_entries given,
             page_next u so_far.0 c.loop-page.from 128 given so_far.1 read.pends one some place last.above,
             subst (λ (l : List Numbered). IsSearched c.args.tag m (so_far.0 ++ given_entries l) c.look_at_page.new.present) c.deref.ensures.value

@@ -31,8 +31,7 @@ returns-in_err-move_page-clause-moves g c = λ m u tells tells' at.
     let fault = c.in_err-move_page.field-0.0 in
     let v = view c.move_page.new.source.memory c.move_page.new.source.doubt (g.D.Disk.moment c.move_page.new.source.disk) in
     let w = view c.move_page.new.target.memory c.move_page.new.target.doubt (g.E.Disk.moment c.move_page.new.target.disk) in
-    let P = IsMoving c.args.tag m u in
-    (
+    let P = IsMoving c.args.tag m u in (
       subst (λ (r : Result _ MoveFault). Moves c.args.tag m u r v w) (sym (is_err c.from_residual.result fault c.from_residual.ensures.1)) page.0,
       both_then g.D.Disk.moment g.E.Disk.moment P P P _ _ _ _ _ _ before.1 page.1 (λ c d h. h) (λ c d h. h),
     )
@@ -43,8 +42,7 @@ returns-then-not-branch-clause-moves g c = λ m u tells tells' at.
     let page = c.in_ok-move_page.ensures.walks m u tells tells' before.0 in
     let v = view c.move_page.new.source.memory c.move_page.new.source.doubt (g.D.Disk.moment c.move_page.new.source.disk) in
     let w = view c.move_page.new.target.memory c.move_page.new.target.doubt (g.E.Disk.moment c.move_page.new.target.disk) in
-    let P = IsMoving c.args.tag m u in
-    (
+    let P = IsMoving c.args.tag m u in (
       subst (λ (b : Bool). WalksPage c.args.tag m u c.args.present.now c.move_page.new.course (Ok b) v w) c.if-not-branch.true page.0,
       both_then g.D.Disk.moment g.E.Disk.moment P P P _ _ _ _ _ _ before.1 page.1 (λ c d h. h) (λ c d h. h),
     )
@@ -68,8 +66,7 @@ loop-preserved g c =
       walks = λ m u tells tells' at.
           let before = inv.walks m u tells tells' at in
           let page = call.walks m u tells tells' before.0 in
-          let P = IsMoving c.args.tag m u in
-          (
+          let P = IsMoving c.args.tag m u in (
             subst (λ (b : Bool). WalksPage c.args.tag m u c.args.present.now c.move_page.new.course (Ok b) v w) c.if-not-branch.false page.0,
             both_then g.D.Disk.moment g.E.Disk.moment P P P _ _ _ _ _ _ before.1 page.1 (λ c d h. h) (λ c d h. h),
           );

@@ -23,16 +23,14 @@ use Rattle.spool_move.proofs.walking.pages.move_page.Goals as goal
 pub returns-then-end-course-clause-walks : goal.returns-then-end-course-clause-walks
 returns-then-end-course-clause-walks g c = λ m u tells tells' at.
     let past = none_past c.args.tag m u c.args.present.now c.args.course.now _ _ at
-    (omega (arith, c.if-end-course.true, c.end.ensures.end, end_is at.reaches.s c.args.source.now.memory at.reaches.source.knows at.reaches.source.sound)) in
-    (
+    (omega (arith, c.if-end-course.true, c.end.ensures.end, end_is at.reaches.s c.args.source.now.memory at.reaches.source.knows at.reaches.source.sound)) in (
       on_done c.args.tag m u c.args.present.now c.args.course.now _ _ at past,
       both_still g.D.Disk.moment g.E.Disk.moment (IsMoving c.args.tag m u) c.args.source.now.disk c.args.target.now.disk (moving_now c.args.tag m u c.args.present.now c.args.course.now _ _ at),
     )
 
 pub returns-in-Err-clause-walks : goal.returns-in-Err-clause-walks
 returns-in-Err-clause-walks g c = λ m u tells tells' at.
-    let read = sure_pends at.reaches.s c.args.course.now.upto 128 _ _ _ at.reaches.source (c.in-Err.ensures.pends at.reaches.s [] tells at.reaches.source) in
-    (
+    let read = sure_pends at.reaches.s c.args.course.now.upto 128 _ _ _ at.reaches.source (c.in-Err.ensures.pends at.reaches.s [] tells at.reaches.source) in (
       read_stops c.of_source.result c.args.tag m u _ _ (subst IsReading (sym c.of_source.ensures) (reading_source c.in-Err.fault read.pends))
           (stop_here c.args.tag m u c.args.present.now c.args.course.now _ _ at _ read.reached),
       source_turn g.D.Disk.moment g.E.Disk.moment (IsMoving c.args.tag m u) (g.D.Disk.moment c.args.source.now.disk).image c.args.source.now.disk c.pending.new.self.disk c.args.target.now.disk read.any_moment
@@ -43,8 +41,7 @@ pub returns-then-is_empty-clause-walks : goal.returns-then-is_empty-clause-walks
 returns-then-is_empty-clause-walks g c = λ m u tells tells' at.
     let read = sure_pends at.reaches.s c.args.course.now.upto 128 _ _ _ at.reaches.source (c.in-Ok.ensures.pends at.reaches.s [] tells at.reaches.source) in
     let empty : length c.in-Ok.page.items ≡ 0 = sym c.in-Ok.page.ok.0 ∙ eqb-true c.in-Ok.page.len 0 (sym c.is_empty.ensures ∙ c.if-is_empty.true) in
-    let none = none_read c.args.tag m u c.args.present.now c.args.course.now (given_entries c.in-Ok.page.items) _ _ at read.pends (length-given c.in-Ok.page.items ∙ empty) in
-    (
+    let none = none_read c.args.tag m u c.args.present.now c.args.course.now (given_entries c.in-Ok.page.items) _ _ at read.pends (length-given c.in-Ok.page.items ∙ empty) in (
       on_done c.args.tag m u c.args.present.now c.args.course.now _ _ (on_read c.args.tag m u c.args.present.now c.args.course.now _ _ at _ read.reached) none,
       source_turn g.D.Disk.moment g.E.Disk.moment (IsMoving c.args.tag m u) (g.D.Disk.moment c.args.source.now.disk).image c.args.source.now.disk c.pending.new.self.disk c.args.target.now.disk read.any_moment
           (moving_now c.args.tag m u c.args.present.now c.args.course.now _ _ at),
@@ -75,8 +72,8 @@ give_up-requires-clause-earned g c = λ n lt. c.requires.earned c.pending.new.se
     let upto = numbered_some c.args.course.now.upto (end_of c.pending.new.self.memory) c.in-Ok.page.items (subst (λ (n : ℕ). 0 < n) c.in-Ok.page.ok.0 (not_none c.in-Ok.page.len (sym c.is_empty.ensures ∙ c.if-is_empty.false))) c.in-Ok.ensures.numbered in
     let within = c.take_page.ensures.within (end_of c.pending.new.self.memory) upto c.in-Ok.ensures.numbered in
     ∣ page_safe c.args.tag some.0 some.1 c.args.present.now c.args.course.now c.take_page.new.course page _ _ p (g.D.Disk.moment c.pending.new.self.disk) (g.E.Disk.moment c.take_page.new.target.disk)
-        (read.reached.each (g.D.Disk.moment c.pending.new.self.disk).reads (g.met.D.Disk.lawful c.pending.new.self.disk tells).reads_image) takes.ends.0.each
-        (omega (arith, within, end_is s c.pending.new.self.memory read.reached.knows read.reached.sound)) n lt ∣₁))
+    (read.reached.each (g.D.Disk.moment c.pending.new.self.disk).reads (g.met.D.Disk.lawful c.pending.new.self.disk tells).reads_image) takes.ends.0.each
+    (omega (arith, within, end_is s c.pending.new.self.memory read.reached.knows read.reached.sound)) n lt ∣₁))
 
 pub refuse-requires-clause-earned : goal.refuse-requires-clause-earned
 refuse-requires-clause-earned g c = λ refusal n lt. c.requires.earned c.pending.new.self.disk c.take_page.new.target.disk n (λ tells tells'.
@@ -90,9 +87,9 @@ refuse-requires-clause-earned g c = λ refusal n lt. c.requires.earned c.pending
     let upto = numbered_some c.args.course.now.upto (end_of c.pending.new.self.memory) c.in-Ok.page.items (subst (λ (n : ℕ). 0 < n) c.in-Ok.page.ok.0 (not_none c.in-Ok.page.len (sym c.is_empty.ensures ∙ c.if-is_empty.false))) c.in-Ok.ensures.numbered in
     let within = c.take_page.ensures.within (end_of c.pending.new.self.memory) upto c.in-Ok.ensures.numbered in
     ∣ page_safe c.args.tag some.0 some.1 c.args.present.now c.args.course.now c.take_page.new.course page _ _ p (g.D.Disk.moment c.pending.new.self.disk) (g.E.Disk.moment c.take_page.new.target.disk)
-        (read.reached.each (g.D.Disk.moment c.pending.new.self.disk).reads (g.met.D.Disk.lawful c.pending.new.self.disk tells).reads_image)
-        (refusal_sure c.in-Err-take_page.fault takes.t' _ refusal takes.ends.reached).each
-        (omega (arith, within, end_is s c.pending.new.self.memory read.reached.knows read.reached.sound)) n lt ∣₁))
+    (read.reached.each (g.D.Disk.moment c.pending.new.self.disk).reads (g.met.D.Disk.lawful c.pending.new.self.disk tells).reads_image)
+    (refusal_sure c.in-Err-take_page.fault takes.t' _ refusal takes.ends.reached).each
+    (omega (arith, within, end_is s c.pending.new.self.memory read.reached.knows read.reached.sound)) n lt ∣₁))
 
 pub returns-in_err-give_up-in-Ok-take_page-clause-told : goal.returns-in_err-give_up-in-Ok-take_page-clause-told
 returns-in_err-give_up-in-Ok-take_page-clause-told g c =
@@ -109,8 +106,7 @@ returns-in_err-give_up-in-Ok-take_page-clause-walks g c = λ m u tells tells' at
     let gives = c.in_err-give_up-in-Ok-take_page.ensures.given s tells read.reached in
     let fault = c.in_err-give_up-in-Ok-take_page.field-0.0 in
     let v2 = view c.give_up.new.source.memory c.give_up.new.source.doubt (g.D.Disk.moment c.give_up.new.source.disk) in
-    let w1 = view c.take_page.new.target.memory c.take_page.new.target.doubt (g.E.Disk.moment c.take_page.new.target.disk) in
-    (
+    let w1 = view c.take_page.new.target.memory c.take_page.new.target.doubt (g.E.Disk.moment c.take_page.new.target.disk) in (
       subst (λ (r : Result Bool MoveFault). WalksPage c.args.tag m u c.args.present.now c.take_page.new.course r v2 w1) (sym (is_err c.from_residual.result fault c.from_residual.ensures.1))
           (page_kept c.args.tag m u c.args.present.now c.args.course.now c.take_page.new.course page _ _ p v2 w1 fault takes.ends.0 gives.given),
       page_turns_up c.args.tag m u c.args.present.now c.args.course.now c.take_page.new.course page _ _ p g.D.Disk.moment g.E.Disk.moment c.args.source.now.disk c.pending.new.self.disk c.args.target.now.disk c.take_page.new.target.disk
@@ -124,8 +120,7 @@ returns-in_ok-give_up-in-Ok-take_page-clause-walks g c = λ m u tells tells' at.
     let takes = c.in-Ok-take_page.ensures.taken at.reaches.t tells' at.reaches.target in
     let page = given_entries c.in-Ok.page.items in
     let p = page_of c.args.tag m u c.args.present.now c.args.course.now c.take_page.new.course page _ _ _ _ at read.pends takes in
-    let gives = c.in_ok-give_up-in-Ok-take_page.ensures.given s tells read.reached in
-    (
+    let gives = c.in_ok-give_up-in-Ok-take_page.ensures.given s tells read.reached in (
       page_done c.args.tag m u c.args.present.now c.args.course.now c.take_page.new.course page _ _ p _ _ takes.ends.0 gives.given,
       page_turns_up c.args.tag m u c.args.present.now c.args.course.now c.take_page.new.course page _ _ p g.D.Disk.moment g.E.Disk.moment c.args.source.now.disk c.pending.new.self.disk c.args.target.now.disk c.take_page.new.target.disk
           at.reaches.source.each at.reaches.target.each read.any_moment c.give_up.new.source.disk takes.any_moment takes.ends.0.each gives.any_moment,
@@ -142,8 +137,7 @@ returns-in-Err-take_page-clause-walks g c = λ m u tells tells' at.
     let page = given_entries c.in-Ok.page.items in
     let p = page_of c.args.tag m u c.args.present.now c.args.course.now c.take_page.new.course page _ _ _ _ at read.pends takes in
     let answers = c.refuse.ensures.answers s tells read.reached in
-    let fault = c.in-Err-take_page.fault in
-    (
+    let fault = c.in-Err-take_page.fault in (
       page_answers c.args.tag m u c.args.present.now c.args.course.now c.take_page.new.course page _ _ p _ _ fault c.refuse.result _
           (λ is. subst (λ (x : Spool g.row.D.Denot g.D.Disk). IsIn s [] (view x.memory x.doubt (g.D.Disk.moment x.disk))) (sym (c.refuse.ensures.still is)) read.reached)
           takes.ends answers,

@@ -1,4 +1,4 @@
-use Rattle.std.proofs.Common.{◌∷◌, [], Ok, Err, arith, subst}
+use Rattle.std.proofs.Common.{[], Ok, Err, arith, subst}
 use Rattle.event_form.specs.declared.event.Entry.{Entry}
 use Rattle.spool_log.specs.State.{view}
 use Rattle.spool_move.specs.Walking.{TakesOne}

@@ -32,8 +32,7 @@ loop-one-init g c = record {
   few = c.requires.few;
   calls = calls_none _;
   taken = λ t tells held.
-      let none = taken_none t held.sound.from_base in
-      (
+      let none = taken_none t held.sound.from_base in (
         t,
         held,
         none,
@@ -102,8 +101,7 @@ loop-one-preserved g c =
       calls = calls_on _ _ _ _ _ inv.calls (λ none. none) (calls_as _ _ _ _ walk.calls (λ none. absurd none) (λ is. cc));
       taken = λ t tells held.
           let before = inv.taken t tells held in
-          let walked = walk.walked before.0 tells before.1 in
-          (
+          let walked = walk.walked before.0 tells before.1 in (
             walked.walked.0,
             walked.walked.1,
             subst (λ (l : List NumberedEntry). HasTaken t (all_moved c.args.tag (absent c.args.present.now l)) walked.walked.0) (sym push)

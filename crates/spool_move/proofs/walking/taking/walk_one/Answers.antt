@@ -1,4 +1,4 @@
-use Rattle.std.proofs.Common.{◌≡◌, [], ◌∷◌, ◌∙◌, length, Err, refl, sym, ap, arith, subst}
+use Rattle.std.proofs.Common.{◌∙◌, length, refl, sym, ap, arith, subst}
 use Rattle.std.specs.Prelude.{Result}
 use Rattle.spool_answers.specs.declared.fault.TakeFault.{TakeFault}
 use Rattle.spool_log.specs.State.{view}
