@@ -1,3 +1,4 @@
 pub mod Ended
 pub mod MoveRun
 pub mod Leave
+pub mod Calls

@@ -4,10 +4,12 @@
 #![tactic(auto)]
 
 mod ended;
+mod law;
 mod moved;
 mod opening;
 mod refused;
 mod top;
 
+pub use law::each_call_is_a_run;
 pub use moved::Moved;
 pub use top::bridge_move;
