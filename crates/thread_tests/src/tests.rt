@@ -1,35 +1,12 @@
-<<<<<<< HEAD
-//! All that holds of callers that share a desk, in turn and in threads.
-use crate::turns::{answers, crowd, joint, pair, threads};
-=======
 //! All that holds of callers that share a desk, in turn and in threads: where each take is stored by itself, and where takes of several may
 //! be stored as one group.
-use crate::turns::{answers, pair, threads};
->>>>>>> e2dd5394a708eb1af8781ab2ec996c9ed57b0e9a
+use crate::turns::{answers, crowd, joint, pair, threads};
 use crate::workers::{rows, serving};
 use std::alloc::Global;
 use std::process::Abort;
 use std::sync::Wait;
 use std::thread::Threads;
 
-<<<<<<< HEAD
-#[test]
-fn threads_share_desks(rt: HostRuntime) {
-    let alloc = rt.alloc();
-    for group in [false, true] {
-        for row in &answers::ROWS {
-            pair::check(&rt, alloc, row, group);
-        }
-        for (seats, counts) in threads::ROWS {
-            assert!(rt;
-                threads::have_taken(&rt, alloc, seats, group, counts),
-                "{seats} passes, group {group}"
-            );
-        }
-        for case in &rows::CASES {
-            serving::check(&rt, alloc, case, group);
-        }
-=======
 fn share_desks(rt: &(impl Abort + Threads + Wait + Sync), alloc: Global, group: bool) {
     for row in &answers::ROWS {
         pair::check(rt, alloc, row, group);
@@ -42,19 +19,10 @@ fn share_desks(rt: &(impl Abort + Threads + Wait + Sync), alloc: Global, group: 
     }
     for case in &rows::CASES {
         serving::check(rt, alloc, case, group);
->>>>>>> e2dd5394a708eb1af8781ab2ec996c9ed57b0e9a
     }
 }
 
 #[test]
-<<<<<<< HEAD
-fn takes_are_stored_together(rt: HostRuntime) {
-    let alloc = rt.alloc();
-    for row in &joint::ROWS {
-        joint::check(&rt, alloc, row);
-    }
-    crowd::check(&rt, alloc);
-=======
 fn threads_share_desks(rt: HostRuntime) {
     share_desks(&rt, rt.alloc(), false);
 }
@@ -62,5 +30,17 @@ fn threads_share_desks(rt: HostRuntime) {
 #[test]
 fn threads_share_desks_in_groups(rt: HostRuntime) {
     share_desks(&rt, rt.alloc(), true);
->>>>>>> e2dd5394a708eb1af8781ab2ec996c9ed57b0e9a
+}
+
+#[test]
+fn takes_are_stored_together(rt: HostRuntime) {
+    let alloc = rt.alloc();
+    for row in &joint::ROWS {
+        joint::check(&rt, alloc, row);
+    }
+}
+
+#[test]
+fn crowd_is_told_where_its_entries_stand(rt: HostRuntime) {
+    crowd::check(&rt, rt.alloc());
 }

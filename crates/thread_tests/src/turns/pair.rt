@@ -185,12 +185,5 @@ pub(crate) fn check(rt: &(impl Abort + Wait), alloc: Global, row: &Row, group: b
     let failing = calls_to_open(rt, alloc, &bytes).saturating_add(*call);
     let failing = [failing].to_vec(alloc).expect(rt, "memory");
     let said = said(rt, alloc, MemDisk::of(bytes, failing), group, *upto);
-    assert!(rt;
-        said.as_str() == *want,
-<<<<<<< HEAD
-        "call {call}, group {group}: {said}"
-=======
-        "call {call}: {said}"
->>>>>>> e2dd5394a708eb1af8781ab2ec996c9ed57b0e9a
-    );
+    assert!(rt; said.as_str() == *want, "call {call}: {said}");
 }

@@ -212,9 +212,5 @@ pub(crate) fn check(
 ) {
     let (name, .., want) = case;
     let said = outcome(rt, alloc, case, group);
-<<<<<<< HEAD
-    assert!(rt; said.as_str() == *want, "{name}, group {group}: {said}");
-=======
     assert!(rt; said.as_str() == *want, "{name}: {said}");
->>>>>>> e2dd5394a708eb1af8781ab2ec996c9ed57b0e9a
 }
