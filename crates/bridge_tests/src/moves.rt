@@ -8,6 +8,7 @@ use edge_memory::MemDisk;
 use notes::note_text;
 use std::alloc::Global;
 use std::process::Abort;
+use std::str;
 use std::sync::Wait;
 use std::thread::Threads;
 
@@ -22,8 +23,8 @@ struct Devices {
 #[derive(Drop)]
 struct Ending {
     status: u8,
-    text: Vec<u8>,
-    printed: Vec<u8>,
+    text: String,
+    printed: String,
     devices: Devices,
 }
 
@@ -40,6 +41,12 @@ const AFTER: &[u8] = b"0 9223372036854775815 0 0 relp 5\n1 9223372036854775815 1
 
 fn copy(rt: &impl Abort, alloc: Global, bytes: &[u8]) -> Vec<u8> {
     bytes.to_vec(alloc).expect(rt, MEMORY)
+}
+
+// The bytes as a text.
+fn string(rt: &impl Abort, alloc: Global, bytes: &[u8]) -> String {
+    let text = str::from_utf8(bytes).expect(rt, "a text");
+    String::from_str(alloc, text).expect(rt, MEMORY)
 }
 
 // A disk that fails these calls.
@@ -101,8 +108,8 @@ fn made(
     let text = note_text(alloc, &note).expect(rt, MEMORY);
     Ending {
         status,
-        text: copy(rt, alloc, text.bytes()),
-        printed: copy(rt, alloc, output.taken()),
+        text: string(rt, alloc, text.bytes()),
+        printed: string(rt, alloc, output.taken()),
         devices: Devices {
             source: copy(rt, alloc, source.bytes()),
             target: copy(rt, alloc, target.bytes()),
@@ -135,12 +142,12 @@ fn is_same(one: &Devices, other: &Devices) -> bool {
 fn both_are_moved<R: Abort + Threads + Wait + Sync>(rt: &R, alloc: Global) {
     let all = moved(rt, alloc, "move t 7", &two(rt, alloc));
     assert!(rt; all.status == 0 && all.text.is_empty());
-    assert!(rt; all.printed.as_slice() == b"2 moved, 0 left\n");
+    assert!(rt; all.printed.as_str() == "2 moved, 0 left\n");
     assert!(rt; lists(rt, alloc, &all.devices.source, b""));
     assert!(rt; lists(rt, alloc, &all.devices.target, AFTER));
     for words in ["move t 7", "move t 8"] {
         let none = moved(rt, alloc, words, &all.devices);
-        assert!(rt; none.status == 0 && none.printed.as_slice() == b"0 moved, 0 left\n");
+        assert!(rt; none.status == 0 && none.printed.as_str() == "0 moved, 0 left\n");
         assert!(rt; is_same(&none.devices, &all.devices));
     }
 }
@@ -153,10 +160,10 @@ fn another_is_refused<R: Abort + Threads + Wait + Sync>(rt: &R, alloc: Global) {
         target: all.devices.target,
     };
     let refused = moved(rt, alloc, "move t 7", &devices);
-    assert!(rt; refused.status == 79 && refused.text.as_slice() == b"entry 0 is another");
+    assert!(rt; refused.status == 79 && refused.text.as_str() == "entry 0 is another");
     assert!(rt; refused.printed.is_empty() && is_same(&refused.devices, &devices));
     let taken = moved(rt, alloc, "move t 0", &devices);
-    assert!(rt; taken.status == 0 && taken.printed.as_slice() == b"1 moved, 0 left\n");
+    assert!(rt; taken.status == 0 && taken.printed.as_str() == "1 moved, 0 left\n");
 }
 
 // A target that has room for one of two.
@@ -174,7 +181,7 @@ fn a_full_target_ends_it<R: Abort + Threads + Wait + Sync>(rt: &R, alloc: Global
     };
     let full = moved(rt, alloc, "move t 0", &devices);
     assert!(rt; full.status == 67);
-    assert!(rt; full.text.as_slice() == b"spool full: 2041 needed, 2040 free");
+    assert!(rt; full.text.as_str() == "spool full: 2041 needed, 2040 free");
     assert!(rt; full.printed.is_empty());
     assert!(rt;
         lists(
@@ -235,7 +242,7 @@ fn no_spools_are_refused<R: Abort + Threads + Wait + Sync>(rt: &R, alloc: Global
         };
         let refused = moved(rt, alloc, "move t 7", &devices);
         assert!(rt;
-            refused.status == 65 && refused.text.as_slice() == text.as_bytes(),
+            refused.status == 65 && refused.text.as_str() == text,
             "{text}"
         );
         assert!(rt; refused.printed.is_empty() && is_same(&refused.devices, &devices));
@@ -248,7 +255,7 @@ fn the_line_may_fail<R: Abort + Threads + Wait + Sync>(rt: &R, alloc: Global) {
     let source = failing(rt, alloc, &devices.source, &[]);
     let target = failing(rt, alloc, &devices.target, &[]);
     let ending = made(rt, alloc, "move t 7", source, target, &[0]);
-    assert!(rt; ending.status == 72 && ending.text.as_slice() == b"write fault");
+    assert!(rt; ending.status == 72 && ending.text.as_str() == "write fault");
     assert!(rt; lists(rt, alloc, &ending.devices.source, b""));
     assert!(rt; lists(rt, alloc, &ending.devices.target, AFTER));
 }
@@ -260,7 +267,7 @@ fn failed_once<R: Abort + Threads + Wait + Sync>(
     devices: &Devices,
     source_calls: &[u64],
     target_calls: &[u64],
-) -> (Ending, Vec<u8>) {
+) -> (Ending, String) {
     let source = failing(rt, alloc, &devices.source, source_calls);
     let target = failing(rt, alloc, &devices.target, target_calls);
     let first = made(rt, alloc, "move t 7", source, target, &[]);
@@ -283,12 +290,12 @@ fn each_call_fails<R: Abort + Threads + Wait + Sync>(rt: &R, alloc: Global) {
                 continue;
             }
             failures = failures.saturating_add(1);
-            assert!(rt; first.status == 73 && first.text.as_slice() == b"disk fault");
+            assert!(rt; first.status == 73 && first.text.as_str() == "disk fault");
             assert!(rt; first.printed.is_empty());
             if lists(rt, alloc, &first.devices.source, BEFORE)
                 && lists(rt, alloc, &first.devices.target, AFTER)
             {
-                assert!(rt; printed.as_slice() == b"0 moved, 0 left\n");
+                assert!(rt; printed.as_str() == "0 moved, 0 left\n");
                 in_both = in_both.saturating_add(1);
             }
         }
