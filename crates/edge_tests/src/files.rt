@@ -170,6 +170,7 @@ fn a_held_part_that_has_no_room_is_a_fault(rt: &impl Abort, host: &HostRuntime, 
     assert!(rt; is_written);
     fs::write(host, path, front(rt, &text, 65_536)).expect(rt, "shorten");
     let mut buf = [0; 4];
+    assert!(rt; beside.disk.len() == SIZE as u64);
     assert!(rt; beside.disk.read_at(0, &mut buf).is_err() && beside.disk.sync().is_err());
     assert!(rt; !beside.write(rt, 65_537, b"a") && !beside.write(rt, 9, b"b"));
     assert!(rt; holds(rt, host, path, front(rt, &text, 65_536)));
