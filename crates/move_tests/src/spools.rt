@@ -1,6 +1,8 @@
 //! Spools on disks in memory, made, moved and looked at.
+ghost use Rattle.event_form.specs.Entry.{IsEntry};
+
 use edge_memory::MemDisk;
-use event_form::{Blob, Entry, Event, Origin};
+use event_form::{Blob, Entry, Event, MOST_TEXT, Origin};
 use known_numbers::Stretch;
 use spool_log::{Opening, Spool, format};
 use spool_move::{MoveFault, move_pending};
@@ -26,26 +28,25 @@ pub(crate) fn opened(rt: &impl Abort, alloc: Global, disk: MemDisk) -> Spool<Mem
 }
 
 /// An entry as a sender's session makes it: the first connection of run 1, with this index.
-fn entry(rt: &impl Abort, alloc: Global, index: u64, text: &[u8]) -> Entry {
+fn entry(rt: &impl Abort, alloc: Global, index: u64, text: &[u8]) -> Entry
+    ensures { IsEntry result }
+{
+    let text = copied(rt, alloc, text);
+    if text.len() > MOST_TEXT {
+        panic!(rt; "no such entry");
+    }
     Entry {
         conn: 4_294_967_296,
         index,
         unit: 2,
         event: Event {
             origin: Origin::Relp,
-            text: Blob::of(copied(rt, alloc, text)),
+            text: Blob::of(text),
         },
     }
 }
 
-/// Takes the entry as a group of its own.
-pub(crate) fn take(rt: &impl Abort, spool: &mut Spool<MemDisk>, entry: Entry) {
-    let len = entry.event.text.bytes().len();
-    assert!(rt; len <= 131_072);
-    spool.take(&[entry]).ok().expect(rt, "a taken entry");
-}
-
-/// Takes events with these texts, one after another.
+/// Takes events with these texts, each as a group of its own.
 pub(crate) fn take_texts(
     rt: &impl Abort,
     alloc: Global,
@@ -53,7 +54,8 @@ pub(crate) fn take_texts(
     texts: &[&[u8]],
 ) {
     for (index, text) in texts.iter().enumerate() {
-        take(rt, spool, entry(rt, alloc, index as u64, text));
+        let entry = entry(rt, alloc, index as u64, text);
+        spool.take(&[entry]).ok().expect(rt, "a taken entry");
     }
 }
 
