@@ -154,10 +154,10 @@ fn both_are_moved<R: Abort + Threads + Wait + Sync>(rt: &R, alloc: Global) {
 
 // An entry of the tag that is another one; under another tag it is moved.
 fn another_is_refused<R: Abort + Threads + Wait + Sync>(rt: &R, alloc: Global) {
-    let all = moved(rt, alloc, "move t 7", &two(rt, alloc));
+    let Ending { devices, .. } = moved(rt, alloc, "move t 7", &two(rt, alloc));
     let devices = Devices {
         source: stored(rt, alloc, &formatted(rt, alloc), OTHER),
-        target: all.devices.target,
+        target: devices.target,
     };
     let refused = moved(rt, alloc, "move t 7", &devices);
     assert!(rt; refused.status == 79 && refused.text.as_str() == "entry 0 is another");
@@ -229,7 +229,9 @@ fn no_spools_are_refused<R: Abort + Threads + Wait + Sync>(rt: &R, alloc: Global
     let good = formatted(rt, alloc);
     let zeros = vec![in alloc; 0; 20_480].expect(rt, MEMORY);
     let mut slotless = copy(rt, alloc, &good);
-    slotless[12_288] = 0;
+    if let Some(gate) = slotless.get_mut(12_288) {
+        *gate = 0;
+    }
     for (source, target, text) in [
         (&zeros, &good, "not a spool at 0"),
         (&good, &zeros, "not a spool at 0"),
