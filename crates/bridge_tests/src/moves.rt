@@ -224,33 +224,6 @@ fn words_are_refused<R: Abort + Threads + Wait + Sync>(rt: &R, alloc: Global) {
     assert!(rt; left.disk.bytes() == devices.source.as_slice());
 }
 
-// Devices that are no spools: the source's place is told before the target's.
-fn no_spools_are_refused<R: Abort + Threads + Wait + Sync>(rt: &R, alloc: Global) {
-    let good = formatted(rt, alloc);
-    let zeros = vec![in alloc; 0; 20_480].expect(rt, MEMORY);
-    let mut slotless = copy(rt, alloc, &good);
-    if let Some(gate) = slotless.get_mut(12_288) {
-        *gate = 0;
-    }
-    for (source, target, text) in [
-        (&zeros, &good, "not a spool at 0"),
-        (&good, &zeros, "not a spool at 0"),
-        (&zeros, &slotless, "not a spool at 0"),
-        (&slotless, &zeros, "not a spool at 12288"),
-    ] {
-        let devices = Devices {
-            source: copy(rt, alloc, source),
-            target: copy(rt, alloc, target),
-        };
-        let refused = moved(rt, alloc, "move t 7", &devices);
-        assert!(rt;
-            refused.status == 65 && refused.text.as_str() == text,
-            "{text}"
-        );
-        assert!(rt; refused.printed.is_empty() && is_same(&refused.devices, &devices));
-    }
-}
-
 // A line that isn't written: the entries are moved all the same.
 fn the_line_may_fail<R: Abort + Threads + Wait + Sync>(rt: &R, alloc: Global) {
     let devices = two(rt, alloc);
@@ -311,7 +284,6 @@ pub(crate) fn entries_move<R: Abort + Threads + Wait + Sync>(rt: &R, alloc: Glob
     another_is_refused(rt, alloc);
     a_full_target_ends_it(rt, alloc);
     words_are_refused(rt, alloc);
-    no_spools_are_refused(rt, alloc);
     the_line_may_fail(rt, alloc);
     each_call_fails(rt, alloc);
 }
