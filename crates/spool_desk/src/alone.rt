@@ -96,6 +96,7 @@ impl<D: Disk> Alone<D> {
         ensures made { (part : Part) (parts : List Part) → joined (part ∷ parts) ≡ entries.now → ArePartsOf (part ∷ parts)
             → RunsTo D.tells (alone_at self.old) (joint_of result (D.moment self.new.desk.spool.disk).clock (standing_in self.old.desk.spool.memory) (part ∷ parts)) (alone_at self.new) }
         ensures only { IfErr result (λ fault. fault ≡ TakeFault.DiskFault) }
+        ensures ids { self.new.desk.ids ≡ self.old.desk.ids }
     {
         let all = entries;
         self.desk.spool.take(all)
@@ -177,6 +178,7 @@ impl<D: Disk> Access for Alone<D> {
     ghost use Rattle.spool_answers.specs.Pend.{AreNumbered};
     ghost use Rattle.desk_access.specs.Call.{Call, takes, pends, confirms, marks, counts, issues, settles, forgets, asks, Record, listed};
     ghost use Rattle.desk_access.specs.Desk.{DeskState, Goes};
+    ghost use Rattle.spool_desk.specs.Standing.{standing_in};
     ghost use Rattle.spool_desk.specs.Alone.{alone_at, Makes, Ran, RunsTo, HasSeen};
     ghost use Rattle.spool_desk.specs.Runs.{ran_none, ran_then, seen_then, seen_law};
 
@@ -209,6 +211,7 @@ impl<D: Disk> Access for Alone<D> {
         ensures ran { Ran D.tells (alone_at self.old) [] (alone_at self.new) }
         ensures runs { RunsTo D.tells (alone_at self.old) [] (alone_at self.new) }
         ensures known { self.new.end_told ≡ result }
+        ensures least { (standing_in self.new.desk.spool.memory).end ≤ result }
         ensures limit { result ≤ 2 ^ 63 }
         ensures same { (self.new.desk ≡ self.old.desk) × (self.new.met ≡ self.old.met) × (self.new.cursor_told ≡ self.old.cursor_told) }
         ensures exact { (x : DeskState) (journal : List Record) → HasSeen D.tells x journal (alone_at self.old)
@@ -225,6 +228,7 @@ impl<D: Disk> Access for Alone<D> {
         ensures ran { Ran D.tells (alone_at self.old) [] (alone_at self.new) }
         ensures runs { RunsTo D.tells (alone_at self.old) [] (alone_at self.new) }
         ensures known { self.new.cursor_told ≡ result }
+        ensures least { (standing_in self.new.desk.spool.memory).cursor ≤ result }
         ensures same { (self.new.desk ≡ self.old.desk) × (self.new.met ≡ self.old.met) × (self.new.end_told ≡ self.old.end_told) }
         ensures exact { (x : DeskState) (journal : List Record) → HasSeen D.tells x journal (alone_at self.old)
             → (y : DeskState) × Goes x journal y × (result ≡ y.spool.cursor) }
@@ -241,6 +245,7 @@ impl<D: Disk> Access for Alone<D> {
 
         ensures ran { Ran D.tells (alone_at self.old) (takes entries.now result ∷ []) (alone_at self.new) }
         ensures makes { Makes D.tells (alone_at self.old) (takes entries.now result) (alone_at self.new) }
+        ensures ids { self.new.desk.ids ≡ self.old.desk.ids }
         ensures receipt { IfOk result (λ receipt. (receipt.count ≡ length entries.now) × (receipt.first + receipt.count ≤ 2 ^ 63)) }
         ensures before { self.old.desk.spool.doubt ≡ false → IfErr result (RefusedBy self.old.desk.spool.memory entries.now) }
     {
@@ -279,6 +284,7 @@ impl<D: Disk> Access for Alone<D> {
 
         ensures ran { Ran D.tells (alone_at self.old) (pends from most (listed result) ∷ []) (alone_at self.new) }
         ensures makes { Makes D.tells (alone_at self.old) (pends from most (listed result)) (alone_at self.new) }
+        ensures ids { self.new.desk.ids ≡ self.old.desk.ids }
         ensures few { IfOk result (λ given. length given.items ≤ most) }
         ensures numbered { IfOk result (λ given. AreNumbered 0 (2 ^ 63) given.items) }
     {
@@ -294,6 +300,7 @@ impl<D: Disk> Access for Alone<D> {
 
         ensures ran { Ran D.tells (alone_at self.old) (confirms upto result ∷ []) (alone_at self.new) }
         ensures makes { Makes D.tells (alone_at self.old) (confirms upto result) (alone_at self.new) }
+        ensures ids { self.new.desk.ids ≡ self.old.desk.ids }
     {
         self.mend()?;
         let upto = upto.min(self.desk.spool.end());
@@ -306,6 +313,7 @@ impl<D: Disk> Access for Alone<D> {
 
         ensures ran { Ran D.tells (alone_at self.old) (marks known.now result ∷ []) (alone_at self.new) }
         ensures makes { Makes D.tells (alone_at self.old) (marks known.now result) (alone_at self.new) }
+        ensures ids { self.new.desk.ids ≡ self.old.desk.ids }
     {
         self.mend()?;
         // On a disk that doesn't read as it was written, mending may find an end below one that was answered.
@@ -318,6 +326,7 @@ impl<D: Disk> Access for Alone<D> {
     fn known_count(&mut self) -> u64
         ensures ran { Ran D.tells (alone_at self.old) (counts result ∷ []) (alone_at self.new) }
         ensures makes { Makes D.tells (alone_at self.old) (counts result) (alone_at self.new) }
+        ensures ids { self.new.desk.ids ≡ self.old.desk.ids }
     {
         self.met = Some(self.standing());
         count_known(self.desk.spool.known())

@@ -123,6 +123,37 @@ module _ (tells : Type 0) (start : DeskState → Type 0) (run seats : ℕ) (bega
       (subst (λ (x : Me ℕ View). Replays tells start run began (known_of (pass_in x.0)).seen new × Met run (seats - 1) [] (known_of (pass_in x.0)).seen) (sym (pass_is it is))
       (after, met_after))
 
+-- A call is entered so, in one step: me is the locked seat before it, m the view of the pass that calls; old, mid and new are the desk before
+-- the call, after it, and once the words are written.
+module _ (tells : Type 0) (start : DeskState → Type 0) (run seats : ℕ) (began : Beginning) (me : Me ℕ View) (old mid new : AloneView) (m : PassView) (call : Call)
+    (turn : IsTurn seats me old) (replays : Replays tells start run began (facts_in me.0).log old) (legal : Met run (seats - 1) [] (facts_in me.0).log) (may : May run (seats - 1) m.number m.own call)
+    (knew : Knows (facts_in me.0) m)
+    (made : Makes tells old call mid) (told : RunsTo tells mid [] new) (same : record_of call new ≡ record_of call mid) (exact : IsExact tells new) (lawful : tells → IsLawful new.spool.moment) where
+  renewed : (it : Me ℕ View) → it ≡ pass_of (after_call (published new (facts_in me.0)) m (record_of call mid)) → it ≡ pass_of (after_call (published new (facts_in me.0)) m (record_of call new))
+  renewed it is = is ∙ ap (λ (r : Record). pass_of (after_call (published new (facts_in me.0)) m r)) (sym same)
+
+  pub turn_entered : (it : Me ℕ View) → it ≡ locked_of (with_record (published new (facts_in me.0)) (made_by m.number (record_of call mid))) → Locks tells start run seats began it new
+  turn_entered it is =
+      turn_after tells start run seats began me (calling_of (facts_in me.0) m) (calling_of (published new (facts_in me.0)) m) old mid new m call turn replays legal may refl knew made told same exact refl lawful it
+      (is ∙ ap (λ (r : Record). locked_of (with_record (published new (facts_in me.0)) (made_by m.number r))) (sym same))
+
+  pub pass_entered : (it : Me ℕ View) → it ≡ pass_of (after_call (published new (facts_in me.0)) m (record_of call mid))
+      → IsPass it × Sound start (pass_in it.0) × ((pass_in it.0).number ≡ m.number) × ((pass_in it.0).out ≡ m.out)
+  pass_entered it is =
+      pass_after tells start run seats began me (calling_of (facts_in me.0) m) (calling_of (published new (facts_in me.0)) m) old mid new m call turn replays legal may refl knew made told same exact refl lawful it
+      (renewed it is)
+
+  pub calls_entered : (v : Known) (it : Me ℕ View) → known_of m ≡ v → it ≡ pass_of (after_call (published new (facts_in me.0)) m (record_of call mid)) → Calls start run seats v call (known_of (pass_in it.0))
+  calls_entered v it was is =
+      calls_after tells start run seats began me (calling_of (facts_in me.0) m) (calling_of (published new (facts_in me.0)) m) old mid new m call turn replays legal may refl knew made told same exact refl lawful v
+      it was (renewed it is)
+
+  pub real_entered : (it : Me ℕ View) → it ≡ pass_of (after_call (published new (facts_in me.0)) m (record_of call mid))
+      → Replays tells start run began (pass_in it.0).seen new × Met run (seats - 1) [] (pass_in it.0).seen
+  real_entered it is =
+      real_after tells start run seats began me (calling_of (facts_in me.0) m) (calling_of (published new (facts_in me.0)) m) old mid new m call turn replays legal may refl knew made told same exact refl lawful
+      (known_of (pass_in it.0)) it refl (renewed it is)
+
 -- one pass more
 pub fresh-more : (number count end_known cursor_known : ℕ) → fresh number (count + 1) end_known cursor_known ≡ fresh number count end_known cursor_known ++ known (number + count) [] [] end_known cursor_known ∷ []
 fresh-more number zero end_known cursor_known = ap (λ (j : ℕ). known j [] [] end_known cursor_known ∷ []) (omega arith)

@@ -1,22 +1,19 @@
 -- A journal that goes on by a call of one caller.
 use Rattle.std.proofs.Common.{◌≡◌, inl, inr, ℕ, ◌+◌, ◌≤◌, ◌==◌, Bool, true, cond, List, [], ◌∷◌, ◌++◌, refl, sym, ◌∙◌, ap, subst, arith}
-use Rattle.std.specs.Prelude.{Option, false}
+use Rattle.std.specs.Prelude.{false}
 use Rattle.std.proofs.lemmas.Grind.{common_steps}
 use Rattle.foundation.specs.Faults.{Rose}
-use Rattle.spool_state.specs.SpoolState.{end}
 use Rattle.edge_disk.specs.Disk.{Moment, IsLawful, LeavesOnly}
 use Rattle.edge_disk.proofs.Moments.{started, both, weaker}
 use Rattle.spool_log.specs.State.{View, IsIn}
-use Rattle.hec_ids.specs.Table.{Table}
-use Rattle.desk_access.specs.declared.standing.Standing.{Standing}
 use Rattle.desk_access.specs.Call.{Record, NoneJoins, own_of, failures_in, failures_of, failed_as, failed_of}
 use Rattle.desk_access.specs.Desk.{DeskState, Goes, StandsWithin, Stood}
-use Rattle.spool_desk.specs.Alone.{AloneView, alone_view, IsAt, LeadsFrom, RunsTo, HasSeen}
+use Rattle.spool_desk.specs.Alone.{AloneView, IsAt, LeadsFrom, RunsTo}
 use Rattle.desk_access.specs.Journal.{goes_then, own_then, failures_then, failed_then, rose_then, stood_first, stood_later, stood_here}
 use Rattle.desk_access.specs.Since.{EachSince, since_none, since_one, since_then}
 use Rattle.spool_turns.specs.Rules.{made_by}
 use Rattle.spool_turns.specs.Passes.{Beginning}
-use Rattle.spool_turns.specs.Replays.{BeganAt, Begins, LeadsBy, Replays, IsExact}
+use Rattle.spool_turns.specs.Replays.{BeganAt, Begins, LeadsBy, Replays}
 
 -- ---- the same calls, by another caller
 
@@ -137,48 +134,14 @@ module _ (tells : Type 0) (start : DeskState → Type 0) (run : ℕ) (began : Be
     each = λ number. each_more number log (made_by n one ∷ []) (h.each number) (own_failures number (made_by n one) alone);
   }
 
--- ---- the words of the end and the cursor
-
--- what the desk answered is that of each state that it may be in
-pub exact_end : (tells : Type 0) (v : AloneView) (n : ℕ) → ((x : DeskState) (journal : List Record) → HasSeen tells x journal v → (y : DeskState) × Goes x journal y × (end y.spool ≤ n)) → (x : DeskState) → tells → IsAt x v → end x.spool ≤ n
-exact_end tells v n seen x told at =
-    let h = seen x [] (record { told = told; rules = at.rules; found = x; goes = refl; here = at }) in
-    subst (λ (y : DeskState). end y.spool ≤ n) h.1 h.2
-
-pub exact_cursor : (tells : Type 0) (v : AloneView) (n : ℕ) → ((x : DeskState) (journal : List Record) → HasSeen tells x journal v → (y : DeskState) × Goes x journal y × (y.spool.cursor ≤ n)) → (x : DeskState) → tells → IsAt x v → x.spool.cursor ≤ n
-exact_cursor tells v n seen x told at =
-    let h = seen x [] (record { told = told; rules = at.rules; found = x; goes = refl; here = at }) in
-    subst (λ (y : DeskState). y.spool.cursor ≤ n) h.1 h.2
-
--- a state that the desk is in, seen by one who was told less
-at_less : (x : DeskState) (spool : View) (ids : Table) (met : Option Standing) (e e' k k' : ℕ) → e ≤ e' → k ≤ k' → IsAt x (alone_view spool ids met e' k') → IsAt x (alone_view spool ids met e k)
-at_less x spool ids met e e' k k' less less' at = record {
-  rules = at.rules;
-  spool = at.spool;
-  ids = at.ids;
-  end_known = omega (arith, at.end_known, less);
-  cursor_known = omega (arith, at.cursor_known, less');
-}
-
--- The desk a was asked for its end, and then, as b, for its cursor; c is the desk after both.
-pub exact_both : (tells : Type 0) (spool : View) (ids : Table) (met : Option Standing) (e e' k k' : ℕ) (b c : AloneView) → b ≡ alone_view spool ids met e' k → c ≡ alone_view spool ids met e' k' → e ≤ e' → k ≤ k'
-    → ((x : DeskState) → tells → IsAt x (alone_view spool ids met e k) → end x.spool ≤ e') → ((x : DeskState) → tells → IsAt x b → x.spool.cursor ≤ k') → IsExact tells c
-exact_both tells spool ids met e e' k k' b c is_b is_c less less' first second = subst (IsExact tells) (sym is_c) whole
-  where
-    whole : IsExact tells (alone_view spool ids met e' k')
-    whole x told at = (
-      first x told (at_less x spool ids met e e' k k' less less' at),
-      second x told (subst (IsAt x) (sym is_b) (at_less x spool ids met e' e' k k' (omega arith) less' at)),
-    )
-
--- what is known of the desk when its words are given up
-pub replays_less : (tells : Type 0) (start : DeskState → Type 0) (run : ℕ) (began : Beginning) (log : List Record) (v w : AloneView) → w.spool ≡ v.spool → w.ids ≡ v.ids → w.end_known ≡ 0 → w.cursor_known ≡ 0 → Replays tells start run began log v → Replays tells start run began log w
-replays_less tells start run began log v w spool ids no_end no_cursor h = record {
+-- what is known of a desk that was told less, whatever its last call met
+pub replays_told : (tells : Type 0) (start : DeskState → Type 0) (run : ℕ) (began : Beginning) (log : List Record) (v w : AloneView) → w.spool ≡ v.spool → w.ids ≡ v.ids → w.end_known ≤ v.end_known → w.cursor_known ≤ v.cursor_known → Replays tells start run began log v → Replays tells start run began log w
+replays_told tells start run began log v w spool ids end_is cursor_is h = record {
   begins = h.begins;
   leads = λ x s. let p = h.leads x s in record {
     after = p.after;
     goes = p.goes;
-    reached = record { rules = p.reached.rules; spool = subst (IsIn p.after.spool p.after.doubt) (sym spool) p.reached.spool; ids = p.reached.ids ∙ sym ids; end_known = omega (arith, no_end); cursor_known = omega (arith, no_cursor) };
+    reached = record { rules = p.reached.rules; spool = subst (IsIn p.after.spool p.after.doubt) (sym spool) p.reached.spool; ids = p.reached.ids ∙ sym ids; end_known = omega (arith, end_is, p.reached.end_known); cursor_known = omega (arith, cursor_is, p.reached.cursor_known) };
     any_moment = subst (λ (s : View). LeavesOnly (Stood x log) began.moment s.moment) (sym spool) p.any_moment;
     since = subst (λ (s : View). EachSince x log p.after s.moment) (sym spool) p.since;
   };

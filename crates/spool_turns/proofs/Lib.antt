@@ -14,3 +14,8 @@ pub mod Entering
 pub mod EnteringAll
 pub mod Grouping
 pub mod AnsweredAlone
+pub mod KeepsTwins
+pub mod OtherIds
+pub mod Kept
+pub mod Stored
+pub mod NewPass

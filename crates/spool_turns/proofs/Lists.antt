@@ -34,7 +34,7 @@ together_tail unit x xs [] [] [] is p q r = absurd (cc is)
 
 legal_tail : (x : Entry) (xs : List Entry) → AreLegal (x ∷ xs) → AreLegal xs
 legal_tail x xs h = record {
-  indexes = λ conn. next_tail conn x xs (h.indexes conn);
+  indexes = λ conn small. next_tail conn x xs (h.indexes conn small);
   units = λ unit large. let u = h.units unit large in together_tail unit x xs u.before u.those u.after u.parts u.none_before u.all u.none_after;
 }
 
@@ -72,7 +72,7 @@ together_groups unit (group ∷ groups) (inr h) = record {
   none_after = others_all unit groups h.1;
 }
 
-together_first : (unit : ℕ) (xs more : List Entry) → AreOfOthers unit xs → AreTogether unit more → AreTogether unit (xs ++ more)
+pub together_first : (unit : ℕ) (xs more : List Entry) → AreOfOthers unit xs → AreTogether unit more → AreTogether unit (xs ++ more)
 together_first unit xs more none h = record {
   before = xs ++ h.before;
   those = h.those;
@@ -83,7 +83,7 @@ together_first unit xs more none h = record {
   none_after = h.none_after;
 }
 
-together_last : (unit : ℕ) (xs more : List Entry) → AreTogether unit xs → AreOfOthers unit more → AreTogether unit (xs ++ more)
+pub together_last : (unit : ℕ) (xs more : List Entry) → AreTogether unit xs → AreOfOthers unit more → AreTogether unit (xs ++ more)
 together_last unit xs more h none = record {
   before = h.before;
   those = h.those;
@@ -104,15 +104,18 @@ not_earlier run n unit new large (inl plain) same = omega (arith, plain, same, l
 not_earlier run n unit new large (inr old) same = omega (arith, old, same, new)
 
 module _ (run : ℕ) (xs : List Entry) (groups : List (List Entry)) (legal : AreLegal xs) (earlier : AreEarlier run xs) (added : IsLegal run groups) where
-  whole_indexes : (conn : ℕ) → (first : ℕ) × AreNext conn first (of_conn conn (xs ++ all_of groups))
-  whole_indexes conn = elim (cases_lt conn (run * 2 ^ 32)) [
+  whole_indexes : (conn : ℕ) → conn < 2 ^ 63 → (first : ℕ) × AreNext conn first (of_conn conn (xs ++ all_of groups))
+  whole_indexes conn small = elim (cases_lt conn (run * 2 ^ 32)) [
     | inl old ↦
         let none = conn_none conn (all_of groups) (λ k d lt same. omega (arith, (added.conns k d lt).0, same, old)) in
         let is = conn_both conn xs (all_of groups) ∙ ap (λ (l : List Entry). of_conn conn xs ++ l) none ∙ append-nil (of_conn conn xs) in
-        let was = legal.indexes conn in
+        let was = legal.indexes conn small in
         (was.0, subst (AreNext conn was.0) (sym is) was.1)
     | inr new ↦
-        let none = conn_none conn xs (λ k d lt same. omega (arith, earlier.conns k d lt, same, new)) in
+        let none = conn_none conn xs (λ k d lt same. elim (earlier.conns k d lt) [
+          | inl old ↦ omega (arith, old, same, new)
+          | inr moved ↦ omega (arith, moved, same, small)
+        ]) in
         let is = conn_both conn xs (all_of groups) ∙ ap (λ (l : List Entry). l ++ of_conn conn (all_of groups)) none in
         (0, subst (AreNext conn 0) (sym is) (added.indexes conn))
   ]

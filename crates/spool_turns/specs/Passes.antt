@@ -20,9 +20,17 @@ pub record Beginning : Type 1 where
 abbrev pub begun : Moment → Bool → Beginning
 begun moment grouped = record { moment = moment; grouped = grouped }
 
+-- the tables of a desk: that of the seats that know the journal, and that of the two seats that know where the spool is
+pub record Tables : Type 0 where
+  pub seats : TableId
+  pub twins : TableId
+
 -- the name of no table, a moment of no disk, and a desk that was given at none
-abbrev pub no_table : TableId
-no_table = record { words = 0; slots = 0; views_name = 0; atom = 0; block = 0; offset = 0; slot_names = [] }
+abbrev no_id : TableId
+no_id = record { words = 0; slots = 0; views_name = 0; atom = 0; block = 0; offset = 0; slot_names = [] }
+
+abbrev pub no_table : Tables
+no_table = record { seats = no_id; twins = no_id }
 
 abbrev pub no_moment : Moment
 no_moment = record { size = 0; reads = []; image = λ c. ⊥; clock = 0; image_since = λ t c. ⊥; faults = 0 }

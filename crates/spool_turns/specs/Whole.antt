@@ -21,14 +21,15 @@ pub record AreTogether (unit : ℕ) (entries : List Entry) : Type 0 where
   pub none_after : AreOfOthers unit after
 
 -- A list of which the first entries may be gone: each connection's indexes rise by one from the first that stands there,
--- and the entries of an id stand together.
+-- and the entries of an id stand together. The numbers from 2^63 on are no connection's: entries that were moved into the spool have
+-- them, and of the indexes of these nothing is said.
 pub record AreLegal (entries : List Entry) : Type 0 where
-  pub indexes : (conn : ℕ) → (first : ℕ) × AreNext conn first (of_conn conn entries)
+  pub indexes : (conn : ℕ) → conn < 2 ^ 63 → (first : ℕ) × AreNext conn first (of_conn conn entries)
   pub units : (unit : ℕ) → 2 ^ 32 ≤ unit → AreTogether unit entries
 
--- the entries have connections and ids of earlier runs
+-- the entries have connections and ids of earlier runs, but for those that were moved into the spool, which have no id
 pub record AreEarlier (run : ℕ) (entries : List Entry) : Type 0 where
-  pub conns : All (λ (entry : Entry). entry.conn < run * 2 ^ 32) entries
+  pub conns : All (λ (entry : Entry). (entry.conn < run * 2 ^ 32) ⊎ (2 ^ 63 ≤ entry.conn)) entries
   pub units : All (λ (entry : Entry). IsPlain entry ⊎ (entry.unit < run * 2 ^ 32)) entries
 
 -- the list that a desk has, and each that mending may find, is legal and of earlier runs

@@ -4,11 +4,10 @@ ghost use Rattle.std.specs.Vec.{vec_len, vec_capacity};
 ghost use Rattle.event_form.specs.Entry.{IsEntry};
 ghost use Rattle.spool_desk.specs.Fitting.{FitsInRoom};
 
-use crate::joint::{answer_group, gather};
+use crate::joint::gather;
 use crate::letter::{Answer, Letter};
 use crate::naming::Naming;
-use crate::rule::Steps;
-use crate::steps::{add_record, admit, publish};
+use crate::shared::Shared;
 use crate::turn::Turn;
 use desk_access::Access;
 use edge_disk::Disk;
@@ -16,6 +15,7 @@ use event_form::Entry;
 use spool_answers::{Receipt, TakeFault};
 use spool_desk::Alone;
 use std::marker::{Brand, PhantomData};
+use std::sync::Wait;
 
 // How many of the entries are taken alone: all of them, or where a front is allowed those that have room.
 fn count_of<D: Disk>(alone: &Alone<D>, entries: &[Entry], front: bool) -> usize
@@ -36,8 +36,7 @@ fn count_of<D: Disk>(alone: &Alone<D>, entries: &[Entry], front: bool) -> usize
 
 impl<D: Disk, J: Naming> Turn<D, J> {
     /// Takes what a pass handed in, or a front of it where that is allowed, and answers its letter.
-    fn answer(&mut self, steps: &Steps, letter: Letter<J>) -> Answer<D, J>
-        requires table { (steps.now.table_id ≡ J.table) × (steps.now.table_id.words ≡ 4) }
+    fn answer<R: Wait>(&mut self, rt: &R, desk: &Shared<D, J>, letter: Letter<J>) -> Answer<D, J>
         ensures { result ≡ letter }
     {
         let Letter {
@@ -50,16 +49,18 @@ impl<D: Disk, J: Naming> Turn<D, J> {
         let all: &[Entry] = &entries;
         let count = count_of(&self.alone, all, front);
         let taken = &all[..count];
-        admit(steps, &mut self.locked, &mut seat);
         let answer = self.alone.take(taken);
-        publish(steps, &mut self.locked, &mut self.alone);
-        let seat = add_record::<Brand, D, &[Entry], Result<Receipt, TakeFault>>(
-            steps,
-            &mut self.locked,
-            &self.alone,
-            &taken,
-            &answer,
-        );
+        desk.journal
+            .lock(rt)
+            .enter::<Brand, &[Entry], Result<Receipt, TakeFault>>(
+                &desk.table.shared,
+                &desk.twins.shared,
+                &mut self.alone,
+                &mut self.twin,
+                &mut seat,
+                &taken,
+                &answer,
+            );
         Answer {
             seat,
             number,
@@ -72,13 +73,13 @@ impl<D: Disk, J: Naming> Turn<D, J> {
     }
 
     // Answers the last letters: those whose entries have room as one group together, or else the last one.
-    fn answer_last(
+    fn answer_last<R: Wait>(
         &mut self,
-        steps: &Steps,
+        rt: &R,
+        desk: &Shared<D, J>,
         letters: &mut Vec<Letter<J>>,
         answers: &mut Vec<Answer<D, J>>,
     )
-        requires table { (steps.now.table_id ≡ J.table) × (steps.now.table_id.words ≡ 4) }
         requires grouped { J.began.grouped ≡ true }
         requires some { 0 < vec_len letters.old }
         requires room { vec_len answers.old + vec_len letters.old ≤ vec_capacity answers.old }
@@ -90,22 +91,32 @@ impl<D: Disk, J: Naming> Turn<D, J> {
     {
         let Some(group) = gather(&self.alone, letters) else {
             let letter = letters.take_last();
-            let answer = self.answer(steps, letter);
+            let answer = self.answer(rt, desk, letter);
             answers.push_reserved(answer);
             return;
         };
-        answer_group(steps, &mut self.locked, &mut self.alone, group, answers);
+        let (before, answer) = group.store(&mut self.alone);
+        desk.journal.lock(rt).answer_group(
+            &desk.table.shared,
+            &desk.twins.shared,
+            &mut self.alone,
+            &mut self.twin,
+            before,
+            answer,
+            group,
+            answers,
+        );
     }
 
     /// Stores what the letters bring, and answers them in their order. Letters whose entries have room together are stored as one group,
     /// in one change of the disk.
-    pub(crate) fn answer_all(
+    pub(crate) fn answer_all<R: Wait>(
         &mut self,
-        steps: &Steps,
+        rt: &R,
+        desk: &Shared<D, J>,
         letters: &mut Vec<Letter<J>>,
         answers: &mut Vec<Answer<D, J>>,
     )
-        requires table { (steps.now.table_id ≡ J.table) × (steps.now.table_id.words ≡ 4) }
         requires grouped { J.began.grouped ≡ true }
         requires room { vec_len answers.old + vec_len letters.old ≤ vec_capacity answers.old }
 
@@ -115,7 +126,7 @@ impl<D: Disk, J: Naming> Turn<D, J> {
     {
         letters.reverse();
         while !letters.is_empty() {
-            self.answer_last(steps, letters, answers);
+            self.answer_last(rt, desk, letters, answers);
         }
     }
 }

@@ -22,6 +22,6 @@ impl<J: Naming> Model for Away<J> {
 
     ghost view = { λ a. sent_of a.seat.me.0 };
 
-    ghost invariant = { λ a. (a.seat.table_id ≡ J.table) × IsClaim a.seat.me × (number_in a.seat.me.0 ≡ a.number) × (a.number < J.seats)
+    ghost invariant = { λ a. (a.seat.table_id ≡ J.table.seats) × IsClaim a.seat.me × (number_in a.seat.me.0 ≡ a.number) × (a.number < J.seats)
         × ((handed_in a.seat.me.0).front ≡ false) × (J.began.grouped ≡ true) };
 }

@@ -27,7 +27,7 @@ pub(crate) fn send<J: Naming>(
     entries: Vec<Entry>,
     front: bool,
 ) -> Letter<J>
-    requires tables { (seat.old.table_id ≡ steps.now.table_id) × (steps.now.table_id ≡ J.table) × (steps.now.table_id.words ≡ 4) }
+    requires tables { (seat.old.table_id ≡ steps.now.table_id) × (steps.now.table_id ≡ J.table.seats) × (steps.now.table_id.words ≡ 4) }
     requires pass { IsPass seat.old.me × ((pass_in seat.old.me.0).out ≡ None) }
     requires number { ((pass_in seat.old.me.0).number ≡ number) × (number < J.seats) }
     requires some { 0 < length entries.items }
@@ -57,7 +57,7 @@ pub(crate) fn collect<D: Disk, J: Naming>(
     seat: &mut PassSeat,
     answer: Answer<D, J>,
 ) -> Front
-    requires tables { (seat.old.table_id ≡ steps.now.table_id) × (steps.now.table_id ≡ J.table) × (steps.now.table_id.words ≡ 4) }
+    requires tables { (seat.old.table_id ≡ steps.now.table_id) × (steps.now.table_id ≡ J.table.seats) × (steps.now.table_id.words ≡ 4) }
     requires claim { IsClaim seat.old.me }
     requires number { answer ≡ number_in seat.old.me.0 }
 

@@ -1,5 +1,5 @@
 //! A letter whose entries stand in a group of several letters.
-ghost use Rattle.std.specs.Prelude.{◌≡◌, ◌+◌, ◌-◌, ◌^◌, ◌<◌, ◌≤◌, List, [], ◌∷◌, ◌++◌, length, All, IfOk, IfErr};
+ghost use Rattle.std.specs.Prelude.{◌≡◌, ◌+◌, ◌-◌, ◌^◌, ◌<◌, ◌≤◌, List, [], ◌∷◌, ◌++◌, length, None, All, IfOk, IfErr};
 ghost use Rattle.std.specs.Vec.{vec_capacity};
 ghost use Rattle.std.specs.Vec.Iter.{into_iter_items};
 ghost use Rattle.event_form.specs.declared.event.Entry.{Entry};
@@ -11,7 +11,8 @@ ghost use Rattle.desk_access.specs.Desk.{DeskState};
 ghost use Rattle.desk_access.specs.Legal.{Met};
 ghost use Rattle.spool_turns.specs.Rules.{made_by, after_call, with_record};
 ghost use Rattle.spool_turns.specs.Passes.{LeadsAbove, AllJoin, IsTurn, IsLocked, locked_of, facts_in};
-ghost use Rattle.spool_turns.specs.Replays.{Replays, IsExact};
+ghost use Rattle.spool_turns.specs.Replays.{Replays};
+ghost use Rattle.spool_turns.specs.Stands.{with_ids, IsTold};
 ghost use Rattle.spool_turns.specs.Joining.{entries_out, joint_record};
 
 use crate::letter::{Answer, Letter};
@@ -21,6 +22,7 @@ use crate::steps::{add_record, admit, see_all};
 use desk_access::Standing;
 use edge_disk::Disk;
 use event_form::Entry;
+use hec_ids::Ids;
 use spool_answers::{Receipt, TakeFault};
 use spool_desk::Alone;
 use spool_slots::group_need;
@@ -61,7 +63,7 @@ impl<J: Naming> Model for Joined<J> {
 
     ghost view = { λ l. pass_in l.seat.me.0 };
 
-    ghost invariant = { λ l. (l.seat.table_id ≡ J.table) × IsJoined J.run J.seats l.number l.count (vec_capacity l.place) l.front l.seat.me
+    ghost invariant = { λ l. (l.seat.table_id ≡ J.table.seats) × IsJoined J.run J.seats l.number l.count (vec_capacity l.place) l.front l.seat.me
         × (l.place.items ≡ []) };
 }
 
@@ -146,7 +148,7 @@ impl<D: Disk, J: Naming> Model for Entered<D, J> {
 
     ghost view = { λ l. pass_in l.seat.me.0 };
 
-    ghost invariant = { λ l. (l.seat.table_id ≡ J.table)
+    ghost invariant = { λ l. (l.seat.table_id ≡ J.table.seats)
         × IsEntered J.start J.run J.seats l.number l.count (vec_capacity l.place) l.answer l.seat.me
         × (l.place.items ≡ []) };
 }
@@ -163,7 +165,7 @@ pub(crate) fn enter<D: Disk, J: Naming>(
     answer: Result<Receipt, TakeFault>,
     letter: Joined<J>,
 ) -> Entered<D, J>
-    requires tables { (locked.old.table_id ≡ J.table) × (steps.now.table_id ≡ J.table) × (steps.now.table_id.words ≡ 4) }
+    requires tables { (locked.old.table_id ≡ J.table.seats) × (steps.now.table_id ≡ J.table.seats) × (steps.now.table_id.words ≡ 4) }
     requires view { IsLocked locked.old.me }
     requires met { Met J.run (J.seats - 1) [] (facts_in locked.old.me.0).log }
     requires part { part.now ≡ entries_out letter.out }
@@ -173,7 +175,7 @@ pub(crate) fn enter<D: Disk, J: Naming>(
         ++ made_by letter.number (joint_record before (D.moment alone.now.desk.spool.disk).clock first.now part.now answer) ∷ [])
         (facts_in locked.old.me.0).end (facts_in locked.old.me.0).cursor }
 
-    ensures table { locked.new.table_id ≡ J.table }
+    ensures table { locked.new.table_id ≡ J.table.seats }
     ensures locked { locked.new.me ≡ locked_of (with_record (facts_in locked.old.me.0)
         (made_by letter.number (joint_record before (D.moment alone.now.desk.spool.disk).clock first.now part.now answer))) }
     ensures met { Met J.run (J.seats - 1) [] (facts_in locked.new.me.0).log }
@@ -189,13 +191,12 @@ pub(crate) fn enter<D: Disk, J: Naming>(
         ..
     } = letter;
     admit(steps, locked, &mut seat);
-    let seat = add_record::<Brand, D, (Standing, &[Entry], &[Entry]), Result<Receipt, TakeFault>>(
-        steps,
-        locked,
-        alone,
-        &(before, first, part),
-        &answer,
-    );
+    let seat = add_record::<
+        Brand,
+        Alone<D>,
+        (Standing, &[Entry], &[Entry]),
+        Result<Receipt, TakeFault>,
+    >(steps, locked, alone, &(before, first, part), &answer);
     Entered {
         seat,
         number,
@@ -225,19 +226,20 @@ fn bring_back(group: &mut IntoIter<Entry>, place: &mut Vec<Entry>, count: usize)
 }
 
 /// Answers a letter whose take was entered: its pass sees the whole journal, which led to where the desk is, and its entries come back
-/// from the front of the group. The desk is for the proof alone.
+/// from the front of the group. The desk and its ids are for the proof alone.
 pub(crate) fn catch_up<D: Disk, J: Naming>(
     steps: &Steps,
     locked: &mut PassSeat,
     _alone: &Alone<D>,
+    _ids: &Ids,
     letter: Entered<D, J>,
     group: &mut IntoIter<Entry>,
 ) -> Answer<D, J>
-    requires tables { (locked.old.table_id ≡ J.table) × (steps.now.table_id ≡ J.table) × (steps.now.table_id.words ≡ 4) }
-    requires turn { IsTurn J.seats locked.old.me (alone_at _alone.now) }
-    requires replays { Replays D.tells J.start J.run J.began (facts_in locked.old.me.0).log (alone_at _alone.now) }
+    requires tables { (locked.old.table_id ≡ J.table.seats) × (steps.now.table_id ≡ J.table.seats) × (steps.now.table_id.words ≡ 4) }
+    requires turn { IsTurn J.seats locked.old.me (with_ids _ids.now None (alone_at _alone.now)) }
+    requires replays { Replays D.tells J.start J.run J.began (facts_in locked.old.me.0).log (with_ids _ids.now None (alone_at _alone.now)) }
     requires met { Met J.run (J.seats - 1) [] (facts_in locked.old.me.0).log }
-    requires exact { IsExact D.tells (alone_at _alone.now) }
+    requires told { IsTold (alone_at _alone.now) }
     requires joins { (behind : List Record) → letter.seen ++ behind ≡ (facts_in locked.old.me.0).log → AllJoin behind }
     requires entries { (rest : List Entry) × (into_iter_items group.old ≡ entries_out letter.out ++ rest) }
 

@@ -4,23 +4,29 @@ ghost use Rattle.std.specs.Vec.{vec_len, vec_capacity};
 ghost use Rattle.event_form.specs.declared.event.Entry.{Entry};
 ghost use Rattle.spool_state.specs.Segment.{entries_text};
 ghost use Rattle.spool_log.specs.Memory.{room_of, most_of, end_of};
-ghost use Rattle.spool_desk.specs.Alone.{alone_at};
+ghost use Rattle.spool_desk.specs.Alone.{alone_at, RunsTo};
+ghost use Rattle.spool_desk.specs.Standing.{standing_in};
 ghost use Rattle.spool_desk.specs.Fitting.{FitsInRoom};
-ghost use Rattle.desk_access.specs.JointRecords.{joined, ArePartsOf};
+ghost use Rattle.desk_access.specs.JointRecords.{Part, joined, ArePartsOf, joint_of};
 ghost use Rattle.desk_access.specs.Legal.{Met};
 ghost use Rattle.spool_turns.specs.Rules.{facts};
 ghost use Rattle.spool_turns.specs.Passes.{IsTurn, IsLocked, locked_of, facts_in};
-ghost use Rattle.spool_turns.specs.Replays.{Replays, IsExact};
+ghost use Rattle.spool_turns.specs.Replays.{Replays};
+ghost use Rattle.spool_turns.specs.Twins.{of_spool};
+ghost use Rattle.spool_turns.specs.Stands.{with_ids, IsTold, AreMade, IsStoredAll};
 ghost use Rattle.spool_turns.specs.Joining.{parts_of, numbers_of, AreRising, AreBehind, AreJoint, part_answer, records_behind, LeadOn};
 
 use crate::joining::{Entered, Joined, Room, catch_up, enter, join};
+use crate::journal::Journal;
 use crate::letter::{Answer, Letter};
 use crate::naming::Naming;
 use crate::rule::{PassSeat, Steps};
 use crate::steps::write_words;
+use crate::twin::{TwinSeat, TwinSteps, apart, meet};
 use desk_access::Standing;
 use edge_disk::Disk;
 use event_form::Entry;
+use hec_ids::Ids;
 use spool_answers::{Receipt, TakeFault};
 use spool_desk::Alone;
 
@@ -161,7 +167,7 @@ fn enter_all<D: Disk, J: Naming>(
     group: &[Entry],
     entered: &mut Vec<Entered<D, J>>,
 )
-    requires tables { (locked.old.table_id ≡ J.table) × (steps.now.table_id ≡ J.table) × (steps.now.table_id.words ≡ 4) }
+    requires tables { (locked.old.table_id ≡ J.table.seats) × (steps.now.table_id ≡ J.table.seats) × (steps.now.table_id.words ≡ 4) }
     requires view { IsLocked locked.old.me }
     requires met { Met J.run (J.seats - 1) [] (facts_in locked.old.me.0).log }
     requires group { group.now ≡ joined (parts_of letters.items) }
@@ -170,7 +176,7 @@ fn enter_all<D: Disk, J: Naming>(
         (records_behind stored before (D.moment alone.now.desk.spool.disk).clock [] (parts_of letters.items)) }
     requires room { (entered.old.items ≡ []) × (vec_len letters ≤ vec_capacity entered.old) }
 
-    ensures table { locked.new.table_id ≡ J.table }
+    ensures table { locked.new.table_id ≡ J.table.seats }
     ensures locked { locked.new.me ≡ locked_of (facts (facts_in locked.old.me.0).made
         ((facts_in locked.old.me.0).log ++ records_behind stored before (D.moment alone.now.desk.spool.disk).clock [] (parts_of letters.items))
         (facts_in locked.old.me.0).end (facts_in locked.old.me.0).cursor) }
@@ -191,20 +197,44 @@ fn enter_all<D: Disk, J: Naming>(
     }
 }
 
-// Answers letters whose takes were entered, and the words tell where the desk is. The desk is for the proof alone.
+impl<D: Disk, J: Naming> Group<D, J> {
+    /// Stores the entries, in one change of the disk. The numbers of the spool before that come with the answer.
+    pub(crate) fn store(&self, alone: &mut Alone<D>) -> (Standing, Result<Receipt, TakeFault>)
+        requires some { 0 < length self.now.letters.items }
+        requires parts { ArePartsOf (parts_of self.now.letters.items) }
+        requires entries { self.now.entries.items ≡ joined (parts_of self.now.letters.items) }
+        requires few { length self.now.entries.items < 2 ^ 32 }
+        requires fits { FitsInRoom alone.old.desk.spool.doubt alone.old.desk.spool.memory self.now.entries.items }
+
+        ensures standing { result.0 ≡ standing_in alone.old.desk.spool.memory }
+        ensures made { (part : Part) (parts : List Part) → joined (part ∷ parts) ≡ self.now.entries.items → ArePartsOf (part ∷ parts)
+            → RunsTo D.tells (alone_at alone.old) (joint_of result.1 (D.moment alone.new.desk.spool.disk).clock result.0 (part ∷ parts)) (alone_at alone.new) }
+        ensures only { IfErr result.1 (λ fault. fault ≡ TakeFault.DiskFault) }
+        ensures numbers { result.0.end + length self.now.entries.items ≤ 2 ^ 63 }
+        ensures ids { alone.new.desk.ids ≡ alone.old.desk.ids }
+    {
+        let before = alone.standing();
+        let all: &[Entry] = &self.entries;
+        let result = alone.take_jointly(all);
+        (before, result)
+    }
+}
+
+// Answers letters whose takes were entered, and the words tell where the desk is. The desk and its ids are for the proof alone.
 fn answer_entered<D: Disk, J: Naming>(
     steps: &Steps,
     locked: &mut PassSeat,
     alone: &Alone<D>,
+    ids: &Ids,
     letters: Vec<Entered<D, J>>,
     group: Vec<Entry>,
     answers: &mut Vec<Answer<D, J>>,
 )
-    requires tables { (locked.old.table_id ≡ J.table) × (steps.now.table_id ≡ J.table) × (steps.now.table_id.words ≡ 4) }
-    requires turn { IsTurn J.seats locked.old.me (alone_at alone.now) }
-    requires replays { Replays D.tells J.start J.run J.began (facts_in locked.old.me.0).log (alone_at alone.now) }
+    requires tables { (locked.old.table_id ≡ J.table.seats) × (steps.now.table_id ≡ J.table.seats) × (steps.now.table_id.words ≡ 4) }
+    requires turn { IsTurn J.seats locked.old.me (with_ids ids.now None (alone_at alone.now)) }
+    requires replays { Replays D.tells J.start J.run J.began (facts_in locked.old.me.0).log (with_ids ids.now None (alone_at alone.now)) }
     requires met { Met J.run (J.seats - 1) [] (facts_in locked.old.me.0).log }
-    requires exact { IsExact D.tells (alone_at alone.now) }
+    requires told { IsTold (alone_at alone.now) }
     requires joins { AreJoint (facts_in locked.old.me.0).log letters.items }
     requires group { group.items ≡ joined (parts_of letters.items) }
     requires room { vec_len answers.old + vec_len letters ≤ vec_capacity answers.old }
@@ -216,36 +246,39 @@ fn answer_entered<D: Disk, J: Naming>(
     let mut group = group.into_iter();
     let mut left = letters.into_iter();
     while let Some(letter) = left.next() {
-        let answer = catch_up(steps, locked, alone, letter, &mut group);
+        let answer = catch_up(steps, locked, alone, ids, letter, &mut group);
         answers.push_reserved(answer);
     }
 }
 
-/// Stores what the letters bring as one group, in one change of the disk, and puts an answer for each.
-pub(crate) fn answer_group<D: Disk, J: Naming>(
+// Enters the takes of letters that were stored as one group where the numbers `before` stood, or in which the disk failed, and puts an
+// answer for each. The ids are for the proof alone.
+fn enter_group<D: Disk, J: Naming>(
     steps: &Steps,
     locked: &mut PassSeat,
     alone: &mut Alone<D>,
+    ids: &Ids,
+    before: Standing,
+    answer: Result<Receipt, TakeFault>,
     group: Group<D, J>,
     answers: &mut Vec<Answer<D, J>>,
 )
-    requires tables { (locked.old.table_id ≡ J.table) × (steps.now.table_id ≡ J.table) × (steps.now.table_id.words ≡ 4) }
+    requires tables { (locked.old.table_id ≡ J.table.seats) × (steps.now.table_id ≡ J.table.seats) × (steps.now.table_id.words ≡ 4) }
     requires grouped { J.began.grouped ≡ true }
-    requires turn { IsTurn J.seats locked.old.me (alone_at alone.old) }
-    requires replays { Replays D.tells J.start J.run J.began (facts_in locked.old.me.0).log (alone_at alone.old) }
-    requires met { Met J.run (J.seats - 1) [] (facts_in locked.old.me.0).log }
+    requires stored { IsStoredAll ⟦<D as Disk>⟧ J.start J.run J.seats J.began ids.now locked.old.me group.entries.items before answer alone.old }
+    requires numbers { before.end + length group.entries.items ≤ 2 ^ 63 }
     requires some { 0 < length group.letters.items }
     requires parts { ArePartsOf (parts_of group.letters.items) × AreRising 0 (parts_of group.letters.items) }
     requires entries { group.entries.items ≡ joined (parts_of group.letters.items) }
-    requires few { length group.entries.items < 2 ^ 32 }
-    requires fits { FitsInRoom alone.old.desk.spool.doubt alone.old.desk.spool.memory group.entries.items }
     requires room { (group.entered.items ≡ []) × (vec_len group.letters ≤ vec_capacity group.entered)
         × (vec_len answers.old + vec_len group.letters ≤ vec_capacity answers.old) }
 
-    ensures table { locked.new.table_id ≡ J.table }
-    ensures turn { IsTurn J.seats locked.new.me (alone_at alone.new) }
-    ensures replays { Replays D.tells J.start J.run J.began (facts_in locked.new.me.0).log (alone_at alone.new) }
+    ensures table { locked.new.table_id ≡ J.table.seats }
+    ensures turn { IsTurn J.seats locked.new.me (with_ids ids.now None (alone_at alone.new)) }
+    ensures replays { Replays D.tells J.start J.run J.began (facts_in locked.new.me.0).log (with_ids ids.now None (alone_at alone.new)) }
     ensures met { Met J.run (J.seats - 1) [] (facts_in locked.new.me.0).log }
+    ensures told { IsTold (alone_at alone.new) }
+    ensures ids { alone.new.desk.ids ≡ alone.old.desk.ids }
     ensures answers { answers.new.items ≡ answers.old.items ++ numbers_of group.letters.items }
     ensures capacity { vec_capacity answers.new ≡ vec_capacity answers.old }
 {
@@ -254,9 +287,8 @@ pub(crate) fn answer_group<D: Disk, J: Naming>(
         entries,
         mut entered,
     } = group;
-    let before = alone.standing();
+    let stored = answer.is_ok();
     let all: &[Entry] = &entries;
-    let stored = alone.take_jointly(all).is_ok();
     enter_all(
         steps,
         locked,
@@ -268,5 +300,49 @@ pub(crate) fn answer_group<D: Disk, J: Naming>(
         &mut entered,
     );
     write_words(steps, locked, alone);
-    answer_entered(steps, locked, alone, entered, entries, answers);
+    answer_entered(steps, locked, alone, ids, entered, entries, answers);
+}
+
+impl<D: Disk, J: Naming> Journal<D, J> {
+    /// Enters the takes of letters that were stored as one group, and puts an answer for each.
+    pub(crate) fn answer_group(
+        &mut self,
+        steps: &Steps,
+        twins: &TwinSteps<D>,
+        alone: &mut Alone<D>,
+        twin: &mut TwinSeat<D>,
+        before: Standing,
+        answer: Result<Receipt, TakeFault>,
+        group: Group<D, J>,
+        answers: &mut Vec<Answer<D, J>>,
+    )
+        requires tables { (steps.now.table_id ≡ J.table.seats) × (steps.now.table_id.words ≡ 4) × (twins.now.table_id ≡ J.table.twins) × (0 < twins.now.table_id.words) }
+        requires seat { twin.old.table_id ≡ J.table.twins }
+        requires grouped { J.began.grouped ≡ true }
+        requires made { AreMade ⟦<D as Disk>⟧ group.entries.items before answer twin.old.me alone.old }
+        requires numbers { before.end + length group.entries.items ≤ 2 ^ 63 }
+        requires some { 0 < length group.letters.items }
+        requires parts { ArePartsOf (parts_of group.letters.items) × AreRising 0 (parts_of group.letters.items) }
+        requires entries { group.entries.items ≡ joined (parts_of group.letters.items) }
+        requires room { (group.entered.items ≡ []) × (vec_len group.letters ≤ vec_capacity group.entered)
+            × (vec_len answers.old + vec_len group.letters ≤ vec_capacity answers.old) }
+
+        ensures seat { twin.new.table_id ≡ J.table.twins }
+        ensures twin { twin.new.me ≡ of_spool alone.new }
+        ensures answers { answers.new.items ≡ answers.old.items ++ numbers_of group.letters.items }
+        ensures capacity { vec_capacity answers.new ≡ vec_capacity answers.old }
+    {
+        meet(twins, &mut self.twin, twin);
+        enter_group(
+            steps,
+            &mut self.locked,
+            alone,
+            &self.ids,
+            before,
+            answer,
+            group,
+            answers,
+        );
+        *twin = apart(twins, &mut self.twin, alone);
+    }
 }

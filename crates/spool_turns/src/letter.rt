@@ -24,7 +24,7 @@ impl<J: Naming> Model for Letter<J> {
 
     ghost view = { λ l. l.number };
 
-    ghost invariant = { λ l. (l.seat.table_id ≡ J.table) × IsLetter J.run J.seats l.number l.entries.items l.front l.seat.me };
+    ghost invariant = { λ l. (l.seat.table_id ≡ J.table.seats) × IsLetter J.run J.seats l.number l.entries.items l.front l.seat.me };
 }
 
 /// What comes back: the seat, the entries, how many of them were to be taken, and the answer of that take.
@@ -47,6 +47,6 @@ impl<D: Disk, J: Naming> Model for Answer<D, J> {
 
     ghost view = { λ a. a.number };
 
-    ghost invariant = { λ a. (a.seat.table_id ≡ J.table)
+    ghost invariant = { λ a. (a.seat.table_id ≡ J.table.seats)
         × IsAnswered ⟦<D as Disk>⟧ J.start J.run J.seats J.began a.number a.entries.items a.count a.answer a.seat.me };
 }

@@ -21,11 +21,13 @@
 
 mod answering;
 mod away;
+mod calling;
 mod copies;
 mod going;
 mod hall;
 mod joining;
 mod joint;
+mod journal;
 mod laws;
 mod letter;
 mod naming;
@@ -35,6 +37,7 @@ mod seated;
 mod shared;
 mod steps;
 mod turn;
+mod twin;
 mod unnamed;
 mod view;
 

@@ -1,17 +1,16 @@
 //! The name of a shared desk.
 use std::marker::Brand;
 
-/// Which desk is meant: its table of seats, how many passes it has, the run of its spool, the states in which it may
+/// Which desk is meant: its tables of seats, how many passes it has, the run of its spool, the states in which it may
 /// have been given, the moment of its disk then, and whether takes of several callers may be stored as one group. Nothing of it stands in memory. A program picks it where it passes
 /// [`std::marker::Brand`] to a function that is generic in it and makes the desk.
 pub trait Naming {
     ghost use Rattle.std.specs.Prelude.{ℕ};
-    ghost use Rattle.atomic_table.specs.Seated.{TableId};
-    ghost use Rattle.spool_turns.specs.Passes.{Beginning};
+    ghost use Rattle.spool_turns.specs.Passes.{Tables, Beginning};
     ghost use Rattle.desk_access.specs.Desk.{DeskState};
 
-    /// The table of seats.
-    ghost table: { TableId };
+    /// The tables of seats.
+    ghost table: { Tables };
 
     /// How many passes there are.
     ghost seats: { ℕ };

@@ -28,14 +28,14 @@ impl<J: Naming> Model for Pass<J> {
 
     ghost view = { λ p. known_of (pass_in p.seat.me.0) };
 
-    ghost invariant = { λ p. (p.seat.table_id ≡ J.table) × IsPass p.seat.me × Sound J.start (pass_in p.seat.me.0)
+    ghost invariant = { λ p. (p.seat.table_id ≡ J.table.seats) × IsPass p.seat.me × Sound J.start (pass_in p.seat.me.0)
         × ((pass_in p.seat.me.0).number ≡ p.number) × (p.number < J.seats) × ((pass_in p.seat.me.0).out ≡ None) };
 }
 
 impl<J: Naming> Pass<J> {
     /// The pass has then seen all that the other has seen.
     pub(crate) fn meet(&mut self, steps: &Steps, other: &mut Pass<J>)
-        requires table { (steps.now.table_id ≡ J.table) × (steps.now.table_id.words ≡ 4) }
+        requires table { (steps.now.table_id ≡ J.table.seats) × (steps.now.table_id.words ≡ 4) }
 
         ensures first { IsPrefix self.old.seen self.new.seen }
         ensures second { IsPrefix other.old.seen self.new.seen }
@@ -49,7 +49,7 @@ impl<J: Naming> Pass<J> {
 
     /// Loads the end.
     pub(crate) fn end(&mut self, steps: &Steps) -> u64
-        requires table { (steps.now.table_id ≡ J.table) × (steps.now.table_id.words ≡ 4) }
+        requires table { (steps.now.table_id ≡ J.table.seats) × (steps.now.table_id.words ≡ 4) }
 
         ensures seen { (x : DeskState) → J.start x → LeadsBelow x self.old.seen result self.old.cursor_known }
         ensures loaded { (self.old.end_known ≤ result) × (self.new.end_known ≡ result) }
@@ -62,7 +62,7 @@ impl<J: Naming> Pass<J> {
 
     /// Loads the cursor.
     pub(crate) fn cursor(&mut self, steps: &Steps) -> u64
-        requires table { (steps.now.table_id ≡ J.table) × (steps.now.table_id.words ≡ 4) }
+        requires table { (steps.now.table_id ≡ J.table.seats) × (steps.now.table_id.words ≡ 4) }
 
         ensures seen { (x : DeskState) → J.start x → LeadsBelow x self.old.seen self.old.end_known result }
         ensures loaded { (self.old.cursor_known ≤ result) × (self.new.cursor_known ≡ result) }

@@ -85,6 +85,19 @@ impl Recorded for Brand {
     ghost one = { record { by = 0; call = counts 0; joins = false; met = None; after = record { base = 0; end = 0; cursor = 0; known_count = 0; room = 0 }; clock = 0 } };
 }
 
+/// The call of the spool that is entered. Each call picks it.
+pub trait Called {
+    ghost use Rattle.desk_access.specs.Call.{Call};
+
+    ghost call: { Call };
+}
+
+impl Called for Brand {
+    ghost use Rattle.desk_access.specs.Call.{counts};
+
+    ghost call = { counts 0 };
+}
+
 /// A record of the caller's call is added to the journal.
 pub struct Records<C: Recorded> {
     of: PhantomData<C>,

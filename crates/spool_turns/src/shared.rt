@@ -18,11 +18,13 @@ use crate::away::Away;
 use crate::copies::copies_of;
 use crate::going::{collect, send};
 use crate::hall::{Hall, Tray};
+use crate::journal::Journal;
 use crate::letter::Answer;
 use crate::naming::Naming;
 use crate::pass::Pass;
 use crate::rule::SeatTable;
 use crate::turn::Turn;
+use crate::twin::{TwinTable, free};
 use desk_access::Front;
 use edge_disk::Disk;
 use event_form::Entry;
@@ -36,8 +38,9 @@ use std::sync::{Mutex, Wait};
 /// A desk of many callers, each of which has a pass. Its calls answer as those of [`spool_log::Spool`] and
 /// [`hec_ids::Ids`] do.
 ///
-/// The calls of all passes have one order, their journal. One lock is round the desk, and beside it lies the table of
-/// seats, by which a pass loads the end and the cursor without waiting. The journal takes no memory.
+/// The calls of all passes have one order, their journal, which takes no memory. One lock is round the spool, and is held while the disk is
+/// waited for. Another is round the ids and the journal: it is taken second, and held for moments only. So calls of ids don't wait for the
+/// disk. Beside both lies the table of seats, by which a pass loads the end and the cursor without waiting.
 ///
 /// What callers hand in lies in a hall, which has a lock of its own, until one of those that wait for an answer leads: it stores all that
 /// lies there. Where the desk was opened with `group` each take goes by the hall, so that takes of several callers are stored as one
@@ -45,7 +48,9 @@ use std::sync::{Mutex, Wait};
 #[derive(Drop)]
 pub struct Shared<D: Disk, J: Naming> {
     pub(crate) table: SeatTable,
+    pub(crate) twins: TwinTable<D>,
     pub(crate) turn: Mutex<Turn<D, J>>,
+    pub(crate) journal: Mutex<Journal<D, J>>,
     pub(crate) hall: Hall<D, J>,
     pub(crate) group: bool,
     pub(crate) alloc: Global,
@@ -53,8 +58,11 @@ pub struct Shared<D: Disk, J: Naming> {
     ghost group_is: { group ≡ J.began.grouped },
     ghost run_is: { run ≡ J.run },
     ghost run_of_start: { (x : DeskState) → J.start x → run ≡ x.spool.run },
-    ghost table_is: { table.shared.table_id ≡ J.table },
+    ghost table_is: { table.shared.table_id ≡ J.table.seats },
     ghost words: { table.shared.table_id.words ≡ 4 },
+    ghost twins_are: { twins.shared.table_id ≡ J.table.twins },
+    ghost twin_words: { 0 < twins.shared.table_id.words },
+    ghost twin_slots: { twins.shared.table_id.slots ≡ 0 },
 }
 
 impl<D: Disk, J: Naming> Shared<D, J> {
@@ -84,7 +92,7 @@ impl<D: Disk, J: Naming> Shared<D, J> {
                 return self.exchange(rt, pass, copies, false).answer;
             }
         }
-        self.turn.lock(rt).take(&self.table.shared, pass, entries)
+        self.turn.lock(rt).take(rt, self, pass, entries)
     }
 
     /// Takes a front of the entries as one group: as many as the active slot has room for, and the first one at least. They are of
@@ -108,10 +116,7 @@ impl<D: Disk, J: Naming> Shared<D, J> {
         if self.group {
             return self.exchange(rt, pass, entries, true);
         }
-        let (count, answer) = self
-            .turn
-            .lock(rt)
-            .take_front(&self.table.shared, pass, &entries);
+        let (count, answer) = self.turn.lock(rt).take_front(rt, self, pass, &entries);
         Front {
             entries,
             count,
@@ -217,7 +222,7 @@ impl<D: Disk, J: Naming> Shared<D, J> {
         } = tray;
         let mut turn = self.turn.lock(rt);
         let mut letters = self.hall.letters(rt, letters);
-        turn.answer_all(&self.table.shared, &mut letters, &mut answers);
+        turn.answer_all(rt, self, &mut letters, &mut answers);
         drop(turn);
         self.hall.give_back(rt, letters, answers);
     }
@@ -237,9 +242,7 @@ impl<D: Disk, J: Naming> Shared<D, J> {
         ensures few { IfOk result (λ given. length given.items ≤ most) }
         ensures numbered { IfOk result (λ given. AreNumbered 0 (2 ^ 63) given.items) }
     {
-        self.turn
-            .lock(rt)
-            .pending(&self.table.shared, pass, from, most)
+        self.turn.lock(rt).pending(rt, self, pass, from, most)
     }
 
     /// Makes all numbers below `upto` known as confirmed.
@@ -256,7 +259,7 @@ impl<D: Disk, J: Naming> Shared<D, J> {
         ensures call { Calls J.start J.run J.seats pass.old (confirms upto result) pass.new }
         ensures real { IsReal ⟦<D as Disk>⟧ J.start J.run J.seats J.began pass.new.seen }
     {
-        self.turn.lock(rt).confirm(&self.table.shared, pass, upto)
+        self.turn.lock(rt).confirm(rt, self, pass, upto)
     }
 
     /// Makes the numbers of these stretches known as confirmed, one stretch after another.
@@ -273,7 +276,7 @@ impl<D: Disk, J: Naming> Shared<D, J> {
         ensures call { Calls J.start J.run J.seats pass.old (marks known.now result) pass.new }
         ensures real { IsReal ⟦<D as Disk>⟧ J.start J.run J.seats J.began pass.new.seen }
     {
-        self.turn.lock(rt).mark(&self.table.shared, pass, known)
+        self.turn.lock(rt).mark(rt, self, pass, known)
     }
 
     /// How many numbers above the cursor are known as confirmed.
@@ -281,7 +284,7 @@ impl<D: Disk, J: Naming> Shared<D, J> {
         ensures call { Calls J.start J.run J.seats pass.old (counts result) pass.new }
         ensures real { IsReal ⟦<D as Disk>⟧ J.start J.run J.seats J.began pass.new.seen }
     {
-        self.turn.lock(rt).known_count(&self.table.shared, pass)
+        self.turn.lock(rt).known_count(rt, self, pass)
     }
 
     /// Issues the next id of the run to the channel, which then holds it unsettled.
@@ -294,7 +297,9 @@ impl<D: Disk, J: Naming> Shared<D, J> {
         ensures call { Calls J.start J.run J.seats pass.old (issues channel result) pass.new }
         ensures real { IsReal ⟦<D as Disk>⟧ J.start J.run J.seats J.began pass.new.seen }
     {
-        self.turn.lock(rt).issue(&self.table.shared, pass, channel)
+        self.journal
+            .lock(rt)
+            .issue(&self.table.shared, pass, channel)
     }
 
     /// Settles an id of which this pass took the entries, and says whether the channel held it unsettled.
@@ -304,7 +309,7 @@ impl<D: Disk, J: Naming> Shared<D, J> {
         ensures call { Calls J.start J.run J.seats pass.old (settles channel id result) pass.new }
         ensures real { IsReal ⟦<D as Disk>⟧ J.start J.run J.seats J.began pass.new.seen }
     {
-        self.turn
+        self.journal
             .lock(rt)
             .settle(&self.table.shared, pass, channel, id)
     }
@@ -314,7 +319,7 @@ impl<D: Disk, J: Naming> Shared<D, J> {
         ensures call { Calls J.start J.run J.seats pass.old (forgets channel id result) pass.new }
         ensures real { IsReal ⟦<D as Disk>⟧ J.start J.run J.seats J.began pass.new.seen }
     {
-        self.turn
+        self.journal
             .lock(rt)
             .forget(&self.table.shared, pass, channel, id)
     }
@@ -338,7 +343,7 @@ impl<D: Disk, J: Naming> Shared<D, J> {
         ensures stored { (x : DeskState) → J.start x → (k : ℕ) → k < length ids.now → get_or known.new k false ≡ true
             → (caller : ℕ) × IsStored (own_of caller pass.new.seen) (get_or ids.now k 0) }
     {
-        self.turn
+        self.journal
             .lock(rt)
             .ask(&self.table.shared, pass, channel, ids, known);
     }
@@ -391,7 +396,17 @@ impl<D: Disk, J: Naming> Shared<D, J> {
     pub fn close(self, passes: Vec<Pass<J>>) -> Desk<D>
         ensures { (log : List Record) × Closes D.tells J.start J.run J.seats J.began log passes.items (desk_at result) }
     {
-        let Shared { table, turn, .. } = self;
-        turn.into_inner().close(&table.shared, passes)
+        let Shared {
+            table,
+            twins,
+            turn,
+            journal,
+            ..
+        } = self;
+        let desk = journal
+            .into_inner()
+            .close(&table.shared, &twins.shared, turn.into_inner(), passes);
+        free(twins);
+        desk
     }
 }

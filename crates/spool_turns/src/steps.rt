@@ -8,7 +8,7 @@ ghost use Rattle.spool_turns.specs.Rules.{handed_by, sent_out, back_again};
 ghost use Rattle.spool_turns.specs.Passes.{claim_at, IsClaim, number_in, handed_in};
 ghost use Rattle.spool_turns.specs.Rules.{end_at, cursor_at, caught_up, merged, compared_pass, knowing_end, knowing_cursor};
 ghost use Rattle.spool_turns.specs.Passes.{IsLocked, IsHosting, IsCalling, IsPass, locked_of, hosting_of, calling_of, pass_of, facts_in, hosted_in, caller_in, pass_in};
-ghost use Rattle.spool_turns.specs.Replays.{IsExact};
+ghost use Rattle.spool_turns.specs.Stands.{IsTold};
 
 use crate::rule::{
     Admits, Compares, HandedIn, HandsOver, Learns, LoadsCursor, LoadsEnd, MakesPass, Merges,
@@ -48,6 +48,19 @@ pub(crate) fn admit(steps: &Steps, locked: &mut PassSeat, seat: &mut PassSeat)
     steps.load::<Learns>(locked, 0);
 }
 
+/// What a pass knows is right.
+pub(crate) fn learn(steps: &Steps, locked: &mut PassSeat, seat: &mut PassSeat)
+    requires tables { (locked.old.table_id ≡ steps.now.table_id) × (seat.old.table_id ≡ steps.now.table_id) × (steps.now.table_id.words ≡ 4) }
+    requires views { IsLocked locked.old.me × IsPass seat.old.me }
+
+    ensures same { (locked.new.table_id ≡ locked.old.table_id) × (locked.new.me ≡ locked.old.me) }
+    ensures pass { (seat.new.table_id ≡ seat.old.table_id) × (seat.new.me ≡ seat.old.me) }
+    ensures knew { Knows (facts_in locked.old.me.0) (pass_in seat.old.me.0) }
+{
+    admit(steps, locked, seat);
+    *seat = steps.split_seat::<Admits>(locked);
+}
+
 /// The pass comes under the lock, sees the whole journal and the words as they are, and leaves it.
 pub(crate) fn see_all(steps: &Steps, locked: &mut PassSeat, mut seat: PassSeat) -> PassSeat
     requires tables { (locked.old.table_id ≡ steps.now.table_id) × (seat.table_id ≡ steps.now.table_id) × (steps.now.table_id.words ≡ 4) }
@@ -71,7 +84,8 @@ pub(crate) fn write_words<D: Disk>(steps: &Steps, locked: &mut PassSeat, alone: 
 
     ensures run { RunsTo D.tells (alone_at alone.old) [] (alone_at alone.new) }
     ensures kept { (call : Call) → record_of call (alone_at alone.new) ≡ record_of call (alone_at alone.old) }
-    ensures exact { IsExact D.tells (alone_at alone.new) }
+    ensures told { IsTold (alone_at alone.new) }
+    ensures ids { alone.new.desk.ids ≡ alone.old.desk.ids }
     ensures table { locked.new.table_id ≡ locked.old.table_id }
     ensures locked { locked.new.me
         ≡ hosting_of (cursor_at alone.new.cursor_told (end_at alone.new.end_told (facts_in locked.old.me.0))) (hosted_in locked.old.me.0) }
@@ -90,7 +104,8 @@ pub(crate) fn publish<D: Disk>(steps: &Steps, locked: &mut PassSeat, alone: &mut
 
     ensures run { RunsTo D.tells (alone_at alone.old) [] (alone_at alone.new) }
     ensures kept { (call : Call) → record_of call (alone_at alone.new) ≡ record_of call (alone_at alone.old) }
-    ensures exact { IsExact D.tells (alone_at alone.new) }
+    ensures told { IsTold (alone_at alone.new) }
+    ensures ids { alone.new.desk.ids ≡ alone.old.desk.ids }
     ensures table { locked.new.table_id ≡ locked.old.table_id }
     ensures locked { locked.new.me
         ≡ calling_of (cursor_at alone.new.cursor_told (end_at alone.new.end_told (facts_in locked.old.me.0))) (caller_in locked.old.me.0) }
@@ -100,10 +115,10 @@ pub(crate) fn publish<D: Disk>(steps: &Steps, locked: &mut PassSeat, alone: &mut
 
 /// Adds a record of the call to the journal and to what the caller knows, and lets the caller go. What is passed
 /// beside the seat is for the proof alone.
-pub(crate) fn add_record<C: Recorded, D: Disk, X, Y>(
+pub(crate) fn add_record<C: Recorded, A, X, Y>(
     steps: &Steps,
     locked: &mut PassSeat,
-    _alone: &Alone<D>,
+    _desk: &A,
     _call: &X,
     _answer: &Y,
 ) -> PassSeat

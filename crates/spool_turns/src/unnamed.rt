@@ -1,19 +1,24 @@
 //! A desk that is to be shared.
-ghost use Rattle.std.specs.Prelude.{◌≡◌, [], false, IfOk, IfErr};
+ghost use Rattle.std.specs.Prelude.{◌≡◌, ◌<◌, [], false, IfOk, IfErr};
+ghost use Rattle.hec_ids.specs.Table.{IsSound};
 ghost use Rattle.spool_log.specs.Memory.{run_of};
 ghost use Rattle.spool_desk.specs.Alone.{alone_at};
 ghost use Rattle.spool_turns.specs.Rules.{first_view};
-ghost use Rattle.spool_turns.specs.Replays.{IsExact};
+ghost use Rattle.spool_turns.specs.Twins.{of_both};
+ghost use Rattle.spool_turns.specs.Stands.{IsTold};
 
 use crate::hall::Hall;
+use crate::journal::Journal;
 use crate::naming::Naming;
 use crate::pass::Pass;
 use crate::rule::{PassSeat, SeatTable};
 use crate::shared::Shared;
 use crate::steps::make_pass;
 use crate::turn::Turn;
+use crate::twin::{TwinSeat, TwinTable, apart, free};
 use desk_access::Access;
 use edge_disk::Disk;
+use hec_ids::Ids;
 use spool_desk::{Alone, Desk};
 use std::alloc::Global;
 use std::marker::PhantomData;
@@ -46,14 +51,51 @@ pub struct Unnamed<D: Disk> {
     pub alone: Alone<D>,
     pub(crate) table: SeatTable,
     pub(crate) locked: PassSeat,
+    pub(crate) twins: TwinTable<D>,
+    pub(crate) twin: TwinSeat<D>,
     /// How often the spool was opened for storing.
     pub run: u32,
     pub ghost run_is: { run ≡ run_of alone.desk.spool.memory },
     pub ghost none_held: { alone.desk.ids.held ≡ [] },
+    pub ghost ids_of_run: { alone.desk.ids.run ≡ run },
     pub ghost words: { table.shared.table_id.words ≡ 4 },
     pub ghost seated: { locked.table_id ≡ table.shared.table_id },
     pub ghost first: { locked.me ≡ (first_view (alone.end_told, alone.cursor_told), []) },
-    pub ghost exact: { IsExact D.tells (alone_at alone) },
+    pub ghost twin_words: { 0 < twins.shared.table_id.words },
+    pub ghost twin_slots: { twins.shared.table_id.slots ≡ 0 },
+    pub ghost twin_seated: { twin.table_id ≡ twins.shared.table_id },
+    pub ghost both: { twin.me ≡ of_both alone alone },
+    pub ghost told: { IsTold (alone_at alone) },
+}
+
+// Ids of the run, of which none is held.
+fn unused_ids(alloc: Global, run: u32) -> Ids
+    ensures sound { IsSound result }
+    ensures run { result.run ≡ run }
+{
+    Ids::new(alloc, run, 0)
+}
+
+// The desk with other ids, and its own.
+fn split<D: Disk>(alone: Alone<D>, unused: Ids) -> (Alone<D>, Ids)
+    ensures ids { (result.1 ≡ alone.desk.ids) × (result.0.desk.ids ≡ unused) }
+    ensures same { (result.0.desk.spool ≡ alone.desk.spool) × (result.0.met ≡ alone.met)
+        × (result.0.end_told ≡ alone.end_told) × (result.0.cursor_told ≡ alone.cursor_told) }
+{
+    let Alone {
+        desk: Desk { spool, ids },
+        met,
+        end_told,
+        cursor_told,
+    } = alone;
+    let desk = Desk { spool, ids: unused };
+    let alone = Alone {
+        desk,
+        met,
+        end_told,
+        cursor_told,
+    };
+    (alone, ids)
 }
 
 impl<D: Disk> Unnamed<D> {
@@ -64,7 +106,7 @@ impl<D: Disk> Unnamed<D> {
     ghost use Rattle.spool_turns.specs.Passes.{fresh};
     ghost use Rattle.spool_turns.specs.Named.{IsName};
 
-    /// A table of seats beside the desk. Its spool isn't in doubt, and its ids are of the spool's run and hold none. A
+    /// Tables of seats beside the desk. Its spool isn't in doubt, and its ids are of the spool's run and hold none. A
     /// state that the spool is in is the desk's. The error comes only for want of memory.
     pub fn new(alloc: Global, desk: Desk<D>) -> Result<Unnamed<D>, NoShare<D>>
         requires sure { desk.spool.doubt ≡ false }
@@ -84,11 +126,18 @@ impl<D: Disk> Unnamed<D> {
                 desk: alone.into_desk(),
             });
         };
+        let Ok((twins, twin)) = TwinTable::of_words(alloc, &[0], &alone) else {
+            return Err(NoShare {
+                desk: alone.into_desk(),
+            });
+        };
         let run = alone.desk.spool.run();
         Ok(Unnamed {
             alone,
             table,
             locked,
+            twins,
+            twin,
             run,
         })
     }
@@ -109,22 +158,20 @@ impl<D: Disk> Unnamed<D> {
         ensures passes { IfOk result (λ opened. opened.passes.items ≡ fresh 0 seats self.alone.end_told self.alone.cursor_told) }
         ensures err { IfErr result (λ refused. refused.desk ≡ self.alone.desk) }
     {
+        let Ok(hall) = Hall::new(alloc, seats) else {
+            return Err(self.give_back());
+        };
+        let Ok(mut passes) = Vec::with_capacity(alloc, seats as usize) else {
+            return Err(self.give_back());
+        };
         let Unnamed {
             alone,
             table,
             mut locked,
+            twins,
+            mut twin,
             run,
         } = self;
-        let Ok(hall) = Hall::new(alloc, seats) else {
-            return Err(NoShare {
-                desk: alone.into_desk(),
-            });
-        };
-        let Ok(mut passes) = Vec::with_capacity(alloc, seats as usize) else {
-            return Err(NoShare {
-                desk: alone.into_desk(),
-            });
-        };
         for i in 0..seats {
             let seat = make_pass(&table.shared, &mut locked, u64::from(i));
             passes.push_reserved(Pass {
@@ -133,19 +180,40 @@ impl<D: Disk> Unnamed<D> {
                 of: PhantomData,
             });
         }
+        let (alone, ids) = split(alone, unused_ids(alloc, run));
+        let other = apart(&twins.shared, &mut twin, &alone);
         let turn = Turn {
             alone,
+            twin: other,
+            of: PhantomData,
+        };
+        let journal = Journal {
+            ids,
             locked,
+            twin,
             of: PhantomData,
         };
         let shared = Shared {
             table,
+            twins,
             turn: Mutex::new(turn),
+            journal: Mutex::new(journal),
             hall,
             group,
             alloc,
             run,
         };
         Ok(Opened { shared, passes })
+    }
+
+    // The desk, as it was given.
+    fn give_back(self) -> NoShare<D>
+        ensures { result.desk ≡ self.alone.desk }
+    {
+        let Unnamed { alone, twins, .. } = self;
+        free(twins);
+        NoShare {
+            desk: alone.into_desk(),
+        }
     }
 }

@@ -14,3 +14,15 @@ impl Model for View {
 
     ghost invariant = { λ _. Unit {0} };
 }
+
+/// What a seat of the two that know one desk knows. No value of it is made.
+pub enum Twin<A> {
+    /// Under the lock of the spool: where the last call of the spool left the desk.
+    OfSpool(A),
+    /// The same, under the lock of the journal.
+    OfJournal(A),
+    /// Where the two met: what the one knew, and the other.
+    Both(A, A),
+    /// Nothing.
+    Spent,
+}

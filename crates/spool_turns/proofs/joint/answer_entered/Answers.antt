@@ -1,4 +1,5 @@
 use Rattle.std.proofs.Common.{ℕ, ◌-◌, List, [], ◌∷◌, ◌++◌, refl, sym, ap, ◌∙◌, subst, arith, append_assoc}
+use Rattle.std.specs.Prelude.{None}
 use Rattle.std.specs.Vec.Iter.{into_iter_items}
 use Rattle.std.proofs.lemmas.List.{append-nil, nil_from_length}
 use Rattle.desk_access.specs.JointRecords.{joined}
@@ -8,6 +9,7 @@ use Rattle.spool_turns.specs.Rules.{PassView}
 use Rattle.spool_turns.specs.Passes.{IsTurn, facts_in}
 use Rattle.spool_turns.specs.Replays.{Replays}
 use Rattle.spool_turns.specs.Joining.{parts_of, numbers_of, entries_out, AreJoint}
+use Rattle.spool_turns.specs.Stands.{with_ids}
 use Rattle.spool_turns.proofs.Entering.{same_front}
 use Rattle.spool_turns.proofs.Grouping.{joint_next, joint_here}
 use Rattle.spool_turns.proofs.joint.answer_entered.Goals as goal
@@ -29,11 +31,11 @@ pub catch_up-answer-requires-clause-tables : goal.catch_up-answer-requires-claus
 catch_up-answer-requires-clause-tables g c = (c.loop-letter.invariant.0 ∙ c.requires.tables.0, c.requires.tables.1, c.requires.tables.2)
 
 pub catch_up-answer-requires-clause-turn : goal.catch_up-answer-requires-clause-turn
-catch_up-answer-requires-clause-turn g c = subst (λ x. IsTurn g.J.Naming.seats x (alone_at c.args.alone.now)) (sym c.loop-letter.invariant.1) c.requires.turn
+catch_up-answer-requires-clause-turn g c = subst (λ x. IsTurn g.J.Naming.seats x (with_ids c.args.ids.now None (alone_at c.args.alone.now))) (sym c.loop-letter.invariant.1) c.requires.turn
 
 pub catch_up-answer-requires-clause-replays : goal.catch_up-answer-requires-clause-replays
 catch_up-answer-requires-clause-replays g c =
-    subst (λ x. Replays g.D.Disk.tells g.J.Naming.start g.J.Naming.run g.J.Naming.began (facts_in x.0).log (alone_at c.args.alone.now)) (sym c.loop-letter.invariant.1) c.requires.replays
+    subst (λ x. Replays g.D.Disk.tells g.J.Naming.start g.J.Naming.run g.J.Naming.began (facts_in x.0).log (with_ids c.args.ids.now None (alone_at c.args.alone.now))) (sym c.loop-letter.invariant.1) c.requires.replays
 
 pub catch_up-answer-requires-clause-met : goal.catch_up-answer-requires-clause-met
 catch_up-answer-requires-clause-met g c = subst (λ x. Met g.J.Naming.run (g.J.Naming.seats - 1) [] (facts_in x.0).log) (sym c.loop-letter.invariant.1) c.requires.met

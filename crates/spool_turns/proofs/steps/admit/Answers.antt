@@ -1,5 +1,5 @@
-use Rattle.std.proofs.Common.{ap, ◌∙◌, arith}
-use Rattle.spool_turns.specs.Rules.{admitted}
+use Rattle.std.proofs.Common.{ap, ◌∙◌, subst, arith}
+use Rattle.spool_turns.specs.Rules.{admitted, Learned}
 use Rattle.spool_turns.proofs.KeepsRule.{hands_over_as, admits_as, learns_as}
 use Rattle.spool_turns.proofs.steps.admit.Goals as goal
 
@@ -22,3 +22,22 @@ load-requires c =
     let whole = ap (λ m. m.0) s.4 ∙ ap (λ m. m.0) v.1 in
     let now = j.2 ∙ (λ i. (admitted (ap (λ m. m.0) v.0 i) (whole i), ap (λ m. m.1) v.0 i)) in
     (j.0 ∙ t.0, omega (arith, t.2), learns_as _ _ _ _ _ now)
+
+pub returns-clause-tables : goal.returns-clause-tables
+returns-clause-tables c = (c.load.ensures.0 ∙ c.join_seat.ensures.0, c.split_seat-whole.ensures.0)
+
+pub returns-clause-locked : goal.returns-clause-locked
+returns-clause-locked c =
+    let v = c.requires.views in
+    let s = c.split_seat-whole.ensures in
+    let whole = ap (λ m. m.0) s.4 ∙ ap (λ m. m.0) v.1 in
+    let now = c.join_seat.ensures.2 ∙ (λ i. (admitted (ap (λ m. m.0) v.0 i) (whole i), ap (λ m. m.1) v.0 i)) in
+    c.load.ensures.2.0 ∙ now
+
+pub returns-clause-knew : goal.returns-clause-knew
+returns-clause-knew c =
+    let v = c.requires.views in
+    let s = c.split_seat-whole.ensures in
+    let whole = ap (λ m. m.0) s.4 ∙ ap (λ m. m.0) v.1 in
+    let now = c.join_seat.ensures.2 ∙ (λ i. (admitted (ap (λ m. m.0) v.0 i) (whole i), ap (λ m. m.1) v.0 i)) in
+    (subst (λ m. Learned m.0) now c.load.ensures.2.1).0

@@ -1,12 +1,9 @@
 use Rattle.std.specs.Prelude.{false}
-use Rattle.std.proofs.Common.{[], ◌∙◌, arith}
-use Rattle.spool_log.specs.State.{view}
-use Rattle.spool_desk.specs.Alone.{alone_view}
+use Rattle.std.proofs.Common.{[], ap, ◌∙◌, arith}
 use Rattle.spool_desk.specs.Standing.{standing_in}
 use Rattle.spool_desk.specs.Runs.{runs_then}
 use Rattle.spool_turns.specs.Rules.{with_end}
 use Rattle.spool_turns.proofs.KeepsRule.{writes_end_as, writes_cursor_as}
-use Rattle.spool_turns.proofs.Led.{exact_end, exact_cursor, exact_both}
 use Rattle.spool_turns.proofs.steps.write_words.Goals as goal
 
 pub store-requires : goal.store-requires
@@ -31,16 +28,11 @@ returns-clause-kept g c =
     let m = c.cursor-cursor.ensures.same.1 ∙ c.end-end.ensures.same.1 in
     λ call i. record { by = 0; call = call; joins = false; met = m i; after = standing_in (d i).spool.memory; clock = (g.D.Disk.moment (d i).spool.disk).clock }
 
-pub returns-clause-exact : goal.returns-clause-exact
-returns-clause-exact g c =
+pub returns-clause-told : goal.returns-clause-told
+returns-clause-told g c =
     let e = c.end-end.ensures in
     let k = c.cursor-cursor.ensures in
-    let d = k.same.0 ∙ e.same.0 in
-    let m = k.same.1 ∙ e.same.1 in
-    let a = c.args.alone.now in
-    exact_both g.D.Disk.tells (view a.desk.spool.memory a.desk.spool.doubt (g.D.Disk.moment a.desk.spool.disk)) a.desk.ids a.met a.end_told c.end-end.new.self.end_told a.cursor_told c.cursor-cursor.new.self.cursor_told _ _
-    (λ i. alone_view (view (e.same.0 i).spool.memory (e.same.0 i).spool.doubt (g.D.Disk.moment (e.same.0 i).spool.disk)) (e.same.0 i).ids (e.same.1 i) c.end-end.new.self.end_told (e.same.2 i))
-    (λ i. alone_view (view (d i).spool.memory (d i).spool.doubt (g.D.Disk.moment (d i).spool.disk)) (d i).ids (m i) (k.same.2 i) c.cursor-cursor.new.self.cursor_told)
-    e.runs.end_rises (omega (arith, k.runs.cursor_rises, e.same.2))
-    (λ x told at. omega (arith, e.known, exact_end g.D.Disk.tells _ _ e.seen x told at))
-    (λ x told at. omega (arith, k.known, exact_cursor g.D.Disk.tells _ _ k.seen x told at))
+    (omega (arith, e.least, e.known, k.same.2, ap (λ d. (standing_in d.spool.memory).end) k.same.0), omega (arith, k.least, k.known))
+
+pub returns-clause-ids : goal.returns-clause-ids
+returns-clause-ids g c = ap (λ d. d.ids) (c.cursor-cursor.ensures.same.0 ∙ c.end-end.ensures.same.0)

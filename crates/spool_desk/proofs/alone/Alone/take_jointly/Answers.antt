@@ -1,4 +1,4 @@
-use Rattle.std.proofs.Common.{◌∙◌, sym}
+use Rattle.std.proofs.Common.{◌∙◌, refl, sym}
 use Rattle.spool_log.specs.State.{view}
 use Rattle.spool_desk.specs.Alone.{alone_at}
 use Rattle.spool_desk.proofs.Fits.{disk_alone}
@@ -16,4 +16,5 @@ returns g c =
           (λ x at. fits_known x (alone_at a) part parts c.args.entries.now are at fits.room fits.numbers)
           c.take.ensures.calls c.take.ensures.taken c.requires.few.0;
       only = disk_alone _ _ _ _ fits (c.take.ensures.before fits.sure) c.take.ensures.met c.take.ensures.read_again;
+      ids = refl;
     }

@@ -1,39 +1,27 @@
-use Rattle.std.proofs.Common.{◌∙◌, refl}
-use Rattle.spool_turns.specs.Passes.{known_of, pass_in}
-use Rattle.spool_turns.proofs.Called.{turn_after, pass_after, calls_after, real_after}
+use Rattle.std.proofs.Common.{◌∙◌, subst}
+use Rattle.desk_access.specs.Call.{counts}
+use Rattle.spool_turns.specs.Passes.{Known, Calls, known_of, pass_in}
 use Rattle.spool_turns.proofs.turn.Turn.known_count.Goals as goal
 
-pub invariant_of-self : goal.invariant_of-self
-invariant_of-self g c =
-    let i = c.self.invariant in
-    let h = c.admit.ensures in
-    let p = c.publish.ensures in
-    let e = c.add_record.ensures in
-    let after = turn_after _ _ _ _ _ _ _ _ _ _ _ _ _ i.1 i.2 i.3 tt h.locked h.knew c.known_count-answer.ensures.makes p.run (p.kept _) p.exact p.locked (g.met.D.Disk.lawful _) _ e.locked in
-    (e.tables.0 ∙ p.table ∙ h.tables.0 ∙ i.0, after.0, after.1, after.2)
+pub enter-requires-clause-seats : goal.enter-requires-clause-seats
+enter-requires-clause-seats g c = (c.pass.invariant.0, c.args.self.now.twin_table)
+
+pub enter-requires-clause-made : goal.enter-requires-clause-made
+enter-requires-clause-made g c = record { before = c.args.self.now.alone; twin_is = c.args.self.now.twin_is; of_spool_is = tt; makes = c.known_count-answer.ensures.makes; same_ids = c.known_count-answer.ensures.ids }
+
+pub enter-requires-clause-pass : goal.enter-requires-clause-pass
+enter-requires-clause-pass g c = c.pass.invariant.1
+
+pub enter-requires-clause-may : goal.enter-requires-clause-may
+enter-requires-clause-may g c = tt
 
 pub invariant_of-pass : goal.invariant_of-pass
 invariant_of-pass g c =
-    let i = c.self.invariant in
-    let h = c.admit.ensures in
-    let p = c.publish.ensures in
-    let e = c.add_record.ensures in
-    let after = pass_after _ _ _ _ _ _ _ _ _ _ _ _ _ i.1 i.2 i.3 tt h.locked h.knew c.known_count-answer.ensures.makes p.run (p.kept _) p.exact p.locked (g.met.D.Disk.lawful _) _ e.pass in
-    (e.tables.1 ∙ p.table ∙ h.tables.0 ∙ i.0, after.0, after.1, after.2 ∙ c.pass.invariant.3, c.pass.invariant.4, after.3 ∙ c.pass.invariant.5)
+    let e = c.enter.ensures in
+    (e.seats.0, e.pass.0, e.pass.1, e.pass.2 ∙ c.pass.invariant.3, c.pass.invariant.4, e.pass.3 ∙ c.pass.invariant.5)
 
 pub returns-clause-call : goal.returns-clause-call
-returns-clause-call g c =
-    let i = c.self.invariant in
-    let h = c.admit.ensures in
-    let p = c.publish.ensures in
-    let e = c.add_record.ensures in
-    calls_after _ _ _ _ _ _ _ _ _ _ _ _ _ i.1 i.2 i.3 tt h.locked h.knew c.known_count-answer.ensures.makes p.run (p.kept _) p.exact p.locked (g.met.D.Disk.lawful _) _ _ c.pass.view_is e.pass
+returns-clause-call g c = subst (λ (k : Known). Calls g.J.Naming.start g.J.Naming.run g.J.Naming.seats k (counts c.known_count-answer.result) (known_of (pass_in c.enter.new.seat.me.0))) (c.pass.view_is) c.enter.ensures.call
 
 pub returns-clause-real : goal.returns-clause-real
-returns-clause-real g c =
-    let i = c.self.invariant in
-    let h = c.admit.ensures in
-    let p = c.publish.ensures in
-    let e = c.add_record.ensures in
-    let real = real_after _ _ _ _ _ _ _ _ _ _ _ _ _ i.1 i.2 i.3 tt h.locked h.knew c.known_count-answer.ensures.makes p.run (p.kept _) p.exact p.locked (g.met.D.Disk.lawful _) (known_of (pass_in c.add_record.result.me.0)) c.add_record.result.me refl e.pass in
-    (c.publish.new.alone, real.0, real.1)
+returns-clause-real g c = c.enter.ensures.real

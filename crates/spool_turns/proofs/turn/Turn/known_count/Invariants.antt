@@ -1,6 +1,5 @@
 use Rattle.desk_access.specs.Call.{counts}
-use Rattle.spool_desk.specs.Alone.{alone_at, record_of}
 use Rattle.spool_turns.proofs.turn.Turn.known_count.Given as goal
 
-abbrev pub ghosts-add_record : goal.ghosts-add_record
-ghosts-add_record g a = record { one = record_of (counts a._answer.now) (alone_at a._alone.now) }
+abbrev pub ghosts-enter : goal.ghosts-enter
+ghosts-enter g a = record { call = counts a.answer.now }

@@ -1,6 +1,5 @@
 use Rattle.desk_access.specs.Call.{pends, listed}
-use Rattle.spool_desk.specs.Alone.{alone_at, record_of}
 use Rattle.spool_turns.proofs.turn.Turn.pending.Given as goal
 
-abbrev pub ghosts-add_record : goal.ghosts-add_record
-ghosts-add_record g a = record { one = record_of (pends a._call.now.0 a._call.now.1 (listed a._answer.now)) (alone_at a._alone.now) }
+abbrev pub ghosts-enter : goal.ghosts-enter
+ghosts-enter g a = record { call = pends a.call.now.0 a.call.now.1 (listed a.answer.now) }
