@@ -1,7 +1,7 @@
 //! Accepts that fail: which errors pass, and how they are waited out.
 ghost use Rattle.std.specs.Prelude.{◌≡◌, ◌*◌, min};
 
-use std::net::OpenListener;
+use std::net::{OpenListener, SocketAddr};
 use std::rt::Clock;
 use std::sync::atomic::{AtomicU64, Ordering};
 use std::time::Duration;
@@ -62,7 +62,7 @@ fn is_due(rt: &impl Clock, reported: &AtomicU64) -> bool {
         .is_ok()
 }
 
-/// Accepts the next connection of `listener`, which listens at `place`.
+/// Accepts the next connection of `listener`, which listens at `place`, and gives its peer's address with it.
 ///
 /// An error that passes is waited out, whether it is one of the connection that was to be accepted or want of descriptors or memory:
 /// for a tenth of a second, and each further one in this call for twice as long, up to a second. Standard error gets a line about
@@ -73,11 +73,11 @@ pub fn next_connection<L: OpenListener, R: Clock + Eprint>(
     listener: &L,
     place: &str,
     reported: &AtomicU64,
-) -> io::Result<L::Stream> {
+) -> io::Result<(L::Stream, SocketAddr)> {
     let mut wait = FIRST_WAIT_MILLIS;
     for _ in 0..u64::MAX {
         match listener.accept() {
-            Ok((stream, _)) => return Ok(stream),
+            Ok(accepted) => return Ok(accepted),
             Err(error) if is_lasting(&error) => return Err(error),
             Err(error) => {
                 if is_due(rt, reported) {

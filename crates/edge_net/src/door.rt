@@ -3,11 +3,11 @@ ghost use Rattle.std.specs.Prelude.{◌≡◌};
 
 use crate::accepting::next_connection;
 use crate::roll::{Place, Roll};
-use crate::{TcpLink, Waits};
+use crate::{Reports, TcpLink, Waits};
 use edge_io::{AcceptFault, Door, Proto};
 use std::alloc::AllocError;
 use std::io;
-use std::net::{TcpListener, TcpStream};
+use std::net::{SocketAddr, TcpListener, TcpStream};
 use std::rt::Clock;
 use std::sync::Arc;
 
@@ -16,6 +16,8 @@ use std::sync::Arc;
 pub(crate) struct Shared<'a, R> {
     /// The clock and standard error.
     pub(crate) rt: &'a R,
+    /// What is said there.
+    pub(crate) reports: &'a Reports,
     /// How long they and their links wait.
     pub(crate) waits: Waits,
     /// The place itself.
@@ -29,6 +31,7 @@ impl<'a, R> Shared<'a, R> {
     pub(crate) fn try_clone(&self) -> Result<Shared<'a, R>, AllocError> {
         Ok(Shared {
             rt: self.rt,
+            reports: self.reports,
             waits: self.waits,
             place: Arc::try_clone(&self.place)?,
             roll: Arc::try_clone(&self.roll)?,
@@ -43,8 +46,8 @@ impl<R: Clock + Eprint> Shared<'_, R> {
         self.roll.wait_for_all(self.rt, self.waits.roll);
     }
 
-    // The next connection of the socket. The error is one that lasts.
-    fn next_stream(&self, listener: &TcpListener) -> io::Result<TcpStream> {
+    // The next connection of the socket, and its peer. The error is one that lasts.
+    fn next_stream(&self, listener: &TcpListener) -> io::Result<(TcpStream, SocketAddr)> {
         let place = self.place.name.as_str();
         next_connection(self.rt, listener, place, &self.place.reported)
     }
@@ -84,10 +87,10 @@ impl<'a, R> TcpDoor<'a, R> {
     }
 }
 
-impl<R: Clock + Eprint> Door for TcpDoor<'_, R> {
+impl<'a, R: Clock + Eprint> Door for TcpDoor<'a, R> {
     ghost use Rattle.edge_net.specs.TcpDoor.{state_of};
 
-    type L = TcpLink;
+    type L = TcpLink<'a, R>;
 
     ghost told = { λ door. state_of door };
 
@@ -99,13 +102,17 @@ impl<R: Clock + Eprint> Door for TcpDoor<'_, R> {
     ///
     /// The first accept waits until all doors of the net have begun, for three seconds at most, and then reports the places
     /// of those that have not: the system refused them a thread.
-    fn accept(&mut self) -> Result<Option<TcpLink>, AcceptFault> {
+    fn accept(&mut self) -> Result<Option<TcpLink<'a, R>>, AcceptFault> {
         if !self.has_begun {
             self.has_begun = true;
             self.shared.begin();
         }
         match self.shared.next_stream(&self.listener) {
-            Ok(stream) => Ok(Some(TcpLink::accepted(stream, self.shared.waits))),
+            Ok((stream, peer)) => {
+                let (rt, reports) = (self.shared.rt, self.shared.reports);
+                let waits = self.shared.waits;
+                Ok(Some(TcpLink::accepted(rt, reports, stream, peer, waits)))
+            }
             Err(_) => {
                 self.accept_errors = self.accept_errors.saturating_add(1);
                 Err(AcceptFault)
@@ -113,13 +120,20 @@ impl<R: Clock + Eprint> Door for TcpDoor<'_, R> {
         }
     }
 
-    /// Counts the connection's errors, and closes it so that its peer gets what was written last. For that it waits until the
+    /// Counts the connection's errors, says on standard error how it ended where that isn't well, and closes it so that its peer gets
+    /// what was written last. For that it waits until the
     /// peer closes it too: little more than a second where that one is silent, and two seconds at most where it goes on sending.
     /// It takes no memory.
-    fn give_back(&mut self, link: TcpLink, _: Proto, _: u64, _: u8) -> Result<(), AllocError> {
+    fn give_back(
+        &mut self,
+        link: TcpLink<'a, R>,
+        proto: Proto,
+        _: u64,
+        status: u8,
+    ) -> Result<(), AllocError> {
         self.read_errors = self.read_errors.saturating_add(link.read_errors());
         self.write_errors = self.write_errors.saturating_add(link.write_errors());
-        link.close(self.shared.rt);
+        link.close_served(self.shared.rt, proto, status);
         Ok(())
     }
 }

@@ -1,19 +1,37 @@
 //! Links, doors and a net over the sockets of the system, TCP's. They are thin: they count the errors of
-//! the system and name their places, and tell no bytes. That the bytes go out and come in as the peer has
+//! the system and name their places, and tell no bytes. What befalls them is said on standard error ([`Reports`]), in few lines: which
+//! are due is decided by parts that know no clock ([`Recent`], [`Pace`], [`Receiver`]). That the bytes go out and come in as the peer has
 //! them is trusted. A call that waits for a peer has a bound, but that of a door that accepts, which waits for the next
 //! connection for as long as it takes.
 #![tactic(auto)]
 
 mod accepting;
+mod answer;
 mod closing;
 mod door;
+mod illness;
 mod link;
 mod net;
+mod pace;
+mod receiver;
+mod recent;
+mod reports;
 mod roll;
+mod topic;
+mod trouble;
 mod waits;
+mod watch;
 
 pub use accepting::next_connection;
+pub use answer::Answer;
 pub use door::TcpDoor;
+pub use illness::Illness;
 pub use link::{LinkSettings, TcpLink};
 pub use net::TcpNet;
+pub use pace::Pace;
+pub use receiver::Receiver;
+pub use recent::{Line, Recent};
+pub use reports::Reports;
+pub use topic::{Matter, Topic};
+pub use trouble::{Trouble, Way};
 pub use waits::Waits;

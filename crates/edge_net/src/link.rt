@@ -1,23 +1,26 @@
 //! A connection over TCP.
 ghost use Rattle.std.specs.Prelude.{◌≡◌, ◌≤◌, length, IfOk};
 
-use crate::Waits;
 use crate::closing::close_after_peer;
-use edge_io::{Link, Object, ReadFault, Sink, Source, WriteFault};
+use crate::trouble::Way;
+use crate::watch::Watch;
+use crate::{Reports, Waits};
+use edge_io::{Link, Object, Proto, ReadFault, Sink, Source, WriteFault};
 use std::io::{self, ErrorKind, Read, Write};
-use std::net::TcpStream;
+use std::net::{SocketAddr, TcpStream};
 use std::rt::Clock;
 use std::time::Duration;
 
 // How many times a call is made, where signals interrupt it each time.
 const MOST_TRIES: u32 = 1_000;
 
-/// A connection over TCP, that was dialed or accepted. It counts its errors and tells no bytes. The link may be
-/// read and written by another thread than the one that made it.
+/// A connection over TCP, that was dialed or accepted. It counts its errors and tells no bytes; standard error says what befell it
+/// ([`Reports`]). The link may be read and written by another thread than the one that made it.
 #[derive(Drop)]
-pub struct TcpLink {
+pub struct TcpLink<'a, R> {
     place: Option<String>,
     stream: TcpStream,
+    watch: Watch<'a, R>,
     read_errors: u64,
     write_errors: u64,
 }
@@ -33,7 +36,7 @@ pub struct LinkSettings {
     pub write_wait: Option<Duration>,
 }
 
-impl TcpLink {
+impl<'a, R> TcpLink<'a, R> {
     ghost use Rattle.std.specs.Prelude.{Some, None};
     ghost use Rattle.std.specs.Option.{option_map};
     ghost use Rattle.std.specs.String.{string_bytes};
@@ -42,7 +45,12 @@ impl TcpLink {
     // A link over the stream, of which a read or a write waits for its peer for as long as `wait` at most. An answer isn't held
     // back until more is written; where the system doesn't grant that, the link is slower and else the same. The system grants a
     // wait above 0 to any socket.
-    fn over(stream: TcpStream, place: Option<String>, wait: Duration) -> TcpLink
+    fn over(
+        stream: TcpStream,
+        place: Option<String>,
+        wait: Duration,
+        watch: Watch<'a, R>,
+    ) -> TcpLink<'a, R>
         ensures unfailed { IsUnfailed result }
         ensures place { place_of result ≡ option_map string_bytes place }
     {
@@ -52,25 +60,40 @@ impl TcpLink {
         TcpLink {
             place,
             stream,
+            watch,
             read_errors: 0,
             write_errors: 0,
         }
     }
 
-    /// The link of a connection that was accepted.
-    pub(crate) fn accepted(stream: TcpStream, waits: Waits) -> TcpLink
+    /// The link of a connection that was accepted from this peer.
+    pub(crate) fn accepted(
+        rt: &'a R,
+        reports: &'a Reports,
+        stream: TcpStream,
+        peer: SocketAddr,
+        waits: Waits,
+    ) -> TcpLink<'a, R>
         ensures unfailed { IsUnfailed result }
         ensures place { place_of result ≡ None }
     {
-        TcpLink::over(stream, None, waits.accepted)
+        let watch = Watch::of(rt, reports, Some(peer), waits.accepted);
+        TcpLink::over(stream, None, waits.accepted, watch)
     }
 
     /// The link of a connection that was dialed at that place.
-    pub(crate) fn dialed(stream: TcpStream, place: String, waits: Waits) -> TcpLink
+    pub(crate) fn dialed(
+        rt: &'a R,
+        reports: &'a Reports,
+        stream: TcpStream,
+        place: String,
+        waits: Waits,
+    ) -> TcpLink<'a, R>
         ensures unfailed { IsUnfailed result }
         ensures place { place_of result ≡ Some (string_bytes place) }
     {
-        TcpLink::over(stream, Some(place), waits.dialed)
+        let watch = Watch::of(rt, reports, None, waits.dialed);
+        TcpLink::over(stream, Some(place), waits.dialed, watch)
     }
 
     /// What the system has set for the link's socket. The error is the system's.
@@ -95,11 +118,30 @@ impl TcpLink {
     {
         self.write_errors
     }
+}
 
-    /// Closes the connection so that its peer gets what was written last. What the peer still sends meanwhile is dropped, and
-    /// counts as unread.
-    pub(crate) fn close(self, rt: &impl Clock) {
+impl<R: Clock + Eprint> TcpLink<'_, R> {
+    /// Says how the connection ended, where that isn't well: it was served to its end by this protocol, and the exit status that
+    /// stands for its ending is this one. Then closes it so that its peer gets what was written last. What the peer still sends
+    /// meanwhile is dropped, and counts as unread.
+    pub(crate) fn close_served(self, rt: &R, proto: Proto, status: u8) {
+        self.watch.ended(proto, status);
         close_after_peer(rt, self.stream)
+    }
+
+    /// Says that the receiver is well again, where it was not and the connection shows that.
+    pub(crate) fn say_hung_up(&self) {
+        if let Some(place) = &self.place {
+            self.watch.hung_up(place.as_str());
+        }
+    }
+}
+
+// The text of a place, where there is one.
+fn text_of(place: &Option<String>) -> Option<&str> {
+    match place {
+        Some(place) => Some(place.as_str()),
+        None => None,
     }
 }
 
@@ -130,7 +172,7 @@ fn write_on(stream: &mut TcpStream, piece: &[u8]) -> io::Result<usize>
     stream.write(piece)
 }
 
-impl Object for TcpLink {
+impl<R> Object for TcpLink<'_, R> {
     ghost same = { λ _ _. Unit {0} };
 
     ghost same_refl = { λ _. tt };
@@ -138,7 +180,7 @@ impl Object for TcpLink {
     ghost same_trans = { λ _ _ _ _ _. tt };
 }
 
-impl Source for TcpLink {
+impl<R: Clock + Eprint> Source for TcpLink<'_, R> {
     ghost use Rattle.std.specs.Prelude.{None};
     ghost use Rattle.edge_net.specs.TcpLink.{place_of, read_errors_of, write_errors_of};
 
@@ -159,16 +201,22 @@ impl Source for TcpLink {
     /// vain.
     fn read(&mut self, buf: &mut [u8]) -> Result<usize, ReadFault> {
         match read_on(&mut self.stream, buf) {
-            Ok(n) => Ok(n),
-            Err(_) => {
+            Ok(n) => {
+                if !buf.is_empty() {
+                    self.watch.saw_read(text_of(&self.place), &buf[..n]);
+                }
+                Ok(n)
+            }
+            Err(error) => {
                 self.read_errors = self.read_errors.saturating_add(1);
+                self.watch.saw_error(text_of(&self.place), &error, Way::In);
                 Err(ReadFault)
             }
         }
     }
 }
 
-impl Sink for TcpLink {
+impl<R: Clock + Eprint> Sink for TcpLink<'_, R> {
     ghost use Rattle.std.specs.Prelude.{None, refl};
     ghost use Rattle.edge_net.specs.TcpLink.{place_of, read_errors_of, write_errors_of};
 
@@ -191,16 +239,22 @@ impl Sink for TcpLink {
     /// that isn't empty.
     fn write(&mut self, piece: &[u8]) -> Result<usize, WriteFault> {
         match write_on(&mut self.stream, piece) {
-            Ok(n) if n > 0 || piece.is_empty() => Ok(n),
-            _ => {
+            Ok(n) if n > 0 || piece.is_empty() => {
+                self.watch.saw_write(piece);
+                Ok(n)
+            }
+            outcome => {
                 self.write_errors = self.write_errors.saturating_add(1);
+                if let Err(error) = outcome {
+                    self.watch.saw_error(text_of(&self.place), &error, Way::Out);
+                }
                 Err(WriteFault)
             }
         }
     }
 }
 
-impl Link for TcpLink {
+impl<R: Clock + Eprint> Link for TcpLink<'_, R> {
     ghost use Rattle.edge_net.specs.TcpLink.{place_of};
 
     ghost dialed = { λ link. place_of link };
@@ -213,6 +267,6 @@ impl Link for TcpLink {
 // A link, and what accepts it, may be moved to another thread: each impl below owes the proof.
 trait Movable: Send {}
 
-impl Movable for TcpLink {}
+impl<R: Sync> Movable for TcpLink<'_, R> {}
 
 impl<R: Sync> Movable for crate::TcpDoor<'_, R> {}

@@ -5,7 +5,7 @@ ghost use Rattle.edge_net.specs.TcpDoor.{state_of as door_state};
 
 use crate::door::Shared;
 use crate::roll::{Place, Roll};
-use crate::{TcpDoor, TcpLink, Waits};
+use crate::{Reports, TcpDoor, TcpLink, Waits};
 use edge_io::{Net, NetFault, Object, Pause};
 use std::alloc::{AllocError, Global};
 use std::net::{self, TcpListener, TcpStream, ToSocketAddrs};
@@ -31,6 +31,7 @@ const ROLL_REPORT: u32 = 60;
 pub struct TcpNet<'a, R> {
     alloc: Global,
     rt: &'a R,
+    reports: &'a Reports,
     waits: Waits,
     // The places that were bound, once one was.
     roll: Option<Arc<Roll>>,
@@ -46,20 +47,21 @@ impl<'a, R> TcpNet<'a, R> {
     ghost use Rattle.std.specs.Prelude.{None};
     ghost use Rattle.edge_net.specs.TcpNet.{state_of};
 
-    /// A net with no error so far, whose links wait as those of the program.
-    pub fn new(alloc: Global, rt: &'a R) -> TcpNet<'a, R>
+    /// A net with no error so far, whose links wait as those of the program. What befalls them is said by `reports`.
+    pub fn new(alloc: Global, rt: &'a R, reports: &'a Reports) -> TcpNet<'a, R>
         ensures { state_of result ≡ record { bound = None; hung = None; net_faults = 0; read_faults = 0; write_faults = 0 } }
     {
-        TcpNet::with_waits(alloc, rt, Waits::standard())
+        TcpNet::with_waits(alloc, rt, reports, Waits::standard())
     }
 
     /// A net with no error so far, whose doors and links wait so long.
-    pub fn with_waits(alloc: Global, rt: &'a R, waits: Waits) -> TcpNet<'a, R>
+    pub fn with_waits(alloc: Global, rt: &'a R, reports: &'a Reports, waits: Waits) -> TcpNet<'a, R>
         ensures { state_of result ≡ record { bound = None; hung = None; net_faults = 0; read_faults = 0; write_faults = 0 } }
     {
         TcpNet {
             alloc,
             rt,
+            reports,
             waits,
             roll: None,
             places: 0,
@@ -118,18 +120,21 @@ fn doors_over<'a, R>(
     Ok(made)
 }
 
-// Connects to the first of the host's addresses that answers, and waits for each for as long as `wait` at most.
+// Connects to the first of the host's addresses that answers, and waits for each for as long as `wait` at most. The error is that of
+// the last one.
 fn connected<R: net::Net<Stream = TcpStream>>(
     rt: &R,
     place: &str,
     wait: Duration,
-) -> io::Result<Option<TcpStream>> {
+) -> io::Result<TcpStream> {
+    let mut last = io::Error::other("its host has no address");
     for address in place.to_socket_addrs(rt)? {
-        if let Ok(stream) = TcpStream::connect_timeout(rt, &address, wait) {
-            return Ok(Some(stream));
+        match TcpStream::connect_timeout(rt, &address, wait) {
+            Ok(stream) => return Ok(stream),
+            Err(error) => last = error,
         }
     }
-    Ok(None)
+    Err(last)
 }
 
 impl<R: Clock + Eprint> TcpNet<'_, R> {
@@ -160,7 +165,8 @@ impl<'a, R> TcpNet<'a, R> {
         ensures { state_of self.new ≡ state_of self.old }
     {
         if self.roll.is_none() {
-            self.roll = Some(Arc::new(self.alloc, Roll::new(self.alloc)?)?);
+            let roll = Roll::new(self.alloc, self.reports.is_quiet())?;
+            self.roll = Some(Arc::new(self.alloc, roll)?);
         }
         match &self.roll {
             Some(roll) => Arc::try_clone(roll),
@@ -174,11 +180,14 @@ impl<'a, R> TcpNet<'a, R> {
     {
         let roll = self.roll()?;
         let name = String::from_str(self.alloc, place)?;
-        let place = Arc::new(self.alloc, Place::with_doors(name, u64::from(doors)))?;
+        let is_quiet = self.reports.is_quiet();
+        let place = Place::with_doors(name, u64::from(doors), is_quiet);
+        let place = Arc::new(self.alloc, place)?;
         roll.enter(self.places, Arc::try_clone(&place)?);
         self.places = self.places.saturating_add(1);
         Ok(Shared {
             rt: self.rt,
+            reports: self.reports,
             waits: self.waits,
             place,
             roll,
@@ -190,7 +199,7 @@ impl<'a, R: net::Net<Stream = TcpStream, Listener = TcpListener> + Clock + Eprin
     for TcpNet<'a, R> {
     ghost use Rattle.edge_net.specs.TcpNet.{state_of};
 
-    type L = TcpLink;
+    type L = TcpLink<'a, R>;
 
     type P = TcpDoor<'a, R>;
 
@@ -204,17 +213,24 @@ impl<'a, R: net::Net<Stream = TcpStream, Listener = TcpListener> + Clock + Eprin
 
     ghost has_room = { λ _. Unit {0} };
 
-    /// Listens at the place, with one socket for all the doors. A port that is taken is a fault.
+    /// Listens at the place, with one socket for all the doors, and says so on standard error. A port that is taken is a fault;
+    /// standard error says which place it is and what the system says of it.
     fn bind(&mut self, place: &str, doors: u32) -> Result<Vec<TcpDoor<'a, R>>, NetFault> {
         let made = match TcpListener::bind(self.rt, place) {
             Ok(listener) => {
                 let shared = self.shared(place, doors)?;
                 doors_over(self.alloc, &listener, place, doors as usize, &shared)
             }
-            Err(_) => Err(NetFault::Fault),
+            Err(error) => {
+                self.reports.cannot_listen(self.rt, place, &error);
+                Err(NetFault::Fault)
+            }
         };
         match made {
-            Ok(made) => Ok(made),
+            Ok(made) => {
+                self.reports.listens(self.rt, place);
+                Ok(made)
+            }
             Err(NetFault::NoMemory) => Err(NetFault::NoMemory),
             Err(NetFault::Fault) => {
                 self.errors = self.errors.saturating_add(1);
@@ -223,12 +239,14 @@ impl<'a, R: net::Net<Stream = TcpStream, Listener = TcpListener> + Clock + Eprin
         }
     }
 
-    /// Connects to the place. A peer that doesn't listen is a fault, and so is one that doesn't answer in time.
-    fn dial(&mut self, place: &str) -> Result<TcpLink, NetFault> {
+    /// Connects to the place. A peer that doesn't listen is a fault, and so is one that doesn't answer in time; standard error says
+    /// why, where that is news.
+    fn dial(&mut self, place: &str) -> Result<TcpLink<'a, R>, NetFault> {
         let name = String::from_str(self.alloc, place)?;
         match connected(self.rt, place, self.waits.dialed) {
-            Ok(Some(stream)) => Ok(TcpLink::dialed(stream, name, self.waits)),
-            Ok(None) | Err(_) => {
+            Ok(stream) => Ok(TcpLink::dialed(self.rt, self.reports, stream, name, self.waits)),
+            Err(error) => {
+                self.reports.cannot_reach(self.rt, place, &error);
                 self.errors = self.errors.saturating_add(1);
                 Err(NetFault::Fault)
             }
@@ -237,9 +255,10 @@ impl<'a, R: net::Net<Stream = TcpStream, Listener = TcpListener> + Clock + Eprin
 
     /// Closes the connection and counts its errors. What the peer still sends, or had sent and nobody read, is given up: what a
     /// sender wrote and its peer didn't acknowledge is sent again.
-    fn hang_up(&mut self, link: TcpLink) {
+    fn hang_up(&mut self, link: TcpLink<'a, R>) {
         self.read_errors = self.read_errors.saturating_add(link.read_errors());
         self.write_errors = self.write_errors.saturating_add(link.write_errors());
+        link.say_hung_up();
     }
 
     /// Sleeps for a twentieth of a second.

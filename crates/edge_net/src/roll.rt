@@ -27,11 +27,12 @@ pub(crate) struct Place {
 }
 
 impl Place {
-    /// A place with so many doors, none of which has begun.
-    pub(crate) fn with_doors(name: String, doors: u64) -> Place {
+    /// A place with so many doors, none of which has begun. Where it is quiet, no accept that failed there is ever reported: it is as
+    /// if one were reported at the end of time.
+    pub(crate) fn with_doors(name: String, doors: u64, is_quiet: bool) -> Place {
         Place {
             name,
-            reported: AtomicU64::new(0),
+            reported: AtomicU64::new(if is_quiet { u64::MAX } else { 0 }),
             doors,
             begun: AtomicU64::new(0),
         }
@@ -56,15 +57,15 @@ pub(crate) struct Roll {
 }
 
 impl Roll {
-    /// A roll with no place, and room for 64.
-    pub(crate) fn new(alloc: Global) -> Result<Roll, AllocError> {
+    /// A roll with no place, and room for 64. One that is quiet reports nothing.
+    pub(crate) fn new(alloc: Global, is_quiet: bool) -> Result<Roll, AllocError> {
         let mut places = Vec::with_capacity(alloc, MOST_PLACES)?;
         for _ in 0..MOST_PLACES {
             places.push(OnceLock::new())?;
         }
         Ok(Roll {
             places,
-            is_reported: AtomicBool::new(false),
+            is_reported: AtomicBool::new(is_quiet),
         })
     }
 

@@ -1,5 +1,5 @@
 //! How long calls over sockets wait.
-ghost use Rattle.std.specs.Prelude.{◌≡◌};
+ghost use Rattle.std.specs.Prelude.{◌≡◌, ◌*◌, max};
 ghost use Rattle.std.specs.Duration.{as_nanos};
 
 use std::time::Duration;
@@ -36,6 +36,18 @@ impl Waits {
             accepted: Duration::from_secs(ACCEPTED_SECONDS),
             dialed: Duration::from_secs(DIALED_SECONDS),
             roll: Duration::from_secs(ROLL_SECONDS),
+        }
+    }
+
+    /// The same, but a sender may be silent for so many seconds, or one where these are 0.
+    pub fn with_accepted(self, seconds: u64) -> Waits
+        ensures accepted { as_nanos result.accepted ≡ max seconds 1 * 1_000_000_000 }
+        ensures dialed { result.dialed ≡ self.dialed }
+        ensures roll { result.roll ≡ self.roll }
+    {
+        Waits {
+            accepted: Duration::from_secs(seconds.max(1)),
+            ..self
         }
     }
 }

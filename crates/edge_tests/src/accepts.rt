@@ -2,7 +2,7 @@
 use crate::sockets::free_place;
 use crate::staged::Staged;
 use edge_io::{Door, Net, Pause};
-use edge_net::{TcpNet, Waits, next_connection};
+use edge_net::{Reports, TcpNet, Waits, next_connection};
 use std::alloc::Global;
 use std::cell::Cell;
 use std::io;
@@ -81,10 +81,18 @@ impl OpenListener for Failing {
     }
 }
 
+// How many accepts came before the one that gave this, whose peer is the one that accepts give here.
+fn number_of(accepted: &io::Result<(usize, SocketAddr)>) -> Option<usize> {
+    match accepted {
+        Ok((number, peer)) if peer.port() == 1 => Some(*number),
+        _ => None,
+    }
+}
+
 fn errors_that_pass_are_waited_out(rt: &impl Abort, staged: &Staged<'_>) {
     let reported = AtomicU64::new(0);
     let accepted = next_connection(staged, &Failing::by(&PASSING), "p:1", &reported);
-    assert!(rt; accepted.ok() == Some(19));
+    assert!(rt; number_of(&accepted) == Some(19));
     assert!(rt; staged.take_sleeps(rt).as_slice() == WAITED.as_slice());
     let lines = staged.take_lines(rt);
     let [line] = lines.as_slice() else {
@@ -102,7 +110,7 @@ fn a_line_is_printed_once_a_minute(rt: &impl Abort, staged: &Staged<'_>) {
     for (millis, count) in [(0, 1), (58_000, 0), (2_000, 0), (2_000, 1), (30_000, 0)] {
         staged.pass(millis);
         let accepted = next_connection(staged, &Failing::by(&[24]), "p:1", &reported);
-        assert!(rt; accepted.ok() == Some(1));
+        assert!(rt; number_of(&accepted) == Some(1));
         assert!(rt; staged.take_lines(rt).len() == count, "after {millis}");
     }
     // each accept begins with the short wait
@@ -130,9 +138,12 @@ fn doors_that_nobody_serves_are_reported(
     staged: &Staged<'_>,
 ) {
     let (one, other) = (free_place(rt, host), free_place(rt, host));
-    let mut net = TcpNet::with_waits(alloc, staged, Waits::standard());
+    let reports = Reports::new();
+    let mut net = TcpNet::with_waits(alloc, staged, &reports, Waits::standard());
     let mut doors = net.bind(one.as_str(), 2).expect(rt, "a free port");
     let served = net.bind(other.as_str(), 1).expect(rt, "a free port");
+    // that the two are listened at
+    assert!(rt; staged.take_lines(rt).len() == 2);
     let first = net.dial(one.as_str()).expect(rt, "a port that listens");
     let mut door = doors.pop().expect(rt, "two doors");
     assert!(rt; matches!(door.accept(), Ok(Some(_))));
@@ -170,8 +181,10 @@ fn a_net_reports_doors_that_wait_for_it(
     staged: &Staged<'_>,
 ) {
     let place = free_place(rt, host);
-    let mut net = TcpNet::with_waits(alloc, staged, Waits::standard());
+    let reports = Reports::new();
+    let mut net = TcpNet::with_waits(alloc, staged, &reports, Waits::standard());
     let doors = net.bind(place.as_str(), 1).expect(rt, "a free port");
+    assert!(rt; staged.take_lines(rt).len() == 1);
     for _ in 0..20 {
         net.wait_briefly();
     }

@@ -2,11 +2,11 @@
 use crate::beside::{Beside, Dice, SIZE, front, text};
 use edge_disk::Disk;
 use edge_file::{FileDisk, OpenFault, PairFault, Sharing};
-use std::env;
 use std::fs::{self, OpenOptions, Permissions};
 use std::os::unix::fs::{PermissionsExt, symlink};
 use std::process::{self, Abort};
 use std::rt::Files;
+use std::{env, io};
 
 // The name of a file of this process.
 fn file_name(rt: &impl Abort, host: &HostRuntime) -> String {
@@ -246,6 +246,21 @@ fn two_files_are_opened(rt: &impl Abort, host: &HostRuntime, path: &str) {
     }
 }
 
+// What is neither a file nor a block device isn't opened, and a file system without room, or a quota that is spent, is told of.
+fn why_nothing_is_opened(rt: &impl Abort, host: &HostRuntime) {
+    let none = "/dev/null";
+    for sharing in [Sharing::Exclusive, Sharing::Shared] {
+        let opened = FileDisk::open_locked(host, none, sharing);
+        assert!(rt; matches!(opened, Err(OpenFault::NoFile)));
+    }
+    let made = FileDisk::make_locked(host, none, 2);
+    assert!(rt; matches!(made, Err(OpenFault::NoFile)));
+    for number in [28, 122] {
+        let fault = OpenFault::from(io::Error::from_raw_os_error(number));
+        assert!(rt; fault == OpenFault::NoRoom, "{number}");
+    }
+}
+
 /// Files in the folder for temporary files, and one that is made by its name alone, in the current folder.
 pub(crate) fn files_are_disks(rt: &impl Abort, host: &HostRuntime) {
     let name = file_name(rt, host);
@@ -260,6 +275,7 @@ pub(crate) fn files_are_disks(rt: &impl Abort, host: &HostRuntime) {
     a_held_part_that_has_no_room_is_a_fault(rt, host, &path);
     a_link_is_its_target(rt, host, &path);
     two_files_are_opened(rt, host, &path);
+    why_nothing_is_opened(rt, host);
     check_made(rt, host, &name, 2, [0, 0]);
     fs::remove_file(host, name.as_str()).expect(rt, "remove");
 }

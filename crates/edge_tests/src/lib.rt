@@ -14,6 +14,8 @@ mod disks;
 #[cfg(test)]
 mod files;
 #[cfg(test)]
+mod lines;
+#[cfg(test)]
 mod marks;
 #[cfg(test)]
 mod nets;
@@ -21,6 +23,8 @@ mod nets;
 mod pages;
 #[cfg(test)]
 mod ranges;
+#[cfg(test)]
+mod said;
 #[cfg(test)]
 mod sockets;
 #[cfg(test)]

@@ -1,6 +1,6 @@
 //! Links, doors and a net over the loopback's sockets.
 use edge_io::{Door, Net, NetFault, Pause, Proto, ReadFault, Sink, Source, Stopped, write_whole};
-use edge_net::{TcpDoor, TcpLink, TcpNet, Waits};
+use edge_net::{Reports, TcpDoor, TcpLink, TcpNet, Waits};
 use std::net::TcpListener;
 use std::process::Abort;
 use std::rt::Clock;
@@ -15,12 +15,12 @@ pub(crate) fn free_place(rt: &impl Abort, host: &HostRuntime) -> String {
 }
 
 // A link that is dialed at the place, and the link that the door accepts for it.
-pub(crate) fn pair(
+pub(crate) fn pair<'a>(
     rt: &impl Abort,
-    net: &mut TcpNet<'_, HostRuntime>,
-    door: &mut TcpDoor<'_, HostRuntime>,
+    net: &mut TcpNet<'a, HostRuntime>,
+    door: &mut TcpDoor<'a, HostRuntime>,
     place: &str,
-) -> (TcpLink, TcpLink) {
+) -> (TcpLink<'a, HostRuntime>, TcpLink<'a, HostRuntime>) {
     let near = net.dial(place).expect(rt, "a port that listens");
     let far = door.accept().expect(rt, "a connection waits");
     (near, far.expect(rt, "no door is shut"))
@@ -37,7 +37,12 @@ pub(crate) fn bound<'a>(
 }
 
 // Sends a piece from the one link to the other.
-fn pass(rt: &impl Abort, from: &mut TcpLink, to: &mut TcpLink, piece: &[u8]) {
+fn pass(
+    rt: &impl Abort,
+    from: &mut TcpLink<'_, HostRuntime>,
+    to: &mut TcpLink<'_, HostRuntime>,
+    piece: &[u8],
+) {
     let mut buf = [0u8; 16];
     assert!(rt; write_whole(from, piece).is_ok());
     let n = to.read(&mut buf).expect(rt, "the piece comes");
@@ -100,10 +105,10 @@ fn a_peer_that_resets_is_a_fault(rt: &impl Abort, net: &mut TcpNet<'_, HostRunti
 }
 
 // A peer that is silent and stays is given up.
-fn a_silent_peer_is_given_up(
+fn a_silent_peer_is_given_up<'a>(
     rt: &(impl Abort + Clock),
-    net: &mut TcpNet<'_, HostRuntime>,
-    door: &mut TcpDoor<'_, HostRuntime>,
+    net: &mut TcpNet<'a, HostRuntime>,
+    door: &mut TcpDoor<'a, HostRuntime>,
     place: &str,
 ) {
     let (mut silent, unread) = pair(rt, net, door, place);
@@ -115,7 +120,10 @@ fn a_silent_peer_is_given_up(
 }
 
 // Sends the whole piece before it reads: whether that went, whether "answer" comes then, and what comes after it.
-fn sends_then_hears(mut link: TcpLink, piece: &[u8]) -> (bool, bool, Result<usize, ReadFault>) {
+fn sends_then_hears(
+    mut link: TcpLink<'_, HostRuntime>,
+    piece: &[u8],
+) -> (bool, bool, Result<usize, ReadFault>) {
     let mut buf = [0u8; 16];
     let sent = write_whole(&mut link, piece).is_ok();
     let heard = link.read(&mut buf) == Ok(6) && buf.starts_with(b"answer");
@@ -123,7 +131,10 @@ fn sends_then_hears(mut link: TcpLink, piece: &[u8]) -> (bool, bool, Result<usiz
 }
 
 // Whether an answer goes over the link, of which nothing is read, and the link is given back after it.
-fn answers_and_gives_back(mut door: TcpDoor<'_, HostRuntime>, mut link: TcpLink) -> bool {
+fn answers_and_gives_back<'a>(
+    mut door: TcpDoor<'a, HostRuntime>,
+    mut link: TcpLink<'a, HostRuntime>,
+) -> bool {
     let answered = write_whole(&mut link, b"answer").is_ok();
     let given = door.give_back(link, Proto::Hec, 0, 66).is_ok();
     answered && given
@@ -189,7 +200,8 @@ pub(crate) fn sockets_are_links(
         roll: Duration::from_millis(20),
         ..Waits::standard()
     };
-    let mut net = TcpNet::with_waits(rt.alloc(), host, waits);
+    let reports = Reports::quiet();
+    let mut net = TcpNet::with_waits(rt.alloc(), host, &reports, waits);
     links_are_dialed_accepted_read_and_written(rt, &mut net, &free_place(rt, host));
     a_port_that_is_taken_is_a_fault(rt, &mut net, &free_place(rt, host));
     a_place_that_nobody_serves_is_a_fault(rt, &mut net, &free_place(rt, host));

@@ -1,5 +1,7 @@
 //! All that holds of bytes, numbers, streams, nets and disks.
-use crate::{accepts, bytes, disks, files, marks, nets, pages, ranges, sockets, streams, waits};
+use crate::{
+    accepts, bytes, disks, files, lines, marks, nets, pages, ranges, said, sockets, streams, waits,
+};
 use std::alloc::Global;
 use std::process::Abort;
 
@@ -29,6 +31,7 @@ fn nets_and_disks(rt: &impl Abort, alloc: Global) {
     pages::a_held_part_survives_a_fault(rt, alloc);
     ranges::ranges_are_what_was_written(rt);
     ranges::ranges_have_room_for_64(rt);
+    lines::lines_are_few_and_count_the_rest(rt);
 }
 
 #[test]
@@ -40,4 +43,5 @@ fn edges(rt: HostRuntime) {
     sockets::sockets_are_links(&rt, &rt);
     waits::links_wait_for_a_while(&rt, &rt);
     accepts::accepts_fail_and_pass(&rt, alloc, &rt);
+    said::the_net_says_what_befalls_it(&rt, alloc, &rt);
 }

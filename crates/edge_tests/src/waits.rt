@@ -1,14 +1,14 @@
 //! How long links wait for their peers.
 use crate::sockets::{bound, free_place, pair};
 use edge_io::{Door, Proto, ReadFault, Sink, Source, write_whole};
-use edge_net::{LinkSettings, TcpDoor, TcpLink, TcpNet, Waits};
+use edge_net::{LinkSettings, Reports, TcpDoor, TcpLink, TcpNet, Waits};
 use std::process::Abort;
 use std::rt::Clock;
 use std::thread::{self, Threads};
 use std::time::{Duration, Instant};
 
 // That the link waits for so many seconds, and what is written goes out at once.
-fn assert_waits(rt: &impl Abort, link: &TcpLink, seconds: u64) {
+fn assert_waits(rt: &impl Abort, link: &TcpLink<'_, HostRuntime>, seconds: u64) {
     let wait = Some(Duration::from_secs(seconds));
     let wanted = LinkSettings {
         is_prompt: true,
@@ -21,12 +21,25 @@ fn assert_waits(rt: &impl Abort, link: &TcpLink, seconds: u64) {
 
 // The links of the program's net wait for 600 seconds where they were accepted, and for 90 where they were dialed.
 fn links_wait_as_those_of_the_program(rt: &(impl Abort + AllocGlobal), host: &HostRuntime) {
-    let mut net = TcpNet::new(rt.alloc(), host);
+    let reports = Reports::quiet();
+    let mut net = TcpNet::new(rt.alloc(), host, &reports);
     let place = free_place(rt, host);
     let mut door = bound(rt, &mut net, &place);
     let (near, far) = pair(rt, &mut net, &mut door, &place);
     assert_waits(rt, &near, 90);
     assert_waits(rt, &far, 600);
+}
+
+// Where the words say for how long a sender may be silent, accepted links wait as long, and dialed ones as before.
+fn accepted_links_wait_as_the_words_say(rt: &(impl Abort + AllocGlobal), host: &HostRuntime) {
+    let reports = Reports::quiet();
+    let waits = Waits::standard().with_accepted(7);
+    let mut net = TcpNet::with_waits(rt.alloc(), host, &reports, waits);
+    let place = free_place(rt, host);
+    let mut door = bound(rt, &mut net, &place);
+    let (near, far) = pair(rt, &mut net, &mut door, &place);
+    assert_waits(rt, &near, 90);
+    assert_waits(rt, &far, 7);
 }
 
 // Short waits, so that a peer that is silent is given up soon.
@@ -57,7 +70,7 @@ fn a_silent_peer_is_a_fault(
 }
 
 // Writes pieces of 64 KiB until one stops, 1,024 at most: how many went whole.
-fn pieces_until_one_stops(link: &mut TcpLink) -> u32 {
+fn pieces_until_one_stops(link: &mut TcpLink<'_, HostRuntime>) -> u32 {
     let piece = [b'x'; 65_536];
     for count in 0..1_024 {
         if write_whole(link, &piece).is_err() {
@@ -84,7 +97,7 @@ fn a_peer_that_reads_nothing_is_a_fault(
 }
 
 // Sends a byte each 15 milliseconds until a write fails, 2,000 at most: how many were sent.
-fn sends_bytes_slowly(rt: &impl Clock, mut link: TcpLink) -> u32 {
+fn sends_bytes_slowly(rt: &impl Clock, mut link: TcpLink<'_, HostRuntime>) -> u32 {
     for sent in 0..2_000 {
         if link.write(b"x").is_err() {
             return sent;
@@ -116,10 +129,10 @@ fn a_peer_that_sends_on_is_given_up(
 }
 
 // Gives the link back: how long that takes.
-fn gives_back(
+fn gives_back<'a>(
     rt: &impl Clock,
-    mut door: TcpDoor<'_, HostRuntime>,
-    link: TcpLink,
+    mut door: TcpDoor<'a, HostRuntime>,
+    link: TcpLink<'a, HostRuntime>,
 ) -> Option<Duration> {
     let start = Instant::now(rt).ok()?;
     door.give_back(link, Proto::Relp, 0, 0).ok()?;
@@ -132,7 +145,9 @@ pub(crate) fn links_wait_for_a_while(
     host: &HostRuntime,
 ) {
     links_wait_as_those_of_the_program(rt, host);
-    let mut net = TcpNet::with_waits(rt.alloc(), host, short_waits());
+    accepted_links_wait_as_the_words_say(rt, host);
+    let reports = Reports::quiet();
+    let mut net = TcpNet::with_waits(rt.alloc(), host, &reports, short_waits());
     a_silent_peer_is_a_fault(rt, &mut net, &free_place(rt, host));
     a_peer_that_reads_nothing_is_a_fault(rt, &mut net, &free_place(rt, host));
     a_peer_that_sends_on_is_given_up(rt, &mut net, &free_place(rt, host));

@@ -1,0 +1,75 @@
+//! What an answer says, as its first bytes show it.
+ghost use Rattle.std.specs.Prelude.{◌≡◌, ◌<◌, ◌≤◌, IfSome, IfNone};
+ghost use Rattle.edge_net.specs.Answer.{code_of as code_in};
+
+/// An answer that begins a piece of bytes.
+#[derive(Clone, Copy, Debug, PartialEq, Eq)]
+pub enum Answer {
+    /// A reply of HTTP with this status (RFC 9112, section 4).
+    Reply { code: u16 },
+    /// A `rsp` frame of RELP with this code (rsyslog's RELP specification, COMMAND SEMANTICS, "rsp").
+    Frame { code: u16 },
+}
+
+// The least code by which an answer refuses what it is an answer to.
+const LEAST_REFUSAL: u16 = 400;
+
+// The number that three digits at the beginning spell.
+fn code_of(bytes: &[u8]) -> Option<u16> {
+    let [a, b, c, ..] = bytes else {
+        return None;
+    };
+    let mut code = 0u16;
+    for digit in [*a, *b, *c] {
+        if !digit.is_ascii_digit() {
+            return None;
+        }
+        code = code
+            .saturating_mul(10)
+            .saturating_add(u16::from(digit.saturating_sub(b'0')));
+    }
+    Some(code)
+}
+
+// What stands after a number and a space.
+fn after_number(bytes: &[u8]) -> Option<&[u8]> {
+    let digits = bytes.iter().position(|byte| !byte.is_ascii_digit())?;
+    if digits == 0 {
+        return None;
+    }
+    bytes.get(digits..)?.strip_prefix(b" ")
+}
+
+// The code of a `rsp` frame: `TXNR rsp LENGTH CODE ..`.
+fn frame_code(bytes: &[u8]) -> Option<u16> {
+    let command = after_number(bytes)?;
+    let length = command.strip_prefix(b"rsp ")?;
+    code_of(after_number(length)?)
+}
+
+impl Answer {
+    /// The answer that the bytes begin with, where that can be told.
+    pub fn at(bytes: &[u8]) -> Option<Answer> {
+        if let Some(status) = bytes.strip_prefix(b"HTTP/1.1 ") {
+            return Some(Answer::Reply {
+                code: code_of(status)?,
+            });
+        }
+        Some(Answer::Frame {
+            code: frame_code(bytes)?,
+        })
+    }
+
+    /// The code by which it refuses what it is an answer to, if it does.
+    pub fn refusal(self) -> Option<u16>
+        ensures some { IfSome result (λ code. (code ≡ code_in self) × (400 ≤ code)) }
+        ensures none { IfNone result (code_in self < 400) }
+    {
+        let (Answer::Reply { code } | Answer::Frame { code }) = self;
+        if code >= LEAST_REFUSAL {
+            Some(code)
+        } else {
+            None
+        }
+    }
+}

@@ -1,0 +1,194 @@
+//! What is said on standard error of the sockets.
+ghost use Rattle.std.specs.Prelude.{◌≡◌, true, false};
+
+use crate::{Illness, Line, Matter, Receiver, Recent, Topic};
+use std::net::SocketAddr;
+use std::rt::Clock;
+use std::sync::Mutex;
+use std::sync::atomic::{AtomicU64, Ordering};
+use std::{fmt, io};
+
+/// What is said on standard error of the doors and links of a net, which share it.
+///
+/// A line says what befell a sender's connection, with the peer's address: at most one a minute about the same topic, and ten a second
+/// in all. The lines count what they leave out. Others say how the receiver is, where that changes. Nothing waits for a line, and where
+/// one can't be written that isn't reported.
+#[derive(Drop)]
+pub struct Reports {
+    is_quiet: bool,
+    senders: Mutex<Recent>,
+    receiver: Mutex<Receiver>,
+    // How often something befell a sender's connection while another thread noted such a thing.
+    overlooked: AtomicU64,
+}
+
+// What a line about the receiver stands for beside what it says.
+#[derive(Clone, Copy)]
+struct Failures {
+    // How many failures came since the line before, beside the one that this line is about.
+    more: u64,
+}
+
+impl fmt::Display for Failures {
+    fn fmt<W: fmt::Write>(&self, f: &mut fmt::Formatter<W>) -> fmt::Result {
+        let more = self.more;
+        match more {
+            0 => Ok(()),
+            _ => write!(f, "; failures meanwhile: {more}"),
+        }
+    }
+}
+
+// The time, in milliseconds of the clock.
+fn millis(rt: &impl Clock) -> io::Result<u64> {
+    let now = rt.monotonic()?.as_millis();
+    Ok(u64::try_from(now).unwrap_or(u64::MAX))
+}
+
+// Whether a number of 0 to 65,535 stands after the last colon of a place.
+fn has_port(place: &str) -> bool {
+    match place.rsplit_once(':') {
+        Some((_, port)) => port.parse::<u16>().is_ok(),
+        None => false,
+    }
+}
+
+// Why a place can't be listened at or reached.
+#[derive(Clone, Copy)]
+struct Reason<'a> {
+    place: &'a str,
+    error: &'a io::Error,
+}
+
+// What the system says, where the place has a port.
+impl fmt::Display for Reason<'_> {
+    fn fmt<W: fmt::Write>(&self, f: &mut fmt::Formatter<W>) -> fmt::Result {
+        let (place, error) = (self.place, self.error);
+        if has_port(place) {
+            write!(f, "{error}")
+        } else {
+            write!(f, "no port in {place}")
+        }
+    }
+}
+
+impl Reports {
+    /// Lines are printed.
+    pub fn new() -> Reports
+        ensures { result.is_quiet ≡ false }
+    {
+        Reports::with_quiet(false)
+    }
+
+    /// None is.
+    pub fn quiet() -> Reports
+        ensures { result.is_quiet ≡ true }
+    {
+        Reports::with_quiet(true)
+    }
+
+    fn with_quiet(is_quiet: bool) -> Reports
+        ensures { result.is_quiet ≡ is_quiet }
+    {
+        Reports {
+            is_quiet,
+            senders: Mutex::new(Recent::new()),
+            receiver: Mutex::new(Receiver::new()),
+            overlooked: AtomicU64::new(0),
+        }
+    }
+
+    /// Whether no line is printed.
+    pub(crate) fn is_quiet(&self) -> bool
+        ensures { result ≡ self.now.is_quiet }
+    {
+        self.is_quiet
+    }
+
+    /// That a place is listened at.
+    pub(crate) fn listens(&self, rt: &impl Eprint, place: &str) {
+        if !self.is_quiet {
+            let _ = eprintln!(rt; "bridge: listening on {place}");
+        }
+    }
+
+    /// That a place can't be listened at, and why.
+    pub(crate) fn cannot_listen(&self, rt: &impl Eprint, place: &str, error: &io::Error) {
+        if !self.is_quiet {
+            let reason = Reason { place, error };
+            let _ = eprintln!(rt; "bridge: can't listen on {place}: {reason}");
+        }
+    }
+
+    /// That this befell the connection of this peer.
+    pub(crate) fn sender(&self, rt: &(impl Clock + Eprint), peer: SocketAddr, matter: Matter) {
+        if self.is_quiet {
+            return;
+        }
+        let topic = Topic {
+            peer: peer.ip(),
+            matter,
+        };
+        if let Some(line) = self.line_about(rt, topic) {
+            let _ = eprintln!(rt; "bridge: sender {peer}: {matter}{line}");
+        }
+    }
+
+    // The line about the topic, which came just now, if one is to be printed. Without a clock none is.
+    fn line_about(&self, rt: &impl Clock, topic: Topic) -> Option<Line> {
+        let Ok(now) = millis(rt) else {
+            return None;
+        };
+        let Some(mut senders) = self.senders.try_lock() else {
+            let _ = self.overlooked.fetch_add(1, Ordering::SeqCst);
+            return None;
+        };
+        senders.overlook(self.overlooked.swap(0, Ordering::SeqCst));
+        senders.note(topic, now)
+    }
+
+    /// That the receiver at this place fails in this way.
+    pub(crate) fn receiver_fails(&self, rt: &(impl Clock + Eprint), place: &str, illness: Illness) {
+        if let Some(failures) = self.failures_at(rt, illness) {
+            let _ = eprintln!(rt; "bridge: receiver {place}: {illness}{failures}");
+        }
+    }
+
+    /// That no address of this place took a connection, and the error of the last one.
+    pub(crate) fn cannot_reach(&self, rt: &(impl Clock + Eprint), place: &str, error: &io::Error) {
+        if let Some(failures) = self.failures_at(rt, Illness::Unreached) {
+            let reason = Reason { place, error };
+            let _ = eprintln!(rt; "bridge: receiver {place}: can't reach it: {reason}{failures}");
+        }
+    }
+
+    // What is said of the failures that a line stands for, if one is to be printed about one of this kind that came just now.
+    fn failures_at(&self, rt: &impl Clock, illness: Illness) -> Option<Failures> {
+        if self.is_quiet {
+            return None;
+        }
+        let Ok(now) = millis(rt) else {
+            return None;
+        };
+        let count = self.receiver.try_lock()?.fails(illness, now)?;
+        Some(Failures {
+            more: count.saturating_sub(1),
+        })
+    }
+
+    /// That a session with the receiver at this place ended with answers and without a failure.
+    pub(crate) fn receiver_is_well(&self, rt: &impl Eprint, place: &str) {
+        if self.is_quiet {
+            return;
+        }
+        let Some(mut receiver) = self.receiver.try_lock() else {
+            return;
+        };
+        let well = receiver.is_well();
+        drop(receiver);
+        if let Some(more) = well {
+            let failures = Failures { more };
+            let _ = eprintln!(rt; "bridge: receiver {place} is well again{failures}");
+        }
+    }
+}

@@ -1,0 +1,83 @@
+//! What is said of a sender: which one it is, and what befell its connection.
+use crate::Trouble;
+use edge_io::Proto;
+use std::fmt;
+use std::net::IpAddr;
+
+/// What befell a connection that was accepted.
+#[derive(Clone, Copy, Debug, PartialEq, Eq)]
+pub enum Matter {
+    /// A request of HTTP was answered with this status, which says that it was refused.
+    RequestRefused {
+        code: u16,
+    },
+    /// A frame of RELP was answered with this code, which says that it was refused.
+    FrameRefused {
+        code: u16,
+    },
+    /// It ended otherwise than well: by which protocol it spoke, the exit status that stands for its ending, and what went wrong in a
+    /// call of the system, if one failed.
+    Ended {
+        proto: Proto,
+        status: u8,
+        trouble: Option<Trouble>,
+    },
+}
+
+/// What a line about a sender is about. Two lines with the same topic say the same of the same peer.
+#[derive(Clone, Copy, PartialEq, Eq)]
+pub struct Topic {
+    /// The peer's address. Its port isn't among it, since each connection comes from another one.
+    pub peer: IpAddr,
+    /// What befell its connection.
+    pub matter: Matter,
+}
+
+// The protocol's name.
+fn name_of(proto: Proto) -> &'static str {
+    match proto {
+        Proto::Relp => "RELP",
+        Proto::Lumberjack => "Lumberjack",
+        Proto::Hec => "HEC",
+    }
+}
+
+// What a status of an ending says, where no call of the system failed.
+fn meaning_of(status: u8) -> &'static str {
+    match status {
+        65 => "FILE is no spool",
+        66 => "its bytes break the protocol",
+        67 => "FILE has no room",
+        70 => "no memory",
+        71 => "a read failed",
+        72 => "a write failed",
+        73 => "a call on FILE failed",
+        75 => "it ended in a frame",
+        77 => "numbers are spent",
+        _ => "see its status",
+    }
+}
+
+/// Words that follow the peer's address, as `a request was refused with 401`.
+impl fmt::Display for Matter {
+    fn fmt<W: fmt::Write>(&self, f: &mut fmt::Formatter<W>) -> fmt::Result {
+        match *self {
+            Matter::RequestRefused { code } => write!(f, "a request was refused with {code}"),
+            Matter::FrameRefused { code } => write!(f, "a frame was refused with {code}"),
+            Matter::Ended {
+                proto,
+                status,
+                trouble,
+            } => {
+                let name = name_of(proto);
+                let meaning = meaning_of(status);
+                match (status, trouble) {
+                    (71 | 72, Some(trouble)) => {
+                        write!(f, "its {name} connection ended with {status}: {trouble}")
+                    }
+                    _ => write!(f, "its {name} connection ended with {status}: {meaning}"),
+                }
+            }
+        }
+    }
+}

@@ -1,0 +1,142 @@
+//! What is seen of a connection, for the lines about it.
+use crate::trouble::Way;
+use crate::{Answer, Illness, Matter, Reports, Trouble};
+use edge_io::Proto;
+use std::io;
+use std::net::SocketAddr;
+use std::rt::Clock;
+use std::time::Duration;
+
+/// What is seen of a connection, and where it is said. It changes nothing of the connection.
+#[derive(Drop)]
+pub(crate) struct Watch<'a, R> {
+    rt: &'a R,
+    reports: &'a Reports,
+    // The peer, where the connection was accepted.
+    peer: Option<SocketAddr>,
+    // How long a call waits for the peer.
+    wait: Duration,
+    has_read: bool,
+    // A reply of HTTP came that refuses nothing.
+    has_reply: bool,
+    // A line was asked for about it, or its end is no news after what was seen.
+    is_said: bool,
+    // What a call met last that failed.
+    trouble: Option<Trouble>,
+}
+
+impl<'a, R> Watch<'a, R> {
+    /// Nothing was seen yet of a connection that was accepted from this peer, or was dialed where there is none.
+    pub(crate) fn of(
+        rt: &'a R,
+        reports: &'a Reports,
+        peer: Option<SocketAddr>,
+        wait: Duration,
+    ) -> Watch<'a, R> {
+        Watch {
+            rt,
+            reports,
+            peer,
+            wait,
+            has_read: false,
+            has_reply: false,
+            is_said: false,
+            trouble: None,
+        }
+    }
+}
+
+impl<R: Clock + Eprint> Watch<'_, R> {
+    // Says that the receiver fails, once for a connection.
+    fn fails(&mut self, place: &str, illness: Illness) {
+        if !self.is_said {
+            self.is_said = true;
+            self.reports.receiver_fails(self.rt, place, illness);
+        }
+    }
+
+    // What it is that the receiver ended the connection.
+    fn closing(&self) -> Illness {
+        if self.has_reply {
+            Illness::ClosedAfterReply
+        } else {
+            Illness::Closed
+        }
+    }
+
+    /// A read that asked for some bytes gave these. Where the connection was dialed, `place` is where.
+    pub(crate) fn saw_read(&mut self, place: Option<&str>, bytes: &[u8]) {
+        if !bytes.is_empty() {
+            self.has_read = true;
+        }
+        let Some(place) = place else {
+            return;
+        };
+        if bytes.is_empty() {
+            let illness = self.closing();
+            return self.fails(place, illness);
+        }
+        let Some(answer) = Answer::at(bytes) else {
+            return;
+        };
+        match answer.refusal() {
+            Some(code) => self.fails(place, Illness::Refuses { code }),
+            None => self.has_reply = matches!(answer, Answer::Reply { .. }),
+        }
+    }
+
+    /// A write took this piece, or its beginning.
+    pub(crate) fn saw_write(&mut self, piece: &[u8]) {
+        let Some(peer) = self.peer else {
+            return;
+        };
+        let Some(answer) = Answer::at(piece) else {
+            return;
+        };
+        let Some(code) = answer.refusal() else {
+            return;
+        };
+        let matter = match answer {
+            Answer::Reply { .. } => Matter::RequestRefused { code },
+            Answer::Frame { .. } => Matter::FrameRefused { code },
+        };
+        self.is_said = true;
+        self.reports.sender(self.rt, peer, matter);
+    }
+
+    /// A read or a write failed by this error.
+    pub(crate) fn saw_error(&mut self, place: Option<&str>, error: &io::Error, way: Way) {
+        let trouble = Trouble::of(error, way, self.wait);
+        self.trouble = Some(trouble);
+        let Some(place) = place else {
+            return;
+        };
+        if trouble == Trouble::Reset && self.has_reply {
+            return self.fails(place, Illness::ClosedAfterReply);
+        }
+        self.fails(place, Illness::Lost { trouble });
+    }
+
+    /// A connection that was accepted was served to its end, by this protocol and with this exit status.
+    pub(crate) fn ended(&self, proto: Proto, status: u8) {
+        let is_unused = !self.has_read && self.trouble == Some(Trouble::Reset);
+        if status == 0 || self.is_said || is_unused {
+            return;
+        }
+        if let Some(peer) = self.peer {
+            let matter = Matter::Ended {
+                proto,
+                status,
+                trouble: self.trouble,
+            };
+            self.reports.sender(self.rt, peer, matter);
+        }
+    }
+
+    /// A connection that was dialed at this place was hung up.
+    pub(crate) fn hung_up(&self, place: &str) {
+        if self.has_read && !self.is_said {
+            self.reports.receiver_is_well(self.rt, place);
+        }
+    }
+}

@@ -1,0 +1,398 @@
+//! What a net says of what befalls its doors and links, by a clock and a standard error in memory.
+use crate::sockets::free_place;
+use crate::staged::Staged;
+use edge_io::{Door, Net, Pause, Proto, Sink, Source};
+use edge_net::{Reports, TcpDoor, TcpLink, TcpNet, Waits};
+use std::alloc::Global;
+use std::process::Abort;
+use std::time::Duration;
+
+type StagedNet<'a, 'h> = TcpNet<'a, Staged<'h>>;
+
+type StagedDoor<'a, 'h> = TcpDoor<'a, Staged<'h>>;
+
+type StagedLink<'a, 'h> = TcpLink<'a, Staged<'h>>;
+
+// A minute, in milliseconds.
+const MINUTE: u64 = 60_000;
+
+// Waits of a second for a peer, and none of doors for each other.
+fn waits() -> Waits {
+    Waits {
+        accepted: Duration::from_secs(1),
+        dialed: Duration::from_secs(1),
+        roll: Duration::ZERO,
+    }
+}
+
+// That just this line was printed, which begins and ends so.
+fn assert_line(rt: &impl Abort, staged: &Staged<'_>, start: &str, end: &str) {
+    let lines = staged.take_lines(rt);
+    let [line] = lines.as_slice() else {
+        panic!(rt; "one line, not {lines:?}: {start} .. {end}");
+    };
+    assert!(rt; line.starts_with(start) && line.ends_with(end), "{line}");
+}
+
+// That none was.
+fn assert_silence(rt: &impl Abort, staged: &Staged<'_>) {
+    let lines = staged.take_lines(rt);
+    assert!(rt; lines.is_empty(), "{lines:?}");
+}
+
+// That just a line about the receiver at this place was printed, which says this; one about a sender may stand before it.
+fn assert_receiver(rt: &impl Abort, staged: &Staged<'_>, place: &str, words: &str) {
+    let lines = staged.take_lines(rt);
+    let ([line] | [_, line]) = lines.as_slice() else {
+        panic!(rt; "one line, not {lines:?}: {words}");
+    };
+    if let [other, _] = lines.as_slice() {
+        assert!(rt; other.starts_with("bridge: sender 127.0.0.1:"), "{lines:?}");
+    }
+    let rest = line.strip_prefix("bridge: receiver ");
+    let rest = rest.and_then(|rest| rest.strip_prefix(place));
+    assert!(rt; rest == Some(words), "{line}");
+}
+
+// That just a line about a sender of this machine was printed, which ends so.
+fn assert_sender(rt: &impl Abort, staged: &Staged<'_>, words: &str) {
+    assert_line(rt, staged, "bridge: sender 127.0.0.1:", words);
+}
+
+// A door that is bound at the place, which is said.
+fn bound<'a, 'h>(
+    rt: &impl Abort,
+    staged: &Staged<'_>,
+    net: &mut StagedNet<'a, 'h>,
+    place: &str,
+) -> StagedDoor<'a, 'h> {
+    let mut doors = net.bind(place, 1).expect(rt, "a free port");
+    assert_line(rt, staged, "bridge: listening on ", place);
+    doors.pop().expect(rt, "one door")
+}
+
+// A link that is dialed, and the one that is accepted for it.
+fn pair<'a, 'h>(
+    rt: &impl Abort,
+    net: &mut StagedNet<'a, 'h>,
+    door: &mut StagedDoor<'a, 'h>,
+    place: &str,
+) -> (StagedLink<'a, 'h>, StagedLink<'a, 'h>) {
+    let near = net.dial(place).expect(rt, "a port that listens");
+    let far = door.accept().expect(rt, "a connection waits");
+    (near, far.expect(rt, "no door is shut"))
+}
+
+// Sends the text, which the other link reads.
+fn pass(rt: &impl Abort, from: &mut StagedLink<'_, '_>, to: &mut StagedLink<'_, '_>, text: &str) {
+    let mut buf = [0u8; 64];
+    assert!(rt; from.write(text.as_bytes()) == Ok(text.len()));
+    assert!(rt; to.read(&mut buf) == Ok(text.len()));
+}
+
+fn a_place_that_is_taken_is_named(
+    rt: &impl Abort,
+    staged: &Staged<'_>,
+    net: &mut StagedNet<'_, '_>,
+    place: &str,
+) {
+    let door = bound(rt, staged, net, place);
+    assert!(rt; net.bind(place, 1).is_err(), "the port is taken");
+    let reason = ": Address already in use (os error 98)";
+    assert_line(rt, staged, "bridge: can't listen on 127.0.0.1:", reason);
+    drop(door);
+}
+
+// A place that has no port is said to have none.
+fn a_place_without_a_port_is_named(
+    rt: &impl Abort,
+    staged: &Staged<'_>,
+    net: &mut StagedNet<'_, '_>,
+) {
+    for place in ["nowhere", "127.0.0.1:", "127.0.0.1:65536", "[::1]"] {
+        assert!(rt; net.bind(place, 1).is_err(), "{place}");
+        assert_line(rt, staged, "bridge: can't listen on ", place);
+    }
+    assert!(rt; net.dial("nowhere").is_err(), "nowhere");
+    assert_receiver(
+        rt,
+        staged,
+        "nowhere",
+        ": can't reach it: no port in nowhere",
+    );
+}
+
+// A receiver isn't reached, and then it is.
+fn a_receiver_is_reached_again(
+    rt: &impl Abort,
+    staged: &Staged<'_>,
+    net: &mut StagedNet<'_, '_>,
+    place: &str,
+) {
+    assert!(rt; net.dial(place).is_err(), "nobody listens");
+    let reason = ": can't reach it: Connection refused (os error 111)";
+    assert_receiver(rt, staged, place, reason);
+    assert!(rt; net.dial(place).is_err(), "nobody listens");
+    assert_silence(rt, staged);
+    let mut door = bound(rt, staged, net, place);
+    // a session in which nothing came shows nothing
+    let (near, far) = pair(rt, net, &mut door, place);
+    net.hang_up(near);
+    drop(far);
+    assert_silence(rt, staged);
+    let (mut near, mut far) = pair(rt, net, &mut door, place);
+    pass(rt, &mut far, &mut near, "1 rsp 6 200 OK\n");
+    assert_silence(rt, staged);
+    net.hang_up(near);
+    assert_receiver(rt, staged, place, " is well again; failures meanwhile: 1");
+}
+
+// A receiver ends the connection after one of these texts.
+fn a_receiver_closes(
+    rt: &impl Abort,
+    staged: &Staged<'_>,
+    net: &mut StagedNet<'_, '_>,
+    place: &str,
+) {
+    let mut door = bound(rt, staged, net, place);
+    for (text, words) in [
+        (
+            "1 rsp 6 200 OK\n",
+            ": it closed the connection while an answer was due",
+        ),
+        (
+            "HTTP/1.1 200 OK\r\n",
+            ": it closed the connection after a reply, and has to keep it open",
+        ),
+        (
+            "HTTP/1.1 403 Forbidden\r\n",
+            ": it refuses what is sent with 403",
+        ),
+        ("2 rsp 9 500 error\n", ": it refuses what is sent with 500"),
+    ] {
+        staged.pass(MINUTE);
+        let (mut near, mut far) = pair(rt, net, &mut door, place);
+        pass(rt, &mut far, &mut near, text);
+        drop(far);
+        assert!(rt; near.read(&mut [0u8; 8]) == Ok(0));
+        // one line for a session
+        assert_receiver(rt, staged, place, words);
+        net.hang_up(near);
+        assert_silence(rt, staged);
+    }
+}
+
+// Writes pieces of 64 KiB until one fails, 1,024 at most.
+fn write_until_it_fails(link: &mut StagedLink<'_, '_>) -> bool {
+    let piece = [b'x'; 65_536];
+    for _ in 0..1_024 {
+        if link.write(&piece).is_err() {
+            return true;
+        }
+    }
+    false
+}
+
+fn a_receiver_hangs(
+    rt: &impl Abort,
+    staged: &Staged<'_>,
+    net: &mut StagedNet<'_, '_>,
+    place: &str,
+) {
+    let mut door = bound(rt, staged, net, place);
+    staged.pass(MINUTE);
+    let (mut near, far) = pair(rt, net, &mut door, place);
+    assert!(rt; near.read(&mut [0u8; 8]).is_err());
+    assert_receiver(rt, staged, place, ": it sent nothing for 1 seconds");
+    net.hang_up(near);
+    drop(far);
+    staged.pass(MINUTE);
+    let (mut near, far) = pair(rt, net, &mut door, place);
+    assert!(rt; write_until_it_fails(&mut near));
+    assert_receiver(rt, staged, place, ": it took nothing for 1 seconds");
+    net.hang_up(near);
+    drop(far);
+    assert_silence(rt, staged);
+}
+
+// A sender's connection is served to its end, which has this status.
+fn serve_to<'a, 'h>(
+    rt: &impl Abort,
+    net: &mut StagedNet<'a, 'h>,
+    door: &mut StagedDoor<'a, 'h>,
+    place: &str,
+    proto: Proto,
+    status: u8,
+) {
+    let (near, far) = pair(rt, net, door, place);
+    net.hang_up(near);
+    assert!(rt; door.give_back(far, proto, 0, status).is_ok());
+}
+
+fn endings_are_said_once_a_minute(
+    rt: &impl Abort,
+    staged: &Staged<'_>,
+    net: &mut StagedNet<'_, '_>,
+    place: &str,
+) {
+    let mut door = bound(rt, staged, net, place);
+    serve_to(rt, net, &mut door, place, Proto::Relp, 0);
+    assert_silence(rt, staged);
+    let words = ": its RELP connection ended with 66: its bytes break the protocol";
+    serve_to(rt, net, &mut door, place, Proto::Relp, 66);
+    assert_sender(rt, staged, words);
+    serve_to(rt, net, &mut door, place, Proto::Relp, 66);
+    serve_to(rt, net, &mut door, place, Proto::Relp, 66);
+    assert_silence(rt, staged);
+    let full = ": its Lumberjack connection ended with 67: FILE has no room";
+    serve_to(rt, net, &mut door, place, Proto::Lumberjack, 67);
+    assert_sender(rt, staged, full);
+    staged.pass(MINUTE);
+    serve_to(rt, net, &mut door, place, Proto::Relp, 66);
+    let words = ": its bytes break the protocol; 3 times since the last such line";
+    assert_sender(rt, staged, words);
+    serve_to(rt, net, &mut door, place, Proto::Hec, 73);
+    let failed = ": its HEC connection ended with 73: a call on FILE failed";
+    assert_sender(rt, staged, failed);
+}
+
+// A sender's connection breaks by a reset, after a text of it was read or before one came.
+fn resets_are_said(rt: &impl Abort, staged: &Staged<'_>, net: &mut StagedNet<'_, '_>, place: &str) {
+    let mut door = bound(rt, staged, net, place);
+    for is_read in [false, true] {
+        let (mut near, mut far) = pair(rt, net, &mut door, place);
+        if is_read {
+            pass(rt, &mut near, &mut far, "1 open 0\n");
+        }
+        assert!(rt; far.write(b"unread") == Ok(6));
+        assert!(rt; near.read(&mut [0u8; 1]) == Ok(1));
+        // closed with bytes unread, it resets the connection
+        net.hang_up(near);
+        assert!(rt; far.read(&mut [0u8; 16]).is_err());
+        assert!(rt; door.give_back(far, Proto::Relp, 0, 71).is_ok());
+        if is_read {
+            let words = ": its RELP connection ended with 71: it reset the connection";
+            assert_sender(rt, staged, words);
+        } else {
+            assert_silence(rt, staged);
+        }
+    }
+}
+
+fn waits_in_vain_are_said(
+    rt: &impl Abort,
+    staged: &Staged<'_>,
+    net: &mut StagedNet<'_, '_>,
+    place: &str,
+) {
+    let mut door = bound(rt, staged, net, place);
+    let (near, mut far) = pair(rt, net, &mut door, place);
+    assert!(rt; far.read(&mut [0u8; 8]).is_err());
+    drop(near);
+    assert!(rt; door.give_back(far, Proto::Hec, 0, 71).is_ok());
+    let words = ": its HEC connection ended with 71: it sent nothing for 1 seconds";
+    assert_sender(rt, staged, words);
+    let (near, mut far) = pair(rt, net, &mut door, place);
+    assert!(rt; write_until_it_fails(&mut far));
+    drop(near);
+    assert!(rt; door.give_back(far, Proto::Hec, 0, 72).is_ok());
+    let words = ": its HEC connection ended with 72: it took nothing for 1 seconds";
+    assert_sender(rt, staged, words);
+}
+
+fn refusals_are_said_by_their_codes(
+    rt: &impl Abort,
+    staged: &Staged<'_>,
+    net: &mut StagedNet<'_, '_>,
+    place: &str,
+) {
+    let mut door = bound(rt, staged, net, place);
+    for (text, words) in [
+        ("HTTP/1.1 401 No\r\n", ": a request was refused with 401"),
+        ("HTTP/1.1 503 No\r\n", ": a request was refused with 503"),
+        ("2 rsp 12 500 not open\n", ": a frame was refused with 500"),
+    ] {
+        let (mut near, mut far) = pair(rt, net, &mut door, place);
+        pass(rt, &mut far, &mut near, "HTTP/1.1 200 OK\r\n");
+        assert_silence(rt, staged);
+        assert!(rt; far.write(text.as_bytes()) == Ok(text.len()));
+        assert_sender(rt, staged, words);
+        // a second time within a minute, and the connection's end
+        assert!(rt; far.write(text.as_bytes()) == Ok(text.len()));
+        drop(near);
+        assert!(rt; door.give_back(far, Proto::Hec, 0, 66).is_ok());
+        assert_silence(rt, staged);
+    }
+    // what a peer writes so is no refusal of bridge
+    let (mut near, mut far) = pair(rt, net, &mut door, place);
+    pass(rt, &mut near, &mut far, "HTTP/1.1 401 No\r\n");
+    net.hang_up(near);
+    assert!(rt; door.give_back(far, Proto::Hec, 0, 0).is_ok());
+    assert_silence(rt, staged);
+}
+
+// Nothing of all this is said where it is quiet.
+fn a_quiet_net_says_nothing(
+    rt: &impl Abort,
+    staged: &Staged<'_>,
+    net: &mut StagedNet<'_, '_>,
+    place: &str,
+) {
+    assert!(rt; net.dial(place).is_err(), "nobody listens");
+    let mut doors = net.bind(place, 2).expect(rt, "a free port");
+    assert!(rt; net.bind(place, 1).is_err(), "the port is taken");
+    // a second door that doesn't begin
+    let mut door = doors.pop().expect(rt, "two doors");
+    let (mut near, mut far) = pair(rt, net, &mut door, place);
+    pass(rt, &mut far, &mut near, "HTTP/1.1 401 No\r\n");
+    net.hang_up(near);
+    assert!(rt; door.give_back(far, Proto::Hec, 0, 66).is_ok());
+    for _ in 0..4 {
+        net.pause();
+    }
+    assert_silence(rt, staged);
+    drop(doors);
+}
+
+// A sender's side: each by a net of its own, at a port of its own.
+fn senders_are_said(rt: &impl Abort, alloc: Global, host: &HostRuntime, staged: &Staged<'_>) {
+    let reports = Reports::new();
+    let mut net = TcpNet::with_waits(alloc, staged, &reports, waits());
+    endings_are_said_once_a_minute(rt, staged, &mut net, &free_place(rt, host));
+    let reports = Reports::new();
+    let mut net = TcpNet::with_waits(alloc, staged, &reports, waits());
+    resets_are_said(rt, staged, &mut net, &free_place(rt, host));
+    let reports = Reports::new();
+    let mut net = TcpNet::with_waits(alloc, staged, &reports, waits());
+    waits_in_vain_are_said(rt, staged, &mut net, &free_place(rt, host));
+    let reports = Reports::new();
+    let mut net = TcpNet::with_waits(alloc, staged, &reports, waits());
+    refusals_are_said_by_their_codes(rt, staged, &mut net, &free_place(rt, host));
+}
+
+// The receiver's side.
+fn receivers_are_said(rt: &impl Abort, alloc: Global, host: &HostRuntime, staged: &Staged<'_>) {
+    let reports = Reports::new();
+    let mut net = TcpNet::with_waits(alloc, staged, &reports, waits());
+    a_receiver_is_reached_again(rt, staged, &mut net, &free_place(rt, host));
+    let reports = Reports::new();
+    let mut net = TcpNet::with_waits(alloc, staged, &reports, waits());
+    a_receiver_closes(rt, staged, &mut net, &free_place(rt, host));
+    let reports = Reports::new();
+    let mut net = TcpNet::with_waits(alloc, staged, &reports, waits());
+    a_receiver_hangs(rt, staged, &mut net, &free_place(rt, host));
+}
+
+/// Each with what it keeps in mind of its own.
+pub(crate) fn the_net_says_what_befalls_it(rt: &impl Abort, alloc: Global, host: &HostRuntime) {
+    let staged = Staged::over(alloc, host);
+    let reports = Reports::new();
+    let mut net = TcpNet::with_waits(alloc, &staged, &reports, waits());
+    a_place_that_is_taken_is_named(rt, &staged, &mut net, &free_place(rt, host));
+    a_place_without_a_port_is_named(rt, &staged, &mut net);
+    senders_are_said(rt, alloc, host, &staged);
+    receivers_are_said(rt, alloc, host, &staged);
+    let quiet = Reports::quiet();
+    let mut net = TcpNet::with_waits(alloc, &staged, &quiet, waits());
+    a_quiet_net_says_nothing(rt, &staged, &mut net, &free_place(rt, host));
+}
