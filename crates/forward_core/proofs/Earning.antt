@@ -9,7 +9,7 @@ use Rattle.desk_access.specs.Desk.{DeskState}
 use Rattle.forward_core.specs.Acknowledged.{IsAcknowledged, MayRelease}
 use Rattle.forward_core.specs.Leave.{AreEarned, MayMark}
 use Rattle.forward_core.specs.Calls.{after_last}
-use Rattle.forward_core.specs.Forwarded.{Asked}
+use Rattle.forward_core.specs.Forwarded.{Asked, until_by}
 use Rattle.forward_core.specs.Moments.{Told, told, Does, Leads}
 use Rattle.forward_core.specs.Session.{Agrees, MayEndBy, MayHalt, Stands}
 use Rattle.forward_core.specs.Turning.{IsCut, MayFollow}
@@ -70,9 +70,9 @@ earned_since ran old mid join same tells was now join_same Release start From Sa
     leave access link n (join_same link is) (so_then (tells was) (tells now) (tells link) (λ calls. ran old calls mid) (λ calls. ran mid calls access) (λ calls. ran old calls access) start From (Says n) (λ xs ys p q. join _ _ _ xs ys p q) done d)
 
 -- at the start, where nothing was done
-pub earned_first : {A L : Type 0} (ran : A → List Call → A → Type 0) (cursor_known end_known : A → ℕ) (seen : A → DeskState → List Record → Type 0) (old : A)
-    (same : L → L → Type 0) (given left taken : L → Option (List ℕ)) (link : L) (Ends : Table) (Release : ℕ → Type 0) (start until : ℕ) (begun : A)
-    → Asked ran cursor_known end_known seen old start until begun → MayRelease ran cursor_known end_known seen old same given taken link Ends Release
-    → MayMark ran begun same (λ l. told (given l) (left l) (taken l)) link (λ n bytes calls text. IsAcknowledged Ends start until bytes calls text n) Release
-earned_first ran cursor_known end_known seen old same given left taken link Ends Release start until begun asked leave now read n is d =
-    leave start until begun now read d.piece d.calls d.text n asked d.made (some_called Ends start until d.piece d.calls d.text n d.is) is d.read d.wrote d.is
+pub earned_first : {A L : Type 0} (upto : Option ℕ) (ran : A → List Call → A → Type 0) (cursor_known end_known : A → ℕ) (seen : A → DeskState → List Record → Type 0) (old : A)
+    (same : L → L → Type 0) (given left taken : L → Option (List ℕ)) (link : L) (Ends : Table) (Release : ℕ → Type 0) (start end : ℕ) (begun : A)
+    → Asked ran cursor_known end_known seen old start end begun → MayRelease upto ran cursor_known end_known seen old same given taken link Ends Release
+    → MayMark ran begun same (λ l. told (given l) (left l) (taken l)) link (λ n bytes calls text. IsAcknowledged Ends start (until_by upto end) bytes calls text n) Release
+earned_first upto ran cursor_known end_known seen old same given left taken link Ends Release start end begun asked leave now read n is d =
+    leave start end begun now read d.piece d.calls d.text n asked d.made (some_called Ends start (until_by upto end) d.piece d.calls d.text n d.is) is d.read d.wrote d.is

@@ -7,7 +7,7 @@ use Rattle.spool_answers.specs.Pend.{AreNumbered}
 use Rattle.desk_access.specs.Call.{Call, Record}
 use Rattle.desk_access.specs.Desk.{DeskState}
 use Rattle.forward_core.specs.Calls.{AreGranted, AreOfSession, MarksBelowRead, after_last, entries_of, next_of, read_of}
-use Rattle.forward_core.specs.Forwarded.{Asked}
+use Rattle.forward_core.specs.Forwarded.{Asked, until_by}
 use Rattle.forward_core.specs.Marking.{IsOfOne}
 use Rattle.forward_core.specs.declared.sent.Sent.{Sent}
 use Rattle.forward_core.specs.declared.sent.Sent.TheVariants.{NoMemory}
@@ -26,12 +26,13 @@ pub record IsAcknowledged (Ends : List Entry → List ℕ → List ℕ → ℕ �
   pub number : (n < after_last 0 (take told (read_of end calls))) ⊎ IsOfOne (read_of end calls) also n
 
 -- What the peer has acknowledged may become known: of the link, as it is by then, these bytes were read and this text was
--- written since the start; of the desk the cursor and the end were asked for, and these calls were made since.
-abbrev pub MayRelease : {A L : Type 0} → (A → List Call → A → Type 0) → (A → ℕ) → (A → ℕ) → (A → DeskState → List Record → Type 0) → A
+-- written since the start; of the desk the cursor and the end were asked for, and these calls were made since. The session ends
+-- there, or at the number that it was given.
+abbrev pub MayRelease : {A L : Type 0} → Option ℕ → (A → List Call → A → Type 0) → (A → ℕ) → (A → ℕ) → (A → DeskState → List Record → Type 0) → A
     → (L → L → Type 0) → (L → Option (List ℕ)) → (L → Option (List ℕ)) → L
     → (List Entry → List ℕ → List ℕ → ℕ → List ℕ → Sent → Type 0) → (ℕ → Type 0) → Type 0
-MayRelease {A} {L} ran cursor_known end_known seen old same given taken old_link Ends Release =
-    (start until : ℕ) (begun now : A) (link : L) (bytes : List ℕ) (calls : List Call) (text : List ℕ) (n : ℕ)
-    → Asked ran cursor_known end_known seen old start until begun → ran begun calls now → 0 < length calls
+MayRelease {A} {L} upto ran cursor_known end_known seen old same given taken old_link Ends Release =
+    (start end : ℕ) (begun now : A) (link : L) (bytes : List ℕ) (calls : List Call) (text : List ℕ) (n : ℕ)
+    → Asked ran cursor_known end_known seen old start end begun → ran begun calls now → 0 < length calls
     → same old_link link → Appends (given old_link) (given link) bytes → Appends (taken old_link) (taken link) text
-    → IsAcknowledged Ends start until bytes calls text n → Release n
+    → IsAcknowledged Ends start (until_by upto end) bytes calls text n → Release n

@@ -1,5 +1,5 @@
 -- What a session has sent and marked when it ends.
-use Rattle.std.specs.Prelude.{◌≡◌, ◌≤◌, ℕ, List, [], Option}
+use Rattle.std.specs.Prelude.{◌≡◌, ◌≤◌, ℕ, min, List, [], Option, None, Some}
 use Rattle.std.specs.Io.KnownBytes.{Appends, Consumes}
 use Rattle.foundation.specs.Faults.{Rose}
 use Rattle.event_form.specs.declared.event.Entry.{Entry}
@@ -20,6 +20,11 @@ pub record Forwards (Ends : List Entry → List ℕ → List ℕ → ℕ → Lis
   pub wrote : Appends written written' text
   pub made : ran calls
   pub ended : Ended Ends Hints left' end sent start bytes calls text
+
+-- Where a session ends that begins as the desk's end is this one: there, or at the number that it was given, where that is less.
+abbrev pub until_by : Option ℕ → ℕ → ℕ
+until_by None end = end
+until_by (Some upto) end = min upto end
 
 -- The cursor and then the end of a desk were asked for, and these are the answers. Neither is less than what the journal
 -- seen had led to by then.

@@ -1,7 +1,7 @@
 //! Forwarding what a desk holds.
 ghost use Rattle.std.specs.Prelude.{◌≡◌, ◌<◌, ℕ, List};
 ghost use Rattle.forward_core.specs.Acknowledged.{MayRelease};
-ghost use Rattle.forward_core.specs.Forwarded.{Asked, CountsFaults, CountsWrites, Forwards};
+ghost use Rattle.forward_core.specs.Forwarded.{Asked, CountsFaults, CountsWrites, Forwards, until_by};
 ghost use Rattle.forward_core.specs.Protocols.{EndsAs, HintsAs, settings_as};
 ghost use Rattle.forward_core.specs.Turning.{IsHalt};
 ghost use Rattle.forward_core.specs.declared.sent.Sent.TheVariants as Ending;
@@ -18,14 +18,14 @@ use relp_sender::RelpSender;
 use std::alloc::Global;
 
 /// Sends the entries from the desk's cursor to its end, as both stand at its start, to the peer of the link, in the
-/// order of their numbers, and marks those that the peer acknowledges as known. Entries that are known already are
-/// passed over. They are read in batches of 128. Any text may be written to links of this type, as to those
-/// that a net dials.
+/// order of their numbers, and marks those that the peer acknowledges as known. Where `upto` is a number, only entries
+/// below it are sent. Entries that are known already are passed over. They are read in batches of 128. Any text may be
+/// written to links of this type, as to those that a net dials.
 ///
 /// What is acknowledged is marked before each read of the peer's bytes, before each reading of entries, and at each
 /// ending but want of memory and a refusal by the desk. A mark that is refused at an ending is the ending in its place.
 ///
-/// - `Drained`: all entries were sent, all of the text was written, and all are acknowledged.
+/// - `Drained`: all of these entries were sent, all of the text was written, and all are acknowledged.
 /// - `Refused`, `PeerFault`, `Unconfirmed`: as the peer's bytes end the session by its protocol.
 /// - `PeerClosed`: a read gave no bytes, or the peer said that it closes the session.
 /// - `TooMuch`: 2^40 bytes of the peer were read.
@@ -44,18 +44,19 @@ pub fn forward<L: Link, A: Access, Z: Pause>(
     alloc: Global,
     link: &mut L,
     outward: &Outward,
+    upto: Option<u64>,
     access: &mut A,
     rest: &mut Z,
 ) -> Sent
     requires free { (link : L) (text : List ℕ) → L.permits link text }
     requires polls { 0 < outward.now.polls }
     requires may { A.may_confirm access.old }
-    requires earned { MayRelease A.ran A.cursor_known A.end_known A.seen access.old L.same L.given L.taken link.old
+    requires earned { MayRelease upto A.ran A.cursor_known A.end_known A.seen access.old L.same L.given L.taken link.old
         (EndsAs (settings_as outward.now) outward.now.proto) A.may_release }
 
-    ensures forwards { (start : ℕ) × (until : ℕ) × (begun : A) × Asked A.ran A.cursor_known A.end_known A.seen access.old start until begun
+    ensures forwards { (start : ℕ) × (end : ℕ) × (begun : A) × Asked A.ran A.cursor_known A.end_known A.seen access.old start end begun
         × Forwards (EndsAs (settings_as outward.now) outward.now.proto) (HintsAs outward.now.proto) (L.given link.old) (L.given link.new)
-        (L.left link.old) (L.left link.new) (L.taken link.old) (L.taken link.new) (λ calls. A.ran begun calls access.new) start until result }
+        (L.left link.old) (L.left link.new) (L.taken link.old) (L.taken link.new) (λ calls. A.ran begun calls access.new) start (until_by upto end) result }
     ensures reads { CountsFaults (result ≡ Ending.ReadFault) (L.read_faults link.old) (L.read_faults link.new) }
     ensures writes { CountsWrites (result ≡ Ending.WriteFault) (IsHalt result) (L.write_faults link.old) (L.write_faults link.new) }
     ensures same { L.same link.old link.new }
@@ -63,7 +64,7 @@ pub fn forward<L: Link, A: Access, Z: Pause>(
     ensures rested { Z.same rest.old rest.new }
     ensures paused { Z.pause_apart rest.old rest.new }
 {
-    let Ok(mut course) = begin(alloc, access) else {
+    let Ok(mut course) = begin(alloc, upto, access) else {
         return Sent::NoMemory;
     };
     match outward.proto {

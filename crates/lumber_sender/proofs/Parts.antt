@@ -1,5 +1,6 @@
 -- Parts of a window, one after another.
-use Rattle.std.proofs.Common.{◌≡◌, ℕ, zero, suc, ◌+◌, ◌<◌, ◌∙◌, List, [], ◌∷◌, ◌++◌, length, take, drop, get_or, refl, sym, ap, arith, append_assoc}
+use Rattle.std.proofs.Common.{◌≡◌, inl, inr, ℕ, zero, suc, ◌+◌, ◌<◌, ◌∙◌, List, [], ◌∷◌, ◌++◌, length, take, drop, get_or, refl, sym, ap, subst, arith, append_assoc, length-append}
+use Rattle.std.proofs.lemmas.Bool.{cases_lt}
 use Rattle.std.proofs.lemmas.List.{take_more, take_all, take-append-drop, length-take-le, append-nil}
 use Rattle.event_form.specs.declared.event.Entry.{Entry}
 use Rattle.event_map.proofs.Functions.{json_object_of}
@@ -47,6 +48,16 @@ pub part_first : (batch : List Entry) (head new : List ℕ) (n : ℕ) (e : Entry
 part_first batch head new n e inside at is wrote =
     let last = json_text (n + 1) (json_object_of e.event) in
     part_more batch n e inside at ∙ ap (λ (l : List ℕ). part_text batch n ++ (l ++ last)) (sym is) ∙ ap (λ (l : List ℕ). part_text batch n ++ l) (sym wrote)
+
+-- such a text is short before the next entry's data frame too, where it is at the place that it has come to
+pub short_on : (batch : List Entry) (from upto : ℕ) (text : List ℕ) → ((k : ℕ) → from < k → k < upto → length (part_text batch k) < length (part_text batch from) + 65536) → part_text batch upto ≡ part_text batch from ++ text → length text < 65536 → (k : ℕ) → from < k → k < upto + 1 → length (part_text batch k) < length (part_text batch from) + 65536
+short_on batch from upto text before is few k above below =
+    let sum : length (part_text batch upto) ≡ length (part_text batch from) + length text = ap length is ∙ length-append (part_text batch from) text in
+    let here : length (part_text batch upto) < length (part_text batch from) + 65536 = omega (arith, sum, few) in
+    elim (cases_lt k upto) [
+      | inl lt ↦ before k above lt
+      | inr le ↦ (let e : upto ≡ k = omega (arith, below, le) in subst (λ (n : ℕ). length (part_text batch n) < length (part_text batch from) + 65536) e here)
+    ]
 
 -- all entries of a window
 pub part_all : (batch : List Entry) (n : ℕ) → n ≡ length batch → 0 < length batch → part_text batch n ≡ batch_text batch

@@ -9,7 +9,8 @@ use Rattle.event_form.specs.declared.turn.Turn.{Turn}
 use Rattle.event_form.specs.declared.turn.Turn.TheVariants.{Write, Confirmed, Need, Wait, Done, PeerFault}
 use Rattle.lumber_sender.specs.Sender.{Sender, Keeps, Needs, IsDone, IsDue, known}
 use Rattle.lumber_frame.specs.Why.{why_of}
-use Rattle.lumber_sender.specs.Turns.{IsFor}
+use Rattle.event_form.specs.Turn.{text_of}
+use Rattle.lumber_sender.specs.Turns.{IsFor, IsTurn, IsWritten}
 use Rattle.lumber_sender.proofs.Giving.{no_stop}
 
 -- nothing else is due where a window is written
@@ -125,3 +126,8 @@ for_same s asked turn f =
       waits = λ d none clean. f.waits (d.0, record { told = d.1.told; some = d.1.some; whole = d.1.whole }) none clean;
       faults = λ e d none broken. f.faults e (d.0, record { told = d.1.told; some = d.1.some; whole = d.1.whole }) none broken;
     }
+
+-- a turn that writes nothing writes no part
+pub writes_none : (turn : Turn) (old new : Sender) → text_of turn ≡ [] → IsTurn turn new → IsWritten turn old new
+writes_none (Write text) old new none t = absurd (omega (arith, t.0, ap length none))
+writes_none turn old new none t = tt

@@ -10,6 +10,7 @@ use Rattle.event_form.specs.declared.turn.Turn.TheVariants.{Write, Confirmed, Al
 use Rattle.lumber_sender.specs.Progress.{session_text, known_by}
 use Rattle.lumber_sender.specs.Sender.{Sender, known, Needs, IsDone, IsDue}
 use Rattle.lumber_sender.specs.Sends.{History}
+use Rattle.lumber_sender.specs.Windows.{IsPart}
 
 -- of the sender after a turn
 abbrev pub IsTurn : Turn → Sender → Type 0
@@ -36,6 +37,11 @@ pub record IsFor (s : Sender) (turn : Turn) : Type 0 where
   pub ends : IsDone s → turn ≡ Done
   pub waits : IsDue due.Hear s → s.reader.waiting ≡ [] → s.reader.fault ≡ None → turn ≡ Wait
   pub faults : (e : LumberFault) → IsDue due.Hear s → s.reader.waiting ≡ [] → s.reader.fault ≡ Some e → turn ≡ PeerFault e.at (why_of e.why)
+
+-- what a turn writes is the next text of the window under way
+abbrev pub IsWritten : Turn → Sender → Sender → Type 0
+IsWritten (Write text) old new = (new.batch ≡ old.batch) × IsPart old.batch old.written new.written text
+IsWritten turn old new = Unit {0}
 
 -- how many entries were reported as acknowledged before a turn and after it
 abbrev pub IsTold : Turn → ℕ → ℕ → Type 0

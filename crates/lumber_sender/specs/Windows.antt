@@ -1,5 +1,5 @@
 -- What is written to a receiver of Lumberjack, by the entries alone.
-use Rattle.std.specs.Prelude.{ℕ, zero, suc, ◌+◌, List, [], ◌∷◌, ◌++◌, length, take, drop}
+use Rattle.std.specs.Prelude.{◌≡◌, ◌⊎◌, ℕ, zero, suc, ◌+◌, ◌<◌, ◌≤◌, List, [], ◌∷◌, ◌++◌, length, take, drop}
 use Rattle.event_form.specs.declared.event.Entry.{Entry}
 use Rattle.event_map.proofs.Functions.{json_object_of}
 use Rattle.lumber_frame.specs.Spelling.{window_text, json_text}
@@ -25,6 +25,15 @@ windows_text (suc n) (e ∷ es) = batch_text (take WINDOW (e ∷ es)) ++ windows
 abbrev pub part_text : List Entry → ℕ → List ℕ
 part_text batch zero = []
 part_text batch (suc n) = window_text (length batch) ++ frames_text 1 (take (suc n) batch)
+
+-- A text of a window, with the data frames from the entry at one place up to that at another: before each of them but the first one
+-- it has fewer than 65,536 bytes, and it ends with the window or has as many.
+pub record IsPart (batch : List Entry) (from upto : ℕ) (text : List ℕ) : Type 0 where
+  pub some : from < upto
+  pub within : upto ≤ length batch
+  pub is : part_text batch upto ≡ part_text batch from ++ text
+  pub short : (k : ℕ) → from < k → k < upto → length (part_text batch k) < length (part_text batch from) + 65536
+  pub full : (upto ≡ length batch) ⊎ (65536 ≤ length text)
 
 -- what stands before the data frame of an entry: before the window's first one its size
 abbrev pub text_before : ℕ → ℕ → List ℕ

@@ -11,7 +11,7 @@ ghost use Rattle.lumber_sender.specs.Progress.{known_by};
 ghost use Rattle.lumber_sender.specs.Sender.{untouched, given, known, extent, MayFollow, Keeps, Needs, IsDue};
 ghost use Rattle.lumber_sender.specs.Sends.{History, nothing, Sends, SendsOn};
 ghost use Rattle.event_form.specs.Turn.{text_of, HasTold, IsResting};
-ghost use Rattle.lumber_sender.specs.Turns.{IsTurn, IsFor, IsTold, spent, IsSpent, TellsAll, IsWhole, IsWholeOf, Begins};
+ghost use Rattle.lumber_sender.specs.Turns.{IsTurn, IsFor, IsTold, IsWritten, spent, IsSpent, TellsAll, IsWhole, IsWholeOf, Begins};
 
 use crate::due::Due;
 use crate::hearing::{Heard, hear};
@@ -142,6 +142,7 @@ impl LumberSender {
     pub fn turn(&mut self) -> Result<Turn, AllocError>
         ensures err { OnErr result (self.new ≡ self.old) }
         // what is written and taken
+        ensures written { IfOk result (λ turn. IsWritten turn self.old self.new) }
         ensures sends { IfOk result (λ turn. SendsOn self.old (text_of turn) self.new) }
         ensures begins { (h : History) (more : List Entry) → Sends h self.new → MayFollow self.new more → Begins h more }
         ensures whole { IfOk result (λ turn. IsResting turn → (h : History) → Sends h self.new → IsWhole h) }
@@ -208,6 +209,7 @@ impl LumberSender {
     fn write(&mut self) -> Result<Turn, AllocError>
         requires { self.old.written < length self.old.batch }
         ensures err { OnErr result (self.new ≡ self.old) }
+        ensures written { IfOk result (λ turn. IsWritten turn self.old self.new) }
         ensures sends { IfOk result (λ turn. SendsOn self.old (text_of turn) self.new) }
         ensures told { IfOk result (λ turn. IsTold turn self.old.told self.new.told) }
         ensures turn { IfOk result (λ turn. IsTurn turn self.new) }
@@ -340,6 +342,7 @@ impl LumberSender {
         requires asked { self.old.asked ≡ false }
         requires written { self.old.written ≡ length self.old.batch }
         requires heard { IsDue Hear self.old → self.old.reader.waiting ≡ [] }
+        ensures text { text_of result ≡ [] }
         ensures sends { SendsOn self.old (text_of result) self.new }
         ensures turn { IsTurn result self.new }
         ensures exactly { IsFor self.old result }

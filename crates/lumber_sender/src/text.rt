@@ -1,5 +1,5 @@
 //! What is written.
-ghost use Rattle.std.specs.Prelude.{◌≡◌, ◌+◌, ◌<◌, ◌≤◌, ◌++◌, length, slice_index_or, All, IfOk, OnOk};
+ghost use Rattle.std.specs.Prelude.{◌≡◌, ◌⊎◌, ℕ, ◌+◌, ◌<◌, ◌≤◌, ◌++◌, length, slice_index_or, All, IfOk, OnOk};
 ghost use Rattle.event_form.specs.declared.event.Entry.{Entry};
 ghost use Rattle.event_form.specs.Event.{IsEvent};
 ghost use Rattle.event_map.proofs.Functions.{json_object_of};
@@ -60,6 +60,9 @@ pub(crate) fn next_part(alloc: Global, batch: &[Entry], from: usize) -> Result<P
     ensures some { IfOk result (λ part. from < part.upto) }
     ensures bytes { IfOk result (λ part. 0 < length part.text) }
     ensures within { IfOk result (λ part. part.upto ≤ length batch.now) }
+    ensures short { IfOk result (λ part. (k : ℕ) → from < k → k < part.upto
+        → length (part_text batch.now k) < length (part_text batch.now from) + 65536) }
+    ensures full { IfOk result (λ part. (part.upto ≡ length batch.now) ⊎ (65536 ≤ length part.text)) }
 {
     let mut out = text_before(alloc, from, batch.len())?;
     write_data(alloc, batch, from, &mut out)?;

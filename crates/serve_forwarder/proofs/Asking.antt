@@ -1,25 +1,25 @@
--- The answer to whether an entry is pending.
-use Rattle.std.proofs.Common.{◌≡◌, ◌∙◌, ℕ, List, [], ◌∷◌, length, Bool, true, false, eqb, refl, sym, arith, rules}
-use Rattle.std.specs.Prelude.{Ok, vec_len}
-use Rattle.std.specs.Global.{Vec}
-use Rattle.std.proofs.lemmas.Bool.{eqb-true, eqb-false}
+-- The answer to whether an entry is pending, and what a look offers by it.
+use Rattle.std.proofs.Common.{◌≡◌, ◌∙◌, ℕ, ◌<◌, ◌^◌, List, [], ◌∷◌, refl, sym, ap, subst}
+use Rattle.std.specs.Prelude.{Option, Some, None, Result, Ok}
+use Rattle.spool_answers.specs.declared.fault.PendFault.{PendFault}
 use Rattle.spool_answers.specs.declared.numbered.Numbered.{Numbered}
-use Rattle.serve_forwarder.specs.Looks.{IsPending}
+use Rattle.spool_answers.specs.Pend.{AreNumbered}
+use Rattle.serve_forwarder.specs.Looks.{IsPending, first_of, offer_at, upto_of}
 
-none_of : (many : ℕ) (given : List Numbered) → many ≡ length given → eqb many 0 ≡ true → given ≡ []
-none_of many [] count none = refl
-none_of many (one ∷ given) count none = let no : ⊥ = omega (arith, count, eqb-true many 0 none) in absurd no
+-- no entry comes first, or one does
+pub none_pending : (given : List Numbered) → first_of (Ok given) ≡ None → given ≡ []
+none_pending [] none = refl
+none_pending (one ∷ given) none = absurd (cc none)
 
-some_of : (many : ℕ) (given : List Numbered) → many ≡ length given → eqb many 0 ≡ false → IsPending (Ok given)
-some_of many [] count some = absurd (eqb-false many 0 some count)
-some_of many (one ∷ given) count some = tt
+pub some_pending : (given : List Numbered) (first : ℕ) → first_of (Ok given) ≡ Some first → IsPending (Ok given)
+some_pending [] first some = absurd (cc some)
+some_pending (one ∷ given) first some = tt
 
-counted : (given : Vec Numbered) → vec_len given ≡ length given.items
-counted given = search rules
+-- its number is below the limit
+pub first_within : (given : List Numbered) (first : ℕ) → AreNumbered 0 (2 ^ 63) given → first_of (Ok given) ≡ Some first → first < 2 ^ 63
+first_within [] first numbered some = absurd (cc some)
+first_within (one ∷ given) first numbered some = let same : one.number ≡ first = cc some in subst (λ (n : ℕ). n < 2 ^ 63) same numbered.1
 
--- the test whether the list is empty said yes, or no
-pub none_given : (given : Vec Numbered) (empty : Bool) → empty ≡ eqb (vec_len given) 0 → empty ≡ true → given.items ≡ []
-none_given given empty is none = none_of (vec_len given) given.items (counted given) (sym is ∙ none)
-
-pub some_given : (given : Vec Numbered) (empty : Bool) → empty ≡ eqb (vec_len given) 0 → empty ≡ false → IsPending (Ok given.items)
-some_given given empty is some = some_of (vec_len given) given.items (counted given) (sym is ∙ some)
+-- what is offered by the number of the first entry is so by the answer that gave it
+pub offered : (stuck first : Option ℕ) (n : ℕ) (upto : Option ℕ) → first ≡ Some n → upto ≡ upto_of (offer_at stuck (Some n)) (Some n) → upto ≡ upto_of (offer_at stuck first) first
+offered stuck first n upto is made = made ∙ ap (λ (f : Option ℕ). upto_of (offer_at stuck f) f) (sym is)

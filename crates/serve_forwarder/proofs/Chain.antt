@@ -18,7 +18,7 @@ use Rattle.forward_core.specs.declared.sent.Sent.TheVariants.{PeerClosed}
 use Rattle.spool_turns.specs.Passes.{Known}
 use Rattle.spool_turns.specs.Ran.{Ran, ran_none, ran_more}
 use Rattle.serve_forwarder.specs.Sessions.{Session, IsHeld, TellsSession, TellsSessions}
-use Rattle.serve_forwarder.specs.Looks.{Found, Idle, Unread, Undialed, Held, Look, held_in, sessions_of, calls_found, calls_at, calls_of, IsFound, IsToldBy, IsLook, AreLooks}
+use Rattle.serve_forwarder.specs.Looks.{Found, Idle, Unread, Undialed, Held, Look, held_in, sessions_of, calls_found, calls_at, calls_of, first_of, upto_of, IsFound, IsToldBy, IsLook, AreLooks}
 use Rattle.serve_forwarder.specs.Laws.{KeepsCounts}
 
 -- ---- one after another
@@ -36,23 +36,23 @@ look_more start outward place looks look a b c m n o p q = looks_then start outw
 
 -- ---- the calls
 
-held_ran : (start : DeskState → Type 0) (outward : Outward) (one : Session) (pass pass' : Known) → IsHeld start outward one pass pass' → Ran start pass one.calls pass'
-held_ran start outward one pass pass' h =
+held_ran : (start : DeskState → Type 0) (outward : Outward) (upto : Option ℕ) (one : Session) (pass pass' : Known) → IsHeld start outward upto one pass pass' → Ran start pass one.calls pass'
+held_ran start outward upto one pass pass' h =
     ran_more start pass h.begun pass' [] one.calls (ran_more start pass h.asked.between h.begun [] [] h.asked.cursor_ran h.asked.end_ran) h.made
 
 same_ran : (start : DeskState → Type 0) (pass pass' : Known) → pass' ≡ pass → Ran start pass [] pass'
 same_ran start pass pass' same = subst (Ran start pass []) (sym same) (ran_none start pass)
 
-found_ran : (start : DeskState → Type 0) (outward : Outward) (given : Result (List Numbered) PendFault) (found : Found) (pass pass' : Known) → IsFound start outward given found pass pass' → Ran start pass (calls_found found) pass'
-found_ran start outward given Idle pass pass' f = same_ran start pass pass' f.1
-found_ran start outward given (Unread _) pass pass' f = same_ran start pass pass' f.1
-found_ran start outward given (Undialed _) pass pass' f = same_ran start pass pass' f.1
-found_ran start outward given (Held one) pass pass' f = held_ran start outward one pass pass' f.1
+found_ran : (start : DeskState → Type 0) (outward : Outward) (upto : Option ℕ) (given : Result (List Numbered) PendFault) (found : Found) (pass pass' : Known) → IsFound start outward upto given found pass pass' → Ran start pass (calls_found found) pass'
+found_ran start outward upto given Idle pass pass' f = same_ran start pass pass' f.1
+found_ran start outward upto given (Unread _) pass pass' f = same_ran start pass pass' f.1
+found_ran start outward upto given (Undialed _) pass pass' f = same_ran start pass pass' f.1
+found_ran start outward upto given (Held one) pass pass' f = held_ran start outward upto one pass pass' f.1
 
 pub look_is_ran : (start : DeskState → Type 0) (outward : Outward) (place : List ℕ) (look : Look) (pass pass' : Known) (net net' : NetState)
     → IsLook start outward place look pass pass' net net' → Ran start pass (calls_at look) pass'
 look_is_ran start outward place look pass pass' net net' l =
-    ran_more start pass l.asked pass' (pends 0 1 look.given ∷ []) (calls_found look.found) l.asks (found_ran start outward look.given look.found l.asked pass' l.found)
+    ran_more start pass l.asked pass' (pends 0 1 look.given ∷ []) (calls_found look.found) l.asks (found_ran start outward (upto_of look.offer (first_of look.given)) look.given look.found l.asked pass' l.found)
 
 -- the calls of looks lead the pass from the one moment to the other
 pub looks_are_ran : (start : DeskState → Type 0) (outward : Outward) (place : List ℕ) (looks : List Look) (pass pass' : Known) (net net' : NetState)
@@ -146,8 +146,8 @@ none_left : (left : Option (List ℕ)) (rest : List ℕ) → left ≡ Some rest 
 none_left left rest is end = ap length (subst IsAtEnd is end)
 
 -- where the peer closed a session, it had said so, or its link has no byte left
-pub closed_is_read_out : (start : DeskState → Type 0) (outward : Outward) (place : List ℕ) (one : Session) (told : HungUp) (pass pass' : Known)
-    → IsHeld start outward one pass pass' → TellsSession place one told → one.sent ≡ PeerClosed → (told.left ≡ 0) ⊎ HintsAs outward.proto one.bytes
-closed_is_read_out start outward place one told pass pass' held tells closed =
+pub closed_is_read_out : (start : DeskState → Type 0) (outward : Outward) (upto : Option ℕ) (place : List ℕ) (one : Session) (told : HungUp) (pass pass' : Known)
+    → IsHeld start outward upto one pass pass' → TellsSession place one told → one.sent ≡ PeerClosed → (told.left ≡ 0) ⊎ HintsAs outward.proto one.bytes
+closed_is_read_out start outward upto place one told pass pass' held tells closed =
     let left = tells.left in
     elim (held.ended.closed closed) [ inl end ↦ inl (left.2 ∙ none_left one.left left.0 left.1 end) | inr hints ↦ inr hints ]

@@ -1,3 +1,4 @@
 mod Asking
 mod Hanging
+mod Turning
 pub mod Chain

@@ -1,5 +1,5 @@
 -- What follows of looks one after another.
-use Rattle.std.specs.Prelude.{◌≡◌, ◌⊎◌, ◌≤◌, ℕ, List}
+use Rattle.std.specs.Prelude.{◌≡◌, ◌⊎◌, ◌≤◌, ℕ, List, Option}
 use Rattle.edge_io.specs.Net.{HungUp, NetState}
 use Rattle.desk_access.specs.Desk.{DeskState}
 use Rattle.forward_core.specs.Protocols.{HintsAs}
@@ -37,5 +37,5 @@ LooksBindNone start = (outward : Outward) (place : List ℕ) (looks : List Look)
 
 -- Where a session ended as the peer closed it, the peer's bytes say so, or no byte of its link is left unread.
 abbrev pub ClosedIsReadOut : (DeskState → Type 0) → Type 0
-ClosedIsReadOut start = (outward : Outward) (place : List ℕ) (one : Session) (told : HungUp) (pass pass' : Known)
-    → IsHeld start outward one pass pass' → TellsSession place one told → one.sent ≡ PeerClosed → (told.left ≡ 0) ⊎ HintsAs outward.proto one.bytes
+ClosedIsReadOut start = (outward : Outward) (upto : Option ℕ) (place : List ℕ) (one : Session) (told : HungUp) (pass pass' : Known)
+    → IsHeld start outward upto one pass pass' → TellsSession place one told → one.sent ≡ PeerClosed → (told.left ≡ 0) ⊎ HintsAs outward.proto one.bytes

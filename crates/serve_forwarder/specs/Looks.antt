@@ -1,5 +1,5 @@
 -- Looks at what is pending, and what came of them.
-use Rattle.std.specs.Prelude.{◌≡◌, ℕ, List, [], ◌∷◌, Result, Ok, Err}
+use Rattle.std.specs.Prelude.{◌≡◌, ◌+◌, ◌==◌, ℕ, if◌then◌else◌, List, [], ◌∷◌, Option, None, Some, Result, Ok, Err}
 use Rattle.std.specs.List.{flat_map}
 use Rattle.edge_io.specs.Net.{NetState, SameHung, HasNetCause}
 use Rattle.edge_io.specs.declared.net_fault.NetFault.{NetFault}
@@ -8,6 +8,8 @@ use Rattle.spool_answers.specs.declared.numbered.Numbered.{Numbered}
 use Rattle.desk_access.specs.Call.{Call, pends}
 use Rattle.desk_access.specs.Desk.{DeskState}
 use Rattle.forward_core.specs.declared.outward.Outward.{Outward}
+use Rattle.forward_core.specs.declared.sent.Sent.{Sent}
+use Rattle.forward_core.specs.declared.sent.Sent.TheVariants.{Drained}
 use Rattle.spool_turns.specs.Passes.{Known}
 use Rattle.spool_turns.specs.Ran.{Ran}
 use Rattle.serve_forwarder.specs.declared.looking.Outcome.{Outcome}
@@ -28,10 +30,28 @@ outcome_of (Unread fault) = outcome.Unread fault
 outcome_of (Undialed fault) = outcome.Undialed fault
 outcome_of (Held one) = outcome.Held one.sent
 
--- A look: what the desk answered as it was asked for one pending entry, and what came of it.
+-- What a look offers to the peer, where an entry is pending: all pending entries, or the first of them alone.
+pub data Offer : Type 0 where
+  Every : Offer
+  First : Offer
+
+-- A look: what the desk answered as it was asked for one pending entry, what the look offers, and what came of it.
 pub record Look : Type 0 where
   pub given : Result (List Numbered) PendFault
+  pub offer : Offer
   pub found : Found
+
+-- the number of the first pending entry, by the desk's answer
+abbrev pub first_of : Result (List Numbered) PendFault → Option ℕ
+first_of (Ok []) = None
+first_of (Ok (one ∷ given)) = Some one.number
+first_of (Err fault) = None
+
+-- the number that ends the session of such an offer, if one does: the one after the first pending entry's
+abbrev pub upto_of : Offer → Option ℕ → Option ℕ
+upto_of Every first = None
+upto_of First None = None
+upto_of First (Some first) = Some (first + 1)
 
 -- the session that was held, if any, and those of looks in order
 abbrev pub held_in : Found → List Session
@@ -59,12 +79,12 @@ IsPending (Ok (one ∷ given)) = Unit {0}
 IsPending (Err fault) = ⊥
 
 -- By the desk's answer this came of a look, and led the pass from one moment to another. The place is dialed, and a session held, only
--- where an entry is pending.
-abbrev pub IsFound : (DeskState → Type 0) → Outward → Result (List Numbered) PendFault → Found → Known → Known → Type 0
-IsFound start outward given Idle pass pass' = (given ≡ Ok []) × (pass' ≡ pass)
-IsFound start outward given (Unread fault) pass pass' = (given ≡ Err fault) × (pass' ≡ pass)
-IsFound start outward given (Undialed _) pass pass' = IsPending given × (pass' ≡ pass)
-IsFound start outward given (Held one) pass pass' = IsPending given × IsHeld start outward one pass pass'
+-- where an entry is pending. The session ends at the desk's end, or at the number given, where that is less.
+abbrev pub IsFound : (DeskState → Type 0) → Outward → Option ℕ → Result (List Numbered) PendFault → Found → Known → Known → Type 0
+IsFound start outward upto given Idle pass pass' = (given ≡ Ok []) × (pass' ≡ pass)
+IsFound start outward upto given (Unread fault) pass pass' = (given ≡ Err fault) × (pass' ≡ pass)
+IsFound start outward upto given (Undialed _) pass pass' = IsPending given × (pass' ≡ pass)
+IsFound start outward upto given (Held one) pass pass' = IsPending given × IsHeld start outward upto one pass pass'
 
 -- A dial failed: no link is added to those hung up, and the count of binds and dials that failed rose, unless memory was wanting. No
 -- door was bound.
@@ -83,7 +103,7 @@ IsToldBy place (Held one) net net' = HangsUp place one net net'
 pub record IsLook (start : DeskState → Type 0) (outward : Outward) (place : List ℕ) (look : Look) (pass pass' : Known) (net net' : NetState) : Type 0 where
   pub asked : Known
   pub asks : Ran start pass (pends 0 1 look.given ∷ []) asked
-  pub found : IsFound start outward look.given look.found asked pass'
+  pub found : IsFound start outward (upto_of look.offer (first_of look.given)) look.given look.found asked pass'
   pub told : IsToldBy place look.found net net'
 
 -- looks one after another
@@ -92,3 +112,32 @@ AreLooks start outward place [] pass pass' net net' = (pass' ≡ pass) × (net' 
 AreLooks start outward place (look ∷ looks) pass pass' net net' =
     (between : Known) × (net_between : NetState) × IsLook start outward place look pass between net net_between
     × AreLooks start outward place looks between pass' net_between net'
+
+-- ---- what looks offer, one after another
+
+-- After a session that ended as `Drained` the looks are stuck at no entry; after any other, at the one that was pending first.
+abbrev pub stuck_from : Sent → Option ℕ → Option ℕ
+stuck_from Drained first = None
+stuck_from sent first = first
+
+-- The entry at which looks are stuck, if any: after a session it says how the session ended; where nothing is pending, none; and a look
+-- that came to no session leaves it as it was.
+abbrev pub stuck_by : Option ℕ → Option ℕ → Found → Option ℕ
+stuck_by stuck first Idle = None
+stuck_by stuck first (Unread _) = stuck
+stuck_by stuck first (Undialed _) = stuck
+stuck_by stuck first (Held one) = stuck_from one.sent first
+
+abbrev pub stuck_after : Option ℕ → Look → Option ℕ
+stuck_after stuck look = stuck_by stuck (first_of look.given) look.found
+
+-- A look offers the first pending entry alone where the looks before are stuck at it, and else all.
+abbrev pub offer_at : Option ℕ → Option ℕ → Offer
+offer_at None first = Every
+offer_at (Some stuck) None = Every
+offer_at (Some stuck) (Some first) = if stuck == first then First else Every
+
+-- So do looks one after another, of which the first finds those before it stuck there.
+abbrev pub AreInTurn : Option ℕ → List Look → Type 0
+AreInTurn stuck [] = Unit {0}
+AreInTurn stuck (look ∷ looks) = (look.offer ≡ offer_at stuck (first_of look.given)) × AreInTurn (stuck_after stuck look) looks

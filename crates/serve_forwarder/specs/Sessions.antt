@@ -7,7 +7,7 @@ use Rattle.edge_io.specs.Told.{Adds}
 use Rattle.desk_access.specs.Call.{Call, Record}
 use Rattle.desk_access.specs.Desk.{DeskState}
 use Rattle.desk_access.specs.History.{IsDesk}
-use Rattle.forward_core.specs.Forwarded.{Asked}
+use Rattle.forward_core.specs.Forwarded.{Asked, until_by}
 use Rattle.forward_core.specs.Protocols.{EndsAs, HintsAs, settings_as}
 use Rattle.forward_core.specs.Session.{Ended}
 use Rattle.forward_core.specs.declared.outward.Outward.{Outward}
@@ -29,12 +29,15 @@ pub record Session : Type 0 where
 
 -- ---- on the desk
 
--- A caller of a desk held the session, which led it from one moment to another. It asked for the cursor and the end, which are where
--- the session starts and ends. For the entries between them the protocol allows these bytes, calls and text with this ending.
+-- A caller of a desk held the session, which led it from one moment to another. It asked for the cursor, where the session starts, and
+-- for the end. The session ends there, or at the number that it was given, where that is less. For the entries between them the protocol
+-- allows these bytes, calls and text with this ending.
 pub record IsHeldBy {A : Type 0} (ran : A → List Call → A → Type 0) (cursor_known end_known : A → ℕ) (seen : A → DeskState → List Record → Type 0)
-    (outward : Outward) (one : Session) (old new : A) : Type 0 where
+    (outward : Outward) (upto : Option ℕ) (one : Session) (old new : A) : Type 0 where
   pub begun : A
-  pub asked : Asked ran cursor_known end_known seen old one.start one.until begun
+  pub end : ℕ
+  pub asked : Asked ran cursor_known end_known seen old one.start end begun
+  pub until_is : one.until ≡ until_by upto end
   pub made : ran begun one.calls new
   pub ended : Ended (EndsAs (settings_as outward) outward.proto) (HintsAs outward.proto) one.left one.until one.sent one.start one.bytes one.calls one.text
 
@@ -43,8 +46,8 @@ abbrev pub Saw : (DeskState → Type 0) → Known → DeskState → List Record 
 Saw start pass x journal = start x × IsDesk x × (journal ≡ pass.seen)
 
 -- the caller that has the pass held the session
-abbrev pub IsHeld : (DeskState → Type 0) → Outward → Session → Known → Known → Type 0
-IsHeld start outward one pass pass' = IsHeldBy (Ran start) (λ known. known.cursor_known) (λ known. known.end_known) (Saw start) outward one pass pass'
+abbrev pub IsHeld : (DeskState → Type 0) → Outward → Option ℕ → Session → Known → Known → Type 0
+IsHeld start outward upto one pass pass' = IsHeldBy (Ran start) (λ known. known.cursor_known) (λ known. known.end_known) (Saw start) outward upto one pass pass'
 
 -- ---- on the net
 

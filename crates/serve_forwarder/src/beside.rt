@@ -1,12 +1,12 @@
 //! Looking again and again, beside those who store.
-ghost use Rattle.std.specs.Prelude.{◌≡◌, ◌+◌, ◌<◌, List};
+ghost use Rattle.std.specs.Prelude.{◌≡◌, ◌+◌, ◌*◌, ◌<◌, List, None, min};
 ghost use Rattle.forward_core.specs.Exchanged.{HasExchangedAt};
 ghost use Rattle.spool_turns.specs.Replays.{IsReal};
-ghost use Rattle.serve_forwarder.specs.Looks.{AreLooks, Look};
+ghost use Rattle.serve_forwarder.specs.Looks.{AreInTurn, AreLooks, Look};
 ghost use Rattle.serve_forwarder.specs.Released.{MayRelease};
 
 use crate::Destination;
-use crate::looking::{Outcome, look};
+use crate::looking::{Looked, Outcome, look};
 use edge_disk::Disk;
 use edge_io::Net;
 use forward_core::Sent;
@@ -15,13 +15,73 @@ use std::alloc::Global;
 use std::sync::Wait;
 use std::sync::atomic::{AtomicBool, Ordering};
 
+// How many pauses there are at most after a session that the peer acknowledged nothing of.
+const MOST_PAUSES: u32 = 60;
+
+// Twice as many pauses, or as many as there are at most.
+fn more_pauses(pauses: u32) -> u32
+    ensures { result ≡ min (2 * pauses) 60 }
+{
+    pauses.min(MOST_PAUSES / 2) * 2
+}
+
+// Pauses so many times, one after another, unless `ended` is set meanwhile.
+fn pause_for<N: Net>(net: &mut N, ended: &AtomicBool, pauses: u32)
+    ensures { N.told net.new ≡ N.told net.old }
+{
+    'waits: for _ in 0..pauses {
+        if ended.load(Ordering::SeqCst) {
+            return;
+        }
+        net.pause();
+    }
+}
+
+// Waits after a look, before which the looks were stuck at that entry, if they were, and after which it paused so many times. It answers
+// how often it pauses after such a look now.
+fn rest_after<N: Net>(
+    net: &mut N,
+    ended: &AtomicBool,
+    looked: &Looked,
+    stuck: Option<u64>,
+    pauses: u32,
+) -> u32
+    ensures { N.told net.new ≡ N.told net.old }
+{
+    match looked.outcome {
+        Outcome::Idle | Outcome::Held(Sent::Drained) => {
+            net.wait_briefly();
+            1
+        }
+        Outcome::Held(_) => {
+            let now = if looked.stuck == stuck {
+                more_pauses(pauses)
+            } else {
+                1
+            };
+            pause_for(net, ended, now);
+            now
+        }
+        Outcome::Unread(_) | Outcome::Undialed(_) => {
+            net.pause();
+            pauses
+        }
+    }
+}
+
 /// Looks at what is pending, by [`look`], again and again until `ended` is set, which others set once they store no more. The flag is
 /// read before each look, so that a session that has begun is held to its end.
 ///
-/// After a session that ended as `Drained` (all entries up to its end were sent, and the peer acknowledged them) it looks again at
-/// once. Where nothing is pending it waits briefly first, so that an event is forwarded soon after it comes, and after any other
-/// outcome it pauses; how long both are is for `net` to say. The destination's place is one that may be dialed, and a number may
-/// become known as confirmed once the peer there has acknowledged its entry (`earned`).
+/// After a session that ended as `Drained` (all entries that it offered were sent, and the peer acknowledged them), and where nothing is
+/// pending, it waits briefly: an event is forwarded soon after it comes, and what comes meanwhile shares one session. After any other
+/// outcome it pauses. How long both are is for `net` to say.
+///
+/// After a session that ended otherwise, the next one offers the entry that was pending first alone, as long as that is pending
+/// (`AreInTurn`). While such sessions end otherwise too, it pauses twice, 4, 8, 16, 32 and then 60 times after each, and reads the flag
+/// between the pauses. Once that entry is acknowledged, all are offered again.
+///
+/// The destination's place is one that may be dialed, and a number may become known as confirmed once the peer there has acknowledged
+/// its entry (`earned`).
 pub fn forward_beside<N: Net, D: Disk, J: Naming, R: Wait>(
     alloc: Global,
     destination: &Destination,
@@ -36,17 +96,17 @@ pub fn forward_beside<N: Net, D: Disk, J: Naming, R: Wait>(
         (HasExchangedAt N.L.same N.L.dialed N.L.given N.L.taken destination.now.place) D.may_release }
 
     ensures { (looks : List Look) × AreLooks J.start destination.now.outward destination.now.place looks seated.old.pass seated.new.pass
-        (N.told net.old) (N.told net.new) }
+        (N.told net.old) (N.told net.new) × AreInTurn None looks }
 {
     let rt = seated.rt;
+    let mut stuck = None;
+    let mut pauses = 1;
     'looks: for _ in rt.forever() {
         if ended.load(Ordering::SeqCst) {
             break;
         }
-        match look(alloc, destination, net, seated) {
-            Outcome::Held(Sent::Drained) => {}
-            Outcome::Idle => net.wait_briefly(),
-            _ => net.pause(),
-        }
+        let looked = look(alloc, destination, stuck, net, seated);
+        pauses = rest_after(net, ended, &looked, stuck, pauses);
+        stuck = looked.stuck;
     }
 }

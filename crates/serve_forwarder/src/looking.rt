@@ -1,11 +1,11 @@
 //! One look at what is pending.
-ghost use Rattle.std.specs.Prelude.{◌≡◌, ◌+◌, ◌<◌, IfOk, IfErr};
+ghost use Rattle.std.specs.Prelude.{◌≡◌, ◌+◌, ◌<◌, ◌^◌, Ok, Some, IfOk, IfErr};
 ghost use Rattle.forward_core.specs.Acknowledged as session;
 ghost use Rattle.forward_core.specs.Exchanged.{HasExchangedAt, IsNewAt};
 ghost use Rattle.forward_core.specs.Protocols.{EndsAs, settings_as};
 ghost use Rattle.spool_turns.specs.Replays.{IsReal};
 ghost use Rattle.serve_forwarder.specs.Sessions.{Session, IsHeldBy, HangsUp};
-ghost use Rattle.serve_forwarder.specs.Looks.{FailsDial, IsLook, Look, outcome_of};
+ghost use Rattle.serve_forwarder.specs.Looks.{FailsDial, IsLook, Look, first_of, offer_at, outcome_of, stuck_after, stuck_from, upto_of};
 ghost use Rattle.serve_forwarder.specs.Released.{MayRelease};
 
 use crate::Destination;
@@ -13,7 +13,7 @@ use desk_access::Access;
 use edge_disk::Disk;
 use edge_io::{Net, NetFault};
 use forward_core::{Sent, forward};
-use spool_answers::PendFault;
+use spool_answers::{Numbered, PendFault};
 use spool_turns::{Naming, Seated};
 use std::alloc::Global;
 use std::sync::Wait;
@@ -31,10 +31,54 @@ pub enum Outcome {
     Held(Sent),
 }
 
-// Dials the place, holds one session over the link, and hangs it up. The error is that of the dial, and then no call was made.
+/// What came of a look, and where it leaves those after it.
+#[derive(Clone, Copy, PartialEq, Eq)]
+pub struct Looked {
+    /// What came of it.
+    pub outcome: Outcome,
+    /// The number of the entry at which the looks are stuck now, if they are: the last session began with it, and didn't end as
+    /// `Drained`.
+    pub stuck: Option<u64>,
+}
+
+// The number of the first entry, if there is one.
+fn first_of(given: &Vec<Numbered>) -> Option<u64>
+    ensures { result ≡ first_of (Ok given.now.items) }
+{
+    match given.first() {
+        Some(one) => Some(one.number),
+        None => None,
+    }
+}
+
+// The number that ends a session which begins with the entry of the number `first`: where the looks are stuck at that entry, the next
+// one, so that it alone is offered.
+fn upto_at(stuck: Option<u64>, first: u64) -> Option<u64>
+    requires { first < 2 ^ 63 }
+    ensures { result ≡ upto_of (offer_at stuck (Some first)) (Some first) }
+{
+    match stuck {
+        Some(number) if number == first => Some(first + 1),
+        _ => None,
+    }
+}
+
+// Where a session that began with the entry of that number, and ended so, leaves the looks stuck.
+fn stuck_from(sent: Sent, first: u64) -> Option<u64>
+    ensures { result ≡ stuck_from sent (Some first) }
+{
+    match sent {
+        Sent::Drained => None,
+        _ => Some(first),
+    }
+}
+
+// Dials the place, holds one session over the link, and hangs it up. Where `upto` is a number, only entries below it are sent. The error
+// is that of the dial, and then no call was made.
 fn hold<N: Net, A: Access>(
     alloc: Global,
     destination: &Destination,
+    upto: Option<u64>,
     net: &mut N,
     access: &mut A,
 ) -> Result<Sent, NetFault>
@@ -42,10 +86,10 @@ fn hold<N: Net, A: Access>(
     requires polls { 0 < destination.now.outward.polls }
     requires named { N.may_dial destination.now.place }
     requires earned { (link : N.L) → IsNewAt destination.now.place (N.L.dialed link) (N.L.given link) (N.L.taken link)
-        → session.MayRelease A.ran A.cursor_known A.end_known A.seen access.old N.L.same N.L.given N.L.taken link
+        → session.MayRelease upto A.ran A.cursor_known A.end_known A.seen access.old N.L.same N.L.given N.L.taken link
         (EndsAs (settings_as destination.now.outward) destination.now.outward.proto) A.may_release }
 
-    ensures held { IfOk result (λ sent. (one : Session) × IsHeldBy A.ran A.cursor_known A.end_known A.seen destination.now.outward one access.old access.new
+    ensures held { IfOk result (λ sent. (one : Session) × IsHeldBy A.ran A.cursor_known A.end_known A.seen destination.now.outward upto one access.old access.new
         × HangsUp destination.now.place one (N.told net.old) (N.told net.new) × (sent ≡ one.sent)) }
     ensures undialed { IfErr result (λ fault. (access.new ≡ access.old) × FailsDial fault (N.told net.old) (N.told net.new)) }
 {
@@ -53,7 +97,7 @@ fn hold<N: Net, A: Access>(
         Ok(link) => link,
         Err(fault) => return Err(fault),
     };
-    let sent = forward(alloc, &mut link, &destination.outward, access, net);
+    let sent = forward(alloc, &mut link, &destination.outward, upto, access, net);
     net.hang_up(link);
     Ok(sent)
 }
@@ -61,6 +105,11 @@ fn hold<N: Net, A: Access>(
 /// Asks the desk for one pending entry, that is one that isn't known as confirmed. Where there is one, it dials the place, holds one
 /// session over the link, which sends from the desk's cursor up to its end, and hangs the link up. It waits until the session has
 /// ended.
+///
+/// `stuck` is the number of the entry at which the looks before were stuck, if they were. Where that is the entry that is pending first,
+/// the session offers it alone; so a receiver that refuses it gets one event, and not all that wait behind it, each time. Else all are
+/// offered. What comes back says where the looks are stuck now: where nothing is pending, or the session ended as `Drained`, at no entry;
+/// after any other session at the entry that was pending first; and without a session as before.
 ///
 /// The pass is the one that may confirm, which has the greatest number. The destination's place is one that may be dialed. `polls` of
 /// the destination, above 0, is how often at most a collector is asked whether a request is acknowledged.
@@ -74,9 +123,10 @@ fn hold<N: Net, A: Access>(
 pub fn look<N: Net, D: Disk, J: Naming, R: Wait>(
     alloc: Global,
     destination: &Destination,
+    stuck: Option<u64>,
     net: &mut N,
     seated: &mut Seated<'_, D, J, R>,
-) -> Outcome
+) -> Looked
     requires confirms { seated.old.pass.number + 1 ≡ J.seats }
     requires polls { 0 < destination.now.outward.polls }
     requires named { N.may_dial destination.now.place }
@@ -84,17 +134,35 @@ pub fn look<N: Net, D: Disk, J: Naming, R: Wait>(
         (HasExchangedAt N.L.same N.L.dialed N.L.given N.L.taken destination.now.place) D.may_release }
 
     ensures { (one : Look) × IsLook J.start destination.now.outward destination.now.place one seated.old.pass seated.new.pass (N.told net.old) (N.told net.new)
-        × (result ≡ outcome_of one.found) }
+        × (one.offer ≡ offer_at stuck (first_of one.given)) × (result.outcome ≡ outcome_of one.found) × (result.stuck ≡ stuck_after stuck one) }
 {
     let given = match seated.pending(0, 1) {
         Ok(given) => given,
-        Err(fault) => return Outcome::Unread(fault),
+        Err(fault) => {
+            return Looked {
+                outcome: Outcome::Unread(fault),
+                stuck,
+            };
+        }
     };
-    if given.is_empty() {
-        return Outcome::Idle;
-    }
-    match hold(alloc, destination, net, seated) {
-        Ok(sent) => Outcome::Held(sent),
-        Err(fault) => Outcome::Undialed(fault),
+    let first = match first_of(&given) {
+        Some(first) => first,
+        None => {
+            return Looked {
+                outcome: Outcome::Idle,
+                stuck: None,
+            };
+        }
+    };
+    let upto = upto_at(stuck, first);
+    match hold(alloc, destination, upto, net, seated) {
+        Ok(sent) => Looked {
+            outcome: Outcome::Held(sent),
+            stuck: stuck_from(sent, first),
+        },
+        Err(fault) => Looked {
+            outcome: Outcome::Undialed(fault),
+            stuck,
+        },
     }
 }

@@ -13,7 +13,7 @@ use Rattle.serve_workers.specs.declared.worker.WorkerReport.{WorkerReport}
 use Rattle.serve_workers.specs.Crews.{AreNew, HaveWorked}
 use Rattle.serve_forwarder.specs.declared.destination.Destination.{Destination}
 use Rattle.serve_forwarder.specs.declared.looking.Outcome.{Outcome}
-use Rattle.serve_forwarder.specs.Looks.{Look, IsLook, AreLooks, outcome_of}
+use Rattle.serve_forwarder.specs.Looks.{Every, Look, IsLook, AreInTurn, AreLooks, outcome_of}
 
 -- A pass has seen what it had seen before and what these others have seen. It made no call for that.
 pub record HasMet (others : List Known) (pass pass' : Known) : Type 0 where
@@ -23,17 +23,19 @@ pub record HasMet (others : List Known) (pass pass' : Known) : Type 0 where
   pub each : All (λ (other : Known). IsPrefix other.seen pass'.seen) others
 
 -- The forwarder looked beside the workers, again and again. Once they had ended, and it had seen all that they had seen, it looked
--- once more, and `last` came of that.
+-- once more, at all that was pending, and `last` came of that.
 pub record HasForwarded (start : DeskState → Type 0) (destination : Destination) (workers : List Known) (pass pass' : Known)
     (net net' : NetState) (last : Outcome) : Type 0 where
   pub looks : List Look
   pub beside : Known
   pub net_beside : NetState
   pub looked : AreLooks start destination.outward destination.place looks pass beside net net_beside
+  pub in_turn : AreInTurn None looks
   pub met : Known
   pub has_met : HasMet workers beside met
   pub look : Look
   pub looked_last : IsLook start destination.outward destination.place look met pass' net_beside net'
+  pub every : look.offer ≡ Every
   pub last_is : last ≡ outcome_of look.found
 
 -- So it is where there is a destination. Where there is none it made no call, and the net is as it was.

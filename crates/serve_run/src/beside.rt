@@ -1,10 +1,10 @@
 //! Workers, and a forwarder beside them.
-ghost use Rattle.std.specs.Prelude.{◌≡◌, ◌+◌, ◌<◌, ◌^◌, ◌≤◌, List, length, map, vec_len};
+ghost use Rattle.std.specs.Prelude.{◌≡◌, ◌+◌, ◌<◌, ◌^◌, ◌≤◌, List, None, length, map, vec_len};
 ghost use Rattle.std.specs.Vec.{vec_capacity};
 ghost use Rattle.forward_core.specs.Exchanged.{HasExchangedAt};
 ghost use Rattle.spool_turns.specs.Replays.{IsReal};
 ghost use Rattle.serve_workers.specs.Crews.{AreNew, HaveWorked};
-ghost use Rattle.serve_forwarder.specs.Looks.{AreLooks, Look};
+ghost use Rattle.serve_forwarder.specs.Looks.{AreInTurn, AreLooks, Look};
 ghost use Rattle.serve_forwarder.specs.Released.{MayRelease};
 
 use crate::working::{Task, work_beside};
@@ -38,7 +38,7 @@ impl<'a, N: Net, D: Disk + Drop, J: Naming, R: Wait> Task for Forwarding<'a, N, 
 
     ghost leaves = { λ t r. (r.0.ghost_name ≡ t.net.ghost_name)
         × ((looks : List Look) × AreLooks J.start t.destination.now.outward t.destination.now.place looks t.seated.pass r.1
-        (N.told t.net.now) (N.told r.0.now)) };
+        (N.told t.net.now) (N.told r.0.now) × AreInTurn None looks) };
 
     fn run(self) -> (&'a mut N, Pass<J>) {
         let Forwarding {
@@ -97,7 +97,7 @@ where
         × (vec_len result.1.reports ≡ length hired.entry.passes) }
     ensures room { vec_len result.1.passes < vec_capacity result.1.passes }
     ensures looked { (looks : List Look) × AreLooks J.start destination.now.outward destination.now.place looks seated.entry.pass result.0
-        (N.told net.old) (N.told net.new) }
+        (N.told net.old) (N.told net.new) × AreInTurn None looks }
 {
     let ended = AtomicBool::new(false);
     let forwarding = Forwarding {

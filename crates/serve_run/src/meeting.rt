@@ -4,7 +4,7 @@ ghost use Rattle.std.specs.Vec.{vec_capacity};
 ghost use Rattle.forward_core.specs.Exchanged.{HasExchangedAt};
 ghost use Rattle.spool_turns.specs.Passes.{Known};
 ghost use Rattle.spool_turns.specs.Replays.{IsReal};
-ghost use Rattle.serve_forwarder.specs.Looks.{IsLook, Look, outcome_of};
+ghost use Rattle.serve_forwarder.specs.Looks.{Every, IsLook, Look, outcome_of};
 ghost use Rattle.serve_forwarder.specs.Released.{MayRelease};
 ghost use Rattle.serve_run.specs.Running.{HasMet};
 
@@ -30,8 +30,8 @@ fn meet_all<D: Disk, J: Naming, R: Wait>(
     }
 }
 
-/// Looks once more, after the forwarder's pass was shown all that the workers' passes have seen, and answers what came of it. The
-/// workers' passes stay as they are.
+/// Looks once more, after the forwarder's pass was shown all that the workers' passes have seen, and answers what came of it. The look
+/// offers all that is pending. The workers' passes stay as they are.
 pub(crate) fn look_again<N: Net, D: Disk, J: Naming, R: Wait>(
     alloc: Global,
     destination: &Destination,
@@ -47,10 +47,10 @@ pub(crate) fn look_again<N: Net, D: Disk, J: Naming, R: Wait>(
 
     ensures looked { (met : Known) × (one : Look) × HasMet workers.old.items forwarder.old.pass met
         × IsLook J.start destination.now.outward destination.now.place one met forwarder.new.pass (N.told net.old) (N.told net.new)
-        × (result ≡ outcome_of one.found) }
+        × (one.offer ≡ Every) × (result ≡ outcome_of one.found) }
     ensures same { (workers.new.items ≡ workers.old.items) × (vec_len workers.new ≡ vec_len workers.old)
         × (vec_capacity workers.new ≡ vec_capacity workers.old) }
 {
     meet_all(forwarder, workers);
-    look(alloc, destination, net, forwarder)
+    look(alloc, destination, None, net, forwarder).outcome
 }

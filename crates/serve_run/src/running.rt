@@ -207,7 +207,7 @@ where
 }
 
 /// Serves the links of all doors and stores what they bring. Where there is a destination, a forwarder sends it on meanwhile. Once all
-/// workers have ended the forwarder looks once more at what is left, and the desk is closed.
+/// workers have ended the forwarder looks once more, at all that is left, and the desk is closed.
 ///
 /// Each door has a worker, in a thread of its own where one can be made, that serves the door's links one after another. A worker ends
 ///

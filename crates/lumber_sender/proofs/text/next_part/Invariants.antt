@@ -1,4 +1,4 @@
-use Rattle.std.proofs.Common.{◌≡◌, ◌++◌, length, ◌-◌, ◌<◌, ◌≤◌}
+use Rattle.std.proofs.Common.{◌≡◌, ℕ, ◌+◌, ◌++◌, length, ◌-◌, ◌<◌, ◌≤◌}
 use Rattle.lumber_sender.specs.Windows.{part_text}
 use Rattle.lumber_sender.proofs.text.next_part.Given as goal
 
@@ -7,6 +7,7 @@ invariant-loop-upto l = record {
   some : l.from < l.upto;
   within : l.upto ≤ length l.batch;
   bytes : 0 < length l.out.items;
+  short : (k : ℕ) → l.from < k → k < l.upto → length (part_text l.batch k) < length (part_text l.batch l.from) + 65536;
   part : part_text l.batch l.upto ≡ part_text l.batch l.from ++ l.out.items;
 }
 

@@ -1,14 +1,15 @@
-use Rattle.std.proofs.Common.{refl, ap}
-use Rattle.std.specs.Prelude.{Ok, Err}
+use Rattle.std.proofs.Common.{ℕ, refl, ap, sym, ◌∙◌, subst}
+use Rattle.std.specs.Prelude.{Option, Some, None, Ok, Err}
 use Rattle.forward_core.specs.declared.sent.Sent.{Sent}
 use Rattle.serve_forwarder.specs.declared.looking.Outcome.TheVariants as outcome
-use Rattle.serve_forwarder.specs.Looks.{Idle, Unread, Undialed, Held}
-use Rattle.serve_forwarder.proofs.Asking.{none_given, some_given}
+use Rattle.serve_forwarder.specs.Looks.{Idle, Unread, Undialed, Held, Look, first_of, offer_at, stuck_from, upto_of}
+use Rattle.serve_forwarder.specs.Sessions.{IsHeld}
+use Rattle.serve_forwarder.proofs.Asking.{first_within, none_pending, offered, some_pending}
 use Rattle.serve_forwarder.proofs.looking.look.Goals as goal
 
 pub hold-requires-clause-earned : goal.hold-requires-clause-earned
-hold-requires-clause-earned g c = λ new is_new start until begun now link bytes calls text n asked ran some same gave took acknowledged.
-    c.requires.earned c.pending.new.self.pass begun.pass now.pass start until bytes calls text n (record {
+hold-requires-clause-earned g c = λ new is_new start end begun now link bytes calls text n asked ran some same gave took acknowledged.
+    c.requires.earned c.pending.new.self.pass begun.pass now.pass c.upto_at-upto.result start end bytes calls text n (record {
       between = asked.between.pass;
       cursor_ran = asked.cursor_ran.0;
       cursor = asked.cursor;
@@ -19,37 +20,48 @@ hold-requires-clause-earned g c = λ new is_new start until begun now link bytes
     }) ran.0 some (ran.1 some) (record { new = new; is_new = is_new; since = record { now = link; goes_on = same; gave = gave; took = took } })
     acknowledged
 
+pub upto_at-upto-requires : goal.upto_at-upto-requires
+upto_at-upto-requires g c = first_within c.in-Ok.given.items c.in-Some.first c.in-Ok.ensures.numbered (sym c.in-Some.ensures)
+
 pub returns-in-Err : goal.returns-in-Err
 returns-in-Err g c = (
-  record { given = Err c.in-Err.fault; found = Unread c.in-Err.fault },
+  record { given = Err c.in-Err.fault; offer = offer_at c.args.stuck None; found = Unread c.in-Err.fault },
   record { asked = c.pending.new.self.pass; asks = c.in-Err.ensures.ran.0; found = (refl, refl); told = refl },
+  refl,
+  refl,
   refl,
 )
 
-pub returns-then-is_empty : goal.returns-then-is_empty
-returns-then-is_empty g c =
+pub returns-in-None : goal.returns-in-None
+returns-in-None g c =
     let given = c.in-Ok.given in
-    let none = none_given given c.is_empty.result c.is_empty.ensures c.if-is_empty.true in (
-      record { given = Ok given.items; found = Idle },
+    let none = none_pending given.items (sym c.in-None.ensures) in (
+      record { given = Ok given.items; offer = offer_at c.args.stuck (first_of (Ok given.items)); found = Idle },
       record { asked = c.pending.new.self.pass; asks = c.in-Ok.ensures.ran.0; found = (ap (λ l. Ok l) none, refl {a = c.pending.new.self.pass}); told = refl {a = g.N.Net.told c.args.net.now} },
+      refl,
+      refl,
       refl,
     )
 
 pub returns-in-Ok-hold : goal.returns-in-Ok-hold
 returns-in-Ok-hold g c =
     let given = c.in-Ok.given in
-    let some = some_given given c.is_empty.result c.is_empty.ensures c.if-is_empty.false in
+    let to = c.args.destination.now in
+    let first = c.in-Some.ensures in
     let held = c.in-Ok-hold.ensures.held in
     let by = held.1 in
-    let asked = by.asked in (
-      record { given = Ok given.items; found = Held held.0 },
+    let asked = by.asked in
+    let upto = offered c.args.stuck (first_of (Ok given.items)) c.in-Some.first c.upto_at-upto.result (sym first) c.upto_at-upto.ensures in
+    let one : Look = record { given = Ok given.items; offer = offer_at c.args.stuck (first_of (Ok given.items)); found = Held held.0 } in (
+      one,
       record {
         asked = c.pending.new.self.pass;
         asks = c.in-Ok.ensures.ran.0;
         found = (
-          some,
-          record {
+          some_pending given.items c.in-Some.first (sym first),
+          subst (λ (u : Option ℕ). IsHeld g.J.Naming.start to.outward u held.0 c.pending.new.self.pass c.hold.new.access.pass) upto (record {
             begun = by.begun.pass;
+            end = by.end;
             asked = record {
               between = asked.between.pass;
               cursor_ran = asked.cursor_ran.0;
@@ -59,21 +71,31 @@ returns-in-Ok-hold g c =
               end_is = asked.end_is;
               end_seen = asked.end_seen;
             };
+            until_is = by.until_is;
             made = by.made.0;
             ended = by.ended;
-          },
+          }),
         );
         told = held.2;
       },
+      refl,
       ap (λ (sent : Sent). outcome.Held sent) held.3,
+      c.stuck_from.ensures ∙ (λ i. stuck_from (held.3 i) (first i)),
     )
 
 pub returns : goal.returns
 returns g c =
     let given = c.in-Ok.given in
-    let some = some_given given c.is_empty.result c.is_empty.ensures c.if-is_empty.false in
+    let first = c.in-Some.ensures in
     let undialed = c.in-Err-hold.ensures.undialed in (
-      record { given = Ok given.items; found = Undialed c.in-Err-hold.fault },
-      record { asked = c.pending.new.self.pass; asks = c.in-Ok.ensures.ran.0; found = (some, λ i. (undialed.0 i).pass); told = undialed.1 },
+      record { given = Ok given.items; offer = offer_at c.args.stuck (first_of (Ok given.items)); found = Undialed c.in-Err-hold.fault },
+      record {
+        asked = c.pending.new.self.pass;
+        asks = c.in-Ok.ensures.ran.0;
+        found = (some_pending given.items c.in-Some.first (sym first), λ i. (undialed.0 i).pass);
+        told = undialed.1;
+      },
+      refl,
+      refl,
       refl,
     )

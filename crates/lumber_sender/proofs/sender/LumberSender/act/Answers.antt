@@ -1,4 +1,4 @@
-use Rattle.std.proofs.Common.{ℕ, List, sym, subst}
+use Rattle.std.proofs.Common.{ℕ, List, sym, ap, subst}
 use Rattle.event_form.specs.declared.turn.Turn.{Turn}
 use Rattle.lumber_sender.specs.Sends.{SendsOn}
 use Rattle.event_form.specs.Turn.{text_of}
@@ -16,3 +16,6 @@ returns-in-Confirm-clause-sends c = subst (λ (l : List ℕ). SendsOn c.args.sel
 
 pub returns-in-Ask-clause-sends : goal.returns-in-Ask-clause-sends
 returns-in-Ask-clause-sends c = subst (λ (t : Turn). SendsOn c.args.self.now (text_of t) c.ask.new.self) (sym c.ask.ensures.need) c.ask.ensures.sends
+
+pub returns-in-Ask-clause-text : goal.returns-in-Ask-clause-text
+returns-in-Ask-clause-text c = ap text_of c.ask.ensures.need

@@ -5,7 +5,7 @@ use Rattle.event_form.specs.Turn.{text_of}
 use Rattle.lumber_sender.specs.Turns.{IsFor, spent}
 use Rattle.lumber_sender.specs.View.{sender_of}
 use Rattle.lumber_sender.proofs.Writing.{sends_told, sends_then}
-use Rattle.lumber_sender.proofs.Telling.{for_same, for_taken}
+use Rattle.lumber_sender.proofs.Telling.{for_same, for_taken, writes_none}
 use Rattle.lumber_sender.proofs.Whole.{text_at, whole_at, begins_at, tells_at, most_at, within_at, left_at, spent_at}
 use Rattle.lumber_sender.proofs.sender.LumberSender.turn.Goals as goal
 
@@ -48,6 +48,9 @@ returns-clause-sends c =
     let text = text_of c.act-turn.result in
     let same = (c.take_frame.ensures.none c.loop-test.false).0 in
     sends_then c.args.self.now c.loop.self c.act-turn.new.self [] text c.loop.invariant.sends (subst (λ (s : Sender). SendsOn s text c.act-turn.new.self) same c.act-turn.ensures.sends)
+
+pub returns-clause-written : goal.returns-clause-written
+returns-clause-written c = writes_none c.act-turn.result c.args.self.now c.act-turn.new.self c.act-turn.ensures.text c.act-turn.ensures.turn
 
 pub returns-clause-begins : goal.returns-clause-begins
 returns-clause-begins c = begins_at c.act-turn.new.self c.settle-2.ensures
