@@ -15,7 +15,7 @@ ghost use Rattle.edge_file.specs.declared.file.FileDisk.{FileDisk};
 use crate::pair::run_move;
 use bridge_core::{Ended, bridge};
 use bridge_words::{Need, need_of};
-use cli_parts::{Opening, Progress, Watched, make_disk, open_text};
+use cli_parts::{Opening, Progress, Waiting, Watched, make_disk, print_no_spool, print_unopened};
 use edge_disk::Disk;
 use edge_file::{FileDisk, OpenFault};
 use edge_io::{Door, Net, Sink, Source};
@@ -25,7 +25,7 @@ use std::alloc::Global;
 use std::sync::Wait;
 use std::thread::Threads;
 
-// Runs the words over the disk, which is watched meanwhile. Its reading may be shown. What was done is what `bridge` does, and nothing
+// Runs the words over the disk, which is watched meanwhile, and for which somebody may wait. Its reading may be shown. What was done is what `bridge` does, and nothing
 // else: of the disk, of the streams and of the net.
 fn run_over<D: Disk + Drop + Send, S: Source, K: Sink, N: Net + Send, R: Threads + Wait + Sync>(
     rt: &HostRuntime,
@@ -33,6 +33,7 @@ fn run_over<D: Disk + Drop + Send, S: Source, K: Sink, N: Net + Send, R: Threads
     words: &[String],
     disk: D,
     is_shown: bool,
+    waiting: Waiting,
     input: &mut S,
     output: &mut K,
     net: &mut N,
@@ -58,7 +59,7 @@ where
         (input_run S.given S.left S.read_faults input.old input.new) (output_run K.taken K.write_faults output.old output.new)
         (net_run N.told net.old net.new) (map (λ (door : _). N.P.told door) result.doors.items)) result.note }
 {
-    let disk = Watched::new(disk, Progress::new(rt, is_shown), "FILE");
+    let disk = Watched::new(disk, Progress::new(rt, is_shown), "FILE", waiting);
     let Ended {
         status,
         note,
@@ -109,14 +110,13 @@ where
 pub(crate) fn refuse(rt: &HostRuntime, file: &str, fault: OpenFault) -> Note
     ensures { result ≡ DiskFault }
 {
-    let why = open_text(fault);
-    let _ = eprintln!(rt; "bridge: {file}: {why}");
+    print_unopened(rt, file, fault);
     Note::DiskFault
 }
 
 /// Does what the words ask for, in threads of `threads` where that takes some, over the device that they want: `file`, opened
 /// or made, or one in memory without a byte where they want none; or a move over `file` and the other that they name. A `file` that can't be
-/// opened is a fault of the disk, and standard error says why in a line of its own. `list` shares `file` with others that list it; every
+/// opened is a fault of the disk, and standard error says why in a line of its own; one that is no spool is named there too. `list` shares `file` with others that list it; every
 /// other command has it alone while it runs.
 pub fn run_words<S: Source, K: Sink, N: Net + Send, R: Threads + Wait + Sync>(
     rt: &HostRuntime,
@@ -152,7 +152,10 @@ where
     let alloc = rt.alloc();
     match need_of(alloc, words) {
         Ok(Need::Make { len }) => match make_disk(rt, file, len) {
-            Ok(disk) => run_over(rt, threads, words, disk, false, input, output, net).note,
+            Ok(disk) => {
+                let waiting = Waiting::Nobody;
+                run_over(rt, threads, words, disk, false, waiting, input, output, net).note
+            }
             Err(fault) => refuse(rt, file, fault),
         },
         Ok(Need::Existing) => {
@@ -162,7 +165,13 @@ where
             match FileDisk::open_locked(rt, file, opening.sharing) {
                 Ok(disk) => {
                     let is_shown = opening.showing.is_seen(rt);
-                    run_over(rt, threads, words, disk, is_shown, input, output, net).note
+                    let waiting = opening.waiting;
+                    let note = run_over(
+                        rt, threads, words, disk, is_shown, waiting, input, output, net,
+                    )
+                    .note;
+                    print_no_spool(rt, file, note);
+                    note
                 }
                 Err(fault) => refuse(rt, file, fault),
             }

@@ -13,17 +13,18 @@ ghost use Rattle.cli_parts.specs.declared.progress.Watched.{Watched};
 
 use crate::device::refuse;
 use bridge_move::{Moved, bridge_move};
-use cli_parts::{Progress, Showing, Watched};
+use cli_parts::{Progress, Showing, Waiting, Watched, print_no_spool};
 use edge_disk::Disk;
 use edge_file::{FileDisk, PairFault};
 use edge_io::Sink;
 use notes::Note;
 
 // Runs the words over both disks, which are watched meanwhile. The reading of the first may be shown. What was done is what `bridge_move`
-// does, and nothing else.
+// does, and nothing else. The names are those of the two, by which standard error says which of them is no spool.
 fn move_over<D: Disk, E: Disk, K: Sink>(
     rt: &HostRuntime,
     words: &[String],
+    names: [&str; 2],
     source: D,
     target: E,
     is_shown: bool,
@@ -39,14 +40,18 @@ fn move_over<D: Disk, E: Disk, K: Sink>(
         × IsMoveRun D.tells E.tells (λ (watched : Watched D). D.moment watched.disk) (λ (watched : Watched E). E.moment watched.disk)
         (map string_bytes words.now) before after before_target after_target (output_run K.taken K.write_faults output.old output.new) result.note }
 {
-    let source = Watched::new(source, Progress::new(rt, is_shown), "FILE");
-    let target = Watched::new(target, Progress::new(rt, false), "TARGET");
+    let source = Watched::new(source, Progress::new(rt, is_shown), "FILE", Waiting::Nobody);
+    let target = Watched::new(target, Progress::new(rt, false), "TARGET", Waiting::Nobody);
     let Moved {
         status,
         note,
         source,
         target,
     } = bridge_move(rt.alloc(), words, source, target, output);
+    // (the first is opened before the second is read)
+    let [first, second] = names;
+    let name = if target.is_read() { second } else { first };
+    print_no_spool(rt, name, note);
     Moved {
         status,
         note,
@@ -70,11 +75,11 @@ fn refuse_pair(rt: &HostRuntime, file: &str, target: &str, fault: PairFault) -> 
 }
 
 /// Does what the words of a move ask for, over the two files, each of which this program has alone meanwhile. One that can't be opened is
-/// a fault of the disk, and so is one file as both; standard error says which, in a line of its own.
+/// a fault of the disk, and so is one file as both; standard error says which, in a line of its own, and which of them is no spool.
 pub(crate) fn run_move<K: Sink>(
     rt: &HostRuntime,
     file: &str,
-    target: &str,
+    target_path: &str,
     words: &[String],
     output: &mut K,
 ) -> Note
@@ -84,11 +89,20 @@ pub(crate) fn run_move<K: Sink>(
     ensures known { IsMoveNote result }
     ensures writes { CountsFaults (result ≡ WriteFault) (K.write_faults output.old) (K.write_faults output.new) }
 {
-    match FileDisk::open_both(rt, file, target) {
+    match FileDisk::open_both(rt, file, target_path) {
         Ok((source, target)) => {
             let is_shown = Showing::Always.is_seen(rt);
-            move_over(rt, words, source, target, is_shown, output).note
+            move_over(
+                rt,
+                words,
+                [file, target_path],
+                source,
+                target,
+                is_shown,
+                output,
+            )
+            .note
         }
-        Err(fault) => refuse_pair(rt, file, target, fault),
+        Err(fault) => refuse_pair(rt, file, target_path, fault),
     }
 }

@@ -1,22 +1,53 @@
 //! The program over its streams.
 use crate::device::run_words;
-use cli_parts::{Arguments, NoArguments, hold_streams, print_line, print_note, print_wrong_words};
+use crate::skip::run_skip;
+use cli_parts::{
+    Arguments, NoArguments, RunOptions, Taken, Untaken, confirm, hold_streams, keep_freed,
+    print_beside_usage, print_beside_wrong_option, print_ending, print_line, print_note, skip_of,
+    take_options,
+};
 use edge_io::FileIo;
-use edge_net::TcpNet;
+use edge_net::{Reports, TcpNet, Waits};
 use notes::Note;
 use std::io;
 use std::sync::Wait;
 use std::thread::Threads;
 
-// Does what the program was called with, over standard input, standard output and the sockets of the system.
+// What is said of the net, as the options have it.
+fn reports_of(options: RunOptions) -> Reports {
+    if options.is_quiet {
+        Reports::quiet()
+    } else {
+        Reports::new()
+    }
+}
+
+// How long the net waits, as the options have it.
+fn waits_of(options: RunOptions) -> Waits {
+    match options.idle {
+        Some(seconds) => Waits::standard().with_accepted(seconds),
+        None => Waits::standard(),
+    }
+}
+
+// Does what the arguments say, over standard input, standard output and the sockets of the system; but a `format` that its user takes back
+// does nothing.
 fn run_arguments<R: Threads + Wait + Sync>(
     rt: &HostRuntime,
     threads: &R,
     arguments: &Arguments,
+    options: RunOptions,
 ) -> Note {
+    if let Err(note) = confirm(rt, arguments) {
+        return note;
+    }
     let mut input = FileIo::of(rt.reader());
     let mut output = FileIo::of(io::writer(rt));
-    let mut net = TcpNet::new(rt.alloc(), rt);
+    if let Some(number) = skip_of(&arguments.words) {
+        return run_skip(rt, &arguments.file, number, &mut output);
+    }
+    let reports = reports_of(options);
+    let mut net = TcpNet::with_waits(rt.alloc(), rt, &reports, waits_of(options));
     run_words(
         rt,
         threads,
@@ -28,21 +59,41 @@ fn run_arguments<R: Threads + Wait + Sync>(
     )
 }
 
-/// Runs the program, in threads of `threads` where its command takes some: what it was called with is FILE and then the words,
-/// and its streams are standard input and output. One that is closed is taken as empty, or as one to which a write fails.
-/// Where it doesn't end well, standard error gets the note's line, and after the usage line another that says what is wrong with
-/// the words.
-pub fn run<R: Threads + Wait + Sync>(rt: &HostRuntime, threads: &R) -> Note {
-    let _held = hold_streams(rt);
-    match Arguments::read(rt) {
-        Ok(arguments) => {
-            let note = run_arguments(rt, threads, &arguments);
-            print_note(rt, note);
+// The same where the options of the run stand among the words, which are taken out of them; and says on standard error what isn't well.
+fn run_all<R: Threads + Wait + Sync>(rt: &HostRuntime, threads: &R, arguments: Arguments) -> Note {
+    let taken = take_options(rt.alloc(), &arguments.words);
+    let Arguments { file, words } = arguments;
+    match taken {
+        Ok(Taken { words, options }) => {
+            let arguments = Arguments { file, words };
+            let note = run_arguments(rt, threads, &arguments, options);
+            print_ending(rt, &arguments, note);
             if note == Note::Usage {
-                print_wrong_words(rt, &arguments.words);
+                print_beside_usage(rt, &arguments);
             }
             note
         }
+        Err(Untaken::Wrong(wrong)) => {
+            print_note(rt, Note::Usage);
+            print_beside_wrong_option(rt, &Arguments { file, words }, wrong);
+            Note::Usage
+        }
+        Err(Untaken::NoMemory) => {
+            print_note(rt, Note::NoMemory);
+            Note::NoMemory
+        }
+    }
+}
+
+/// Runs the program, in threads of `threads` where its command takes some: what it was called with is FILE and then the words, among which
+/// stand the options of the run, and its streams are standard input and output. One that is closed is taken as empty, or as one to which
+/// a write fails. Where it doesn't end well, standard error gets the note's line. After the usage line it gets others that say what is
+/// wrong with the words; but where these ask for help or for the version, standard output gets that.
+pub fn run<R: Threads + Wait + Sync>(rt: &HostRuntime, threads: &R) -> Note {
+    let _held = hold_streams(rt);
+    keep_freed(rt.alloc());
+    match Arguments::read(rt) {
+        Ok(arguments) => run_all(rt, threads, arguments),
         Err(NoArguments::NoText) => {
             print_note(rt, Note::Usage);
             print_line(rt, "a word is no UTF-8");

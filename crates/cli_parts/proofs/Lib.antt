@@ -1,1 +1,4 @@
 pub mod Listing
+mod Counted
+mod Options
+mod Skipping

@@ -1,1 +1,7 @@
+pub mod Help
+pub mod Near
 pub mod Opening
+pub mod Piece
+pub mod RunOptions
+pub mod SkipWords
+pub mod Tally

@@ -1,7 +1,7 @@
 -- What main says of a FILE that it didn't open, and how it shares one.
 use Rattle.std.specs.Prelude.{ℕ, List, codes}
 use Rattle.edge_file.specs.declared.open_fault.OpenFault.{OpenFault}
-use Rattle.edge_file.specs.declared.open_fault.OpenFault.TheVariants.{NotFound, NotAllowed, IsFolder, InUse, Other}
+use Rattle.edge_file.specs.declared.open_fault.OpenFault.TheVariants.{NotFound, NotAllowed, IsFolder, InUse, NoRoom, NoFile, Other}
 use Rattle.bridge_words.specs.declared.command.ListForm.{ListForm}
 use Rattle.bridge_words.specs.declared.command.Command.{Command}
 use Rattle.bridge_words.specs.declared.command.Command.TheVariants.{List as ListCommand}
@@ -12,6 +12,8 @@ open_text NotFound = codes "not found"
 open_text NotAllowed = codes "not allowed"
 open_text IsFolder = codes "a folder"
 open_text InUse = codes "in use"
+open_text NoRoom = codes "no room on its file system"
+open_text NoFile = codes "neither a file nor a block device"
 open_text Other = codes "can't be opened"
 
 -- a command that lists the entries, which changes nothing on the disk

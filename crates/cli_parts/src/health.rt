@@ -37,6 +37,25 @@ impl Health {
     }
 }
 
+/// Who waits for FILE where a call of it fails.
+#[derive(Clone, Copy, PartialEq, Eq)]
+pub enum Waiting {
+    /// Senders, whose events the command acknowledges once they are durable.
+    Senders,
+    /// Nobody: the command acknowledges nothing.
+    Nobody,
+}
+
+impl Waiting {
+    // What follows the line that a write or a sync of the file failed, where somebody waits.
+    fn notice(self) -> &'static str {
+        match self {
+            Waiting::Senders => "; nothing is acknowledged until FILE is well again",
+            Waiting::Nobody => "",
+        }
+    }
+}
+
 /// What is said of a file on standard error: a line where a call of it fails, and one where it is well again. Not
 /// one for each call: while it is failing nothing more is said.
 #[derive(Drop)]
@@ -44,15 +63,21 @@ pub(crate) struct HealthLines<'a> {
     rt: &'a HostRuntime,
     // What the lines call the file.
     name: &'static str,
+    waiting: Waiting,
     health: Health,
 }
 
 impl<'a> HealthLines<'a> {
     /// No call was made of the file that the lines call so.
-    pub(crate) fn new(rt: &'a HostRuntime, name: &'static str) -> HealthLines<'a> {
+    pub(crate) fn new(
+        rt: &'a HostRuntime,
+        name: &'static str,
+        waiting: Waiting,
+    ) -> HealthLines<'a> {
         HealthLines {
             rt,
             name,
+            waiting,
             health: Health::Well,
         }
     }
@@ -66,19 +91,12 @@ impl<'a> HealthLines<'a> {
         }
         self.health = after;
         let name = self.name;
+        let notice = self.waiting.notice();
         let _ = match (after, call) {
             (Health::Well, _) => eprintln!(self.rt; "bridge: {name} is well again"),
             (_, Call::Read { .. }) => eprintln!(self.rt; "bridge: a read of {name} failed"),
-            (_, Call::Write) => {
-                eprintln!(self.rt;
-                    "bridge: a write of {name} failed; nothing is acknowledged until {name} is well again"
-                )
-            }
-            (_, Call::Sync) => {
-                eprintln!(self.rt;
-                    "bridge: a sync of {name} failed; nothing is acknowledged until {name} is well again"
-                )
-            }
+            (_, Call::Write) => { eprintln!(self.rt; "bridge: a write of {name} failed{notice}") }
+            (_, Call::Sync) => { eprintln!(self.rt; "bridge: a sync of {name} failed{notice}") }
         };
     }
 }

@@ -1,20 +1,37 @@
-//! What the program does around its one call: what it was called with, how FILE is made and opened, what is shown of a command's
-//! progress and of FILE's health, the lines on standard error, and the exit status.
+//! What the program does around its one call: what it was called with, which options of the run are among the words, how FILE is made and opened, whether a `format` of it goes on, what
+//! is shown of a command's progress and of FILE's health, the lines on standard error, the page of help, and the exit status.
 #![tactic(auto)]
 
 mod arguments;
+mod confirming;
 mod health;
+mod help;
 mod making;
+mod memory;
+mod misspelt;
 mod opening;
 mod progress;
 mod report;
+mod run_options;
+mod seconds;
+mod skip_words;
 mod status;
 mod streams;
+mod tally;
+mod unopened;
 
 pub use arguments::{Arguments, NoArguments};
+pub use confirming::confirm;
+pub use health::Waiting;
 pub use making::make_disk;
-pub use opening::{Opening, Showing, open_text};
+pub use memory::keep_freed;
+pub use opening::{Opening, Showing};
 pub use progress::{Progress, Watched};
-pub use report::{print_line, print_note, print_wrong_words};
+pub use report::{
+    print_beside_usage, print_beside_wrong_option, print_ending, print_line, print_no_spool,
+    print_note, print_unopened,
+};
+pub use run_options::{RunOptions, Taken, Untaken, WrongOption, take_options};
+pub use skip_words::skip_of;
 pub use status::exit_code;
 pub use streams::hold_streams;

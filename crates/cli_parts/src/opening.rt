@@ -1,10 +1,11 @@
-//! How FILE is opened, and why it isn't.
+//! How FILE is opened.
 ghost use Rattle.std.specs.Prelude.{◌≡◌, ◌↔◌, IfOk, map, string_bytes};
 ghost use Rattle.edge_file.specs.declared.open_fault.Sharing.TheVariants.{Shared};
-ghost use Rattle.cli_parts.specs.Opening.{open_text, IsList, AreList};
+ghost use Rattle.cli_parts.specs.Opening.{IsList, AreList};
 
+use crate::health::Waiting;
 use bridge_words::Command;
-use edge_file::{OpenFault, Sharing};
+use edge_file::Sharing;
 use std::alloc::{AllocError, Global};
 use std::io::IsTerminal;
 
@@ -38,6 +39,8 @@ pub struct Opening {
     pub sharing: Sharing,
     /// Where it is shown how far its reading is.
     pub showing: Showing,
+    /// Who waits for it.
+    pub waiting: Waiting,
 }
 
 // A command that lists FILE may have it beside others that do; every other one has it alone.
@@ -67,6 +70,17 @@ fn showing_of(command: &Command) -> Showing {
     }
 }
 
+// A command that serves acknowledges to senders, and no other one does.
+fn waiting_of(command: &Command) -> Waiting {
+    match command {
+        Command::Serve { .. } | Command::Replay { .. } => Waiting::Senders,
+        Command::Format { .. }
+        | Command::List { .. }
+        | Command::Drain { .. }
+        | Command::Load { .. } => Waiting::Nobody,
+    }
+}
+
 impl Opening {
     /// How the words want it. Those that list it may have it beside others that do.
     pub fn of(alloc: Global, words: &[String]) -> Result<Opening, AllocError>
@@ -76,24 +90,13 @@ impl Opening {
             Some(command) => Ok(Opening {
                 sharing: sharing_of(&command),
                 showing: showing_of(&command),
+                waiting: waiting_of(&command),
             }),
             None => Ok(Opening {
                 sharing: Sharing::Exclusive,
                 showing: Showing::Apart,
+                waiting: Waiting::Nobody,
             }),
         }
-    }
-}
-
-/// Why a FILE wasn't opened.
-pub fn open_text(fault: OpenFault) -> &'static str
-    ensures text { result.now ≡ open_text fault }
-{
-    match fault {
-        OpenFault::NotFound => "not found",
-        OpenFault::NotAllowed => "not allowed",
-        OpenFault::IsFolder => "a folder",
-        OpenFault::InUse => "in use",
-        OpenFault::Other => "can't be opened",
     }
 }

@@ -1,7 +1,8 @@
 //! How far a command is, for a user who waits, and FILE as it is watched meanwhile.
 ghost use Rattle.std.specs.Prelude.{◌≡◌};
 
-use crate::health::{Call, HealthLines};
+use crate::health::{Call, HealthLines, Waiting};
+use crate::tally::Tally;
 use edge_disk::{Disk, DiskFault};
 use std::time::Instant;
 
@@ -13,8 +14,8 @@ pub struct Progress<'a> {
     began: Option<Instant>,
     // How many whole seconds had passed at the last line.
     shown: u64,
-    // How many bytes of FILE were read.
-    read: u64,
+    // How much of FILE was read. Nothing is counted where nothing is shown, or no memory was found.
+    tally: Option<Tally>,
 }
 
 impl<'a> Progress<'a> {
@@ -29,13 +30,25 @@ impl<'a> Progress<'a> {
             rt,
             began,
             shown: 0,
-            read: 0,
+            tally: None,
         }
     }
 
-    // Counts bytes that are read, and says how many they are where a second has passed.
-    fn count(&mut self, bytes: usize) {
-        self.read = self.read.saturating_add(bytes as u64);
+    // FILE has this length in bytes.
+    fn begin(&mut self, len: u64) {
+        if self.began.is_some() {
+            self.tally = Tally::new(self.rt.alloc(), len).ok();
+        }
+    }
+
+    // Counts bytes of FILE that were read, and says how many MiB of it were where a second has passed. What is read again counts once.
+    fn count(&mut self, at: u64, bytes: usize) {
+        let Some(tally) = &mut self.tally else {
+            return;
+        };
+        tally.note(at, at.saturating_add(bytes as u64));
+        let read = tally.read();
+        let all = tally.parts();
         let Some(began) = self.began else {
             return;
         };
@@ -45,8 +58,7 @@ impl<'a> Progress<'a> {
         let seconds = passed.as_secs();
         if seconds > self.shown {
             self.shown = seconds;
-            let mebibytes = self.read / 1_048_576;
-            let _ = eprintln!(self.rt; "bridge: {mebibytes} MiB of FILE read in {seconds} s");
+            let _ = eprintln!(self.rt; "bridge: {read} of {all} MiB of FILE read in {seconds} s");
         }
     }
 }
@@ -58,19 +70,36 @@ pub struct Watched<'a, D> {
     disk: D,
     progress: Progress<'a>,
     health: HealthLines<'a>,
+    // Whether a read of it was asked for.
+    is_read: bool,
 }
 
 impl<'a, D: Disk> Watched<'a, D> {
-    /// The disk, with the progress of the command that reads it, and what lines about its health call it.
-    pub fn new(disk: D, progress: Progress<'a>, name: &'static str) -> Watched<'a, D>
+    /// The disk, with the progress of the command that reads it, what lines about its health call it, and who waits for it.
+    pub fn new(
+        disk: D,
+        progress: Progress<'a>,
+        name: &'static str,
+        waiting: Waiting,
+    ) -> Watched<'a, D>
         ensures { result.disk ≡ disk }
     {
-        let health = HealthLines::new(progress.rt, name);
+        let health = HealthLines::new(progress.rt, name, waiting);
+        let mut progress = progress;
+        progress.begin(disk.len());
         Watched {
             disk,
             progress,
             health,
+            is_read: false,
         }
+    }
+
+    /// Whether a read of the disk was asked for.
+    pub fn is_read(&self) -> bool
+        ensures { result ≡ self.now.is_read }
+    {
+        self.is_read
     }
 
     /// The disk, which is watched no more.
@@ -105,8 +134,12 @@ impl<D: Disk> Disk for Watched<'_, D> {
     }
 
     fn read_at(&mut self, at: u64, buf: &mut [u8]) -> Result<(), DiskFault> {
-        self.progress.count(buf.len());
+        self.is_read = true;
+        let bytes = buf.len();
         let outcome = self.disk.read_at(at, buf);
+        if outcome.is_ok() {
+            self.progress.count(at, bytes);
+        }
         self.health.saw(Call::Read { at }, &outcome);
         outcome
     }

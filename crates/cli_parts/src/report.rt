@@ -1,5 +1,13 @@
-//! The lines on standard error. A write that fails there is not reported.
+//! The lines on standard error, and what is printed where words ask for it. A write of them that fails is not reported.
+use crate::arguments::Arguments;
+use crate::help::{Question, question_in, question_of};
+use crate::misspelt::{Misspelt, Named, misspelt_in};
+use crate::run_options::WrongOption;
+use crate::skip_words::{begins_skip, skip_of};
+use crate::unopened::{missing_folder, open_text};
+use edge_file::OpenFault;
 use notes::{Note, note_text};
+use std::fs::Files;
 use std::str;
 
 /// Prints a line.
@@ -27,9 +35,103 @@ pub fn print_note(rt: &(impl AllocGlobal + Eprint), note: Note) {
     }
 }
 
-/// Prints what is wrong with words that are no command.
-pub fn print_wrong_words(rt: &(impl AllocGlobal + Eprint), words: &[String]) {
-    if let Ok(Some(fault)) = bridge_words::wrong_words(rt.alloc(), words) {
+/// Prints why what the arguments asked for ended, where it didn't end well: the note's text, but of a skip that found no pending entry, or no
+/// room for a stretch more, what that means.
+pub fn print_ending(rt: &(impl AllocGlobal + Eprint), arguments: &Arguments, note: Note) {
+    let _ = match (skip_of(&arguments.words), note) {
+        (Some(number), Note::Strange { .. }) => {
+            eprintln!(rt; "bridge: entry {number} is not pending")
+        }
+        (Some(number), Note::Full { .. }) => {
+            eprintln!(rt;
+                "bridge: entry {number} is not skipped: 240 stretches above the cursor are confirmed already"
+            )
+        }
+        _ => {
+            print_note(rt, note);
+            return;
+        }
+    };
+}
+
+// What the program was asked for beside its commands: by the first word that asks.
+fn question_to(arguments: &Arguments) -> Option<Question> {
+    match question_of(&arguments.file) {
+        Some(question) => Some(question),
+        None => question_in(&arguments.words),
+    }
+}
+
+// Prints which name is meant where one of the words is misspelt.
+fn print_near_name(rt: &(impl AllocGlobal + Eprint), arguments: &Arguments) {
+    if let Ok(Some(Misspelt { named, word, name })) = misspelt_in(rt.alloc(), arguments) {
+        let _ = match named {
+            Named::Command => eprintln!(rt; "bridge: no command \"{word}\": did you mean {name}?"),
+            Named::Option => eprintln!(rt; "bridge: no option \"{word}\": did you mean {name}?"),
+        };
+    }
+}
+
+// Prints what is wrong with words that are no command, and which name is meant where one of them is misspelt.
+fn print_wrong_words(rt: &(impl AllocGlobal + Eprint), arguments: &Arguments) {
+    if begins_skip(&arguments.words) {
+        print_line(
+            rt,
+            "skip takes NUMBER, the number of a pending entry, and nothing else",
+        );
+    } else if let Ok(Some(fault)) = bridge_words::wrong_words(rt.alloc(), &arguments.words) {
         print_line(rt, fault.text());
+    }
+    print_near_name(rt, arguments);
+}
+
+/// Prints what stands beside the usage line. Where the program was asked for help or for its version, that is what standard output gets.
+/// Else standard error gets a line that says what is wrong with the words, and where one is misspelt another that says which name is
+/// near it.
+pub fn print_beside_usage(rt: &(impl AllocGlobal + Eprint + Print), arguments: &Arguments) {
+    match question_to(arguments) {
+        Some(question) => {
+            let answer = question.answer();
+            let _ = println!(rt; "{answer}");
+        }
+        None => print_wrong_words(rt, arguments),
+    }
+}
+
+/// The same where an option of the run is wrong: unless help or the version is asked for, standard error gets a line that says which, and
+/// why.
+pub fn print_beside_wrong_option(
+    rt: &(impl AllocGlobal + Eprint + Print),
+    arguments: &Arguments,
+    wrong: WrongOption,
+) {
+    match question_to(arguments) {
+        Some(question) => {
+            let answer = question.answer();
+            let _ = println!(rt; "{answer}");
+        }
+        None => {
+            print_line(rt, wrong.text());
+            print_near_name(rt, arguments);
+        }
+    }
+}
+
+/// Says why the file of this path wasn't opened: that its folder is missing, or the fault.
+pub fn print_unopened(rt: &(impl Files + Eprint), path: &str, fault: OpenFault) {
+    if fault == OpenFault::NotFound
+        && let Some(folder) = missing_folder(rt, path)
+    {
+        let _ = eprintln!(rt; "bridge: {path}: no folder {folder}");
+        return;
+    }
+    let why = open_text(fault);
+    let _ = eprintln!(rt; "bridge: {path}: {why}");
+}
+
+/// Names the file of this path, where the note says of what stands in it that it is no spool.
+pub fn print_no_spool(rt: &impl Eprint, path: &str, note: Note) {
+    if let Note::NotSpool { .. } = note {
+        let _ = eprintln!(rt; "bridge: {path}: not a spool");
     }
 }

@@ -53,19 +53,19 @@ returns-in-Err-make_disk-clause-no_command g c = λ none _. absurd (needs_device
 -- it was there
 
 pub returns-in-Ok-open_locked-clause-usage : goal.returns-in-Ok-open_locked-clause-usage
-returns-in-Ok-open_locked-clause-usage g c = λ is. let none = usage_is_of_words _ _ _ c.run_over-in-Ok-open_locked.ensures.run.4.0 is in (none, absurd (needs_device _ _ (λ by. cc) (λ target tag by. cc) c.in-Ok-Existing.ensures none))
+returns-in-Ok-open_locked-clause-usage g c = λ is. let none = usage_is_of_words _ _ _ c.run_over-note.ensures.run.4.0 is in (none, absurd (needs_device _ _ (λ by. cc) (λ target tag by. cc) c.in-Ok-Existing.ensures none))
 
 pub returns-in-Ok-open_locked-clause-no_command : goal.returns-in-Ok-open_locked-clause-no_command
-returns-in-Ok-open_locked-clause-no_command g c = λ none _. no_command_is_told _ _ _ c.run_over-in-Ok-open_locked.ensures.run.4.0 none
+returns-in-Ok-open_locked-clause-no_command g c = λ none _. no_command_is_told _ _ _ c.run_over-note.ensures.run.4.0 none
 
 pub returns-in-Ok-open_locked-clause-reads : goal.returns-in-Ok-open_locked-clause-reads
-returns-in-Ok-open_locked-clause-reads g c = c.run_over-in-Ok-open_locked.ensures.run.4.0.reads
+returns-in-Ok-open_locked-clause-reads g c = c.run_over-note.ensures.run.4.0.reads
 
 pub returns-in-Ok-open_locked-clause-writes : goal.returns-in-Ok-open_locked-clause-writes
-returns-in-Ok-open_locked-clause-writes g c = c.run_over-in-Ok-open_locked.ensures.run.4.0.writes
+returns-in-Ok-open_locked-clause-writes g c = c.run_over-note.ensures.run.4.0.writes
 
 pub returns-in-Ok-open_locked-clause-dials : goal.returns-in-Ok-open_locked-clause-dials
-returns-in-Ok-open_locked-clause-dials g c = c.run_over-in-Ok-open_locked.ensures.run.4.0.dials
+returns-in-Ok-open_locked-clause-dials g c = c.run_over-note.ensures.run.4.0.dials
 
 pub returns-in-Err-open_locked-clause-no_command : goal.returns-in-Err-open_locked-clause-no_command
 returns-in-Err-open_locked-clause-no_command g c = λ none _. absurd (needs_device _ _ (λ is. cc) (λ target tag is. cc) c.in-Ok-Existing.ensures none)

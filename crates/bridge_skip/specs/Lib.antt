@@ -1,0 +1,5 @@
+pub mod Line
+pub mod Leave
+pub mod Released
+pub mod Skipped
+pub mod SkipRun

@@ -1,0 +1,107 @@
+-- How words are read, one after another, where options of a run stand among them.
+use Rattle.std.proofs.Common.{◌≡◌, ◌∙◌, ℕ, ◌-◌, ◌<◌, ◌≤◌, List, [], ◌∷◌, ◌++◌, length, get_or, take, drop, map, true, false, inl, inr, refl, sym, ap, subst, append_assoc, arith, codes}
+use Rattle.std.proofs.lemmas.List.{take_rest, append-nil}
+use Rattle.cli_parts.specs.declared.run_options.RunOptions.{RunOptions}
+use Rattle.cli_parts.specs.declared.run_options.WrongOption.{WrongOption}
+use Rattle.cli_parts.specs.declared.run_options.WrongOption.TheVariants.{QuietTwice, QuietValue, IdleElsewhere, IdleTwice, IdleNoValue, IdleRange}
+use Rattle.cli_parts.specs.RunOptions.{Text, no_options, option_name, IsNoOption, IsNoSeconds, IsIdle, IsRead, named, quiet, idle, other, EndsOptions, AreTaken, TakesIdle, IsWrong, IsWrongNext}
+use Rattle.cli_parts.specs.Piece.{IsNext}
+
+-- the first of some elements, and the others as a pattern has them
+pub first_and_rest : {X : Type 0} (f : X → Text) (xs : List X) (x : X) (text : Text) → 1 ≤ length xs → x ≡ get_or xs 0 x → text ≡ f x
+    → map f xs ≡ text ∷ map f (take (length xs - 1) (drop 1 xs))
+first_and_rest f [] x text long at is = absurd (omega arith)
+first_and_rest f (y ∷ ys) x text long at is =
+    ap (λ z. z ∷ map f ys) (ap f (sym at) ∙ sym is) ∙ ap (λ t. text ∷ map f t) (sym (take_rest (y ∷ ys) 1))
+
+-- none of them
+pub none_of : {X : Type 0} (f : X → Text) (xs : List X) → length xs < 1 → map f xs ≡ []
+none_of f [] few = refl
+none_of f (x ∷ xs) few = absurd (omega arith)
+
+-- ---- one word, or an option with its value
+
+pub next_quiet : (name word : Text) (more : List Text) (old : RunOptions) (kept : List Text) → word ≡ codes "--quiet" → old.is_quiet ≡ false
+    → IsNext name (word ∷ more) more old (record old { is_quiet = true }) kept kept
+next_quiet name word more old kept is unsaid = record {
+  own = codes "--quiet" ∷ [];
+  words_are = ap (λ w. w ∷ more) is;
+  goes_on = λ read was. quiet was unsaid;
+}
+
+pub next_idle : (name word value : Text) (whole more : List Text) (old new : RunOptions) (kept : List Text) → whole ≡ value ∷ more
+    → word ≡ codes "--idle" → TakesIdle name value old new → IsNext name (word ∷ whole) more old new kept kept
+next_idle name word value whole more old new kept whole_is is takes = record {
+  own = word ∷ value ∷ [];
+  words_are = ap (λ l. word ∷ l) whole_is;
+  goes_on = λ read was. subst (λ (o : RunOptions). IsRead name (read ++ word ∷ value ∷ []) o kept) (sym takes.new_is)
+      (idle was takes.once takes.serves (inl (ap (λ w. w ∷ value ∷ []) is)) takes.read);
+}
+
+pub next_idle_with : (name word value : Text) (more : List Text) (old new : RunOptions) (kept : List Text) → word ≡ codes "--idle=" ++ value
+    → TakesIdle name value old new → IsNext name (word ∷ more) more old new kept kept
+next_idle_with name word value more old new kept is takes = record {
+  own = word ∷ [];
+  words_are = refl;
+  goes_on = λ read was. subst (λ (o : RunOptions). IsRead name (read ++ word ∷ []) o kept) (sym takes.new_is)
+      (idle was takes.once takes.serves (inr (ap (λ w. w ∷ []) is)) takes.read);
+}
+
+-- what is wrong with them
+
+pub wrong_idle : (name word value : Text) (whole more : List Text) (old : RunOptions) (wrong : WrongOption) → whole ≡ value ∷ more
+    → word ≡ codes "--idle" → IsNoSeconds wrong name old value → IsWrongNext wrong name old (word ∷ whole)
+wrong_idle name word value whole more old QuietTwice whole_is is why = absurd why
+wrong_idle name word value whole more old QuietValue whole_is is why = absurd why
+wrong_idle name word value whole more old IdleElsewhere whole_is is why = (why, (word, whole, refl, ap option_name is))
+wrong_idle name word value whole more old IdleTwice whole_is is why = (why, (word, whole, refl, ap option_name is))
+wrong_idle name word value whole more old IdleNoValue whole_is is why = absurd why
+wrong_idle name word value whole more old IdleRange whole_is is why =
+    (word ∷ value ∷ [], more, value, ap (λ l. word ∷ l) whole_is, inl (ap (λ w. w ∷ value ∷ []) is), why)
+
+pub wrong_idle_with : (name word value : Text) (more : List Text) (old : RunOptions) (wrong : WrongOption) → word ≡ codes "--idle=" ++ value
+    → IsNoSeconds wrong name old value → IsWrongNext wrong name old (word ∷ more)
+wrong_idle_with name word value more old QuietTwice is why = absurd why
+wrong_idle_with name word value more old QuietValue is why = absurd why
+wrong_idle_with name word value more old IdleElsewhere is why = (why, (word, more, refl, ap option_name is))
+wrong_idle_with name word value more old IdleTwice is why = (why, (word, more, refl, ap option_name is))
+wrong_idle_with name word value more old IdleNoValue is why = absurd why
+wrong_idle_with name word value more old IdleRange is why = (word ∷ [], more, value, refl, inr (ap (λ w. w ∷ []) is), why)
+
+pub next_other : (name word : Text) (more : List Text) (old new : RunOptions) (kept now : List Text) → IsNoOption word → new ≡ old
+    → now ≡ kept ++ word ∷ [] → IsNext name (word ∷ more) more old new kept now
+next_other name word more old new kept now is same one = record {
+  own = word ∷ [];
+  words_are = refl;
+  goes_on = λ read was. subst (λ (o : RunOptions). IsRead name (read ++ word ∷ []) o now) (sym same)
+      (subst (λ (k : List Text). IsRead name (read ++ word ∷ []) old k) (sym one) (other was is));
+}
+
+-- ---- all words up to here
+
+pub record Reading (name : Text) (words left : List Text) (options : RunOptions) (kept : List Text) : Type 0 where
+  pub read : List Text
+  pub words_are : words ≡ read ++ left
+  pub says : IsRead name read options kept
+
+pub begun : (name : Text) (words rest kept : List Text) (options : RunOptions) → words ≡ name ∷ rest → options ≡ no_options
+    → kept ≡ name ∷ [] → Reading name words rest options kept
+begun name words rest kept options is none one = record {
+  read = name ∷ [];
+  words_are = is;
+  says = subst (λ (o : RunOptions). IsRead name (name ∷ []) o kept) (sym none) (subst (λ (k : List Text). IsRead name (name ∷ []) no_options k) (sym one) named);
+}
+
+-- all of them
+pub taken_all : (name : Text) (words left kept : List Text) (options : RunOptions) → Reading name words left options kept → left ≡ []
+    → AreTaken words options kept
+taken_all name words left kept options r none = record {
+  name = name;
+  read = r.read;
+  kept = kept;
+  after = left;
+  words_are = r.words_are;
+  left_is = sym (append-nil kept) ∙ ap (λ l. kept ++ l) (sym none);
+  says = r.says;
+  ends = inl none;
+}

@@ -1,0 +1,27 @@
+-- How the next of a command's words is read, where it may be an option of a run.
+use Rattle.std.specs.Prelude.{◌≡◌, ◌≢◌, List, [], ◌++◌, codes}
+use Rattle.cli_parts.specs.declared.run_options.Piece.{Piece}
+use Rattle.cli_parts.specs.declared.run_options.Piece.TheVariants.{Quiet, QuietWith, Idle, IdleWith, Other}
+use Rattle.cli_parts.specs.declared.run_options.RunOptions.{RunOptions}
+use Rattle.cli_parts.specs.RunOptions.{Text, IsNoOption, IsRead}
+
+-- what the word is
+abbrev pub IsPiece : Piece → Text → Type 0
+IsPiece Quiet word = word ≡ codes "--quiet"
+IsPiece QuietWith word = (value : Text) × (word ≡ codes "--quiet=" ++ value)
+IsPiece Idle word = word ≡ codes "--idle"
+IsPiece (IdleWith value) word = word ≡ codes "--idle=" ++ value.now
+IsPiece Other word = IsNoOption word
+
+-- the same of a word without `=`
+abbrev pub IsPlain : Piece → Text → Type 0
+IsPlain Quiet word = word ≡ codes "--quiet"
+IsPlain Idle word = word ≡ codes "--idle"
+IsPlain Other word = (word ≢ codes "--quiet") × (word ≢ codes "--idle")
+IsPlain piece word = ⊥
+
+-- some of the words are read, and these are left: whatever was read before, the options and the words that are kept go on with them
+pub record IsNext (name : Text) (words left : List Text) (old new : RunOptions) (kept more : List Text) : Type 0 where
+  pub own : List Text
+  pub words_are : words ≡ own ++ left
+  pub goes_on : (read : List Text) → IsRead name read old kept → IsRead name (read ++ own) new more

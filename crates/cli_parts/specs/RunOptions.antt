@@ -1,0 +1,114 @@
+-- The options of a run, which stand among the words of any command and are none of them.
+use Rattle.std.specs.Prelude.{◌≡◌, ◌≢◌, ◌⊎◌, ◌==◌, ℕ, List, [], ◌∷◌, ◌++◌, Option, Some, None, IsSome, true, false, codes, slice_get}
+use Rattle.std.specs.List.{before_first}
+use Rattle.bridge_words.specs.Values.{number_within}
+use Rattle.cli_parts.specs.declared.run_options.RunOptions.{RunOptions}
+use Rattle.cli_parts.specs.declared.run_options.WrongOption.{WrongOption}
+use Rattle.cli_parts.specs.declared.run_options.WrongOption.TheVariants.{QuietTwice, QuietValue, IdleElsewhere, IdleTwice, IdleNoValue, IdleRange}
+
+-- the bytes of a word
+abbrev pub Text : Type 0
+Text = List ℕ
+
+-- none is given
+abbrev pub no_options : RunOptions
+no_options = record { is_quiet = false; idle = None }
+
+-- the name of an option: what stands before its `=`
+abbrev pub option_name : Text → Text
+option_name word = before_first (λ b. b == 61) word
+
+-- the word is no option of a run
+pub record IsNoOption (word : Text) : Type 0 where
+  pub no_quiet : option_name word ≢ codes "--quiet"
+  pub no_idle : option_name word ≢ codes "--idle"
+
+-- `--idle SECONDS` or `--idle=SECONDS`
+abbrev pub IsIdle : List Text → Text → Type 0
+IsIdle words value = (words ≡ codes "--idle" ∷ value ∷ []) ⊎ (words ≡ (codes "--idle=" ++ value) ∷ [])
+
+-- a number of seconds
+abbrev pub seconds_in : Text → Option ℕ
+seconds_in value = number_within 1 86400 value
+
+-- The name of a command and words after it, none of which ends the options; the options of the run among them, each of which stands once
+-- at most, and `--idle` with `serve` alone; and the other words, in their order.
+pub data IsRead (name : Text) : List Text → RunOptions → List Text → Type 0 where
+  named : IsRead name (name ∷ []) no_options (name ∷ [])
+  quiet : {words kept : List Text} {options : RunOptions} → IsRead name words options kept → options.is_quiet ≡ false
+      → IsRead name (words ++ codes "--quiet" ∷ []) (record options { is_quiet = true }) kept
+  idle : {words kept own : List Text} {options : RunOptions} {value : Text} {n : ℕ} → IsRead name words options kept → options.idle ≡ None
+      → name ≡ codes "serve" → IsIdle own value → seconds_in value ≡ Some n
+      → IsRead name (words ++ own) (record options { idle = Some n }) kept
+  other : {words kept : List Text} {options : RunOptions} {word : Text} → IsRead name words options kept → IsNoOption word
+      → IsRead name (words ++ word ∷ []) options (kept ++ word ∷ [])
+
+-- there are no more words, or the next one is `--`, after which none is an option
+abbrev pub EndsOptions : List Text → Type 0
+EndsOptions words = (words ≡ []) ⊎ (slice_get words 0 ≡ Some (codes "--"))
+
+-- a command's words, the options of the run that stand among them, and what is left without these
+pub record AreTaken (words : List Text) (options : RunOptions) (left : List Text) : Type 0 where
+  pub name : Text
+  pub read : List Text
+  pub kept : List Text
+  pub after : List Text
+  pub words_are : words ≡ read ++ after
+  pub left_is : left ≡ kept ++ after
+  pub says : IsRead name read options kept
+  pub ends : EndsOptions after
+
+-- there are no words
+pub record AreNone (words : List Text) (options : RunOptions) (left : List Text) : Type 0 where
+  pub none : words ≡ []
+  pub options_are : options ≡ no_options
+  pub left_is : left ≡ []
+
+-- `--idle` or `--idle=SECONDS` is the first of the words
+abbrev pub BeginsIdle : List Text → Type 0
+BeginsIdle words = (word : Text) × (more : List Text) × (words ≡ word ∷ more) × (option_name word ≡ codes "--idle")
+
+-- SECONDS of `--idle` is taken: it is one of `serve`, the first, and in range
+pub record TakesIdle (name value : Text) (old new : RunOptions) : Type 0 where
+  pub seconds : ℕ
+  pub serves : name ≡ codes "serve"
+  pub once : old.idle ≡ None
+  pub read : seconds_in value ≡ Some seconds
+  pub new_is : new ≡ record old { idle = Some seconds }
+
+-- why SECONDS isn't taken, after these options
+abbrev pub IsNoSeconds : WrongOption → Text → RunOptions → Text → Type 0
+IsNoSeconds IdleElsewhere name options value = name ≢ codes "serve"
+IsNoSeconds IdleTwice name options value = IsSome options.idle
+IsNoSeconds IdleRange name options value = seconds_in value ≡ None
+IsNoSeconds wrong name options value = ⊥
+
+-- what is wrong with the option that the words begin with, after these options
+abbrev pub IsWrongNext : WrongOption → Text → RunOptions → List Text → Type 0
+IsWrongNext QuietTwice name options words = (options.is_quiet ≡ true) × (slice_get words 0 ≡ Some (codes "--quiet"))
+IsWrongNext QuietValue name options words = (value : Text) × (slice_get words 0 ≡ Some (codes "--quiet=" ++ value))
+IsWrongNext IdleElsewhere name options words = (name ≢ codes "serve") × BeginsIdle words
+IsWrongNext IdleTwice name options words = IsSome options.idle × BeginsIdle words
+IsWrongNext IdleNoValue name options words = words ≡ codes "--idle" ∷ []
+IsWrongNext IdleRange name options words =
+    (own more : List Text) × (value : Text) × (words ≡ own ++ more) × IsIdle own value × (seconds_in value ≡ None)
+
+-- what is wrong with the first option among the words that is wrong
+pub record IsWrong (wrong : WrongOption) (words : List Text) : Type 0 where
+  pub name : Text
+  pub read : List Text
+  pub kept : List Text
+  pub next : List Text
+  pub options : RunOptions
+  pub words_are : words ≡ read ++ next
+  pub says : IsRead name read options kept
+  pub is : IsWrongNext wrong name options next
+
+-- the text has no end of line
+abbrev pub wrong_text : WrongOption → Text
+wrong_text QuietTwice = codes "--quiet: given twice"
+wrong_text QuietValue = codes "--quiet: takes no value"
+wrong_text IdleElsewhere = codes "--idle: an option of serve alone, 1 to 86400 seconds"
+wrong_text IdleTwice = codes "--idle: given twice; once, 1 to 86400 seconds"
+wrong_text IdleNoValue = codes "--idle: no value; 1 to 86400 seconds"
+wrong_text IdleRange = codes "--idle: 1 to 86400 seconds"

@@ -1,0 +1,240 @@
+//! The options of a run, which say how the program works and not what a command does. They stand among the command's words, and are
+//! taken out of these before the command is read.
+ghost use Rattle.std.specs.Prelude.{◌≡◌, ◌⊎◌, ◌≤◌, ◌++◌, ◌∷◌, [], Err, IfOk, OnOk, IfErr, length, map, string_bytes};
+ghost use Rattle.cli_parts.specs.declared.run_options.WrongOption.{WrongOption};
+ghost use Rattle.cli_parts.specs.declared.run_options.Untaken.TheVariants.{Wrong, NoMemory};
+ghost use Rattle.cli_parts.specs.RunOptions.{AreNone, AreTaken, IsNoSeconds, IsWrong, IsWrongNext, TakesIdle, wrong_text};
+ghost use Rattle.cli_parts.specs.Piece.{IsNext, IsPiece, IsPlain};
+
+use crate::seconds::seconds;
+use std::alloc::{AllocError, Global};
+
+/// The options of a run.
+#[derive(Clone, Copy, Debug, PartialEq, Eq)]
+pub struct RunOptions {
+    /// Nothing is said of the net on standard error: `--quiet`.
+    pub is_quiet: bool,
+    /// For how many seconds a sender may be silent before its connection is closed, where that is said: 1 to 86,400, by
+    /// `--idle SECONDS`.
+    pub idle: Option<u64>,
+}
+
+/// Which option of a run is wrong, and why.
+#[derive(Clone, Copy, Debug, PartialEq, Eq)]
+pub enum WrongOption {
+    /// `--quiet` is given twice.
+    QuietTwice,
+    /// `--quiet` has a value.
+    QuietValue,
+    /// `--idle` stands with another command than `serve`.
+    IdleElsewhere,
+    /// `--idle` is given twice.
+    IdleTwice,
+    /// `--idle` is the last of the words.
+    IdleNoValue,
+    /// SECONDS isn't 1 to 86,400.
+    IdleRange,
+}
+
+impl WrongOption {
+    /// The text for it: one line, without its end.
+    pub fn text(self) -> &'static str
+        ensures { result.now ≡ wrong_text self }
+    {
+        match self {
+            WrongOption::QuietTwice => "--quiet: given twice",
+            WrongOption::QuietValue => "--quiet: takes no value",
+            WrongOption::IdleElsewhere => "--idle: an option of serve alone, 1 to 86400 seconds",
+            WrongOption::IdleTwice => "--idle: given twice; once, 1 to 86400 seconds",
+            WrongOption::IdleNoValue => "--idle: no value; 1 to 86400 seconds",
+            WrongOption::IdleRange => "--idle: 1 to 86400 seconds",
+        }
+    }
+}
+
+/// Why no options were taken out of words.
+#[derive(Clone, Copy, Debug, PartialEq, Eq)]
+pub enum Untaken {
+    /// One of them is wrong.
+    Wrong(WrongOption),
+    /// No memory was found.
+    NoMemory,
+}
+
+impl From<AllocError> for Untaken {
+    ghost from_gives = { λ _ untaken. untaken ≡ NoMemory };
+
+    fn from(_error: AllocError) -> Untaken {
+        Untaken::NoMemory
+    }
+}
+
+/// A command's words, and the options of the run that stood among them.
+#[derive(Drop)]
+pub struct Taken {
+    /// The words without the options, in their order.
+    pub words: Vec<String>,
+    /// The options.
+    pub options: RunOptions,
+}
+
+// What a word is that stands where an option of a run may.
+#[derive(Clone, Copy)]
+enum Piece<'a> {
+    // `--quiet`.
+    Quiet,
+    // The same with a value.
+    QuietWith,
+    // `--idle`, whose value is the next word.
+    Idle,
+    // `--idle` with its value.
+    IdleWith(&'a str),
+    // No option of a run.
+    Other,
+}
+
+// What the word is.
+fn piece_of(word: &str) -> Piece<'_>
+    ensures { IsPiece result word.now }
+{
+    let Some((name, value)) = word.split_once('=') else {
+        return plain_piece(word);
+    };
+    if name == "--quiet" {
+        Piece::QuietWith
+    } else if name == "--idle" {
+        Piece::IdleWith(value)
+    } else {
+        Piece::Other
+    }
+}
+
+// What the word is, which has no `=`.
+fn plain_piece(word: &str) -> Piece<'static>
+    ensures { IsPlain result word.now }
+{
+    if word == "--quiet" {
+        Piece::Quiet
+    } else if word == "--idle" {
+        Piece::Idle
+    } else {
+        Piece::Other
+    }
+}
+
+impl Taken {
+    // A copy of the word is one of the words too.
+    fn keep(&mut self, alloc: Global, word: &str) -> Result<(), AllocError>
+        ensures kept { OnOk result (map string_bytes self.new.words.items ≡ map string_bytes self.old.words.items ++ word.now ∷ []) }
+        ensures options { self.new.options ≡ self.old.options }
+    {
+        let word = String::from_str(alloc, word)?;
+        self.words.push(word)?;
+        Ok(())
+    }
+
+    // Copies of these words are.
+    fn keep_all(&mut self, alloc: Global, words: &[String]) -> Result<(), AllocError>
+        ensures kept { OnOk result (map string_bytes self.new.words.items ≡ map string_bytes self.old.words.items ++ map string_bytes words.now) }
+        ensures options { self.new.options ≡ self.old.options }
+    {
+        for word in words {
+            self.keep(alloc, word.as_str())?;
+        }
+        Ok(())
+    }
+
+    // Takes the value of `--idle`, among the words of the command of this name.
+    fn take_idle(&mut self, name: &str, value: &str) -> Result<(), WrongOption>
+        ensures idle { OnOk result (TakesIdle name.now value.now self.old.options self.new.options) }
+        ensures words { self.new.words ≡ self.old.words }
+        ensures wrong { IfErr result (λ wrong. IsNoSeconds wrong name.now self.old.options value.now) }
+    {
+        if name != "serve" {
+            return Err(WrongOption::IdleElsewhere);
+        }
+        if self.options.idle.is_some() {
+            return Err(WrongOption::IdleTwice);
+        }
+        let Some(seconds) = seconds(value) else {
+            return Err(WrongOption::IdleRange);
+        };
+        self.options.idle = Some(seconds);
+        Ok(())
+    }
+
+    // Reads the next word of the command of this name, with the one after it where that is its value, and returns the words after these.
+    fn read<'a>(
+        &mut self,
+        alloc: Global,
+        name: &str,
+        word: &str,
+        more: &'a [String],
+    ) -> Result<&'a [String], Untaken>
+        ensures read { IfOk result (λ left. IsNext name.now (word.now ∷ map string_bytes more.now) (map string_bytes left.now)
+            self.old.options self.new.options (map string_bytes self.old.words.items) (map string_bytes self.new.words.items)) }
+        ensures shorter { IfOk result (λ left. length left.now ≤ length more.now) }
+        ensures wrong { (wrong : WrongOption) → result ≡ Err (Wrong wrong)
+            → IsWrongNext wrong name.now self.old.options (word.now ∷ map string_bytes more.now) }
+    {
+        match piece_of(word) {
+            Piece::Quiet => {
+                if self.options.is_quiet {
+                    return Err(Untaken::Wrong(WrongOption::QuietTwice));
+                }
+                self.options.is_quiet = true;
+                Ok(more)
+            }
+            Piece::QuietWith => Err(Untaken::Wrong(WrongOption::QuietValue)),
+            Piece::IdleWith(value) => match self.take_idle(name, value) {
+                Ok(()) => Ok(more),
+                Err(wrong) => Err(Untaken::Wrong(wrong)),
+            },
+            Piece::Idle => {
+                let [value, left @ ..] = more else {
+                    return Err(Untaken::Wrong(WrongOption::IdleNoValue));
+                };
+                match self.take_idle(name, value.as_str()) {
+                    Ok(()) => Ok(left),
+                    Err(wrong) => Err(Untaken::Wrong(wrong)),
+                }
+            }
+            Piece::Other => {
+                self.keep(alloc, word)?;
+                Ok(more)
+            }
+        }
+    }
+}
+
+/// Takes the options of the run out of words, which are the name of a command and then its own words: `--quiet`, and with `serve`
+/// `--idle SECONDS` or `--idle=SECONDS`, each once at most. What is left are the other words, in their order, and all from `--` on.
+///
+/// The error says which is the first option that is wrong, and why, or that no memory was found.
+pub fn take_options(alloc: Global, words: &[String]) -> Result<Taken, Untaken>
+    ensures taken { IfOk result (λ taken. AreTaken (map string_bytes words.now) taken.options (map string_bytes taken.words.items)
+        ⊎ AreNone (map string_bytes words.now) taken.options (map string_bytes taken.words.items)) }
+    ensures wrong { (wrong : WrongOption) → result ≡ Err (Wrong wrong) → IsWrong wrong (map string_bytes words.now) }
+{
+    let mut taken = Taken {
+        words: Vec::new(alloc),
+        options: RunOptions {
+            is_quiet: false,
+            idle: None,
+        },
+    };
+    let [name, rest @ ..] = words else {
+        return Ok(taken);
+    };
+    let name = name.as_str();
+    taken.keep(alloc, name)?;
+    let mut left = rest;
+    while let [word, more @ ..] = left {
+        if word.as_str() == "--" {
+            taken.keep_all(alloc, left)?;
+            return Ok(taken);
+        }
+        left = taken.read(alloc, name, word.as_str(), more)?;
+    }
+    Ok(taken)
+}
