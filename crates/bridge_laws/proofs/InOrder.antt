@@ -1,8 +1,8 @@
 -- What a journal leaves of the order of a spool's entries.
-use Rattle.std.proofs.Common.{◌≡◌, ◌⊎◌, inl, inr, ℕ, ◌+◌, ◌-◌, List, [], ◌∷◌, ◌++◌, drop, refl, sym, ◌∙◌, ap, subst, arith, append_assoc}
+use Rattle.std.proofs.Common.{◌≡◌, ◌⊎◌, inl, inr, ℕ, ◌+◌, ◌-◌, ◌*◌, ◌^◌, ◌<◌, List, [], ◌∷◌, ◌++◌, drop, refl, sym, ◌∙◌, ap, subst, arith, append_assoc}
 use Rattle.std.specs.Prelude.{All, Ok, Err}
 use Rattle.std.proofs.lemmas.List.{append-nil}
-use Rattle.std.proofs.lemmas.List.Elements.{All-nil}
+use Rattle.std.proofs.lemmas.List.Elements.{All-nil, All-append, All-drop}
 use Rattle.event_form.specs.declared.event.Entry.{Entry}
 use Rattle.spool_state.specs.SpoolState.{SpoolState, base, list}
 use Rattle.spool_log.specs.declared.opening.Opening.TheVariants.{Keep, Raise}
@@ -11,18 +11,22 @@ use Rattle.spool_log.specs.Opening.{opened}
 use Rattle.desk_access.specs.Call.{Call, takes, Record, calls_of}
 use Rattle.desk_access.specs.Desk.{DeskState, Goes, Stood}
 use Rattle.desk_access.specs.History.{IsDesk, Adds, AddsAll, Grows, Was, written_by, written_next}
-use Rattle.desk_access.specs.Legal.{Met}
+use Rattle.desk_access.specs.Legal.{IsOfRun, Met}
 use Rattle.desk_access.proofs.Added.{AllWritten, added_then, next_added}
 use Rattle.desk_access.proofs.LegalEntries.{legal_journal}
 use Rattle.desk_access.proofs.Lasting.{stood_was}
+use Rattle.desk_access.proofs.Nexts.{all_left}
+use Rattle.spool_answers.specs.Stages.{IsOneOf}
+use Rattle.spool_state.specs.Empty.{empty_state}
 use Rattle.spool_turns.specs.Whole.{OpensLegal}
 use Rattle.spool_turns.proofs.Lists.{whole_legal}
+use Rattle.serve_laws.proofs.Contributing.{in_groups}
 use Rattle.serve_laws.proofs.Order.{earlier_again}
 use Rattle.bridge_parts.specs.Opened.{desk_in}
-use Rattle.bridge_laws.specs.InOrder.{IsInOrder, HoldsInOrder, EmptyIsInOrder, OpeningKeepsOrder}
-use Rattle.bridge_laws.proofs.LegalParts.{IsLegalBefore, parts_legal, dropped_legal}
+use Rattle.bridge_laws.specs.InOrder.{IsInOrder, IsUnmoved, Holds, HoldsInOrder, EmptyIsInOrder, OpeningKeepsOrder, UnmovedIsWhole}
+use Rattle.bridge_laws.proofs.LegalParts.{IsLegalBefore, parts_legal, dropped_legal, unmoved_next}
 
-in_order : (s : SpoolState) → IsLegalBefore (s.run + 1) (list s) → IsInOrder s
+pub in_order : (s : SpoolState) → IsLegalBefore (s.run + 1) (list s) → IsInOrder s
 in_order s is = record { legal = is.0; earlier = is.1 }
 
 -- ---- a spool that is made or opened
@@ -30,7 +34,7 @@ in_order s is = record { legal = is.0; earlier = is.1 }
 pub empty_is_in_order : EmptyIsInOrder
 empty_is_in_order slots size = record {
   legal = record {
-    indexes = λ conn. (0, tt);
+    indexes = λ conn small. (0, tt);
     units = λ unit large. record { before = []; those = []; after = []; parts = refl; none_before = All-nil _; all = All-nil _; none_after = All-nil _ };
   };
   earlier = record { conns = All-nil _; units = All-nil _ };
@@ -41,10 +45,20 @@ opening_keeps_order Keep s is = is
 opening_keeps_order Raise s is = record {
   legal = is.legal;
   earlier = record {
-    conns = λ k d lt. omega (arith, is.earlier.conns k d lt);
+    conns = λ k d lt. elim (is.earlier.conns k d lt) [ inl old ↦ inl (omega (arith, old)) | inr moved ↦ inr moved ];
     units = λ k d lt. elim (is.earlier.units k d lt) [ inl plain ↦ inl plain | inr id ↦ inr (omega (arith, id)) ];
   };
 }
+
+-- so it is of one into which nothing was moved
+empty_is_unmoved : (slots size : ℕ) → IsUnmoved (empty_state slots size)
+empty_is_unmoved slots size = record { order = empty_is_in_order slots size; conns = All-nil _ }
+
+raised_is_unmoved : (s : SpoolState) → IsUnmoved s → IsUnmoved (opened Raise s)
+raised_is_unmoved s is = record { order = opening_keeps_order Raise s is.order; conns = λ k d lt. omega (arith, is.conns k d lt) }
+
+pub unmoved_is_whole : UnmovedIsWhole
+unmoved_is_whole s c stands is conn = unmoved_next conn (list s) is.order.legal (λ k d lt. omega (arith, is.conns k d lt, stands.sound.run))
 
 -- the desk over it begins with entries of earlier runs
 pub opens_legal : (s : SpoolState) → IsInOrder s → (x : DeskState) → x ≡ desk_in (opened Raise s) → OpensLegal x
@@ -65,19 +79,26 @@ with_entries s more = record {
   active = record { place = 0; segment = record { ordinal = 0; first = base s; groups = (list s ++ more) ∷ [] } };
 }
 
-grows_whole : (x : DeskState) (calls : List Call) (c : List ℕ) (w : Was x calls c) → (behind : List Entry) × Grows x calls (with_entries w.mended ((w.more ++ w.next) ++ behind))
-grows_whole x calls c w =
+-- what came behind, so that all that was added is whole
+whole_added : (x : DeskState) (calls : List Call) (c : List ℕ) (w : Was x calls c) → (behind : List Entry) × AddsAll calls ((w.more ++ w.next) ++ behind)
+whole_added x calls c w =
     let behind = next_added w.rest w.next w.whole in
     let added = (w.more ++ w.next) ++ behind.0 in
+    let adds : AddsAll (w.first ++ w.rest) added = subst (AddsAll (w.first ++ w.rest)) (sym (append_assoc w.more w.next behind.0)) (added_then w.first w.rest w.more (w.next ++ behind.0) w.adds behind.1) in
+    (behind.0, subst (λ (l : List Call). AddsAll l added) (sym w.parts) adds)
+
+grows_whole : (x : DeskState) (calls : List Call) (c : List ℕ) (w : Was x calls c) → (behind : List Entry) × Grows x calls (with_entries w.mended ((w.more ++ w.next) ++ behind))
+grows_whole x calls c w =
+    let behind = whole_added x calls c w in
+    let added = (w.more ++ w.next) ++ behind.0 in
     let m = w.mended in
-    let none : base m - base m ≡ 0 = omega arith in
-    let adds : AddsAll (w.first ++ w.rest) added = subst (AddsAll (w.first ++ w.rest)) (sym (append_assoc w.more w.next behind.0)) (added_then w.first w.rest w.more (w.next ++ behind.0) w.adds behind.1) in (
+    let none : base m - base m ≡ 0 = omega arith in (
       behind.0,
       record {
         mended = m;
         one = w.one;
         more = added;
-        adds = subst (λ (l : List Call). AddsAll l added) (sym w.parts) adds;
+        adds = behind.1;
         grown = record { base_rises = omega arith; within = omega arith; list_is = append-nil (list m ++ added) ∙ sym (ap (λ (n : ℕ). drop n (list m ++ added)) none) };
       },
     )
@@ -136,13 +157,94 @@ next_none [] next none (inr is) = is
 next_none (call ∷ calls) next none (inr is) = is ∙ none_of (written_by call) none.0
 
 -- What was left at a moment of such calls is in order, where the state was in which they began.
-pub still_in_order : (s : SpoolState) (log : List Record) (c : List ℕ) → IsDesk (desk_in s) → AllWritten Never (calls_of log) → IsInOrder s → Stood (desk_in s) log c → HoldsInOrder c
-still_in_order s log c rules none is stood =
-    let w = stood_was (desk_in s) log c rules stood in
+still_was_in_order : (s : SpoolState) (log : List Record) (c : List ℕ) → IsDesk (desk_in s) → AllWritten Never (calls_of log) → IsInOrder s → (w : Was (desk_in s) (calls_of log) c) → IsInOrder w.state
+still_was_in_order s log c rules none is w =
     let parts = subst (AllWritten Never) w.parts none in
     let more = adds_none w.first w.more (written_left w.first w.rest parts) w.adds in
     let next = next_none w.rest w.next (written_right w.first w.rest parts) w.whole in
     let nothing : w.more ++ w.next ≡ [] = ap (λ (l : List Entry). l ++ w.next) more ∙ next in
     let was : list w.mended ++ (w.more ++ w.next) ≡ list s = ap (λ (l : List Entry). list w.mended ++ l) nothing ∙ append-nil (list w.mended) ∙ ap list w.one in
     let left = dropped_legal (s.run + 1) (base w.state - base w.mended) (list w.mended ++ (w.more ++ w.next)) (subst (IsLegalBefore (s.run + 1)) (sym was) (is.legal, is.earlier)) in
-    (w.state, w.stands, in_order w.state (subst (λ (r : ℕ). IsLegalBefore (r + 1) (list w.state)) (sym w.later.run) (subst (IsLegalBefore (s.run + 1)) (sym w.grown.list_is) left)))
+    in_order w.state (subst (λ (r : ℕ). IsLegalBefore (r + 1) (list w.state)) (sym w.later.run) (subst (IsLegalBefore (s.run + 1)) (sym w.grown.list_is) left))
+
+pub still_in_order : (s : SpoolState) (log : List Record) (c : List ℕ) → IsDesk (desk_in s) → AllWritten Never (calls_of log) → IsInOrder s → Stood (desk_in s) log c → HoldsInOrder c
+still_in_order s log c rules none is stood =
+    let w = stood_was (desk_in s) log c rules stood in
+    (w.state, w.stands, still_was_in_order s log c rules none is w)
+
+-- ---- what every entry of the list is
+
+-- What is so of each entry that the list had, and of each of the run, is so of each that was left at a moment of the calls.
+all_was : (Q : Entry → Type 0) (x y : DeskState) (log : List Record) (confirming : ℕ) (c : List ℕ) → IsDesk x → Goes x log y → Met x.spool.run confirming [] log
+    → ((m : SpoolState) → IsOneOf x.spool x.doubt m → All Q (list m)) → ((entry : Entry) → IsOfRun x.spool.run entry.conn → Q entry) → (w : Was x (calls_of log) c) → All Q (list w.state)
+all_was Q x y log confirming c rules goes met was of_run w =
+    let some = w.more ++ w.next in
+    let g = whole_added x (calls_of log) c w in
+    let parts = in_groups (calls_of log) (some ++ g.0) g.1 in
+    let added = legal_journal x y log confirming parts.0 rules goes met parts.1 in
+    let all : All Q (some ++ g.0) = subst (All Q) (sym parts.2) (λ k d lt. of_run _ (added.conns k d lt)) in
+    subst (All Q) (sym w.grown.list_is)
+    (All-drop Q (base w.state - base w.mended) (list w.mended ++ some) (All-append Q (list w.mended) some (was w.mended w.one) (all_left Q some g.0 all)))
+
+-- calls that take nothing leave only entries that the list had
+all_still : (Q : Entry → Type 0) (s : SpoolState) (log : List Record) (c : List ℕ) → AllWritten Never (calls_of log) → All Q (list s) → (w : Was (desk_in s) (calls_of log) c) → All Q (list w.state)
+all_still Q s log c none was w =
+    let parts = subst (AllWritten Never) w.parts none in
+    let more = adds_none w.first w.more (written_left w.first w.rest parts) w.adds in
+    let next = next_none w.rest w.next (written_right w.first w.rest parts) w.whole in
+    let nothing : w.more ++ w.next ≡ [] = ap (λ (l : List Entry). l ++ w.next) more ∙ next in
+    let same : list w.mended ++ (w.more ++ w.next) ≡ list s = ap (λ (l : List Entry). list w.mended ++ l) nothing ∙ append-nil (list w.mended) ∙ ap list w.one in
+    subst (All Q) (sym w.grown.list_is) (All-drop Q (base w.state - base w.mended) (list w.mended ++ (w.more ++ w.next)) (subst (All Q) (sym same) was))
+
+-- ---- what every command keeps of a spool
+
+-- A spool that is made is so; and one that is so stays it as it is opened for storing, at each moment of calls over the desk that is opened,
+-- and at each of calls that take nothing.
+pub record IsKept (Is : SpoolState → Type 0) : Type 0 where
+  pub ordered : (s : SpoolState) → Is s → IsInOrder s
+  pub empty : (slots size : ℕ) → Is (empty_state slots size)
+  pub raised : (s : SpoolState) → Is s → Is (opened Raise s)
+  pub called : (s : SpoolState) (x y : DeskState) (log : List Record) (confirming : ℕ) (c : List ℕ) → Is s → x ≡ desk_in (opened Raise s) → IsDesk x → Goes x log y → Met x.spool.run confirming [] log
+      → Stood x log c → Holds Is c
+  pub read : (s : SpoolState) (log : List Record) (c : List ℕ) → Is s → IsDesk (desk_in s) → AllWritten Never (calls_of log) → Stood (desk_in s) log c → Holds Is c
+
+pub order_is_kept : IsKept IsInOrder
+order_is_kept = record {
+  ordered = λ s is. is;
+  empty = empty_is_in_order;
+  raised = opening_keeps_order Raise;
+  called = λ s x y log confirming c is same rules goes met stood. stood_in_order x y log confirming c rules goes met (opens_legal s is x same) stood;
+  read = λ s log c is rules none stood. still_in_order s log c rules none is stood;
+}
+
+unmoved_called : (s : SpoolState) (x y : DeskState) (log : List Record) (confirming : ℕ) (c : List ℕ) → IsUnmoved s → x ≡ desk_in (opened Raise s) → IsDesk x → Goes x log y → Met x.spool.run confirming [] log
+    → Stood x log c → Holds IsUnmoved c
+unmoved_called s x y log confirming c is same rules goes met stood =
+    let w = stood_was x log c rules stood in
+    let Q : Entry → Type 0 = λ entry. entry.conn < (x.spool.run + 1) * 2 ^ 32 in
+    let run : x.spool.run ≡ s.run + 1 = ap (λ (d : DeskState). d.spool.run) same in
+    let was : (m : SpoolState) → IsOneOf x.spool x.doubt m → All Q (list m) = subst (λ (d : DeskState). (m : SpoolState) → IsOneOf d.spool d.doubt m → All (λ (entry : Entry). entry.conn < (d.spool.run + 1) * 2 ^ 32) (list m)) (sym same)
+    (λ m one. subst (λ (t : SpoolState). All (λ (entry : Entry). entry.conn < (s.run + 1 + 1) * 2 ^ 32) (list t)) (sym one) (λ k d lt. omega (arith, is.conns k d lt))) in
+    let all = all_was Q x y log confirming c rules goes met was (λ entry of. omega (arith, of.1)) w in (
+      w.state,
+      w.stands,
+      record {
+        order = was_in_order x y log confirming c rules goes met (opens_legal s is.order x same) w;
+        conns = subst (λ (r : ℕ). All (λ (entry : Entry). entry.conn < (r + 1) * 2 ^ 32) (list w.state)) (sym w.later.run) all;
+      },
+    )
+
+unmoved_read : (s : SpoolState) (log : List Record) (c : List ℕ) → IsUnmoved s → IsDesk (desk_in s) → AllWritten Never (calls_of log) → Stood (desk_in s) log c → Holds IsUnmoved c
+unmoved_read s log c is rules none stood =
+    let w = stood_was (desk_in s) log c rules stood in
+    let all = all_still (λ (entry : Entry). entry.conn < (s.run + 1) * 2 ^ 32) s log c none is.conns w in (
+      w.state,
+      w.stands,
+      record {
+        order = still_was_in_order s log c rules none is.order w;
+        conns = subst (λ (r : ℕ). All (λ (entry : Entry). entry.conn < (r + 1) * 2 ^ 32) (list w.state)) (sym w.later.run) all;
+      },
+    )
+
+pub unmoved_is_kept : IsKept IsUnmoved
+unmoved_is_kept = record { ordered = λ s is. is.order; empty = empty_is_unmoved; raised = raised_is_unmoved; called = unmoved_called; read = unmoved_read }

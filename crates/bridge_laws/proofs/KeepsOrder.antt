@@ -34,8 +34,7 @@ use Rattle.bridge_parts.specs.Run.{LinkRun}
 use Rattle.commands.specs.Drained.{IsLooked, IsSent, IsSessionOver, IsUnread, Tally}
 use Rattle.commands.specs.Replayed.{IsStored}
 use Rattle.bridge_parts.proofs.Desks.{desk_rules}
-use Rattle.bridge_laws.specs.InOrder.{IsInOrder}
-use Rattle.bridge_laws.proofs.InOrder.{Never, opening_keeps_order, opens_legal, still_in_order, stood_in_order}
+use Rattle.bridge_laws.proofs.InOrder.{IsKept, Never}
 use Rattle.bridge_laws.proofs.OnlyCaller.{met_by}
 
 -- a session takes nothing
@@ -50,11 +49,11 @@ session_takes_none until next (call ∷ calls) of = absurd of
 pub opened_sound : (s : SpoolState) → IsSound s → CanOpen Raise s → IsSound (opened Raise s)
 opened_sound s sound can = sound-registered s (s.run + 1) s.cursor s.known sound (omega (arith, can.0)) can.1 sound.from_base sound.to_end sound.known sound.known_to_end
 
--- Something that is true of bytes that stand for a spool exactly where the spool is in order; so it is of whatever a crash could leave
--- before.
-module _ (P : List ℕ → Type 0) (holds : (s : SpoolState) (c : List ℕ) → StandsFor s c → IsInOrder s → P c) (held : (s : SpoolState) (c : List ℕ) → StandsFor s c → P c → IsInOrder s)
+-- Something that every command keeps of a spool; something that is true of bytes that stand for a spool exactly where the spool is so; and
+-- so it is of whatever a crash could leave before.
+module _ (Is : SpoolState → Type 0) (kept : IsKept Is) (P : List ℕ → Type 0) (holds : (s : SpoolState) (c : List ℕ) → StandsFor s c → Is s → P c) (held : (s : SpoolState) (c : List ℕ) → StandsFor s c → P c → Is s)
     (old new : Moment) (lawful : IsLawful old) (before : (c : List ℕ) → old.image c → P c) where
-  stood_before : (s : SpoolState) → StandsFor s old.reads → IsInOrder s
+  stood_before : (s : SpoolState) → StandsFor s old.reads → Is s
   stood_before s stands = held s old.reads stands (before old.reads lawful.reads_image)
 
   pub unwritten : LeavesOnly old.image old new → LeavesOnly P old new
@@ -63,7 +62,7 @@ module _ (P : List ℕ → Type 0) (holds : (s : SpoolState) (c : List ℕ) → 
   while_opened : (c : List ℕ) → IsOpening Raise old c → P c
   while_opened c (inl image) = before c image
   while_opened c (inr (s, stood, inl here)) = holds s c here (stood_before s stood)
-  while_opened c (inr (s, stood, inr raised)) = holds (opened Raise s) c raised (opening_keeps_order Raise s (stood_before s stood))
+  while_opened c (inr (s, stood, inr raised)) = holds (opened Raise s) c raised (kept.raised s (stood_before s stood))
 
   while_refused : (fault : RecoverFault) (c : List ℕ) → IsRefusing Raise fault old c → P c
   while_refused (Recover.NotSpool at) c image = before c image
@@ -91,10 +90,9 @@ module _ (P : List ℕ → Type 0) (holds : (s : SpoolState) (c : List ℕ) → 
       let lead = closes.replays.leads x is in
       let confirming = (length doors + 1) - 1 in
       let met = subst (λ (run : ℕ). Met run confirming [] log) (sym begins.of_run) closes.met in
-      let opens = opens_legal is.1 (stood_before is.1 is.2) x is.4 in
       weaker _ P old new (over.any_moment x is) (λ c h. elim h [
         | inl image ↦ while_opened c image
-        | inr stood ↦ let state = stood_in_order x lead.after log confirming c begins.rules lead.goes met opens stood in holds state.0 c state.1 state.2
+        | inr stood ↦ let state = kept.called is.1 x lead.after log confirming c (stood_before is.1 is.2) is.4 begins.rules lead.goes met stood in holds state.0 c state.1 state.2
       ])
 
   -- the input was served as one connection
@@ -105,15 +103,14 @@ module _ (P : List ℕ → Type 0) (holds : (s : SpoolState) (c : List ℕ) → 
       let records = is.reached.records in
       let rules = desk_rules (opened Raise s) (opened_sound s is.stood.sound is.could) in
       let met = met_by (s.run + 1) [] [] calls records refl may is.reached.by in
-      let opens = opens_legal s (stood_before s is.stood) x refl in
       weaker _ P old new is.any_moment (λ c h. elim h [
         | inl image ↦ while_opened c image
-        | inr stood ↦ let state = stood_in_order x is.reached.after records 0 c rules is.reached.goes met opens stood in holds state.0 c state.1 state.2
+        | inr stood ↦ let state = kept.called s x is.reached.after records 0 c (stood_before s is.stood) refl rules is.reached.goes met stood in holds state.0 c state.1 state.2
       ])
 
   -- entries were forwarded
-  pub looked : (Is : SpoolState → Type 0) → IsLooked Is old new → LeavesOnly P old new
-  looked Is is = unwritten is.any_moment
+  pub looked : (So : SpoolState → Type 0) → IsLooked So old new → LeavesOnly P old new
+  looked So is = unwritten is.any_moment
 
   pub unread : (tells same : Type 0) (note : Note) → IsUnread (record { tells = tells; old = old; new = new; same = same }) note → tells → LeavesOnly P old new
   unread tells same note is told = unwritten (is.any_moment told)
@@ -126,7 +123,7 @@ module _ (P : List ℕ → Type 0) (holds : (s : SpoolState) (c : List ℕ) → 
       weaker _ P old new is.any_moment (λ c h. elim h [
         | inl image ↦ before c image
         | inr stood ↦
-            let state = still_in_order is.state is.reached.records c (desk_rules is.state is.stood.sound) none (stood_before is.state is.stood) stood in
+            let state = kept.read is.state is.reached.records c (stood_before is.state is.stood) (desk_rules is.state is.stood.sound) none stood in
             holds state.0 c state.1 state.2
       ])
 

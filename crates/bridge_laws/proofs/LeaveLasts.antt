@@ -26,7 +26,7 @@ group_on : (s t : SpoolState) (first : ℕ) (group : List Entry) → Follows s t
 group_on s t first group follows kept =
     λ k lt. kept_on s t (first + k) (take 1 (drop k group)) follows (omega (arith, lt, length-take 1 (drop k group), length-drop k group)) (kept k lt)
 
-groups_on : (groups : List Group) (s t : SpoolState) → Follows s t → All (IsGroupKept s) groups → All (IsGroupKept t) groups
+pub groups_on : (groups : List Group) (s t : SpoolState) → Follows s t → All (IsGroupKept s) groups → All (IsGroupKept t) groups
 groups_on [] s t follows kept = All-nil (IsGroupKept t)
 groups_on (group ∷ groups) s t follows kept =
     All-cons (IsGroupKept t) group groups (group_on s t group.first group.entries follows (All-head (IsGroupKept s) group groups kept))

@@ -1,13 +1,16 @@
 -- A part of a legal list is legal.
-use Rattle.std.proofs.Common.{◌≡◌, ◌≢◌, ◌⊎◌, ℕ, ◌+◌, ◌*◌, ◌^◌, ◌≤◌, ◌<◌, List, [], ◌∷◌, ◌++◌, take, drop, refl, sym, ◌∙◌, ap, subst}
-use Rattle.std.proofs.lemmas.List.{take-append-drop}
-use Rattle.std.proofs.lemmas.List.Elements.{All-nil, All-cons, All-head, All-tail}
+use Rattle.std.proofs.Common.{◌≡◌, ◌≢◌, ◌⊎◌, inl, inr, ℕ, ◌+◌, ◌*◌, ◌^◌, ◌≤◌, ◌<◌, List, [], ◌∷◌, ◌++◌, take, drop, refl, sym, ◌∙◌, ap, subst, arith}
+use Rattle.std.specs.Prelude.{All}
+use Rattle.std.proofs.lemmas.Bool.{cases_lt}
+use Rattle.std.proofs.lemmas.List.{append-nil, take-append-drop}
+use Rattle.std.proofs.lemmas.List.Elements.{All-nil, All-cons, All-head, All-tail, All-append}
 use Rattle.event_form.specs.declared.event.Entry.{Entry}
 use Rattle.desk_access.specs.Batch.{AreNext, AreOfUnit, IsPlain}
 use Rattle.desk_access.specs.Legal.{of_conn, AreOfOthers}
 use Rattle.desk_access.proofs.Nexts.{all_left, all_right}
 use Rattle.spool_turns.specs.Whole.{AreTogether, AreLegal, AreEarlier}
-use Rattle.spool_turns.proofs.Picks.{conn_both}
+use Rattle.spool_turns.proofs.Lists.{together_last}
+use Rattle.spool_turns.proofs.Picks.{conn_both, conn_none}
 
 -- ---- indexes that rise by one
 
@@ -101,8 +104,8 @@ legal_parts : (xs ys : List Entry) → AreLegal (xs ++ ys) → AreLegal xs × Ar
 legal_parts xs ys legal =
     let units = λ (unit : ℕ) (large : 2 ^ 32 ≤ unit).
     let u = legal.units unit large in together_parts unit xs ys u.before u.those u.after u.parts u.none_before u.all u.none_after in (
-      record { indexes = λ conn. (indexes_parts xs ys conn (legal.indexes conn)).0; units = λ unit large. (units unit large).0 },
-      record { indexes = λ conn. (indexes_parts xs ys conn (legal.indexes conn)).1; units = λ unit large. (units unit large).1 },
+      record { indexes = λ conn small. (indexes_parts xs ys conn (legal.indexes conn small)).0; units = λ unit large. (units unit large).0 },
+      record { indexes = λ conn small. (indexes_parts xs ys conn (legal.indexes conn small)).1; units = λ unit large. (units unit large).1 },
     )
 
 -- a legal list of entries of earlier runs than this one
@@ -111,7 +114,7 @@ IsLegalBefore run xs = AreLegal xs × AreEarlier run xs
 
 pub parts_legal : (run : ℕ) (xs ys : List Entry) → IsLegalBefore run (xs ++ ys) → IsLegalBefore run xs × IsLegalBefore run ys
 parts_legal run xs ys is =
-    let C = λ (e : Entry). e.conn < run * 2 ^ 32 in
+    let C = λ (e : Entry). (e.conn < run * 2 ^ 32) ⊎ (2 ^ 63 ≤ e.conn) in
     let U = λ (e : Entry). IsPlain e ⊎ (e.unit < run * 2 ^ 32) in
     let legal = legal_parts xs ys is.0 in (
       (legal.0, record { conns = all_left C xs ys is.1.conns; units = all_left U xs ys is.1.units }),
@@ -121,3 +124,35 @@ parts_legal run xs ys is =
 -- so is a list without its first entries
 pub dropped_legal : (run n : ℕ) (xs : List Entry) → IsLegalBefore run xs → IsLegalBefore run (drop n xs)
 dropped_legal run n xs is = (parts_legal run (take n xs) (drop n xs) (subst (IsLegalBefore run) (sym (take-append-drop n xs)) is)).1
+
+-- ---- with entries that were moved into the spool
+
+pub record IsMovedIn (entry : Entry) : Type 0 where
+  pub conn : 2 ^ 63 ≤ entry.conn
+  pub unit : IsPlain entry
+
+pub moved_legal : (run : ℕ) (xs more : List Entry) → All IsMovedIn more → IsLegalBefore run xs → IsLegalBefore run (xs ++ more)
+moved_legal run xs more moved is =
+    let C : Entry → Type 0 = λ e. (e.conn < run * 2 ^ 32) ⊎ (2 ^ 63 ≤ e.conn) in
+    let U : Entry → Type 0 = λ e. IsPlain e ⊎ (e.unit < run * 2 ^ 32) in (
+      record {
+        indexes = λ conn small.
+            let none = conn_none conn more (λ k d lt same. omega (arith, (moved k d lt).conn, same, small)) in
+            let all = conn_both conn xs more ∙ ap (λ (l : List Entry). of_conn conn xs ++ l) none ∙ append-nil (of_conn conn xs) in
+            let was = is.0.indexes conn small in
+            (was.0, subst (AreNext conn was.0) (sym all) was.1);
+        units = λ unit large. together_last unit xs more (is.0.units unit large) (λ k d lt same. omega (arith, (moved k d lt).unit, same, large));
+      },
+      record {
+        conns = All-append C xs more is.1.conns (λ k d lt. inr (moved k d lt).conn);
+        units = All-append U xs more is.1.units (λ k d lt. inl (moved k d lt).unit);
+      },
+    )
+
+-- ---- where nothing was moved in
+
+pub unmoved_next : (conn : ℕ) (xs : List Entry) → AreLegal xs → All (λ (e : Entry). e.conn < 2 ^ 63) xs → (first : ℕ) × AreNext conn first (of_conn conn xs)
+unmoved_next conn xs legal few = elim (cases_lt conn (2 ^ 63)) [
+  | inl small ↦ legal.indexes conn small
+  | inr large ↦ (0, subst (AreNext conn 0) (sym (conn_none conn xs (λ k d lt same. omega (arith, few k d lt, same, large)))) tt)
+]

@@ -9,6 +9,7 @@ pub mod ReplayCalls
 pub mod LumberCalls
 pub mod KeepsOrder
 pub mod OrderOfCommands
+pub mod Moving
 pub mod Lifetime
 pub mod StaysDurable
 pub mod LeaveLasts

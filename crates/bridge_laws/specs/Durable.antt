@@ -1,14 +1,14 @@
--- What is durable stays so: over calls of `bridge` one after another, and crashes between them and within them.
+-- What is durable stays so: over calls of `bridge` and moves one after another, and crashes between them and within them.
 use Rattle.std.specs.Prelude.{◌≡◌, ◌⊎◌, ℕ, ◌≤◌, ◌∷◌, List, All}
 use Rattle.edge_disk.specs.Disk.{Moment}
 use Rattle.desk_access.specs.Durable.{AreDurable, left_since}
 use Rattle.desk_access.specs.Groups.{Group}
-use Rattle.bridge_laws.specs.Lifetime.{AreNext, NotFormat, Telling}
+use Rattle.bridge_laws.specs.Lifetime.{AreNext, Telling, no_format}
 
 -- Groups that are durable on a disk are so on each later one, where no call between makes the device an empty spool.
-abbrev pub DurableLasts : {D S K N P : Type 0} (moment : D → Moment) (tell : Telling D S K N P) → Type 0
+abbrev pub DurableLasts : {D E S K N P : Type 0} (moment : D → Moment) (tell : Telling D E S K N P) → Type 0
 DurableLasts {D = D} moment tell =
-    (disk : D) (later : List D) (groups : List Group) → AreDurable (moment disk) groups → AreNext NotFormat moment tell disk later
+    (disk : D) (later : List D) (groups : List Group) → AreDurable (moment disk) groups → AreNext no_format moment tell disk later
     → All (λ next. AreDurable (moment next) groups) (disk ∷ later)
 
 -- The next disk is this one, or its device has what a crash left of this one at some moment since that clock.
@@ -17,8 +17,8 @@ IsLeftSince moment clock disk next = (next ≡ disk) ⊎ ((c : List ℕ) → (mo
 
 -- So it is of groups that are durable since some moment of the call that left this disk: on the disk as the call ends, on what a crash
 -- left of it since that moment, and on each later one.
-abbrev pub DurableSinceLasts : {D S K N P : Type 0} (tells : Type 0) (moment : D → Moment) (tell : Telling D S K N P) → Type 0
+abbrev pub DurableSinceLasts : {D E S K N P : Type 0} (tells : Type 0) (moment : D → Moment) (tell : Telling D E S K N P) → Type 0
 DurableSinceLasts {D = D} tells moment tell =
     (disk next : D) (clock : ℕ) (later : List D) (groups : List Group) → tells → clock ≤ (moment disk).clock
-    → AreDurable (left_since clock (moment disk)) groups → IsLeftSince moment clock disk next → AreNext NotFormat moment tell next later
+    → AreDurable (left_since clock (moment disk)) groups → IsLeftSince moment clock disk next → AreNext no_format moment tell next later
     → All (λ one. AreDurable (moment one) groups) (next ∷ later)

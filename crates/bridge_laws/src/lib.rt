@@ -1,5 +1,5 @@
-//! What follows from the contract of `bridge_core::bridge` alone: when each command has to end well, that each keeps the order of a spool's
-//! entries and what is durable, and what each leaves alone.
+//! What follows from the contracts of `bridge_core::bridge` and `bridge_move::bridge_move` alone: when each command has to end well, what
+//! each leaves alone, and that commands and moves keep the order of a spool's entries and what is durable.
 //!
 //! The functions do nothing: each has a law as its contract.
 #![tactic(auto)]
@@ -14,5 +14,5 @@ pub use durable::{durable_lasts, leave_lasts};
 pub use laws::{each_command_ends_well, serve_ends_well};
 pub use order::{
     desk_opens_legal, each_command_keeps_order, empty_is_in_order, opening_keeps_order,
-    order_holds_from_format,
+    order_holds_from_format, unmoved_is_whole,
 };

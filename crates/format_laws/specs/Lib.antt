@@ -1,3 +1,4 @@
+pub mod Changes
 pub mod Marked
 pub mod Place
 pub mod Standing

@@ -4,7 +4,8 @@ use Rattle.spool_state.specs.SpoolState.{OpenSlot, SpoolState, IsSound}
 use Rattle.spool_state.specs.Free.{NoneIsFree, lowest_closed, first_is_confirmed}
 use Rattle.spool_state.specs.Image.{StandsFor}
 use Rattle.spool_state.specs.Order.{AreOpenSlots}
-use Rattle.spool_state.specs.Rules.{slots_told, size_told, Breaks}
+use Rattle.spool_state.specs.Cells.{cursor_at, known_at}
+use Rattle.spool_state.specs.Rules.{slots_told, size_told, HasHead, IsChain, AreAmong, Breaks}
 
 -- Bytes that stand for a state break no rule.
 abbrev pub StandingBreaksNone : Type 0
@@ -15,6 +16,13 @@ abbrev pub UnbrokenStands : Type 0
 UnbrokenStands =
     (c : List ℕ) (opened : List OpenSlot) → ((i : ℕ) → slice_index c i < 256) → AreOpenSlots (slots_told c) (size_told c) c opened
     → ((at : ℕ) → Breaks at c → ⊥) → (s : SpoolState) × StandsFor s c
+
+-- Bytes that keep the rules one by one stand for a state: those of the header and of the cell that counts, the open slots in order, and
+-- the known numbers among theirs.
+abbrev pub KeptRulesStand : Type 0
+KeptRulesStand =
+    (cell : ℕ) (c : List ℕ) (opened : List OpenSlot) → ((i : ℕ) → slice_index c i < 256) → HasHead cell c → AreOpenSlots (slots_told c) (size_told c) c opened
+    → IsChain opened → AreAmong (cursor_at cell c) (known_at cell c) opened → (s : SpoolState) × StandsFor s c
 
 -- They stand for one at most.
 abbrev pub OneState : Type 0

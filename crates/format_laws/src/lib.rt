@@ -6,4 +6,7 @@
 
 mod laws;
 
-pub use laws::{bytes_stand_or_break, marks_are_joined, none_is_chosen, place_is_one};
+pub use laws::{
+    bytes_stand_or_break, changes_keep_what_there_was, marks_add_numbers, marks_are_joined,
+    none_is_chosen, numbers_have_one_form, place_is_one,
+};

@@ -25,7 +25,7 @@ use Rattle.spool_turns.specs.Ran.{Ran}
 use Rattle.serve_forwarder.specs.declared.destination.Destination.{Destination}
 use Rattle.serve_forwarder.specs.declared.looking.Outcome.{Outcome}
 use Rattle.serve_forwarder.specs.Sessions.{Session, IsHeld}
-use Rattle.serve_forwarder.specs.Looks.{Found, Idle, Unread, Undialed, Held, Look, held_in, calls_at, IsFound, IsLook}
+use Rattle.serve_forwarder.specs.Looks.{Found, Idle, Unread, Undialed, Held, Look, held_in, calls_at, Every, Offer, first_of, upto_of, IsFound, IsLook}
 use Rattle.serve_forwarder.proofs.Chain.{look_is_ran}
 use Rattle.serve_run.specs.Running.{Forwarded}
 use Rattle.serve_laws.specs.Last.{EndsWith, IsFoundBy, SendsUpTo, IsLastOfAll, LooksLast, LastLookIsLast}
@@ -59,11 +59,11 @@ end_stays x y records rules sure goes written =
 
 -- ---- the last look
 
-answered : (start : DeskState → Type 0) (outward : Outward) (given : Result (List Numbered) PendFault) (found : Found) (a b : Known) → IsFound start outward given found a b → IsFoundBy given found
-answered start outward given Idle a b f = f.0
-answered start outward given (Unread _) a b f = f.0
-answered start outward given (Undialed _) a b f = f.0
-answered start outward given (Held one) a b f = f.0
+answered : (start : DeskState → Type 0) (outward : Outward) (upto : Option ℕ) (given : Result (List Numbered) PendFault) (found : Found) (a b : Known) → IsFound start outward upto given found a b → IsFoundBy given found
+answered start outward upto given Idle a b f = f.0
+answered start outward upto given (Unread _) a b f = f.0
+answered start outward upto given (Undialed _) a b f = f.0
+answered start outward upto given (Held one) a b f = f.0
 
 module _ (start : DeskState → Type 0) (log : List Record) (met last : Known) (whole : last.seen ≡ log) (only : (rest : List Record) → met.seen ++ rest ≡ log → All (λ (one : Record). one.by ≡ met.number) rest) where
   ends_with : (calls : List Call) → Ran start met calls last → EndsWith met.number calls log
@@ -74,7 +74,7 @@ module _ (start : DeskState → Type 0) (log : List Record) (met last : Known) (
 
   module _ (x y : DeskState) (s : start x) (rules : IsDesk x) (goes : Goes x log y) where
     -- a session's end is the end after the question, and its calls add nothing
-    held_to_end : (outward : Outward) (given : List Numbered) (one : Session) (asked : Known) → Ran start met (pends 0 1 (Ok given) ∷ []) asked → IsHeld start outward one asked last → SendsUpTo (end y.spool) one
+    held_to_end : (outward : Outward) (given : List Numbered) (one : Session) (asked : Known) → Ran start met (pends 0 1 (Ok given) ∷ []) asked → IsHeld start outward None one asked last → SendsUpTo (end y.spool) one
     held_to_end outward given one asked ran held =
         let to_begun : held.begun.seen ≡ asked.seen = held.asked.end_ran.quiet refl ∙ held.asked.cursor_ran.quiet refl in
         let looked = ran.between in
@@ -95,28 +95,31 @@ module _ (start : DeskState → Type 0) (log : List Record) (met last : Known) (
         let ends = end_stays z y session (goes_later x z asked.seen rules g.1).0 sure g.2 written in
         let seen = held.asked.end_seen x held.asked.between.seen (s, rules, refl) in
         let at_end : seen.0 ≡ z = one_state x seen.0 z asked.seen rules (subst (λ (l : List Record). Goes x l seen.0) (held.asked.cursor_ran.quiet refl) seen.1) g.1 in
-        let least : end z.spool ≤ one.until = subst (λ (d : DeskState). end d.spool ≤ one.until) at_end seen.2 in (
+        let below : end z.spool ≤ held.end = subst (λ (d : DeskState). end d.spool ≤ held.end) at_end seen.2 in
+        let least : end z.spool ≤ one.until = omega (arith, below, held.until_is) in (
           omega (arith, ends, least),
           λ some.
               let after = held.made.lawful some x s in
               let here : after.0 ≡ y = one_state x after.0 y log rules (subst (λ (l : List Record). Goes x l after.0) whole after.1) goes in
-              let most : one.until ≤ end y.spool = subst (λ (d : DeskState). one.until ≤ end d.spool) here (omega (arith, after.2, held.asked.end_is)) in
+              let most : one.until ≤ end y.spool = subst (λ (d : DeskState). one.until ≤ end d.spool) here (omega (arith, after.2, held.asked.end_is, held.until_is)) in
               omega (arith, ends, least, most),
         )
 
-    found_to_end : (outward : Outward) (given : Result (List Numbered) PendFault) (found : Found) (asked : Known) → Ran start met (pends 0 1 given ∷ []) asked → IsFound start outward given found asked last → All (SendsUpTo (end y.spool)) (held_in found)
+    found_to_end : (outward : Outward) (given : Result (List Numbered) PendFault) (found : Found) (asked : Known) → Ran start met (pends 0 1 given ∷ []) asked → IsFound start outward None given found asked last → All (SendsUpTo (end y.spool)) (held_in found)
     found_to_end outward given Idle asked ran f = All-nil (SendsUpTo (end y.spool))
     found_to_end outward given (Unread _) asked ran f = All-nil (SendsUpTo (end y.spool))
     found_to_end outward given (Undialed _) asked ran f = All-nil (SendsUpTo (end y.spool))
     found_to_end outward (Ok given) (Held one) asked ran f = All-cons (SendsUpTo (end y.spool)) one [] (held_to_end outward given one asked ran f.1) (All-nil (SendsUpTo (end y.spool)))
     found_to_end outward (Err fault) (Held one) asked ran f = absurd f.0
 
-  looked_last : (outward : Outward) (place : List ℕ) (look : Look) (net net' : NetState) → ((x : DeskState) → start x → IsDesk x) → IsLook start outward place look met last net net' → IsLastOfAll start met.number log look
-  looked_last outward place look net net' desk l = record {
-    ends = ends_with (calls_at look) (look_is_ran start outward place look met last net net' l);
-    answered = answered start outward look.given look.found l.asked last l.found;
-    to_end = λ x y s goes. found_to_end x y s (desk x s) goes outward look.given look.found l.asked l.asks l.found;
-  }
+  looked_last : (outward : Outward) (place : List ℕ) (look : Look) (net net' : NetState) → ((x : DeskState) → start x → IsDesk x) → look.offer ≡ Every → IsLook start outward place look met last net net' → IsLastOfAll start met.number log look
+  looked_last outward place look net net' desk every l =
+      let all = subst (λ (o : Offer). IsFound start outward (upto_of o (first_of look.given)) look.given look.found l.asked last) every l.found in
+      record {
+        ends = ends_with (calls_at look) (look_is_ran start outward place look met last net net' l);
+        answered = answered start outward None look.given look.found l.asked last all;
+        to_end = λ x y s goes. found_to_end x y s (desk x s) goes outward look.given look.found l.asked l.asks all;
+      }
 
 -- ---- of a run
 
@@ -137,7 +140,7 @@ module _ (tells : Type 0) (start : DeskState → Type 0) (run seats : ℕ) (bega
       let look = look_is_ran start destination.outward destination.place h.look h.met served.forwarder' h.net_beside net' h.looked_last in
       let number : h.met.number ≡ seats - 1 = omega (arith, look.number, last_number tells start run seats began new r, served.count.1, r.seats_are) in
       subst (λ (n : ℕ). IsLastOfAll start n served.log h.look) number
-      (looked_last start served.log h.met served.forwarder' whole only destination.outward destination.place h.look h.net_beside net' (λ x s. (served.closes.replays.begins x s).rules) h.looked_last)
+      (looked_last start served.log h.met served.forwarder' whole only destination.outward destination.place h.look h.net_beside net' (λ x s. (served.closes.replays.begins x s).rules) h.every h.looked_last)
 
 pub last_look_is_last : (tells : Type 0) (start : DeskState → Type 0) (run seats : ℕ) (began : Beginning) (new : AloneView) → LastLookIsLast tells start run seats began new
 last_look_is_last tells start run seats began new r = forwarded_last tells start run seats began new r r.destination r.net r.net' r.last r.served.forwarded

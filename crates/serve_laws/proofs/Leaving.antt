@@ -1,6 +1,6 @@
 -- What the last look of a run leaves.
 use Rattle.std.proofs.Common.{◌≡◌, ℕ, ◌≤◌, List, [], ◌∷◌, ◌++◌, refl, sym, ap, ◌∙◌, subst, arith, append_assoc}
-use Rattle.std.specs.Prelude.{All, Some, Result, Ok, Err}
+use Rattle.std.specs.Prelude.{All, None, Some, Result, Ok, Err}
 use Rattle.edge_io.specs.Net.{NetState}
 use Rattle.spool_state.specs.SpoolState.{end}
 use Rattle.spool_answers.specs.declared.fault.PendFault.{PendFault}
@@ -21,7 +21,7 @@ use Rattle.spool_turns.specs.Passes.{Known}
 use Rattle.spool_turns.specs.Ran.{Ran}
 use Rattle.serve_forwarder.specs.declared.looking.Outcome.TheVariants as outcome
 use Rattle.serve_forwarder.specs.Sessions.{Session, IsHeld}
-use Rattle.serve_forwarder.specs.Looks.{Found, Idle, Unread, Undialed, Held, Look, outcome_of, IsFound, IsLook}
+use Rattle.serve_forwarder.specs.Looks.{Found, Idle, Unread, Undialed, Held, Look, outcome_of, Every, Offer, first_of, upto_of, IsFound, IsLook}
 use Rattle.serve_laws.specs.Leaves.{IsDone, HasNoneLeft}
 use Rattle.serve_laws.proofs.Behind.{all_own}
 use Rattle.serve_laws.proofs.Drained.{read_none, read_sure, drained_none}
@@ -38,7 +38,7 @@ module _ (start : DeskState → Type 0) (x y : DeskState) (log : List Record) (s
       read_none g.0 y ran.between (goes_later x g.0 met.seen rules g.1).0 (all_own met.number ran.between (only ran.between parts) ∙ ran.own_between) g.2
 
   -- where a session drained
-  held_leaves : (outward : Outward) (given : List Numbered) (one : Session) (asked : Known) → one.sent ≡ Ending.Drained → Ran start met (pends 0 1 (Ok given) ∷ []) asked → IsHeld start outward one asked last → HasNoneLeft y
+  held_leaves : (outward : Outward) (given : List Numbered) (one : Session) (asked : Known) → one.sent ≡ Ending.Drained → Ran start met (pends 0 1 (Ok given) ∷ []) asked → IsHeld start outward None one asked last → HasNoneLeft y
   held_leaves outward given one asked drained ran held =
       let to_begun : held.begun.seen ≡ asked.seen = held.asked.end_ran.quiet refl ∙ held.asked.cursor_ran.quiet refl in
       let looked = ran.between in
@@ -59,15 +59,15 @@ module _ (start : DeskState → Type 0) (x y : DeskState) (log : List Record) (s
       let at_end : seen.0 ≡ z = one_state x seen.0 z asked.seen rules (subst (λ (l : List Record). Goes x l seen.0) (held.asked.cursor_ran.quiet refl) seen.1) g.1 in
       let ended = subst (λ (sent : Sent). Ended (EndsAs (settings_as outward) outward.proto) (HintsAs outward.proto) one.left one.until sent one.start one.bytes one.calls one.text) drained held.ended in
       drained_none (settings_as outward) outward.proto one.left z y session one.start one.bytes one.text (goes_later x z asked.seen rules g.1).0 sure g.2 one.until one.calls session_is
-      (subst (λ (d : DeskState). end d.spool ≤ one.until) at_end seen.2)
+      (omega (arith, subst (λ (d : DeskState). end d.spool ≤ held.end) at_end seen.2, held.until_is))
       (λ some.
       let after = held.made.lawful some x s in
       let here : after.0 ≡ y = one_state x after.0 y log rules (subst (λ (l : List Record). Goes x l after.0) whole after.1) goes in
       subst (λ (d : DeskState). (one.until ≤ end d.spool) × (one.start ≤ d.spool.cursor)) here
-      (omega (arith, after.2, held.asked.end_is), omega (arith, after.3, held.asked.cursor, held.asked.end_ran.cursor_known)))
+      (omega (arith, after.2, held.asked.end_is, held.until_is), omega (arith, after.3, held.asked.cursor, held.asked.end_ran.cursor_known)))
       ended
 
-  look_leaves : (outward : Outward) (given : Result (List Numbered) PendFault) (found : Found) (asked : Known) → IsDone (Some (outcome_of found)) → Ran start met (pends 0 1 given ∷ []) asked → IsFound start outward given found asked last → HasNoneLeft y
+  look_leaves : (outward : Outward) (given : Result (List Numbered) PendFault) (found : Found) (asked : Known) → IsDone (Some (outcome_of found)) → Ran start met (pends 0 1 given ∷ []) asked → IsFound start outward None given found asked last → HasNoneLeft y
   look_leaves outward given Idle asked done ran (none, same) = idle_leaves asked (subst (λ (r : Result (List Numbered) PendFault). Ran start met (pends 0 1 r ∷ []) asked) none ran) same
   look_leaves outward given (Unread fault) asked done ran found = absurd done
   look_leaves outward given (Undialed _) asked done ran found = absurd done
@@ -79,6 +79,7 @@ module _ (start : DeskState → Type 0) (x y : DeskState) (log : List Record) (s
 
 pub last_look_leaves : (start : DeskState → Type 0) (outward : Outward) (place : List ℕ) (x y : DeskState) (log : List Record) (look : Look) (met last : Known) (net net' : NetState) → start x → IsDesk x → Goes x log y
     → last.seen ≡ log → ((rest : List Record) → met.seen ++ rest ≡ log → All (λ (one : Record). one.by ≡ met.number) rest)
-    → IsLook start outward place look met last net net' → IsDone (Some (outcome_of look.found)) → HasNoneLeft y
-last_look_leaves start outward place x y log look met last net net' s rules goes whole only l done =
-    look_leaves start x y log s rules goes met last whole only outward look.given look.found l.asked done l.asks l.found
+    → look.offer ≡ Every → IsLook start outward place look met last net net' → IsDone (Some (outcome_of look.found)) → HasNoneLeft y
+last_look_leaves start outward place x y log look met last net net' s rules goes whole only every l done =
+    look_leaves start x y log s rules goes met last whole only outward look.given look.found l.asked done l.asks
+    (subst (λ (o : Offer). IsFound start outward (upto_of o (first_of look.given)) look.given look.found l.asked last) every l.found)

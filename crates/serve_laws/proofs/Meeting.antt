@@ -84,5 +84,5 @@ module _ (start : DeskState → Type 0) (log : List Record) (workers' : List Kno
   pub forwarded_leaves : (x y : DeskState) → start x → IsDesk x → Goes x log y → (destination : Option Destination) (last : Option Outcome) → Forwarded start destination workers' forwarder forwarder' net net' last → IsDone last → HasNoneLeft y
   forwarded_leaves x y s rules goes None last f done = absurd (subst IsDone f.3 done)
   forwarded_leaves x y s rules goes (Some destination) last (outcome, is, f) done =
-      last_look_leaves start destination.outward destination.place x y log f.look f.met forwarder' f.net_beside net' s rules goes (sees_all destination outcome f) (behind_met destination outcome f) f.looked_last
+      last_look_leaves start destination.outward destination.place x y log f.look f.met forwarder' f.net_beside net' s rules goes (sees_all destination outcome f) (behind_met destination outcome f) f.every f.looked_last
       (subst IsDone (is ∙ ap (λ (o : Outcome). Some o) f.last_is) done)

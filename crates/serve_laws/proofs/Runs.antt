@@ -1,5 +1,5 @@
 -- The laws, from what a run of the server says and from what a closed journal has.
-use Rattle.std.proofs.Common.{◌≡◌, ℕ, ◌-◌, List, [], ◌∷◌, ◌++◌, length, sym, subst, arith}
+use Rattle.std.proofs.Common.{◌≡◌, ℕ, ◌+◌, ◌-◌, ◌^◌, ◌<◌, ◌≤◌, List, [], ◌∷◌, ◌++◌, length, sym, subst, arith}
 use Rattle.std.specs.Prelude.{All}
 use Rattle.std.proofs.lemmas.List.Elements.{All-head}
 use Rattle.event_form.specs.declared.event.Entry.{Entry}
@@ -11,7 +11,7 @@ use Rattle.desk_access.specs.Desk.{DeskState}
 use Rattle.desk_access.specs.Legal.{AddsGroups, IsLegal, Met}
 use Rattle.desk_access.proofs.Nexts.{all_left, all_right}
 use Rattle.spool_turns.specs.Passes.{Beginning, Stands}
-use Rattle.spool_turns.specs.Replays.{HasNumber}
+use Rattle.spool_turns.specs.Replays.{Begins, HasNumber}
 use Rattle.serve_workers.specs.Works.{first_conn}
 use Rattle.serve_laws.specs.Parts.{links_of}
 use Rattle.serve_laws.specs.Runs.{ServerRun}
@@ -49,6 +49,10 @@ module _ (tells : Type 0) (start : DeskState → Type 0) (run seats : ℕ) (bega
   connections_contribute log passes closes talks number rules old new' report part is small few x s added adds =
       links_contribute run number rules log (links_of part) added small (omega (arith, is.many, few)) is.at_door.served is.at_door.calls (λ groups a. closes.own x s groups a number) adds
 
+  -- a run is at most 2,097,151, so the numbers of its connections are below those that moved entries have
+  counted : (x : DeskState) → Begins tells run x → (number many : ℕ) → number < 64 → many ≤ 2 ^ 26 → first_conn run number + many ≤ 2 ^ 63
+  counted x begins number many small few = omega (arith, begins.of_run, begins.rules.sound.run)
+
   pub order_is_kept : OrderIsKept tells start run seats began new
   order_is_kept log passes closes talks number rules old new' report part is small few x s opens c image =
       let k = closes.kept x s c image in
@@ -57,7 +61,7 @@ module _ (tells : Type 0) (start : DeskState → Type 0) (run seats : ℕ) (bega
         k.stands,
         record {
           kept = k.kept;
-          each = links_in_order x run number rules log (links_of part) k.state of_run is.at_door.served (connections_contribute log passes closes talks number rules old new' report part is small few x s) k.grows opens;
+          each = links_in_order x run number rules log (links_of part) k.state of_run is.at_door.served (counted x (closes.replays.begins x s) number (length (links_of part)) small (omega (arith, is.many, few))) (connections_contribute log passes closes talks number rules old new' report part is small few x s) k.grows opens;
           legal = k.legal opens;
           earlier = earlier_again x run log k.state of_run (closes.legal x s) k.grows opens;
         },
@@ -68,7 +72,7 @@ module _ (tells : Type 0) (start : DeskState → Type 0) (run seats : ℕ) (bega
       let w = closes.was x s c since in (
         w.state,
         w.stands,
-        links_were_in_order x run number rules log (links_of part) c (closes.replays.begins x s).of_run is.at_door.served (connections_contribute log passes closes talks number rules old new' report part is small few x s) w opens,
+        links_were_in_order x run number rules log (links_of part) c (closes.replays.begins x s).of_run is.at_door.served (counted x (closes.replays.begins x s) number (length (links_of part)) small (omega (arith, is.many, few))) (connections_contribute log passes closes talks number rules old new' report part is small few x s) w opens,
       )
 
   pub disk_faults_are_counted : DiskFaultsAreCounted tells start run seats began new

@@ -23,7 +23,7 @@ use Rattle.serve_workers.specs.declared.worker.WorkerReport.{WorkerReport}
 use Rattle.serve_workers.specs.Served.{Served, AreServed, calls_in}
 use Rattle.serve_forwarder.specs.declared.destination.Destination.{Destination}
 use Rattle.serve_forwarder.specs.declared.looking.Outcome.{Outcome}
-use Rattle.serve_forwarder.specs.Looks.{Idle, Unread, Undialed, Held, Found, Look, calls_at, calls_found, calls_of as calls_of_looks, IsFound, IsLook, AreLooks}
+use Rattle.serve_forwarder.specs.Looks.{Idle, Unread, Undialed, Held, Found, Look, calls_at, calls_found, calls_of as calls_of_looks, first_of, upto_of, IsFound, IsLook, AreLooks}
 use Rattle.serve_forwarder.proofs.Chain.{look_is_ran, looks_are_ran}
 use Rattle.serve_run.specs.Running.{Forwarded}
 use Rattle.serve_laws.specs.Parts.{Part, links_of, AreParts}
@@ -85,7 +85,7 @@ module _ (P : Entry → Type 0) where
   session_written end next (call ∷ calls) of = absurd of
 
   module _ (start : DeskState → Type 0) (outward : Outward) (place : List ℕ) where
-    found_written : (look : Look) (found : Found) (a b : Known) → IsFound start outward look.given found a b → AllWritten P (calls_found found)
+    found_written : (look : Look) (found : Found) (a b : Known) → IsFound start outward (upto_of look.offer (first_of look.given)) look.given found a b → AllWritten P (calls_found found)
     found_written look Idle a b f = tt
     found_written look (Unread fault) a b f = tt
     found_written look (Undialed _) a b f = tt

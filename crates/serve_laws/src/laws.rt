@@ -58,7 +58,8 @@ pub fn end_counts_entries<D: Disk, J: Naming>(_desk: &Desk<D>)
 /// Whatever a crash leaves now has each entry that was taken at its number, or a cursor past that number. Its list has the entries of
 /// each link's connection in their order: those that the link contributed, but for first ones that are gone since the cursor passed
 /// them. This is said where the desk was given with a legal list of entries of earlier runs, and what is left is such a list again
-/// for the run after this one. In a legal list the indexes of each connection rise by one, and the entries of an id stand together.
+/// for the run after this one. In a legal list the indexes of each connection rise by one, and the entries of an id stand together. Entries
+/// that were moved into the spool may stand among them: they have numbers from 2^63 on in place of a connection's, and no id.
 pub fn order_is_kept<D: Disk, J: Naming>(_desk: &Desk<D>)
     ensures { OrderIsKept D.tells J.start J.run J.seats J.began (desk_at _desk.now) }
 {}

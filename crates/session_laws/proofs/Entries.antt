@@ -55,7 +55,7 @@ and_off false b off = refl
 past : (from until n : ℕ) → until ≤ n → is_within from until n ≡ false
 past from until n le = and_off (nat_le from n) (nat_lt n until) (le-ltb n until le)
 
-inside : (from until n : ℕ) → from ≤ n → n < until → is_within from until n ≡ true
+pub inside : (from until n : ℕ) → from ≤ n → n < until → is_within from until n ≡ true
 inside from until n low high = and_from (nat_le from n) (nat_lt n until) (le-leb from n low) (lt-ltb n until high)
 
 crossed : (from until n : ℕ) → until ≤ from → is_within from until n ≡ false

@@ -1,11 +1,11 @@
 -- A session that a pass held, as it is in the journal.
-use Rattle.std.proofs.Common.{◌≡◌, inl, inr, ℕ, ◌≤◌, List, [], ◌∷◌, ◌++◌, take, Option, refl, sym, ◌∙◌, ap, subst, arith, append_assoc}
-use Rattle.std.specs.Prelude.{Ok}
+use Rattle.std.proofs.Common.{◌≡◌, ◌⊎◌, inl, inr, ℕ, ◌+◌, ◌<◌, ◌≤◌, List, [], ◌∷◌, ◌++◌, take, Option, refl, sym, ◌∙◌, ap, subst, arith, append_assoc}
+use Rattle.std.specs.Prelude.{None, Some, Ok, min}
 use Rattle.std.proofs.lemmas.Bool.{cases_eq}
-use Rattle.spool_state.specs.SpoolState.{SpoolState, end}
-use Rattle.spool_state.specs.Left.{left_from}
+use Rattle.spool_state.specs.SpoolState.{IsSound, SpoolState, end}
+use Rattle.spool_state.specs.Left.{NumberedEntry, left_from}
 use Rattle.spool_answers.specs.declared.numbered.Numbered.{Numbered}
-use Rattle.spool_answers.specs.Pend.{given_entries}
+use Rattle.spool_answers.specs.Pend.{AreNumbered, given_entries}
 use Rattle.desk_access.specs.declared.standing.Standing.{Standing}
 use Rattle.desk_access.specs.Call.{Call, Record, confirms, marks, own_of, pends}
 use Rattle.desk_access.specs.Desk.{Answers, AnswersAs, DeskState, Goes}
@@ -14,9 +14,12 @@ use Rattle.desk_access.specs.Journal.{goes_parts, goes_then, of_other, own_then}
 use Rattle.desk_access.specs.Legal.{May, Met}
 use Rattle.desk_access.proofs.OneState.{one_state}
 use Rattle.desk_access.proofs.Steps.{goes_later}
+use Rattle.forward_core.specs.Forwarded.{until_by}
 use Rattle.forward_core.specs.declared.outward.Outward.{Outward}
+use Rattle.forward_core.proofs.Rest.{as_given, left_rise, one_entry}
 use Rattle.spool_turns.specs.Passes.{Known, LeadsAbove, upto_first}
 use Rattle.spool_turns.specs.Ran.{Ran, upto_first-none}
+use Rattle.serve_forwarder.specs.Looks.{Every, First, Offer, first_of, upto_of}
 use Rattle.serve_forwarder.specs.Sessions.{IsHeld, Session}
 use Rattle.session_laws.specs.Beside.{IsAmong, IsMarking, MarksAlone}
 use Rattle.session_laws.proofs.Coming.{own_here, own_there, upto_here, upto_there}
@@ -95,6 +98,45 @@ read_first number w x (y ∷ xs) from most given is goes = elim (cases_eq y.by n
       read_first number more.0 x xs from most given (sym (own_there number y xs off) ∙ is) more.2
 ]
 
+-- ---- where a session ends
+
+-- the number after the first of these entries
+abbrev pub IsAfterFirst : List Numbered → ℕ → Type 0
+IsAfterFirst [] n = ⊥
+IsAfterFirst (one ∷ given) n = n ≡ one.number + 1
+
+-- a reading that gave an entry gave the first of those that were left
+pub none_given : (one : Numbered) (given : List Numbered) → given_entries (one ∷ given) ≡ take 1 [] → ⊥
+none_given one given same = let none : one_entry one ∷ given_entries given ≡ [] = same in cc (none)
+
+pub first_given : (one : Numbered) (given : List Numbered) (x : NumberedEntry) (xs : List NumberedEntry) → given_entries (one ∷ given) ≡ take 1 (x ∷ xs) → one.number ≡ x.number
+first_given one given x xs same =
+    let all : one_entry one ∷ given_entries given ≡ x ∷ take 0 xs = same in
+    let heads : one_entry one ≡ x = cc (all) in
+    ap (λ (e : NumberedEntry). e.number) heads
+
+-- that one is below the end
+first_below : (s : SpoolState) (one : Numbered) (given : List Numbered) → IsSound s → given_entries (one ∷ given) ≡ take 1 (left_from s 0) → one.number < end s
+first_below s one given sound is = by (left_from s 0) is (left_rise s 0 sound) where
+  by : (xs : List NumberedEntry) → given_entries (one ∷ given) ≡ take 1 xs → AreNumbered 0 (end s) (as_given xs) → one.number < end s
+  by [] same are = absurd (none_given one given same)
+  by (x ∷ xs) same are = omega (arith, first_given one given x xs same, are.1)
+
+-- a session that was offered all ends at the desk's end or after it, one that was offered the first entry directly after that one
+reaches_by : (s : SpoolState) (offer : Offer) (given : List Numbered) (asked until : ℕ) → IsSound s → given_entries given ≡ take 1 (left_from s 0) → end s ≤ asked → until ≡ until_by (upto_of offer (first_of (Ok given))) asked
+    → (end s ≤ until) ⊎ IsAfterFirst given until
+reaches_by s Every given asked until sound reads le is = let at : until ≡ asked = is in inl (omega (arith, le, at))
+reaches_by s First [] asked until sound reads le is = let at : until ≡ asked = is in inl (omega (arith, le, at))
+reaches_by s First (one ∷ given) asked until sound reads le is =
+    let at : until ≡ min (one.number + 1) asked = is in
+    let low : one.number < end s = first_below s one given sound reads in
+    inr (omega (arith, le, at, low))
+
+-- it doesn't end after the end that was asked for
+until_within : (upto : Option ℕ) (asked : ℕ) → until_by upto asked ≤ asked
+until_within None asked = omega arith
+until_within (Some n) asked = omega arith
+
 -- ---- a session
 
 -- Of these records the first led to a desk that had read, and the others are those of the session and what others did beside it.
@@ -107,6 +149,7 @@ pub record IsOn (number : ℕ) (one : Session) (given : List Numbered) (w z : De
   pub asked : own_of number first ≡ pends 0 1 (Ok given) ∷ []
   pub among : IsAmong x number one.start one.until one.calls rest z
   pub read : HasRead x 0 1 given
+  pub reaches : (end x.spool ≤ one.until) ⊎ IsAfterFirst given one.until
 
 -- a state that the records led to later has no lower cursor or end
 seen_before : (begun w x z y : DeskState) (seen first between more : List Record) → IsDesk begun → Goes begun seen w → Goes w first x → Goes x (between ++ more) z → Goes begun (seen ++ (first ++ between)) y
@@ -129,10 +172,10 @@ leads_first begun w x seen first between more number until start rules goes_w go
     let on : Goes x (between ++ u) h.0 = subst (λ (d : DeskState). Goes d (between ++ u) h.0) same there.2 in
     (h.0, subst (λ (l : List Record). Goes x l h.0) (sym (upto_first-none number between more none)) on, h.2, h.3)
 
-pub held_on : (start : DeskState → Type 0) (outward : Outward) (one : Session) (given : List Numbered) (pass asked pass' : Known) (asks : Ran start pass (pends 0 1 (Ok given) ∷ []) asked) (held : IsHeld start outward one asked pass')
+pub held_on : (start : DeskState → Type 0) (outward : Outward) (offer : Offer) (one : Session) (given : List Numbered) (pass asked pass' : Known) (asks : Ran start pass (pends 0 1 (Ok given) ∷ []) asked) (held : IsHeld start outward (upto_of offer (first_of (Ok given))) one asked pass')
     (begun w z : DeskState) → start begun → IsDesk begun → Goes begun pass.seen w → Goes w (asks.between ++ held.made.between) z → MarksAlone pass.number (asks.between ++ held.made.between)
     → IsOn pass.number one given w z (asks.between ++ held.made.between)
-held_on start outward one given pass asked pass' asks held begun w z could rules goes_w goes alone =
+held_on start outward offer one given pass asked pass' asks held begun w z could rules goes_w goes alone =
     let number = pass.number in
     let s = upto_split number asks.between (pends 0 1 (Ok given)) asks.own_between in
     let first = upto_first number asks.between in
@@ -161,6 +204,7 @@ held_on start outward one given pass asked pass' asks held begun w z could rules
       goes = there.1;
       asked = s.own;
       read = read;
+      reaches = reaches_by x.spool offer given held.end one.until rules_x.sound read.reads (omega (arith, at_e.1, e.2)) held.until_is;
       among = record {
         rules = rules_x;
         sure = read.sure;
@@ -168,11 +212,10 @@ held_on start outward one given pass asked pass' asks held begun w z could rules
         calls_are = own_then number s.rest more ∙ ap (λ (l : List Call). l ++ own_of number more) s.none ∙ own_more;
         alone = (alone_parts number first rest (subst (MarksAlone number) parts alone)).1;
         from_cursor = omega (arith, at_c.0, c.2);
-        to_end = omega (arith, at_e.1, e.2);
         within = λ some.
             let h = held.made.first_lawful some begun could in
             let order : held.begun.seen ++ upto_first held.begun.number more ≡ (pass.seen ++ (first ++ s.rest)) ++ upto_first number more = λ i. begun_seen i ++ upto_first (begun_number i) more in
             leads_first begun w x pass.seen first s.rest more number one.until one.start rules goes_w there.1 s.none
-            (h.0, subst (λ (l : List Record). Goes begun l h.0) order h.1, omega (arith, h.2, q.end_is), omega (arith, h.3, q.cursor, q.end_ran.cursor_known));
+            (h.0, subst (λ (l : List Record). Goes begun l h.0) order h.1, omega (arith, h.2, q.end_is, held.until_is, until_within (upto_of offer (first_of (Ok given))) held.end), omega (arith, h.3, q.cursor, q.end_ran.cursor_known));
       };
     }

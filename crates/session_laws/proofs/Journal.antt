@@ -23,7 +23,7 @@ use Rattle.forward_core.specs.Settings.{Settings}
 use Rattle.forward_core.specs.declared.outward.Outward.{Outward}
 use Rattle.spool_turns.specs.Passes.{Known, known}
 use Rattle.spool_turns.specs.Ran.{Ran}
-use Rattle.serve_forwarder.specs.Looks.{AreLooks, Found, Held, Idle, Undialed, Unread, IsFound, IsLook, IsPending, Look, calls_at, calls_found, calls_of, held_in, sessions_of}
+use Rattle.serve_forwarder.specs.Looks.{AreLooks, Found, Held, Idle, Undialed, Unread, IsFound, IsLook, IsPending, Look, calls_at, calls_found, calls_of, held_in, sessions_of, Offer, first_of, upto_of}
 use Rattle.serve_forwarder.specs.Sessions.{IsHeld, Session}
 use Rattle.session_laws.specs.Beside.{MarksAlone, history}
 use Rattle.session_laws.specs.Led.{Led}
@@ -83,9 +83,9 @@ steps_met settings proto start a b number own p none = record {
   from = λ x w z t could rules goes_w goes_z alone stands. from_quiet settings proto a.number w z p.0 t (goes_later x w a.seen rules goes_w).0 goes_z alone (subst NoMarks (sym none) tt) stands;
 }
 
-steps_held : (start : DeskState → Type 0) (outward : Outward) (one : Session) (given : List Numbered) (pass asked pass' : Known) → 0 < length given → Ran start pass (pends 0 1 (Ok given) ∷ []) asked → IsHeld start outward one asked pass'
+steps_held : (start : DeskState → Type 0) (outward : Outward) (offer : Offer) (one : Session) (given : List Numbered) (pass asked pass' : Known) → 0 < length given → Ran start pass (pends 0 1 (Ok given) ∷ []) asked → IsHeld start outward (upto_of offer (first_of (Ok given))) one asked pass'
     → Steps (settings_as outward) outward.proto start pass pass' (one ∷ []) (pends 0 1 (Ok given) ∷ one.calls)
-steps_held start outward one given pass asked pass' some asks held =
+steps_held start outward offer one given pass asked pass' some asks held =
     let q = held.asked in
     let more = held.made.between in
     let begun_seen : held.begun.seen ≡ asked.seen = q.end_ran.quiet refl ∙ q.cursor_ran.quiet refl in
@@ -99,32 +99,32 @@ steps_held start outward one given pass asked pass' some asks held =
       own = held.made.own ∙ ap (λ (l : List Call). l ++ one.calls) begun_own ∙ append_assoc pass.own (pends 0 1 (Ok given) ∷ []) one.calls;
       from = λ x w z t could rules goes_w goes_z alone stands.
           from_held (settings_as outward) outward.proto pass.number one given w z (asks.between ++ more) t (goes_later x w pass.seen rules goes_w).0 some
-          (held_on start outward one given pass asked pass' asks held x w z could rules goes_w goes_z alone) alone held.ended stands;
+          (held_on start outward offer one given pass asked pass' asks held x w z could rules goes_w goes_z alone) alone held.ended stands;
     }
 
 -- ---- looks
 
-steps_pending : (start : DeskState → Type 0) (outward : Outward) (one : Session) (given : Result (List Numbered) PendFault) (pass asked pass' : Known) → Ran start pass (pends 0 1 given ∷ []) asked → IsPending given → IsHeld start outward one asked pass'
+steps_pending : (start : DeskState → Type 0) (outward : Outward) (offer : Offer) (one : Session) (given : Result (List Numbered) PendFault) (pass asked pass' : Known) → Ran start pass (pends 0 1 given ∷ []) asked → IsPending given → IsHeld start outward (upto_of offer (first_of given)) one asked pass'
     → Steps (settings_as outward) outward.proto start pass pass' (one ∷ []) (pends 0 1 given ∷ one.calls)
-steps_pending start outward one (Ok []) pass asked pass' asks pending held = absurd pending
-steps_pending start outward one (Ok (first ∷ given)) pass asked pass' asks pending held = steps_held start outward one (first ∷ given) pass asked pass' (omega arith) asks held
-steps_pending start outward one (Err fault) pass asked pass' asks pending held = absurd pending
+steps_pending start outward offer one (Ok []) pass asked pass' asks pending held = absurd pending
+steps_pending start outward offer one (Ok (first ∷ given)) pass asked pass' asks pending held = steps_held start outward offer one (first ∷ given) pass asked pass' (omega arith) asks held
+steps_pending start outward offer one (Err fault) pass asked pass' asks pending held = absurd pending
 
 -- a look that came to no session
 steps_asked : (settings : Settings) (proto : Proto) (start : DeskState → Type 0) (given : Result (List Numbered) PendFault) (pass asked pass' : Known) → Ran start pass (pends 0 1 given ∷ []) asked → pass' ≡ asked → Steps settings proto start pass pass' [] (pends 0 1 given ∷ [])
 steps_asked settings proto start given pass asked pass' asks same =
     subst (λ (k : Known). Steps settings proto start pass k [] (pends 0 1 given ∷ [])) (sym same) (steps_ran settings proto start pass asked (pends 0 1 given ∷ []) asks ((λ marking. marking), tt))
 
-steps_found : (start : DeskState → Type 0) (outward : Outward) (given : Result (List Numbered) PendFault) (found : Found) (pass asked pass' : Known) → Ran start pass (pends 0 1 given ∷ []) asked → IsFound start outward given found asked pass'
+steps_found : (start : DeskState → Type 0) (outward : Outward) (offer : Offer) (given : Result (List Numbered) PendFault) (found : Found) (pass asked pass' : Known) → Ran start pass (pends 0 1 given ∷ []) asked → IsFound start outward (upto_of offer (first_of given)) given found asked pass'
     → Steps (settings_as outward) outward.proto start pass pass' (held_in found) (pends 0 1 given ∷ calls_found found)
-steps_found start outward given Idle pass asked pass' asks f = steps_asked (settings_as outward) outward.proto start given pass asked pass' asks f.1
-steps_found start outward given (Unread why) pass asked pass' asks f = steps_asked (settings_as outward) outward.proto start given pass asked pass' asks f.1
-steps_found start outward given (Undialed why) pass asked pass' asks f = steps_asked (settings_as outward) outward.proto start given pass asked pass' asks f.1
-steps_found start outward given (Held one) pass asked pass' asks f = steps_pending start outward one given pass asked pass' asks f.0 f.1
+steps_found start outward offer given Idle pass asked pass' asks f = steps_asked (settings_as outward) outward.proto start given pass asked pass' asks f.1
+steps_found start outward offer given (Unread why) pass asked pass' asks f = steps_asked (settings_as outward) outward.proto start given pass asked pass' asks f.1
+steps_found start outward offer given (Undialed why) pass asked pass' asks f = steps_asked (settings_as outward) outward.proto start given pass asked pass' asks f.1
+steps_found start outward offer given (Held one) pass asked pass' asks f = steps_pending start outward offer one given pass asked pass' asks f.0 f.1
 
 pub steps_look : (start : DeskState → Type 0) (outward : Outward) (place : List ℕ) (look : Look) (pass pass' : Known) (net net' : NetState) → IsLook start outward place look pass pass' net net'
     → Steps (settings_as outward) outward.proto start pass pass' (held_in look.found) (calls_at look)
-steps_look start outward place look pass pass' net net' is = steps_found start outward look.given look.found pass is.asked pass' is.asks is.found
+steps_look start outward place look pass pass' net net' is = steps_found start outward look.offer look.given look.found pass is.asked pass' is.asks is.found
 
 pub steps_looks : (start : DeskState → Type 0) (outward : Outward) (place : List ℕ) (looks : List Look) (pass pass' : Known) (net net' : NetState) → AreLooks start outward place looks pass pass' net net'
     → Steps (settings_as outward) outward.proto start pass pass' (sessions_of looks) (calls_of looks)

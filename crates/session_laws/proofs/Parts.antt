@@ -1,6 +1,7 @@
 -- A session is a part of a journal, over one whole list.
-use Rattle.std.proofs.Common.{◌≡◌, inl, ℕ, ◌<◌, ◌≤◌, List, [], ◌∷◌, ◌++◌, length, take, Option, refl, sym, ◌∙◌, ap, subst, arith, append_assoc}
+use Rattle.std.proofs.Common.{◌≡◌, inl, inr, ℕ, ◌+◌, ◌<◌, ◌≤◌, List, [], ◌∷◌, ◌++◌, length, take, Option, refl, sym, ◌∙◌, ap, subst, arith, append_assoc}
 use Rattle.std.specs.Prelude.{All}
+use Rattle.std.proofs.lemmas.Bool.{cond-true}
 use Rattle.std.proofs.lemmas.List.{length-map, length-take}
 use Rattle.known_numbers.specs.Numbers.{Numbers}
 use Rattle.event_form.specs.Entry.{IsEntry}
@@ -9,27 +10,29 @@ use Rattle.edge_io.specs.declared.proto.Proto.{Proto}
 use Rattle.spool_state.specs.SpoolState.{IsSound, SpoolState, base, end, list, numbers_of}
 use Rattle.spool_state.specs.Left.{NumberedEntry, left, left_from, numbered, unknown}
 use Rattle.spool_state.proofs.Lefts.{left_from-base, left_from-cursor}
+use Rattle.spool_state.proofs.Unknown.{numbered_append, unknown_append}
 use Rattle.spool_answers.specs.declared.numbered.Numbered.{Numbered}
-use Rattle.spool_answers.specs.Pend.{given_entries}
+use Rattle.spool_answers.specs.Pend.{AreNumbered, given_entries}
 use Rattle.spool_answers.specs.Stages.{IsOneOf}
 use Rattle.desk_access.specs.Call.{Call, Record, own_of}
 use Rattle.desk_access.specs.Desk.{DeskState, Goes}
 use Rattle.desk_access.specs.History.{Grown, IsDesk}
 use Rattle.desk_access.specs.Legal.{all_of}
 use Rattle.desk_access.proofs.Growth.{grown_then}
+use Rattle.forward_core.specs.Calls.{is_within}
 use Rattle.forward_core.specs.Protocols.{EndsAs, HintsAs}
 use Rattle.forward_core.specs.Session.{Ended}
 use Rattle.forward_core.specs.Settings.{Settings}
 use Rattle.forward_core.specs.declared.sent.Sent.{Sent}
-use Rattle.forward_core.proofs.Rest.{left_rise, one_entry}
+use Rattle.forward_core.proofs.Rest.{as_given, left_rise, one_entry}
 use Rattle.serve_forwarder.specs.Sessions.{Session}
 use Rattle.session_laws.specs.Beside.{EndsAmong, KnowsMarked, MarksAlone}
 use Rattle.session_laws.specs.Led.{Led}
 use Rattle.session_laws.specs.Sessions.{AreSent, IsSent, Reach, reach_of}
 use Rattle.session_laws.proofs.Among.{ends_among, one_standing, way}
 use Rattle.session_laws.proofs.Coming.{Reached, comes}
-use Rattle.session_laws.proofs.Entries.{between, between_all, view_more}
-use Rattle.session_laws.proofs.Holding.{IsOn, alone_parts}
+use Rattle.session_laws.proofs.Entries.{between, between_all, inside, left_grown, view_more}
+use Rattle.session_laws.proofs.Holding.{IsAfterFirst, IsOn, alone_parts, first_given, none_given}
 use Rattle.session_laws.proofs.Knowing.{led_end, led_until, NoMarks, all_then, led_grown, led_marked, led_same, led_sound, led_then}
 use Rattle.session_laws.proofs.Sending.{Like, like_view, unknown_with}
 
@@ -44,7 +47,7 @@ pub record Part (settings : Settings) (proto : Proto) (r : SpoolState) (groups :
 sent_one : (settings : Settings) (proto : Proto) (whole : List NumberedEntry) (a b c : Reach) (one : Session) → b.known ≡ a.known → a.upto ≤ b.upto → IsSent settings proto whole b one c → IsSent settings proto whole a one c
 sent_one settings proto whole a b c one same le sent =
     let s : IsSent settings proto whole (record { known = a.known; upto = b.upto }) one c = subst (λ (k : Numbers). IsSent settings proto whole (record { known = k; upto = b.upto }) one c) same sent in
-    record { told = s.told; also = s.also; ends = s.ends; some = s.some; knows = s.knows; from_end = omega (arith, s.from_end, le); to_end = s.to_end }
+    record { told = s.told; also = s.also; ends = s.ends; some = s.some; knows = s.knows; reaches = elim s.reaches [ inl far ↦ inl (omega (arith, far, le)) | inr first ↦ inr first ]; to_end = s.to_end }
 
 sent_from : (settings : Settings) (proto : Proto) (whole : List NumberedEntry) (a b c : Reach) (ys : List Session) → b.known ≡ a.known → a.upto ≤ b.upto → AreSent settings proto whole b ys c → AreSent settings proto whole a ys c
 sent_from settings proto whole a b c [] same le q = (q.0 ∙ same, omega (arith, le, q.1))
@@ -121,21 +124,58 @@ some_unsent s r before later start until like at le some =
 
 sent_by : (settings : Settings) (proto : Proto) (bytes_left : Option (List ℕ)) (number start until : ℕ) (s r t : SpoolState) (before later whole : List Entry) (records : List Record) (groups : List (List Entry)) (led : Led r records groups t)
     (sent : Sent) (bytes text : List ℕ) → IsSound s → Like s (numbers_of r) before start r → before ++ (all_of groups ++ later) ≡ whole → All IsEntry whole → Reached number until start r records groups t led → MarksAlone number records → r.cursor ≤ start
-    → end r ≤ until → 0 < length (left r) → Ended (EndsAs settings proto) (HintsAs proto) bytes_left until sent start bytes (own_of number records) text
+    → (start ≡ r.cursor → 0 < length (between start until (unknown_with s (numbers_of r) whole))) → Ended (EndsAs settings proto) (HintsAs proto) bytes_left until sent start bytes (own_of number records) text
     → SentBy settings proto (numbered (base s) (list s ++ whole)) (numbers_of r) start until sent bytes (own_of number records) text (numbers_of t)
-sent_by settings proto bytes_left number start until s r t before later whole records groups led sent bytes text first like all limits reached alone from_cursor to_end some ended =
+sent_by settings proto bytes_left number start until s r t before later whole records groups led sent bytes text first like all limits reached alone from_cursor some ended =
     let ends = ends_among settings proto bytes_left number start until s r t before later whole records groups led sent bytes text first like.sound like.grown all limits reached alone from_cursor ended in
     record {
       told = ended.told;
       also = ended.also;
       ends = ends;
       some = λ made.
-          let n = some_unsent s r before (all_of groups ++ later) start until like (ends.from_cursor made) to_end some in
-          let same = ap (λ (l : List Entry). length (between start until (unknown_with s (numbers_of r) l))) all in
+          let n = some (ends.from_cursor made) in
           let long = ap (λ (l : List NumberedEntry). length l) ends.is_list.are_unsent in
-          omega (arith, n, same, long, length-map ends.all one_entry);
+          omega (arith, n, long, length-map ends.all one_entry);
       knows = led_marked number until start r t records groups like.sound led alone ended.session;
     }
+
+-- Of what wasn't known, those that were given come first: a session that ends directly after the first ends within them.
+record Begins (until cursor : ℕ) (xs : List NumberedEntry) : Type 0 where
+  first : NumberedEntry
+  rest : List NumberedEntry
+  are : xs ≡ first ∷ rest
+  until_is : until ≡ first.number + 1
+  above : cursor ≤ first.number
+
+begins : (given : List Numbered) (until cursor high : ℕ) (xs more : List NumberedEntry) → IsAfterFirst given until → given_entries given ≡ take 1 xs → AreNumbered cursor high (as_given xs) → Begins until cursor (xs ++ more)
+begins [] until cursor high xs more after is are = absurd after
+begins (one ∷ given) until cursor high [] more after is are = absurd (none_given one given is)
+begins (one ∷ given) until cursor high (x ∷ xs) more after is are =
+    let at : until ≡ one.number + 1 = after in
+    record { first = x; rest = xs ++ more; are = refl; until_is = omega (arith, at, first_given one given x xs is); above = are.0 }
+
+begins_with : (s r : SpoolState) (before later whole : List Entry) (given : List Numbered) (until : ℕ) → Grown s before r → IsSound r → before ++ later ≡ whole → IsAfterFirst given until → given_entries given ≡ take 1 (left_from r 0)
+    → Begins until r.cursor (unknown_with s (numbers_of r) whole)
+begins_with s r before later whole given until grown sound all after is =
+    let known = numbers_of r in
+    let front = numbered (base s) (list s ++ before) in
+    let back = numbered (base s + length (list s ++ before)) later in
+    let rise : AreNumbered r.cursor (end r) (as_given (left r)) = subst (λ (l : List NumberedEntry). AreNumbered r.cursor (end r) (as_given l)) (left_from-cursor r r.cursor (omega arith)) (left_rise r r.cursor sound) in
+    let parts : unknown_with s known whole ≡ left r ++ unknown known back =
+    ap (λ (l : List Entry). unknown known (numbered (base s) (list s ++ l))) (sym all)
+    ∙ ap (λ (l : List Entry). unknown known (numbered (base s) l)) (sym (append_assoc (list s) before later))
+    ∙ ap (unknown known) (numbered_append (base s) (list s ++ before) later)
+    ∙ unknown_append known front back
+    ∙ ap (λ (l : List NumberedEntry). l ++ unknown known back) (sym (left_grown s r before grown sound)) in
+    subst (Begins until r.cursor) (sym parts) (begins given until r.cursor (end r) (left r) (unknown known back) after (is ∙ ap (take 1) (left_from-base r 0 (omega arith))) rise)
+
+-- such a session has an entry to send
+some_first : (start until cursor : ℕ) (xs : List NumberedEntry) → start ≡ cursor → Begins until cursor xs → 0 < length (between start until xs)
+some_first start until cursor xs at b =
+    let rest = between start until b.rest in
+    let here = inside start until b.first.number (omega (arith, at, b.above)) (omega (arith, b.until_is)) in
+    subst (λ (l : List NumberedEntry). 0 < length (between start until l)) (sym b.are)
+    (subst (λ (l : List NumberedEntry). 0 < length l) (sym (cond-true (is_within start until b.first.number) (b.first ∷ rest) rest here)) (omega arith))
 
 -- the desk had an entry left
 some_left : (s : SpoolState) (given : List Numbered) → 0 < length given → given_entries given ≡ take 1 (left_from s 0) → 0 < length (left s)
@@ -161,10 +201,17 @@ from_held settings proto number one given w z records t rules some on alone ende
       part = record {
         sent = λ s before later whole sound_s sound grown all limits.
             let like : Like s (numbers_of s') before one.start s' = record { sound = sound; grown = grown; kept = λ n is. is; only = λ n ge is. is } in
+            let begin = λ (after : IsAfterFirst given one.until). begins_with s s' before (all_of v.groups ++ later) whole given one.until grown sound all after on.read.reads in
+            let unsent : one.start ≡ s'.cursor → 0 < length (between one.start one.until (unknown_with s (numbers_of s') whole)) = λ at. elim on.reaches [
+              | inl far ↦
+                  let n = some_unsent s s' before (all_of v.groups ++ later) one.start one.until like at far left_some in
+                  omega (arith, n, ap (λ (l : List Entry). length (between one.start one.until (unknown_with s (numbers_of s') l))) all)
+              | inr after ↦ some_first one.start one.until s'.cursor (unknown_with s (numbers_of s') whole) at (begin after)
+            ] in
             let b : SentBy settings proto (numbered (base s) (list s ++ whole)) (numbers_of s') one.start one.until one.sent one.bytes one.calls one.text (numbers_of t) =
             subst (λ (those : List Call). Ended (EndsAs settings proto) (HintsAs proto) one.left one.until one.sent one.start one.bytes those one.text
             → SentBy settings proto (numbered (base s) (list s ++ whole)) (numbers_of s') one.start one.until one.sent one.bytes those one.text (numbers_of t)) among.calls_are
-            (sent_by settings proto one.left number one.start one.until s s' t before later whole on.rest v.groups v.led one.sent one.bytes one.text sound_s like all limits v.reached among.alone among.from_cursor among.to_end left_some) ended in (
+            (sent_by settings proto one.left number one.start one.until s s' t before later whole on.rest v.groups v.led one.sent one.bytes one.text sound_s like all limits v.reached among.alone among.from_cursor unsent) ended in (
               reach_of t,
               record {
                 told = b.told;
@@ -172,7 +219,7 @@ from_held settings proto number one given w z records t rules some on alone ende
                 ends = b.ends;
                 some = b.some;
                 knows = b.knows;
-                from_end = among.to_end;
+                reaches = elim on.reaches [ inl far ↦ inl far | inr after ↦ let at = begin after in inr (at.first, at.rest, at.are, at.until_is) ];
                 to_end = λ made. led_until number one.until one.start s' t on.rest v.groups v.led v.reached (omega (arith, made, ap (λ (l : List Call). length l) among.calls_are));
               },
               (refl, omega arith),

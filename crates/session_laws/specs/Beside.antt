@@ -3,7 +3,7 @@ use Rattle.std.specs.Prelude.{◌≡◌, ◌⊎◌, ℕ, ◌<◌, ◌≤◌, Lis
 use Rattle.known_numbers.specs.Numbers.{IsKnown, Numbers, marked}
 use Rattle.event_form.specs.declared.event.Entry.{Entry}
 use Rattle.edge_io.specs.declared.proto.Proto.{Proto}
-use Rattle.spool_state.specs.SpoolState.{SpoolState, base, end, list}
+use Rattle.spool_state.specs.SpoolState.{SpoolState, base, list}
 use Rattle.spool_state.specs.Left.{NumberedEntry, numbered, unknown}
 use Rattle.spool_answers.specs.declared.numbered.Numbered.{Numbered}
 use Rattle.spool_answers.specs.Pend.{AreNumbered, given_entries}
@@ -33,8 +33,8 @@ MarksAlone number [] = Unit {0}
 MarksAlone number (one ∷ records) = (IsMarking one.call → one.by ≡ number) × MarksAlone number records
 
 -- The records led from a desk that isn't in doubt to another state. The calls of the caller of that number among them are a
--- session's, and nobody else marked or confirmed. The session was to send the entries from `start` on and below `until`. Those two
--- aren't below the cursor and the end as it began, nor above the cursor and the end after its first call.
+-- session's, and nobody else marked or confirmed. The session was to send the entries from `start` on and below `until`. `start` isn't
+-- below the cursor as it began, and the two aren't above the cursor and the end after its first call.
 pub record IsAmong (x : DeskState) (number start until : ℕ) (calls : List Call) (records : List Record) (y : DeskState) : Type 0 where
   pub rules : IsDesk x
   pub sure : x.doubt ≡ []
@@ -42,7 +42,6 @@ pub record IsAmong (x : DeskState) (number start until : ℕ) (calls : List Call
   pub calls_are : own_of number records ≡ calls
   pub alone : MarksAlone number records
   pub from_cursor : x.spool.cursor ≤ start
-  pub to_end : end x.spool ≤ until
   pub within : 0 < length calls → LeadsAbove x (upto_first number records) until start
 
 -- The whole list: the entries of a state and all that were added since, each with its number.

@@ -1,5 +1,5 @@
 -- The sessions of a forwarder in the one journal of a desk, one after another.
-use Rattle.std.specs.Prelude.{◌≡◌, ◌⊎◌, ℕ, ◌<◌, ◌≤◌, List, [], ◌∷◌, ◌++◌, length, All}
+use Rattle.std.specs.Prelude.{◌≡◌, ◌⊎◌, ℕ, ◌+◌, ◌<◌, ◌≤◌, List, [], ◌∷◌, ◌++◌, length, All}
 use mathlib.Core.List.{IsPrefix}
 use Rattle.known_numbers.specs.Numbers.{IsKnown, Numbers}
 use Rattle.event_form.specs.declared.event.Entry.{Entry}
@@ -31,16 +31,20 @@ pub record Reach : Type 0 where
 abbrev pub reach_of : SpoolState → Reach
 reach_of s = record { known = numbers_of s; upto = end s }
 
--- A session was held over a whole list from one moment to another. It sent what wasn't known, up to an end of its own, which isn't
--- below the list's end at the first moment. If it made a call, it was to send one entry at least, and at the other moment the list's
--- end isn't below its own.
+-- the number after the first entry of the whole list that isn't known
+abbrev pub IsPastFirst : Numbers → List NumberedEntry → ℕ → Type 0
+IsPastFirst known whole n = (first : NumberedEntry) × (rest : List NumberedEntry) × (unknown known whole ≡ first ∷ rest) × (n ≡ first.number + 1)
+
+-- A session was held over a whole list from one moment to another. It sent what wasn't known, up to an end of its own: that isn't below
+-- the list's end at the first moment, or it is the number after the first entry that wasn't known then, so that this one alone was
+-- offered. If it made a call, it was to send one entry at least, and at the other moment the list's end isn't below its own.
 pub record IsSent (settings : Settings) (proto : Proto) (whole : List NumberedEntry) (before : Reach) (one : Session) (after : Reach) : Type 0 where
   pub told : ℕ
   pub also : List ℕ
   pub ends : EndsAmong settings proto before.known whole one.start one.until one.sent one.bytes one.calls one.text told also
   pub some : 0 < length one.calls → 0 < length ends.all
   pub knows : KnowsMarked before.known one.calls after.known
-  pub from_end : before.upto ≤ one.until
+  pub reaches : (before.upto ≤ one.until) ⊎ IsPastFirst before.known whole one.until
   pub to_end : 0 < length one.calls → one.until ≤ after.upto
 
 -- So were these sessions, one after another: what is known after one of them is what was known as the next one began.
