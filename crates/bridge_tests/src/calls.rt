@@ -6,8 +6,8 @@ use crate::script::{run_script, run_scripts};
 use crate::served::serve_places;
 use crate::waiting::wait_for_answers;
 use crate::{
-    collectors, devices, drains, faults, frames, lists, marks, peers, requests, sessions, slots,
-    windows,
+    collectors, devices, drains, faults, frames, lacks, lists, marks, peers, requests, sessions,
+    slots, windows,
 };
 
 #[test]
@@ -59,6 +59,11 @@ fn calls_that_fail(rt: HostRuntime) {
     run_scripts(&rt, rt.alloc(), peers::PEERS);
     run_scripts(&rt, rt.alloc(), peers::LONG);
     run_scripts(&rt, rt.alloc(), devices::SPENT);
+}
+
+#[test]
+fn memory_that_is_refused(rt: HostRuntime) {
+    run_scripts(&rt, rt.alloc(), lacks::ROWS);
 }
 
 #[test]

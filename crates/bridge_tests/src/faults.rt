@@ -126,4 +126,35 @@ outcome 117 text 0 4294967296 0 4294967296 event 13%0a
 outcome 216 text 0 4294967296 0 4294967296 event 13%0a
 fails disk 0 1 1 1 2
 fails input 200*0 206*2 3
-fails output 0 2"#;
+fails output 0 2
+
+- the same with an id that is asked for again, lines, and the id of these: the requests end at 200, 406, 612, 801 and 1,007, and then
+- the input; where the disk fails as the lines are stored, their reply with the id was written before, and the one that answers for it isn't
+device 16384
+call format 1 4096
+out text 1 slots of 4096 bytes%0a
+ends 0
+call replay hec --token 11111111-2222-3333-4444-555555555555 --ack-token aaaaaaaa-2222-3333-4444-555555555555
+acked {"event":"a"}
+says {"text":"Success","code":0,"ackId":4294967296}
+ask {"acks":[4294967296]}
+says {"acks":{"4294967296":true}}
+ask {"acks":[4294967296]}
+says {"acks":{"4294967296":false}}
+in text POST /services/collector/raw HTTP/1.1%0d%0aAuthorization: Splunk aaaaaaaa-2222-3333-4444-555555555555%0d%0a
+in text X-Splunk-Request-Channel: cccccccc-2222-3333-4444-555555555555%0d%0aContent-Length: 5%0d%0a%0d%0ap%0d%0a%0aq
+says {"text":"Success","code":0,"ackId":4294967297}
+ask {"acks":[4294967297]}
+says {"acks":{"4294967297":true}}
+outcome 0 text
+outcome 117 text
+outcome 117 text 0 4294967296 0 4294967296 event 13%0a
+outcome 216 text 0 4294967296 0 4294967296 event 13%0a
+outcome 316 text 0 4294967296 0 4294967296 event 13%0a
+outcome 433 text 0 4294967296 0 4294967296 event 13%0a
+outcome 433 text 0 4294967296 0 4294967296 event 13%0a1 4294967296 1 4294967297 raw 1%0a2 4294967296 2 4294967297 raw 1%0a
+outcome 532 text 0 4294967296 0 4294967296 event 13%0a1 4294967296 1 4294967297 raw 1%0a2 4294967296 2 4294967297 raw 1%0a
+fails disk 0 1 1 1 2 5 5 5 6
+fails input 200*0 206*2 206*3 189*4 206*6 7
+fails output 0 2 3 4 6
+stops"#;

@@ -17,8 +17,8 @@ outcome 91 text 0 4294967296 0 2 relp 5%0a
 outcome 115 text 0 4294967296 0 2 relp 5%0a
 cuts 61 78 88"#;
 
-/// Wrong frames, at least one for each reason that a reader of what senders send has: where it is found, and what is answered.
-/// Nothing is stored.
+/// Wrong frames, at least one for each reason that a reader of what senders send has: where it is found, and what is answered; and wrong
+/// bodies of requests, at least one for each reason that a reader of these has: what is answered. Nothing is stored.
 pub(crate) const WRONG: &str = r#"1 8192
 - RELP
 device 16384
@@ -136,6 +136,14 @@ in text POST /services/collector HTTP/1.1%0d%0aContent-Length: 1%0d%0aTransfer-E
 ends_malformed {"text":"Invalid data format","code":6}
 ends 66 fault at 0: bad length
 call replay hec --token 11111111-2222-3333-4444-555555555555
+in text POST /services/collector HTTP/1.1%0d%0aTransfer-Encoding: chunked%0d%0aTransfer-Encoding: chunked%0d%0a%0d%0a
+ends_malformed {"text":"Invalid data format","code":6}
+ends 66 fault at 0: bad length
+call replay hec --token 11111111-2222-3333-4444-555555555555
+in text POST /services/collector HTTP/1.0%0d%0aTransfer-Encoding: chunked%0d%0a%0d%0a
+ends_malformed {"text":"Invalid data format","code":6}
+ends 66 fault at 0: bad length
+call replay hec --token 11111111-2222-3333-4444-555555555555
 in text POST /services/collector HTTP/1.1%0d%0aTransfer-Encoding: gzip%0d%0a%0d%0a
 ends_malformed {"text":"Invalid data format","code":6}
 ends 66 fault at 0: bad length
@@ -156,11 +164,66 @@ call replay hec --token 11111111-2222-3333-4444-555555555555
 in text POST /services/collector HTTP/1.1%0d%0aTransfer-Encoding: chunked%0d%0a%0d%0a0%0d%0aa b%0d%0a%0d%0a
 ends_malformed {"text":"Invalid data format","code":6}
 ends 66 fault at 68: bad chunk
+call replay hec --token 11111111-2222-3333-4444-555555555555
+in text POST /services/collector HTTP/1.1%0d%0aTransfer-Encoding: chunked%0d%0a%0d%0a0%0d%0a
+in times 65 X: y%0d%0a
+ends_malformed {"text":"Invalid data format","code":6}
+ends 66 fault at 68: bad chunk
+call replay hec --token 11111111-2222-3333-4444-555555555555
+in text GET /services/collector/health HTTP/1.1%0d%0a%0d%0aGET%0d%0a
+says {"text":"HEC is healthy","code":17}
+ends_malformed {"text":"Invalid data format","code":6}
+ends 66 fault at 43: bad head
+call list
+ends 0
+same
+
+- bodies of events: none; a value that is cut, one that is none, one that is no object, and one too deep; an object without an event, and
+- one whose event is blank; of lines: none; and of ids: a query that is cut, one that is no object, one without ids, and one of an id that
+- is none. The connection goes on
+device 16384
+call format 1 4096
+out text 1 slots of 4096 bytes%0a
+ends 0
+call replay hec --token 11111111-2222-3333-4444-555555555555 --ack-token aaaaaaaa-2222-3333-4444-555555555555
+event 
+refuses {"text":"No data","code":5}
+event {"event":
+refuses {"text":"Invalid data format","code":6,"invalid-event-number":0}
+event {"event":1}{"event":x}
+refuses {"text":"Invalid data format","code":6,"invalid-event-number":1}
+event 1
+refuses {"text":"Invalid data format","code":6,"invalid-event-number":0}
+in text POST /services/collector/event HTTP/1.1%0d%0aAuthorization: Splunk 11111111-2222-3333-4444-555555555555%0d%0a
+in text Content-Length: 264%0d%0a%0d%0a{"event":
+in times 127 [
+in times 127 ]
+in text }
+refuses {"text":"Invalid data format","code":6,"invalid-event-number":0}
+event {"evnt":1}
+refuses {"text":"Event field is required","code":12,"invalid-event-number":0}
+event {"event":1}{"event":""}
+refuses {"text":"Event field cannot be blank","code":13,"invalid-event-number":1}
+event {"event":null}
+refuses {"text":"Event field cannot be blank","code":13,"invalid-event-number":0}
+in text POST /services/collector/raw HTTP/1.1%0d%0aAuthorization: Splunk 11111111-2222-3333-4444-555555555555%0d%0a
+in text Content-Length: 2%0d%0a%0d%0a%0d%0a
+refuses {"text":"No data","code":5}
+ask {"acks":[1
+refuses {"text":"Invalid data format","code":6}
+ask [1]
+refuses {"text":"Invalid data format","code":6}
+ask {"ids":[1]}
+refuses {"text":"Invalid data format","code":6}
+ask {"acks":[-1]}
+refuses {"text":"Invalid data format","code":6}
+ends 0
 call list
 ends 0
 same"#;
 
-/// A head and a trailer without an end: the fault comes with the byte that is one too many, whatever the pieces.
+/// A head and a trailer without an end: the fault comes with the byte that is one too many, whatever the pieces. And bodies with an event
+/// that is too long, or with one too many.
 pub(crate) const LONG: &str = r#"1000 8192
 - of 16,384 bytes
 device 16384
@@ -177,6 +240,34 @@ in text POST /services/collector HTTP/1.1%0d%0aTransfer-Encoding: chunked%0d%0a%
 in times 16381 y
 ends_malformed {"text":"Invalid data format","code":6}
 ends 66 fault at 68: bad chunk
+call list
+ends 0
+same
+
+- bodies: an object of more than 131,072 bytes, one after 10,000, a line of more than 131,072 bytes, and one after 10,000
+device 16384
+call format 1 4096
+out text 1 slots of 4096 bytes%0a
+ends 0
+call replay hec --token 11111111-2222-3333-4444-555555555555
+in text POST /services/collector/event HTTP/1.1%0d%0aAuthorization: Splunk 11111111-2222-3333-4444-555555555555%0d%0a
+in text Content-Length: 131073%0d%0a%0d%0a{"event":"
+in times 131061 x
+in text "}
+refuses {"text":"Invalid data format","code":6,"invalid-event-number":0}
+in text POST /services/collector/event HTTP/1.1%0d%0aAuthorization: Splunk 11111111-2222-3333-4444-555555555555%0d%0a
+in text Content-Length: 110011%0d%0a%0d%0a
+in times 10001 {"event":1}
+refuses {"text":"Invalid data format","code":6,"invalid-event-number":10000}
+in text POST /services/collector/raw HTTP/1.1%0d%0aAuthorization: Splunk 11111111-2222-3333-4444-555555555555%0d%0a
+in text Content-Length: 131075%0d%0a%0d%0aa%0a
+in times 131073 x
+refuses {"text":"Invalid data format","code":6,"invalid-event-number":1}
+in text POST /services/collector/raw HTTP/1.1%0d%0aAuthorization: Splunk 11111111-2222-3333-4444-555555555555%0d%0a
+in text Content-Length: 20002%0d%0a%0d%0a
+in times 10001 x%0a
+refuses {"text":"Invalid data format","code":6,"invalid-event-number":10000}
+ends 0
 call list
 ends 0
 same"#;

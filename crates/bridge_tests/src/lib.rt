@@ -23,6 +23,8 @@ mod held;
 #[cfg(test)]
 mod held_net;
 #[cfg(test)]
+mod lacks;
+#[cfg(test)]
 mod lists;
 #[cfg(test)]
 mod marks;

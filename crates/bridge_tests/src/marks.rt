@@ -141,4 +141,34 @@ holds 8192 text %01%00%00%00%00%00%00%00%02%00%00%00%11%01%00%00%00%00%00%00%00%
 call list
 ends 0
 same
+
+- the same of sessions of Lumberjack and with a collector
+device 20480
+call format 2 4096
+out text 2 slots of 4096 bytes%0a
+ends 0
+call replay relp
+open
+in text 2 syslog 5 hello%0a
+out text 2 rsp 6 200 OK%0a
+ends 0
+call drain lumberjack there
+replies text 2A%00%00%00%01
+leaves text 0 4294967296 0 2 relp 5%0a
+leaves text
+fails disk 0 1
+fails peer_read 0
+fails peer_write 0
+fails dial 0
+fails output 1
+call drain hec there --out-token 11111111-2222-3333-4444-555555555555 --out-channel cccccccc-2222-3333-4444-555555555555
+replies text HTTP/1.1 200 OK%0d%0aContent-Length: 37%0d%0a%0d%0a{"text":"Success","code":0,"ackId":7}
+replies text HTTP/1.1 200 OK%0d%0aContent-Length: 19%0d%0a%0d%0a{"acks":{"7":true}}
+leaves text 0 4294967296 0 2 relp 5%0a
+leaves text
+fails disk 0 1
+fails peer_read 0
+fails peer_write 0 0
+fails dial 0
+fails output 1
 "#;

@@ -131,6 +131,88 @@ out text Authorization: Splunk 11111111-2222-3333-4444-555555555555%0d%0a
 out text X-Splunk-Request-Channel: cccccccc-2222-3333-4444-555555555555%0d%0aContent-Type: application/json%0d%0a
 out text Content-Length: 17%0d%0a%0d%0a{"event":"hello"}
 ends 66 fault at 0: bad reply
+same
+
+- bodies of its replies: JSON that is cut, none, or no object; a code or an id that is none; and for a query no answer, one that is
+- neither true nor false, and one for another id
+call drain hec --out-token 11111111-2222-3333-4444-555555555555 --out-channel cccccccc-2222-3333-4444-555555555555
+in text HTTP/1.1 200 OK%0d%0aContent-Length: 9%0d%0a%0d%0a{"code":0
+out text POST /services/collector/event HTTP/1.1%0d%0aHost: collector%0d%0a
+out text Authorization: Splunk 11111111-2222-3333-4444-555555555555%0d%0a
+out text X-Splunk-Request-Channel: cccccccc-2222-3333-4444-555555555555%0d%0aContent-Type: application/json%0d%0a
+out text Content-Length: 17%0d%0a%0d%0a{"event":"hello"}
+ends 66 fault at 0: bad reply
+same
+call drain hec --out-token 11111111-2222-3333-4444-555555555555 --out-channel cccccccc-2222-3333-4444-555555555555
+in text HTTP/1.1 200 OK%0d%0aContent-Length: 10%0d%0a%0d%0a{"code":x}
+out text POST /services/collector/event HTTP/1.1%0d%0aHost: collector%0d%0a
+out text Authorization: Splunk 11111111-2222-3333-4444-555555555555%0d%0a
+out text X-Splunk-Request-Channel: cccccccc-2222-3333-4444-555555555555%0d%0aContent-Type: application/json%0d%0a
+out text Content-Length: 17%0d%0a%0d%0a{"event":"hello"}
+ends 66 fault at 0: bad reply
+same
+call drain hec --out-token 11111111-2222-3333-4444-555555555555 --out-channel cccccccc-2222-3333-4444-555555555555
+in text HTTP/1.1 200 OK%0d%0aContent-Length: 12%0d%0a%0d%0a[{"code":0}]
+out text POST /services/collector/event HTTP/1.1%0d%0aHost: collector%0d%0a
+out text Authorization: Splunk 11111111-2222-3333-4444-555555555555%0d%0a
+out text X-Splunk-Request-Channel: cccccccc-2222-3333-4444-555555555555%0d%0aContent-Type: application/json%0d%0a
+out text Content-Length: 17%0d%0a%0d%0a{"event":"hello"}
+ends 66 fault at 0: bad reply
+same
+call drain hec --out-token 11111111-2222-3333-4444-555555555555 --out-channel cccccccc-2222-3333-4444-555555555555
+in text HTTP/1.1 200 OK%0d%0aContent-Length: 11%0d%0a%0d%0a{"code":-1}
+out text POST /services/collector/event HTTP/1.1%0d%0aHost: collector%0d%0a
+out text Authorization: Splunk 11111111-2222-3333-4444-555555555555%0d%0a
+out text X-Splunk-Request-Channel: cccccccc-2222-3333-4444-555555555555%0d%0aContent-Type: application/json%0d%0a
+out text Content-Length: 17%0d%0a%0d%0a{"event":"hello"}
+ends 66 fault at 0: bad reply
+same
+call drain hec --out-token 11111111-2222-3333-4444-555555555555 --out-channel cccccccc-2222-3333-4444-555555555555
+in text HTTP/1.1 200 OK%0d%0aContent-Length: 21%0d%0a%0d%0a{"code":0,"ackId":-1}
+out text POST /services/collector/event HTTP/1.1%0d%0aHost: collector%0d%0a
+out text Authorization: Splunk 11111111-2222-3333-4444-555555555555%0d%0a
+out text X-Splunk-Request-Channel: cccccccc-2222-3333-4444-555555555555%0d%0aContent-Type: application/json%0d%0a
+out text Content-Length: 17%0d%0a%0d%0a{"event":"hello"}
+ends 66 fault at 0: bad reply
+same
+call drain hec --out-token 11111111-2222-3333-4444-555555555555 --out-channel cccccccc-2222-3333-4444-555555555555
+in text HTTP/1.1 200 OK%0d%0aContent-Length: 20%0d%0a%0d%0a{"code":0,"ackId":7}
+in text HTTP/1.1 200 OK%0d%0aContent-Length: 10%0d%0a%0d%0a{"code":0}
+out text POST /services/collector/event HTTP/1.1%0d%0aHost: collector%0d%0a
+out text Authorization: Splunk 11111111-2222-3333-4444-555555555555%0d%0a
+out text X-Splunk-Request-Channel: cccccccc-2222-3333-4444-555555555555%0d%0aContent-Type: application/json%0d%0a
+out text Content-Length: 17%0d%0a%0d%0a{"event":"hello"}
+out text POST /services/collector/ack HTTP/1.1%0d%0aHost: collector%0d%0a
+out text Authorization: Splunk 11111111-2222-3333-4444-555555555555%0d%0a
+out text X-Splunk-Request-Channel: cccccccc-2222-3333-4444-555555555555%0d%0aContent-Type: application/json%0d%0a
+out text Content-Length: 12%0d%0a%0d%0a{"acks":[7]}
+ends 66 fault at 59: bad reply
+same
+call drain hec --out-token 11111111-2222-3333-4444-555555555555 --out-channel cccccccc-2222-3333-4444-555555555555
+in text HTTP/1.1 200 OK%0d%0aContent-Length: 20%0d%0a%0d%0a{"code":0,"ackId":7}
+in text HTTP/1.1 200 OK%0d%0aContent-Length: 16%0d%0a%0d%0a{"acks":{"7":1}}
+out text POST /services/collector/event HTTP/1.1%0d%0aHost: collector%0d%0a
+out text Authorization: Splunk 11111111-2222-3333-4444-555555555555%0d%0a
+out text X-Splunk-Request-Channel: cccccccc-2222-3333-4444-555555555555%0d%0aContent-Type: application/json%0d%0a
+out text Content-Length: 17%0d%0a%0d%0a{"event":"hello"}
+out text POST /services/collector/ack HTTP/1.1%0d%0aHost: collector%0d%0a
+out text Authorization: Splunk 11111111-2222-3333-4444-555555555555%0d%0a
+out text X-Splunk-Request-Channel: cccccccc-2222-3333-4444-555555555555%0d%0aContent-Type: application/json%0d%0a
+out text Content-Length: 12%0d%0a%0d%0a{"acks":[7]}
+ends 66 fault at 59: bad reply
+same
+call drain hec --out-token 11111111-2222-3333-4444-555555555555 --out-channel cccccccc-2222-3333-4444-555555555555
+in text HTTP/1.1 200 OK%0d%0aContent-Length: 20%0d%0a%0d%0a{"code":0,"ackId":7}
+in text HTTP/1.1 200 OK%0d%0aContent-Length: 19%0d%0a%0d%0a{"acks":{"8":true}}
+out text POST /services/collector/event HTTP/1.1%0d%0aHost: collector%0d%0a
+out text Authorization: Splunk 11111111-2222-3333-4444-555555555555%0d%0a
+out text X-Splunk-Request-Channel: cccccccc-2222-3333-4444-555555555555%0d%0aContent-Type: application/json%0d%0a
+out text Content-Length: 17%0d%0a%0d%0a{"event":"hello"}
+out text POST /services/collector/ack HTTP/1.1%0d%0aHost: collector%0d%0a
+out text Authorization: Splunk 11111111-2222-3333-4444-555555555555%0d%0a
+out text X-Splunk-Request-Channel: cccccccc-2222-3333-4444-555555555555%0d%0aContent-Type: application/json%0d%0a
+out text Content-Length: 12%0d%0a%0d%0a{"acks":[7]}
+ends 66 fault at 59: bad reply
 same"#;
 
 /// A reply's head without an end.

@@ -1,6 +1,7 @@
 //! Scripts: calls of `bridge` one after another, each line a step.
 
 use crate::cuts::cuts_well;
+use crate::lacks::lacks_well;
 use crate::parts::{MEMORY, add, bytes_of, number, word};
 use crate::play::{Outcome, Play};
 use crate::requests::exchange;
@@ -167,6 +168,7 @@ fn looks<R: Abort + Threads + Wait + Sync>(
         "same" => play.before == play.device,
         "fails" => fails_well(rt, alloc, play, first, &numbers(rt, alloc, more)),
         "stops" => stops_well(rt, alloc, play),
+        "lacks" => lacks_well(rt, alloc, play),
         "cuts" => cuts_well(rt, alloc, play, &numbers(rt, alloc, rest)),
         "keeps" => {
             let (from, end) = (number(rt, first), number(rt, more));
@@ -204,6 +206,7 @@ fn looks<R: Abort + Threads + Wait + Sync>(
 ///   peer_write PLACES` and `fails dial PLACES`: the same of each read of the input, write of the output, read or write of the
 ///   peer's link and dial, of which all leave these, and `61*0` stands for 61 places 0; `stops`: it is made with the machine
 ///   stopped at each call of the disk;
+/// - `lacks`: the call is made where one call for memory may be refused, and leaves one of the outcomes, the last one where it ends well;
 /// - `cuts ENDS`: the call is made with its input cut after each number of its bytes, from none to all; its frames end at
 ///   these places, and the outcomes are those of no frame, of the first one, and so on.
 pub(crate) fn run_script<R: Abort + Threads + Wait + Sync>(

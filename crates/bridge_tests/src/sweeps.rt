@@ -8,18 +8,20 @@ use std::process::Abort;
 use std::sync::Wait;
 use std::thread::Threads;
 
-// No outcome that may be.
-const WRONG: u64 = u64::MAX;
+/// No outcome that may be.
+pub(crate) const WRONG: u64 = u64::MAX;
 
 // More calls than are made of a disk, an input, an output or a link.
-const CALLS: u64 = 1000;
+const CALLS: u64 = 2000;
 
-// The statuses where a call of the disk, a read, a write or a dial failed.
-const DISK_FAULT: u8 = 73;
+/// The status where a call of the disk failed.
+pub(crate) const DISK_FAULT: u8 = 73;
 
+/// The status where a write failed.
+pub(crate) const WRITE_FAULT: u8 = 72;
+
+// The statuses where a read or a dial failed.
 const READ_FAULT: u8 = 71;
-
-const WRITE_FAULT: u8 = 72;
 
 const NET_FAULT: u8 = 74;
 
@@ -46,8 +48,8 @@ fn answers_later<R: Abort + Threads + Wait + Sync>(
     left.status == 0 && left.output.taken() == play.answer.as_slice()
 }
 
-// Where the outcomes have this one.
-fn place_of(play: &Play, written: u64, lines: &[u8]) -> u64 {
+/// Where the outcomes have this one.
+pub(crate) fn place_of(play: &Play, written: u64, lines: &[u8]) -> u64 {
     let mut place = 0_u64;
     for outcome in &play.outcomes {
         let is_written = play.is_drain || outcome.written == written;

@@ -22,6 +22,10 @@ pub enum OpenFault {
     IsFolder,
     /// Another program has it open, and doesn't share it.
     InUse,
+    /// The file system has no room for it, or lets its owner have no more.
+    NoRoom,
+    /// The name is neither a file's nor a block device's.
+    NoFile,
     /// Any other failure of the system's.
     Other,
 }
@@ -43,6 +47,7 @@ impl From<io::Error> for OpenFault {
             ErrorKind::NotFound => OpenFault::NotFound,
             ErrorKind::PermissionDenied | ErrorKind::ReadOnlyFilesystem => OpenFault::NotAllowed,
             ErrorKind::IsADirectory => OpenFault::IsFolder,
+            ErrorKind::StorageFull | ErrorKind::QuotaExceeded => OpenFault::NoRoom,
             _ => OpenFault::Other,
         }
     }

@@ -78,11 +78,15 @@ pub(crate) fn open_two(
     Ok([(one, len), (other, other_len)])
 }
 
-// A block device's metadata has no length.
-fn len_of(file: &mut File) -> io::Result<u64> {
+// The length in bytes of a file or a block device, whose metadata has none. Anything else, as a pipe, has no length.
+fn len_of(file: &mut File) -> Result<u64, OpenFault> {
     let metadata = file.metadata()?;
     if metadata.file_type().is_block_device() {
-        return end_of(file);
+        let end = end_of(file)?;
+        return Ok(end);
+    }
+    if !metadata.is_file() {
+        return Err(OpenFault::NoFile);
     }
     Ok(metadata.len())
 }

@@ -18,12 +18,14 @@ pub struct Brought {
 }
 
 /// Reads a piece after a body of so many bytes so far that has come to this stage: to the end of the reply or of the
-/// piece, or to the first fault.
+/// piece, or to the first fault. What it gives keeps no memory beyond its bytes, however long the piece is: one read may bring
+/// many short replies.
 pub fn bring(alloc: Global, stage: Stage, held: usize, piece: &[u8]) -> Result<Brought, AllocError>
     requires { Fits stage held }
     ensures { IfOk result (λ b. GathersTo stage held piece.now b.bytes.items b.used b.end) }
 {
     let mut bytes = Vec::with_capacity(alloc, piece.len())?;
     let Gathered { used, end } = gather(&mut bytes, stage, held, piece);
+    bytes.shrink_to_fit();
     Ok(Brought { bytes, used, end })
 }

@@ -56,7 +56,7 @@ pub(crate) fn drain(
         source: Feed::of(peer),
         sink: Catch::of(alloc),
     };
-    let sent = forward(alloc, &mut link, &outward(proto), access, &mut NoRest);
+    let sent = forward(alloc, &mut link, &outward(proto), None, access, &mut NoRest);
     Forwarded {
         sent,
         starved: link.sink.is_starved(),

@@ -123,7 +123,7 @@ pub(crate) fn sent(
     };
     let mut link = Both { source, sink };
     let mut rest = Counter { pauses: 0 };
-    let sent = forward(alloc, &mut link, &outward, access, &mut rest);
+    let sent = forward(alloc, &mut link, &outward, None, access, &mut rest);
     (sent, rest.pauses)
 }
 

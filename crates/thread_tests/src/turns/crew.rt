@@ -139,10 +139,9 @@ fn work_shift<D: Disk + Drop + Send, J: Naming + Send + Sync, R: Threads + Wait 
     requires group { group ≡ J.began.grouped }
     requires name { IsName J.table J.run J.start J.began unnamed }
 {
-    let opened = unnamed
-        .named::<J>(alloc, seats, group)
-        .ok()
-        .ok_or(AllocError)?;
+    let Ok(opened) = unnamed.named::<J>(alloc, seats, group) else {
+        return Err(AllocError);
+    };
     let Opened { shared, passes } = opened;
     let (taken, passes) = crew(rt, alloc, &shared, passes, seats, takes)?;
     Ok(Shift {
