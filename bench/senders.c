@@ -5,8 +5,8 @@
 // Takes turns of so many seconds. In the first the bare loop goes over FILE: for each group a write of it, fdatasync, a write of its
 // gate's byte, fdatasync. A group has GROUP events of BYTES bytes. In each of the next ones LINKS connections send to each place of one
 // server, each with at most AHEAD frames, windows or requests of WINDOW events that aren't answered yet, until the time is over and all
-// are answered. A connection waits for the next answer; where LOOK isn't 0, it sleeps so many microseconds and then reads what came.
-// Without turns of the loop where FILE is -.
+// are answered. Each time another server is the first after the loop. A connection waits for the next answer; where LOOK isn't 0, it sleeps
+// so many microseconds and then reads what came. Without turns of the loop where FILE is -.
 //
 // Prints for each turn `loop`, its events and its seconds, or `sent` and the server's number from 0 before these; and last, for each
 // server, `times`, its number and the microseconds from the sending of a frame, window or request to its answer: the median, and that
@@ -314,7 +314,7 @@ int main(int count, char **words) {
         start(&servers[many++], one, links);
     for (int turn = 0; turn < turns; turn++) {
         if (file >= 0) loop(seconds);
-        for (int i = 0; i < many; i++) take_turn(i, &servers[i], seconds);
+        for (int i = 0; i < many; i++) take_turn((i + turn) % many, &servers[(i + turn) % many], seconds);
     }
     if (file >= 0) loop(seconds);
     end_at = 0;

@@ -69,7 +69,13 @@ class Sent:
 def spread(ratios):
     """The median, and between which half of them lie."""
     count = len(ratios)
-    return f"{statistics.median(ratios):.2f} ({ratios[count // 4]:.2f} to {ratios[count - 1 - count // 4]:.2f})"
+    if not ratios:
+        return "none"
+    return f"{figure(statistics.median(ratios))} ({figure(ratios[count // 4])} to {figure(ratios[count - 1 - count // 4])})"
+
+
+def figure(ratio):
+    return f"{ratio:,.0f}" if ratio >= 100 else f"{ratio:.1f}" if ratio >= 10 else f"{ratio:.2f}" if ratio >= 0.1 else f"{ratio:.2g}"
 
 
 def run(program, servers, links, ahead, look, length, window, turns, seconds, file="-", environment=None):

@@ -44,7 +44,7 @@ def working_folder():
 def write_spool(bridge, path, size, data, full=SLOTS):
     """Makes a spool of SLOTS slots of `size` bytes, of which the first `full` are full of groups of one RELP event each,
     with a text of `data` bytes, by the layout in docs/DEVICE.md. Returns how many events it has."""
-    done = subprocess.run([bridge, path, "format", str(SLOTS), str(size)], capture_output=True)
+    done = subprocess.run([bridge, path, "format", str(SLOTS), str(size)], stdin=subprocess.DEVNULL, capture_output=True)
     if done.returncode != 0:
         sys.exit(f"{sys.argv[0]}: format ended with {done.returncode}: {done.stderr.decode()}")
     number = 0

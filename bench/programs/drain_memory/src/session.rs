@@ -30,7 +30,7 @@ pub fn drain(rt: &HostRuntime, proto: Proto, form: Form, events: u32) -> anyhow:
     };
     let before = register_changes(&desk);
     let start = Instant::now(rt)?;
-    let ending = forward(alloc, &mut link, &outward, &mut desk, &mut NoRest);
+    let ending = forward(alloc, &mut link, &outward, None, &mut desk, &mut NoRest);
     let time = start.elapsed(rt)?;
     if ending != Sent::Drained || confirmed(&desk) != u64::from(events) {
         bail!("{} of {events} confirmed", confirmed(&desk));

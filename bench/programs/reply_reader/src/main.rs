@@ -18,7 +18,7 @@ const REPLY: &[u8] = b"HTTP/1.1 200 OK\r\nContent-Type: application/json\r\nCont
 
 const REPLIES: u32 = 20_000;
 
-const PIECES: [usize; 4] = [8192, 150, 16, 1];
+const PIECES: [usize; 5] = [65_536, 8192, 150, 16, 1];
 
 /// How many bytes the long field's value has.
 const LONG: usize = 16_000;
