@@ -21,6 +21,8 @@ BLOCK = re.compile(r"\b(?:impl\b(?P<impl>[^{;]*)|trait\s+(?P<trait>\w+)[^{;]*|mo
 HEAD = re.compile(r"[^;{}]*\Z")
 # An import that is neither passed on nor of a clause.
 IMPORT = re.compile(r"(?<!ghost )(?<!pub )(?<!\) )\buse (?P<tree>[^;]+);")
+# The same of a clause: what of definitions its names stand for.
+GHOST_IMPORT = re.compile(r"\bghost use (?P<path>[^;{ ]+?)(?:\.\{(?P<names>[^;]*)\}| as (?P<name>\w+));")
 # What is said of a proof.
 TACTIC = re.compile(r"#!?\[tactic\b[^\]]*\]")
 PUBLIC = re.compile(r"\bpub\b(?!\s*\()")
@@ -194,13 +196,30 @@ def names_in(tree, above=()):
     return found
 
 
+def names_of_clauses(found):
+    """Returns what an import of a clause brings, as `names_in` does."""
+    if found["names"] is None:
+        return {found["name"]: found["path"]}
+    named = [it.partition(" as ") for it in map(squeezed, found["names"].split(",")) if it]
+    return {name or own: f"{found['path']}.{own}" for own, _, name in named}
+
+
+def is_named(name, rest):
+    """Returns whether a name stands in the text; of an operator whether each of its signs does."""
+    if re.fullmatch(r"[\w-]+", name):
+        return re.search(rf"(?<!\w){re.escape(name)}(?!\w)", rest) is not None
+    return all(sign in rest for sign in name.split("◌"))
+
+
 def without_unused(text):
-    """Returns the text with each import as a line of its own, and without those that only a body needed."""
-    rest = IMPORT.sub("", text)
+    """Returns the text with each import as a line of its own, and without those that only a body, or the clauses of a function that is
+    not public, needed."""
+    rest = GHOST_IMPORT.sub("", IMPORT.sub("", text))
     brought = [names_in(it["tree"]) for it in IMPORT.finditer(text)]
-    is_used = lambda name: name == "*" or re.search(rf"\b{name}\b", rest)
-    used = sorted(f"use {path} as {name};" for names in brought for name, path in names.items() if is_used(name))
-    return " ".join([*used, rest])
+    used = [f"use {path} as {name};" for names in brought for name, path in names.items() if name == "*" or is_named(name, rest)]
+    brought = [names_of_clauses(it) for it in GHOST_IMPORT.finditer(text)]
+    used += [f"ghost use {path} as {name};" for names in brought for name, path in names.items() if is_named(name, rest)]
+    return " ".join([*sorted(used), rest])
 
 
 def stated(text):
