@@ -66,14 +66,26 @@ def wait_until(holds, seconds):
     return True
 
 
+# How the lines on standard error begin that say what befalls the net.
+OF_THE_NET = ("bridge: listening on ", "bridge: can't listen on ", "bridge: sender ", "bridge: receiver ")
+
+
+def lines_apart(errors):
+    """The lines of a standard error that say what befalls the net, and the rest."""
+    lines = errors.splitlines(keepends=True)
+    of_the_net = [line for line in lines if line.startswith(OF_THE_NET)]
+    return [line.rstrip("\n") for line in of_the_net], "".join(line for line in lines if not line.startswith(OF_THE_NET))
+
+
 class Server:
-    """bridge over one spool, and its ports: `relp`, `lumberjack` and `hec`. The spool is made anew, unless `slots` is None."""
+    """bridge over one spool, and its ports: `relp`, `lumberjack` and `hec`. The spool is made anew, unless `slots` is None. What it said of
+    the net is in `said` once it has ended."""
 
     # The words that each start has beside those of its caller, as `--group`.
     manner = ()
 
     def __init__(self, program, folder, slots=8, size=4194304):
-        self.program, self.folder, self.child = program, folder, None
+        self.program, self.folder, self.child, self.said = program, folder, None, []
         self.ports = dict(zip(("relp", "lumberjack", "hec"), free_ports(3)))
         self.spool = f"{folder}/spool"
         if slots is None:
@@ -92,7 +104,7 @@ class Server:
         self.child = subprocess.Popen(command, env=environment, **pipes)
 
     def finish(self, seconds=60):
-        """Its status, what it printed, and its errors, once it ended. It is killed where it doesn't in that time."""
+        """Its status, what it printed, and its errors but those of the net, once it ended. It is killed where it doesn't in that time."""
         try:
             out, err = self.child.communicate(timeout=seconds)
         except subprocess.TimeoutExpired:
@@ -100,16 +112,18 @@ class Server:
             out, err = self.child.communicate()
             err += b"(it did not end)"
         status, self.child = self.child.returncode, None
-        return status, out.decode(), err.decode()
+        self.said, errors = lines_apart(err.decode())
+        return status, out.decode(), errors
 
     def kill(self):
-        """Kills it, and gives its status, which is -9 where it hadn't ended by itself, and its errors."""
+        """Kills it, and gives its status, which is -9 where it hadn't ended by itself, and its errors but those of the net."""
         if self.child is None:
             return None, ""
         self.child.kill()
         _, err = self.child.communicate()
         status, self.child = self.child.returncode, None
-        return status, err.decode()
+        self.said, errors = lines_apart(err.decode())
+        return status, errors
 
     def writes(self):
         """How many times it has written to FILE so far (what it sends isn't among its writes)."""
@@ -209,10 +223,10 @@ class RelpLink:
 
 class RelpReceiver:
     """A receiver of RELP in threads of its own, which keeps what came. Each `drops`th event it answers no more on that connection, and
-    says that it ends."""
+    says that it ends. It answers the texts of `refused` with 500."""
 
     def __init__(self, drops=0, port=0):
-        self.texts, self.drops, self.links = [], drops, 0
+        self.texts, self.drops, self.links, self.refused = [], drops, 0, set()
         self.listener = socket.create_server(("127.0.0.1", port))
         self.port = self.listener.getsockname()[1]
         threading.Thread(target=self.accept, daemon=True).start()
@@ -245,6 +259,8 @@ class RelpReceiver:
             if self.drops and len(self.texts) % self.drops == 0:
                 return False
         said = b"200 OK\nrelp_version=0\ncommands=syslog" if command == b"open" else b"200 OK"
+        if command == b"syslog" and data in self.refused:
+            said = b"500 refused"
         link.sendall(b"%d rsp %d %s\n" % (number, len(said), said))
         return command != b"close"
 

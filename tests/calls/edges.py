@@ -169,6 +169,18 @@ def start(program, library, folder, plan=(), shorten=1, words=("--workers", "1")
     return server, seen
 
 
+def lines_said(calls):
+    """The lines on standard error, each with when it ended, in seconds."""
+    lines, text = [], b""
+    for call in calls:
+        if call.kind == "say":
+            text += call.data
+            if text.endswith(b"\n"):
+                lines.append((call.at, text))
+                text = b""
+    return lines
+
+
 def accepts(check, program, library, folder):
     """Errors of an accept that pass are waited out, and said once a minute at most; others end the server."""
     count = 240
@@ -189,7 +201,7 @@ def accepts(check, program, library, folder):
         waits = [wait.at // 1000000 for step, wait in zip(steps, steps[1:]) if step.error == error and wait.kind == "sleep"]
         check(f"accept, {name}: it waits a tenth of a second at first", waits[:1] == [100], waits[:3])
         check(f"accept, {name}: it waits a second at most, and once for each", len(waits) == count and set(waits[9:]) == {1000}, waits[:12])
-        said = [call.at for call in calls if call.kind == "say" and call.data.endswith(b"\n")]
+        said = [at for at, line in lines_said(calls) if b"can't accept" in line]
         check(f"accept, {name}: it is said", len(said) >= 2, said)
         check(f"accept, {name}: once a minute at most", all(b - a >= 59 for a, b in zip(said, said[1:])), said)
     for error in LASTING:

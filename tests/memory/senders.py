@@ -39,8 +39,9 @@ def windows(payloads):
 
 @dataclass
 class Row:
-    """A run of the program: the runs before it that make its spool, its words, in which PLACE stands for the peer's, what it is given,
-    what the peer replies, its status, how many lines `list` has after it, and what of the output acknowledges an event each."""
+    """A run of the program: the runs before it that make its spool, its words, in which PLACE stands for the peer's and TARGET for
+    another spool, what it is given, what the peer replies, its status, how many lines `list` has after it, what of the output
+    acknowledges an event each, what it may print in place of the output's beginning, and how many refused calls may change nothing."""
 
     name: str
     words: list
@@ -50,17 +51,23 @@ class Row:
     status: int = 0
     left: int = 0
     acks: tuple = ()
+    says: tuple = ()
+    # (one of them is the call for the block that is freed at the start, so that the C library keeps memory)
+    spares: int = 5
 
     def acknowledged(self, out):
         """How many events this output acknowledges."""
         return sum(count for text, count in self.acks if text in out)
 
     def keeps(self, before, ran, whole):
-        """Whether `list` has the first of the events of the whole run, with those that are acknowledged; or, where the run forwards, all
-        that it had before, or what the whole run leaves."""
-        if self.words[0] == "drain":
-            return ran.lines in (before, whole.lines)
-        return ran.lines == whole.lines[: len(ran.lines)] and len(ran.lines) >= self.acknowledged(ran.out)
+        """Whether `list` has the first of the events of the whole run, with those that are acknowledged; where the run moves, each that it
+        had before, in one spool or in both; where it forwards or makes a spool, all that it had before, or what the whole run leaves;
+        and else what it had before."""
+        if self.words[0] == "replay":
+            return ran.lines == whole.lines[: len(ran.lines)] and len(ran.lines) >= self.acknowledged(ran.out)
+        if self.words[0] == "move":
+            return {line.split()[-1] for line in ran.lines} == {line.split()[-1] for line in before}
+        return ran.lines == before or (self.words[0] in ("drain", "format") and ran.lines == whole.lines)
 
 
 HELLO = [(["replay", "relp"], OPEN + b"2 syslog 5 hello\n3 close 0\n")]
