@@ -25,7 +25,7 @@ use Rattle.serve_workers.specs.declared.worker.WorkerReport.{WorkerReport}
 use Rattle.serve_workers.specs.Crews.{HaveWorked}
 use Rattle.serve_forwarder.specs.declared.destination.Destination.{Destination}
 use Rattle.serve_forwarder.specs.declared.looking.Outcome.{Outcome}
-use Rattle.serve_forwarder.specs.Looks.{Found, Idle, Unread, Undialed, Held, Look, IsLook, AreLooks, IsToldBy, IsFound, outcome_of}
+use Rattle.serve_forwarder.specs.Looks.{Found, Idle, Unread, Undialed, Held, Look, IsLook, AreLooks, IsToldBy, first_of as first_given, upto_of, IsFound, outcome_of}
 use Rattle.serve_forwarder.proofs.Chain.{look_binds_none, looks_bind_none}
 use Rattle.serve_run.specs.Running.{Forwarded, HasForwarded}
 use Rattle.notes.specs.declared.note.Note.{Note}
@@ -188,7 +188,7 @@ found_disk start outward place look pass pass' net net' is disk = by look.found 
   here : failures_of is.asked.own ≡ failures_of pass.own + failures_of (pends 0 1 look.given ∷ [])
   here = ap failures_of is.asks.own ∙ failures_then pass.own (pends 0 1 look.given ∷ [])
 
-  by : (found : Found) → note_of_look (Some (outcome_of found)) ≡ Note.DiskFault → IsFound start outward look.given found is.asked pass' → 1 ≤ failures_of pass'.own
+  by : (found : Found) → note_of_look (Some (outcome_of found)) ≡ Note.DiskFault → IsFound start outward (upto_of look.offer (first_given look.given)) look.given found is.asked pass' → 1 ≤ failures_of pass'.own
   by Idle disk has = absurd (cc)
   by (Unread Pend.DiskFault) disk has =
       omega (arith, here, ap (λ (k : Known). failures_of k.own) has.1, ap (λ (given : _). failures_of (pends 0 1 given ∷ [])) has.0)

@@ -12,7 +12,7 @@ use Rattle.forward_core.specs.declared.outward.Outward.{Outward}
 use Rattle.spool_turns.specs.Passes.{Known}
 use Rattle.serve_forwarder.specs.declared.destination.Destination.{Destination}
 use Rattle.serve_forwarder.specs.declared.looking.Outcome.{Outcome}
-use Rattle.serve_forwarder.specs.Looks.{Found, Idle, Unread, Undialed, Held, Look, held_in, sessions_of, IsFound, AreLooks}
+use Rattle.serve_forwarder.specs.Looks.{Found, Idle, Unread, Undialed, Held, Look, held_in, sessions_of, first_of, upto_of, IsFound, AreLooks}
 use Rattle.serve_forwarder.specs.Sessions.{Session, TellsSessions}
 use Rattle.serve_forwarder.proofs.Chain.{looks_are_told, tells_then}
 use Rattle.serve_run.specs.Running.{Forwarded}
@@ -24,16 +24,16 @@ sessions_then looks more = flat_map-append (λ (look : Look). held_in look.found
 
 -- ---- sessions that the peer closed
 
-found_read_out : (start : DeskState → Type 0) (outward : Outward) (given : Result (List Numbered) PendFault) (found : Found) (a b : Known) → IsFound start outward given found a b → All (IsReadOut outward) (held_in found)
-found_read_out start outward given Idle a b f = All-nil (IsReadOut outward)
-found_read_out start outward given (Unread _) a b f = All-nil (IsReadOut outward)
-found_read_out start outward given (Undialed _) a b f = All-nil (IsReadOut outward)
-found_read_out start outward given (Held one) a b f = All-cons (IsReadOut outward) one [] f.1.ended.closed (All-nil (IsReadOut outward))
+found_read_out : (start : DeskState → Type 0) (outward : Outward) (upto : Option ℕ) (given : Result (List Numbered) PendFault) (found : Found) (a b : Known) → IsFound start outward upto given found a b → All (IsReadOut outward) (held_in found)
+found_read_out start outward upto given Idle a b f = All-nil (IsReadOut outward)
+found_read_out start outward upto given (Unread _) a b f = All-nil (IsReadOut outward)
+found_read_out start outward upto given (Undialed _) a b f = All-nil (IsReadOut outward)
+found_read_out start outward upto given (Held one) a b f = All-cons (IsReadOut outward) one [] f.1.ended.closed (All-nil (IsReadOut outward))
 
 looks_read_out : (start : DeskState → Type 0) (outward : Outward) (place : List ℕ) (looks : List Look) (a b : Known) (m n : NetState) → AreLooks start outward place looks a b m n → All (IsReadOut outward) (sessions_of looks)
 looks_read_out start outward place [] a b m n are = All-nil (IsReadOut outward)
 looks_read_out start outward place (look ∷ looks) a b m n are =
-    All-append (IsReadOut outward) (held_in look.found) (sessions_of looks) (found_read_out start outward look.given look.found are.2.asked are.0 are.2.found) (looks_read_out start outward place looks are.0 b are.1 n are.3)
+    All-append (IsReadOut outward) (held_in look.found) (sessions_of looks) (found_read_out start outward (upto_of look.offer (first_of look.given)) look.given look.found are.2.asked are.0 are.2.found) (looks_read_out start outward place looks are.0 b are.1 n are.3)
 
 -- ---- of a run
 

@@ -8,6 +8,7 @@ use Rattle.spool_log.specs.State.{view}
 use Rattle.desk_access.specs.Call.{Call, own_of}
 use Rattle.desk_access.specs.Desk.{DeskState, Stood}
 use Rattle.desk_access.specs.Journal.{own_then}
+use Rattle.forward_core.specs.Forwarded.{until_by}
 use Rattle.forward_core.specs.declared.outward.Outward.{Outward}
 use Rattle.spool_turns.specs.Passes.{Beginning, Known}
 use Rattle.spool_turns.specs.Ran.{Ran}
@@ -51,10 +52,10 @@ module _ {D : Type 0} (disks : Ghosts D) (given now : D) (memory : Memory) (in_d
   began_in = opened_desk disks.tells (disks.moment given).reads (view memory in_doubt (disks.moment now)) from.opens
 
   -- the calls of a pass were made, since its journal is real
-  with_real : (pass begun pass' : Known) (first until : ℕ) (calls : List Call) → HasAsked start pass first until begun
+  with_real : (pass begun pass' : Known) (first end : ℕ) (calls : List Call) → HasAsked start pass first end begun
       → Ran start begun calls pass' → 0 < length calls → (real : IsReal disks start run seats began pass'.seen)
       → HasMade disks.tells (disks.moment given) (disks.moment real.0.desk.spool.disk) first calls
-  with_real pass begun pass' first until calls asked ran some real = record {
+  with_real pass begun pass' first end calls asked ran some real = record {
     log = pass'.seen;
     led = λ told.
         let x = began_in told in
@@ -81,14 +82,14 @@ module _ {D : Type 0} (disks : Ghosts D) (given now : D) (memory : Memory) (in_d
   pub forwarder_may : (outward : Outward) (Exchanged : List ℕ → List ℕ → Type 0) (Release : ℕ → Type 0)
       → ForwarderMayRelease disks.tells (λ (d : D). disks.moment d) given outward Exchanged Release
       → ForwarderMay (IsReal disks start run seats began) start outward Exchanged Release
-  forwarder_may outward Exchanged Release may pass begun pass' first until bytes calls text n asked ran some real exchanged acknowledged =
+  forwarder_may outward Exchanged Release may pass begun pass' upto first end bytes calls text n asked ran some real exchanged acknowledged =
       may real.0.desk.spool.disk n (record {
         start = first;
-        until = until;
+        until = until_by upto end;
         bytes = bytes;
         calls = calls;
         text = text;
         exchanged = exchanged;
-        made = with_real pass begun pass' first until calls asked ran some real;
+        made = with_real pass begun pass' first end calls asked ran some real;
         acknowledged = acknowledged;
       })

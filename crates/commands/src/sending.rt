@@ -64,7 +64,7 @@ pub(crate) fn send<D: Disk, L: Link, Z: Pause>(
     let run = spool.run();
     let ids = Ids::new(alloc, run, 0);
     let mut access = Alone::new(Desk { spool, ids });
-    let sent = forward(alloc, link, outward, &mut access, rest);
+    let sent = forward(alloc, link, outward, None, &mut access, rest);
     let desk = access.into_desk();
     Sending {
         sent,
