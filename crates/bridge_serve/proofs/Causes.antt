@@ -9,6 +9,7 @@ use Rattle.edge_io.specs.Net.{Bound, NetState, SameHung, HasNetCause}
 use Rattle.edge_io.specs.declared.net_fault.NetFault.{NetFault}
 use Rattle.edge_io.specs.declared.net_fault.NetFault.TheVariants as Net
 use Rattle.spool_answers.specs.declared.fault.PendFault.TheVariants as Pend
+use Rattle.desk_access.specs.Division.{DividedRun}
 use Rattle.desk_access.specs.Call.{failures_of, pends}
 use Rattle.desk_access.specs.Desk.{DeskState}
 use Rattle.desk_access.specs.Journal.{failures_then}
@@ -239,7 +240,7 @@ workers_refused reports = by (list_any (λ (report : WorkerReport). is_starved r
   by false false is = absurd (cc)
 
 -- and then the count of its door rose
-pub door_rose : (start : DeskState → Type 0) (run talks : ℕ) (rules : List Rules) (doors : List DoorState) (passes : List Known) (doors' : List DoorState) (passes' : List Known) (reports : List WorkerReport)
+pub door_rose : (start : DeskState → Type 0) (run : DividedRun) (talks : ℕ) (rules : List Rules) (doors : List DoorState) (passes : List Known) (doors' : List DoorState) (passes' : List Known) (reports : List WorkerReport)
     → HaveWorked start run talks rules doors passes doors' passes' reports → length rules ≡ length reports → length doors ≡ length reports
     → length passes ≡ length reports → length doors' ≡ length reports → length passes' ≡ length reports
     → note_of_workers reports ≡ Note.NetFault → SomeRose doors doors'

@@ -3,6 +3,9 @@ use Rattle.std.proofs.Common.{◌≡◌, ℕ, zero, suc, ◌+◌, ◌*◌, ◌<�
 use Rattle.std.specs.Prelude.{All, Option, None, Some, Result, Ok, Err, IfErr, IfSome, slice_get}
 use Rattle.std.proofs.lemmas.List.{append-nil, length-map, map-append}
 use Rattle.std.proofs.lemmas.List.Elements.{All-nil, All-cons, All-head, All-tail}
+use Rattle.desk_access.specs.declared.division.Division.{Division}
+use Rattle.desk_access.specs.declared.division.Division.TheVariants.{Workers, Connections}
+use Rattle.desk_access.specs.Division.{callers_of}
 use Rattle.edge_io.specs.declared.proto.Proto.{Proto}
 use Rattle.edge_io.specs.declared.proto.Proto.TheVariants.{Relp, Lumberjack, Hec}
 use Rattle.edge_io.specs.Door.{DoorState, IsNewDoor}
@@ -11,6 +14,7 @@ use Rattle.conn_serve.specs.declared.rules.Rules.{Rules}
 use Rattle.serve_workers.proofs.Placing.{told_same}
 use Rattle.bridge_words.specs.declared.command.Relay.{Relay}
 use Rattle.bridge_words.specs.declared.command.Server.{Server}
+use Rattle.bridge_words.specs.Words.{most_workers}
 use Rattle.bridge_serve.specs.Doors.{rules_of, workers_at, binds_at, binds_of, TellsBound, AreAt, AreNewAt, AddsDoors, AreBound, AreUnused, destination_of}
 
 -- what another function has of each then
@@ -252,3 +256,14 @@ any_err Q (Err e) is = is
 pub may_dial : (forward : Option Relay) (May : List ℕ → Type 0) → IfSome forward (λ relay. May relay.place) → IfSome (destination_of forward) (λ d. May d.place)
 may_dial None May may = may
 may_dial (Some relay) May may = may
+
+-- ---- how many there are
+
+pub few_each : (division : Division) (workers : ℕ) → workers ≤ most_workers division → workers ≤ 1024
+few_each Workers workers few = omega arith
+few_each Connections workers few = omega arith
+
+-- at three places there are no more workers than those among whom a run's numbers are divided
+pub few_all : (division : Division) (workers : ℕ) → workers ≤ most_workers division → 3 * workers ≤ callers_of division
+few_all Workers workers few = omega arith
+few_all Connections workers few = omega arith

@@ -6,6 +6,7 @@ use Rattle.std.proofs.lemmas.List.{append-nil}
 use Rattle.foundation.specs.Faults.{Rose}
 use Rattle.edge_io.specs.Door.{DoorState, Talked}
 use Rattle.edge_io.specs.Told.{IsToldAs}
+use Rattle.desk_access.specs.Division.{DividedRun}
 use Rattle.desk_access.specs.Call.{Record}
 use Rattle.conn_serve.specs.declared.rules.Rules.{Rules}
 use Rattle.serve_workers.specs.Served.{Served, RisesBy, Tells, TellsMore}
@@ -39,7 +40,7 @@ ended_well enough door late before now worker.Enough well ends cause = (ends.0, 
 ended_well enough door late before now worker.AcceptFault well ends cause = (ends, inr (inr (cause refl)))
 ended_well enough door late before now worker.NoMemory well ends cause = absurd (cc)
 
-one_served_out : (run talks : ℕ) (log : List Record) (number : ℕ) (rules : Rules) (old new : DoorState) (report : WorkerReport) (part : Part) → IsPart run talks log number rules old new report part → is_starved report.end ≡ false
+one_served_out : (run : DividedRun) (talks : ℕ) (log : List Record) (number : ℕ) (rules : Rules) (old new : DoorState) (report : WorkerReport) (part : Part) → IsPart run talks log number rules old new report part → is_starved report.end ≡ false
     → IsServedOut talks number rules old new part
 one_served_out run talks log number rules old new report part is well =
     let ended = ended_well (length part.finished ≡ talks) new (length part.late) old.accept_faults new.accept_faults report.end well is.ends is.accept_faults.cause in
@@ -62,7 +63,7 @@ none_starved report reports = by (is_starved report.end) where
   by true none = absurd (cc)
   by false none = (refl, none)
 
-all_served_out : (run talks : ℕ) (log : List Record) (number : ℕ) (rules : List Rules) (doors doors' : List DoorState) (reports : List WorkerReport)
+all_served_out : (run : DividedRun) (talks : ℕ) (log : List Record) (number : ℕ) (rules : List Rules) (doors doors' : List DoorState) (reports : List WorkerReport)
     (parts : List Part) → AreParts run talks log number rules doors doors' reports parts
     → list_any (λ (report : WorkerReport). is_starved report.end) reports ≡ false → EachPart (IsServedOut talks) number rules doors doors' parts
 all_served_out run talks log number [] [] [] [] [] are well = tt
@@ -78,6 +79,6 @@ starved_note reports = by (list_any (λ (report : WorkerReport). is_starved repo
   by true refused none = absurd (none refl)
   by false refused none = refl
 
-pub served_out : (run talks : ℕ) (log : List Record) (rules : List Rules) (doors doors' : List DoorState) (reports : List WorkerReport) (parts : List Part) → AreParts run talks log 0 rules doors doors' reports parts
+pub served_out : (run : DividedRun) (talks : ℕ) (log : List Record) (rules : List Rules) (doors doors' : List DoorState) (reports : List WorkerReport) (parts : List Part) → AreParts run talks log 0 rules doors doors' reports parts
     → (note_of_workers reports ≡ Note.NoMemory → ⊥) → EachPart (IsServedOut talks) 0 rules doors doors' parts
 served_out run talks log rules doors doors' reports parts are well = all_served_out run talks log 0 rules doors doors' reports parts are (starved_note reports well)

@@ -13,6 +13,7 @@ use Rattle.spool_answers.specs.Stages.{StandsForOne}
 use Rattle.spool_log.specs.State.{View, IsIn}
 use Rattle.hec_ids.specs.Table.{Table}
 use Rattle.spool_desk.specs.Alone.{AloneView}
+use Rattle.desk_access.specs.Division.{DividedRun}
 use Rattle.desk_access.specs.Call.{Record}
 use Rattle.desk_access.specs.Desk.{DeskState, Goes, Stood, StandsWithin}
 use Rattle.spool_turns.specs.Passes.{begun}
@@ -90,7 +91,7 @@ none_stood x c stood = by stood.first stood.rest stood.parts stood.found stood.g
   by (one ∷ first) rest parts found goes stands = absurd (cc)
 
 -- a desk that was given back, with which nothing was done
-pub given_back : (tells : Type 0) (old : Moment) (v : View) (clock : ℕ) (grouped : Bool) (run seats : ℕ) (new : AloneView) → IsOpenedFrom tells old v → (tells → old.clock ≤ clock)
+pub given_back : (tells : Type 0) (old : Moment) (v : View) (clock : ℕ) (grouped : Bool) (run : DividedRun) (seats : ℕ) (new : AloneView) → IsOpenedFrom tells old v → (tells → old.clock ≤ clock)
     → HasNotServed tells (IsOpenedDesk tells old.reads) run seats (begun (opened_at tells old clock) grouped) new → tells → IsOpenedOnly old new.spool.moment
 given_back tells old v clock grouped run seats new from le none told =
     let found = from.opens told in
@@ -109,25 +110,26 @@ given_back tells old v clock grouped run seats new from le none told =
           ]);
     }
 
-pub given_calls : (tells : Type 0) (old : Moment) (start : DeskState → Type 0) (clock : ℕ) (grouped : Bool) (run seats : ℕ) (new : AloneView)
+pub given_calls : (tells : Type 0) (old : Moment) (start : DeskState → Type 0) (clock : ℕ) (grouped : Bool) (run : DividedRun) (seats : ℕ) (new : AloneView)
     → HasNotServed tells start run seats (begun (opened_at tells old clock) grouped) new → Calls ⊥ old new.spool.moment
 given_calls tells old start clock grouped run seats new none =
     record { size = none.1.replays.size; later = none.1.replays.later; cause = λ never. absurd never; quiet = λ never. none.1.replays.quiet refl }
 
 -- ---- where the server ran
 
-pub runs_over : (tells : Type 0) (old new : Moment) (v : View) (clock : ℕ) (grouped : Bool) (run seats talks : ℕ) (rules : List Rules) (doors doors' : List DoorState)
+pub runs_over : (tells : Type 0) (old new : Moment) (v : View) (clock : ℕ) (grouped : Bool) (run : DividedRun) (seats talks : ℕ) (rules : List Rules) (doors doors' : List DoorState)
     (reports : List WorkerReport) (destination : Option Destination) (net net' : NetState) (last : Option Outcome) (memory : Memory) (in_doubt : Bool)
     (ids : Table)
     → IsOpenedFrom tells old v → (tells → old.clock ≤ clock) → seats ≡ length doors + 1
     → HasServed tells (IsOpenedDesk tells old.reads) run seats (begun (opened_at tells old clock) grouped) talks rules doors doors' reports destination net net' last
     (desk_over memory in_doubt new ids)
-    → RunsOver tells old new grouped talks rules doors doors' reports destination net net' last memory in_doubt
+    → RunsOver tells old new grouped run.division talks rules doors doors' reports destination net net' last memory in_doubt
 runs_over tells old new v clock grouped run seats talks rules doors doors' reports destination net net' last memory in_doubt ids from le many served =
     let whole = subst (λ (n : ℕ). HasServed tells (IsOpenedDesk tells old.reads) run n (begun (opened_at tells old clock) grouped) talks rules doors doors' reports
     destination net net' last (desk_over memory in_doubt new ids)) many served in
     record {
       run = run;
+      divided_by = refl;
       clock = clock;
       later = le;
       opened = opened_desk tells old.reads v from.opens;

@@ -11,6 +11,7 @@ use Rattle.spool_state.specs.Image.{StandsFor}
 use Rattle.spool_answers.specs.declared.fault.PendFault.TheVariants as Pend
 use Rattle.spool_answers.specs.Stages.{IsOneOf, StandsForOne}
 use Rattle.spool_desk.specs.Alone.{AloneView}
+use Rattle.desk_access.specs.Division.{DividedRun, callers_of, each_of}
 use Rattle.desk_access.specs.Call.{Record, own_of}
 use Rattle.desk_access.specs.Desk.{DeskState, Goes}
 use Rattle.desk_access.proofs.Nexts.{all_right}
@@ -47,9 +48,9 @@ use Rattle.bridge_serve.proofs.Finishing.{served_out}
 
 -- ---- parts
 
-each_part : (P : ℕ → Rules → DoorState → DoorState → Part → Type 0) (run talks : ℕ) (log : List Record) (number : ℕ) (rules : List Rules) (doors doors' : List DoorState) (reports : List WorkerReport) (parts : List Part)
-    → AreParts run talks log number rules doors doors' reports parts → number + length rules ≤ 64
-    → ((n : ℕ) (by : Rules) (old new : DoorState) (report : WorkerReport) (part : Part) → IsPart run talks log n by old new report part → n < 64 → P n by old new part) → EachPart P number rules doors doors' parts
+each_part : (P : ℕ → Rules → DoorState → DoorState → Part → Type 0) (run : DividedRun) (talks : ℕ) (log : List Record) (number : ℕ) (rules : List Rules) (doors doors' : List DoorState) (reports : List WorkerReport) (parts : List Part)
+    → AreParts run talks log number rules doors doors' reports parts → number + length rules ≤ callers_of run.division
+    → ((n : ℕ) (by : Rules) (old new : DoorState) (report : WorkerReport) (part : Part) → IsPart run talks log n by old new report part → n < callers_of run.division → P n by old new part) → EachPart P number rules doors doors' parts
 each_part P run talks log number [] [] [] [] [] are few each = tt
 each_part P run talks log number (by ∷ rules) (old ∷ doors) (new ∷ doors') (report ∷ reports) (part ∷ parts) (one, are) few each =
     (each number by old new report part one (omega (arith, few)), each_part P run talks log (number + 1) rules doors doors' reports parts are (omega (arith, few)) each)
@@ -95,7 +96,7 @@ standing s (stage ∷ stages) c (inr later) = let t = standing stage stages c la
 
 -- ---- the sessions
 
-module _ (tells : Type 0) (start : DeskState → Type 0) (run seats : ℕ) (began : Beginning) (new : AloneView) (talks : ℕ) (rules : List Rules)
+module _ (tells : Type 0) (start : DeskState → Type 0) (run : DividedRun) (seats : ℕ) (began : Beginning) (new : AloneView) (talks : ℕ) (rules : List Rules)
     (doors doors' : List DoorState) (reports : List WorkerReport) (many : seats ≡ length rules + 1)
     (sure : (x : DeskState) → start x → x.doubt ≡ []) where
   -- a forwarder with no place to forward to made no call
@@ -140,7 +141,8 @@ first_one s (stage ∷ stages) = inl refl
 
 -- ---- all of them
 
-module _ (tells : Type 0) (start : DeskState → Type 0) (run seats : ℕ) (began : Beginning) (new : AloneView) (r : ServerRun tells start run seats began new) (few : length r.rules ≤ 64) (most : r.talks ≤ 2 ^ 26)
+module _ (tells : Type 0) (start : DeskState → Type 0) (run : DividedRun) (seats : ℕ) (began : Beginning) (new : AloneView) (r : ServerRun tells start run seats began new) (few : length r.rules ≤ callers_of run.division)
+    (most : r.talks ≤ each_of run.division)
     (sure : (x : DeskState) → start x → x.doubt ≡ []) where
   -- a state that a crash leaves, which the sessions led to
   found : (x : DeskState) → start x → (c : List ℕ) → new.spool.moment.image c → (s : SpoolState) × StandsFor s c × HasSent r.destination (looks_of r.served) x r.served.log s

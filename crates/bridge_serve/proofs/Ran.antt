@@ -13,6 +13,8 @@ use Rattle.spool_log.specs.declared.opening.Opening.TheVariants.{Raise}
 use Rattle.spool_log.specs.Memory.{end_of}
 use Rattle.spool_log.specs.Opening.{opened}
 use Rattle.spool_log.specs.State.{View, IsIn}
+use Rattle.desk_access.specs.declared.division.Division.{Division}
+use Rattle.desk_access.specs.Division.{callers_of, each_of}
 use Rattle.desk_access.specs.Call.{failures_of}
 use Rattle.desk_access.specs.Desk.{DeskState}
 use Rattle.spool_turns.specs.Passes.{Stands}
@@ -38,9 +40,9 @@ use Rattle.bridge_serve.proofs.Causes.{IsTold, not_usage, not_length, workers_te
 none_in_doubt : (x : DeskState) (s : SpoolState) → x ≡ desk_in (opened Raise s) → x.doubt ≡ []
 none_in_doubt x s is = ap (λ (d : DeskState). d.doubt) is
 
-module _ (tells : Type 0) (old new : Moment) (grouped : Bool) (talks : ℕ) (rules : List Rules) (doors doors' : List DoorState) (reports : List WorkerReport)
+module _ (tells : Type 0) (old new : Moment) (grouped : Bool) (division : Division) (talks : ℕ) (rules : List Rules) (doors doors' : List DoorState) (reports : List WorkerReport)
     (destination : Option Destination) (net net' : NetState) (last : Option Outcome) (memory : Memory) (in_doubt : Bool)
-    (over : RunsOver tells old new grouped talks rules doors doors' reports destination net net' last memory in_doubt)
+    (over : RunsOver tells old new grouped division talks rules doors doors' reports destination net net' last memory in_doubt)
     (note : Note) (is : IsNoteOf (note_of_run reports last) note) where
   told : IsTold note
   told = elim is [
@@ -118,11 +120,11 @@ module _ (tells : Type 0) (old new : Moment) (grouped : Bool) (talks : ℕ) (rul
   pub ran_at : (v : View) (last_end opening_left writes writes' : ℕ) (taken taken' : Option (List ℕ)) → IsOpenedFrom tells old v
       → last_end ≡ end_of v.memory → opening_left ≡ pending_in v.memory → length rules ≡ length reports → length doors ≡ length reports
       → length doors' ≡ length reports
-      → length rules ≤ 64 → talks ≤ 2 ^ 26
+      → length rules ≤ callers_of division → talks ≤ each_of division
       → PrintsLast (note_of_run reports last)
       (serve_line (talks_of reports) (end_of memory - last_end) (opening_left + (end_of memory - last_end) - pending_in memory) (pending_in memory))
       note writes writes' taken taken'
-      → IsRunAt grouped talks destination tells old new net net' rules doors doors' writes writes' taken taken' note
+      → IsRunAt grouped division talks destination tells old new net net' rules doors doors' writes writes' taken taken' note
   ran_at v last_end opening_left writes writes' taken taken' from end_is left_is r d d' few most printed = record {
     reports = reports;
     last = last;
@@ -147,7 +149,8 @@ module _ (tells : Type 0) (old new : Moment) (grouped : Bool) (talks : ℕ) (rul
           reports_are = sym r;
           seats_are = omega (arith, d, r);
         })
-        few most (λ x is. none_in_doubt x is.1 is.4) note (of_look Note.Fine (λ e. cc) (λ e. cc) (λ e. cc))
+        (subst (λ (d : Division). length rules ≤ callers_of d) (sym over.divided_by) few)
+        (subst (λ (d : Division). talks ≤ each_of d) (sym over.divided_by) most) (λ x is. none_in_doubt x is.1 is.4) note (of_look Note.Fine (λ e. cc) (λ e. cc) (λ e. cc))
         (λ starved. memory_last (note_of_run reports last) _ note writes writes' taken taken'
         (ap (λ (n : Note). first_of n (note_of_look last)) starved) printed);
     stored = end_of memory - last_end;
@@ -173,10 +176,10 @@ module _ (tells : Type 0) (old new : Moment) (grouped : Bool) (talks : ℕ) (rul
 -- ---- what was bound
 
 -- a run binds no door
-pub run_binds_none : (grouped : Bool) (talks : ℕ) (destination : Option Destination) (tells : Type 0) (old new : Moment) (net net' : NetState) (rules : List Rules)
+pub run_binds_none : (grouped : Bool) (division : Division) (talks : ℕ) (destination : Option Destination) (tells : Type 0) (old new : Moment) (net net' : NetState) (rules : List Rules)
     (doors doors' : List DoorState) (writes writes' : ℕ) (taken taken' : Option (List ℕ)) (note : Note)
-    → IsRunAt grouped talks destination tells old new net net' rules doors doors' writes writes' taken taken' note → net'.bound ≡ net.bound
-run_binds_none grouped talks destination tells old new net net' rules doors doors' writes writes' taken taken' note run =
+    → IsRunAt grouped division talks destination tells old new net net' rules doors doors' writes writes' taken taken' note → net'.bound ≡ net.bound
+run_binds_none grouped division talks destination tells old new net net' rules doors doors' writes writes' taken taken' note run =
     forwarded_binds_none _ destination _ _ _ net net' run.last run.over.served.forwarded
 
 -- where no worker began it makes no difference that doors were bound before

@@ -5,6 +5,7 @@ use Rattle.edge_disk.specs.declared.disk.Disk.{Ghosts}
 use Rattle.edge_disk.specs.Disk.{Moment}
 use Rattle.spool_log.specs.declared.memory.Memory.{Memory}
 use Rattle.spool_log.specs.State.{view}
+use Rattle.desk_access.specs.Division.{DividedRun}
 use Rattle.desk_access.specs.Call.{Call, own_of}
 use Rattle.desk_access.specs.Desk.{DeskState, Stood}
 use Rattle.desk_access.specs.Journal.{own_then}
@@ -39,7 +40,7 @@ may_release tells moment given None At Release may = may
 may_release tells moment given (Some relay) At Release may = may
 
 -- of a spool that was opened for storing, and of the desk over it
-module _ {D : Type 0} (disks : Ghosts D) (given now : D) (memory : Memory) (in_doubt : Bool) (clock : ℕ) (grouped : Bool) (run seats : ℕ)
+module _ {D : Type 0} (disks : Ghosts D) (given now : D) (memory : Memory) (in_doubt : Bool) (clock : ℕ) (grouped : Bool) (run : DividedRun) (seats : ℕ)
     (from : IsOpenedFrom disks.tells (disks.moment given) (view memory in_doubt (disks.moment now))) (later : disks.tells → (disks.moment given).clock ≤ clock) where
   abbrev start : DeskState → Type 0
   start = IsOpenedDesk disks.tells (disks.moment given).reads

@@ -4,6 +4,8 @@ use Rattle.edge_disk.specs.Disk.{Moment, LeavesOnly}
 use Rattle.edge_io.specs.declared.proto.Proto.{Proto}
 use Rattle.spool_log.specs.declared.opening.Opening.TheVariants.{Raise}
 use Rattle.spool_log.specs.Opening.{IsOpening}
+use Rattle.desk_access.specs.declared.division.Division.{Division}
+use Rattle.desk_access.specs.Division.{divided, each_of, first_conn}
 use Rattle.desk_access.specs.Call.{Call, Record, own_of}
 use Rattle.desk_access.specs.Desk.{DeskState, Goes, Stood}
 use Rattle.conn_serve.specs.declared.rules.Rules.{Rules}
@@ -12,17 +14,21 @@ use Rattle.conn_serve.specs.Durable.{AckedIsDurable, AnswersAreDurable, IsToldDu
 use Rattle.conn_serve.specs.Says.{PromisesNothing}
 use Rattle.conn_serve.specs.Terms.{terms_of}
 use Rattle.serve_workers.specs.Served.{Served, IsServed}
-use Rattle.serve_workers.specs.Works.{first_conn}
 use Rattle.bridge_words.specs.declared.command.Server.{Server}
 use Rattle.bridge_serve.specs.Doors.{rules_of, place_for, first_worker}
 use Rattle.bridge_serve.specs.Opened.{IsOpenedDesk}
 
--- A link that came in: the rules by which it is served, the number of the worker that serves it, and how many links that worker had
--- served before.
+-- A link that came in: the rules by which it is served, how the run's numbers are divided among the workers, the number of the worker
+-- that serves it, and how many links that worker had served before.
 pub record Linked : Type 0 where
   pub rules : Rules
+  pub division : Division
   pub worker : ℕ
   pub before : ℕ
+
+-- the first link of a worker
+abbrev pub first_link : Division → ℕ → Rules → Linked
+first_link division worker rules = record { rules = rules; division = division; worker = worker; before = 0 }
 
 -- A journal led the desk from the state in which the disk was opened, as it was before, to now. Whatever a crash left meanwhile is what
 -- it could leave as the opening began, or stands for that state with its run raised or not, or for one on the way of the journal.
@@ -44,7 +50,7 @@ pub record IsDurable (tells : Type 0) (before now : Moment) (link : Linked) (byt
   pub text_is : one.text ≡ text
   pub log : List Record
   pub led : tells → HasLed tells before now log
-  pub conn_is : (told : tells) → one.conn ≡ first_conn (led told).start.spool.run link.worker + link.before
+  pub conn_is : (told : tells) → one.conn ≡ first_conn (divided link.division (led told).start.spool.run) link.worker + link.before
   pub caller : ℕ
   pub earlier : List Call
   pub made : List Call
@@ -58,23 +64,24 @@ pub record IsDurable (tells : Type 0) (before now : Moment) (link : Linked) (byt
       → AnswersAreDurable link.rules.proto (terms_of link.rules) one.conn one.left one.bytes one.calls one.text one.talk served now
       (IsToldDurably log caller now)
 
--- A text may be written to a link of the worker of that number, which serves by these rules, to one who has sent these bytes, once all
--- that the text acknowledges of them is durable on the disk. `given` is the disk as it was before it was opened. A worker serves at
--- most 2^26 links.
-abbrev pub WorkerMayAnswer : {D : Type 0} → Type 0 → (D → Moment) → D → ℕ → Rules → (ℕ → List ℕ → List ℕ → Type 0) → Type 0
-WorkerMayAnswer {D} tells moment given worker rules Permits =
-    (k : ℕ) → k < 2 ^ 26 → (disk : D) (bytes text : List ℕ)
-    → IsDurable tells (moment given) (moment disk) (record { rules = rules; worker = worker; before = k }) bytes text → Permits k bytes text
+-- A text may be written to a link of the worker of which this is the first link, to one who has sent these bytes, once all that the text
+-- acknowledges of them is durable on the disk. `given` is the disk as it was before it was opened. A worker serves at most as many links
+-- as it has numbers for.
+abbrev pub WorkerMayAnswer : {D : Type 0} → Type 0 → (D → Moment) → D → Linked → (ℕ → List ℕ → List ℕ → Type 0) → Type 0
+WorkerMayAnswer {D} tells moment given first Permits =
+    (k : ℕ) → k < each_of first.division → (disk : D) (bytes text : List ℕ)
+    → IsDurable tells (moment given) (moment disk) (record first { before = k }) bytes text → Permits k bytes text
 
 -- At a place that the words name for a protocol, to the k-th link of one of the doors that are bound there, one for each worker, a text may
 -- be written to one who has sent these bytes, once all that the text acknowledges of them is durable on the disk. So each worker may
--- answer. `given` is the disk as it was before it was opened. A worker serves at most 2^26 links.
+-- answer. `given` is the disk as it was before it was opened. A worker serves at most as many links as it has numbers for.
 abbrev pub MayAnswer : {D : Type 0} → Type 0 → (D → Moment) → D → Server → (List ℕ → ℕ → ℕ → List ℕ → List ℕ → Type 0) → Type 0
 MayAnswer {D} tells moment given server Permits =
     (proto : Proto) (place : List ℕ) → place_for server proto ≡ Some place → (door : ℕ) → door < server.workers
-    → (k : ℕ) → k < 2 ^ 26 → (disk : D) (bytes text : List ℕ)
+    → (k : ℕ) → k < each_of server.division → (disk : D) (bytes text : List ℕ)
     → IsDurable tells (moment given) (moment disk)
-    (record { rules = rules_of server proto; worker = first_worker server proto + door; before = k }) bytes text → Permits place door k bytes text
+    (record { rules = rules_of server proto; division = server.division; worker = first_worker server proto + door; before = k }) bytes text
+    → Permits place door k bytes text
 
 -- Doors may be bound at the places that the words name.
 abbrev pub MayBind : Server → (List ℕ → Type 0) → Type 0

@@ -12,6 +12,7 @@ use Rattle.edge_io.specs.Told.{IsToldAs}
 use Rattle.spool_state.specs.SpoolState.{SpoolState, list, numbers_of}
 use Rattle.spool_state.specs.Image.{StandsFor}
 use Rattle.spool_desk.specs.Alone.{AloneView}
+use Rattle.desk_access.specs.Division.{DividedRun}
 use Rattle.desk_access.specs.Call.{Record, calls_of, failures_of, own_of}
 use Rattle.desk_access.specs.Desk.{DeskState, Goes}
 use Rattle.desk_access.specs.History.{AddsAll, Grows}
@@ -94,7 +95,7 @@ looks_in start None workers pass pass' net net' last forwarded = []
 looks_in start (Some destination) workers pass pass' net net' last forwarded = forwarded.2.looks ++ forwarded.2.look ∷ []
 
 -- the same of a run of the server
-abbrev pub looks_of : {tells : Type 0} {start : DeskState → Type 0} {run seats talks : ℕ} {began : Beginning} {rules : List Rules}
+abbrev pub looks_of : {tells : Type 0} {start : DeskState → Type 0} {run : DividedRun} {seats talks : ℕ} {began : Beginning} {rules : List Rules}
     {doors doors' : List DoorState} {reports : List WorkerReport} {destination : Option Destination} {net net' : NetState}
     {last : Option Outcome} {new : AloneView}
     → HasServed tells start run seats began talks rules doors doors' reports destination net net' last new → List Look
@@ -142,7 +143,7 @@ TellsLast start number log (Some destination) looks last =
 -- ---- of a run
 
 -- What a run promises whose journal began with the desk in such a state, and that ended with that note.
-pub record Promises {tells : Type 0} {start : DeskState → Type 0} {run seats talks : ℕ} {began : Beginning} {rules : List Rules}
+pub record Promises {tells : Type 0} {start : DeskState → Type 0} {run : DividedRun} {seats talks : ℕ} {began : Beginning} {rules : List Rules}
     {doors doors' : List DoorState} {reports : List WorkerReport} {destination : Option Destination} {net net' : NetState}
     {last : Option Outcome} {new : AloneView}
     (served : HasServed tells start run seats began talks rules doors doors' reports destination net net' last new) (note : Note) : Type 0 where
@@ -167,7 +168,7 @@ pub record Promises {tells : Type 0} {start : DeskState → Type 0} {run seats t
   pub end_rises : (x y : DeskState) → start x → Goes x served.log y → EndRises x y (failures_of (calls_of served.log)) (taken_over parts)
   -- Where the spool was in order at the opening, it is so after each crash, now or meanwhile.
   pub order : (x : DeskState) → start x → OpensLegal x → (c : List ℕ) → new.spool.moment.image c
-      → EachPart (LinksInOrder run served.log c) 0 rules doors doors' parts
+      → EachPart (LinksInOrder run.number served.log c) 0 rules doors doors' parts
   pub order_was : (x : DeskState) → start x → OpensLegal x → (c : List ℕ) → new.spool.moment.image_since began.moment.clock c
       → EachPart (LinksBeginInOrder c) 0 rules doors doors' parts
   -- Nothing is left where the last look found nothing or its session was acknowledged to the end; so at the note `Fine`, where there

@@ -13,6 +13,8 @@ use Rattle.spool_log.specs.declared.memory.Memory.{Memory}
 use Rattle.spool_log.specs.declared.opening.Opening.TheVariants.{Raise}
 use Rattle.spool_log.specs.Opening.{IsOpening}
 use Rattle.hec_ids.specs.Table.{Table}
+use Rattle.desk_access.specs.declared.division.Division.{Division}
+use Rattle.desk_access.specs.Division.{DividedRun}
 use Rattle.desk_access.specs.Desk.{DeskState, Stood}
 use Rattle.spool_turns.specs.Passes.{begun}
 use Rattle.serve_workers.specs.declared.worker.WorkerReport.{WorkerReport}
@@ -43,11 +45,12 @@ pub record IsUnserved (tells : Type 0) (old new : Moment) (net net' : NetState) 
 -- The workers served at the doors, and the forwarder beside them, over a spool that was opened for storing: one journal of all their
 -- calls led the desk from the state in which the device was opened to where it is. Whatever a crash left meanwhile is what it could
 -- leave as the opening began, or stands for the opened state with its run raised or not, or for one on the way of the journal. Takes
--- of several workers may be stored as one group only where the run is grouped.
-pub record RunsOver (tells : Type 0) (old new : Moment) (grouped : Bool) (talks : ℕ) (rules : List Rules) (doors doors' : List DoorState)
+-- of several workers may be stored as one group only where the run is grouped. The numbers of connections are divided as said.
+pub record RunsOver (tells : Type 0) (old new : Moment) (grouped : Bool) (division : Division) (talks : ℕ) (rules : List Rules) (doors doors' : List DoorState)
     (reports : List WorkerReport) (destination : Option Destination) (net net' : NetState) (last : Option Outcome) (memory : Memory)
     (in_doubt : Bool) : Type 0 where
-  pub run : ℕ
+  pub run : DividedRun
+  pub divided_by : run.division ≡ division
   pub clock : ℕ
   pub later : tells → old.clock ≤ clock
   pub opened : tells → (x : DeskState) × IsOpenedDesk tells old.reads x
@@ -65,7 +68,7 @@ pub record Counts (before after : SpoolState) (stored confirmed remaining : ℕ)
 
 -- The server ran over the spool, at these doors. At the end the line tells the numbers of the journal, and how many connections
 -- were given back. The note is that of the workers, or of the last look, or of the print: of the first that didn't end well.
-pub record IsRunAt (grouped : Bool) (talks : ℕ) (destination : Option Destination) (tells : Type 0) (old new : Moment) (net net' : NetState)
+pub record IsRunAt (grouped : Bool) (division : Division) (talks : ℕ) (destination : Option Destination) (tells : Type 0) (old new : Moment) (net net' : NetState)
     (rules : List Rules) (doors doors' : List DoorState) (writes writes' : ℕ) (taken taken' : Option (List ℕ)) (note : Note) : Type 0 where
   pub reports : List WorkerReport
   pub last : Option Outcome
@@ -73,7 +76,7 @@ pub record IsRunAt (grouped : Bool) (talks : ℕ) (destination : Option Destinat
   pub note_is : IsNoteOf (note_of_run reports last) note
   pub memory : Memory
   pub in_doubt : Bool
-  pub over : RunsOver tells old new grouped talks rules doors doors' reports destination net net' last memory in_doubt
+  pub over : RunsOver tells old new grouped division talks rules doors doors' reports destination net net' last memory in_doubt
   -- what this means for the senders, the peer and the operator
   pub promises : Promises over.served note
   pub stored : ℕ
@@ -92,7 +95,7 @@ pub record IsRun (server : Server) (tells : Type 0) (old new : Moment) (net net'
   pub rules : List Rules
   pub bound : AreBound server doors rules
   pub told : TellsBound (binds_of server) net.bound net'.bound
-  pub ran : IsRunAt server.group server.talks (destination_of server.forward) tells old new (with_bound net net'.bound) net' rules doors doors' writes writes' taken taken'
+  pub ran : IsRunAt server.group server.division server.talks (destination_of server.forward) tells old new (with_bound net net'.bound) net' rules doors doors' writes writes' taken taken'
       note
 
 -- What was done: the device was not opened, and then no door was bound, nothing was dialed and nothing was printed; or no worker began,

@@ -25,7 +25,7 @@ pub(crate) struct Posts<P: Door> {
 impl<P: Door + Drop> Posts<P> {
     /// No post, and room for as many as a server has whose places have so many workers each. The error is want of memory.
     pub(crate) fn reserve(alloc: Global, workers: u32) -> Result<Posts<P>, AllocError>
-        requires { workers ≤ 16 }
+        requires { workers ≤ 1024 }
 
         ensures posts { IfOk result (λ made. IsRoom (3 * workers) made.posts) }
         ensures room { IfOk result (λ made. IsRoom (3 * workers) made.room) }

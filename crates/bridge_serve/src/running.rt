@@ -6,14 +6,15 @@ ghost use Rattle.forward_core.specs.Exchanged.{HasExchangedAt};
 ghost use Rattle.spool_turns.specs.Named.{IsName};
 ghost use Rattle.spool_turns.specs.Replays.{desk_at, IsReal};
 ghost use Rattle.serve_workers.specs.Answering.{MayAnswer};
-ghost use Rattle.serve_workers.specs.Works.{first_conn};
+ghost use Rattle.desk_access.specs.Division.{callers_of, each_of};
 ghost use Rattle.serve_forwarder.specs.Released.{MayRelease};
 ghost use Rattle.serve_run.specs.Running.{HasServed, HasNotServed};
-ghost use Rattle.bridge_serve.specs.Answered.{WorkerMayAnswer};
+ghost use Rattle.bridge_serve.specs.Answered.{WorkerMayAnswer, first_link};
 ghost use Rattle.bridge_serve.specs.Opened.{IsOpenedFrom, IsOpenedOnly};
 ghost use Rattle.bridge_serve.specs.Released.{ForwarderMayRelease};
 ghost use Rattle.bridge_serve.specs.Served.{RunsOver};
 
+use desk_access::Division;
 use edge_disk::Disk;
 use edge_io::{Door, Net};
 use hec_ids::Ids;
@@ -31,8 +32,8 @@ use std::thread::Threads;
 
 // Runs the server over a desk that has a name, by which the passes of workers and forwarder are passes of this desk and no other. The
 // disk as it was before the opening stands in the proof alone, which says by it which name that is. With `group` takes of several
-// workers may be stored as one group. The error is want of memory before a worker began, and gives back the desk and the posts as they
-// were.
+// workers may be stored as one group. The numbers of connections are divided among the workers by `division`. The error is want of
+// memory before a worker began, and gives back the desk and the posts as they were.
 fn run_named<
     D: Disk + Drop + Send,
     N: Net + Send,
@@ -44,6 +45,7 @@ fn run_named<
     _before: Snapshot<D>,
     unnamed: Unnamed<D>,
     group: bool,
+    division: Division,
     posts: Vec<Post<N::P>>,
     talks: u32,
     destination: Option<&Destination>,
@@ -54,13 +56,14 @@ where
     <N::P as Door>::L: Send,
     N::L: Send,
     requires seats { J.seats ≡ vec_len posts + 1 }
-    requires few { vec_len posts ≤ 64 }
-    requires talks { talks ≤ 2 ^ 26 }
+    requires few { vec_len posts ≤ callers_of J.run.division }
+    requires talks { talks ≤ each_of J.run.division }
     requires polls { IfSome destination (λ d. 0 < d.now.outward.polls) }
     requires group { group ≡ J.began.grouped }
+    requires divided { division ≡ J.run.division }
     requires name { IsName J.table J.run J.start J.began unnamed }
     requires says { (i : ℕ) (post : _) → slice_get posts.items i ≡ Some post
-        → MayAnswer (IsReal ⟦<D as Disk>⟧ J.start J.run J.seats J.began) J.start (first_conn J.run i) (N.P.permits post.door) post.rules }
+        → MayAnswer (IsReal ⟦<D as Disk>⟧ J.start J.run J.seats J.began) J.start J.run i (N.P.permits post.door) post.rules }
     requires named { IfSome destination (λ d. N.may_dial d.now.place) }
     requires earned { IfSome destination (λ d. MayRelease (IsReal ⟦<D as Disk>⟧ J.start J.run J.seats J.began) J.start d.now.outward
         (HasExchangedAt N.L.same N.L.dialed N.L.given N.L.taken d.now.place) D.may_release) }
@@ -73,7 +76,7 @@ where
         × ((none.desk ≡ unnamed.alone.desk) ⊎ HasNotServed D.tells J.start J.run J.seats J.began (desk_at none.desk))) }
 {
     let seats = posts.len() as u32 + 1;
-    let opened = match unnamed.named::<J>(alloc, seats, group) {
+    let opened = match unnamed.named::<J>(alloc, seats, group, division) {
         Ok(opened) => opened,
         Err(NoShare { desk }) => return Err(Unserved { desk, posts }),
     };
@@ -82,8 +85,8 @@ where
 
 /// Runs the server over a spool that was opened for storing, from a disk as it was `before`: a worker at each of the doors, which ends
 /// after `talks` connections at the latest, and a forwarder beside them where there is a destination. With `group` takes of several
-/// workers may be stored as one group. The result has the desk, the doors, what the workers report, and what came of the forwarder's
-/// last look.
+/// workers may be stored as one group. The numbers of connections are divided among the workers by `division`. The result has the desk,
+/// the doors, what the workers report, and what came of the forwarder's last look.
 ///
 /// The error is want of memory before a worker began, and gives back the desk and the posts as they were.
 pub(crate) fn run_over<D: Disk + Drop + Send, N: Net + Send, R: Threads + Wait + Sync>(
@@ -92,6 +95,7 @@ pub(crate) fn run_over<D: Disk + Drop + Send, N: Net + Send, R: Threads + Wait +
     before: Snapshot<D>,
     spool: Spool<D>,
     group: bool,
+    division: Division,
     posts: Vec<Post<N::P>>,
     talks: u32,
     destination: Option<&Destination>,
@@ -103,17 +107,17 @@ where
     N::L: Send,
     requires opened { IsOpenedFrom D.tells (D.moment before.value) (view spool.memory spool.doubt (D.moment spool.disk)) }
     requires sure { spool.doubt ≡ false }
-    requires few { vec_len posts ≤ 64 }
-    requires talks { talks ≤ 2 ^ 26 }
+    requires few { vec_len posts ≤ callers_of division }
+    requires talks { talks ≤ each_of division }
     requires polls { IfSome destination (λ d. 0 < d.now.outward.polls) }
     requires answers { (i : ℕ) (post : _) → slice_get posts.items i ≡ Some post
-        → WorkerMayAnswer D.tells (λ (d : D). D.moment d) before.value i post.rules (N.P.permits post.door) }
+        → WorkerMayAnswer D.tells (λ (d : D). D.moment d) before.value (first_link division i post.rules) (N.P.permits post.door) }
     requires dials { IfSome destination (λ d. N.may_dial d.now.place) }
     requires releases { IfSome destination (λ d. ForwarderMayRelease D.tells (λ (d : D). D.moment d) before.value d.now.outward
         (HasExchangedAt N.L.same N.L.dialed N.L.given N.L.taken d.now.place) D.may_release) }
 
     ensures many { IfOk result (λ served. (vec_len served.doors ≡ vec_len posts) × (vec_len served.reports ≡ vec_len posts)) }
-    ensures over { IfOk result (λ served. RunsOver D.tells (D.moment before.value) (D.moment served.desk.spool.disk) group talks
+    ensures over { IfOk result (λ served. RunsOver D.tells (D.moment before.value) (D.moment served.desk.spool.disk) group division talks
         (map (λ (post : _). post.rules) posts.items) (map (λ (post : _). N.P.told post.door) posts.items)
         (map (λ (door : _). N.P.told door) served.doors.items) served.reports.items (option_copied destination.entry)
         (N.told net.old) (N.told net.new) served.last served.desk.spool.memory served.desk.spool.doubt) }
@@ -129,6 +133,7 @@ where
             before,
             unnamed,
             group,
+            division,
             posts,
             talks,
             destination,

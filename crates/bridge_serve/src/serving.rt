@@ -1,17 +1,18 @@
 //! The command `serve`.
 ghost use Rattle.std.specs.Prelude.{◌≡◌, ◌≢◌, ◌⊎◌, ℕ, ◌+◌, ◌-◌, ◌^◌, ◌<◌, ◌≤◌, List, Some, false, map, slice_get, IfSome, vec_len};
+ghost use Rattle.desk_access.specs.Division.{callers_of, each_of};
 ghost use Rattle.forward_core.specs.Exchanged.{HasExchangedAt};
 ghost use Rattle.spool_answers.specs.Leave.{LetsKeep};
 ghost use Rattle.spool_log.specs.Memory.{end_of};
 ghost use Rattle.spool_log.specs.State.{view};
 ghost use Rattle.notes.specs.declared.note.Note.TheVariants.{Usage, WrongLength, WriteFault};
 ghost use Rattle.bridge_words.specs.Lines.{serve_line};
-ghost use Rattle.bridge_words.specs.Words.{HasRelayPolls};
+ghost use Rattle.bridge_words.specs.Words.{HasRelayPolls, most_workers};
 ghost use Rattle.bridge_parts.specs.Counted.{RoseBy, DiskRoseBy, WroteAfter, WritesOfBoth};
 ghost use Rattle.bridge_parts.specs.Pending.{pending_in};
 ghost use Rattle.bridge_parts.specs.Run.{disk_run, net_run, output_run};
 ghost use Rattle.serve_workers.specs.Crews.{IsRoom};
-ghost use Rattle.bridge_serve.specs.Answered.{WorkerMayAnswer, MayAnswer, MayBind, MayDial};
+ghost use Rattle.bridge_serve.specs.Answered.{WorkerMayAnswer, first_link, MayAnswer, MayBind, MayDial};
 ghost use Rattle.bridge_serve.specs.Doors.{destination_of};
 ghost use Rattle.bridge_serve.specs.Noted.{note_of_run, talks_of, PrintsLast};
 ghost use Rattle.bridge_serve.specs.Opened.{IsOpenedFrom};
@@ -26,6 +27,7 @@ use crate::running::run_over;
 use crate::telling::{Summary, count_talks, print_after};
 use bridge_parts::{net_note, outward_of, recover_note};
 use bridge_words::{Relay, Server};
+use desk_access::Division;
 use edge_disk::Disk;
 use edge_io::{Door, Net, Sink};
 use notes::Note;
@@ -57,7 +59,7 @@ fn finish<D: Disk, P: Door + Drop, K: Sink>(
     served: Served<P, D>,
     output: &mut K,
 ) -> Over<D, P>
-    requires few { vec_len served.reports ≤ 64 }
+    requires few { vec_len served.reports ≤ 4096 }
     requires prints { (sink : K) (text : List ℕ) → K.permits sink text }
 
     ensures disk { result.disk ≡ served.desk.spool.disk }
@@ -98,6 +100,7 @@ fn serve_posts<D: Disk + Drop + Send, K: Sink, N: Net + Send, R: Threads + Wait 
     before: Snapshot<D>,
     spool: Spool<D>,
     group: bool,
+    division: Division,
     posts: Posts<N::P>,
     talks: u32,
     destination: Option<Destination>,
@@ -110,12 +113,12 @@ where
     N::L: Send,
     requires opened { IsOpenedFrom D.tells (D.moment before.value) (view spool.memory spool.doubt (D.moment spool.disk)) }
     requires sure { spool.doubt ≡ false }
-    requires few { vec_len posts.posts ≤ 64 }
+    requires few { vec_len posts.posts ≤ callers_of division }
     requires room { IsRoom (vec_len posts.posts) posts.room }
-    requires talks { talks ≤ 2 ^ 26 }
+    requires talks { talks ≤ each_of division }
     requires polls { IfSome destination (λ d. 0 < d.outward.polls) }
     requires answers { (i : ℕ) (post : _) → slice_get posts.posts.items i ≡ Some post
-        → WorkerMayAnswer D.tells (λ (d : D). D.moment d) before.value i post.rules (N.P.permits post.door) }
+        → WorkerMayAnswer D.tells (λ (d : D). D.moment d) before.value (first_link division i post.rules) (N.P.permits post.door) }
     requires dials { IfSome destination (λ d. N.may_dial d.place) }
     requires releases { IfSome destination (λ d. ForwarderMayRelease D.tells (λ (d : D). D.moment d) before.value d.outward
         (HasExchangedAt N.L.same N.L.dialed N.L.given N.L.taken d.place) D.may_release) }
@@ -130,7 +133,7 @@ where
     ensures ran { (IsUnserved D.tells (D.moment before.value) (D.moment result.disk) (N.told net.old) (N.told net.new)
         (K.taken output.old) (K.taken output.new) result.note × (net.new ≡ net.old)
         × (result.doors.items ≡ map (λ (post : _). post.door) posts.posts.items))
-        ⊎ IsRunAt group talks destination D.tells (D.moment before.value) (D.moment result.disk) (N.told net.old) (N.told net.new)
+        ⊎ IsRunAt group division talks destination D.tells (D.moment before.value) (D.moment result.disk) (N.told net.old) (N.told net.new)
         (map (λ (post : _). post.rules) posts.posts.items) (map (λ (post : _). N.P.told post.door) posts.posts.items)
         (map (λ (door : _). N.P.told door) result.doors.items)
         (K.write_faults output.old) (K.write_faults output.new) (K.taken output.old) (K.taken output.new) result.note }
@@ -143,6 +146,7 @@ where
         before,
         spool,
         group,
+        division,
         posts,
         talks,
         destination.as_ref(),
@@ -193,8 +197,8 @@ where
     N::P: Drop + Send,
     <N::P as Door>::L: Send,
     N::L: Send,
-    requires workers { server.workers ≤ 16 }
-    requires talks { server.talks ≤ 2 ^ 26 }
+    requires workers { server.workers ≤ most_workers server.division }
+    requires talks { server.talks ≤ each_of server.division }
     requires polls { HasRelayPolls server.forward }
     requires answers { MayAnswer D.tells (λ (d : D). D.moment d) disk server N.permits }
     requires binds { MayBind server N.may_bind }
@@ -228,6 +232,7 @@ where
             before,
             spool,
             server.group,
+            server.division,
             posts,
             server.talks,
             destination_of(server.forward),

@@ -29,7 +29,7 @@ pub(crate) struct Summary {
 
 /// How many connections the workers served to their end and gave back.
 pub(crate) fn count_talks(reports: &[WorkerReport]) -> u64
-    requires { length reports.now ≤ 64 }
+    requires { length reports.now ≤ 4096 }
     ensures { result ≡ talks_of reports.now }
 {
     let mut talks = 0;

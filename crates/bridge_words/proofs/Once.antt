@@ -1,15 +1,17 @@
 -- Words are one command at most.
 use Rattle.std.proofs.Common.{◌≡◌, ◌∙◌, ℕ, List, refl, sym, ap, subst, codes}
-use Rattle.std.specs.Prelude.{Bool, false, true, Option, Some, Result, IfOk}
+use Rattle.std.specs.Prelude.{Bool, false, true, Option, Some, Result, Ok, IfOk}
 use Rattle.std.specs.Option.{option_map_or}
 use Rattle.std.specs.Str.{bytes_eq}
 use Rattle.std.proofs.lemmas.Slice.Eq.{bytes_eq-Decides}
 use Rattle.clap.specs.Walk.{Row, Text}
+use Rattle.desk_access.specs.declared.division.Division.{Division}
 use Rattle.bridge_words.specs.declared.command.Command.{Command}
 use Rattle.bridge_words.specs.declared.command.Relay.{Relay}
 use Rattle.bridge_words.specs.declared.command.Server.{Server}
 use Rattle.bridge_words.specs.declared.command.Command.TheVariants.{Format, List as ListCommand, Replay, Drain, Load, Serve}
 use Rattle.bridge_words.specs.declared.reading.Unread.{Unread}
+use Rattle.bridge_words.specs.Values.{workers_in, talks_in}
 use Rattle.bridge_words.specs.Words.{IsSize, IsServe, IsCommandBy, IsNamed, IsCommand, IsNoCommand, IsPair, IsMove, name_of}
 
 -- texts that a test tells apart are apart
@@ -48,11 +50,11 @@ pub same_rows : (a b : Text) (x y : List Row) → ◌≡◌ {A = Option (Text ×
 same_rows a b x y is = ap (rows_or x) is
 
 -- a server is what its fields are
-server_of : (relp lumberjack hec : Option Text) (workers talks : ℕ) (token ack_token : Option ℕ) (group : Bool) (forward : Option Relay) → Server
-server_of relp lumberjack hec workers talks token ack_token group forward =
-    record { relp = relp; lumberjack = lumberjack; hec = hec; workers = workers; talks = talks; token = token; ack_token = ack_token; group = group; forward = forward }
+server_of : (relp lumberjack hec : Option Text) (division : Division) (workers talks : ℕ) (token ack_token : Option ℕ) (group : Bool) (forward : Option Relay) → Server
+server_of relp lumberjack hec division workers talks token ack_token group forward =
+    record { relp = relp; lumberjack = lumberjack; hec = hec; division = division; workers = workers; talks = talks; token = token; ack_token = ack_token; group = group; forward = forward }
 
-server_is : (s : Server) → server_of s.relp s.lumberjack s.hec s.workers s.talks s.token s.ack_token s.group s.forward ≡ s
+server_is : (s : Server) → server_of s.relp s.lumberjack s.hec s.division s.workers s.talks s.token s.ack_token s.group s.forward ≡ s
 unfolding server_of
 server_is s = refl
 
@@ -61,7 +63,10 @@ one_server s t rows x y =
     let relp = x.doors_are.relp_is in let relp' = y.doors_are.relp_is in
     let lumberjack = x.doors_are.lumberjack_is in let lumberjack' = y.doors_are.lumberjack_is in
     let hec = x.doors_are.hec_is in let hec' = y.doors_are.hec_is in
-    let workers = x.workers_is in let workers' = y.workers_is in let talks = x.talks_is in let talks' = y.talks_is in
+    let division : s.division ≡ t.division = let a = x.crew_is.division_is in let b = y.crew_is.division_is in cc in
+    let workers = x.crew_is.workers_is in let talks = x.crew_is.talks_is in
+    let workers' = subst (λ (d : Division). workers_in d rows ≡ Ok t.workers) (sym division) y.crew_is.workers_is in
+    let talks' = subst (λ (d : Division). talks_in d rows ≡ Ok t.talks) (sym division) y.crew_is.talks_is in
     let token = x.token_is in let token' = y.token_is in let ack_token = x.ack_token_is in let ack_token' = y.ack_token_is in
     let group = x.group_is in let group' = y.group_is in
     let forward = x.forward_is in let forward' = y.forward_is in

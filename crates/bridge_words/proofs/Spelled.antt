@@ -7,13 +7,14 @@ use Rattle.clap.specs.Kinds.{Kinds}
 use Rattle.clap.specs.declared.error.kind.ErrorKind.{ErrorKind}
 use Rattle.clap.specs.declared.error.kind.ErrorKind.TheVariants as kind
 use Rattle.clap.proofs.OnLiterals.{clap_on_literals}
+use Rattle.desk_access.specs.declared.division.Division.TheVariants.{Workers}
 use Rattle.edge_io.specs.declared.proto.Proto.TheVariants.{Hec}
 use Rattle.bridge_words.specs.declared.command.Command.TheVariants.{Replay, Drain, Serve}
 use Rattle.bridge_words.specs.declared.command.Receiver.TheVariants.{Relp as ToRelp}
 use Rattle.bridge_words.specs.declared.fault.WordsFault.{WordsFault}
 use Rattle.bridge_words.specs.declared.fault.WordsFault.TheVariants as wrong
 use Rattle.bridge_words.specs.Grammar.{refusals, named}
-use Rattle.bridge_words.specs.Values.{value_of, number_within, guid, relp_in, lumberjack_in, hec_in, workers_in, talks_in, token_in, ack_token_in, group_in}
+use Rattle.bridge_words.specs.Values.{value_of, number_within, guid, relp_in, lumberjack_in, hec_in, division_in, workers_in, talks_in, token_in, ack_token_in, group_in}
 use Rattle.bridge_words.specs.Wrong.IsWrong.{found}
 use Rattle.bridge_words.specs.Wrong.WrongBy.{in_move}
 use Rattle.bridge_words.specs.Words.{IsCommand, IsNoCommand, IsServe, IsMove, IsNoMove, relp_server, relay_in}
@@ -93,20 +94,23 @@ abbrev relp_words : Text → Text
 relp_words place = codes "--relp=" ++ place
 
 asks_relp : (x : ℕ) (place : Text) (group : Bool) (rows : List Row) → relp_in rows ≡ Ok (Some (x ∷ place)) → lumberjack_in rows ≡ Ok None → hec_in rows ≡ Ok None
-    → workers_in rows ≡ Ok 4 → talks_in rows ≡ Ok 67108864 → token_in rows ≡ Ok None → ack_token_in rows ≡ Ok None → group_in rows ≡ group → relay_in rows ≡ Ok None
+    → division_in rows ≡ Ok Workers → workers_in Workers rows ≡ Ok 4 → talks_in Workers rows ≡ Ok 67108864 → token_in rows ≡ Ok None → ack_token_in rows ≡ Ok None → group_in rows ≡ group → relay_in rows ≡ Ok None
     → IsServe (relp_server (x ∷ place) group) rows
-asks_relp x place group rows relp lumberjack hec workers talks token ack_token grouped relay = record {
+asks_relp x place group rows relp lumberjack hec division workers talks token ack_token grouped relay = record {
   doors_are = record { relp_is = relp; lumberjack_is = lumberjack; hec_is = hec; some_door = inl refl };
-  workers_is = workers;
-  talks_is = talks;
+  crew_is = record {
+    division_is = division;
+    workers_is = workers;
+    talks_is = talks;
+    some_worker = omega arith;
+    few_workers = omega arith;
+    some_talk = omega arith;
+    few_talks = omega arith;
+  };
   token_is = token;
   ack_token_is = ack_token;
   group_is = grouped;
   forward_is = relay;
-  some_worker = omega arith;
-  few_workers = omega arith;
-  some_talk = omega arith;
-  few_talks = omega arith;
   few_polls = tt;
 }
 
@@ -119,7 +123,7 @@ without x place = record {
   rows = rows_of_words (without_words (x ∷ place));
   taken = refl;
   found = refl;
-  asks = asks_relp x place false (rows_of_words (without_words (x ∷ place))) refl refl refl refl refl refl refl refl refl;
+  asks = asks_relp x place false (rows_of_words (without_words (x ∷ place))) refl refl refl refl refl refl refl refl refl refl;
 }
 
 abbrev before_words : Text → List Text
@@ -131,7 +135,7 @@ grouped_before x place = record {
   rows = rows_of_words (before_words (x ∷ place));
   taken = refl;
   found = refl;
-  asks = asks_relp x place true (rows_of_words (before_words (x ∷ place))) refl refl refl refl refl refl refl refl refl;
+  asks = asks_relp x place true (rows_of_words (before_words (x ∷ place))) refl refl refl refl refl refl refl refl refl refl;
 }
 
 abbrev behind_words : Text → List Text
@@ -143,7 +147,7 @@ grouped_behind x place = record {
   rows = rows_of_words (behind_words (x ∷ place));
   taken = refl;
   found = refl;
-  asks = asks_relp x place true (rows_of_words (behind_words (x ∷ place))) refl refl refl refl refl refl refl refl refl;
+  asks = asks_relp x place true (rows_of_words (behind_words (x ∷ place))) refl refl refl refl refl refl refl refl refl refl;
 }
 
 pub grouped_twice : (place : Text) → IsNoCommand (codes "serve" ∷ codes "--group" ∷ codes "--group" ∷ relp_words place ∷ [])

@@ -5,6 +5,7 @@ use Rattle.clap.specs.Walk.{Row, Text}
 use Rattle.clap.specs.Kinds.{IsAmong}
 use Rattle.clap.specs.declared.error.kind.ErrorKind.{ErrorKind}
 use Rattle.clap.specs.declared.error.kind.ErrorKind.TheVariants as kind
+use Rattle.desk_access.specs.declared.division.Division.{Division}
 use Rattle.edge_io.specs.declared.proto.Proto.{Proto}
 use Rattle.bridge_words.specs.declared.command.Command.{Command}
 use Rattle.bridge_words.specs.declared.command.Command.TheVariants.{Format, List as ListCommand, Replay, Drain, Load, Serve}
@@ -13,8 +14,9 @@ use Rattle.bridge_words.specs.declared.command.Server.{Server}
 use Rattle.bridge_words.specs.declared.fault.WordsFault.{WordsFault}
 use Rattle.bridge_words.specs.declared.reading.Unread.TheVariants.{Wrong}
 use Rattle.bridge_words.specs.Grammar.{refusals}
-use Rattle.bridge_words.specs.Words.{IsFormat, IsReplay, IsDrain, IsLoad, HasDoor, AreDoors, IsServe, IsCommandBy, IsNoCommand, IsPair, IsNoMove, name_of}
-use Rattle.bridge_words.specs.Wrong.{fault_for, unread_for, WrongFormat, WrongReplay, WrongDrain, WrongLoad, WrongDoors, WrongServe, WrongMove, WrongBy, IsWrong}
+use Rattle.bridge_words.specs.Values.{division_in, workers_in, talks_in}
+use Rattle.bridge_words.specs.Words.{IsFormat, IsReplay, IsDrain, IsLoad, HasDoor, AreDoors, IsCrew, IsServe, IsCommandBy, IsNoCommand, IsPair, IsNoMove, name_of}
+use Rattle.bridge_words.specs.Wrong.{fault_for, unread_for, WrongFormat, WrongReplay, WrongDrain, WrongLoad, WrongDoors, WrongCounts, WrongServe, WrongMove, WrongBy, IsWrong}
 use Rattle.bridge_words.specs.Wrong.WrongBy.{no_name, in_format, in_list, in_replay, in_drain, in_load, in_serve, in_move}
 use Rattle.bridge_words.specs.Wrong.IsWrong.{refused, nameless, found}
 use Rattle.bridge_words.proofs.Once.{apart, no_move_name, same_name, same_rows}
@@ -54,10 +56,21 @@ no_doors w rows relp lumberjack hec (inr (inr (inr h))) are =
     let relp_is = are.relp_is in let lumberjack_is = are.lumberjack_is in let hec_is = are.hec_is in
     no_door relp lumberjack hec are.some_door (cc (h.relp_is)) (cc (h.lumberjack_is)) (cc (h.hec_is))
 
+same_division : (rows : List Row) (a b : Division) → division_in rows ≡ Ok a → division_in rows ≡ Ok b → a ≡ b
+same_division rows a b x y = cc
+
+no_counts : (w : WordsFault) (rows : List Row) (division : Division) (workers talks : ℕ) → WrongCounts w rows → IsCrew division workers talks rows → ⊥
+no_counts w rows division workers talks (other, at, wrong) is =
+    let same = same_division rows other division at is.division_is in
+    elim wrong [
+      | inl h ↦ never _ _ _ is.workers_is (subst (λ (d : Division). workers_in d rows ≡ Err w) same h)
+      | inr h ↦ never _ _ _ is.talks_is (subst (λ (d : Division). talks_in d rows ≡ Err w) same h)
+    ]
+
 no_serve : (w : WordsFault) (rows : List Row) (server : Server) → WrongServe w rows → IsServe server rows → ⊥
 no_serve w rows server (inl h) is = no_doors w rows _ _ _ h is.doors_are
-no_serve w rows server (inr (inl h)) is = never _ _ _ is.workers_is h
-no_serve w rows server (inr (inr (inl h))) is = never _ _ _ is.talks_is h
+no_serve w rows server (inr (inl h)) is = never _ _ _ is.crew_is.division_is h
+no_serve w rows server (inr (inr (inl h))) is = no_counts w rows server.division server.workers server.talks h is.crew_is
 no_serve w rows server (inr (inr (inr (inl h)))) is = never _ _ _ is.token_is h
 no_serve w rows server (inr (inr (inr (inr (inl h))))) is = never _ _ _ is.ack_token_is h
 no_serve w rows server (inr (inr (inr (inr (inr h))))) is = never _ _ _ is.forward_is h

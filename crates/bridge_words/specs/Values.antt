@@ -10,6 +10,8 @@ use Rattle.uuid.specs.Text.{parsed}
 use Rattle.clap.specs.Walk.{Row, Text, first_of, rows_of}
 use Rattle.clap.specs.Matches.{found_of}
 use Rattle.clap.specs.declared.parser.matches.ArgMatches.{ArgMatches}
+use Rattle.desk_access.specs.declared.division.Division.{Division}
+use Rattle.desk_access.specs.declared.division.Division.TheVariants.{Workers, Connections}
 use Rattle.edge_io.specs.declared.proto.Proto.{Proto}
 use Rattle.edge_io.specs.declared.proto.Proto.TheVariants.{Relp, Lumberjack, Hec}
 use Rattle.bridge_words.specs.declared.command.ListForm.{ListForm}
@@ -153,12 +155,24 @@ out_channel_in rows = may_be wrong.OutChannel guid (value_of (codes "out-channel
 abbrev pub polls_in : List Row → Result ℕ WordsFault
 polls_in rows = is_else 60 wrong.Polls (number_within 1 1000) (value_of (codes "polls") rows)
 
--- the values of `--workers` and `--talks`
-abbrev pub workers_in : List Row → Result ℕ WordsFault
-workers_in rows = is_else 4 wrong.Workers (number_within 1 16) (value_of (codes "workers") rows)
+-- how the numbers of connections are divided: by whether `--connections` is given, beside which `--workers` isn't
+abbrev pub division_by : Option Text → Option Text → Result Division WordsFault
+division_by None workers = Ok Workers
+division_by (Some connections) None = Ok Connections
+division_by (Some connections) (Some workers) = Err wrong.BothCounts
 
-abbrev pub talks_in : List Row → Result ℕ WordsFault
-talks_in rows = is_else 67108864 wrong.Talks (number_within 1 67108864) (value_of (codes "talks") rows)
+abbrev pub division_in : List Row → Result Division WordsFault
+division_in rows = division_by (value_of (codes "connections") rows) (value_of (codes "workers") rows)
+
+-- the value of that one: how many workers each place has, which are 4 where neither is given
+abbrev pub workers_in : Division → List Row → Result ℕ WordsFault
+workers_in Workers rows = is_else 4 wrong.Workers (number_within 1 16) (value_of (codes "workers") rows)
+workers_in Connections rows = must_be wrong.Connections (number_within 1 1024) (value_of (codes "connections") rows)
+
+-- the value of `--talks`: as many as each worker has numbers for, at most
+abbrev pub talks_in : Division → List Row → Result ℕ WordsFault
+talks_in Workers rows = is_else 67108864 wrong.Talks (number_within 1 67108864) (value_of (codes "talks") rows)
+talks_in Connections rows = is_else 1048576 wrong.TalksOfConnections (number_within 1 1048576) (value_of (codes "talks") rows)
 
 -- whether `--group` is given
 abbrev pub group_in : List Row → Bool

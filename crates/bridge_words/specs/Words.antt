@@ -3,10 +3,14 @@ use Rattle.std.specs.Prelude.{◌≡◌, ◌⊎◌, Bool, ℕ, ◌≤◌, ◌^�
 use Rattle.clap.specs.Walk.{Row, Text}
 use Rattle.edge_io.specs.declared.proto.Proto.{Proto}
 use Rattle.spool_state.specs.Image.{slot_at}
+use Rattle.desk_access.specs.declared.division.Division.{Division}
+use Rattle.desk_access.specs.declared.division.Division.TheVariants.{Workers, Connections}
+use Rattle.desk_access.specs.Division.{each_of}
 use Rattle.bridge_words.specs.declared.command.Command.{Command}
 use Rattle.bridge_words.specs.declared.command.Command.TheVariants.{Format, List as ListCommand, Replay, Drain, Load, Serve}
 use Rattle.bridge_words.specs.declared.command.Relay.{Relay}
 use Rattle.bridge_words.specs.declared.command.Server.{Server}
+use Rattle.bridge_words.specs.declared.server.Crew.{Crew}
 use Rattle.bridge_words.specs.declared.command.Receiver.{Receiver}
 use Rattle.bridge_words.specs.declared.command.Receiver.TheVariants.{Hec as ToHec}
 use Rattle.bridge_words.specs.declared.fault.WordsFault.{WordsFault}
@@ -14,7 +18,7 @@ use Rattle.bridge_words.specs.declared.need.Need.{Need}
 use Rattle.bridge_words.specs.declared.need.Need.TheVariants.{NoCommand, Nothing, Existing, Make, Pair}
 use Rattle.bridge_words.specs.Grammar.{refusals, named}
 use Rattle.bridge_words.specs.Values.{slots_in, size_in, proto_in, place_in, number_in, count_in, form_in, token_in, ack_token_in, out_token_in, out_channel_in, polls_in, receiver_of, target_in, tag_in}
-use Rattle.bridge_words.specs.Values.{relp_in, lumberjack_in, hec_in, workers_in, talks_in, group_in, forward_in, to_in, relay_of}
+use Rattle.bridge_words.specs.Values.{relp_in, lumberjack_in, hec_in, division_in, workers_in, talks_in, group_in, forward_in, to_in, relay_of}
 
 -- ---- the table
 
@@ -94,38 +98,43 @@ pub record AreDoors (relp lumberjack hec : Option Text) (rows : List Row) : Type
   pub hec_is : hec_in rows ≡ Ok hec
   pub some_door : HasDoor relp lumberjack hec
 
+-- at most so many workers serve each place
+abbrev pub most_workers : Division → ℕ
+most_workers Workers = 16
+most_workers Connections = 1024
+
+-- how many workers serve each place, how many connections each of them, and how the numbers of these are divided
+pub record IsCrew (division : Division) (workers talks : ℕ) (rows : List Row) : Type 0 where
+  pub division_is : division_in rows ≡ Ok division
+  pub workers_is : workers_in division rows ≡ Ok workers
+  pub talks_is : talks_in division rows ≡ Ok talks
+  pub some_worker : 1 ≤ workers
+  pub few_workers : workers ≤ most_workers division
+  pub some_talk : 1 ≤ talks
+  pub few_talks : talks ≤ each_of division
+
 -- how a server works, and the tokens of the HTTP Event Collector
-pub record IsManner (workers talks : ℕ) (token ack_token : Option ℕ) (group : Bool) (rows : List Row) : Type 0 where
-  pub workers_is : workers_in rows ≡ Ok workers
-  pub talks_is : talks_in rows ≡ Ok talks
+pub record IsManner (crew : Crew) (token ack_token : Option ℕ) (group : Bool) (rows : List Row) : Type 0 where
+  pub crew_is : IsCrew crew.division crew.workers crew.talks rows
   pub token_is : token_in rows ≡ Ok token
   pub ack_token_is : ack_token_in rows ≡ Ok ack_token
   pub group_is : group_in rows ≡ group
-  pub some_worker : 1 ≤ workers
-  pub few_workers : workers ≤ 16
-  pub some_talk : 1 ≤ talks
-  pub few_talks : talks ≤ 2 ^ 26
 
--- `serve [--relp P] [--lumberjack P] [--hec P] [--workers N] [--talks N] [--token G] [--ack-token G] [--group]
---     [--forward PROTO] [--to P] [--out-token G] [--out-channel G] [--polls N]`
+-- `serve [--relp P] [--lumberjack P] [--hec P] [--workers N] [--connections N] [--talks N] [--token G]
+--     [--ack-token G] [--group] [--forward PROTO] [--to P] [--out-token G] [--out-channel G] [--polls N]`
 pub record IsServe (server : Server) (rows : List Row) : Type 0 where
   pub doors_are : AreDoors server.relp server.lumberjack server.hec rows
-  pub workers_is : workers_in rows ≡ Ok server.workers
-  pub talks_is : talks_in rows ≡ Ok server.talks
+  pub crew_is : IsCrew server.division server.workers server.talks rows
   pub token_is : token_in rows ≡ Ok server.token
   pub ack_token_is : ack_token_in rows ≡ Ok server.ack_token
   pub group_is : group_in rows ≡ server.group
   pub forward_is : relay_in rows ≡ Ok server.forward
-  pub some_worker : 1 ≤ server.workers
-  pub few_workers : server.workers ≤ 16
-  pub some_talk : 1 ≤ server.talks
-  pub few_talks : server.talks ≤ 2 ^ 26
   pub few_polls : HasRelayPolls server.forward
 
 -- a server of RELP at this place, with nothing else said but whether events that came together are stored together
 abbrev pub relp_server : Text → Bool → Server
 relp_server place group =
-    record { relp = Some place; lumberjack = None; hec = None; workers = 4; talks = 67108864; token = None; ack_token = None; group = group; forward = None }
+    record { relp = Some place; lumberjack = None; hec = None; division = Workers; workers = 4; talks = 67108864; token = None; ack_token = None; group = group; forward = None }
 
 -- what was found of the words asks for this
 abbrev pub IsCommandBy : Command → List Row → Type 0

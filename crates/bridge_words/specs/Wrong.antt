@@ -4,6 +4,7 @@ use Rattle.clap.specs.Walk.{Row, Text}
 use Rattle.clap.specs.Kinds.{IsAmong}
 use Rattle.clap.specs.declared.error.kind.ErrorKind.{ErrorKind}
 use Rattle.clap.specs.declared.error.kind.ErrorKind.TheVariants as kind
+use Rattle.desk_access.specs.declared.division.Division.{Division}
 use Rattle.bridge_words.specs.declared.command.Command.{Command}
 use Rattle.bridge_words.specs.declared.fault.WordsFault.{WordsFault}
 use Rattle.bridge_words.specs.declared.fault.WordsFault.TheVariants as fault
@@ -11,7 +12,7 @@ use Rattle.bridge_words.specs.declared.reading.Unread.{Unread}
 use Rattle.bridge_words.specs.declared.reading.Unread.TheVariants.{NoMemory, Wrong}
 use Rattle.bridge_words.specs.Grammar.{refusals, named}
 use Rattle.bridge_words.specs.Values.{slots_in, size_in, proto_in, place_in, number_in, count_in, form_in, token_in, ack_token_in}
-use Rattle.bridge_words.specs.Values.{relp_in, lumberjack_in, hec_in, workers_in, talks_in, target_in, tag_in}
+use Rattle.bridge_words.specs.Values.{relp_in, lumberjack_in, hec_in, division_in, workers_in, talks_in, target_in, tag_in}
 use Rattle.bridge_words.specs.Words.{name_of, receiver_in, relay_in}
 
 -- what a kind of clap's errors says of the words
@@ -55,8 +56,13 @@ pub record HasNoDoor (w : WordsFault) (rows : List Row) : Type 0 where
 abbrev pub WrongDoors : WordsFault → List Row → Type 0
 WrongDoors w rows = (relp_in rows ≡ Err w) ⊎ ((lumberjack_in rows ≡ Err w) ⊎ ((hec_in rows ≡ Err w) ⊎ HasNoDoor w rows))
 
+-- how many workers a place has, or how many connections each serves, as one of `--workers` and `--connections` asks for it
+abbrev pub WrongCounts : WordsFault → List Row → Type 0
+WrongCounts w rows =
+    (division : Division) × (division_in rows ≡ Ok division) × ((workers_in division rows ≡ Err w) ⊎ (talks_in division rows ≡ Err w))
+
 abbrev pub WrongServe : WordsFault → List Row → Type 0
-WrongServe w rows = WrongDoors w rows ⊎ ((workers_in rows ≡ Err w) ⊎ ((talks_in rows ≡ Err w) ⊎ ((token_in rows ≡ Err w) ⊎ ((ack_token_in rows ≡ Err w) ⊎ (relay_in rows ≡ Err w)))))
+WrongServe w rows = WrongDoors w rows ⊎ ((division_in rows ≡ Err w) ⊎ (WrongCounts w rows ⊎ ((token_in rows ≡ Err w) ⊎ ((ack_token_in rows ≡ Err w) ⊎ (relay_in rows ≡ Err w)))))
 
 abbrev pub WrongMove : WordsFault → List Row → Type 0
 WrongMove w rows = (target_in rows ≡ Err w) ⊎ (tag_in rows ≡ Err w)
@@ -104,7 +110,10 @@ fault_text fault.Polls = codes "--polls: 1 to 1000"
 fault_text fault.NoOutToken = codes "hec: --out-token is needed"
 fault_text fault.NoOutChannel = codes "hec: --out-channel is needed"
 fault_text fault.Workers = codes "--workers: 1 to 16"
+fault_text fault.Connections = codes "--connections: 1 to 1024"
+fault_text fault.BothCounts = codes "--connections: not beside --workers"
 fault_text fault.Talks = codes "--talks: 1 to 67108864"
+fault_text fault.TalksOfConnections = codes "--talks: 1 to 1048576 with --connections"
 fault_text fault.NoDoor = codes "serve: --relp, --lumberjack or --hec is needed"
 fault_text fault.NoTo = codes "--forward: --to is needed"
 fault_text fault.NoForward = codes "--to: --forward is needed"

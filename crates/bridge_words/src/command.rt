@@ -4,6 +4,7 @@ ghost use Rattle.bridge_words.specs.declared.command.Command.{Command};
 ghost use Rattle.bridge_words.specs.Words.{IsCommand, IsNoCommand};
 
 use crate::reading::{Asked, Unread, read};
+use desk_access::Division;
 use edge_io::Proto;
 use notes::Place;
 use std::alloc::{AllocError, Global};
@@ -55,9 +56,11 @@ pub struct Server {
     pub lumberjack: Option<Place>,
     /// The place at which connections of the HTTP Event Collector come in.
     pub hec: Option<Place>,
-    /// How many workers serve each place, 1 to 16: as many connections are served there at once.
+    /// How the numbers of connections are divided among the workers of all places: by `--connections` among 4,096, and else among 64.
+    pub division: Division,
+    /// How many workers serve each place, 1 to 16, or by `--connections` 1 to 1,024: as many connections are served there at once.
     pub workers: u32,
-    /// How many connections each worker serves before it ends, 1 to 67,108,864.
+    /// How many connections each worker serves before it ends, 1 to 67,108,864, or by `--connections` 1 to 1,048,576.
     pub talks: u32,
     /// The token of the HTTP Event Collector whose requests are answered once they are durable.
     pub token: Option<u128>,
@@ -116,10 +119,11 @@ impl Command {
     /// - `drain PROTO [PLACE] [--out-token GUID] [--out-channel GUID] [--polls N]`. `hec`
     ///   needs the token and the channel. Without `--polls` it is 60;
     /// - `load PROTO NUMBER COUNT`;
-    /// - `serve [--relp PLACE] [--lumberjack PLACE] [--hec PLACE] [--workers N] [--talks N] [--token GUID] [--ack-token GUID]
-    ///   [--group] [--forward PROTO] [--to PLACE] [--out-token GUID] [--out-channel GUID] [--polls N]`, with one of the first
-    ///   three places at least. Without `--workers` it is 4, without `--talks` 67,108,864, and without `--polls` 60.
-    ///   `--forward` and `--to` stand together, and `--forward hec` needs the token and the channel that go out.
+    /// - `serve [--relp PLACE] [--lumberjack PLACE] [--hec PLACE] [--workers N] [--connections N] [--talks N] [--token GUID]
+    ///   [--ack-token GUID] [--group] [--forward PROTO] [--to PLACE] [--out-token GUID] [--out-channel GUID] [--polls N]`, with one
+    ///   of the first three places at least. `--workers` and `--connections` don't stand together. Without both there are 4 workers,
+    ///   without `--talks` it is 67,108,864, or with `--connections` 1,048,576, and without `--polls` 60. `--forward` and `--to` stand
+    ///   together, and `--forward hec` needs the token and the channel that go out.
     ///
     /// A place is any text that isn't empty.
     ///

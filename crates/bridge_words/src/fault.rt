@@ -54,8 +54,14 @@ pub enum WordsFault {
     NoOutChannel,
     /// `--workers` isn't 1 to 16.
     Workers,
+    /// `--connections` isn't 1 to 1,024.
+    Connections,
+    /// `--connections` and `--workers` are both given.
+    BothCounts,
     /// `--talks` isn't 1 to 67,108,864.
     Talks,
+    /// `--talks` isn't 1 to 1,048,576, with `--connections`.
+    TalksOfConnections,
     /// `serve` without a place at which connections come in.
     NoDoor,
     /// `--forward` without `--to`.
@@ -92,7 +98,10 @@ impl WordsFault {
             WordsFault::NoOutToken => "hec: --out-token is needed",
             WordsFault::NoOutChannel => "hec: --out-channel is needed",
             WordsFault::Workers => "--workers: 1 to 16",
+            WordsFault::Connections => "--connections: 1 to 1024",
+            WordsFault::BothCounts => "--connections: not beside --workers",
             WordsFault::Talks => "--talks: 1 to 67108864",
+            WordsFault::TalksOfConnections => "--talks: 1 to 1048576 with --connections",
             WordsFault::NoDoor => "serve: --relp, --lumberjack or --hec is needed",
             WordsFault::NoTo => "--forward: --to is needed",
             WordsFault::NoForward => "--to: --forward is needed",

@@ -1,16 +1,18 @@
 //! What the words of `serve` ask for.
-ghost use Rattle.std.specs.Prelude.{◌≡◌, ◌↔◌, IsTrue, Err, Ok, IfOk, codes};
+ghost use Rattle.std.specs.Prelude.{◌≡◌, ◌⊎◌, ◌≤◌, ◌↔◌, IsTrue, Err, Ok, IfOk, codes};
+ghost use Rattle.desk_access.specs.Division.{each_of};
 ghost use Rattle.bridge_words.specs.declared.fault.WordsFault.{WordsFault};
 ghost use Rattle.bridge_words.specs.declared.reading.Unread.TheVariants.{Wrong};
-ghost use Rattle.bridge_words.specs.Values.{rows_in, relay_of};
-ghost use Rattle.bridge_words.specs.Words.{HasDoor, AreDoors, HasRelayPolls, IsManner, IsNamed, relay_in};
-ghost use Rattle.bridge_words.specs.Wrong.{WrongDoors, WrongServe};
+ghost use Rattle.bridge_words.specs.Values.{rows_in, division_in, workers_in, talks_in, relay_of};
+ghost use Rattle.bridge_words.specs.Words.{HasDoor, AreDoors, HasRelayPolls, IsCrew, IsManner, IsNamed, most_workers, relay_in};
+ghost use Rattle.bridge_words.specs.Wrong.{WrongCounts, WrongDoors, WrongServe};
 
 use crate::fault::WordsFault;
 use crate::reading::{Unread, receiver_of};
-use crate::values::{flag_for, forward_in, guid_for, number_or, place_for};
+use crate::values::{flag_for, forward_in, guid_for, number_for, number_or, place_for, value_of};
 use crate::{Command, Relay, Server};
 use clap::ArgMatches;
+use desk_access::Division;
 use edge_io::Proto;
 use notes::Place;
 use std::alloc::Global;
@@ -84,11 +86,84 @@ fn relay_in(alloc: Global, matches: &ArgMatches<'_>) -> Result<Option<Relay>, Un
     Ok(relay)
 }
 
+/// How many workers serve each place, how many connections each of them, and how the numbers of these are divided.
+#[derive(Clone, Copy)]
+struct Crew {
+    division: Division,
+    workers: u32,
+    talks: u32,
+}
+
+// How the numbers of connections are divided: by whether `--connections` is given, beside which `--workers` isn't.
+fn division_in(matches: &ArgMatches<'_>) -> Result<Division, WordsFault>
+    ensures { result ≡ division_in (rows_in matches.now) }
+{
+    match value_of(matches, "connections") {
+        None => Ok(Division::Workers),
+        Some(_) => match value_of(matches, "workers") {
+            None => Ok(Division::Connections),
+            Some(_) => Err(WordsFault::BothCounts),
+        },
+    }
+}
+
+// How many workers each place has: the value of `--connections` where that is given, or else that of `--workers`.
+fn workers_in(matches: &ArgMatches<'_>, division: Division) -> Result<u32, WordsFault>
+    ensures number { result ≡ workers_in division (rows_in matches.now) }
+    ensures range { IfOk result (λ n. (1 ≤ n) × (n ≤ most_workers division)) }
+{
+    match division {
+        Division::Workers => number_or(matches, "workers", 1, 16, 4, WordsFault::Workers),
+        Division::Connections => {
+            number_for(matches, "connections", 1, 1024, WordsFault::Connections)
+        }
+    }
+}
+
+// How many connections each worker serves: as many as it has numbers for, at most.
+fn talks_in(matches: &ArgMatches<'_>, division: Division) -> Result<u32, WordsFault>
+    ensures number { result ≡ talks_in division (rows_in matches.now) }
+    ensures range { IfOk result (λ n. (1 ≤ n) × (n ≤ each_of division)) }
+{
+    match division {
+        Division::Workers => {
+            let most = 67_108_864;
+            number_or(matches, "talks", 1, most, most, WordsFault::Talks)
+        }
+        Division::Connections => {
+            let most = 1_048_576;
+            number_or(
+                matches,
+                "talks",
+                1,
+                most,
+                most,
+                WordsFault::TalksOfConnections,
+            )
+        }
+    }
+}
+
+// How many workers serve each place, and how many connections each of them.
+fn crew_in(matches: &ArgMatches<'_>) -> Result<Crew, WordsFault>
+    ensures crew { IfOk result (λ crew. IsCrew crew.division crew.workers crew.talks (rows_in matches.now)) }
+    ensures wrong { (fault : WordsFault) → result ≡ Err fault
+        → (division_in (rows_in matches.now) ≡ Err fault) ⊎ WrongCounts fault (rows_in matches.now) }
+{
+    let division = division_in(matches)?;
+    let workers = workers_in(matches, division)?;
+    let talks = talks_in(matches, division)?;
+    Ok(Crew {
+        division,
+        workers,
+        talks,
+    })
+}
+
 /// How a server works, and the tokens of the HTTP Event Collector.
 #[derive(Clone, Copy)]
 struct Manner {
-    workers: u32,
-    talks: u32,
+    crew: Crew,
     token: Option<u128>,
     ack_token: Option<u128>,
     group: bool,
@@ -96,32 +171,23 @@ struct Manner {
 
 // How a server works, and the tokens.
 fn manner_in(matches: &ArgMatches<'_>) -> Result<Manner, WordsFault>
-    ensures manner { IfOk result (λ manner. IsManner manner.workers manner.talks manner.token manner.ack_token manner.group (rows_in matches.now)) }
+    ensures manner { IfOk result (λ manner. IsManner manner.crew manner.token manner.ack_token manner.group (rows_in matches.now)) }
     ensures wrong { (fault : WordsFault) → result ≡ Err fault → WrongServe fault (rows_in matches.now) }
 {
-    let workers = number_or(matches, "workers", 1, 16, 4, WordsFault::Workers)?;
-    let talks = number_or(
-        matches,
-        "talks",
-        1,
-        67_108_864,
-        67_108_864,
-        WordsFault::Talks,
-    )?;
+    let crew = crew_in(matches)?;
     let token = guid_for(matches, "token", WordsFault::Token)?;
     let ack_token = guid_for(matches, "ack-token", WordsFault::AckToken)?;
     let group = flag_for(matches, "group");
     Ok(Manner {
-        workers,
-        talks,
+        crew,
         token,
         ack_token,
         group,
     })
 }
 
-/// `serve [--relp P] [--lumberjack P] [--hec P] [--workers N] [--talks N] [--token G] [--ack-token G] [--group]
-/// [--forward PROTO] [--to P] [--out-token G] [--out-channel G] [--polls N]`
+/// `serve [--relp P] [--lumberjack P] [--hec P] [--workers N] [--connections N] [--talks N] [--token G]
+/// [--ack-token G] [--group] [--forward PROTO] [--to P] [--out-token G] [--out-channel G] [--polls N]`
 pub(crate) fn serve_in(alloc: Global, matches: &ArgMatches<'_>) -> Result<Command, Unread>
     ensures command { IfOk result (IsNamed (codes "serve") (rows_in matches.now)) }
     ensures wrong { (fault : WordsFault) → result ≡ Err (Wrong fault) → WrongServe fault (rows_in matches.now) }
@@ -139,8 +205,9 @@ pub(crate) fn serve_in(alloc: Global, matches: &ArgMatches<'_>) -> Result<Comman
             relp,
             lumberjack,
             hec,
-            workers: manner.workers,
-            talks: manner.talks,
+            division: manner.crew.division,
+            workers: manner.crew.workers,
+            talks: manner.crew.talks,
             token: manner.token,
             ack_token: manner.ack_token,
             group: manner.group,

@@ -17,8 +17,8 @@ use notes::Place;
 use std::alloc::Global;
 use uuid::Uuid;
 
-// The text that stands for a word of the command.
-fn value_of<'a>(matches: &ArgMatches<'a>, id: &str) -> Option<&'a str>
+/// The text that stands for a word of the command.
+pub(crate) fn value_of<'a>(matches: &ArgMatches<'a>, id: &str) -> Option<&'a str>
     ensures { MatchOption result (value_of id.now (rows_in matches.now) ≡ None) (λ text. value_of id.now (rows_in matches.now) ≡ Some text.now) }
 {
     matches.get_str(id)

@@ -8,11 +8,13 @@ use Rattle.event_form.specs.declared.event.Entry.{Entry}
 use Rattle.spool_answers.specs.declared.fault.Receipt.{Receipt}
 use Rattle.spool_answers.specs.declared.fault.TakeFault.{TakeFault}
 use Rattle.spool_answers.specs.declared.fault.TakeFault.TheVariants as Take
+use Rattle.desk_access.specs.Division.{DividedRun, each_of}
 use Rattle.desk_access.specs.Call.{Call, takes, Record, own_of, calls_of, taken_by}
 use Rattle.desk_access.specs.Batch.{AreNext, MayTake, Belongs}
 use Rattle.desk_access.specs.History.{Adds}
 use Rattle.desk_access.specs.Legal.{count_in, count_on, IsSureOn, AreSureOn, IsNext, May, Met, AddsGroups, all_of, of_conn}
 use Rattle.desk_access.specs.Journal.{own_then}
+use Rattle.desk_access.proofs.Dividing.{whose}
 use Rattle.desk_access.proofs.Taking.{all_of_conn}
 use Rattle.desk_access.proofs.Added.{added_all, written_all}
 use Rattle.desk_access.proofs.Nexts.{count_all, count_none, count_then, sure_then}
@@ -50,10 +52,10 @@ next_both conn index (x ∷ xs) ys p q = (p.0, p.1, next_both conn (index + 1) x
 -- ---- what a call takes of it
 
 -- a call of the caller takes none of the connection, or the next of it and no other
-abbrev pub TakesOf : ℕ → ℕ → ℕ → List Call → List Entry → Type 0
+abbrev pub TakesOf : DividedRun → ℕ → ℕ → List Call → List Entry → Type 0
 TakesOf run conn number own group = All (λ (entry : Entry). entry.conn ≢ conn) group ⊎ ((0 < length group) × Belongs run number conn × AreSureOn conn own × AreNext conn (count_on conn own) group)
 
-takes_of : (run conn number : ℕ) (own : List Call) (group : List Entry) → MayTake (IsNext run number own) group → TakesOf run conn number own group
+takes_of : (run : DividedRun) (conn number : ℕ) (own : List Call) (group : List Entry) → MayTake (IsNext run number own) group → TakesOf run conn number own group
 takes_of run conn number own [] may = inl (All-nil (λ (entry : Entry). entry.conn ≢ conn))
 takes_of run conn number own (entry ∷ entries) may = elim (cases_eq entry.conn conn) [
   | inl same ↦ inr (
@@ -90,7 +92,7 @@ unsure conn [] all some h = omega (arith, some)
 unsure conn (entry ∷ entries) all some (inl never) = omega (arith, never)
 unsure conn (entry ∷ entries) all some (inr off) = All-head (λ (e : Entry). e.conn ≢ conn) entry entries off (All-head (λ (e : Entry). e.conn ≡ conn) entry entries all)
 
-module _ (run confirming conn number : ℕ) (only : (k : ℕ) → Belongs run k conn → k ≡ number) where
+module _ (run : DividedRun) (confirming conn number : ℕ) (only : (k : ℕ) → Belongs run k conn → k ≡ number) where
   sure_still : (records : List Record) (one : Record) → AreSureOn conn (own_of number (records ++ one ∷ [])) → AreSureOn conn (own_of number records)
   sure_still records one h = sure_first conn (own_of number records) (own_of number (one ∷ [])) (subst (AreSureOn conn) (own_then number records (one ∷ [])) h)
 
@@ -188,9 +190,9 @@ module _ (run confirming conn number : ℕ) (only : (k : ℕ) → Belongs run k 
       ]))
 
 -- a connection belongs to one caller
-owner : (run k conn : ℕ) → Belongs run k conn → k ≡ (conn - run * 2 ^ 32) / 2 ^ 26
-owner run k conn h = omega (arith, h.from, h.below)
+owner : (run : DividedRun) (k conn : ℕ) → Belongs run k conn → k ≡ (conn - run.number * 2 ^ 32) / each_of run.division
+owner run k conn h = whose run.division (run.number * 2 ^ 32) k conn h.from h.below
 
 -- each connection's entries have the indexes from 0 on
-pub each_in_order : (run confirming conn : ℕ) (log : List Record) (groups : List (List Entry)) → Met run confirming [] log → AddsGroups (calls_of log) groups → AreNext conn 0 (of_conn conn (all_of groups))
-each_in_order run confirming conn log groups met adds = in_order run confirming conn ((conn - run * 2 ^ 32) / 2 ^ 26) (λ k h. owner run k conn h) [] log groups tt met adds
+pub each_in_order : (run : DividedRun) (confirming conn : ℕ) (log : List Record) (groups : List (List Entry)) → Met run confirming [] log → AddsGroups (calls_of log) groups → AreNext conn 0 (of_conn conn (all_of groups))
+each_in_order run confirming conn log groups met adds = in_order run confirming conn ((conn - run.number * 2 ^ 32) / each_of run.division) (λ k h. owner run k conn h) [] log groups tt met adds

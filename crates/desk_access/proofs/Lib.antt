@@ -6,6 +6,7 @@ pub mod Steps
 pub mod OneState
 pub mod Lasting
 pub mod Taking
+pub mod Dividing
 pub mod Nexts
 pub mod Tables
 pub mod Told

@@ -6,12 +6,13 @@ use Rattle.std.proofs.lemmas.List.Elements.{All-nil, All-cons, All-head, All-tai
 use Rattle.event_form.specs.declared.event.Entry.{Entry}
 use Rattle.spool_answers.specs.declared.fault.Receipt.{Receipt}
 use Rattle.spool_answers.specs.declared.fault.TakeFault.TheVariants as Take
+use Rattle.desk_access.specs.Division.{DividedRun}
 use Rattle.desk_access.specs.Call.{Call, takes, issues, Record, own_of, taken_by, taken_of, TookSurely}
 use Rattle.desk_access.specs.Batch.{AreOfUnit, Belongs}
 use Rattle.desk_access.specs.History.{written_by}
 use Rattle.desk_access.specs.Legal.{bit, count_in, count_on, NoneLater, IsSureOn, AreSureOn, IsNext, AreUnused, IsUnused, IsStored, May, Met}
 
-pub met_then : (run confirming : ℕ) (before log : List Record) (one : Record) → Met run confirming before log → May run confirming one.by (own_of one.by (before ++ log)) one.call → Met run confirming before (log ++ one ∷ [])
+pub met_then : (run : DividedRun) (confirming : ℕ) (before log : List Record) (one : Record) → Met run confirming before log → May run confirming one.by (own_of one.by (before ++ log)) one.call → Met run confirming before (log ++ one ∷ [])
 met_then run confirming before [] one m may = (subst (λ (l : List Record). May run confirming one.by (own_of one.by l) one.call) (append-nil before) may, tt)
 met_then run confirming before (x ∷ xs) one m may =
     (m.0, met_then run confirming (before ++ x ∷ []) xs one m.1 (subst (λ (l : List Record). May run confirming one.by (own_of one.by l) one.call) (sym (append_assoc before (x ∷ []) xs)) may))
@@ -71,7 +72,7 @@ sure_calls conn [] sure = tt
 sure_calls conn (call ∷ calls) sure = (sure_one conn call (All-head TookSurely call calls sure), sure_calls conn calls (All-tail TookSurely call calls sure))
 
 -- the next index is higher by the number of entries that were taken
-pub next_more : (run number : ℕ) (own calls : List Call) (conn index : ℕ) → All TookSurely calls → All (λ (e : Entry). e.conn ≡ conn) (taken_of calls) → IsNext run number own conn index → IsNext run number (own ++ calls) conn (index + length (taken_of calls))
+pub next_more : (run : DividedRun) (number : ℕ) (own calls : List Call) (conn index : ℕ) → All TookSurely calls → All (λ (e : Entry). e.conn ≡ conn) (taken_of calls) → IsNext run number own conn index → IsNext run number (own ++ calls) conn (index + length (taken_of calls))
 next_more run number own calls conn index sure all next = record {
   belongs = next.belongs;
   index_is = omega (arith, next.index_is, count_then conn own calls, count_calls conn calls all);
@@ -102,7 +103,7 @@ first_for conn (takes group (Err _)) h = (refl, inl refl, All-nil (λ (e : Entry
 first_for conn _ h = (refl, tt, All-nil (λ (e : Entry). e.conn ≤ conn))
 
 -- the first index of a later connection is 0
-pub next_first : (run number : ℕ) (own : List Call) (conn : ℕ) → Belongs run number conn → AreEarlier conn own → IsNext run number own conn 0
+pub next_first : (run : DividedRun) (number : ℕ) (own : List Call) (conn : ℕ) → Belongs run number conn → AreEarlier conn own → IsNext run number own conn 0
 next_first run number [] conn belongs h = record { belongs = belongs; index_is = refl; latest = tt; sure = tt }
 next_first run number (call ∷ own) conn belongs h =
     let one = first_for conn call h.0 in

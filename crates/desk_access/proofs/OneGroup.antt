@@ -8,6 +8,7 @@ use Rattle.event_form.specs.declared.event.Entry.{Entry}
 use Rattle.spool_answers.specs.declared.fault.Receipt.{Receipt}
 use Rattle.spool_answers.specs.declared.fault.TakeFault.{TakeFault}
 use Rattle.hec_ids.specs.Table.{Table}
+use Rattle.desk_access.specs.Division.{DividedRun}
 use Rattle.desk_access.specs.Call.{Call, takes, Record, own_of, calls_of}
 use Rattle.desk_access.specs.Batch.{AreOfUnit, MayUse}
 use Rattle.desk_access.specs.Desk.{DeskState, Goes}
@@ -53,7 +54,7 @@ take_uses unit own group result large (inr ids) = elim (cases_eq ids.0 unit) [
   | inr differ ↦ inl (written_all (λ (entry : Entry). entry.unit ≢ unit) group result (λ k d lt is. differ (sym (ids.2 k d lt) ∙ is)))
 ]
 
-uses : (run confirming number unit : ℕ) (own : List Call) (call : Call) → 2 ^ 32 ≤ unit → May run confirming number own call → Uses unit own call
+uses : (run : DividedRun) (confirming number unit : ℕ) (own : List Call) (call : Call) → 2 ^ 32 ≤ unit → May run confirming number own call → Uses unit own call
 uses run confirming number unit own (takes group result) large may = take_uses unit own group result large may.1
 uses run confirming number unit own _ large may = inl (All-nil (λ (entry : Entry). entry.unit ≢ unit))
 
@@ -68,40 +69,40 @@ record IsSpent (unit : ℕ) (records : List Record) (t : Table) : Type 0 where
   none : (number : ℕ) → IsUnused (own_of number records) unit → ⊥
   old : unit < t.next
 
-module _ (run confirming unit : ℕ) (large : 2 ^ 32 ≤ unit) where
-  spent_more : (records : List Record) (one : Record) (t u : Table) → AreIssued run records t → TableAfter t one.call u → IsSpent unit records t → IsSpent unit (records ++ one ∷ []) u
+module _ (run : DividedRun) (confirming unit : ℕ) (large : 2 ^ 32 ≤ unit) where
+  spent_more : (records : List Record) (one : Record) (t u : Table) → AreIssued run.number records t → TableAfter t one.call u → IsSpent unit records t → IsSpent unit (records ++ one ∷ []) u
   spent_more records one t u are row spent = record {
     none = λ number h. elim (own_more number records one (λ (l : List Call). IsUnused l unit) h) [
-      | inl same ↦ elim (unused_last (own_of number records) one.call unit same.1) [ inl before ↦ spent.none number before.0 | inr new ↦ omega (arith, new_is run unit records one.call t u are row new, spent.old) ]
+      | inl same ↦ elim (unused_last (own_of number records) one.call unit same.1) [ inl before ↦ spent.none number before.0 | inr new ↦ omega (arith, new_is run.number unit records one.call t u are row new, spent.old) ]
       | inr other ↦ spent.none number other.1
     ];
-    old = omega (arith, spent.old, next_rises run records one.call t u are row);
+    old = omega (arith, spent.old, next_rises run.number records one.call t u are row);
   }
 
   -- a call by which entries of the unit are written
-  spent_new : (records : List Record) (one : Record) (t u : Table) → AreIssued run records t → TableAfter t one.call u → 0 < length (written_by one.call) → IsUnused (own_of one.by records) unit → AreOfUnit unit (written_by one.call) → (IsIssuedBy unit one.call → ⊥)
+  spent_new : (records : List Record) (one : Record) (t u : Table) → AreIssued run.number records t → TableAfter t one.call u → 0 < length (written_by one.call) → IsUnused (own_of one.by records) unit → AreOfUnit unit (written_by one.call) → (IsIssuedBy unit one.call → ⊥)
       → IsSpent unit (records ++ one ∷ []) u
   spent_new records one t u are row some unused all not = record {
     none = λ number h. elim (own_more number records one (λ (l : List Call). IsUnused l unit) h) [
       | inl same ↦ elim (unused_last (own_of number records) one.call unit same.1) [ inl before ↦ both_units unit (written_by one.call) some all before.1 | inr new ↦ not new ]
       | inr other ↦ other.0 (are.once one.by number unit (issued_of (own_of one.by records) unit unused) (issued_of (own_of number records) unit other.1))
     ];
-    old = omega (arith, (below_own run one.by unit records t are (issued_of (own_of one.by records) unit unused)).1, next_rises run records one.call t u are row);
+    old = omega (arith, (below_own run.number one.by unit records t are (issued_of (own_of one.by records) unit unused)).1, next_rises run.number records one.call t u are row);
   }
 
-  spent_none : (records log : List Record) (x y : DeskState) (groups : List (List Entry)) → AreIssued run records x.ids → IsSpent unit records x.ids → Goes x log y → Met run confirming records log → AddsGroups (calls_of log) groups → All (AreOfOthers unit) groups
+  spent_none : (records log : List Record) (x y : DeskState) (groups : List (List Entry)) → AreIssued run.number records x.ids → IsSpent unit records x.ids → Goes x log y → Met run confirming records log → AddsGroups (calls_of log) groups → All (AreOfOthers unit) groups
   spent_none records [] x y groups are spent goes met adds = subst (All (AreOfOthers unit)) (sym adds) (All-nil (AreOfOthers unit))
   spent_none records (one ∷ log) x y groups are spent goes met adds =
       let row = table_then x goes.0 one goes.1 in
       let here : AreOfOthers unit (written_by one.call) = elim (uses run confirming one.by unit (own_of one.by records) one.call large met.0) [ inl others ↦ others | inr used ↦ absurd (spent.none one.by used.1) ] in
       subst (All (AreOfOthers unit)) (sym adds.4) (All-cons (AreOfOthers unit) adds.0 adds.1 (added_all (λ (entry : Entry). entry.unit ≢ unit) one.call adds.0 adds.2 here)
-      (spent_none (records ++ one ∷ []) log goes.0 y adds.1 (issued_then run records one x.ids goes.0.ids are row) (spent_more records one x.ids goes.0.ids are row spent) goes.2 met.1 adds.3))
+      (spent_none (records ++ one ∷ []) log goes.0 y adds.1 (issued_then run.number records one x.ids goes.0.ids are row) (spent_more records one x.ids goes.0.ids are row spent) goes.2 met.1 adds.3))
 
-  pub one_group : (records log : List Record) (x y : DeskState) (groups : List (List Entry)) → AreIssued run records x.ids → Goes x log y → Met run confirming records log → AddsGroups (calls_of log) groups → AreOneGroup unit groups
+  pub one_group : (records log : List Record) (x y : DeskState) (groups : List (List Entry)) → AreIssued run.number records x.ids → Goes x log y → Met run confirming records log → AddsGroups (calls_of log) groups → AreOneGroup unit groups
   one_group records [] x y groups are goes met adds = subst (AreOneGroup unit) (sym adds) tt
   one_group records (one ∷ log) x y groups are goes met adds =
       let row = table_then x goes.0 one goes.1 in
-      let after = issued_then run records one x.ids goes.0.ids are row in
+      let after = issued_then run.number records one x.ids goes.0.ids are row in
       subst (AreOneGroup unit) (sym adds.4) (elim (uses run confirming one.by unit (own_of one.by records) one.call large met.0) [
         | inl others ↦ inl (added_all (λ (entry : Entry). entry.unit ≢ unit) one.call adds.0 adds.2 others, one_group (records ++ one ∷ []) log goes.0 y adds.1 after goes.2 met.1 adds.3)
         | inr used ↦ inr (

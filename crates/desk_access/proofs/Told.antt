@@ -8,6 +8,7 @@ use Rattle.std.proofs.lemmas.List.Folds.{list_any-append}
 use Rattle.hec_ids.specs.declared.fault.IssueFault.{IssueFault}
 use Rattle.hec_ids.specs.Table.{Held, Table, is_of, holds_settled}
 use Rattle.hec_ids.specs.Rows.{unsettled, settled_at, is_told, Issues}
+use Rattle.desk_access.specs.Division.{DividedRun, divided}
 use Rattle.desk_access.specs.Call.{Call, issues, settles, forgets, asks, Record, AreBy, own_of}
 use Rattle.desk_access.specs.Desk.{DeskState, Goes}
 use Rattle.desk_access.specs.Legal.{Met, May, IsStored, IsStoredBy}
@@ -98,17 +99,17 @@ told_was_stored x z journal one more channel ids known k none goes asked stored 
     taken_by_then channel (get_or ids k 0) x y [] journal (λ is. let never : false ≡ true = sym (ap (λ (held : List Held). holds_settled channel (get_or ids k 0) held) none) ∙ is in absurd (cc)) parts.1 stored settled
 
 -- each caller settles what it may settle
-may_stored : (run confirming number : ℕ) (own : List Call) (call : Call) → May run confirming number own call → SettlesStored own call
+may_stored : (run : DividedRun) (confirming number : ℕ) (own : List Call) (call : Call) → May run confirming number own call → SettlesStored own call
 may_stored run confirming number own (settles channel id answer) may = may
 may_stored run confirming number own _ may = tt
 
-met_stored : (run confirming : ℕ) (before records : List Record) → Met run confirming before records → EachSettlesStored before records
+met_stored : (run : DividedRun) (confirming : ℕ) (before records : List Record) → Met run confirming before records → EachSettlesStored before records
 met_stored run confirming before [] met = tt
 met_stored run confirming before (one ∷ records) met = (may_stored run confirming one.by (own_of one.by before) one.call met.0, met_stored run confirming (before ++ one ∷ []) records met.1)
 
 pub told_was_taken : ToldWasTaken
-told_was_taken x y journal confirming number channel ids known joins found after clock k rules none goes met lt told =
-    told_was_stored x y journal (record { by = number; call = asks channel ids known; joins = joins; met = found; after = after; clock = clock }) [] channel ids known k none goes refl (met_stored x.spool.run confirming [] journal met) lt told
+told_was_taken x y journal division confirming number channel ids known joins found after clock k rules none goes met lt told =
+    told_was_stored x y journal (record { by = number; call = asks channel ids known; joins = joins; met = found; after = after; clock = clock }) [] channel ids known k none goes refl (met_stored (divided division x.spool.run) confirming [] journal met) lt told
 
 -- ---- of one caller
 

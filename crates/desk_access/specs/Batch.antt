@@ -1,6 +1,7 @@
 -- Which entries a caller may take: those of its connections, each connection's in order, and of units that it may use.
-use Rattle.std.specs.Prelude.{◌≡◌, ◌⊎◌, ℕ, ◌+◌, ◌*◌, ◌^◌, ◌<◌, ◌≤◌, List, [], ◌∷◌, All}
+use Rattle.std.specs.Prelude.{◌≡◌, ◌⊎◌, ℕ, ◌+◌, ◌^◌, ◌<◌, ◌≤◌, List, [], ◌∷◌, All}
 use Rattle.event_form.specs.declared.event.Entry.{Entry}
+use Rattle.desk_access.specs.Division.{DividedRun, callers_of, first_conn}
 
 -- these entries are of that connection, and their indexes go on from this one
 abbrev pub AreNext : ℕ → ℕ → List Entry → Type 0
@@ -24,8 +25,9 @@ AreOfUnit unit group = All (λ (entry : Entry). entry.unit ≡ unit) group
 abbrev pub MayUse : (ℕ → Type 0) → List Entry → Type 0
 MayUse may group = All IsPlain group ⊎ ((unit : ℕ) × may unit × AreOfUnit unit group)
 
--- The numbers of connections of a caller in a run: of 64 callers each has 2^26, one caller's after the other's.
-pub record Belongs (run number conn : ℕ) : Type 0 where
-  pub few : number < 64
-  pub from : run * 2 ^ 32 + number * 2 ^ 26 ≤ conn
-  pub below : conn < run * 2 ^ 32 + (number + 1) * 2 ^ 26
+-- The numbers of connections of a caller in a run: each of the callers among whom they are divided has as many, one caller's after the
+-- other's.
+pub record Belongs (run : DividedRun) (number conn : ℕ) : Type 0 where
+  pub few : number < callers_of run.division
+  pub from : first_conn run number ≤ conn
+  pub below : conn < first_conn run (number + 1)

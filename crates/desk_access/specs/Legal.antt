@@ -2,6 +2,7 @@
 use Rattle.std.specs.Prelude.{◌≡◌, ◌≢◌, ◌⊎◌, ℕ, ◌+◌, ◌*◌, ◌^◌, ◌≤◌, ◌<◌, ◌==◌, if◌then◌else◌, Bool, true, false, List, [], ◌∷◌, ◌++◌, length, All, filter, Ok}
 use Rattle.event_form.specs.declared.event.Entry.{Entry}
 use Rattle.desk_access.specs.Call.{Call, takes, confirms, marks, issues, settles, Record, own_of, taken_by, take_failures}
+use Rattle.desk_access.specs.Division.{DividedRun}
 use Rattle.desk_access.specs.Batch.{AreNext, MayTake, MayUse, IsPlain, AreOfUnit, Belongs}
 use Rattle.desk_access.specs.History.{Adds, written_by}
 
@@ -33,7 +34,7 @@ AreSureOn conn [] = Unit {0}
 AreSureOn conn (call ∷ calls) = IsSureOn conn call × AreSureOn conn calls
 
 -- For a caller of that number that made these calls, the connection is its own, and this is the connection's next index.
-pub record IsNext (run number : ℕ) (own : List Call) (conn index : ℕ) : Type 0 where
+pub record IsNext (run : DividedRun) (number : ℕ) (own : List Call) (conn index : ℕ) : Type 0 where
   pub belongs : Belongs run number conn
   pub index_is : index ≡ count_on conn own
   pub latest : NoneLater conn own
@@ -65,7 +66,7 @@ IsStored [] unit = ⊥
 IsStored (call ∷ calls) unit = IsStoredBy unit call ⊎ IsStored calls unit
 
 -- The call is one that the caller of that number may make, which made these before. One caller alone confirms.
-abbrev pub May : ℕ → ℕ → ℕ → List Call → Call → Type 0
+abbrev pub May : DividedRun → ℕ → ℕ → List Call → Call → Type 0
 May run confirming number own (takes group result) = MayTake (IsNext run number own) group × MayUse (IsUnused own) group
 May run confirming number own (confirms upto result) = number ≡ confirming
 May run confirming number own (marks stretches result) = number ≡ confirming
@@ -73,7 +74,7 @@ May run confirming number own (settles channel id answer) = IsStored own id
 May run confirming number own _ = Unit {0}
 
 -- so is each of a journal's records, after these
-abbrev pub Met : ℕ → ℕ → List Record → List Record → Type 0
+abbrev pub Met : DividedRun → ℕ → List Record → List Record → Type 0
 Met run confirming before [] = Unit {0}
 Met run confirming before (one ∷ records) = May run confirming one.by (own_of one.by before) one.call × Met run confirming (before ++ one ∷ []) records
 

@@ -3,6 +3,7 @@ pub mod Joint
 pub mod JointRecords
 pub mod Call
 pub mod Desk
+pub mod Division
 pub mod Batch
 pub mod Groups
 pub mod History

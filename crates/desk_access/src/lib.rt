@@ -9,11 +9,13 @@
 #![tactic(auto)]
 
 mod access;
+mod division;
 mod front;
 mod laws;
 mod standing;
 
 pub use access::Access;
+pub use division::Division;
 pub use front::Front;
 pub use laws::{
     journal_is_legal, journal_lasts, journal_leads_to_one_state, stood_was, told_was_taken,

@@ -5,6 +5,7 @@ use Rattle.std.proofs.lemmas.Bool.{cases_lt, eqb-false}
 use Rattle.std.proofs.lemmas.List.Elements.{All-nil, All-cons, All-head, All-tail}
 use mathlib.Core.List.{IsPrefix}
 use Rattle.edge_io.specs.Door.{DoorState}
+use Rattle.desk_access.specs.Division.{DividedRun}
 use Rattle.desk_access.specs.Call.{Call, Record, own_of, calls_of}
 use Rattle.desk_access.specs.Desk.{DeskState}
 use Rattle.desk_access.specs.Journal.{own_then}
@@ -23,7 +24,7 @@ abbrev pub HaveRun : (DeskState → Type 0) → ℕ → List Known → Type 0
 HaveRun start number [] = Unit {0}
 HaveRun start number (pass' ∷ passes') = ((pass : Known) × (calls : List Call) × (pass.number ≡ number) × (pass.own ≡ []) × Ran start pass calls pass') × HaveRun start (number + 1) passes'
 
-pub have_run : (start : DeskState → Type 0) (run talks number : ℕ) (rules : List Rules) (doors : List DoorState) (passes : List Known) (doors' : List DoorState) (passes' more : List Known) (reports : List WorkerReport)
+pub have_run : (start : DeskState → Type 0) (run : DividedRun) (talks number : ℕ) (rules : List Rules) (doors : List DoorState) (passes : List Known) (doors' : List DoorState) (passes' more : List Known) (reports : List WorkerReport)
     → AsLong (length rules) doors passes doors' passes' reports → AreNew number (passes ++ more) → HaveWorked start run talks rules doors passes doors' passes' reports → HaveRun start number passes'
 have_run start run talks number [] [] [] [] [] more [] long new worked = tt
 have_run start run talks number (by ∷ rules) (old ∷ doors) (pass ∷ passes) (new ∷ doors') (pass' ∷ passes') more (report ∷ reports) long fresh worked =

@@ -7,6 +7,7 @@ use Rattle.std.proofs.lemmas.Bool.{cond-true}
 use Rattle.std.proofs.lemmas.List.Elements.{All-nil, All-cons, All-head, All-tail, All-append, All-weaker, All-contains, Contains-append_left, Contains-append_right}
 use Rattle.event_form.specs.declared.event.Entry.{Entry}
 use Rattle.spool_answers.specs.declared.fault.TakeFault.TheVariants as Take
+use Rattle.desk_access.specs.Division.{DividedRun, callers_of, each_of, first_conn}
 use Rattle.desk_access.specs.Call.{Call, takes, Record, calls_of, own_of, taken_by, taken_of, failures_in, failures_of}
 use Rattle.desk_access.specs.Batch.{AreNext, Belongs}
 use Rattle.desk_access.specs.History.{Adds, AddsAll}
@@ -20,7 +21,6 @@ use Rattle.conn_serve.specs.Terms.{terms_of}
 use Rattle.conn_serve.proofs.Failing.{disk_fault_is_told}
 use Rattle.conn_serve.proofs.Indexing.{calls_are_of_conn}
 use Rattle.serve_workers.specs.Served.{Served, calls_in, IsServed, AreServed}
-use Rattle.serve_workers.specs.Works.{first_conn}
 use Rattle.serve_laws.specs.Contributes.{Contributes}
 
 -- ---- what calls added, as one list and in groups
@@ -202,7 +202,7 @@ each_adds rules first below (one ∷ links) entries few served adds =
     links (each_adds rules (first + 1) below links p.1 (omega (arith, few)) served.2 p.3))
 
 -- Of all that the journal added the connections of a caller's links have what their calls added.
-pub links_contribute : (run number : ℕ) (rules : Rules) (log : List Record) (links : List Served) (added : List Entry) → number < 64 → length links ≤ 2 ^ 26
+pub links_contribute : (run : DividedRun) (number : ℕ) (rules : Rules) (log : List Record) (links : List Served) (added : List Entry) → number < callers_of run.division → length links ≤ each_of run.division
     → AreServed rules (first_conn run number) links → own_of number log ≡ calls_in links
     → ((groups : List (List Entry)) → AddsGroups (calls_of log) groups → AddsOwn run number (own_of number log) groups (groups_by number log groups))
     → AddsAll (calls_of log) added → All (λ (one : Served). Contributes one (of_conn one.conn added)) links
@@ -210,7 +210,7 @@ links_contribute run number rules log links added small few served calls owns ad
     let g = in_groups (calls_of log) added adds in
     let own = owns g.0 g.1 in
     let mine = all_of (groups_by number log g.0) in
-    let below = first_conn run number + 2 ^ 26 in
+    let below = first_conn run number + each_of run.division in
     let each = each_adds rules (first_conn run number) below links mine (omega (arith, few)) served (subst (λ (l : List Call). AddsAll l mine) calls (all_added (own_of number log) (groups_by number log g.0) own.adds)) in
     All-weaker (Adding rules (first_conn run number) below mine) (λ (one : Served). Contributes one (of_conn one.conn added))
     (λ one a.

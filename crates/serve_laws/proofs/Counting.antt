@@ -9,6 +9,7 @@ use Rattle.event_form.specs.declared.talk.Talk.{Talk}
 use Rattle.event_form.specs.declared.talk.Talk.TheVariants.{DiskFault}
 use Rattle.edge_io.specs.Door.{DoorState}
 use Rattle.edge_io.specs.declared.proto.Proto.{Proto}
+use Rattle.desk_access.specs.Division.{DividedRun}
 use Rattle.desk_access.specs.Call.{Record, own_of, calls_of, failures_in, failures_of, failed_of, NoneJoins}
 use Rattle.desk_access.specs.Journal.{failures_split, failures_then, none_joined}
 use Rattle.conn_serve.specs.declared.rules.Rules.{Rules}
@@ -67,7 +68,7 @@ links_by_disk rules conn (one ∷ links) served =
     let tells = disk_fault_is_told rules.proto (terms_of rules) one.conn one.left one.bytes one.calls one.text one.talk served.1 in
     omega (arith, sum_by-cons (λ (s : Served). by_disk s.talk) one links, failures_then one.calls (calls_in links), one_by_disk rules.proto one.talk (failures_of one.calls) tells, links_by_disk rules (conn + 1) links served.2)
 
-parts_by_disk : (run talks : ℕ) (log : List Record) (number : ℕ) (rules : List Rules) (doors doors' : List DoorState) (reports : List WorkerReport) (parts : List Part) → AreParts run talks log number rules doors doors' reports parts
+parts_by_disk : (run : DividedRun) (talks : ℕ) (log : List Record) (number : ℕ) (rules : List Rules) (doors doors' : List DoorState) (reports : List WorkerReport) (parts : List Part) → AreParts run talks log number rules doors doors' reports parts
     → sum_by ended_by_disk parts ≤ failures_from (length parts) number log
 unfolding failures_from
 parts_by_disk run talks log number [] [] [] [] [] are = omega arith
@@ -80,7 +81,7 @@ rose_less : (n k before now : ℕ) → Rose n before now → k ≤ n → Rose k 
 rose_less n k before now rose less = omega (arith, rose, less)
 
 -- of each part by itself, where no caller was answered so more often than changes failed
-each_by_disk : (run talks : ℕ) (log : List Record) (number : ℕ) (rules : List Rules) (doors doors' : List DoorState) (reports : List WorkerReport) (parts : List Part) (before now : ℕ) → AreParts run talks log number rules doors doors' reports parts
+each_by_disk : (run : DividedRun) (talks : ℕ) (log : List Record) (number : ℕ) (rules : List Rules) (doors doors' : List DoorState) (reports : List WorkerReport) (parts : List Part) (before now : ℕ) → AreParts run talks log number rules doors doors' reports parts
     → Rose (failed_of log) before now → ((n : ℕ) → failures_of (own_of n log) ≤ failed_of log) → All (λ (part : Part). Rose (ended_by_disk part) before now) parts
 each_by_disk run talks log number [] [] [] [] [] before now are rose each = All-nil (λ (part : Part). Rose (ended_by_disk part) before now)
 each_by_disk run talks log number (by ∷ rules) (old ∷ doors) (new ∷ doors') (report ∷ reports) (part ∷ parts) before now (one, are) rose each =
@@ -90,7 +91,7 @@ each_by_disk run talks log number (by ∷ rules) (old ∷ doors) (new ∷ doors'
     (each_by_disk run talks log (number + 1) rules doors doors' reports parts before now are rose each)
 each_by_disk run talks log number rules doors doors' reports parts before now are rose each = absurd are
 
-pub disk_faults_counted : (grouped : Bool) (run talks : ℕ) (log : List Record) (rules : List Rules) (doors doors' : List DoorState) (reports : List WorkerReport) (parts : List Part) (before now : ℕ) → AreParts run talks log 0 rules doors doors' reports parts
+pub disk_faults_counted : (grouped : Bool) (run : DividedRun) (talks : ℕ) (log : List Record) (rules : List Rules) (doors doors' : List DoorState) (reports : List WorkerReport) (parts : List Part) (before now : ℕ) → AreParts run talks log 0 rules doors doors' reports parts
     → Rose (failed_of log) before now → (grouped ≡ false → NoneJoins log) → ((n : ℕ) → failures_of (own_of n log) ≤ failed_of log) → CountsEnded grouped parts before now
 disk_faults_counted false run talks log rules doors doors' reports parts before now are rose alone each =
     rose_less (failed_of log) (sum_by ended_by_disk parts) before now rose
@@ -100,7 +101,7 @@ disk_faults_counted true run talks log rules doors doors' reports parts before n
 
 -- ---- reports
 
-pub reports_counted : (run talks number : ℕ) (log : List Record) (rules : List Rules) (doors doors' : List DoorState) (reports : List WorkerReport) (parts : List Part) → AreParts run talks log number rules doors doors' reports parts
+pub reports_counted : (run : DividedRun) (talks number : ℕ) (log : List Record) (rules : List Rules) (doors doors' : List DoorState) (reports : List WorkerReport) (parts : List Part) → AreParts run talks log number rules doors doors' reports parts
     → sum_by (λ (report : WorkerReport). report.finished) reports ≡ sum_by (λ (part : Part). length part.finished) parts
 reports_counted run talks number log [] [] [] [] [] are = refl
 reports_counted run talks number log (by ∷ rules) (old ∷ doors) (new ∷ doors') (report ∷ reports) (part ∷ parts) (one, are) =

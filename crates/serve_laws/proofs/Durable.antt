@@ -13,6 +13,8 @@ use Rattle.edge_io.specs.declared.proto.Proto.TheVariants.{Relp, Lumberjack, Hec
 use Rattle.edge_disk.specs.Disk.{Moment}
 use Rattle.spool_state.specs.Image.{StandsFor}
 use Rattle.spool_state.specs.SpoolState.{SpoolState}
+use Rattle.desk_access.specs.declared.division.Division.{Division}
+use Rattle.desk_access.specs.Division.{DividedRun, divided}
 use Rattle.desk_access.specs.Call.{Call, asks, Record, own_of, calls_of}
 use Rattle.desk_access.specs.Desk.{DeskState, Goes}
 use Rattle.desk_access.specs.Durable.{IsToldTrue, KeepsCalls, KeepsSince, StaysTaken, left_since}
@@ -44,13 +46,13 @@ use Rattle.serve_laws.proofs.Ids.{id_whole}
 
 -- ---- an id for which true was answered
 
-met_first : (run confirming : ℕ) (before log more : List Record) → Met run confirming before (log ++ more) → Met run confirming before log
+met_first : (run : DividedRun) (confirming : ℕ) (before log more : List Record) → Met run confirming before (log ++ more) → Met run confirming before log
 met_first run confirming before [] more m = tt
 met_first run confirming before (one ∷ log) more m = (m.0, met_first run confirming (before ++ one ∷ []) log more m.1)
 
 -- of the desk from which the journal went
-module _ (x y : DeskState) (confirming : ℕ) (log : List Record) (rules : IsDesk x) (none : x.ids.held ≡ [])
-    (goes : Goes x log y) (met : Met x.spool.run confirming [] log)
+module _ (x y : DeskState) (division : Division) (confirming : ℕ) (log : List Record) (rules : IsDesk x) (none : x.ids.held ≡ [])
+    (goes : Goes x log y) (met : Met (divided division x.spool.run) confirming [] log)
     (legal : (groups : List (List Entry)) → AddsGroups (calls_of log) groups → IsLegal x.spool.run groups)
     (now : Moment) (keeps : KeepsCalls now (calls_of log)) (stays : KeepsSince log now) where
   -- an id for which a question of the journal was answered true
@@ -61,8 +63,8 @@ module _ (x y : DeskState) (confirming : ℕ) (log : List Record) (rules : IsDes
       let same : one ≡ asked = λ i. record { by = one.by; call = is i; joins = one.joins; met = one.met; after = one.after; clock = one.clock } in
       let whole : log ≡ (before ++ one ∷ []) ++ after = parts ∙ sym (append_assoc before (one ∷ []) after) in
       let first = goes_parts x y (before ++ one ∷ []) after (subst (λ (l : List Record). Goes x l y) whole goes) in
-      let met_before = met_first x.spool.run confirming [] before (one ∷ after) (subst (Met x.spool.run confirming []) parts met) in
-      let found = told_was_taken x first.0 before confirming one.by channel ids known one.joins one.met one.after one.clock k rules none (subst (λ (r : Record). Goes x (before ++ r ∷ []) first.0) same first.1) met_before short told in
+      let met_before = met_first (divided division x.spool.run) confirming [] before (one ∷ after) (subst (Met (divided division x.spool.run) confirming []) parts met) in
+      let found = told_was_taken x first.0 before division confirming one.by channel ids known one.joins one.met one.after one.clock k rules none (subst (λ (r : Record). Goes x (before ++ r ∷ []) first.0) same first.1) met_before short told in
       let g = stored_group (own_of found.0 before) id (subst (IsStored (own_of found.0 before)) is_id found.1) in
       record {
         before = before;

@@ -9,6 +9,7 @@ use Rattle.spool_answers.specs.declared.fault.PendFault.{PendFault}
 use Rattle.spool_answers.specs.declared.numbered.Numbered.{Numbered}
 use Rattle.spool_answers.specs.Stages.{IsOneOf}
 use Rattle.spool_desk.specs.Alone.{AloneView}
+use Rattle.desk_access.specs.Division.{DividedRun}
 use Rattle.desk_access.specs.Call.{Call, Record, own_of, calls_of, pends}
 use Rattle.desk_access.specs.Desk.{DeskState, Goes}
 use Rattle.desk_access.specs.History.{IsDesk}
@@ -123,7 +124,7 @@ module _ (start : DeskState → Type 0) (log : List Record) (met last : Known) (
 
 -- ---- of a run
 
-module _ (tells : Type 0) (start : DeskState → Type 0) (run seats : ℕ) (began : Beginning) (new : AloneView) (r : ServerRun tells start run seats began new) where
+module _ (tells : Type 0) (start : DeskState → Type 0) (run : DividedRun) (seats : ℕ) (began : Beginning) (new : AloneView) (r : ServerRun tells start run seats began new) where
   forwarded_last : (destination : Option Destination) (net net' : NetState) (last : Option Outcome) (f : Forwarded start destination r.served.workers' r.served.forwarder r.served.forwarder' net net' last)
       → LooksLast start (seats - 1) r.served.log destination r.served.workers' r.served.forwarder r.served.forwarder' net net' last f
   forwarded_last None net net' last f = tt
@@ -142,5 +143,5 @@ module _ (tells : Type 0) (start : DeskState → Type 0) (run seats : ℕ) (bega
       subst (λ (n : ℕ). IsLastOfAll start n served.log h.look) number
       (looked_last start served.log h.met served.forwarder' whole only destination.outward destination.place h.look h.net_beside net' (λ x s. (served.closes.replays.begins x s).rules) h.every h.looked_last)
 
-pub last_look_is_last : (tells : Type 0) (start : DeskState → Type 0) (run seats : ℕ) (began : Beginning) (new : AloneView) → LastLookIsLast tells start run seats began new
+pub last_look_is_last : (tells : Type 0) (start : DeskState → Type 0) (run : DividedRun) (seats : ℕ) (began : Beginning) (new : AloneView) → LastLookIsLast tells start run seats began new
 last_look_is_last tells start run seats began new r = forwarded_last tells start run seats began new r r.destination r.net r.net' r.last r.served.forwarded

@@ -4,6 +4,7 @@ use Rattle.std.specs.Prelude.{All}
 use Rattle.std.proofs.lemmas.List.Elements.{All-nil, All-cons, All-append, All-drop}
 use Rattle.event_form.specs.declared.event.Entry.{Entry}
 use Rattle.spool_state.specs.SpoolState.{SpoolState, base, list}
+use Rattle.desk_access.specs.Division.{DividedRun, first_conn}
 use Rattle.desk_access.specs.Call.{Call, Record, calls_of}
 use Rattle.desk_access.specs.Desk.{DeskState}
 use Rattle.desk_access.specs.History.{AddsAll, Grows, Was}
@@ -14,7 +15,6 @@ use Rattle.spool_turns.specs.Whole.{OpensLegal, AreEarlier}
 use Rattle.spool_turns.proofs.Picks.{conn_both, conn_none}
 use Rattle.conn_serve.specs.declared.rules.Rules.{Rules}
 use Rattle.serve_workers.specs.Served.{Served, AreServed}
-use Rattle.serve_workers.specs.Works.{first_conn}
 use Rattle.serve_laws.specs.Contributes.{BeginsInOrder, Contributes, StandsInOrder}
 use Rattle.serve_laws.proofs.Contributing.{in_groups}
 
@@ -45,7 +45,7 @@ conn_drop conn (suc n) (x ∷ xs) = by (x.conn == conn) (conn_drop conn n xs) wh
   by true rest = (suc rest.0, rest.1)
   by false rest = rest
 
-pub links_in_order : (x : DeskState) (run number : ℕ) (rules : Rules) (log : List Record) (links : List Served) (s : SpoolState) → x.spool.run ≡ run → AreServed rules (first_conn run number) links → first_conn run number + length links ≤ 2 ^ 63
+pub links_in_order : (x : DeskState) (run : DividedRun) (number : ℕ) (rules : Rules) (log : List Record) (links : List Served) (s : SpoolState) → x.spool.run ≡ run.number → AreServed rules (first_conn run number) links → first_conn run number + length links ≤ 2 ^ 63
     → ((added : List Entry) → AddsAll (calls_of log) added → All (λ (one : Served). Contributes one (of_conn one.conn added)) links) → Grows x (calls_of log) s → OpensLegal x → All (λ (one : Served). StandsInOrder one (list s)) links
 links_in_order x run number rules log links s of_run served few contribute grows opens = λ k d lt.
     in_order _ (contribute grows.more grows.adds k d lt) (conns_from rules (first_conn run number) links served few k d lt)
@@ -65,7 +65,7 @@ links_in_order x run number rules log links s of_run served few contribute grows
 
 -- ---- at a moment on the way
 
-pub links_were_in_order : (x : DeskState) (run number : ℕ) (rules : Rules) (log : List Record) (links : List Served) (c : List ℕ) → x.spool.run ≡ run → AreServed rules (first_conn run number) links → first_conn run number + length links ≤ 2 ^ 63
+pub links_were_in_order : (x : DeskState) (run : DividedRun) (number : ℕ) (rules : Rules) (log : List Record) (links : List Served) (c : List ℕ) → x.spool.run ≡ run.number → AreServed rules (first_conn run number) links → first_conn run number + length links ≤ 2 ^ 63
     → ((added : List Entry) → AddsAll (calls_of log) added → All (λ (one : Served). Contributes one (of_conn one.conn added)) links) → (w : Was x (calls_of log) c) → OpensLegal x → All (λ (one : Served). BeginsInOrder one (list w.state)) links
 links_were_in_order x run number rules log links c of_run served few contribute w opens = λ k d lt.
     in_order _ (contribute ((w.more ++ w.next) ++ behind.0) whole k d lt) (conns_from rules (first_conn run number) links served few k d lt)

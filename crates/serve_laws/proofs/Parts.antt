@@ -3,6 +3,7 @@ use Rattle.std.proofs.Common.{◌≡◌, ℕ, suc, ◌+◌, List, [], ◌∷◌,
 use Rattle.std.specs.Prelude.{All}
 use Rattle.std.proofs.lemmas.List.Elements.{All-head, All-tail}
 use Rattle.edge_io.specs.Door.{DoorState}
+use Rattle.desk_access.specs.Division.{DividedRun}
 use Rattle.desk_access.specs.Call.{Call, Record, own_of}
 use Rattle.desk_access.specs.Desk.{DeskState}
 use Rattle.conn_serve.specs.declared.rules.Rules.{Rules}
@@ -17,7 +18,7 @@ use Rattle.serve_laws.specs.Parts.{Part, IsPart, AreParts}
 pub own_calls : (start : DeskState → Type 0) (log : List Record) (pass pass' : Known) (calls : List Call) → pass.own ≡ [] → Ran start pass calls pass' → Stands log pass' → own_of pass.number log ≡ calls
 own_calls start log pass pass' calls new ran stands = ap (λ (n : ℕ). own_of n log) (sym ran.number) ∙ stands.1 ∙ ran.own ∙ ap (λ (l : List Call). l ++ calls) new
 
-part_of : (start : DeskState → Type 0) (run talks : ℕ) (log : List Record) (number : ℕ) (by : Rules) (old new : DoorState) (pass pass' : Known) (report : WorkerReport) → pass.number ≡ number → pass.own ≡ [] → Stands log pass'
+part_of : (start : DeskState → Type 0) (run : DividedRun) (talks : ℕ) (log : List Record) (number : ℕ) (by : Rules) (old new : DoorState) (pass pass' : Known) (report : WorkerReport) → pass.number ≡ number → pass.own ≡ [] → Stands log pass'
     → Worked start run by talks old new pass pass' report → (part : Part) × IsPart run talks log number by old new report part
 part_of start run talks log number by old new pass pass' report is fresh stands worked =
     let part : Part = record { finished = worked.finished; late = worked.late } in
@@ -49,7 +50,7 @@ pub record AsLong (many : ℕ) (doors : List DoorState) (passes : List Known) (d
   pub passes'_are : length passes' ≡ many
   pub reports_are : length reports ≡ many
 
-pub parts_of : (start : DeskState → Type 0) (run talks : ℕ) (log : List Record) (number : ℕ) (rules : List Rules) (doors : List DoorState) (passes : List Known) (doors' : List DoorState) (passes' more : List Known) (reports : List WorkerReport)
+pub parts_of : (start : DeskState → Type 0) (run : DividedRun) (talks : ℕ) (log : List Record) (number : ℕ) (rules : List Rules) (doors : List DoorState) (passes : List Known) (doors' : List DoorState) (passes' more : List Known) (reports : List WorkerReport)
     → AsLong (length rules) doors passes doors' passes' reports → AreNew number (passes ++ more) → All (Stands log) passes' → HaveWorked start run talks rules doors passes doors' passes' reports
     → (parts : List Part) × AreParts run talks log number rules doors doors' reports parts
 parts_of start run talks log number [] [] [] [] [] more [] long new stands worked = ([], tt)

@@ -6,13 +6,14 @@ use Rattle.event_form.specs.declared.event.Entry.{Entry}
 use Rattle.spool_state.specs.SpoolState.{SpoolState}
 use Rattle.spool_answers.specs.Stages.{StandsForOne}
 use Rattle.spool_desk.specs.Alone.{AloneView}
+use Rattle.desk_access.proofs.Dividing.{within_run}
+use Rattle.desk_access.specs.Division.{DividedRun, divided, callers_of, each_of, first_conn}
 use Rattle.desk_access.specs.Call.{Record, calls_of}
 use Rattle.desk_access.specs.Desk.{DeskState}
 use Rattle.desk_access.specs.Legal.{AddsGroups, IsLegal, Met}
 use Rattle.desk_access.proofs.Nexts.{all_left, all_right}
 use Rattle.spool_turns.specs.Passes.{Beginning, Stands}
 use Rattle.spool_turns.specs.Replays.{Begins, HasNumber}
-use Rattle.serve_workers.specs.Works.{first_conn}
 use Rattle.serve_laws.specs.Parts.{links_of}
 use Rattle.serve_laws.specs.Runs.{ServerRun}
 use Rattle.serve_laws.specs.Laws.{AcknowledgedIsDurable, ConnectionsContribute, DiskFaultsAreCounted, DoorsTellDurable, EndCountsEntries, NothingElseIsAdded, NothingIsLeft, OrderIsKept, OrderWasKept, ReportsCountLinks, WorkersHaveParts}
@@ -28,14 +29,14 @@ use Rattle.serve_laws.proofs.Whole.{all_of_parts}
 use Rattle.serve_laws.proofs.Taken.{end_rises}
 use Rattle.serve_laws.proofs.Meeting.{number_kept, forwarded_leaves}
 
-module _ (tells : Type 0) (start : DeskState → Type 0) (run seats : ℕ) (began : Beginning) (new : AloneView) where
+module _ (tells : Type 0) (start : DeskState → Type 0) (run : DividedRun) (seats : ℕ) (began : Beginning) (new : AloneView) where
   -- ---- of a closed journal
 
   pub acknowledged_is_durable : AcknowledgedIsDurable tells start run seats began new
   acknowledged_is_durable log passes closes talks number rules old new' report part is x s =
       let b = closes.replays.begins x s in
       let p = closes.replays.leads x s in
-      links_durable x p.after (seats - 1) log b.rules b.none_held p.goes (subst (λ (r : ℕ). Met r (seats - 1) [] log) (sym b.of_run) closes.met)
+      links_durable x p.after run.division (seats - 1) log b.rules b.none_held p.goes (subst (λ (r : ℕ). Met (divided run.division r) (seats - 1) [] log) (sym b.of_run) closes.met)
       (subst (λ (r : ℕ). (groups : List (List Entry)) → AddsGroups (calls_of log) groups → IsLegal r groups) (sym b.of_run) (closes.legal x s)) new.spool.moment
       (λ c image. let k = closes.kept x s c image in (k.state, k.stands, k.kept)) (closes.stays x s) number [] rules (first_conn run number) (links_of part) is.at_door.served is.at_door.calls
 
@@ -50,8 +51,8 @@ module _ (tells : Type 0) (start : DeskState → Type 0) (run seats : ℕ) (bega
       links_contribute run number rules log (links_of part) added small (omega (arith, is.many, few)) is.at_door.served is.at_door.calls (λ groups a. closes.own x s groups a number) adds
 
   -- a run is at most 2,097,151, so the numbers of its connections are below those that moved entries have
-  counted : (x : DeskState) → Begins tells run x → (number many : ℕ) → number < 64 → many ≤ 2 ^ 26 → first_conn run number + many ≤ 2 ^ 63
-  counted x begins number many small few = omega (arith, begins.of_run, begins.rules.sound.run)
+  counted : (x : DeskState) → Begins tells run x → (number many : ℕ) → number < callers_of run.division → many ≤ each_of run.division → first_conn run number + many ≤ 2 ^ 63
+  counted x begins number many small few = omega (arith, begins.of_run, begins.rules.sound.run, within_run run.division number small)
 
   pub order_is_kept : OrderIsKept tells start run seats began new
   order_is_kept log passes closes talks number rules old new' report part is small few x s opens c image =
@@ -63,7 +64,7 @@ module _ (tells : Type 0) (start : DeskState → Type 0) (run seats : ℕ) (bega
           kept = k.kept;
           each = links_in_order x run number rules log (links_of part) k.state of_run is.at_door.served (counted x (closes.replays.begins x s) number (length (links_of part)) small (omega (arith, is.many, few))) (connections_contribute log passes closes talks number rules old new' report part is small few x s) k.grows opens;
           legal = k.legal opens;
-          earlier = earlier_again x run log k.state of_run (closes.legal x s) k.grows opens;
+          earlier = earlier_again x run.number log k.state of_run (closes.legal x s) k.grows opens;
         },
       )
 

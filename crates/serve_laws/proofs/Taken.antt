@@ -9,6 +9,7 @@ use Rattle.edge_io.specs.Door.{DoorState}
 use Rattle.edge_io.specs.Net.{NetState}
 use Rattle.spool_state.specs.SpoolState.{SpoolState, end}
 use Rattle.spool_answers.specs.Stages.{IsOneOf}
+use Rattle.desk_access.specs.Division.{DividedRun}
 use Rattle.desk_access.specs.Call.{Call, takes, Record, own_of, calls_of, taken_by, taken_of, failures_in, failures_of}
 use Rattle.desk_access.specs.Desk.{DeskState, Goes}
 use Rattle.desk_access.specs.History.{IsDesk, AddsAll, written_by}
@@ -74,7 +75,7 @@ taken_from-all many (one ∷ log) all =
 
 -- ---- of the parts, and of the forwarder after them
 
-parts_taken : (run talks : ℕ) (log : List Record) (number : ℕ) (rules : List Rules) (doors doors' : List DoorState) (reports : List WorkerReport) (parts : List Part) → AreParts run talks log number rules doors doors' reports parts
+parts_taken : (run : DividedRun) (talks : ℕ) (log : List Record) (number : ℕ) (rules : List Rules) (doors doors' : List DoorState) (reports : List WorkerReport) (parts : List Part) → AreParts run talks log number rules doors doors' reports parts
     → taken_from (suc (length parts)) number log ≡ taken_over parts + count (own_of (number + length parts) log)
 unfolding taken_from
 parts_taken run talks log number [] [] [] [] [] are =
@@ -89,7 +90,7 @@ parts_taken run talks log number (by ∷ rules) (old ∷ doors) (new ∷ doors')
     omega (arith, own, last, rest, sum_by-cons (λ (p : Part). count (calls_in (links_of p))) part parts)
 parts_taken run talks log number rules doors doors' reports parts are = absurd are
 
-as_many : (run talks : ℕ) (log : List Record) (number : ℕ) (rules : List Rules) (doors doors' : List DoorState) (reports : List WorkerReport) (parts : List Part) → AreParts run talks log number rules doors doors' reports parts → length parts ≡ length rules
+as_many : (run : DividedRun) (talks : ℕ) (log : List Record) (number : ℕ) (rules : List Rules) (doors doors' : List DoorState) (reports : List WorkerReport) (parts : List Part) → AreParts run talks log number rules doors doors' reports parts → length parts ≡ length rules
 as_many run talks log number [] [] [] [] [] are = refl
 as_many run talks log number (by ∷ rules) (old ∷ doors) (new ∷ doors') (report ∷ reports) (part ∷ parts) (one, are) = omega (arith, as_many run talks log (number + 1) rules doors doors' reports parts are)
 as_many run talks log number rules doors doors' reports parts are = absurd are
@@ -125,7 +126,7 @@ pub first_one : (s : SpoolState) (doubt : List SpoolState) → IsOneOf s doubt s
 first_one s [] = refl
 first_one s (stage ∷ stages) = inl refl
 
-pub end_rises : (start : DeskState → Type 0) (run talks : ℕ) (log : List Record) (rules : List Rules) (doors doors' : List DoorState) (reports : List WorkerReport) (parts : List Part) (workers' : List Known) (forwarder forwarder' : Known)
+pub end_rises : (start : DeskState → Type 0) (run : DividedRun) (talks : ℕ) (log : List Record) (rules : List Rules) (doors doors' : List DoorState) (reports : List WorkerReport) (parts : List Part) (workers' : List Known) (forwarder forwarder' : Known)
     (destination : Option Destination) (net net' : NetState) (last : Option Outcome) (x y : DeskState) → AreParts run talks log 0 rules doors doors' reports parts → length workers' ≡ length rules → HaveRun start 0 workers'
     → forwarder.own ≡ [] → own_of forwarder'.number log ≡ forwarder'.own → Forwarded start destination workers' forwarder forwarder' net net' last → All (λ (one : Record). HasNumber (workers' ++ forwarder' ∷ []) one.by) log
     → forwarder'.number ≡ length workers' → IsDesk x → x.doubt ≡ [] → Goes x log y → EndRises x y (failures_of (calls_of log)) (taken_over parts)

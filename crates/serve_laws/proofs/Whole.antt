@@ -6,6 +6,7 @@ use Rattle.std.proofs.lemmas.List.Elements.{All-nil, All-head, All-tail, Contain
 use Rattle.event_form.specs.declared.event.Entry.{Entry}
 use Rattle.edge_io.specs.Door.{DoorState}
 use Rattle.edge_io.specs.Net.{NetState}
+use Rattle.desk_access.specs.Division.{DividedRun}
 use Rattle.desk_access.specs.Call.{Call, takes, pends, marks, Record, own_of, calls_of, taken_by}
 use Rattle.desk_access.specs.Desk.{DeskState}
 use Rattle.desk_access.specs.History.{AddsAll, written_by}
@@ -58,7 +59,7 @@ links_written rules first (one ∷ links) served =
     (conn_written one.conn 0 one.calls (calls_are_of_conn rules.proto (terms_of rules) one.conn one.left one.bytes one.calls one.text one.talk served.1)))
     (written_weaker (IsOfLink links) (IsOfLink (one ∷ links)) (calls_in links) (λ entry of. (of.0, Contains-append_right (one ∷ []) links of.0 of.1, of.2)) (links_written rules (first + 1) links served.2))
 
-parts_written : (run talks : ℕ) (log : List Record) (number : ℕ) (rules : List Rules) (doors doors' : List DoorState) (reports : List WorkerReport) (parts : List Part) → AreParts run talks log number rules doors doors' reports parts
+parts_written : (run : DividedRun) (talks : ℕ) (log : List Record) (number : ℕ) (rules : List Rules) (doors doors' : List DoorState) (reports : List WorkerReport) (parts : List Part) → AreParts run talks log number rules doors doors' reports parts
     → (n : ℕ) → number ≤ n → n < number + length rules → AllWritten (IsOfParts parts) (own_of n log)
 parts_written run talks log number [] [] [] [] [] are n least most = absurd (omega (arith, least, most))
 parts_written run talks log number (by ∷ rules) (old ∷ doors) (new ∷ doors') (report ∷ reports) (part ∷ parts) (one, are) n least most = elim (cases_lt number n) [
@@ -136,7 +137,7 @@ which_pass start number (pass ∷ passes) last n run (inr has) = elim (which_pas
   | inr is ↦ inr is
 ]
 
-pub all_of_parts : (start : DeskState → Type 0) (run talks : ℕ) (log : List Record) (rules : List Rules) (doors doors' : List DoorState) (reports : List WorkerReport) (parts : List Part) (workers' : List Known) (forwarder forwarder' : Known)
+pub all_of_parts : (start : DeskState → Type 0) (run : DividedRun) (talks : ℕ) (log : List Record) (rules : List Rules) (doors doors' : List DoorState) (reports : List WorkerReport) (parts : List Part) (workers' : List Known) (forwarder forwarder' : Known)
     (destination : Option Destination) (net net' : NetState) (last : Option Outcome) (added : List Entry) → AreParts run talks log 0 rules doors doors' reports parts → length workers' ≡ length rules → HaveRun start 0 workers'
     → forwarder.own ≡ [] → own_of forwarder'.number log ≡ forwarder'.own → Forwarded start destination workers' forwarder forwarder' net net' last → All (λ (one : Record). HasNumber (workers' ++ forwarder' ∷ []) one.by) log
     → AddsAll (calls_of log) added → All (IsOfParts parts) added

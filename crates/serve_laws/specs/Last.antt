@@ -5,6 +5,7 @@ use Rattle.spool_state.specs.SpoolState.{end}
 use Rattle.spool_answers.specs.declared.fault.PendFault.{PendFault}
 use Rattle.spool_answers.specs.declared.numbered.Numbered.{Numbered}
 use Rattle.spool_desk.specs.Alone.{AloneView}
+use Rattle.desk_access.specs.Division.{DividedRun}
 use Rattle.desk_access.specs.Call.{Call, Record, calls_of}
 use Rattle.desk_access.specs.Desk.{DeskState, Goes}
 use Rattle.spool_turns.specs.Passes.{Beginning, Known}
@@ -50,7 +51,7 @@ LooksLast start number log None workers pass pass' net net' last forwarded = Uni
 LooksLast start number log (Some destination) workers pass pass' net net' last forwarded = IsLastOfAll start number log forwarded.2.look
 
 -- So it is in a run of the server: as the forwarder looks for the last time it has seen all that the workers did, and they do no more.
-abbrev pub LastLookIsLast : Type 0 → (DeskState → Type 0) → ℕ → ℕ → Beginning → AloneView → Type 0
+abbrev pub LastLookIsLast : Type 0 → (DeskState → Type 0) → DividedRun → ℕ → Beginning → AloneView → Type 0
 LastLookIsLast tells start run seats began new =
     (r : ServerRun tells start run seats began new)
     → LooksLast start (seats - 1) r.served.log r.destination r.served.workers' r.served.forwarder r.served.forwarder'

@@ -6,6 +6,7 @@ use Rattle.edge_io.specs.Door.{DoorState, Talked}
 use Rattle.spool_state.specs.Image.{StandsFor}
 use Rattle.spool_state.specs.SpoolState.{SpoolState, list}
 use Rattle.spool_desk.specs.Alone.{AloneView}
+use Rattle.desk_access.specs.Division.{DividedRun, callers_of, each_of}
 use Rattle.desk_access.specs.Call.{Record, calls_of, failures_of}
 use Rattle.desk_access.specs.Desk.{DeskState, Goes}
 use Rattle.desk_access.specs.History.{AddsAll}
@@ -25,25 +26,25 @@ use Rattle.serve_laws.specs.Leaves.{IsDone, LeavesNone, NoneIsLeftOn}
 -- ---- of a run
 
 -- A run has a part for each worker.
-abbrev pub WorkersHaveParts : Type 0 → (DeskState → Type 0) → ℕ → ℕ → Beginning → AloneView → Type 0
+abbrev pub WorkersHaveParts : Type 0 → (DeskState → Type 0) → DividedRun → ℕ → Beginning → AloneView → Type 0
 WorkersHaveParts tells start run seats began new =
     (r : ServerRun tells start run seats began new) → (parts : List Part) × AreParts run r.talks r.served.log 0 r.rules r.doors r.doors' r.reports parts
 
 -- Each entry that its journal added is of a link of one of its parts.
-abbrev pub NothingElseIsAdded : Type 0 → (DeskState → Type 0) → ℕ → ℕ → Beginning → AloneView → Type 0
+abbrev pub NothingElseIsAdded : Type 0 → (DeskState → Type 0) → DividedRun → ℕ → Beginning → AloneView → Type 0
 NothingElseIsAdded tells start run seats began new =
     (r : ServerRun tells start run seats began new) (parts : List Part) → AreParts run r.talks r.served.log 0 r.rules r.doors r.doors' r.reports parts
     → (added : List Entry) → AddsAll (calls_of r.served.log) added → All (IsOfParts parts) added
 
 -- The end of the spool rises by as many as entries were taken from its links, where no call was answered that the disk failed, and
 -- else by no fewer.
-abbrev pub EndCountsEntries : Type 0 → (DeskState → Type 0) → ℕ → ℕ → Beginning → AloneView → Type 0
+abbrev pub EndCountsEntries : Type 0 → (DeskState → Type 0) → DividedRun → ℕ → Beginning → AloneView → Type 0
 EndCountsEntries tells start run seats began new =
     (r : ServerRun tells start run seats began new) (parts : List Part) → AreParts run r.talks r.served.log 0 r.rules r.doors r.doors' r.reports parts
     → (x y : DeskState) → start x → x.doubt ≡ [] → Goes x r.served.log y → EndRises x y (failures_of (calls_of r.served.log)) (taken_over parts)
 
 -- Where its last look found nothing pending, or held a session that ended as `Drained`, nothing is left.
-abbrev pub NothingIsLeft : Type 0 → (DeskState → Type 0) → ℕ → ℕ → Beginning → AloneView → Type 0
+abbrev pub NothingIsLeft : Type 0 → (DeskState → Type 0) → DividedRun → ℕ → Beginning → AloneView → Type 0
 NothingIsLeft tells start run seats began new =
     (r : ServerRun tells start run seats began new) → IsDone r.last
     → LeavesNone start r.served.log × ((x : DeskState) → start x → NoneIsLeftOn new.spool.moment)
@@ -51,14 +52,14 @@ NothingIsLeft tells start run seats began new =
 -- ---- of a part of a closed journal
 
 -- Whatever is acknowledged over a link of a part is durable.
-abbrev pub AcknowledgedIsDurable : Type 0 → (DeskState → Type 0) → ℕ → ℕ → Beginning → AloneView → Type 0
+abbrev pub AcknowledgedIsDurable : Type 0 → (DeskState → Type 0) → DividedRun → ℕ → Beginning → AloneView → Type 0
 AcknowledgedIsDurable tells start run seats began new =
     (log : List Record) (passes : List Known) → Closes tells start run seats began log passes new
     → (talks number : ℕ) (rules : Rules) (old new' : DoorState) (report : WorkerReport) (part : Part) → IsPart run talks log number rules old new' report part
     → (x : DeskState) → start x → All (IsLinkDurable log number new.spool.moment rules) (links_of part)
 
 -- So it is of each connection that its door reports, by what was written to it.
-abbrev pub DoorsTellDurable : Type 0 → (DeskState → Type 0) → ℕ → ℕ → Beginning → AloneView → Type 0
+abbrev pub DoorsTellDurable : Type 0 → (DeskState → Type 0) → DividedRun → ℕ → Beginning → AloneView → Type 0
 DoorsTellDurable tells start run seats began new =
     (log : List Record) (passes : List Known) → Closes tells start run seats began log passes new
     → (talks number : ℕ) (rules : Rules) (old new' : DoorState) (report : WorkerReport) (part : Part) → IsPart run talks log number rules old new' report part
@@ -66,30 +67,30 @@ DoorsTellDurable tells start run seats began new =
     → (more : List Talked) × (new'.talks ≡ Some (before ++ more)) × All (IsTalkDurable log number new.spool.moment rules) more
 
 -- The connection of each link of a part contributes exactly what was taken of it, in order.
-abbrev pub ConnectionsContribute : Type 0 → (DeskState → Type 0) → ℕ → ℕ → Beginning → AloneView → Type 0
+abbrev pub ConnectionsContribute : Type 0 → (DeskState → Type 0) → DividedRun → ℕ → Beginning → AloneView → Type 0
 ConnectionsContribute tells start run seats began new =
     (log : List Record) (passes : List Known) → Closes tells start run seats began log passes new
     → (talks number : ℕ) (rules : Rules) (old new' : DoorState) (report : WorkerReport) (part : Part) → IsPart run talks log number rules old new' report part
-    → number < 64 → talks ≤ 2 ^ 26
+    → number < callers_of run.division → talks ≤ each_of run.division
     → (x : DeskState) → start x → (added : List Entry) → AddsAll (calls_of log) added
     → All (λ one. Contributes one (of_conn one.conn added)) (links_of part)
 
 -- Where the desk was given with a legal list of entries of earlier runs, whatever a crash leaves now keeps the order of each link of
 -- a part, and is such a list for the next run.
-abbrev pub OrderIsKept : Type 0 → (DeskState → Type 0) → ℕ → ℕ → Beginning → AloneView → Type 0
+abbrev pub OrderIsKept : Type 0 → (DeskState → Type 0) → DividedRun → ℕ → Beginning → AloneView → Type 0
 OrderIsKept tells start run seats began new =
     (log : List Record) (passes : List Known) → Closes tells start run seats began log passes new
     → (talks number : ℕ) (rules : Rules) (old new' : DoorState) (report : WorkerReport) (part : Part) → IsPart run talks log number rules old new' report part
-    → number < 64 → talks ≤ 2 ^ 26
+    → number < callers_of run.division → talks ≤ each_of run.division
     → (x : DeskState) → start x → OpensLegal x → (c : List ℕ) → new.spool.moment.image c
-    → (s : SpoolState) × StandsFor s c × KeepsOrder run log (links_of part) s
+    → (s : SpoolState) × StandsFor s c × KeepsOrder run.number log (links_of part) s
 
 -- Whatever a crash left since the desk was given has of each link a beginning of what it contributed, in order.
-abbrev pub OrderWasKept : Type 0 → (DeskState → Type 0) → ℕ → ℕ → Beginning → AloneView → Type 0
+abbrev pub OrderWasKept : Type 0 → (DeskState → Type 0) → DividedRun → ℕ → Beginning → AloneView → Type 0
 OrderWasKept tells start run seats began new =
     (log : List Record) (passes : List Known) → Closes tells start run seats began log passes new
     → (talks number : ℕ) (rules : Rules) (old new' : DoorState) (report : WorkerReport) (part : Part) → IsPart run talks log number rules old new' report part
-    → number < 64 → talks ≤ 2 ^ 26
+    → number < callers_of run.division → talks ≤ each_of run.division
     → (x : DeskState) → start x → OpensLegal x → (c : List ℕ) → new.spool.moment.image_since began.moment.clock c
     → (s : SpoolState) × StandsFor s c × All (λ one. BeginsInOrder one (list s)) (links_of part)
 
@@ -97,7 +98,7 @@ OrderWasKept tells start run seats began new =
 
 -- The disk's count of faults rose by at least as many as links ended because the disk failed: of all parts together, or of any one part
 -- where takes of several callers may be stored as one group.
-abbrev pub DiskFaultsAreCounted : Type 0 → (DeskState → Type 0) → ℕ → ℕ → Beginning → AloneView → Type 0
+abbrev pub DiskFaultsAreCounted : Type 0 → (DeskState → Type 0) → DividedRun → ℕ → Beginning → AloneView → Type 0
 DiskFaultsAreCounted tells start run seats began new =
     (log : List Record) (passes : List Known) → Closes tells start run seats began log passes new
     → (talks : ℕ) (rules : List Rules) (doors doors' : List DoorState) (reports : List WorkerReport) (parts : List Part)
@@ -107,6 +108,6 @@ DiskFaultsAreCounted tells start run seats began new =
 -- As many links were given back as the workers report in all.
 abbrev pub ReportsCountLinks : Type 0
 ReportsCountLinks =
-    (run talks number : ℕ) (log : List Record) (rules : List Rules) (doors doors' : List DoorState) (reports : List WorkerReport) (parts : List Part)
+    (run : DividedRun) (talks number : ℕ) (log : List Record) (rules : List Rules) (doors doors' : List DoorState) (reports : List WorkerReport) (parts : List Part)
     → AreParts run talks log number rules doors doors' reports parts
     → sum_by (λ report. report.finished) reports ≡ sum_by (λ part. length part.finished) parts

@@ -3,6 +3,7 @@ use Rattle.std.specs.Prelude.{◌≡◌, ℕ, ◌+◌, List, length, Option}
 use Rattle.edge_io.specs.Door.{DoorState}
 use Rattle.edge_io.specs.Net.{NetState}
 use Rattle.spool_desk.specs.Alone.{AloneView}
+use Rattle.desk_access.specs.Division.{DividedRun}
 use Rattle.desk_access.specs.Desk.{DeskState}
 use Rattle.conn_serve.specs.declared.rules.Rules.{Rules}
 use Rattle.spool_turns.specs.Passes.{Beginning}
@@ -13,7 +14,7 @@ use Rattle.serve_run.specs.Running.{HasServed}
 
 -- What `serve` says of a run that left the desk so. There is one door and one report for each worker, in the order of the rules, and
 -- one pass more than that, the forwarder's.
-pub record ServerRun (tells : Type 0) (start : DeskState → Type 0) (run seats : ℕ) (began : Beginning) (new : AloneView) : Type 0 where
+pub record ServerRun (tells : Type 0) (start : DeskState → Type 0) (run : DividedRun) (seats : ℕ) (began : Beginning) (new : AloneView) : Type 0 where
   pub talks : ℕ
   pub rules : List Rules
   pub doors : List DoorState

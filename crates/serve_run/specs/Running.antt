@@ -4,6 +4,7 @@ use mathlib.Core.List.{IsPrefix}
 use Rattle.edge_io.specs.Door.{DoorState}
 use Rattle.edge_io.specs.Net.{NetState}
 use Rattle.spool_desk.specs.Alone.{AloneView}
+use Rattle.desk_access.specs.Division.{DividedRun}
 use Rattle.desk_access.specs.Call.{Record}
 use Rattle.desk_access.specs.Desk.{DeskState}
 use Rattle.conn_serve.specs.declared.rules.Rules.{Rules}
@@ -45,7 +46,7 @@ Forwarded start (Some destination) workers pass pass' net net' last =
     (outcome : Outcome) × (last ≡ Some outcome) × HasForwarded start destination workers pass pass' net net' outcome
 
 -- What the workers and the forwarder did. All lists are in the order of the workers; the forwarder's pass comes after theirs.
-pub record HasRun (start : DeskState → Type 0) (run talks : ℕ) (rules : List Rules) (doors doors' : List DoorState) (passes passes' : List Known)
+pub record HasRun (start : DeskState → Type 0) (run : DividedRun) (talks : ℕ) (rules : List Rules) (doors doors' : List DoorState) (passes passes' : List Known)
     (reports : List WorkerReport) (destination : Option Destination) (net net' : NetState) (last : Option Outcome) : Type 0 where
   pub workers : List Known
   pub workers' : List Known
@@ -60,7 +61,7 @@ pub record HasRun (start : DeskState → Type 0) (run talks : ℕ) (rules : List
 -- One journal of all calls led to the desk that comes back. Each worker's part of it is the calls of the links that it served at its
 -- door. The part of the forwarder, whose pass has the greatest number, is the calls of its looks. All lists are in the order of the
 -- workers.
-pub record HasServed (tells : Type 0) (start : DeskState → Type 0) (run seats : ℕ) (began : Beginning) (talks : ℕ) (rules : List Rules)
+pub record HasServed (tells : Type 0) (start : DeskState → Type 0) (run : DividedRun) (seats : ℕ) (began : Beginning) (talks : ℕ) (rules : List Rules)
     (doors doors' : List DoorState) (reports : List WorkerReport) (destination : Option Destination) (net net' : NetState)
     (last : Option Outcome) (new : AloneView) : Type 0 where
   pub log : List Record
@@ -75,5 +76,5 @@ pub record HasServed (tells : Type 0) (start : DeskState → Type 0) (run seats 
   pub forwarded : Forwarded start destination workers' forwarder forwarder' net net' last
 
 -- No call was made on the desk.
-abbrev pub HasNotServed : Type 0 → (DeskState → Type 0) → ℕ → ℕ → Beginning → AloneView → Type 0
+abbrev pub HasNotServed : Type 0 → (DeskState → Type 0) → DividedRun → ℕ → Beginning → AloneView → Type 0
 HasNotServed tells start run seats began new = (passes : List Known) × Closes tells start run seats began [] passes new

@@ -1,5 +1,6 @@
 //! Workers, and a forwarder beside them.
 ghost use Rattle.std.specs.Prelude.{◌≡◌, ◌+◌, ◌<◌, ◌^◌, ◌≤◌, List, None, length, map, vec_len};
+ghost use Rattle.desk_access.specs.Division.{each_of};
 ghost use Rattle.std.specs.Vec.{vec_capacity};
 ghost use Rattle.forward_core.specs.Exchanged.{HasExchangedAt};
 ghost use Rattle.spool_turns.specs.Replays.{IsReal};
@@ -84,7 +85,7 @@ where
     N::P: Send,
     <N::P as Door>::L: Send,
     requires new { AreNew 0 hired.passes }
-    requires talks { talks ≤ 2 ^ 26 }
+    requires talks { talks ≤ each_of J.run.division }
     requires confirms { seated.pass.number + 1 ≡ J.seats }
     requires polls { 0 < destination.now.outward.polls }
     requires named { N.may_dial destination.now.place }

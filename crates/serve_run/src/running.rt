@@ -1,10 +1,10 @@
 //! Serving and forwarding over one desk, from the opened desk to the closed one.
 ghost use Rattle.std.specs.Prelude.{◌≡◌, ℕ, ◌+◌, ◌<◌, ◌^◌, ◌≤◌, [], length, map, slice_get, vec_len};
+ghost use Rattle.desk_access.specs.Division.{callers_of, each_of};
 ghost use Rattle.std.specs.Prelude.{Some, IfOk, IfErr, IfSome, option_copied};
 ghost use Rattle.std.specs.Vec.{vec_capacity};
 ghost use Rattle.forward_core.specs.Exchanged.{HasExchangedAt};
 ghost use Rattle.spool_turns.specs.Replays.{IsReal, desk_at};
-ghost use Rattle.serve_workers.specs.Works.{first_conn};
 ghost use Rattle.serve_workers.specs.Crews.{AreNew, HaveWorked};
 ghost use Rattle.serve_workers.specs.Answering.{MayAnswer};
 ghost use Rattle.serve_forwarder.specs.Released.{MayRelease};
@@ -73,7 +73,7 @@ where
     N::P: Send,
     <N::P as Door>::L: Send,
     requires new { AreNew 0 hired.passes }
-    requires talks { talks ≤ 2 ^ 26 }
+    requires talks { talks ≤ each_of J.run.division }
     requires confirms { seated.pass.number + 1 ≡ J.seats }
     requires polls { 0 < destination.now.outward.polls }
     requires named { N.may_dial destination.now.place }
@@ -122,7 +122,7 @@ where
     N::P: Send,
     <N::P as Door>::L: Send,
     requires new { AreNew 0 hired.passes }
-    requires talks { talks ≤ 2 ^ 26 }
+    requires talks { talks ≤ each_of J.run.division }
     requires confirms { (seated.pass.number + 1 ≡ J.seats) × (seated.pass.own ≡ []) }
     requires polls { IfSome destination (λ d. 0 < d.now.outward.polls) }
     requires named { IfSome destination (λ d. N.may_dial d.now.place) }
@@ -173,11 +173,11 @@ where
     N::L: Send,
     N::P: Send,
     <N::P as Door>::L: Send,
-    requires many { (vec_len passes ≡ vec_len posts + 1) × (vec_len posts ≤ 64) × (J.seats ≡ vec_len posts + 1) }
+    requires many { (vec_len passes ≡ vec_len posts + 1) × (vec_len posts ≤ callers_of J.run.division) × (J.seats ≡ vec_len posts + 1) }
     requires new { AreNew 0 passes.items }
-    requires talks { talks ≤ 2 ^ 26 }
+    requires talks { talks ≤ each_of J.run.division }
     requires says { (i : ℕ) (post : _) → slice_get posts.items i ≡ Some post
-        → MayAnswer (IsReal D.Disk J.start J.run J.seats J.began) J.start (first_conn J.run i) (P.permits post.door) post.rules }
+        → MayAnswer (IsReal D.Disk J.start J.run J.seats J.began) J.start J.run i (P.permits post.door) post.rules }
     requires polls { IfSome destination (λ d. 0 < d.now.outward.polls) }
     requires named { IfSome destination (λ d. N.may_dial d.now.place) }
     requires earned { IfSome destination (λ d. MayRelease (IsReal D.Disk J.start J.run J.seats J.began) J.start d.now.outward
@@ -212,16 +212,16 @@ where
 /// Each door has a worker, in a thread of its own where one can be made, that serves the door's links one after another. A worker ends
 ///
 /// - once its door is shut for good, that is when an accept answers that no link waits there; a listening socket is never shut;
-/// - once it has served `talks` links, which are at most 2^26;
+/// - once it has served `talks` links, at most as many as each worker has numbers for;
 /// - at an accept that fails, which the door counts;
 /// - where no memory is found to give a link back.
 ///
 /// Its report says which of these it was, and how many links it gave back. Before the last look the forwarder is shown all that the
 /// workers did; `last` says what came of that look.
 ///
-/// `opened` has one pass for each worker, in the order of the doors, of which there are at most 64, and after them one for the
-/// forwarder. None of them has made a call. `polls` of the destination is above 0. The error is want of memory before a worker began:
-/// it gives back the posts as they were and the desk, on which no call was made.
+/// `opened` has one pass for each worker, in the order of the doors, of which there are at most as many as the run's numbers are divided
+/// among, and after them one for the forwarder. None of them has made a call. `polls` of the destination is above 0. The error is want of
+/// memory before a worker began: it gives back the posts as they were and the desk, on which no call was made.
 ///
 /// `says` is all the leave that it has to write to a sender: each door permits, link by link, what may be said once it is stored
 /// (`MayAnswer`). It dials the destination's place and no other, by `named`. And `earned` is all the leave that it has to make numbers
@@ -246,11 +246,11 @@ where
     N::L: Send,
     N::P: Send,
     <N::P as Door>::L: Send,
-    requires many { (vec_len opened.passes ≡ vec_len posts + 1) × (vec_len posts ≤ 64) × (J.seats ≡ vec_len posts + 1) }
+    requires many { (vec_len opened.passes ≡ vec_len posts + 1) × (vec_len posts ≤ callers_of J.run.division) × (J.seats ≡ vec_len posts + 1) }
     requires new { AreNew 0 opened.passes.items }
-    requires talks { talks ≤ 2 ^ 26 }
+    requires talks { talks ≤ each_of J.run.division }
     requires says { (i : ℕ) (post : _) → slice_get posts.items i ≡ Some post
-        → MayAnswer (IsReal D.Disk J.start J.run J.seats J.began) J.start (first_conn J.run i) (P.permits post.door) post.rules }
+        → MayAnswer (IsReal D.Disk J.start J.run J.seats J.began) J.start J.run i (P.permits post.door) post.rules }
     requires polls { IfSome destination (λ d. 0 < d.now.outward.polls) }
     requires named { IfSome destination (λ d. N.may_dial d.now.place) }
     requires earned { IfSome destination (λ d. MayRelease (IsReal D.Disk J.start J.run J.seats J.began) J.start d.now.outward

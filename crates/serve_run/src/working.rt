@@ -1,5 +1,6 @@
 //! Workers that work until they have ended, beside a task.
 ghost use Rattle.std.specs.Prelude.{◌≡◌, ◌^◌, ◌<◌, ◌≤◌, length, map, vec_len};
+ghost use Rattle.desk_access.specs.Division.{each_of};
 ghost use Rattle.std.specs.Vec.{vec_capacity};
 ghost use Rattle.serve_workers.specs.Crews.{AreNew, HaveWorked};
 
@@ -52,7 +53,7 @@ where
     P::L: Send,
     requires task { S.can_run task }
     requires new { AreNew 0 hired.passes }
-    requires talks { talks ≤ 2 ^ 26 }
+    requires talks { talks ≤ each_of J.run.division }
 
     ensures task { S.leaves task result.0 }
     ensures worked { HaveWorked J.start J.run talks hired.entry.rules hired.entry.doors hired.entry.passes
@@ -68,7 +69,7 @@ where
             ensures { S.leaves task result }
         { task.run() },
         move || -> Crew<P, J>
-            requires { AreNew 0 hired.passes × (talks ≤ 2 ^ 26) }
+            requires { AreNew 0 hired.passes × (talks ≤ each_of J.run.division) }
             ensures worked { HaveWorked J.start J.run talks hired.entry.rules hired.entry.doors hired.entry.passes
                 (map (λ (door : _). P.told door) result.doors.items) result.passes.items result.reports.items }
             ensures many { (vec_len result.doors ≡ length hired.entry.passes) × (vec_len result.passes ≡ length hired.entry.passes)

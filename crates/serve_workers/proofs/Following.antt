@@ -12,6 +12,7 @@ use Rattle.spool_answers.specs.declared.fault.TakeFault.TheVariants as Take
 use Rattle.desk_access.specs.Batch.{AreNext, Belongs}
 use Rattle.desk_access.specs.Call.{Call, takes, taken_by, failures_of}
 use Rattle.desk_access.specs.Desk.{DeskState}
+use Rattle.desk_access.specs.Division.{DividedRun, each_of, first_conn}
 use Rattle.desk_access.specs.History.{written_by}
 use Rattle.desk_access.specs.Journal.{failures_then}
 use Rattle.desk_access.specs.Legal.{IsNext}
@@ -28,7 +29,7 @@ use Rattle.serve_workers.specs.declared.worker.WorkerEnd.{WorkerEnd}
 use Rattle.serve_workers.specs.declared.worker.WorkerEnd.TheVariants.{Shut, Enough, AcceptFault, NoMemory}
 use Rattle.serve_workers.specs.declared.worker.WorkerReport.{WorkerReport}
 use Rattle.serve_workers.specs.Served.{Served, AtDoor, AreServed, calls_in, how_many, by_disk}
-use Rattle.serve_workers.specs.Works.{first_conn, ServesLink, EndsBy, Stops, Worked}
+use Rattle.serve_workers.specs.Works.{ServesLink, EndsBy, Stops, Worked}
 use Rattle.serve_workers.specs.Crews.{IsReady}
 use Rattle.serve_workers.proofs.Joining.{at_door_none, at_door_then}
 
@@ -77,13 +78,13 @@ disk_faults rules first (one ∷ more) are =
 -- ---- the worker
 
 -- What a worker has done that goes on: it gave back each link, and no accept failed.
-pub record Works (start : DeskState → Type 0) (run : ℕ) (rules : Rules) (many : ℕ) (old new : DoorState) (pass pass' : Known) : Type 0 where
+pub record Works (start : DeskState → Type 0) (run : DividedRun) (rules : Rules) (many : ℕ) (old new : DoorState) (pass pass' : Known) : Type 0 where
   pub finished : List Served
   pub count : length finished ≡ many
   pub at_door : AtDoor rules (first_conn run pass.number) old new (λ calls. Ran start pass calls pass') finished finished
   pub accept_faults : new.accept_faults ≡ old.accept_faults
 
-pub works_none : (start : DeskState → Type 0) (run : ℕ) (rules : Rules) (old : DoorState) (pass : Known) → Works start run rules 0 old old pass pass
+pub works_none : (start : DeskState → Type 0) (run : DividedRun) (rules : Rules) (old : DoorState) (pass : Known) → Works start run rules 0 old old pass pass
 works_none start run rules old pass = record {
   finished = [];
   count = refl;
@@ -107,9 +108,9 @@ ends_so enough Enough late door e = absurd e.1
 ends_so enough AcceptFault late door e = e
 ends_so enough NoMemory late door e = e
 
-module _ (start : DeskState → Type 0) (run : ℕ) (rules : Rules) (many first n : ℕ) (old between : DoorState) (pass pass1 : Known) (first_is : first ≡ first_conn run pass.number) (same : n ≡ many) (w : Works start run rules many old between pass pass1) where
+module _ (start : DeskState → Type 0) (run : DividedRun) (rules : Rules) (many first n : ℕ) (old between : DoorState) (pass pass1 : Known) (first_is : first ≡ first_conn run pass.number) (same : n ≡ many) (w : Works start run rules many old between pass pass1) where
   -- the next connection begins
-  pub works_may : IsReady pass.number pass → n < 2 ^ 26 → IsNext run pass1.number pass1.own (first + n) 0
+  pub works_may : IsReady run pass.number pass → n < each_of run.division → IsNext run pass1.number pass1.own (first + n) 0
   works_may ready few =
       let conn : first + n ≡ first_conn run pass.number + length w.finished = omega (arith, first_is, same, w.count) in
       let number : pass1.number ≡ pass.number = w.at_door.calls.number in
@@ -146,7 +147,7 @@ module _ (start : DeskState → Type 0) (run : ℕ) (rules : Rules) (many first 
       }
 
 -- it served as many links as it was to
-pub works_enough : (start : DeskState → Type 0) (run : ℕ) (rules : Rules) (many talks : ℕ) (old new : DoorState) (pass pass' : Known) → many ≡ talks → Works start run rules many old new pass pass' → Worked start run rules talks old new pass pass' (report Enough talks)
+pub works_enough : (start : DeskState → Type 0) (run : DividedRun) (rules : Rules) (many talks : ℕ) (old new : DoorState) (pass pass' : Known) → many ≡ talks → Works start run rules many old new pass pass' → Worked start run rules talks old new pass pass' (report Enough talks)
 works_enough start run rules many talks old new pass pass' all w =
     let made = λ (calls : List Call). Ran start pass calls pass' in
     let at_door = subst (λ (l : List Served). AtDoor rules (first_conn run pass.number) old new made l w.finished) (sym (append-nil w.finished)) w.at_door in

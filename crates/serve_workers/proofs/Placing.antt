@@ -5,6 +5,7 @@ use Rattle.std.specs.List.{zip}
 use Rattle.std.proofs.lemmas.List.{map_push, take_all, take-append-le}
 use Rattle.std.proofs.lemmas.List.Elements.{All-nil, All-cons, All-head, All-tail}
 use Rattle.edge_io.specs.Door.{DoorState}
+use Rattle.desk_access.specs.Division.{DividedRun}
 use Rattle.desk_access.specs.Desk.{DeskState}
 use Rattle.conn_serve.specs.declared.rules.Rules.{Rules}
 use Rattle.spool_turns.specs.Passes.{Known, fresh}
@@ -31,7 +32,7 @@ in_list f xs ys k x y is here there =
     ap f same ∙ found.2
 
 -- What each worker did, where it is known by its place.
-pub have_worked : {X : Type 0} (rules_of : X → Rules) (door_of : X → DoorState) (pass_of : X → Known) (report_of : X → WorkerReport) (start : DeskState → Type 0) (run talks : ℕ) (xs ys : List X)
+pub have_worked : {X : Type 0} (rules_of : X → Rules) (door_of : X → DoorState) (pass_of : X → Known) (report_of : X → WorkerReport) (start : DeskState → Type 0) (run : DividedRun) (talks : ℕ) (xs ys : List X)
     (rules : List Rules) (doors doors' : List DoorState) (passes passes' : List Known) (reports : List WorkerReport)
     → ((k : ℕ) (d : X) → k < length xs → Worked start run (rules_of (get_or xs k d)) talks (door_of (get_or xs k d)) (door_of (get_or ys k d)) (pass_of (get_or xs k d)) (pass_of (get_or ys k d)) (report_of (get_or ys k d)))
     → map rules_of xs ≡ rules → map door_of xs ≡ doors → map pass_of xs ≡ passes → map door_of ys ≡ doors' → map pass_of ys ≡ passes' → map report_of ys ≡ reports
@@ -50,13 +51,13 @@ have_worked rules_of door_of pass_of report_of start run talks xs ys rules doors
 
 -- ---- the numbers of workers
 
-module _ {X : Type 0} (number_of : X → ℕ) (pass_of : X → Known) where
+module _ {X : Type 0} (run : DividedRun) (number_of : X → ℕ) (pass_of : X → Known) where
   -- those whose passes are new are ready
-  pub all_ready : (number : ℕ) (xs : List X) → All (λ x. IsAtDesk (number_of x) (pass_of x)) xs → AreNew number (map pass_of xs) → All (λ x. IsReady (number_of x) (pass_of x)) xs
-  all_ready number [] at new = All-nil (λ x. IsReady (number_of x) (pass_of x))
+  pub all_ready : (number : ℕ) (xs : List X) → All (λ x. IsAtDesk run (number_of x) (pass_of x)) xs → AreNew number (map pass_of xs) → All (λ x. IsReady run (number_of x) (pass_of x)) xs
+  all_ready number [] at new = All-nil (λ x. IsReady run (number_of x) (pass_of x))
   all_ready number (x ∷ xs) at new =
-      let here = All-head (λ y. IsAtDesk (number_of y) (pass_of y)) x xs at in
-      All-cons (λ y. IsReady (number_of y) (pass_of y)) x xs (here.0, here.1, new.1) (all_ready (number + 1) xs (All-tail (λ y. IsAtDesk (number_of y) (pass_of y)) x xs at) new.2)
+      let here = All-head (λ y. IsAtDesk run (number_of y) (pass_of y)) x xs at in
+      All-cons (λ y. IsReady run (number_of y) (pass_of y)) x xs (here.0, here.1, new.1) (all_ready (number + 1) xs (All-tail (λ y. IsAtDesk run (number_of y) (pass_of y)) x xs at) new.2)
 
 -- ---- lists side by side
 

@@ -1,7 +1,8 @@
 -- What a worker does at its door.
-use Rattle.std.specs.Prelude.{◌≡◌, ℕ, ◌+◌, ◌*◌, ◌^◌, ◌≤◌, List, [], ◌∷◌, ◌++◌, length}
+use Rattle.std.specs.Prelude.{◌≡◌, ℕ, ◌≤◌, List, [], ◌∷◌, ◌++◌, length}
 use Rattle.edge_io.specs.Told.{IsToldAs}
 use Rattle.edge_io.specs.Door.{DoorState}
+use Rattle.desk_access.specs.Division.{DividedRun, first_conn}
 use Rattle.desk_access.specs.Call.{Call, failures_of}
 use Rattle.desk_access.specs.Desk.{DeskState}
 use Rattle.conn_serve.specs.declared.rules.Rules.{Rules}
@@ -12,10 +13,6 @@ use Rattle.serve_workers.specs.declared.worker.WorkerEnd.{WorkerEnd}
 use Rattle.serve_workers.specs.declared.worker.WorkerEnd.TheVariants.{Shut, Enough, AcceptFault, NoMemory}
 use Rattle.serve_workers.specs.declared.worker.WorkerReport.{WorkerReport}
 use Rattle.serve_workers.specs.Served.{Served, AtDoor, calls_in, how_many, by_disk}
-
--- The number of a worker's first connection in a run: 26 bits count the worker's connections, and 6 bits above them are its number.
-abbrev pub first_conn : ℕ → ℕ → ℕ
-first_conn run number = run * 2 ^ 32 + number * 2 ^ 26
 
 -- the next link was accepted, served as the connection of that number, and given back
 abbrev pub ServesLink : Rules → ℕ → DoorState → DoorState → (List Call → Type 0) → Type 0
@@ -39,7 +36,7 @@ pub record Stops (rules : Rules) (conn : ℕ) (old new : DoorState) (made : List
 -- A worker with this pass, which had made no call, has ended. It accepted at most `talks` links and served each to its end, as
 -- connections numbered in order from its first one on. It gave back the finished ones, and reports how many they are. The pass's calls
 -- are those of the links, joined. A link that no memory was found to give back is late, and its calls come after the others'.
-pub record Worked (start : DeskState → Type 0) (run : ℕ) (rules : Rules) (talks : ℕ) (old new : DoorState) (pass pass' : Known)
+pub record Worked (start : DeskState → Type 0) (run : DividedRun) (rules : Rules) (talks : ℕ) (old new : DoorState) (pass pass' : Known)
     (report : WorkerReport) : Type 0 where
   pub finished : List Served
   pub late : List Served

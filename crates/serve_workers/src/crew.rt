@@ -47,12 +47,12 @@ pub(crate) struct Room<'a, P: Door, D: Disk, J: Naming, R: Wait> {
     pub(crate) crew: Crew<P, J>,
 }
 
-/// Reserves room for `many` workers, at most 64, and for what they leave, with one pass more. The error is want of memory.
+/// Reserves room for `many` workers, at most 4,096, and for what they leave, with one pass more. The error is want of memory.
 pub(crate) fn room_for<'a, P: Door + Drop, D: Disk, J: Naming, R: Wait>(
     alloc: Global,
     many: usize,
 ) -> Result<Room<'a, P, D, J, R>, AllocError>
-    requires { many ≤ 64 }
+    requires { many ≤ 4096 }
 
     ensures workers { IfOk result (λ room. IsRoom many room.workers) }
     ensures crew { IfOk result (λ room. IsRoom many room.crew.doors × IsRoom (many + 1) room.crew.passes × IsRoom many room.crew.reports) }

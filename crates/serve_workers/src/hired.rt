@@ -1,8 +1,9 @@
 //! Workers that are hired: they have their doors and passes, and room is reserved for all that they leave.
-ghost use Rattle.std.specs.Prelude.{◌≡◌, ℕ, ◌^◌, ◌<◌, ◌≤◌, Some, map, length, All, IfOk, IfErr, vec_len, slice_get, slice_index_or};
+ghost use Rattle.std.specs.Prelude.{◌≡◌, ℕ, ◌<◌, ◌≤◌, Some, map, length, All, IfOk, IfErr, vec_len, slice_get, slice_index_or};
 ghost use Rattle.std.specs.Vec.{vec_capacity};
 ghost use Rattle.spool_turns.specs.Replays.{IsReal};
-ghost use Rattle.serve_workers.specs.Works.{Worked, first_conn};
+ghost use Rattle.desk_access.specs.Division.{callers_of, each_of};
+ghost use Rattle.serve_workers.specs.Works.{Worked};
 ghost use Rattle.serve_workers.specs.Crews.{AreNew, IsReady, IsRoom, HaveWorked};
 ghost use Rattle.serve_workers.specs.Answering.{MayAnswer};
 
@@ -27,7 +28,6 @@ pub struct Hired<'a, P: Door, D: Disk, J: Naming, R: Wait> {
 impl<'a, P: Door, D: Disk, J: Naming, R: Wait> Model for Hired<'a, P, D, J, R> {
     ghost use Rattle.std.specs.Prelude.{◌+◌, map, All, vec_len};
     ghost use Rattle.spool_turns.specs.Replays.{IsReal};
-    ghost use Rattle.serve_workers.specs.Works.{first_conn};
     ghost use Rattle.serve_workers.specs.Crews.{Roster, IsAtDesk, IsRoom};
     ghost use Rattle.serve_workers.specs.Answering.{MayAnswer};
 
@@ -39,8 +39,8 @@ impl<'a, P: Door, D: Disk, J: Naming, R: Wait> Model for Hired<'a, P, D, J, R> {
       passes = map (λ (worker : _). worker.seated.pass) h.workers.items;
     } };
 
-    ghost invariant = { λ h. All (λ (worker : _). IsAtDesk worker.number worker.seated.pass) h.workers.items
-        × All (λ (worker : _). MayAnswer (IsReal D.Disk J.start J.run J.seats J.began) J.start (first_conn J.run worker.number)
+    ghost invariant = { λ h. All (λ (worker : _). IsAtDesk J.run worker.number worker.seated.pass) h.workers.items
+        × All (λ (worker : _). MayAnswer (IsReal D.Disk J.start J.run J.seats J.began) J.start J.run worker.number
         (P.permits worker.door) worker.rules) h.workers.items
         × IsRoom (vec_len h.workers) h.crew.doors × IsRoom (vec_len h.workers + 1) h.crew.passes
         × IsRoom (vec_len h.workers) h.crew.reports };
@@ -55,14 +55,14 @@ fn placed<'a, P: Door + Drop, D: Disk, J: Naming, R: Wait>(
     mut workers: Vec<Worker<'a, P, D, J, R>>,
 ) -> Vec<Worker<'a, P, D, J, R>>
     requires room { IsRoom (vec_len posts) workers }
-    requires many { (vec_len passes ≡ vec_len posts) × (vec_len posts ≤ 64) }
+    requires many { (vec_len passes ≡ vec_len posts) × (vec_len posts ≤ callers_of J.run.division) }
     requires new { AreNew 0 passes.items }
     requires says { (i : ℕ) (post : _) → slice_get posts.items i ≡ Some post
-        → MayAnswer (IsReal D.Disk J.start J.run J.seats J.began) J.start (first_conn J.run i) (P.permits post.door) post.rules }
+        → MayAnswer (IsReal D.Disk J.start J.run J.seats J.began) J.start J.run i (P.permits post.door) post.rules }
 
-    ensures says { All (λ (worker : _). MayAnswer (IsReal D.Disk J.start J.run J.seats J.began) J.start (first_conn J.run worker.number)
+    ensures says { All (λ (worker : _). MayAnswer (IsReal D.Disk J.start J.run J.seats J.began) J.start J.run worker.number
         (P.permits worker.door) worker.rules) result.items }
-    ensures ready { All (λ (worker : _). IsReady worker.number worker.seated.pass) result.items }
+    ensures ready { All (λ (worker : _). IsReady J.run worker.number worker.seated.pass) result.items }
     ensures doors { map (λ (worker : _). worker.door) result.items ≡ map (λ (post : _). post.door) posts.items }
     ensures rules { map (λ (worker : _). worker.rules) result.items ≡ map (λ (post : _). post.rules) posts.items }
     ensures passes { map (λ (worker : _). worker.seated.pass) result.items ≡ passes.items }
@@ -94,9 +94,9 @@ fn work_all<
 >(rt: &R, alloc: Global, workers: &mut [Worker<'a, P, D, J, R>], talks: u32)
 where
     P::L: Send,
-    requires ready { All (λ (worker : _). IsReady worker.number worker.seated.pass) workers.old }
-    requires talks { talks ≤ 2 ^ 26 }
-    requires says { All (λ (worker : _). MayAnswer (IsReal D.Disk J.start J.run J.seats J.began) J.start (first_conn J.run worker.number)
+    requires ready { All (λ (worker : _). IsReady J.run worker.number worker.seated.pass) workers.old }
+    requires talks { talks ≤ each_of J.run.division }
+    requires says { All (λ (worker : _). MayAnswer (IsReal D.Disk J.start J.run J.seats J.began) J.start J.run worker.number
         (P.permits worker.door) worker.rules) workers.old }
 
     ensures worked { (k : ℕ) (d : _) → k < length workers.old → Worked J.start J.run (slice_index_or workers.old k d).rules talks
@@ -110,8 +110,8 @@ where
         workers,
         threads,
         &|_, worker: &mut Worker<'_, P, D, J, R>|
-            requires ready { IsReady worker.now.number worker.now.seated.pass × (talks ≤ 2 ^ 26) }
-            requires says { MayAnswer (IsReal D.Disk J.start J.run J.seats J.began) J.start (first_conn J.run worker.now.number)
+            requires ready { IsReady J.run worker.now.number worker.now.seated.pass × (talks ≤ each_of J.run.division) }
+            requires says { MayAnswer (IsReal D.Disk J.start J.run J.seats J.began) J.start J.run worker.now.number
                 (P.permits worker.now.door) worker.now.rules }
             ensures worked { Worked J.start J.run worker.entry.now.rules talks (P.told worker.entry.now.door) (P.told worker.exit.now.door)
                 worker.entry.now.seated.pass worker.exit.now.seated.pass worker.exit.now.report }
@@ -120,9 +120,9 @@ where
     );
 }
 
-/// Hires a worker for each of the posts, at most 64, and gives it the pass at the same place. There are as many passes as posts; they
-/// have made no call and are numbered from 0 on, and each worker has the number of its pass. The door of each post permits, link by
-/// link, what may be said once it is stored (`MayAnswer`).
+/// Hires a worker for each of the posts, at most as many as the run's numbers are divided among, and gives it the pass at the same place.
+/// There are as many passes as posts; they have made no call and are numbered from 0 on, and each worker has the number of its pass. The
+/// door of each post permits, link by link, what may be said once it is stored (`MayAnswer`).
 ///
 /// All memory that it takes to give back doors, passes and reports is reserved here, and room for one pass more: so once workers are
 /// hired, [`Hired::work`] gives all of them back. The error is want of memory, and gives back posts and passes as they were.
@@ -133,10 +133,10 @@ pub fn hire<'a, P: Door + Drop, D: Disk, J: Naming, R: Wait>(
     posts: Vec<Post<P>>,
     passes: Vec<Pass<J>>,
 ) -> Result<Hired<'a, P, D, J, R>, NoCrew<P, J>>
-    requires many { (vec_len passes ≡ vec_len posts) × (vec_len posts ≤ 64) }
+    requires many { (vec_len passes ≡ vec_len posts) × (vec_len posts ≤ callers_of J.run.division) }
     requires new { AreNew 0 passes.items }
     requires says { (i : ℕ) (post : _) → slice_get posts.items i ≡ Some post
-        → MayAnswer (IsReal D.Disk J.start J.run J.seats J.began) J.start (first_conn J.run i) (P.permits post.door) post.rules }
+        → MayAnswer (IsReal D.Disk J.start J.run J.seats J.began) J.start J.run i (P.permits post.door) post.rules }
 
     ensures rules { IfOk result (λ hired. hired.rules ≡ map (λ (post : _). post.rules) posts.items) }
     ensures doors { IfOk result (λ hired. hired.doors ≡ map (λ (post : _). P.told post.door) posts.items) }
@@ -166,11 +166,11 @@ where
     /// each did. The list of passes has room for one more, as that of a forwarder. Nothing is allocated for the lists.
     ///
     /// A worker ends once its door is shut for good and no link waits there (a listening socket is never shut), once it has served
-    /// `talks` links, which are at most 2^26, at an accept that fails, or where no memory is found to give a link back. Its report
+    /// `talks` links, which are at most as many as each caller has numbers, at an accept that fails, or where no memory is found to give a link back. Its report
     /// says which of these it was.
     pub fn work(self, rt: &R, alloc: Global, talks: u32) -> Crew<P, J>
         requires new { AreNew 0 self.passes }
-        requires talks { talks ≤ 2 ^ 26 }
+        requires talks { talks ≤ each_of J.run.division }
 
         ensures worked { HaveWorked J.start J.run talks self.entry.rules self.entry.doors self.entry.passes
             (map (λ (door : _). P.told door) result.doors.items) result.passes.items result.reports.items }

@@ -1,9 +1,10 @@
 //! A worker at its door.
-ghost use Rattle.std.specs.Prelude.{◌≡◌, ◌+◌, ◌^◌, ◌<◌, ◌≤◌, ℕ, List, [], Some, OnOk, IfErr};
+ghost use Rattle.std.specs.Prelude.{◌≡◌, ◌+◌, ◌<◌, ◌≤◌, ℕ, List, [], Some, OnOk, IfErr};
 ghost use Rattle.conn_serve.specs.Serves.{CarriedBy};
 ghost use Rattle.conn_serve.specs.Says.{HasCarried, MaySay};
 ghost use Rattle.spool_turns.specs.Replays.{IsReal};
-ghost use Rattle.serve_workers.specs.Works.{first_conn, ServesLink, Stops, Worked};
+ghost use Rattle.desk_access.specs.Division.{each_of, first_conn};
+ghost use Rattle.serve_workers.specs.Works.{ServesLink, Stops, Worked};
 ghost use Rattle.serve_workers.specs.Crews.{IsReady};
 ghost use Rattle.serve_workers.specs.Answering.{MayAnswer};
 
@@ -91,9 +92,9 @@ fn serve_all<P: Door, D: Disk, J: Naming, R: Wait>(
     talks: u32,
 ) -> WorkerReport
     requires first { first ≡ first_conn J.run seated.old.pass.number }
-    requires ready { IsReady seated.old.pass.number seated.old.pass }
-    requires talks { talks ≤ 2 ^ 26 }
-    requires says { MayAnswer (IsReal D.Disk J.start J.run J.seats J.began) J.start (first_conn J.run seated.old.pass.number)
+    requires ready { IsReady J.run seated.old.pass.number seated.old.pass }
+    requires talks { talks ≤ each_of J.run.division }
+    requires says { MayAnswer (IsReal D.Disk J.start J.run J.seats J.began) J.start J.run seated.old.pass.number
         (P.permits door.old) rules.now }
 
     ensures worked { Worked J.start J.run rules.now talks (P.told door.old) (P.told door.new) seated.old.pass seated.new.pass result }
@@ -116,17 +117,17 @@ impl<'a, P: Door, D: Disk, J: Naming, R: Wait> Worker<'a, P, D, J, R> {
     /// Serves the links of its door, one after another, and notes in its report why it ended: the door is shut for good, `talks` links
     /// were served, an accept failed, or no memory was found to give a link back.
     pub(crate) fn work(&mut self, alloc: Global, talks: u32)
-        requires ready { IsReady self.old.number self.old.seated.pass }
-        requires talks { talks ≤ 2 ^ 26 }
-        requires says { MayAnswer (IsReal D.Disk J.start J.run J.seats J.began) J.start (first_conn J.run self.old.number)
+        requires ready { IsReady J.run self.old.number self.old.seated.pass }
+        requires talks { talks ≤ each_of J.run.division }
+        requires says { MayAnswer (IsReal D.Disk J.start J.run J.seats J.began) J.start J.run self.old.number
             (P.permits self.old.door) self.old.rules }
 
         ensures worked { Worked J.start J.run self.old.rules talks (P.told self.old.door) (P.told self.new.door) self.old.seated.pass
             self.new.seated.pass self.new.report }
         ensures number { self.new.number ≡ self.old.number }
     {
-        let run = u64::from(self.seated.shared.run());
-        let first = (run << 32) + (u64::from(self.number) << 26);
+        let shared = self.seated.shared;
+        let first = shared.division().first_conn(shared.run(), self.number);
         self.report = serve_all(
             alloc,
             &mut self.door,

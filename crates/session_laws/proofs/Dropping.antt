@@ -21,7 +21,8 @@ use Rattle.forward_core.specs.declared.sent.Sent.TheVariants.{Drained}
 use Rattle.forward_core.proofs.DropLaw.{all_told, below_end, granted_of, told_of}
 use Rattle.forward_core.proofs.Numbered.{numbered_lower, numbered_take}
 use Rattle.forward_core.proofs.Rest.{given_as, one_entry}
-use Rattle.session_laws.specs.Beside.{DropsAmong, EndsAmong, KnowsMarked, unsent}
+use Rattle.session_laws.specs.Beside.{KnowsMarked, unsent}
+use Rattle.session_laws.specs.Laws.{ToldIsKnown}
 use Rattle.session_laws.proofs.Entries.{filter_both}
 
 -- ---- of a list
@@ -109,23 +110,25 @@ some_calls : (n : ℕ) (calls : List Call) → MarksAllBelow n calls → 0 < len
 some_calls n [] has = absurd has
 some_calls n (call ∷ calls) has = omega arith
 
-pub told_is_known : (settings : Settings) (proto : Proto) (known after : Numbers) (whole : List NumberedEntry) (start until : ℕ) (sent : Sent) (bytes : List ℕ) (calls : List Call) (text : List ℕ) (told : ℕ) (also : List ℕ)
-    → (ends : EndsAmong settings proto known whole start until sent bytes calls text told also) → KnowsMarked known calls after → (IsHalt sent → ⊥)
-    → DropsAmong known after whole start until ends.all told also sent
-told_is_known settings proto known after whole start until sent bytes calls text told also ends knows none =
+pub told_is_known : ToldIsKnown
+told_is_known known after whole course ends knows none =
+    let one = course.session in
+    let told = course.told in
+    let also = course.also in
     let all = ends.all in
     let list = ends.is_list in
-    let granted = granted_of sent calls none ends.refused in
-    let marks = told_of sent calls all told also none ends.marked in
-    let drained : sent ≡ Drained → unknown after (unsent known whole start until) ≡ [] = λ is.
-    none_left known after whole start until all told also calls list.are_unsent list.rising knows granted marks
-    (all_told settings proto (entries_of all) bytes text told also (subst (EndsAs settings proto (entries_of all) bytes text told also) is ends.ends)) in
+    let granted = granted_of one.sent one.calls none ends.refused in
+    let marks = told_of one.sent one.calls all told also none ends.marked in
+    let drained : one.sent ≡ Drained → unknown after (unsent known whole one.start one.until) ≡ [] = λ is.
+    none_left known after whole one.start one.until all told also one.calls list.are_unsent list.rising knows granted marks
+    (all_told course.settings course.proto (entries_of all) one.bytes one.text told also
+    (subst (EndsAs course.settings course.proto (entries_of all) one.bytes one.text told also) is ends.ends)) in
     record {
-      first = first_known known after whole start until all told also calls list.are_unsent list.rising knows granted marks;
-      left_is = split known after whole start until all told also calls list.are_unsent list.rising knows granted marks;
-      others = others_left known after whole start until all told also calls list.are_unsent list.rising knows granted marks;
+      first = first_known known after whole one.start one.until all told also one.calls list.are_unsent list.rising knows granted marks;
+      left_is = split known after whole one.start one.until all told also one.calls list.are_unsent list.rising knows granted marks;
+      others = others_left known after whole one.start one.until all told also one.calls list.are_unsent list.rising knows granted marks;
       drained = drained;
       below = λ is.
-          let at = ends.from_cursor (some_calls (after_last 0 (take told all)) calls marks.front) in
-          all_known known after whole start until knows.kept (omega (arith, at)) (drained is);
+          let at = ends.from_cursor (some_calls (after_last 0 (take told all)) one.calls marks.front) in
+          all_known known after whole one.start one.until knows.kept (omega (arith, at)) (drained is);
     }

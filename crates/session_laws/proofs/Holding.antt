@@ -6,6 +6,7 @@ use Rattle.spool_state.specs.SpoolState.{IsSound, SpoolState, end}
 use Rattle.spool_state.specs.Left.{NumberedEntry, left_from}
 use Rattle.spool_answers.specs.declared.numbered.Numbered.{Numbered}
 use Rattle.spool_answers.specs.Pend.{AreNumbered, given_entries}
+use Rattle.desk_access.specs.Division.{DividedRun}
 use Rattle.desk_access.specs.declared.standing.Standing.{Standing}
 use Rattle.desk_access.specs.Call.{Call, Record, confirms, marks, own_of, pends}
 use Rattle.desk_access.specs.Desk.{Answers, AnswersAs, DeskState, Goes}
@@ -26,13 +27,13 @@ use Rattle.session_laws.proofs.Coming.{own_here, own_there, upto_here, upto_ther
 
 -- ---- who marks
 
-may_alone : (run confirming number : ℕ) (own : List Call) (call : Call) → May run confirming number own call → IsMarking call → number ≡ confirming
+may_alone : (run : DividedRun) (confirming number : ℕ) (own : List Call) (call : Call) → May run confirming number own call → IsMarking call → number ≡ confirming
 may_alone run confirming number own (marks stretches result) may marking = may
 may_alone run confirming number own (confirms upto result) may marking = may
 may_alone run confirming number own call may marking = absurd marking
 
 -- In a journal of which each call is one that its caller may make only the caller that may confirm marks and confirms.
-pub met_alone : (run confirming : ℕ) (before records : List Record) → Met run confirming before records → MarksAlone confirming records
+pub met_alone : (run : DividedRun) (confirming : ℕ) (before records : List Record) → Met run confirming before records → MarksAlone confirming records
 met_alone run confirming before [] met = tt
 met_alone run confirming before (one ∷ records) met =
     (may_alone run confirming one.by (own_of one.by before) one.call met.0, met_alone run confirming (before ++ one ∷ []) records met.1)
@@ -147,7 +148,7 @@ pub record IsOn (number : ℕ) (one : Session) (given : List Numbered) (w z : De
   pub x : DeskState
   pub goes : Goes w first x
   pub asked : own_of number first ≡ pends 0 1 (Ok given) ∷ []
-  pub among : IsAmong x number one.start one.until one.calls rest z
+  pub among : IsAmong x number one rest z
   pub read : HasRead x 0 1 given
   pub reaches : (end x.spool ≤ one.until) ⊎ IsAfterFirst given one.until
 

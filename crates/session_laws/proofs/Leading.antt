@@ -39,7 +39,7 @@ use Rattle.session_laws.specs.Led.{Did, KnowsBy, MarksIn, ReadsIn}
 
 -- ---- the stages of a take know the same numbers
 
-abbrev KnowsSame : SpoolState → SpoolState → Type 0
+abbrev pub KnowsSame : SpoolState → SpoolState → Type 0
 KnowsSame s t = numbers_of t ≡ numbers_of s
 
 begin_same : (s : SpoolState) (place : ℕ) (group : List Entry) → All (KnowsSame s) (begin_stages s place group)
@@ -57,7 +57,7 @@ closed_same : (s : SpoolState) (place : Option ℕ) (group : List Entry) → All
 closed_same s (Some place) group = begin_same s place group
 closed_same s None group = first_same s s.older group
 
-group_same : (s : SpoolState) (group : List Entry) → All (KnowsSame s) (group_stages s group)
+pub group_same : (s : SpoolState) (group : List Entry) → All (KnowsSame s) (group_stages s group)
 group_same s group =
     cond_both (nat_le (need_of group) (room s)) (added s group ∷ []) (closed_stages (lowest_closed s s.slots) s group) (All (KnowsSame s))
     (λ yes. cons_of (KnowsSame s) (added s group) [] refl (none_of (KnowsSame s)))

@@ -26,10 +26,11 @@ use Rattle.forward_core.specs.Settings.{Settings}
 use Rattle.forward_core.specs.declared.sent.Sent.{Sent}
 use Rattle.forward_core.proofs.Rest.{as_given, left_rise, one_entry}
 use Rattle.serve_forwarder.specs.Sessions.{Session}
-use Rattle.session_laws.specs.Beside.{EndsAmong, KnowsMarked, MarksAlone}
+use Rattle.session_laws.specs.Beside.{EndsAmong, KnowsMarked, MarksAlone, course_of}
+use Rattle.session_laws.specs.Laws.{EndedAs}
 use Rattle.session_laws.specs.Led.{Led}
 use Rattle.session_laws.specs.Sessions.{AreSent, IsSent, Reach, reach_of}
-use Rattle.session_laws.proofs.Among.{ends_among, one_standing, way}
+use Rattle.session_laws.proofs.Among.{ends_among, one_standing, way, with_calls}
 use Rattle.session_laws.proofs.Coming.{Reached, comes}
 use Rattle.session_laws.proofs.Entries.{between, between_all, inside, left_grown, view_more}
 use Rattle.session_laws.proofs.Holding.{IsAfterFirst, IsOn, alone_parts, first_given, none_given}
@@ -102,12 +103,12 @@ from_then settings proto w m xs ys early late t later first = record {
 -- ---- one session
 
 -- a session of these calls, over a whole list
-record SentBy (settings : Settings) (proto : Proto) (whole : List NumberedEntry) (before : Numbers) (start until : ℕ) (sent : Sent) (bytes : List ℕ) (calls : List Call) (text : List ℕ) (after : Numbers) : Type 0 where
+record SentBy (settings : Settings) (proto : Proto) (whole : List NumberedEntry) (before : Numbers) (one : Session) (after : Numbers) : Type 0 where
   told : ℕ
   also : List ℕ
-  ends : EndsAmong settings proto before whole start until sent bytes calls text told also
-  some : 0 < length calls → 0 < length ends.all
-  knows : KnowsMarked before calls after
+  ends : EndsAmong before whole (course_of settings proto one told also)
+  some : 0 < length one.calls → 0 < length ends.all
+  knows : KnowsMarked before one.calls after
 
 -- an entry that was left at the cursor is one of those that were to be sent
 some_unsent : (s r : SpoolState) (before later : List Entry) (start until : ℕ) → Like s (numbers_of r) before start r → start ≡ r.cursor → end r ≤ until → 0 < length (left r) → 0 < length (between start until (unknown_with s (numbers_of r) (before ++ later)))
@@ -122,12 +123,17 @@ some_unsent s r before later start until like at le some =
     ap (λ (l : List Entry). length (between start until (unknown (numbers_of r) (numbered (base s) l)))) (sym (append_assoc (list s) before later)) in
     omega (arith, more, long, ap (λ (l : List NumberedEntry). length l) view, some)
 
-sent_by : (settings : Settings) (proto : Proto) (bytes_left : Option (List ℕ)) (number start until : ℕ) (s r t : SpoolState) (before later whole : List Entry) (records : List Record) (groups : List (List Entry)) (led : Led r records groups t)
-    (sent : Sent) (bytes text : List ℕ) → IsSound s → Like s (numbers_of r) before start r → before ++ (all_of groups ++ later) ≡ whole → All IsEntry whole → Reached number until start r records groups t led → MarksAlone number records → r.cursor ≤ start
-    → (start ≡ r.cursor → 0 < length (between start until (unknown_with s (numbers_of r) whole))) → Ended (EndsAs settings proto) (HintsAs proto) bytes_left until sent start bytes (own_of number records) text
-    → SentBy settings proto (numbered (base s) (list s ++ whole)) (numbers_of r) start until sent bytes (own_of number records) text (numbers_of t)
-sent_by settings proto bytes_left number start until s r t before later whole records groups led sent bytes text first like all limits reached alone from_cursor some ended =
-    let ends = ends_among settings proto bytes_left number start until s r t before later whole records groups led sent bytes text first like.sound like.grown all limits reached alone from_cursor ended in
+sent_by : (settings : Settings) (proto : Proto) (number : ℕ) (one : Session) (s r t : SpoolState) (before later whole : List Entry)
+    (records : List Record) (groups : List (List Entry)) (led : Led r records groups t) → IsSound s → Like s (numbers_of r) before one.start r
+    → before ++ (all_of groups ++ later) ≡ whole → All IsEntry whole → Reached number one.until one.start r records groups t led
+    → MarksAlone number records → r.cursor ≤ one.start
+    → (one.start ≡ r.cursor → 0 < length (between one.start one.until (unknown_with s (numbers_of r) whole)))
+    → EndedAs settings proto (with_calls one (own_of number records))
+    → SentBy settings proto (numbered (base s) (list s ++ whole)) (numbers_of r) (with_calls one (own_of number records)) (numbers_of t)
+sent_by settings proto number one s r t before later whole records groups led first like all limits reached alone from_cursor some ended =
+    let ends =
+    ends_among settings proto number one s r t before later whole records groups led first like.sound like.grown all limits reached alone
+    from_cursor ended in
     record {
       told = ended.told;
       also = ended.also;
@@ -136,7 +142,7 @@ sent_by settings proto bytes_left number start until s r t before later whole re
           let n = some (ends.from_cursor made) in
           let long = ap (λ (l : List NumberedEntry). length l) ends.is_list.are_unsent in
           omega (arith, n, long, length-map ends.all one_entry);
-      knows = led_marked number until start r t records groups like.sound led alone ended.session;
+      knows = led_marked number one.until one.start r t records groups like.sound led alone ended.session;
     }
 
 -- Of what wasn't known, those that were given come first: a session that ends directly after the first ends within them.
@@ -189,7 +195,7 @@ from_held settings proto number one given w z records t rules some on alone ende
     let x = on.x in
     let s' = x.spool in
     let among = on.among in
-    let v = way x z number one.start one.until one.calls on.rest t among stands in
+    let v = way x z number one on.rest t among stands in
     let parts = alone_parts number on.first on.rest (subst (MarksAlone number) on.parts alone) in
     let quiet = from_quiet settings proto number w x on.first s' rules on.goes parts.0 (subst NoMarks (sym on.asked) ((λ marking. marking), tt)) (one_standing s' x.doubt) in
     let left_some = some_left s' given some on.read.reads in
@@ -208,10 +214,12 @@ from_held settings proto number one given w z records t rules some on alone ende
                   omega (arith, n, ap (λ (l : List Entry). length (between one.start one.until (unknown_with s (numbers_of s') l))) all)
               | inr after ↦ some_first one.start one.until s'.cursor (unknown_with s (numbers_of s') whole) at (begin after)
             ] in
-            let b : SentBy settings proto (numbered (base s) (list s ++ whole)) (numbers_of s') one.start one.until one.sent one.bytes one.calls one.text (numbers_of t) =
-            subst (λ (those : List Call). Ended (EndsAs settings proto) (HintsAs proto) one.left one.until one.sent one.start one.bytes those one.text
-            → SentBy settings proto (numbered (base s) (list s ++ whole)) (numbers_of s') one.start one.until one.sent one.bytes those one.text (numbers_of t)) among.calls_are
-            (sent_by settings proto one.left number one.start one.until s s' t before later whole on.rest v.groups v.led one.sent one.bytes one.text sound_s like all limits v.reached among.alone among.from_cursor unsent) ended in (
+            let list_of = numbered (base s) (list s ++ whole) in
+            let b : SentBy settings proto list_of (numbers_of s') one (numbers_of t) =
+            subst (λ (those : List Call). EndedAs settings proto (with_calls one those)
+            → SentBy settings proto list_of (numbers_of s') (with_calls one those) (numbers_of t)) among.calls_are
+            (sent_by settings proto number one s s' t before later whole on.rest v.groups v.led sound_s like all limits v.reached among.alone
+            among.from_cursor unsent) ended in (
               reach_of t,
               record {
                 told = b.told;

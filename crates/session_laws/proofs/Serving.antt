@@ -3,6 +3,7 @@ use Rattle.std.proofs.Common.{◌≡◌, ℕ, ◌-◌, List, [], ◌∷◌, sym,
 use Rattle.std.proofs.lemmas.List.Elements.{All-head}
 use Rattle.edge_io.specs.Net.{NetState}
 use Rattle.spool_desk.specs.Alone.{AloneView}
+use Rattle.desk_access.specs.Division.{DividedRun}
 use Rattle.desk_access.specs.Call.{Record, own_of}
 use Rattle.desk_access.specs.Desk.{DeskState}
 use Rattle.desk_access.proofs.Nexts.{all_right}
@@ -41,7 +42,7 @@ has_looked start destination workers pass pass' net net' last number log f fresh
       alone = subst (λ (n : ℕ). MarksAlone n log) (sym at) alone;
     }
 
-pub sessions_of_run : (tells : Type 0) (start : DeskState → Type 0) (run seats : ℕ) (began : Beginning) (new : AloneView) → SessionsOfRun tells start run seats began new
+pub sessions_of_run : (tells : Type 0) (start : DeskState → Type 0) (run : DividedRun) (seats : ℕ) (began : Beginning) (new : AloneView) → SessionsOfRun tells start run seats began new
 sessions_of_run tells start run seats began new talks rules doors doors' reports destination net net' last r many x y t could goes stands =
     let f = r.forwarded.2 in
     let behind = new_last 0 r.workers r.forwarder r.fresh in

@@ -17,9 +17,9 @@ use Rattle.forward_core.specs.Protocols.{EndsAs}
 use Rattle.forward_core.specs.Session.{EndsBy, MarksBy}
 use Rattle.forward_core.specs.Settings.{Settings}
 use Rattle.forward_core.specs.Turning.{IsTold}
-use Rattle.forward_core.specs.declared.sent.Sent.{Sent}
 use Rattle.forward_core.specs.declared.sent.Sent.TheVariants.{Drained}
 use Rattle.spool_turns.specs.Passes.{LeadsAbove, upto_first}
+use Rattle.serve_forwarder.specs.Sessions.{Session}
 
 -- the call makes numbers known
 abbrev pub IsMarking : Call → Type 0
@@ -32,17 +32,17 @@ abbrev pub MarksAlone : ℕ → List Record → Type 0
 MarksAlone number [] = Unit {0}
 MarksAlone number (one ∷ records) = (IsMarking one.call → one.by ≡ number) × MarksAlone number records
 
--- The records led from a desk that isn't in doubt to another state. The calls of the caller of that number among them are a
--- session's, and nobody else marked or confirmed. The session was to send the entries from `start` on and below `until`. `start` isn't
--- below the cursor as it began, and the two aren't above the cursor and the end after its first call.
-pub record IsAmong (x : DeskState) (number start until : ℕ) (calls : List Call) (records : List Record) (y : DeskState) : Type 0 where
+-- The records led from a desk that isn't in doubt to another state. The calls of the caller of that number among them are the session's,
+-- and nobody else marked or confirmed. The session's start isn't below the cursor as it began, and its start and its end aren't above the
+-- cursor and the end after its first call.
+pub record IsAmong (x : DeskState) (number : ℕ) (one : Session) (records : List Record) (y : DeskState) : Type 0 where
   pub rules : IsDesk x
   pub sure : x.doubt ≡ []
   pub goes : Goes x records y
-  pub calls_are : own_of number records ≡ calls
+  pub calls_are : own_of number records ≡ one.calls
   pub alone : MarksAlone number records
-  pub from_cursor : x.spool.cursor ≤ start
-  pub within : 0 < length calls → LeadsAbove x (upto_first number records) until start
+  pub from_cursor : x.spool.cursor ≤ one.start
+  pub within : 0 < length one.calls → LeadsAbove x (upto_first number records) one.until one.start
 
 -- The whole list: the entries of a state and all that were added since, each with its number.
 abbrev pub history : SpoolState → List (List Entry) → List NumberedEntry
@@ -54,26 +54,42 @@ unsent known whole start until = filter (λ e. is_within start until e.number) (
 
 -- The list of a session: all entries that it was to send, in order, each with its number. It read the first of them, and all of them
 -- where it read up to its end.
-pub record IsListAmong (known : Numbers) (whole : List NumberedEntry) (start until : ℕ) (calls : List Call) (all : List Numbered) : Type 0 where
+pub record IsListAmong (known : Numbers) (whole : List NumberedEntry) (start until : ℕ) (calls : List Call)
+    (all : List Numbered) : Type 0 where
   pub are_unsent : given_entries all ≡ unsent known whole start until
   pub rising : AreNumbered start until all
   pub rest : List Numbered
   pub parts : all ≡ read_of until calls ++ rest
   pub to_end : until ≤ next_of until start calls → rest ≡ []
 
+-- A session by a protocol with these settings, and what it reported as acknowledged: the first `told` of its entries, and those at the
+-- places `also`.
+pub record Course : Type 0 where
+  pub settings : Settings
+  pub proto : Proto
+  pub session : Session
+  pub told : ℕ
+  pub also : List ℕ
+
+abbrev pub course_of : Settings → Proto → Session → ℕ → List ℕ → Course
+course_of settings proto session told also = record { settings = settings; proto = proto; session = session; told = told; also = also }
+
+-- what the protocol's table says of a session whose list has these entries
+abbrev pub EndsAsCourse : Course → List Entry → Type 0
+EndsAsCourse course entries =
+    EndsAs course.settings course.proto entries course.session.bytes course.session.text course.told course.also course.session.sent
+
 -- A session over a whole list, of which these numbers were known at its start, has ended so. If it made a call it began at the
 -- cursor. The protocol's table says this of the list of all entries that it was to send, and the calls marked those of them that were
--- reported as acknowledged: the first `told` and those at the places `also`. The desk refused a call only where the ending says so,
--- and that was the last one.
-pub record EndsAmong (settings : Settings) (proto : Proto) (known : Numbers) (whole : List NumberedEntry) (start until : ℕ) (sent : Sent)
-    (bytes : List ℕ) (calls : List Call) (text : List ℕ) (told : ℕ) (also : List ℕ) : Type 0 where
-  pub not_below : known.cursor ≤ start
-  pub from_cursor : 0 < length calls → start ≡ known.cursor
+-- reported as acknowledged. The desk refused a call only where the ending says so, and that was the last one.
+pub record EndsAmong (known : Numbers) (whole : List NumberedEntry) (course : Course) : Type 0 where
+  pub not_below : known.cursor ≤ course.session.start
+  pub from_cursor : 0 < length course.session.calls → course.session.start ≡ known.cursor
   pub all : List Numbered
-  pub is_list : IsListAmong known whole start until calls all
-  pub ends : EndsAs settings proto (entries_of all) bytes text told also sent
-  pub marked : MarksBy sent calls all told also
-  pub refused : EndsBy sent calls
+  pub is_list : IsListAmong known whole course.session.start course.session.until course.session.calls all
+  pub ends : EndsAsCourse course (entries_of all)
+  pub marked : MarksBy course.session.sent course.session.calls all course.told course.also
+  pub refused : EndsBy course.session.sent course.session.calls
 
 -- the numbers known after these calls, if those of a mark that was refused became known too
 abbrev pub known_at_most : Numbers → List Call → Numbers
@@ -91,13 +107,14 @@ pub record KnowsMarked (known : Numbers) (calls : List Call) (after : Numbers) :
   pub granted : AreGranted calls → after ≡ known_by known calls
   pub front : AreGranted calls → (n : ℕ) → MarksAllBelow n calls → n ≤ after.cursor
 
--- Of the list of a session that was not halted the first `told` entries, which were reported as acknowledged in order, are known
+-- Of the list of a session that was not halted the first entries, which were reported as acknowledged in order, are known
 -- after it. What isn't known of the list is what isn't known of the others; where none of the others was reported as acknowledged,
 -- none of them is known. After `Drained` all are known, and so is each entry of the whole list below the session's end.
-pub record DropsAmong (known after : Numbers) (whole : List NumberedEntry) (start until : ℕ) (all : List Numbered) (told : ℕ) (also : List ℕ)
-    (sent : Sent) : Type 0 where
-  pub first : unknown after (given_entries (take told all)) ≡ []
-  pub left_is : unknown after (unsent known whole start until) ≡ unknown after (given_entries (drop told all))
-  pub others : ((place : ℕ) → IsTold told also place → place < told) → unknown after (unsent known whole start until) ≡ given_entries (drop told all)
-  pub drained : sent ≡ Drained → unknown after (unsent known whole start until) ≡ []
-  pub below : sent ≡ Drained → All (λ e. e.number < until → IsKnown after e.number) whole
+pub record DropsAmong (known after : Numbers) (whole : List NumberedEntry) (course : Course) (all : List Numbered) : Type 0 where
+  pub first : unknown after (given_entries (take course.told all)) ≡ []
+  pub left_is : unknown after (unsent known whole course.session.start course.session.until)
+      ≡ unknown after (given_entries (drop course.told all))
+  pub others : ((place : ℕ) → IsTold course.told course.also place → place < course.told)
+      → unknown after (unsent known whole course.session.start course.session.until) ≡ given_entries (drop course.told all)
+  pub drained : course.session.sent ≡ Drained → unknown after (unsent known whole course.session.start course.session.until) ≡ []
+  pub below : course.session.sent ≡ Drained → All (λ e. e.number < course.session.until → IsKnown after e.number) whole

@@ -19,7 +19,7 @@ use Rattle.forward_core.specs.declared.outward.Outward.{Outward}
 use Rattle.spool_turns.specs.Passes.{Known}
 use Rattle.serve_forwarder.specs.Looks.{AreLooks, IsLook, Look, calls_of, sessions_of}
 use Rattle.serve_forwarder.specs.Sessions.{Session}
-use Rattle.session_laws.specs.Beside.{EndsAmong, KnowsMarked, MarksAlone, history}
+use Rattle.session_laws.specs.Beside.{EndsAmong, KnowsMarked, MarksAlone, course_of, history}
 use Rattle.session_laws.specs.Led.{Led}
 
 -- What is known at a moment, and the end of the list then, which is the number after its last entry.
@@ -33,15 +33,17 @@ reach_of s = record { known = numbers_of s; upto = end s }
 
 -- the number after the first entry of the whole list that isn't known
 abbrev pub IsPastFirst : Numbers → List NumberedEntry → ℕ → Type 0
-IsPastFirst known whole n = (first : NumberedEntry) × (rest : List NumberedEntry) × (unknown known whole ≡ first ∷ rest) × (n ≡ first.number + 1)
+IsPastFirst known whole n =
+    (first : NumberedEntry) × (rest : List NumberedEntry) × (unknown known whole ≡ first ∷ rest) × (n ≡ first.number + 1)
 
 -- A session was held over a whole list from one moment to another. It sent what wasn't known, up to an end of its own: that isn't below
 -- the list's end at the first moment, or it is the number after the first entry that wasn't known then, so that this one alone was
 -- offered. If it made a call, it was to send one entry at least, and at the other moment the list's end isn't below its own.
-pub record IsSent (settings : Settings) (proto : Proto) (whole : List NumberedEntry) (before : Reach) (one : Session) (after : Reach) : Type 0 where
+pub record IsSent (settings : Settings) (proto : Proto) (whole : List NumberedEntry) (before : Reach) (one : Session)
+    (after : Reach) : Type 0 where
   pub told : ℕ
   pub also : List ℕ
-  pub ends : EndsAmong settings proto before.known whole one.start one.until one.sent one.bytes one.calls one.text told also
+  pub ends : EndsAmong before.known whole (course_of settings proto one told also)
   pub some : 0 < length one.calls → 0 < length ends.all
   pub knows : KnowsMarked before.known one.calls after.known
   pub reaches : (before.upto ≤ one.until) ⊎ IsPastFirst before.known whole one.until
@@ -55,7 +57,8 @@ AreSent settings proto whole before (one ∷ sessions) after =
 
 -- A forwarder whose pass had made no call looked again and again, was shown what others had seen, and looked once more. The journal
 -- has these calls of it and no others, and nobody else marked or confirmed.
-pub record HasLooked (start : DeskState → Type 0) (outward : Outward) (place : List ℕ) (looks : List Look) (last : Look) (log : List Record) : Type 0 where
+pub record HasLooked (start : DeskState → Type 0) (outward : Outward) (place : List ℕ) (looks : List Look) (last : Look)
+    (log : List Record) : Type 0 where
   pub pass : Known
   pub beside : Known
   pub met : Known
@@ -85,7 +88,8 @@ pub record SentBeside (outward : Outward) (x : DeskState) (looks : List Look) (l
 
 -- So it is in each journal of a forwarder beside other callers; and the forwarder's calls there are those of its looks.
 abbrev pub SessionsFollow : (DeskState → Type 0) → Type 0
-SessionsFollow start = (outward : Outward) (place : List ℕ) (looks : List Look) (last : Look) (x y : DeskState) (log : List Record) (t : SpoolState)
+SessionsFollow start =
+    (outward : Outward) (place : List ℕ) (looks : List Look) (last : Look) (x y : DeskState) (log : List Record) (t : SpoolState)
     → (looked : HasLooked start outward place looks last log) → start x → IsDesk x → Goes x log y → IsOneOf y.spool y.doubt t
     → SentBeside outward x (looks ++ last ∷ []) log t × (own_of looked.pass'.number log ≡ calls_of (looks ++ last ∷ []))
 
@@ -109,10 +113,12 @@ IsToldHere sent n = (place : ℕ) × (place < length sent.ends.all) × (n ≡ nu
 abbrev pub IsToldIn : (settings : Settings) (proto : Proto) (whole : List NumberedEntry) (before : Reach) (sessions : List Session)
     (after : Reach) → AreSent settings proto whole before sessions after → ℕ → Type 0
 IsToldIn settings proto whole before [] after sent n = ⊥
-IsToldIn settings proto whole before (one ∷ sessions) after sent n = IsToldHere sent.1 n ⊎ IsToldIn settings proto whole sent.0 sessions after sent.2 n
+IsToldIn settings proto whole before (one ∷ sessions) after sent n =
+    IsToldHere sent.1 n ⊎ IsToldIn settings proto whole sent.0 sessions after sent.2 n
 
 -- An entry of the whole list that is known after sessions was known before them, or was reported as acknowledged in one of them.
 abbrev pub OnlyToldIsKnown : Type 0
 OnlyToldIsKnown = (settings : Settings) (proto : Proto) (whole : List NumberedEntry) (before after : Reach) (sessions : List Session)
     (sent : AreSent settings proto whole before sessions after)
-    → All (λ e. IsKnown after.known e.number → IsKnown before.known e.number ⊎ IsToldIn settings proto whole before sessions after sent e.number) whole
+    → All (λ e. IsKnown after.known e.number
+    → IsKnown before.known e.number ⊎ IsToldIn settings proto whole before sessions after sent e.number) whole

@@ -8,6 +8,7 @@ use Rattle.edge_disk.specs.declared.disk.Disk.{Ghosts}
 use Rattle.spool_answers.specs.declared.fault.Receipt.{Receipt}
 use Rattle.spool_answers.specs.declared.fault.TakeFault.{TakeFault}
 use Rattle.spool_answers.specs.Take.{IsRefusal}
+use Rattle.desk_access.specs.Division.{DividedRun}
 use Rattle.desk_access.specs.Batch.{MayTake, MayUse}
 use Rattle.desk_access.specs.Call.{takes}
 use Rattle.desk_access.specs.Desk.{DeskState}
@@ -20,7 +21,7 @@ use Rattle.spool_turns.proofs.Fronts.{front_may}
 use Rattle.spool_turns.proofs.Entering.{receipt_of}
 
 -- the pass of a letter may take a front of its entries, or where none is allowed all of them
-pub letter_may : (run seats number : ℕ) (entries : List Entry) (front : Bool) (me : Me ℕ View) (count : ℕ) (answer : Result Receipt TakeFault) → IsLetter run seats number entries front me → 0 < count
+pub letter_may : (run : DividedRun) (seats number : ℕ) (entries : List Entry) (front : Bool) (me : Me ℕ View) (count : ℕ) (answer : Result Receipt TakeFault) → IsLetter run seats number entries front me → 0 < count
     → (front ≡ false → count ≡ length entries) → May run (seats - 1) (pass_in me.0).number (pass_in me.0).own (takes (take count entries) answer)
 letter_may run seats number entries front me count answer l some whole =
     subst (λ (n : ℕ). May run (seats - 1) n (pass_in me.0).own (takes (take count entries) answer)) (sym l.number_is) (by front refl)
@@ -31,7 +32,7 @@ letter_may run seats number entries front me count answer l some whole =
         subst (λ (e : List Entry). MayTake (IsNext run number (pass_in me.0).own) e × MayUse (IsUnused (pass_in me.0).own) e) (sym (take_all count entries (omega (arith, whole is)))) (l.next, l.units)
 
 -- so it is answered, once the take was entered
-pub answered_alone : {D : Type 0} (disks : Ghosts D) (start : DeskState → Type 0) (run seats : ℕ) (began : Beginning) (from it : Me ℕ View) (number : ℕ) (entries : List Entry) (front : Bool) (count : ℕ) (answer : Result Receipt TakeFault)
+pub answered_alone : {D : Type 0} (disks : Ghosts D) (start : DeskState → Type 0) (run : DividedRun) (seats : ℕ) (began : Beginning) (from it : Me ℕ View) (number : ℕ) (entries : List Entry) (front : Bool) (count : ℕ) (answer : Result Receipt TakeFault)
     → IsLetter run seats number entries front from → 0 < count → count ≤ length entries → (front ≡ false → count ≡ length entries)
     → IfOk answer (λ receipt. (receipt.count ≡ length (take count entries)) × (receipt.first + receipt.count ≤ 2 ^ 63)) → (front ≡ true → IfErr answer (λ fault. IsRefusal fault → count ≡ 1))
     → IsPass it × Sound start (pass_in it.0) × ((pass_in it.0).number ≡ (pass_in from.0).number) × ((pass_in it.0).out ≡ (pass_in from.0).out)

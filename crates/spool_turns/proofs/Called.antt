@@ -3,6 +3,7 @@ use Rattle.std.proofs.Common.{◌≡◌, ℕ, zero, suc, ◌+◌, ◌-◌, arith
 use Rattle.std.proofs.lemmas.List.{append-nil}
 use Rattle.atomic_table.specs.Table.{Me}
 use Rattle.edge_disk.specs.Disk.{IsLawful}
+use Rattle.desk_access.specs.Division.{DividedRun}
 use Rattle.desk_access.specs.Call.{Call, takes, pends, confirms, marks, counts, issues, settles, forgets, asks, Record, own_of}
 use Rattle.desk_access.specs.Desk.{DeskState}
 use Rattle.spool_desk.specs.Alone.{AloneView, RunsTo, Makes, record_of}
@@ -20,7 +21,7 @@ abbrev pub published : AloneView → Facts → Facts
 published v f = cursor_at v.cursor_known (end_at v.end_known f)
 
 -- What the type of the locked value keeps: of its seat me, and of the desk v.
-abbrev pub Locks : (tells : Type 0) (start : DeskState → Type 0) (run seats : ℕ) (began : Beginning) → Me ℕ View → AloneView → Type 0
+abbrev pub Locks : (tells : Type 0) (start : DeskState → Type 0) (run : DividedRun) (seats : ℕ) (began : Beginning) → Me ℕ View → AloneView → Type 0
 Locks tells start run seats began me v = IsTurn seats me v × Replays tells start run began (facts_in me.0).log v × Met run (seats - 1) [] (facts_in me.0).log
 
 -- nothing need follow a call
@@ -37,7 +38,7 @@ nothing_behind (asks channel ids known) = refl
 
 -- A call is made so: me is the locked seat at the start; hosted is that seat with the view m of the pass that calls, and wrote
 -- the same once the words are written; old, mid and new are the desk then.
-module _ (tells : Type 0) (start : DeskState → Type 0) (run seats : ℕ) (began : Beginning) (me hosted wrote : Me ℕ View) (old mid new : AloneView) (m : PassView) (call : Call)
+module _ (tells : Type 0) (start : DeskState → Type 0) (run : DividedRun) (seats : ℕ) (began : Beginning) (me hosted wrote : Me ℕ View) (old mid new : AloneView) (m : PassView) (call : Call)
     (turn : IsTurn seats me old) (replays : Replays tells start run began (facts_in me.0).log old) (legal : Met run (seats - 1) [] (facts_in me.0).log) (may : May run (seats - 1) m.number m.own call)
     (hosts : hosted ≡ calling_of (facts_in me.0) m) (knew : Knows (facts_in me.0) m)
     (made : Makes tells old call mid) (told : RunsTo tells mid [] new) (same : record_of call new ≡ record_of call mid) (exact : IsExact tells new)
@@ -125,7 +126,7 @@ module _ (tells : Type 0) (start : DeskState → Type 0) (run seats : ℕ) (bega
 
 -- A call is entered so, in one step: me is the locked seat before it, m the view of the pass that calls; old, mid and new are the desk before
 -- the call, after it, and once the words are written.
-module _ (tells : Type 0) (start : DeskState → Type 0) (run seats : ℕ) (began : Beginning) (me : Me ℕ View) (old mid new : AloneView) (m : PassView) (call : Call)
+module _ (tells : Type 0) (start : DeskState → Type 0) (run : DividedRun) (seats : ℕ) (began : Beginning) (me : Me ℕ View) (old mid new : AloneView) (m : PassView) (call : Call)
     (turn : IsTurn seats me old) (replays : Replays tells start run began (facts_in me.0).log old) (legal : Met run (seats - 1) [] (facts_in me.0).log) (may : May run (seats - 1) m.number m.own call)
     (knew : Knows (facts_in me.0) m)
     (made : Makes tells old call mid) (told : RunsTo tells mid [] new) (same : record_of call new ≡ record_of call mid) (exact : IsExact tells new) (lawful : tells → IsLawful new.spool.moment) where

@@ -12,6 +12,7 @@ use Rattle.spool_answers.specs.Take.{IsRefusal}
 use Rattle.edge_disk.specs.declared.disk.Disk.{Ghosts}
 use Rattle.edge_disk.specs.Disk.{IsLawful}
 use Rattle.edge_disk.proofs.Moments.{both}
+use Rattle.desk_access.specs.Division.{DividedRun}
 use Rattle.desk_access.specs.Call.{Call, takes, Record, NoneJoins, own_of, failures_of, failed_of}
 use Rattle.desk_access.specs.Desk.{DeskState, Stood}
 use Rattle.desk_access.specs.Journal.{goes_then, own_then, failed_then, rose_then, stood_first, stood_later}
@@ -35,7 +36,7 @@ none_both [] more first rest = rest
 none_both (one ∷ log) more first rest = (first.0, none_both log more first.1 rest)
 
 -- calls of one change after a journal
-module _ (tells : Type 0) (start : DeskState → Type 0) (run : ℕ) (began : Beginning) (b c : AloneView) (log records : List Record)
+module _ (tells : Type 0) (start : DeskState → Type 0) (run : DividedRun) (began : Beginning) (b c : AloneView) (log records : List Record)
     (lawful : tells → IsLawful c.spool.moment) (answered : AreAnswered c.spool.moment.clock records) (alone : began.grouped ≡ false → NoneJoins records)
     (each : (n : ℕ) → failures_of (own_of n records) ≤ failed_of records) where
   led : tells → (x : DeskState) (p : LeadsBy x began.moment log b) → LeadsFrom p.after b records c → LeadsBy x began.moment (log ++ records) c
@@ -64,14 +65,14 @@ module _ (tells : Type 0) (start : DeskState → Type 0) (run : ℕ) (began : Be
   }
 
 -- no call after a journal
-pub replays_still : (tells : Type 0) (start : DeskState → Type 0) (run : ℕ) (began : Beginning) (b c : AloneView) (log : List Record) → (tells → IsLawful c.spool.moment)
+pub replays_still : (tells : Type 0) (start : DeskState → Type 0) (run : DividedRun) (began : Beginning) (b c : AloneView) (log : List Record) → (tells → IsLawful c.spool.moment)
     → Replays tells start run began log b → RunsTo tells b [] c → Replays tells start run began log c
 replays_still tells start run began b c log lawful h r =
     subst (λ (l : List Record). Replays tells start run began l c) (append-nil log)
     (replays_many tells start run began b c log [] lawful tt (λ off. tt) (λ n. omega arith) h r)
 
 -- the take of a pass m is entered in the journal, which leads on from there
-module _ (start : DeskState → Type 0) (run seats : ℕ) (f : Facts) (m : PassView) (one : Record) (knew : Knows f m) (legal : Met run (seats - 1) [] f.log)
+module _ (start : DeskState → Type 0) (run : DividedRun) (seats : ℕ) (f : Facts) (m : PassView) (one : Record) (knew : Knows f m) (legal : Met run (seats - 1) [] f.log)
     (may : May run (seats - 1) m.number m.own one.call)
     (leads : (x : DeskState) → start x → LeadsAbove x (f.log ++ made_by m.number one ∷ []) f.end f.cursor) where
   pub met_entered : Met run (seats - 1) [] (f.log ++ made_by m.number one ∷ [])
@@ -107,7 +108,7 @@ module _ (start : DeskState → Type 0) (run seats : ℕ) (f : Facts) (m : PassV
   }
 
 -- a pass m whose take was entered sees the whole journal, which led to where the desk is
-module _ (tells : Type 0) (start : DeskState → Type 0) (run seats : ℕ) (began : Beginning) (me : Me ℕ View) (now : AloneView) (m : PassView)
+module _ (tells : Type 0) (start : DeskState → Type 0) (run : DividedRun) (seats : ℕ) (began : Beginning) (me : Me ℕ View) (now : AloneView) (m : PassView)
     (turn : IsTurn seats me now) (replays : Replays tells start run began (facts_in me.0).log now) (legal : Met run (seats - 1) [] (facts_in me.0).log)
     (exact : IsExact tells now) (knew : Knows (facts_in me.0) m) where
   abbrev f : Facts
@@ -153,7 +154,7 @@ pub receipt_of : (answer : Result Receipt TakeFault) (n k : ℕ) → n ≡ k →
 receipt_of answer n k is ok = subst (λ (i : ℕ). IfOk answer (λ receipt. (receipt.count ≡ i) × (receipt.first + receipt.count ≤ 2 ^ 63))) is ok
 
 -- A letter whose entries stand in the group, by its seat from: its take is entered with this answer, as the record one of the journal of f.
-module _ (start : DeskState → Type 0) (run seats number count room : ℕ) (front : Bool) (from : Me ℕ View) (l : IsJoined run seats number count room front from)
+module _ (start : DeskState → Type 0) (run : DividedRun) (seats number count room : ℕ) (front : Bool) (from : Me ℕ View) (l : IsJoined run seats number count room front from)
     (f : Facts) (one : Record) (part : List Entry) (answer : Result Receipt TakeFault) (call_is : one.call ≡ takes part answer) (part_is : part ≡ entries_out (pass_in from.0).out)
     (knew : Knows f (pass_in from.0)) (legal : Met run (seats - 1) [] f.log)
     (leads : (x : DeskState) → start x → LeadsAbove x (f.log ++ made_by (pass_in from.0).number one ∷ []) f.end f.cursor) where
@@ -202,7 +203,7 @@ same_front (x ∷ xs) (u ∷ us) ys vs is equal =
     ((λ i. head i ∷ rest.0 i), rest.1)
 
 -- The letter is answered once its pass has seen the whole journal.
-module _ {D : Type 0} (disks : Ghosts D) (start : DeskState → Type 0) (run seats : ℕ) (began : Beginning) (me from : Me ℕ View) (now : Alone D disks) (number count room : ℕ) (answer : Result Receipt TakeFault)
+module _ {D : Type 0} (disks : Ghosts D) (start : DeskState → Type 0) (run : DividedRun) (seats : ℕ) (began : Beginning) (me from : Me ℕ View) (now : Alone D disks) (number count room : ℕ) (answer : Result Receipt TakeFault)
     (turn : IsTurn seats me (alone_at now)) (replays : Replays disks.tells start run began (facts_in me.0).log (alone_at now)) (legal : Met run (seats - 1) [] (facts_in me.0).log)
     (exact : IsExact disks.tells (alone_at now)) (knew : Knows (facts_in me.0) (pass_in from.0)) (l : IsEntered start run seats number count room answer from)
     (joins : AllJoin knew.seen.0) where

@@ -6,6 +6,7 @@ use Rattle.atomic_table.specs.Table.{Me}
 use Rattle.event_form.specs.declared.event.Entry.{Entry}
 use Rattle.spool_answers.specs.declared.fault.Receipt.{Receipt}
 use Rattle.spool_answers.specs.declared.fault.TakeFault.{TakeFault}
+use Rattle.desk_access.specs.Division.{DividedRun}
 use Rattle.desk_access.specs.declared.standing.Standing.{Standing}
 use Rattle.desk_access.specs.Call.{Record}
 use Rattle.desk_access.specs.Desk.{DeskState}
@@ -52,7 +53,7 @@ next_part group from part rest is le =
 pub answers_part : (stored : Bool) (before : ℕ) (first part : List Entry) (answer : Result Receipt TakeFault) → answer ≡ part_answer stored before first part → (other : List Entry) → part ≡ other → answer ≡ part_answer stored before first other
 answers_part stored before first part answer is other same = is ∙ ap (part_answer stored before first) same
 
-module _ (start : DeskState → Type 0) (run seats : ℕ) (stored : Bool) (before : Standing) (clock : ℕ) (group : List Entry) (f0 : Facts) (letters : List PassView) where
+module _ (start : DeskState → Type 0) (run : DividedRun) (seats : ℕ) (stored : Bool) (before : Standing) (clock : ℕ) (group : List Entry) (f0 : Facts) (letters : List PassView) where
   -- the journal of me has the takes of the letters before the place `from` of the group
   pub record IsEntering (from : ℕ) (me : Me ℕ View) (left entered : List PassView) : Type 0 where
     pub locked : me ≡ locked_of (facts f0.made (facts_in me.0).log f0.end f0.cursor)

@@ -7,6 +7,7 @@ use Rattle.edge_disk.specs.Disk.{IsLawful}
 use Rattle.spool_answers.specs.declared.fault.Receipt.{Receipt}
 use Rattle.spool_answers.specs.declared.fault.TakeFault.{TakeFault}
 use Rattle.spool_answers.specs.declared.fault.TakeFault.TheVariants as Take
+use Rattle.desk_access.specs.Division.{DividedRun}
 use Rattle.desk_access.specs.declared.standing.Standing.{Standing}
 use Rattle.desk_access.specs.Call.{Record}
 use Rattle.desk_access.specs.Desk.{DeskState}
@@ -50,7 +51,7 @@ count_of_parts passes some = omega (arith, some, count_parts passes)
 
 -- The group was stored, or the disk failed: old is the desk before that one take, mid behind it, and new once the words are written. me is
 -- the seat under the lock before.
-module _ (tells : Type 0) (start : DeskState → Type 0) (run seats : ℕ) (began : Beginning) (me : Me ℕ View) (old mid new : AloneView) (passes : List PassView) (entries : List Entry)
+module _ (tells : Type 0) (start : DeskState → Type 0) (run : DividedRun) (seats : ℕ) (began : Beginning) (me : Me ℕ View) (old mid new : AloneView) (passes : List PassView) (entries : List Entry)
     (before : Standing) (result : Result Receipt TakeFault) (stored : Bool) (stored_is : stored ≡ is_ok result)
     (grouped : began.grouped ≡ true) (turn : IsTurn seats me old) (replays : Replays tells start run began (facts_in me.0).log old)
     (some : 0 < length passes) (are : ArePartsOf (parts_of passes)) (rising : AreRising 0 (parts_of passes)) (entries_are : entries ≡ joined (parts_of passes))

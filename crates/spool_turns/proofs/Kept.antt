@@ -6,6 +6,7 @@ use Rattle.edge_disk.specs.declared.disk.Disk.{Ghosts}
 use Rattle.edge_disk.specs.Disk.{IsLawful}
 use Rattle.hec_ids.specs.Table.{Table}
 use Rattle.hec_ids.specs.Table as Ids
+use Rattle.desk_access.specs.Division.{DividedRun}
 use Rattle.desk_access.specs.declared.standing.Standing.{Standing}
 use Rattle.desk_access.specs.Call.{Call, Record, failures_in}
 use Rattle.desk_access.specs.Desk.{DeskState, desk_of, Answers, Leaving}
@@ -37,12 +38,12 @@ exact_of tells v told x tell at = (omega (arith, told.0, end_is x v at), omega (
 pub turn_told : (seats : ℕ) (me : Me ℕ View) (ids : Table) (met : Option Standing) (v : AloneView) → IsTurn seats me (with_ids ids met v) → IsTurn seats me (with_ids ids None v)
 turn_told seats me ids met v turn = record { locked = turn.locked; made = turn.made; end = turn.end; cursor = turn.cursor }
 
-pub replays_here : (tells : Type 0) (start : DeskState → Type 0) (run : ℕ) (began : Beginning) (log : List Record) (ids : Table) (met : Option Standing) (v : AloneView)
+pub replays_here : (tells : Type 0) (start : DeskState → Type 0) (run : DividedRun) (began : Beginning) (log : List Record) (ids : Table) (met : Option Standing) (v : AloneView)
     → Replays tells start run began log (with_ids ids met v) → Replays tells start run began log (with_ids ids None v)
 replays_here tells start run began log ids met v h = replays_told tells start run began log (with_ids ids met v) (with_ids ids None v) refl refl (omega arith) (omega arith) h
 
 -- A call of the ids, which are `after` it. The spool stands where its last call left it.
-module _ {D : Type 0} (disks : Ghosts D) (start : DeskState → Type 0) (run seats : ℕ) (began : Beginning) (ids after : Table) (me : Me ℕ View) (twin : Me (Alone D disks) (Twin (Alone D disks))) (m : PassView) (call : Call)
+module _ {D : Type 0} (disks : Ghosts D) (start : DeskState → Type 0) (run : DividedRun) (seats : ℕ) (began : Beginning) (ids after : Table) (me : Me ℕ View) (twin : Me (Alone D disks) (Twin (Alone D disks))) (m : PassView) (call : Call)
     (kept : IsKept disks start run seats began ids me twin) (may : May run (seats - 1) m.number m.own call) (knew : Knows (facts_in me.0) m)
     (none : failures_in call ≡ 0) (same_run : after.run ≡ ids.run)
     (answers : (x : DeskState) (met : Standing) → x.ids ≡ ids → Leaving x (Some met) after (desk_of x.spool x.doubt after) → Answers x call (Some met) (desk_of x.spool x.doubt after))
@@ -105,7 +106,7 @@ module _ {D : Type 0} (disks : Ghosts D) (start : DeskState → Type 0) (run sea
       (alone_with after (Some met) kept.desk, real.0, real.1)
 
 -- A call of the spool, which left it as `mid`, and as `now` once it was asked for its words.
-module _ {D : Type 0} (disks : Ghosts D) (start : DeskState → Type 0) (run seats : ℕ) (began : Beginning) (ids : Table) (me : Me ℕ View) (twin other : Me (Alone D disks) (Twin (Alone D disks))) (m : PassView) (call : Call)
+module _ {D : Type 0} (disks : Ghosts D) (start : DeskState → Type 0) (run : DividedRun) (seats : ℕ) (began : Beginning) (ids : Table) (me : Me ℕ View) (twin other : Me (Alone D disks) (Twin (Alone D disks))) (m : PassView) (call : Call)
     (mid now : Alone D disks)
     (kept : IsKept disks start run seats began ids me twin) (done : IsMade disks call other mid) (same_desk : done.before ≡ kept.desk)
     (may : May run (seats - 1) m.number m.own call) (knew : Knows (facts_in me.0) m)
@@ -159,7 +160,7 @@ module _ {D : Type 0} (disks : Ghosts D) (start : DeskState → Type 0) (run sea
       (alone_with ids now.met now, real.0, real.1)
 
 -- A desk that nobody called, with other ids in place of its own, which lie under the lock of the journal.
-pub kept_first : {D : Type 0} (disks : Ghosts D) (start : DeskState → Type 0) (run seats : ℕ) (began : Beginning) (ids unused : Table) (me : Me ℕ View) (twin : Me (Alone D disks) (Twin (Alone D disks))) (old new : Alone D disks)
+pub kept_first : {D : Type 0} (disks : Ghosts D) (start : DeskState → Type 0) (run : DividedRun) (seats : ℕ) (began : Beginning) (ids unused : Table) (me : Me ℕ View) (twin : Me (Alone D disks) (Twin (Alone D disks))) (old new : Alone D disks)
     → twin ≡ of_journal new → alone_at new ≡ with_ids unused old.met (alone_at old) → new.desk.ids ≡ unused → ids ≡ old.desk.ids → me ≡ locked_of (facts seats [] old.end_told old.cursor_told)
     → IsTold (alone_at old) → Ids.IsSound unused → unused.run ≡ old.desk.ids.run → (disks.tells → IsLawful (disks.moment old.desk.spool.disk)) → BeganAt began.moment (disks.moment old.desk.spool.disk)
     → ((x : DeskState) → start x → Begins disks.tells run x) → ((x : DeskState) → start x → IsAt x (alone_at old)) → IsKept disks start run seats began ids me twin

@@ -6,6 +6,7 @@ use Rattle.foundation.specs.Faults.{Rose}
 use Rattle.edge_disk.specs.Disk.{Moment, IsLawful, LeavesOnly}
 use Rattle.edge_disk.proofs.Moments.{started, both, weaker}
 use Rattle.spool_log.specs.State.{View, IsIn}
+use Rattle.desk_access.specs.Division.{DividedRun}
 use Rattle.desk_access.specs.Call.{Record, NoneJoins, own_of, failures_in, failures_of, failed_as, failed_of}
 use Rattle.desk_access.specs.Desk.{DeskState, Goes, StandsWithin, Stood}
 use Rattle.spool_desk.specs.Alone.{AloneView, IsAt, LeadsFrom, RunsTo}
@@ -80,7 +81,7 @@ rose_zero : (a b : ℕ) → a ≤ b → Rose 0 a b
 rose_zero a b le = grind (arith, common_steps)
 
 -- no call yet
-pub replays_none : (tells : Type 0) (start : DeskState → Type 0) (run : ℕ) (began : Beginning) (v : AloneView) → (tells → IsLawful v.spool.moment) → BeganAt began.moment v.spool.moment → ((x : DeskState) → start x → Begins tells run x) → ((x : DeskState) → start x → IsAt x v)
+pub replays_none : (tells : Type 0) (start : DeskState → Type 0) (run : DividedRun) (began : Beginning) (v : AloneView) → (tells → IsLawful v.spool.moment) → BeganAt began.moment v.spool.moment → ((x : DeskState) → start x → Begins tells run x) → ((x : DeskState) → start x → IsAt x v)
     → Replays tells start run began [] v
 replays_none tells start run began v lawful is begins at = record {
   begins = begins;
@@ -103,7 +104,7 @@ replays_none tells start run began v lawful is begins at = record {
 pub stays : (tells : Type 0) (a b : AloneView) → RunsTo tells a [] b → (x : DeskState) → tells → IsAt x a → IsAt x b
 stays tells a b r x told at = let p = r.leads x told at in subst (λ (y : DeskState). IsAt y b) p.goes p.reached
 
-module _ (tells : Type 0) (start : DeskState → Type 0) (run : ℕ) (began : Beginning) (n : ℕ) (b c : AloneView) (log : List Record) (one : Record)
+module _ (tells : Type 0) (start : DeskState → Type 0) (run : DividedRun) (began : Beginning) (n : ℕ) (b c : AloneView) (log : List Record) (one : Record)
     (lawful : tells → IsLawful c.spool.moment) (answered : one.clock ≡ c.spool.moment.clock) (alone : one.joins ≡ false) where
   led : tells → (x : DeskState) (p : LeadsBy x began.moment log b) → LeadsFrom p.after b (one ∷ []) c → LeadsBy x began.moment (log ++ made_by n one ∷ []) c
   led told x p q =
@@ -135,7 +136,7 @@ module _ (tells : Type 0) (start : DeskState → Type 0) (run : ℕ) (began : Be
   }
 
 -- what is known of a desk that was told less, whatever its last call met
-pub replays_told : (tells : Type 0) (start : DeskState → Type 0) (run : ℕ) (began : Beginning) (log : List Record) (v w : AloneView) → w.spool ≡ v.spool → w.ids ≡ v.ids → w.end_known ≤ v.end_known → w.cursor_known ≤ v.cursor_known → Replays tells start run began log v → Replays tells start run began log w
+pub replays_told : (tells : Type 0) (start : DeskState → Type 0) (run : DividedRun) (began : Beginning) (log : List Record) (v w : AloneView) → w.spool ≡ v.spool → w.ids ≡ v.ids → w.end_known ≤ v.end_known → w.cursor_known ≤ v.cursor_known → Replays tells start run began log v → Replays tells start run began log w
 replays_told tells start run began log v w spool ids end_is cursor_is h = record {
   begins = h.begins;
   leads = λ x s. let p = h.leads x s in record {

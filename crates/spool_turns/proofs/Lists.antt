@@ -6,6 +6,8 @@ use Rattle.std.proofs.lemmas.List.{append-nil}
 use Rattle.std.proofs.lemmas.List.Elements.{All-nil, All-head, All-tail, All-append}
 use Rattle.event_form.specs.declared.event.Entry.{Entry}
 use Rattle.spool_state.specs.SpoolState.{SpoolState, base, list}
+use Rattle.desk_access.specs.declared.division.Division.{Division}
+use Rattle.desk_access.specs.Division.{divided}
 use Rattle.desk_access.specs.Call.{Call, Record, calls_of}
 use Rattle.desk_access.specs.Batch.{AreNext, AreOfUnit}
 use Rattle.desk_access.specs.Desk.{DeskState, Goes}
@@ -137,12 +139,12 @@ groups_of (call ∷ calls) more adds =
     let rest = groups_of calls adds.1 adds.3 in
     (adds.0 ∷ rest.0, (adds.0, rest.0, adds.2, rest.1, refl), adds.4 ∙ ap (λ (l : List Entry). adds.0 ++ l) rest.2)
 
-pub whole_legal : (x y : DeskState) (log : List Record) (confirming : ℕ) (t : SpoolState) → IsDesk x → Goes x log y → Met x.spool.run confirming [] log → Grows x (calls_of log) t → OpensLegal x
+pub whole_legal : (x y : DeskState) (log : List Record) (division : Division) (confirming : ℕ) (t : SpoolState) → IsDesk x → Goes x log y → Met (divided division x.spool.run) confirming [] log → Grows x (calls_of log) t → OpensLegal x
     → AreLegal (list t)
-whole_legal x y log confirming t rules goes met grows opens =
+whole_legal x y log division confirming t rules goes met grows opens =
     let m = grows.mended in
     let parts = groups_of (calls_of log) grows.more grows.adds in
     let was = opens m grows.one in
-    let added = legal_journal x y log confirming parts.0 rules goes met parts.1 in
+    let added = legal_journal x y log division confirming parts.0 rules goes met parts.1 in
     let both = subst (λ (l : List Entry). AreLegal (list m ++ l)) (sym parts.2) (legal_both x.spool.run (list m) parts.0 was.0 was.1 added) in
     subst AreLegal (sym grows.grown.list_is) (legal_drop (base t - base m) (list m ++ grows.more) both)

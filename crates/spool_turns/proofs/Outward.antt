@@ -4,6 +4,7 @@ use Rattle.std.specs.Prelude.{All, Option, Some}
 use Rattle.atomic_table.specs.Table.{Me}
 use Rattle.event_form.specs.declared.event.Entry.{Entry}
 use Rattle.event_form.specs.Entry.{IsEntry}
+use Rattle.desk_access.specs.Division.{DividedRun}
 use Rattle.desk_access.specs.Batch.{MayTake, MayUse, IsPlain}
 use Rattle.desk_access.specs.Legal.{IsNext, IsUnused}
 use Rattle.desk_access.specs.Desk.{DeskState}
@@ -12,7 +13,7 @@ use Rattle.spool_turns.specs.Passes.{IsClaim, claim_at, number_in, handed_in, pa
 use Rattle.spool_turns.specs.Letters.{IsLetter, claimed}
 
 -- what goes out is a letter
-pub letter_of : (run seats number : ℕ) (entries given : List Entry) (front : Bool) (m : PassView) (me : Me ℕ View) → me ≡ pass_of (sent_out m given front) → given ≡ entries
+pub letter_of : (run : DividedRun) (seats number : ℕ) (entries given : List Entry) (front : Bool) (m : PassView) (me : Me ℕ View) → me ≡ pass_of (sent_out m given front) → given ≡ entries
     → m.number ≡ number → number < seats → 0 < length entries → length entries < 2 ^ 32 → All IsEntry entries → MayTake (IsNext run number m.own) entries → MayUse (IsUnused m.own) entries
     → (front ≡ true → All IsPlain entries) → IsLetter run seats number entries front me
 letter_of run seats number entries given front m me is same number_is one_of some few limits next units plain =

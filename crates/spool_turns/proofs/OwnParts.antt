@@ -1,5 +1,5 @@
 -- What one caller added, among all that a journal added.
-use Rattle.std.proofs.Common.{◌≡◌, ◌≢◌, ◌⊎◌, inl, inr, ℕ, ◌+◌, ◌^◌, ◌≤◌, ◌==◌, Bool, true, false, cond, List, [], ◌∷◌, ◌++◌, get_or, refl, sym, ap, ◌∙◌, subst, arith, append_assoc, ne_eqb}
+use Rattle.std.proofs.Common.{◌≡◌, ◌≢◌, ◌⊎◌, inl, inr, ℕ, ◌+◌, ◌*◌, ◌^◌, ◌≤◌, ◌==◌, Bool, true, false, cond, List, [], ◌∷◌, ◌++◌, get_or, refl, sym, ap, ◌∙◌, subst, arith, append_assoc, ne_eqb}
 use Rattle.std.specs.Prelude.{All, filter, Result, Ok}
 use Rattle.std.proofs.lemmas.Bool.{cases_eq, eqb-true, eqb-false}
 use Rattle.std.proofs.lemmas.List.{append-nil}
@@ -7,6 +7,9 @@ use Rattle.std.proofs.lemmas.List.Elements.{All-nil, All-cons, All-head, All-tai
 use Rattle.event_form.specs.declared.event.Entry.{Entry}
 use Rattle.spool_answers.specs.declared.fault.Receipt.{Receipt}
 use Rattle.spool_answers.specs.declared.fault.TakeFault.{TakeFault}
+use Rattle.desk_access.specs.declared.division.Division.{Division}
+use Rattle.desk_access.specs.Division.{DividedRun, divided}
+use Rattle.desk_access.proofs.Dividing.{whose}
 use Rattle.desk_access.specs.Call.{Call, takes, issues, Record, own_of, calls_of}
 use Rattle.desk_access.specs.Batch.{AreNext, MayTake, MayUse, Belongs}
 use Rattle.desk_access.specs.Desk.{DeskState, Goes}
@@ -94,27 +97,28 @@ module _ (number : ℕ) where
 
 -- ---- connections
 
-abbrev IsOwn : ℕ → ℕ → Entry → Type 0
+abbrev IsOwn : DividedRun → ℕ → Entry → Type 0
 IsOwn run number entry = Belongs run number entry.conn
 
-group_own : (run number : ℕ) (own : List Call) (group : List Entry) → MayTake (IsNext run number own) group → All (IsOwn run number) group
+group_own : (run : DividedRun) (number : ℕ) (own : List Call) (group : List Entry) → MayTake (IsNext run number own) group → All (IsOwn run number) group
 group_own run number own [] may = All-nil (IsOwn run number)
 group_own run number own (entry ∷ entries) may =
     All-cons (IsOwn run number) entry entries may.0.belongs
     (λ k d lt. subst (Belongs run number) (sym (all_of_conn entry.conn (entry.index + 1) entries may.1 k d lt)) may.0.belongs)
 
-call_own : (run confirming number : ℕ) (own : List Call) (call : Call) → May run confirming number own call → All (IsOwn run number) (written_by call)
+call_own : (run : DividedRun) (confirming number : ℕ) (own : List Call) (call : Call) → May run confirming number own call → All (IsOwn run number) (written_by call)
 call_own run confirming number own (takes group result) may = written_all (IsOwn run number) group result (group_own run number own group may.0)
 call_own run confirming number own _ may = All-nil (IsOwn run number)
 
-one_owner : (run n k conn : ℕ) → Belongs run n conn → Belongs run k conn → n ≡ k
-one_owner run n k conn p q = omega (arith, p.from, p.below, q.from, q.below)
+one_owner : (run : DividedRun) (n k conn : ℕ) → Belongs run n conn → Belongs run k conn → n ≡ k
+one_owner run n k conn p q =
+    whose run.division (run.number * 2 ^ 32) n conn p.from p.below ∙ sym (whose run.division (run.number * 2 ^ 32) k conn q.from q.below)
 
-off_conn : (run n number conn : ℕ) → Belongs run number conn → n ≢ number → (entry : Entry) → IsOwn run n entry → (entry.conn == conn) ≡ false
+off_conn : (run : DividedRun) (n number conn : ℕ) → Belongs run number conn → n ≢ number → (entry : Entry) → IsOwn run n entry → (entry.conn == conn) ≡ false
 off_conn run n number conn mine differ entry theirs =
     ne_eqb entry.conn conn (λ same. differ (one_owner run n number conn (subst (Belongs run n) same theirs) mine))
 
-module _ (run confirming number : ℕ) where
+module _ (run : DividedRun) (confirming number : ℕ) where
   own_conns : (before log : List Record) → Met run confirming before log → OwnWrite number (IsOwn run number) log
   own_conns before [] met = tt
   own_conns before (one ∷ log) met = (
@@ -171,12 +175,12 @@ group_unit unit own group result large (inr ids) = elim (cases_eq ids.0 unit) [
   | inr differ ↦ inl (written_all (λ (e : Entry). e.unit ≢ unit) group result (λ k d lt is. differ (sym (ids.2 k d lt) ∙ is)))
 ]
 
-call_unit : (run confirming number unit : ℕ) (own : List Call) (call : Call) → 2 ^ 32 ≤ unit → May run confirming number own call
+call_unit : (run : DividedRun) (confirming number unit : ℕ) (own : List Call) (call : Call) → 2 ^ 32 ≤ unit → May run confirming number own call
     → AreOfOthers unit (written_by call) ⊎ IsIssued unit own
 call_unit run confirming number unit own (takes group result) large may = group_unit unit own group result large may.1
 call_unit run confirming number unit own _ large may = inl (All-nil (λ (e : Entry). e.unit ≢ unit))
 
-module _ (run confirming number unit : ℕ) (large : 2 ^ 32 ≤ unit) (whole : List Record) where
+module _ (run : DividedRun) (confirming number unit : ℕ) (large : 2 ^ 32 ≤ unit) (whole : List Record) where
   -- of an id that was issued to the caller nobody else wrote an entry
   other_units : ((n : ℕ) → IsIssued unit (own_of n whole) → n ≡ number) → (before log : List Record) → before ++ log ≡ whole → Met run confirming before log
       → OthersWrite number (λ (e : Entry). (e.unit == unit) ≡ false) log
@@ -203,13 +207,13 @@ module _ (run confirming number unit : ℕ) (large : 2 ^ 32 ≤ unit) (whole : L
 
 -- ---- all of it
 
-pub adds_own : (x y : DeskState) (log : List Record) (confirming number : ℕ) (groups : List (List Entry)) → IsDesk x → Goes x log y → Met x.spool.run confirming [] log → AddsGroups (calls_of log) groups → IsLegal x.spool.run groups
-    → AddsOwn x.spool.run number (own_of number log) groups (groups_by number log groups)
-adds_own x y log confirming number groups rules goes met adds legal =
-    let run = x.spool.run in
+pub adds_own : (x y : DeskState) (log : List Record) (division : Division) (confirming number : ℕ) (groups : List (List Entry)) → IsDesk x → Goes x log y → Met (divided division x.spool.run) confirming [] log → AddsGroups (calls_of log) groups → IsLegal x.spool.run groups
+    → AddsOwn (divided division x.spool.run) number (own_of number log) groups (groups_by number log groups)
+adds_own x y log division confirming number groups rules goes met adds legal =
+    let run = divided division x.spool.run in
     let mine = groups_by number log groups in
     let own = adds_by number log groups adds in
-    let are = issued_all run [] log x y (none_issued run x.ids rules.run rules.ids) goes in
+    let are = issued_all x.spool.run [] log x y (none_issued x.spool.run x.ids rules.run rules.ids) goes in
     let conns : (conn : ℕ) → Belongs run number conn → of_conn conn (all_of groups) ≡ of_conn conn (all_of mine) = λ conn h.
     picks_conn conn (all_of groups)
     ∙ picks_own number (λ (e : Entry). e.conn == conn) log groups adds (other_conns run confirming number conn h [] log met)

@@ -8,6 +8,7 @@ use Rattle.spool_answers.specs.declared.fault.TakeFault.{TakeFault}
 use Rattle.edge_disk.specs.declared.disk.Disk.{Ghosts}
 use Rattle.hec_ids.specs.Table.{Table}
 use Rattle.hec_ids.specs.Table as Ids
+use Rattle.desk_access.specs.Division.{DividedRun}
 use Rattle.desk_access.specs.declared.standing.Standing.{Standing}
 use Rattle.desk_access.specs.JointRecords.{Part, joined, ArePartsOf, joint_of}
 use Rattle.desk_access.specs.Desk.{DeskState}
@@ -21,7 +22,7 @@ use Rattle.spool_turns.specs.Stands.{with_ids, IsKept, AreMade, IsStoredAll}
 use Rattle.spool_turns.proofs.OtherIds.{runs_beside, joint_of_spool}
 
 -- once the two seats met
-pub stored_all : {D : Type 0} (disks : Ghosts D) (start : DeskState → Type 0) (run seats : ℕ) (began : Beginning) (ids : Table) (me : Me ℕ View) (twin other : Me (Alone D disks) (Twin (Alone D disks)))
+pub stored_all : {D : Type 0} (disks : Ghosts D) (start : DeskState → Type 0) (run : DividedRun) (seats : ℕ) (began : Beginning) (ids : Table) (me : Me ℕ View) (twin other : Me (Alone D disks) (Twin (Alone D disks)))
     (entries : List Entry) (before : Standing) (result : Result Receipt TakeFault) (now : Alone D disks) (kept : IsKept disks start run seats began ids me twin) (done : AreMade disks entries before result other now)
     → done.from ≡ kept.desk → IsStoredAll disks start run seats began ids me entries before result now
 stored_all {D = D} disks start run seats began ids me twin other entries before result now kept done same = record {
@@ -39,7 +40,7 @@ stored_all {D = D} disks start run seats began ids me twin other entries before 
 }
 
 -- by the numbers that memory had, and by the entries as a slice
-pub stored_made : {D : Type 0} (disks : Ghosts D) (start : DeskState → Type 0) (run seats : ℕ) (began : Beginning) (ids : Table) (me : Me ℕ View) (entries slice : List Entry) (before : Standing)
+pub stored_made : {D : Type 0} (disks : Ghosts D) (start : DeskState → Type 0) (run : DividedRun) (seats : ℕ) (began : Beginning) (ids : Table) (me : Me ℕ View) (entries slice : List Entry) (before : Standing)
     (result : Result Receipt TakeFault) (now : Alone D disks) → slice ≡ entries → (s : IsStoredAll disks start run seats began ids me entries before result now)
     → (part : Part) (parts : List Part) → joined (part ∷ parts) ≡ slice → ArePartsOf (part ∷ parts)
     → RunsTo disks.tells (with_ids ids None (alone_at s.from)) (joint_of result (disks.moment now.desk.spool.disk).clock (standing_in s.from.desk.spool.memory) (part ∷ parts)) (with_ids ids None (alone_at now))

@@ -6,6 +6,7 @@ use Rattle.spool_state.specs.Segment.{need_of}
 use Rattle.spool_answers.specs.declared.fault.Receipt.{Receipt}
 use Rattle.spool_answers.specs.declared.fault.TakeFault.{TakeFault}
 use Rattle.spool_answers.specs.declared.fault.TakeFault.TheVariants as Take
+use Rattle.desk_access.specs.Division.{DividedRun}
 use Rattle.desk_access.specs.declared.standing.Standing.{Standing}
 use Rattle.desk_access.specs.Call.{takes, Record}
 use Rattle.desk_access.specs.Desk.{DeskState}
@@ -93,14 +94,14 @@ pub record AreJoint (log : List Record) (passes : List PassView) : Type 0 where
   pub seen : AreBehind (length before) passes
 
 -- A letter of this number, whose entries stand in a group: so many, for which there is room when they come back.
-pub record IsJoined (run seats number count room : ℕ) (front : Bool) (me : Me ℕ View) : Type 0 where
+pub record IsJoined (run : DividedRun) (seats number count room : ℕ) (front : Bool) (me : Me ℕ View) : Type 0 where
   pub entries : List Entry
   pub letter : IsLetter run seats number entries front me
   pub count_is : count ≡ length entries
   pub fits : count ≤ room
 
 -- Its take was entered in the journal, with this answer. The pass hasn't seen what was entered behind it.
-pub record IsEntered (start : DeskState → Type 0) (run seats number count room : ℕ) (answer : Result Receipt TakeFault) (me : Me ℕ View) : Type 0 where
+pub record IsEntered (start : DeskState → Type 0) (run : DividedRun) (seats number count room : ℕ) (answer : Result Receipt TakeFault) (me : Me ℕ View) : Type 0 where
   pub pass : IsPass me
   pub number_is : (pass_in me.0).number ≡ number
   pub one_of : number < seats

@@ -7,6 +7,7 @@ use Rattle.edge_disk.specs.declared.disk.Disk.{Ghosts}
 use Rattle.spool_answers.specs.declared.fault.Receipt.{Receipt}
 use Rattle.spool_answers.specs.declared.fault.TakeFault.{TakeFault}
 use Rattle.spool_answers.specs.Take.{IsRefusal}
+use Rattle.desk_access.specs.Division.{DividedRun}
 use Rattle.desk_access.specs.Call.{takes}
 use Rattle.desk_access.specs.Batch.{MayTake, MayUse, IsPlain}
 use Rattle.desk_access.specs.Desk.{DeskState}
@@ -17,7 +18,7 @@ use Rattle.spool_turns.specs.Replays.{IsReal}
 
 -- The seat is that of the pass of this number, one of so many. It is out with these entries, and may take them, or any front of them where
 -- that was allowed.
-pub record IsLetter (run seats number : ℕ) (entries : List Entry) (front : Bool) (me : Me ℕ View) : Type 0 where
+pub record IsLetter (run : DividedRun) (seats number : ℕ) (entries : List Entry) (front : Bool) (me : Me ℕ View) : Type 0 where
   pub pass : IsPass me
   pub number_is : (pass_in me.0).number ≡ number
   pub one_of : number < seats
@@ -35,7 +36,7 @@ claimed number h = known number h.seen h.own h.end_known h.cursor_known
 
 -- The seat is that of the pass of this number, one of so many, which was out with these entries. Since then its take of the first so many
 -- of them was made, with this answer, and no other call: of all of them, but where a front was allowed.
-pub record IsAnswered {D : Type 0} (disks : Ghosts D) (start : DeskState → Type 0) (run seats : ℕ) (began : Beginning) (number : ℕ)
+pub record IsAnswered {D : Type 0} (disks : Ghosts D) (start : DeskState → Type 0) (run : DividedRun) (seats : ℕ) (began : Beginning) (number : ℕ)
     (entries : List Entry) (count : ℕ) (answer : Result Receipt TakeFault) (me : Me ℕ View) : Type 0 where
   pub pass : IsPass me
   pub number_is : (pass_in me.0).number ≡ number

@@ -6,6 +6,8 @@ use Rattle.atomic_table.specs.Seated.{TableId}
 use Rattle.edge_disk.specs.Disk.{Moment}
 use Rattle.spool_state.specs.SpoolState.{end}
 use Rattle.hec_ids.specs.Table.{holds_settled}
+use Rattle.desk_access.specs.declared.division.Division.TheVariants.{Workers}
+use Rattle.desk_access.specs.Division.{DividedRun, divided}
 use Rattle.desk_access.specs.Call.{Call, takes, Record, own_of}
 use Rattle.desk_access.specs.Desk.{DeskState, Goes}
 use Rattle.desk_access.specs.Legal.{Met}
@@ -25,12 +27,15 @@ pub record Tables : Type 0 where
   pub seats : TableId
   pub twins : TableId
 
--- the name of no table, a moment of no disk, and a desk that was given at none
+-- the name of no table, no run, a moment of no disk, and a desk that was given at none
 abbrev no_id : TableId
 no_id = record { words = 0; slots = 0; views_name = 0; atom = 0; block = 0; offset = 0; slot_names = [] }
 
 abbrev pub no_table : Tables
 no_table = record { seats = no_id; twins = no_id }
+
+abbrev pub no_run : DividedRun
+no_run = divided Workers 0
 
 abbrev pub no_moment : Moment
 no_moment = record { size = 0; reads = []; image = λ c. ⊥; clock = 0; image_since = λ t c. ⊥; faults = 0 }
@@ -158,7 +163,7 @@ MayFollow _ behind = behind ≡ []
 -- The journal after a call begins with all that the caller had seen, and its last record is the call's own, but for takes of
 -- others that were stored as one group with it. It is lawful, each of its calls is one that its caller might make, the caller's own
 -- calls are all that it has of its number, and the end and the cursor after it are no less than what the caller had loaded.
-pub record Calls (start : DeskState → Type 0) (run seats : ℕ) (v : Known) (call : Call) (w : Known) : Type 0 where
+pub record Calls (start : DeskState → Type 0) (run : DividedRun) (seats : ℕ) (v : Known) (call : Call) (w : Known) : Type 0 where
   pub between : List Record
   pub others : own_of v.number between ≡ []
   pub one : Record

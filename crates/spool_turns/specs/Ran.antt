@@ -5,6 +5,7 @@ use Rattle.std.proofs.lemmas.List.{append-nil}
 use Rattle.event_form.specs.declared.event.Entry.{Entry}
 use Rattle.spool_state.specs.SpoolState.{end}
 use Rattle.spool_answers.specs.declared.fault.Receipt.{Receipt}
+use Rattle.desk_access.specs.Division.{DividedRun}
 use Rattle.desk_access.specs.Call.{Call, takes, issues, Record, own_of, taken_of, TookSurely}
 use Rattle.desk_access.specs.Batch.{AreOfUnit}
 use Rattle.desk_access.specs.Desk.{DeskState, Goes}
@@ -106,7 +107,7 @@ more_real start b c calls [] P q first second some = subst P (sym (q.quiet refl)
 more_real start b c calls (call ∷ more) P q first second some = second (omega arith)
 
 -- one call
-pub ran_one : (start : DeskState → Type 0) (run seats : ℕ) (a : Known) (call : Call) (b : Known) → Calls start run seats a call b → Ran start a (call ∷ []) b
+pub ran_one : (start : DeskState → Type 0) (run : DividedRun) (seats : ℕ) (a : Known) (call : Call) (b : Known) → Calls start run seats a call b → Ran start a (call ∷ []) b
 ran_one start run seats a call b p = record {
   between = (p.between ++ p.one ∷ []) ++ p.behind;
   seen = p.seen ∙ ap (λ (l : List Record). l ++ p.behind) (append_assoc a.seen p.between (p.one ∷ [])) ∙ append_assoc a.seen (p.between ++ p.one ∷ []) p.behind;
@@ -161,7 +162,7 @@ ran_lawful start a b calls x journal p some seen =
 
 -- ---- what the pass may do after more calls
 
-pub ran_next : (start : DeskState → Type 0) (run : ℕ) (a b : Known) (calls : List Call) (conn index : ℕ) → Ran start a calls b → All TookSurely calls
+pub ran_next : (start : DeskState → Type 0) (run : DividedRun) (a b : Known) (calls : List Call) (conn index : ℕ) → Ran start a calls b → All TookSurely calls
     → All (λ (entry : Entry). entry.conn ≡ conn) (taken_of calls)
     → IsNext run a.number a.own conn index → IsNext run b.number b.own conn (index + length (taken_of calls))
 ran_next start run a b calls conn index p sure all next =

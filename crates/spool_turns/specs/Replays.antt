@@ -7,6 +7,7 @@ use Rattle.edge_disk.specs.declared.disk.Disk.{Ghosts}
 use Rattle.edge_disk.specs.Disk.{Moment, LeavesOnly}
 use Rattle.spool_log.specs.State.{view}
 use Rattle.spool_desk.specs.declared.desk.Desk.{Desk}
+use Rattle.desk_access.specs.Division.{DividedRun}
 use Rattle.desk_access.specs.Call.{Call, Record, NoneJoins, own_of, calls_of, failures_of, failed_of}
 use Rattle.desk_access.specs.Desk.{DeskState, Goes, Stood}
 use Rattle.desk_access.specs.Durable.{KeepsSince}
@@ -28,10 +29,10 @@ pub record BeganAt (began m : Moment) : Type 0 where
   pub faults : began.faults ≡ m.faults
 
 -- what is true of each state in which the desk may have been given
-pub record Begins (tells : Type 0) (run : ℕ) (x : DeskState) : Type 0 where
+pub record Begins (tells : Type 0) (run : DividedRun) (x : DeskState) : Type 0 where
   pub told : tells
   pub rules : IsDesk x
-  pub of_run : x.spool.run ≡ run
+  pub of_run : x.spool.run ≡ run.number
   pub none_held : x.ids.held ≡ []
 
 -- From this state the calls of the journal lead to one in which the desk is then, and whenever a crash came meanwhile,
@@ -45,7 +46,7 @@ pub record LeadsBy (x : DeskState) (began : Moment) (log : List Record) (new : A
 
 -- From each state in which the desk may have been given, this journal leads to where it is. As often as a call of it was
 -- answered that the disk failed, it did; where none was, no call of the disk failed.
-pub record Replays (tells : Type 0) (start : DeskState → Type 0) (run : ℕ) (began : Beginning) (log : List Record) (new : AloneView) : Type 0 where
+pub record Replays (tells : Type 0) (start : DeskState → Type 0) (run : DividedRun) (began : Beginning) (log : List Record) (new : AloneView) : Type 0 where
   pub begins : (x : DeskState) → start x → Begins tells run x
   pub leads : (x : DeskState) → start x → LeadsBy x began.moment log new
   pub later : began.moment.faults ≤ new.spool.moment.faults
@@ -59,12 +60,12 @@ pub record Replays (tells : Type 0) (start : DeskState → Type 0) (run : ℕ) (
 
 -- The journal was really made: each of its calls is one that its caller might make, and there is a desk to which it led. Where the type
 -- of disk is left open, such a desk can only be one that the program had.
-abbrev pub IsReal : {D : Type 0} (disks : Ghosts D) → (DeskState → Type 0) → ℕ → ℕ → Beginning → List Record → Type 0
+abbrev pub IsReal : {D : Type 0} (disks : Ghosts D) → (DeskState → Type 0) → DividedRun → ℕ → Beginning → List Record → Type 0
 IsReal {D} disks start run seats began log =
     (a : Alone D disks) × Replays disks.tells start run began log (alone_at a) × Met run (seats - 1) [] log
 
 -- each of these calls is one that the caller of that number may make after its earlier ones
-abbrev pub MayMake : ℕ → ℕ → ℕ → List Call → List Call → Type 0
+abbrev pub MayMake : DividedRun → ℕ → ℕ → List Call → List Call → Type 0
 MayMake run confirming number own [] = Unit {0}
 MayMake run confirming number own (call ∷ calls) = May run confirming number own call × MayMake run confirming number (own ++ call ∷ []) calls
 
@@ -78,7 +79,7 @@ HasNumber [] number = ⊥
 HasNumber (pass ∷ passes) number = (pass.number ≡ number) ⊎ HasNumber passes number
 
 -- The desk that these passes leave, by the one journal of all their calls, from each state x in which it may have been given.
-pub record Closes (tells : Type 0) (start : DeskState → Type 0) (run seats : ℕ) (began : Beginning)
+pub record Closes (tells : Type 0) (start : DeskState → Type 0) (run : DividedRun) (seats : ℕ) (began : Beginning)
     (log : List Record) (passes : List Known) (new : AloneView) : Type 0 where
   -- the journal is lawful, and led to where the desk is
   pub replays : Replays tells start run began log new
@@ -86,11 +87,11 @@ pub record Closes (tells : Type 0) (start : DeskState → Type 0) (run seats : �
   pub met : Met run (seats - 1) [] log
   pub each : (number : ℕ) → MayMake run (seats - 1) number [] (own_of number log)
   -- What the journal adds is legal, and so is each caller's part of it.
-  pub legal : (x : DeskState) → start x → (groups : List (List Entry)) → AddsGroups (calls_of log) groups → IsLegal run groups
+  pub legal : (x : DeskState) → start x → (groups : List (List Entry)) → AddsGroups (calls_of log) groups → IsLegal run.number groups
   pub own : (x : DeskState) → start x → (groups : List (List Entry)) → AddsGroups (calls_of log) groups
       → (number : ℕ) → AddsOwn run number (own_of number log) groups (groups_by number log groups)
   -- The ids that it issues are new.
-  pub issued : (x : DeskState) → start x → AreFrom x.ids.next (ids_of (calls_of log)) × All (IsOfRun run) (ids_of (calls_of log))
+  pub issued : (x : DeskState) → start x → AreFrom x.ids.next (ids_of (calls_of log)) × All (IsOfRun run.number) (ids_of (calls_of log))
   -- What a crash leaves then has all that was taken, and what it left before is a later state than that of the opening.
   pub kept : (x : DeskState) → start x → (c : List ℕ) → new.spool.moment.image c → Keeps x log c
   pub was : (x : DeskState) → start x → (c : List ℕ) → new.spool.moment.image_since began.moment.clock c → Was x (calls_of log) c

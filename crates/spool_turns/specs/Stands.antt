@@ -8,6 +8,7 @@ use Rattle.spool_answers.specs.declared.fault.TakeFault.TheVariants as Take
 use Rattle.edge_disk.specs.declared.disk.Disk.{Ghosts}
 use Rattle.hec_ids.specs.Table.{Table}
 use Rattle.hec_ids.specs.Table as Ids
+use Rattle.desk_access.specs.Division.{DividedRun}
 use Rattle.desk_access.specs.declared.standing.Standing.{Standing}
 use Rattle.desk_access.specs.Call.{Call, counts, issues, settles, forgets, asks, Record}
 use Rattle.desk_access.specs.JointRecords.{Part, joined, ArePartsOf, joint_of}
@@ -45,7 +46,7 @@ AreOfSpool (one ∷ records) = IsOfSpool one.call × AreOfSpool records
 
 -- What lies under the lock of the journal: its seat, the seat that knows where the spool's last call left the desk, and the ids. The
 -- journal led to there, with these ids.
-pub record IsKept {D : Type 0} (disks : Ghosts D) (start : DeskState → Type 0) (run seats : ℕ) (began : Beginning) (ids : Table) (me : Me ℕ View) (twin : Me (Alone D disks) (Twin (Alone D disks))) : Type 0 where
+pub record IsKept {D : Type 0} (disks : Ghosts D) (start : DeskState → Type 0) (run : DividedRun) (seats : ℕ) (began : Beginning) (ids : Table) (me : Me ℕ View) (twin : Me (Alone D disks) (Twin (Alone D disks))) : Type 0 where
   pub desk : Alone D disks
   pub twin_is : twin ≡ of_journal desk
   pub turn : IsTurn seats me (with_ids ids None (alone_at desk))
@@ -76,7 +77,7 @@ pub record AreMade {D : Type 0} (disks : Ghosts D) (entries : List Entry) (befor
   pub same_ids : now.desk.ids ≡ from.desk.ids
 
 -- The same, once the two seats met: from where the journal led to.
-pub record IsStoredAll {D : Type 0} (disks : Ghosts D) (start : DeskState → Type 0) (run seats : ℕ) (began : Beginning) (ids : Table) (me : Me ℕ View)
+pub record IsStoredAll {D : Type 0} (disks : Ghosts D) (start : DeskState → Type 0) (run : DividedRun) (seats : ℕ) (began : Beginning) (ids : Table) (me : Me ℕ View)
     (entries : List Entry) (before : Standing) (result : Result Receipt TakeFault) (now : Alone D disks) : Type 0 where
   pub from : Alone D disks
   pub turn : IsTurn seats me (with_ids ids None (alone_at from))

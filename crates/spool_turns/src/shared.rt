@@ -25,7 +25,7 @@ use crate::pass::Pass;
 use crate::rule::SeatTable;
 use crate::turn::Turn;
 use crate::twin::{TwinTable, free};
-use desk_access::Front;
+use desk_access::{Division, Front};
 use edge_disk::Disk;
 use event_form::Entry;
 use hec_ids::IssueFault;
@@ -55,8 +55,10 @@ pub struct Shared<D: Disk, J: Naming> {
     pub(crate) group: bool,
     pub(crate) alloc: Global,
     pub(crate) run: u32,
+    pub(crate) division: Division,
     ghost group_is: { group ≡ J.began.grouped },
-    ghost run_is: { run ≡ J.run },
+    ghost run_is: { run ≡ J.run.number },
+    ghost division_is: { division ≡ J.run.division },
     ghost run_of_start: { (x : DeskState) → J.start x → run ≡ x.spool.run },
     ghost table_is: { table.shared.table_id ≡ J.table.seats },
     ghost words: { table.shared.table_id.words ≡ 4 },
@@ -372,10 +374,17 @@ impl<D: Disk, J: Naming> Shared<D, J> {
 
     /// How often the spool was opened for storing.
     pub fn run(&self) -> u32
-        ensures is { result ≡ J.run }
+        ensures is { result ≡ J.run.number }
         ensures seen { (x : DeskState) → J.start x → result ≡ x.spool.run }
     {
         self.run
+    }
+
+    /// How the numbers of the run's connections are divided among the passes.
+    pub fn division(&self) -> Division
+        ensures { result ≡ J.run.division }
+    {
+        self.division
     }
 
     /// The pass has then seen all that the other has seen. Their own calls stay. It doesn't wait.

@@ -16,7 +16,7 @@ use crate::shared::Shared;
 use crate::steps::make_pass;
 use crate::turn::Turn;
 use crate::twin::{TwinSeat, TwinTable, apart, free};
-use desk_access::Access;
+use desk_access::{Access, Division};
 use edge_disk::Disk;
 use hec_ids::Ids;
 use spool_desk::{Alone, Desk};
@@ -143,16 +143,19 @@ impl<D: Disk> Unnamed<D> {
     }
 
     /// The shared desk under a name that is its own, and so many passes, which have seen nothing and have the numbers
-    /// from 0 on. The one with the greatest number may confirm. With `group` takes of several passes may be stored as one group; without it each
-    /// take is stored by itself. The error comes only for want of memory.
+    /// from 0 on. The one with the greatest number may confirm. With `group` takes of several passes may be stored as one
+    /// group; without it each take is stored by itself. The numbers of the run's connections are divided among the passes by
+    /// `division`. The error comes only for want of memory.
     pub fn named<J: Naming>(
         self,
         alloc: Global,
         seats: u32,
         group: bool,
+        division: Division,
     ) -> Result<Opened<D, J>, NoShare<D>>
         requires seats { seats ≡ J.seats }
         requires group { group ≡ J.began.grouped }
+        requires division { division ≡ J.run.division }
         requires name { IsName J.table J.run J.start J.began self }
 
         ensures passes { IfOk result (λ opened. opened.passes.items ≡ fresh 0 seats self.alone.end_told self.alone.cursor_told) }
@@ -202,6 +205,7 @@ impl<D: Disk> Unnamed<D> {
             group,
             alloc,
             run,
+            division,
         };
         Ok(Opened { shared, passes })
     }

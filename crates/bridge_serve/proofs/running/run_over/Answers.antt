@@ -5,6 +5,7 @@ use Rattle.edge_disk.specs.Disk.{LeavesOnly}
 use Rattle.spool_log.specs.declared.opening.Opening.TheVariants.{Raise}
 use Rattle.spool_log.specs.Memory.{run_of}
 use Rattle.spool_log.specs.Opening.{opened, IsOpening}
+use Rattle.desk_access.specs.Division.{divided}
 use Rattle.spool_desk.specs.Alone.{alone_at, IsAt}
 use Rattle.bridge_serve.specs.Opened.{IsOpenedOnly}
 use Rattle.bridge_parts.proofs.Desks.{desk_at}
@@ -37,7 +38,7 @@ run_named-requires-clause-says g c κs within =
     let from = c.requires.opened in
     let later = λ (told : g.D.Disk.tells). subst (λ (d : _). old.clock ≤ (g.D.Disk.moment d.spool.disk).clock) (sym c.in-Ok.ensures.desk)
     (from.any_moment told).later in
-    λ i post at. worker_may g.D.Disk c.args.before.value c.args.spool.disk c.args.spool.memory c.args.spool.doubt _ _ unnamed.run _ from later
+    λ i post at. worker_may g.D.Disk c.args.before.value c.args.spool.disk c.args.spool.memory c.args.spool.doubt _ _ (divided c.args.division unnamed.run) _ from later
     (λ x is. let d = desk_is g.D.Disk.tells _ _ x from.opens is in
     ap (λ (y : _). y.spool.run) d.desk ∙ sym (unnamed.run_is ∙ ap (λ (k : _). run_of k.spool.memory) c.in-Ok.ensures.desk ∙ d.held.knows.run))
     i post.rules (g.N.P.Door.permits post.door) (c.requires.answers i post at)
@@ -49,7 +50,7 @@ run_named-requires-clause-earned g c κs within =
     let later = λ (told : g.D.Disk.tells). subst (λ (d : _). old.clock ≤ (g.D.Disk.moment d.spool.disk).clock) (sym c.in-Ok.ensures.desk)
     (from.any_moment told).later in
     if_some c.args.destination _ _
-    (λ d may. forwarder_may g.D.Disk c.args.before.value c.args.spool.disk c.args.spool.memory c.args.spool.doubt _ _ c.in-Ok.unnamed.run _ from later
+    (λ d may. forwarder_may g.D.Disk c.args.before.value c.args.spool.disk c.args.spool.memory c.args.spool.doubt _ _ (divided c.args.division c.in-Ok.unnamed.run) _ from later
     d.now.outward _ g.D.Disk.may_release may) c.requires.releases
 
 pub returns-in-Ok-clause-over : goal.returns-in-Ok-clause-over

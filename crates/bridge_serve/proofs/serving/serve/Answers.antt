@@ -1,13 +1,13 @@
-use Rattle.std.proofs.Common.{◌≡◌, ◌∙◌, inl, inr, map, refl, sym, ap, subst}
+use Rattle.std.proofs.Common.{◌≡◌, ◌∙◌, inl, inr, map, refl, sym, ap, subst, arith}
 use Rattle.spool_log.specs.State.{view}
 use Rattle.conn_serve.proofs.Faults.{counts_none}
 use Rattle.notes.specs.declared.note.Note.{Note}
 use Rattle.bridge_serve.specs.Opened.{IsOpenedFrom}
 use Rattle.bridge_serve.proofs.Opening.{opened_only}
-use Rattle.bridge_serve.specs.Answered.{WorkerMayAnswer}
+use Rattle.bridge_serve.specs.Answered.{WorkerMayAnswer, first_link}
 use Rattle.bridge_serve.proofs.Answering.{stands_may}
 use Rattle.bridge_serve.proofs.Causes.{net_bound, net_refused}
-use Rattle.bridge_serve.proofs.Doors.{all_unused, none_unused, unused_doors, tells_same, may_dial}
+use Rattle.bridge_serve.proofs.Doors.{few_each, few_all, all_unused, none_unused, unused_doors, tells_same, may_dial}
 use Rattle.bridge_serve.proofs.Ran.{run_binds_none, unserved_with}
 use Rattle.bridge_serve.proofs.Releasing.{may_release}
 use Rattle.bridge_serve.proofs.serving.serve.Goals as goal
@@ -30,6 +30,13 @@ returns-in-Err-clause-served g c =
       record { same = refl; taken = refl; faults = refl },
     )
 
+pub reserve-requires : goal.reserve-requires
+reserve-requires g c = few_each c.args.server.division c.args.server.workers c.requires.workers
+
+pub serve_posts-requires-clause-few : goal.serve_posts-requires-clause-few
+serve_posts-requires-clause-few g c κs within =
+    omega (arith, c.in-Ok-bind_doors.ensures.few, few_all c.args.server.division c.args.server.workers c.requires.workers)
+
 pub serve_posts-requires-clause-opened : goal.serve_posts-requires-clause-opened
 serve_posts-requires-clause-opened g c κs within = rw c.of-before.ensures (record {
   calls = c.in-Ok.ensures.calls;
@@ -39,7 +46,7 @@ serve_posts-requires-clause-opened g c κs within = rw c.of-before.ensures (reco
 
 pub serve_posts-requires-clause-answers : goal.serve_posts-requires-clause-answers
 serve_posts-requires-clause-answers g c κs within =
-    λ i post at. subst (λ (given : _). WorkerMayAnswer g.D.Disk.tells (λ (d : _). g.D.Disk.moment d) given i post.rules (g.N.P.Door.permits post.door))
+    λ i post at. subst (λ (given : _). WorkerMayAnswer g.D.Disk.tells (λ (d : _). g.D.Disk.moment d) given (first_link c.args.server.division i post.rules) (g.N.P.Door.permits post.door))
     (sym c.of-before.ensures)
     (stands_may g.D.Disk.tells (λ (d : _). g.D.Disk.moment d) c.args.disk c.args.server g.N.Net.permits i post.rules (g.N.P.Door.permits post.door) c.requires.answers
     (c.in-Ok-bind_doors.ensures.stand i post at))
@@ -68,7 +75,7 @@ returns-in-Ok-bind_doors-clause-served g c =
                 (all_unused c.args.server _ _ _ _ bound told)),
           )
       | inr run ↦
-          let binds = run_binds_none _ _ _ _ _ _ _ _ _ _ _ _ _ _ _ _ run in
+          let binds = run_binds_none _ _ _ _ _ _ _ _ _ _ _ _ _ _ _ _ _ run in
           let same = net_bound _ _ _ cause rest binds in
           inr (record { doors = _; rules = _; bound = bound; told = tells_same _ _ _ _ told binds; ran = rw same at run })
     ])

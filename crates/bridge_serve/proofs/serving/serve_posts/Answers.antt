@@ -1,27 +1,32 @@
 use Rattle.std.proofs.Common.{◌≡◌, ◌≤◌, ◌∙◌, inl, inr, length, map, refl, sym, ap, subst, arith}
 use Rattle.std.proofs.lemmas.List.{length-map}
+use Rattle.desk_access.proofs.Dividing.{callers_few}
 use Rattle.conn_serve.proofs.Faults.{counts_none}
 use Rattle.notes.specs.declared.note.Note.{Note}
 use Rattle.bridge_parts.specs.Counted.{DiskRoseBy}
 use Rattle.bridge_serve.proofs.Ran.{known, disk_rose, read_rose, dials, writes_rose, ran_at}
 use Rattle.bridge_serve.proofs.serving.serve_posts.Goals as goal
+use Rattle.desk_access.specs.Division.{callers_of}
+
+pub finish-requires-clause-few : goal.finish-requires-clause-few
+finish-requires-clause-few g c = omega (arith, c.in-Ok.ensures.many.1, c.requires.few, callers_few c.args.division)
 
 pub returns-in-Ok-clause-known : goal.returns-in-Ok-clause-known
-returns-in-Ok-clause-known g c = known _ _ _ _ _ _ _ _ _ _ _ _ _ _ _ c.in-Ok.ensures.over _ c.finish.ensures.note
+returns-in-Ok-clause-known g c = known _ _ _ _ _ _ _ _ _ _ _ _ _ _ _ _ c.in-Ok.ensures.over _ c.finish.ensures.note
 
 pub returns-in-Ok-clause-calls : goal.returns-in-Ok-clause-calls
 returns-in-Ok-clause-calls g c =
     subst (λ (d : _). DiskRoseBy (c.finish.result.note ≡ _) (g.D.Disk.moment c.args.before.value) (g.D.Disk.moment d)) (sym c.finish.ensures.disk)
-    (disk_rose _ _ _ _ _ _ _ _ _ _ _ _ _ _ _ c.in-Ok.ensures.over _ c.finish.ensures.note)
+    (disk_rose _ _ _ _ _ _ _ _ _ _ _ _ _ _ _ _ c.in-Ok.ensures.over _ c.finish.ensures.note)
 
 pub returns-in-Ok-clause-reads : goal.returns-in-Ok-clause-reads
-returns-in-Ok-clause-reads g c = read_rose _ _ _ _ _ _ _ _ _ _ _ _ _ _ _ c.in-Ok.ensures.over _ c.finish.ensures.note
+returns-in-Ok-clause-reads g c = read_rose _ _ _ _ _ _ _ _ _ _ _ _ _ _ _ _ c.in-Ok.ensures.over _ c.finish.ensures.note
 
 pub returns-in-Ok-clause-writes : goal.returns-in-Ok-clause-writes
-returns-in-Ok-clause-writes g c = writes_rose _ _ _ _ _ _ _ _ _ _ _ _ _ _ _ c.in-Ok.ensures.over _ c.finish.ensures.note _ _ c.finish.ensures.writes
+returns-in-Ok-clause-writes g c = writes_rose _ _ _ _ _ _ _ _ _ _ _ _ _ _ _ _ c.in-Ok.ensures.over _ c.finish.ensures.note _ _ c.finish.ensures.writes
 
 pub returns-in-Ok-clause-dials : goal.returns-in-Ok-clause-dials
-returns-in-Ok-clause-dials g c = dials _ _ _ _ _ _ _ _ _ _ _ _ _ _ _ c.in-Ok.ensures.over _ c.finish.ensures.note
+returns-in-Ok-clause-dials g c = dials _ _ _ _ _ _ _ _ _ _ _ _ _ _ _ _ c.in-Ok.ensures.over _ c.finish.ensures.note
 
 pub returns-in-Ok-clause-ran : goal.returns-in-Ok-clause-ran
 returns-in-Ok-clause-ran g c =
@@ -34,10 +39,10 @@ returns-in-Ok-clause-ran g c =
     omega (arith, length-map posts.items (λ (post : _). g.N.P.Door.told post.door), many.1, posts.ok.0, served.reports.ok.0) in
     let doors' : length (map (λ (door : _). g.N.P.Door.told door) served.doors.items) ≡ length served.reports.items =
     omega (arith, length-map served.doors.items (λ (door : _). g.N.P.Door.told door), many.0, many.1, served.doors.ok.0, served.reports.ok.0) in
-    let few : length (map (λ (post : _). post.rules) posts.items) ≤ 64 =
+    let few : length (map (λ (post : _). post.rules) posts.items) ≤ callers_of c.args.division =
     omega (arith, length-map posts.items (λ (post : _). post.rules), posts.ok.0, c.requires.few) in
     let over = rw c.as_ref.ensures.value at c.in-Ok.ensures.over in
-    let ran = ran_at _ _ _ _ _ _ _ _ _ _ _ _ _ _ _ over _ c.finish.ensures.note _ c.of-opening.result.end c.of-opening.result.left _ _ _ _
+    let ran = ran_at _ _ _ _ _ _ _ _ _ _ _ _ _ _ _ _ over _ c.finish.ensures.note _ c.of-opening.result.end c.of-opening.result.left _ _ _ _
     c.requires.opened c.of-opening.ensures.end c.of-opening.ensures.left rules doors doors' few c.requires.talks c.finish.ensures.printed in
     inr (rw (c.finish.ensures.disk, c.finish.ensures.doors) ran)
 

@@ -1,7 +1,6 @@
 use Rattle.std.proofs.Common.{sym, subst}
 use Rattle.std.proofs.lemmas.List.Elements.{All-get_or}
 use Rattle.spool_turns.specs.Replays.{IsReal}
-use Rattle.serve_workers.specs.Works.{first_conn}
 use Rattle.serve_workers.specs.Crews.{IsReady}
 use Rattle.serve_workers.specs.Answering.{MayAnswer}
 use Rattle.serve_workers.proofs.hired.work_all.Goals as goal
@@ -12,8 +11,8 @@ for_each_mut-requires-clause-accepts g c κs within =
     let real = IsReal g.D.Disk naming.start naming.run naming.seats naming.began in
     let workers = c.args.workers.now in
     λ i p lt is.
-    let ready = All-get_or (λ w. IsReady w.number w.seated.pass) workers i p.now lt c.requires.ready in
-    let says = All-get_or (λ w. MayAnswer real naming.start (first_conn naming.run w.number) (g.P.Door.permits w.door) w.rules) workers i p.now lt c.requires.says in (
-      (subst (λ w. IsReady w.number w.seated.pass) (sym is) ready, c.requires.talks),
-      subst (λ w. MayAnswer real naming.start (first_conn naming.run w.number) (g.P.Door.permits w.door) w.rules) (sym is) says,
+    let ready = All-get_or (λ w. IsReady g.J.Naming.run w.number w.seated.pass) workers i p.now lt c.requires.ready in
+    let says = All-get_or (λ w. MayAnswer real naming.start naming.run w.number (g.P.Door.permits w.door) w.rules) workers i p.now lt c.requires.says in (
+      (subst (λ w. IsReady g.J.Naming.run w.number w.seated.pass) (sym is) ready, c.requires.talks),
+      subst (λ w. MayAnswer real naming.start naming.run w.number (g.P.Door.permits w.door) w.rules) (sym is) says,
     )

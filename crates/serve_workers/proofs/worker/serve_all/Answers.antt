@@ -1,7 +1,7 @@
 use Rattle.std.proofs.Common.{ℕ, ◌+◌, ◌^◌, ◌<◌, ◌≡◌, arith, subst}
 use Rattle.conn_serve.specs.Serves.{CarriedBy}
 use Rattle.conn_serve.specs.Says.{HasCarried}
-use Rattle.serve_workers.specs.Works.{first_conn}
+use Rattle.desk_access.specs.Division.{each_of, first_conn}
 use Rattle.serve_workers.proofs.Following.{serves_plain, stops_plain, works_none, works_may, works_more, works_ends, works_enough}
 use Rattle.serve_workers.proofs.worker.serve_all.Goals as goal
 
@@ -15,7 +15,7 @@ pub serve_next-requires : goal.serve_next-requires
 serve_next-requires g c =
     let talk = c.loop-talk.talk in
     let number = c.args.seated.now.pass.number in
-    let few : talk < 2 ^ 26 = omega (arith, c.loop-talk-test.true, c.requires.talks) in
+    let few : talk < each_of g.J.Naming.run.division = omega (arith, c.loop-talk-test.true, c.requires.talks) in
     let conn : c.args.first + c.from.result ≡ first_conn g.J.Naming.run number + talk = omega (arith, c.requires.first, c.from.ensures) in
     let same : talk ≡ talk + 0 = omega arith in
     record {

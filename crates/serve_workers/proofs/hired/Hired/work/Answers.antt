@@ -1,7 +1,6 @@
 use Rattle.std.proofs.Common.{◌≡◌, map, length, sym, ap, ◌∙◌, arith, subst}
 use Rattle.std.specs.Prelude.{All}
 use Rattle.spool_turns.specs.Replays.{IsReal}
-use Rattle.serve_workers.specs.Works.{first_conn}
 use Rattle.serve_workers.specs.Crews.{AreNew, IsReady}
 use Rattle.serve_workers.specs.Answering.{MayAnswer}
 use Rattle.serve_workers.proofs.Placing.{have_worked, all_ready, told_same, written_back}
@@ -10,13 +9,13 @@ use Rattle.serve_workers.proofs.hired.Hired.work.Goals as goal
 pub work_all-requires-clause-ready : goal.work_all-requires-clause-ready
 work_all-requires-clause-ready g c κs within =
     let new = subst (AreNew 0) (sym (ap (λ r. r.passes) c.self.view_is)) c.requires.new in
-    subst (All (λ w. IsReady w.number w.seated.pass)) (sym c.deref_mut.ensures.value) (all_ready (λ w. w.number) (λ w. w.seated.pass) 0 _ c.self.invariant.0 new)
+    subst (All (λ w. IsReady g.J.Naming.run w.number w.seated.pass)) (sym c.deref_mut.ensures.value) (all_ready g.J.Naming.run (λ w. w.number) (λ w. w.seated.pass) 0 _ c.self.invariant.0 new)
 
 pub work_all-requires-clause-says : goal.work_all-requires-clause-says
 work_all-requires-clause-says g c κs within =
     let naming = g.J.Naming in
     let real = IsReal g.D.Disk naming.start naming.run naming.seats naming.began in
-    subst (All (λ w. MayAnswer real naming.start (first_conn naming.run w.number) (g.P.Door.permits w.door) w.rules)) (sym c.deref_mut.ensures.value) c.self.invariant.1
+    subst (All (λ w. MayAnswer real naming.start naming.run w.number (g.P.Door.permits w.door) w.rules)) (sym c.deref_mut.ensures.value) c.self.invariant.1
 
 pub returns-clause-worked : goal.returns-clause-worked
 returns-clause-worked g c =
