@@ -9,11 +9,11 @@ use Rattle.edge_io.specs.Told.{IsToldAs}
 use Rattle.edge_io.specs.declared.proto.Proto.{Proto}
 use Rattle.edge_io.specs.declared.proto.Proto.TheVariants.{Relp, Lumberjack, Hec}
 use Rattle.edge_disk.specs.Disk.{Moment}
+use Rattle.desk_access.specs.Division.{DividedRun, divided, first_conn}
 use Rattle.desk_access.specs.Call.{Call, Record, own_of}
 use Rattle.conn_serve.specs.declared.rules.Rules.{Rules}
 use Rattle.serve_workers.specs.declared.worker.WorkerReport.{WorkerReport}
 use Rattle.serve_workers.specs.Served.{Served, AreServed, Tells, TellsMore, calls_in}
-use Rattle.serve_workers.specs.Works.{first_conn}
 use Rattle.serve_laws.specs.Durable.{IsLinkDurable}
 use Rattle.serve_laws.specs.Parts.{Part, AreParts, IsPart}
 use Rattle.bridge_words.specs.declared.command.Command.{Command}
@@ -134,29 +134,29 @@ each_at {X} P number (y ∷ ys) zero x each is =
     subst (λ (n : ℕ). P n x) (omega arith) (subst (P number) same each.0)
 each_at P number (y ∷ ys) (suc k) x each is = subst (λ (n : ℕ). P n x) (omega arith) (each_at P (number + 1) ys k x each.1 is)
 
-module _ (server : Server) (run : Run) (run_number talks : ℕ) (log : List Record) (led : HasLed run.disk.tells run.disk.old run.disk.new log)
-    (of_run : led.start.spool.run ≡ run_number) where
+module _ (server : Server) (run : Run) (numbered : DividedRun) (talks : ℕ) (log : List Record) (led : HasLed run.disk.tells run.disk.old run.disk.new log)
+    (of_run : led.start.spool.run ≡ numbered.number) (divided_by : numbered.division ≡ server.division) where
   -- the door tells none of before, or it tells nothing
   door_kept : (number : ℕ) (rules : Rules) (old new : DoorState) (report : WorkerReport) (part : Part) → rules ≡ rules_of server rules.proto → IsToldAs old.talks []
-      → IsPart run_number talks log number rules old new report part → LinksAreDurable log run.disk.new number rules old new part → TalksAreKept server run.disk number new
+      → IsPart numbered talks log number rules old new report part → LinksAreDurable log run.disk.new number rules old new part → TalksAreKept server run.disk number new
   door_kept number rules old new report part is fresh at all told same k talk here = by old.talks refl
     where
       by : (before : Option (List Talked)) → old.talks ≡ before
-          → TalkIsKept run.disk.tells run.disk.old run.disk.new (record { rules = rules_of server talk.proto; worker = number; before = k }) talk
+          → TalkIsKept run.disk.tells run.disk.old run.disk.new (record { rules = rules_of server talk.proto; division = server.division; worker = number; before = k }) talk
       by None none = absurd (not_some new.talks told (subst (λ (o : Option (List Talked)). TellsMore rules part.finished o new.talks) none at.at_door.talks) same)
       by (Some before) some =
           let empty : before ≡ [] = subst (λ (o : Option (List Talked)). IsToldAs o []) some fresh in
           let more = subst (λ (o : Option (List Talked)). TellsMore rules part.finished o new.talks) some at.at_door.talks in
           let whole : told ≡ more.0 = same_some told more.0 (sym same ∙ more.2 ∙ ap (λ (l : List Talked). Some (l ++ more.0)) empty) in
           let found = told_at rules part.finished more.0 k talk more.1 (subst (λ (l : List Talked). slice_get l k ≡ Some talk) whole here) in
-          let link = among log number (first_conn run_number number) run.disk.new rules part.finished part.late k found.0 found.1 at.at_door.served at.at_door.calls all in
+          let link = among log number (first_conn numbered number) run.disk.new rules part.finished part.late k found.0 found.1 at.at_door.served at.at_door.calls all in
           let ruled : rules ≡ rules_of server talk.proto = is ∙ ap (λ (p : Proto). rules_of server p) (sym found.2.proto) in
-          subst (λ (r : Rules). TalkIsKept run.disk.tells run.disk.old run.disk.new (record { rules = r; worker = number; before = k }) talk) ruled (record {
+          subst (λ (r : Rules). TalkIsKept run.disk.tells run.disk.old run.disk.new (record { rules = r; division = server.division; worker = number; before = k }) talk) ruled (record {
             one = found.0;
             told_as = found.2;
             log = log;
             led = led;
-            conn_is = link.conn ∙ ap (λ (r : ℕ). first_conn r number + k) (sym of_run);
+            conn_is = link.conn ∙ (λ i. first_conn (divided (divided_by i) (sym of_run i)) number + k);
             earlier = link.earlier;
             later = link.later;
             own = link.own;
@@ -164,7 +164,7 @@ module _ (server : Server) (run : Run) (run_number talks : ℕ) (log : List Reco
           })
 
   doors_kept : (number : ℕ) (rules : List Rules) (doors doors' : List DoorState) (reports : List WorkerReport) (parts : List Part)
-      → AreParts run_number talks log number rules doors doors' reports parts → EachPart (LinksAreDurable log run.disk.new) number rules doors doors' parts
+      → AreParts numbered talks log number rules doors doors' reports parts → EachPart (LinksAreDurable log run.disk.new) number rules doors doors' parts
       → All (λ (r : Rules). r ≡ rules_of server r.proto) rules → All (λ (door : DoorState). IsToldAs door.talks []) doors
       → EachFrom (TalksAreKept server run.disk) number doors'
   doors_kept number [] [] [] [] [] are each ruled fresh = tt
@@ -216,7 +216,7 @@ server_kept server run note told ran =
       goes = lead.goes;
       any_moment = over.any_moment opened.0 opened.1;
     } in
-    let each = doors_kept server run over.run server.talks over.served.log led (closes.replays.begins opened.0 opened.1).of_run
+    let each = doors_kept server run over.run server.talks over.served.log led (closes.replays.begins opened.0 opened.1).of_run over.divided_by
     0 ran.rules ran.doors run.doors ran.ran.reports promises.parts promises.are_parts (promises.acknowledged opened.0 opened.1)
     (ruled_bound server ran.doors ran.rules ran.bound) (fresh_bound server ran.doors ran.rules ran.bound) in
     λ worker door here. subst (λ (n : ℕ). TalksAreKept server run.disk n door) (omega arith) (each_at (TalksAreKept server run.disk) 0 run.doors worker door each here)

@@ -4,6 +4,7 @@ use Rattle.std.specs.Io.KnownBytes.{Appends}
 use Rattle.event_form.specs.declared.talk.Talk.{Talk}
 use Rattle.edge_io.specs.Door.{DoorState, Talked}
 use Rattle.edge_disk.specs.Disk.{Moment}
+use Rattle.desk_access.specs.Division.{divided, first_conn}
 use Rattle.desk_access.specs.Call.{Call, Record, own_of}
 use Rattle.desk_access.specs.Durable.{IsIdTakenDurably, StaysTaken}
 use Rattle.desk_access.specs.Groups.{groups_of}
@@ -13,7 +14,6 @@ use Rattle.conn_serve.specs.Durable.{AckedIsDurable, AnswersAreDurable}
 use Rattle.conn_serve.specs.Serves.{CarriedBy}
 use Rattle.conn_serve.specs.Terms.{terms_of}
 use Rattle.serve_workers.specs.Served.{Served, Tells}
-use Rattle.serve_workers.specs.Works.{first_conn}
 use Rattle.serve_laws.specs.Durable.{IsLinkDurable}
 use Rattle.bridge_words.specs.declared.command.Command.{Command}
 use Rattle.bridge_words.specs.declared.command.Command.TheVariants.{Replay, Serve}
@@ -55,7 +55,7 @@ pub record TalkIsKept (tells : Type 0) (old now : Moment) (link : Linked) (told 
   pub told_as : Tells link.rules one told
   pub log : List Record
   pub led : HasLed tells old now log
-  pub conn_is : one.conn ≡ first_conn led.start.spool.run link.worker + link.before
+  pub conn_is : one.conn ≡ first_conn (divided link.division led.start.spool.run) link.worker + link.before
   pub earlier : List Call
   pub later : List Call
   pub own : own_of link.worker log ≡ earlier ++ (one.calls ++ later)
@@ -65,7 +65,7 @@ pub record TalkIsKept (tells : Type 0) (old now : Moment) (link : Linked) (told 
 abbrev pub TalksAreKept : Server → DiskRun → ℕ → DoorState → Type 0
 TalksAreKept server disk worker door =
     (talks : List Talked) → door.talks ≡ Some talks → (k : ℕ) (told : Talked) → slice_get talks k ≡ Some told
-    → TalkIsKept disk.tells disk.old disk.new (record { rules = rules_of server told.proto; worker = worker; before = k }) told
+    → TalkIsKept disk.tells disk.old disk.new (record { rules = rules_of server told.proto; division = server.division; worker = worker; before = k }) told
 
 -- each connection that a door tells of
 abbrev pub DoorsAreKept : Server → DiskRun → List DoorState → Type 0

@@ -1,6 +1,7 @@
 -- What a command may write to those who send to it, what it may make known as confirmed, what it may write to the disk, where it may bind
 -- doors, and where it may dial.
 use Rattle.std.specs.Prelude.{ℕ, List, Some, None}
+use Rattle.edge_disk.specs.declared.disk.Disk.{Ghosts as Disks}
 use Rattle.edge_disk.specs.Disk.{Moment}
 use Rattle.edge_disk.specs.Leave.{LetsAll}
 use Rattle.spool_answers.specs.Leave.{LetsKeep}
@@ -46,6 +47,10 @@ MayRelease tells moment given Streamed ExchangedAt Release (Drain receiver (Some
     drain.MayRelease tells moment given (outward_of receiver) (ExchangedAt place) Release
 MayRelease tells moment given Streamed ExchangedAt Release (Serve words) = forwarder.MayRelease tells moment given words ExchangedAt Release
 MayRelease tells moment given Streamed ExchangedAt Release command = Unit {0}
+
+-- so it is with what may become known on this disk
+abbrev pub MayReleaseOn : {D : Type 0} → Disks D → D → (List ℕ → List ℕ → Type 0) → (List ℕ → List ℕ → List ℕ → Type 0) → Command → Type 0
+MayReleaseOn disks given Streamed ExchangedAt command = MayRelease disks.tells disks.moment given Streamed ExchangedAt disks.may_release command
 
 -- `format` may write anything to the disk. Every other command may write what keeps the spool: whatever a crash may tear of it stands for a
 -- later state of a spool for which an image of now stands, and knows no number anew but those that may become known.

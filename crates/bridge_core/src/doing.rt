@@ -1,10 +1,10 @@
 //! One function does each command.
-ghost use Rattle.std.specs.Prelude.{◌≡◌, ℕ, List, map};
+ghost use Rattle.std.specs.Prelude.{◌≡◌, ℕ, List};
 ghost use Rattle.notes.specs.Notes.{status_of};
-ghost use Rattle.bridge_parts.specs.Run.{disk_run, input_run, net_run, output_run, run_of};
 ghost use Rattle.bridge_core.specs.Asked.{IsAsked};
 ghost use Rattle.bridge_core.specs.Done.{Does};
 ghost use Rattle.bridge_core.specs.Leave.{MayAnswer, MayReplay, MayTake, WasRead, MayRelease, WereStreamed, HasExchangedAt, MayTear, MayBind, MayDial, MayPrint};
+ghost use Rattle.bridge_core.specs.Told.{ran};
 
 use crate::ended::Ended;
 use bridge_parts::outward_of;
@@ -51,10 +51,8 @@ where
     requires prints { MayPrint ((sink : K) (text : List ℕ) → K.permits sink text) command }
 
     ensures status { result.status ≡ status_of result.note }
-    ensures done { Does command
-        (run_of (disk_run D.tells D.moment disk result.disk) (input_run S.given S.left S.read_faults input.old input.new)
-        (output_run K.taken K.write_faults output.old output.new) (net_run N.told net.old net.new)
-        (map (λ (door : _). N.P.told door) result.doors.items)) result.note }
+    ensures done { Does command (ran (D.Disk, S.Source.own, K.Sink.own, N.told, N.P.told)
+        (disk, input.old, output.old, net.old) (input.new, output.new, net.new) result) result.note }
 {
     match command {
         Command::Format { slots, size } => {

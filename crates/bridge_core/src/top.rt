@@ -1,10 +1,10 @@
 //! The top call: the words say which command it is.
-ghost use Rattle.std.specs.Prelude.{◌≡◌, ℕ, List, map, string_bytes};
+ghost use Rattle.std.specs.Prelude.{◌≡◌, ℕ, List};
 ghost use Rattle.notes.specs.Notes.{status_of};
-ghost use Rattle.bridge_parts.specs.Run.{disk_run, input_run, net_run, output_run, run_of};
 ghost use Rattle.bridge_core.specs.RunOf.{IsRunOf};
 ghost use Rattle.bridge_core.specs.Headline.{KeepsAcknowledged};
-ghost use Rattle.bridge_core.specs.Leave.{ForWords, MayAnswer, MayReplay, MayTake, WasRead, MayRelease, WereStreamed, HasExchangedAt, MayTear, MayBind, MayDial, MayPrint};
+ghost use Rattle.bridge_core.specs.Leave.{ForWords, MayAnswer, MayReplay, MayTake, WasRead, MayReleaseOn, WereStreamed, HasExchangedAt, MayTear, MayBind, MayDial, MayPrint};
+ghost use Rattle.bridge_core.specs.Told.{ran, texts};
 
 use crate::asked::{Unasked, asked_of};
 use crate::doing::do_command;
@@ -68,36 +68,32 @@ where
     N::L: Send,
 
     // A text may be written to a sender once what it acknowledges is durable: to a link of a door, and by `replay` to the output.
-    requires answers { ForWords (map string_bytes words.now) (MayAnswer D.tells D.moment disk N.permits) }
-    requires replays { ForWords (map string_bytes words.now)
+    requires answers { ForWords (texts words.now) (MayAnswer D.tells D.moment disk N.permits) }
+    requires replays { ForWords (texts words.now)
         (MayReplay D.tells D.moment disk (WasRead S.same S.given input.old) (MayTake K.same K.taken K.permits output.old)) }
 
     // A number may become known as confirmed once the peer has received its entry, to whom the words forward.
-    requires releases { ForWords (map string_bytes words.now) (MayRelease D.tells D.moment disk
+    requires releases { ForWords (texts words.now) (MayReleaseOn D.Disk disk
         (WereStreamed S.same S.given input.old K.same K.taken output.old)
-        (HasExchangedAt N.L.same N.L.dialed N.L.given N.L.taken) D.may_release) }
+        (HasExchangedAt N.L.same N.L.dialed N.L.given N.L.taken)) }
 
     // `format` may write anything to the disk, and every other command what keeps the spool.
-    requires tears { ForWords (map string_bytes words.now) (MayTear D.tells D.moment D.may_tear D.may_release) }
+    requires tears { ForWords (texts words.now) (MayTear D.tells D.moment D.may_tear D.may_release) }
 
     // The places that the words name may be bound and dialed, and any text may be printed.
-    requires binds { ForWords (map string_bytes words.now) (MayBind N.may_bind) }
-    requires dials { ForWords (map string_bytes words.now) (MayDial N.may_dial) }
-    requires prints { ForWords (map string_bytes words.now) (MayPrint ((sink : K) (text : List ℕ) → K.permits sink text)) }
+    requires binds { ForWords (texts words.now) (MayBind N.may_bind) }
+    requires dials { ForWords (texts words.now) (MayDial N.may_dial) }
+    requires prints { ForWords (texts words.now) (MayPrint ((sink : K) (text : List ℕ) → K.permits sink text)) }
 
     ensures status { result.status ≡ status_of result.note }
 
     // What was done, what was left alone, and what failed meanwhile.
-    ensures run { IsRunOf (map string_bytes words.now)
-        (run_of (disk_run D.tells D.moment disk result.disk) (input_run S.given S.left S.read_faults input.old input.new)
-        (output_run K.taken K.write_faults output.old output.new) (net_run N.told net.old net.new)
-        (map (λ (door : _). N.P.told door) result.doors.items)) result.note }
+    ensures run { IsRunOf (texts words.now) (ran (D.Disk, S.Source.own, K.Sink.own, N.told, N.P.told)
+        (disk, input.old, output.old, net.old) (input.new, output.new, net.new) result) result.note }
 
     // What was acknowledged to a sender is not lost, whatever the note.
-    ensures acknowledged { KeepsAcknowledged (map string_bytes words.now)
-        (run_of (disk_run D.tells D.moment disk result.disk) (input_run S.given S.left S.read_faults input.old input.new)
-        (output_run K.taken K.write_faults output.old output.new) (net_run N.told net.old net.new)
-        (map (λ (door : _). N.P.told door) result.doors.items)) }
+    ensures acknowledged { KeepsAcknowledged (texts words.now) (ran (D.Disk, S.Source.own, K.Sink.own, N.told, N.P.told)
+        (disk, input.old, output.old, net.old) (input.new, output.new, net.new) result) }
 {
     match asked_of(alloc, words) {
         Ok(command) => do_command(rt, alloc, command, disk, input, output, net),

@@ -1,6 +1,7 @@
 -- How a move between two open spools ended, as its note tells.
 use Rattle.std.proofs.Common.{◌≡◌, ◌⊎◌, inl, inr, ℕ, List, [], refl, sym, ap, subst, arith, length}
 use Rattle.std.specs.Prelude.{Bool, false, Result, Ok, Err, IfErr, IsErrOf}
+use Rattle.edge_disk.specs.declared.disk.Disk.{Ghosts as Disks}
 use Rattle.edge_disk.specs.Calls.{Calls}
 use Rattle.edge_disk.specs.Disk.{Moment}
 use Rattle.edge_disk.proofs.Calls.{calls_as, calls_on}
@@ -8,6 +9,7 @@ use Rattle.spool_state.specs.SpoolState.{SpoolState}
 use Rattle.spool_log.specs.declared.fault.RecoverFault.{RecoverFault}
 use Rattle.spool_log.specs.declared.fault.RecoverFault.TheVariants as Recover
 use Rattle.spool_log.specs.declared.memory.Memory.{Memory}
+use Rattle.spool_log.specs.declared.spool.Spool.{Spool}
 use Rattle.spool_log.specs.State.{View, IsIn, view}
 use Rattle.spool_move.specs.declared.fault.MoveFault.{MoveFault}
 use Rattle.spool_move.specs.declared.fault.MoveFault.TheVariants as Fault
@@ -17,6 +19,7 @@ use Rattle.notes.specs.declared.note.Note.{Note}
 use Rattle.bridge_parts.specs.Pending.{pending_in}
 use Rattle.bridge_parts.specs.Refused.{note_of_recover}
 use Rattle.bridge_parts.specs.Run.{OutputRun}
+use Rattle.bridge_move.specs.declared.moved.Moved.{Moved}
 use Rattle.bridge_move.specs.Ended.{note_of_move, IsMoveNote, TellsDisks, IsTold, EndsOpen}
 
 -- a move between spools outside doubt begins with their states
@@ -29,25 +32,41 @@ sure_moves tag s t result from from' into into' held held' (inr (inr goes)) =
     (subst (λ (m : SpoolState). Moves tag m goes.u result from' into') goes.one goes.moves)
 
 -- So a move between spools that are open ends, where they aren't in doubt.
-module _ (tells tells' : Type 0) (tag : ℕ) (memory memory' : Memory) (doubt doubt' : Bool) (from onto : Moment) (result : Result ℕ MoveFault)
-    (source target : Memory) (source_doubt target_doubt : Bool) (from' onto' : Moment) (output : OutputRun) (note : Note) where
-  pub ends_open : doubt ≡ false → doubt' ≡ false → IfErr result (IsSaidBy source target)
-      → ((s t : SpoolState) (ds dt : List SpoolState) → tells → tells' → IsIn s ds (view memory doubt from) → IsIn t dt (view memory' doubt' onto)
-      → MovesFrom tag s ds t dt result (view memory doubt from) (view source source_doubt from') (view memory' doubt' onto) (view target target_doubt onto'))
-      → IsTold result (pending_in source) output note → EndsOpen tells tells' tag memory memory' from from' onto onto' output note
-  ends_open sure sure' said moves told = record {
+module _ {D E : Type 0} (disks : Disks D) (targets : Disks E) (tag : ℕ) (source source' : Spool D disks) (target target' : Spool E targets)
+    (result : Result ℕ MoveFault) (ended : Moved D E) (output : OutputRun) where
+  -- what both show, before it and after it
+  abbrev from : View
+  from = view source.memory source.doubt (disks.moment source.disk)
+
+  abbrev from' : View
+  from' = view source'.memory source'.doubt (disks.moment source'.disk)
+
+  abbrev onto : View
+  onto = view target.memory target.doubt (targets.moment target.disk)
+
+  abbrev onto' : View
+  onto' = view target'.memory target'.doubt (targets.moment target'.disk)
+
+  pub ends_open : source.doubt ≡ false → target.doubt ≡ false → ended.source ≡ source'.disk → ended.target ≡ target'.disk
+      → IfErr result (IsSaidBy source'.memory target'.memory)
+      → ((s t : SpoolState) (ds dt : List SpoolState) → disks.tells → targets.tells → IsIn s ds from → IsIn t dt onto
+      → MovesFrom tag s ds t dt result from from' onto onto')
+      → IsTold result (pending_in source'.memory) output ended.note → EndsOpen tag source target ended output
+  ends_open sure sure' source_is target_is said moves told = record {
     result = result;
-    source_memory = source;
-    source_doubt = source_doubt;
-    target_memory = target;
-    target_doubt = target_doubt;
+    source_memory = source'.memory;
+    source_doubt = source'.doubt;
+    target_memory = target'.memory;
+    target_doubt = target'.doubt;
     told = told;
     said = said;
     moves = λ s t h h' held held'.
-        let in_source : IsIn s [] (view memory doubt from) = subst (λ (b : Bool). IsIn s [] (view memory b from)) (sym sure) held in
-        let in_target : IsIn t [] (view memory' doubt' onto) = subst (λ (b : Bool). IsIn t [] (view memory' b onto)) (sym sure') held' in
-        sure_moves tag s t result (view memory doubt from) (view source source_doubt from') (view memory' doubt' onto) (view target target_doubt onto')
-        in_source in_target (moves s t [] [] h h' in_source in_target);
+        let in_source : IsIn s [] from = subst (λ (b : Bool). IsIn s [] (view source.memory b (disks.moment source.disk))) (sym sure) held in
+        let in_target : IsIn t [] onto = subst (λ (b : Bool). IsIn t [] (view target.memory b (targets.moment target.disk))) (sym sure') held' in
+        let moved = sure_moves tag s t result from from' onto onto' in_source in_target (moves s t [] [] h h' in_source in_target) in
+        subst (λ (d : D). Moves tag s t result (view source'.memory source'.doubt (disks.moment d))
+        (view target'.memory target'.doubt (targets.moment ended.target))) (sym source_is)
+        (subst (λ (e : E). Moves tag s t result from' (view target'.memory target'.doubt (targets.moment e))) (sym target_is) moved);
   }
 
 -- ---- the line

@@ -1,6 +1,7 @@
 -- The devices of a move, opened as they are.
 use Rattle.std.proofs.Common.{◌≡◌, ◌⊎◌, inl, inr, ℕ, ◌+◌, ◌-◌, List, [], drop, length, refl, sym, ◌∙◌, ap, subst, arith, length-drop}
 use Rattle.std.specs.Prelude.{Bool, false, Result, Ok, Err, IfErr, IsOk}
+use Rattle.edge_disk.specs.declared.disk.Disk.{Ghosts as Disks}
 use Rattle.edge_disk.specs.Disk.{Moment, LeavesOnly}
 use Rattle.edge_disk.proofs.Moments.{weaker}
 use Rattle.spool_state.specs.SpoolState.{SpoolState}
@@ -10,16 +11,16 @@ use Rattle.spool_log.specs.declared.fault.RecoverFault.{RecoverFault}
 use Rattle.spool_log.specs.declared.fault.RecoverFault.TheVariants as Recover
 use Rattle.spool_log.specs.declared.memory.Memory.{Memory}
 use Rattle.spool_log.specs.declared.opening.Opening.TheVariants.{Keep}
+use Rattle.spool_log.specs.declared.spool.Spool.{Spool}
 use Rattle.spool_log.specs.Opening.{IsRefusing, Opens}
-use Rattle.spool_log.specs.State.{View, view, IsIn}
+use Rattle.spool_log.specs.State.{View, view}
 use Rattle.spool_move.specs.declared.fault.MoveFault.{MoveFault}
 use Rattle.spool_move.specs.Moves.{Moves, IsAnyMoment}
-use Rattle.spool_move.specs.Turns.{LeavesBoth}
-use Rattle.notes.specs.declared.note.Note.{Note}
 use Rattle.bridge_parts.specs.Pending.{pending_in}
 use Rattle.bridge_parts.specs.Run.{OutputRun}
 use Rattle.bridge_parts.proofs.Numbers.{pending_seen}
-use Rattle.bridge_move.specs.Ended.{EndsOpen}
+use Rattle.bridge_move.specs.declared.moved.Moved.{Moved}
+use Rattle.bridge_move.specs.Ended.{EndsOpen, LeavesOpen}
 use Rattle.bridge_move.specs.MoveRun.{MovesFromDevices, MovesOpened}
 use Rattle.bridge_move.proofs.Both.{both_weaker, both_opened}
 
@@ -45,16 +46,22 @@ none_left tag s t (Ok count) from into ok moves =
     let reaches = moves.reaches in
     omega (arith, pending_seen reaches.s [] from reaches.source, ap length reaches.stands.source.left_is, length-drop (length (left s)) (left s))
 
-module _ {D E : Type 0} (tells tells' : Type 0) (on : D → Moment) (onto : E → Moment) (tag : ℕ) (memory memory' : Memory) (source next source' : D) (target next' target' : E)
-    (output : OutputRun) (note : Note) where
+module _ {D E : Type 0} (disks : Disks D) (targets : Disks E) (tag : ℕ) (source : D) (target : E) (opened : Spool D disks) (opened' : Spool E targets)
+    (ended : Moved D E) (output : OutputRun) where
+  abbrev on : D → Moment
+  on = disks.moment
+
+  abbrev onto : E → Moment
+  onto = targets.moment
+
   -- both were opened, and entries were moved
-  pub moves_opened : EndsOpen tells tells' tag memory memory' (on next) (on source') (onto next') (onto target') output note
-      → (tells → (s : SpoolState) × Opens Keep s (on source).reads (view memory false (on next)))
-      → (tells' → (t : SpoolState) × Opens Keep t (onto target).reads (view memory' false (onto next')))
-      → (tells → LeavesOnly (on source).image (on source) (on next)) → (tells' → LeavesOnly (onto target).image (onto target) (onto next'))
-      → ((s t : SpoolState) → tells → tells' → IsIn s [] (view memory false (on next)) → IsIn t [] (view memory' false (onto next'))
-      → LeavesBoth on onto (IsAnyMoment tag s [] t [] (on next) (onto next')) next next' source' target')
-      → MovesOpened tells tells' on onto tag source source' target target' output note
+  pub moves_opened : EndsOpen tag opened opened' ended output
+      → (disks.tells → (s : SpoolState) × Opens Keep s (on source).reads (view opened.memory false (on opened.disk)))
+      → (targets.tells → (t : SpoolState) × Opens Keep t (onto target).reads (view opened'.memory false (onto opened'.disk)))
+      → (disks.tells → LeavesOnly (on source).image (on source) (on opened.disk))
+      → (targets.tells → LeavesOnly (onto target).image (onto target) (onto opened'.disk))
+      → LeavesOpen tag opened opened' ended
+      → MovesOpened disks.tells targets.tells on onto tag source ended.source target ended.target output ended.note
   moves_opened ends opens opens' only only' leaves = record {
     result = ends.result;
     source_memory = ends.source_memory;
@@ -75,9 +82,9 @@ module _ {D E : Type 0} (tells tells' : Type 0) (on : D → Moment) (onto : E �
           target_stood = o'.1.stood;
           moves = ends.moves o.0 o'.0 told told' o.1.reached o'.1.reached;
           any_moment =
-              both_opened on onto (IsAnyMoment tag o.0 [] o'.0 [] (on source) (onto target)) source next source' target next' target' (only told) (only' told')
+              both_opened on onto (IsAnyMoment tag o.0 [] o'.0 [] (on source) (onto target)) source opened.disk ended.source target opened'.disk ended.target (only told) (only' told')
               (λ c d image image'. inl (image, image'))
-              (both_weaker on onto _ _ next next' source' target' (λ c d any. elim any [
+              (both_weaker on onto _ _ opened.disk opened'.disk ended.source ended.target (λ c d any. elim any [
                 | inl images ↦ inl ((only told).now c images.0, (only' told').now d images.1)
                 | inr moving ↦ inr moving
               ]) (leaves o.0 o'.0 told told' o.1.reached o'.1.reached));

@@ -1,17 +1,13 @@
 //! A move between two spools that are open, and the line after it.
-ghost use Rattle.std.specs.Prelude.{◌≡◌, ◌⊎◌, ℕ, List, [], false};
-ghost use Rattle.spool_state.specs.SpoolState.{SpoolState};
-ghost use Rattle.spool_log.specs.State.{view, IsIn};
+ghost use Rattle.std.specs.Prelude.{◌≡◌, ◌⊎◌, ℕ, List, false};
 ghost use Rattle.spool_move.specs.Leave.{MayMove};
-ghost use Rattle.spool_move.specs.Moves.{IsAnyMoment};
-ghost use Rattle.spool_move.specs.Turns.{LeavesBoth};
 ghost use Rattle.conn_serve.specs.Endings.{CountsFaults};
 ghost use Rattle.notes.specs.Notes.{status_of};
 ghost use Rattle.notes.specs.declared.note.Note.TheVariants.{Fine, WriteFault, NoMemory};
 ghost use Rattle.bridge_words.specs.Lines.{move_line};
 ghost use Rattle.bridge_parts.specs.Run.{output_run};
 ghost use Rattle.bridge_parts.specs.Written.{IsPrinted};
-ghost use Rattle.bridge_move.specs.Ended.{TellsDisks, IsMoveNote, EndsOpen};
+ghost use Rattle.bridge_move.specs.Ended.{TellsDisks, IsMoveNote, EndsOpen, LeavesOpen};
 
 use crate::moved::Moved;
 use crate::refused::move_note;
@@ -59,12 +55,8 @@ pub(crate) fn move_open<D: Disk, E: Disk, K: Sink>(
     ensures known { IsMoveNote result.note }
     ensures disks { TellsDisks result.note (D.moment source.disk) (D.moment result.source) (E.moment target.disk) (E.moment result.target) }
     ensures writes { CountsFaults (result.note ≡ WriteFault) (K.write_faults output.old) (K.write_faults output.new) }
-    ensures ended { EndsOpen D.tells E.tells tag source.memory target.memory (D.moment source.disk) (D.moment result.source)
-        (E.moment target.disk) (E.moment result.target) (output_run K.taken K.write_faults output.old output.new) result.note }
-    ensures any_moment { (s t : SpoolState) → D.tells → E.tells → IsIn s [] (view source.memory false (D.moment source.disk))
-        → IsIn t [] (view target.memory false (E.moment target.disk))
-        → LeavesBoth D.moment E.moment (IsAnyMoment tag s [] t [] (D.moment source.disk) (E.moment target.disk))
-        source.disk target.disk result.source result.target }
+    ensures ended { EndsOpen tag source target result (output_run K.taken K.write_faults output.old output.new) }
+    ensures any_moment { LeavesOpen tag source target result }
 {
     match move_pending(alloc, &mut source, &mut target, tag) {
         Ok(moved) => {

@@ -1,6 +1,5 @@
 -- A run, from what was done with the spool that was opened, or with none.
 use Rattle.std.proofs.Common.{◌≡◌, ◌⊎◌, inl, inr, ℕ, List, refl, ap}
-use Rattle.std.specs.Prelude.{Option}
 use Rattle.edge_disk.specs.Calls.{Calls}
 use Rattle.edge_disk.specs.Disk.{Moment, LeavesOnly}
 use Rattle.edge_disk.proofs.Calls.{calls_as}
@@ -31,7 +30,11 @@ unread (Pend.NotSpool at) is = absurd is
 unread Pend.DiskFault is = tt
 unread Pend.NoMemory is = tt
 
-module _ (number : ℕ) (s : SpoolState) (old mid new : Moment) (taken taken_after : Option (List ℕ)) (note : Note) (first : LeavesOnly old.image old mid) where
+-- a disk that was at the one moment and is at the other
+abbrev going : Type 0 → Moment → Moment → Type 0 → DiskRun
+going tells old new same = record { tells = tells; old = old; new = new; same = same }
+
+module _ (number : ℕ) (s : SpoolState) (tells same same' : Type 0) (old mid new : Moment) (output : OutputRun) (note : Note) (first : LeavesOnly old.image old mid) where
   still : LeavesOnly mid.image mid new → LeavesOnly old.image old new
   still next = both old.image mid.image old.image old mid new first next (λ c image. image) (λ c image. first.now c image)
 
@@ -47,11 +50,11 @@ module _ (number : ℕ) (s : SpoolState) (old mid new : Moment) (taken taken_aft
     alone = did.alone;
   }
 
-  pub event_after : (event : Event) → SkipsEvent number event s mid new taken taken_after note → SkipsEvent number event s old new taken taken_after note
+  pub event_after : (event : Event) → SkipsEvent number event s (going tells mid new same) output note → SkipsEvent number event s (going tells old new same') output note
   event_after event (inl stops) = inl (record { stopped = stops.stopped; printed = stops.printed; any_moment = still stops.any_moment })
   event_after event (inr goes) = inr (goes.0, releases_after goes.1)
 
-  pub skips_after : Skips number s mid new taken taken_after note → Skips number s old new taken taken_after note
+  pub skips_after : Skips number s (going tells mid new same) output note → Skips number s (going tells old new same') output note
   skips_after (inl none) = inl (record { why = none.why; unprinted = none.unprinted; any_moment = still none.any_moment })
   skips_after (inr found) = inr (found.0, found.1, event_after found.0.entry.event found.2)
 

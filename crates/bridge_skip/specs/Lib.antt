@@ -1,3 +1,4 @@
+pub mod Told
 pub mod Line
 pub mod Leave
 pub mod Released

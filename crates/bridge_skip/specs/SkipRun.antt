@@ -32,7 +32,7 @@ pub record IsUnopened (disk : DiskRun) (output : OutputRun) (note : Note) : Type
 pub record SkipsFromDevice (number : ℕ) (disk : DiskRun) (output : OutputRun) (note : Note) : Type 0 where
   pub state : SpoolState
   pub stood : StandsFor state disk.old.reads
-  pub skips : Skips number state disk.old disk.new output.taken output.taken_after note
+  pub skips : Skips number state disk output note
 
 -- What a call for this number did that ended with this note.
 pub record IsSkipRun (number : ℕ) (disk : DiskRun) (output : OutputRun) (note : Note) : Type 0 where

@@ -1,14 +1,15 @@
 //! A pending entry of a spool that is open, skipped.
-ghost use Rattle.std.specs.Prelude.{◌≡◌, ◌<◌, ◌^◌, ℕ, List, []};
+ghost use Rattle.std.specs.Prelude.{◌≡◌, ◌<◌, ◌^◌, ℕ, List};
 ghost use Rattle.event_form.specs.Event.{IsEvent};
 ghost use Rattle.spool_state.specs.SpoolState.{SpoolState};
 ghost use Rattle.edge_disk.specs.Calls.{Calls};
 ghost use Rattle.spool_log.specs.Memory.{end_of};
-ghost use Rattle.spool_log.specs.State.{view, IsIn};
 ghost use Rattle.conn_serve.specs.Endings.{CountsFaults};
+ghost use Rattle.bridge_parts.specs.Run.{output_run};
 ghost use Rattle.bridge_skip.specs.Leave.{IsPrintedOf};
 ghost use Rattle.bridge_skip.specs.Line.{PrintsEvent};
 ghost use Rattle.bridge_skip.specs.Skipped.{IsOpenNote, Skips, SkipsEvent};
+ghost use Rattle.bridge_skip.specs.Told.{IsOpenIn, disk_of};
 
 use crate::printing::print_event;
 use crate::releasing::release;
@@ -37,8 +38,8 @@ fn skip_event<D: Disk, K: Sink>(
     ensures known { IsOpenNote number result }
     ensures calls { Calls (result ≡ Note.DiskFault) (D.moment spool.old.disk) (D.moment spool.new.disk) }
     ensures writes { CountsFaults (result ≡ Note.WriteFault) (K.write_faults output.old) (K.write_faults output.new) }
-    ensures skipped { (s : SpoolState) → D.tells → IsIn s [] (view spool.old.memory spool.old.doubt (D.moment spool.old.disk))
-        → SkipsEvent number event.now s (D.moment spool.old.disk) (D.moment spool.new.disk) (K.taken output.old) (K.taken output.new) result }
+    ensures skipped { (s : SpoolState) → D.tells → IsOpenIn s spool.old
+        → SkipsEvent number event.now s (disk_of spool.old spool.new) (output_run K.taken K.write_faults output.old output.new) result }
 {
     match print_event(alloc, output, event) {
         Note::Fine => release(spool, number),
@@ -56,14 +57,14 @@ pub(crate) fn skip_open<D: Disk, K: Sink>(
 ) -> Note
     requires prints { (k : K) (text : List ℕ) → K.permits k text }
     requires earned { (now : K) → K.same output.old now
-        → (D.tells → (s : SpoolState) → IsIn s [] (view spool.old.memory spool.old.doubt (D.moment spool.old.disk))
-        → IsPrintedOf s number (K.taken output.old) (K.taken now)) → D.may_release number }
+        → (D.tells → (s : SpoolState) → IsOpenIn s spool.old → IsPrintedOf s number (K.taken output.old) (K.taken now))
+        → D.may_release number }
 
     ensures known { IsOpenNote number result }
     ensures calls { Calls (result ≡ Note.DiskFault) (D.moment spool.old.disk) (D.moment spool.new.disk) }
     ensures writes { CountsFaults (result ≡ Note.WriteFault) (K.write_faults output.old) (K.write_faults output.new) }
-    ensures skipped { (s : SpoolState) → D.tells → IsIn s [] (view spool.old.memory spool.old.doubt (D.moment spool.old.disk))
-        → Skips number s (D.moment spool.old.disk) (D.moment spool.new.disk) (K.taken output.old) (K.taken output.new) result }
+    ensures skipped { (s : SpoolState) → D.tells → IsOpenIn s spool.old
+        → Skips number s (disk_of spool.old spool.new) (output_run K.taken K.write_faults output.old output.new) result }
 {
     if number >= spool.end() {
         return Note::Strange { number };

@@ -1,11 +1,11 @@
 //! One number that becomes known as confirmed.
-ghost use Rattle.std.specs.Prelude.{◌≡◌, ◌↔◌, ◌<◌, ◌^◌, IsTrue, []};
+ghost use Rattle.std.specs.Prelude.{◌≡◌, ◌↔◌, ◌<◌, ◌^◌, IsTrue};
 ghost use Rattle.known_numbers.specs.Numbers.{IsInSome, IsKnown};
 ghost use Rattle.spool_state.specs.SpoolState.{SpoolState};
 ghost use Rattle.edge_disk.specs.Calls.{Calls};
 ghost use Rattle.spool_log.specs.Memory.{end_of, numbers_of};
-ghost use Rattle.spool_log.specs.State.{view, IsIn};
 ghost use Rattle.bridge_skip.specs.Released.{note_of_confirm, IsReleaseNote, Releases};
+ghost use Rattle.bridge_skip.specs.Told.{IsOpenIn};
 
 use edge_disk::Disk;
 use known_numbers::Stretch;
@@ -53,7 +53,7 @@ pub(crate) fn release<D: Disk>(spool: &mut Spool<D>, number: u64) -> Note
 
     ensures known { IsReleaseNote result }
     ensures calls { Calls (result ≡ Note.DiskFault) (D.moment spool.old.disk) (D.moment spool.new.disk) }
-    ensures released { (s : SpoolState) → D.tells → IsIn s [] (view spool.old.memory spool.old.doubt (D.moment spool.old.disk))
+    ensures released { (s : SpoolState) → D.tells → IsOpenIn s spool.old
         → Releases s number (D.moment spool.old.disk) (D.moment spool.new.disk) result }
 {
     match spool.mark(&[Stretch {

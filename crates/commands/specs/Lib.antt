@@ -1,5 +1,6 @@
 pub mod Refused
 pub mod Failed
+pub mod Told
 pub mod SpoolRun
 pub mod Formatted
 pub mod Listed

@@ -1,5 +1,5 @@
 -- What `list` does.
-use Rattle.std.specs.Prelude.{◌≡◌, ◌⊎◌, ℕ, List, [], ◌∷◌, ◌++◌, Option}
+use Rattle.std.specs.Prelude.{◌≡◌, ◌⊎◌, ℕ, List, [], ◌∷◌, ◌++◌, Option, Some, None, Result, Ok, Err}
 use Rattle.std.specs.Io.KnownBytes.{Appends}
 use Rattle.event_form.specs.declared.event.Event.{Event}
 use Rattle.event_form.specs.declared.event.Entry.{Entry}
@@ -71,6 +71,17 @@ pub record PrintsPart (form : ListForm) (s : SpoolState) (number next : ℕ) (ol
   pub first : List NumberedEntry
   pub parts : left_from s number ≡ first ++ left_from s next
   pub printed : ArePrinted form first Fine old new
+
+-- So it was, and the answer is the next number; or all that are left from the number on were printed, and there is none; or as much of
+-- them as the error says.
+abbrev pub PrintsNext : ListForm → SpoolState → ℕ → Result (Option ℕ) Note → Option (List ℕ) → Option (List ℕ) → Type 0
+PrintsNext form s number (Ok (Some next)) old new = PrintsPart form s number next old new
+PrintsNext form s number (Ok None) old new = ArePrinted form (left_from s number) Fine old new
+PrintsNext form s number (Err note) old new = ArePrinted form (left_from s number) note old new
+
+-- These lines are held still, and nothing was written; or all of them were written, and none is held.
+abbrev pub AreHeldOrWritten : List ℕ → List ℕ → Option (List ℕ) → Option (List ℕ) → Type 0
+AreHeldOrWritten lines held old new = ((new ≡ old) × (held ≡ lines)) ⊎ (Appends old new lines × (held ≡ []))
 
 -- how the printing of a spool that was opened may end
 abbrev pub IsPrintNote : Note → Type 0

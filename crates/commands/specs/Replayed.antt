@@ -3,10 +3,12 @@ use Rattle.std.specs.Prelude.{◌≡◌, ◌⊎◌, false, ℕ, ◌+◌, ◌*◌
 use Rattle.event_form.specs.declared.talk.Attended.{Attended}
 use Rattle.edge_io.specs.declared.proto.Proto.{Proto}
 use Rattle.edge_io.specs.declared.proto.Proto.TheVariants.{Hec}
+use Rattle.edge_disk.specs.declared.disk.Disk.{Ghosts as Disks}
 use Rattle.edge_disk.specs.Disk.{Moment, LeavesOnly}
 use Rattle.spool_state.specs.SpoolState.{SpoolState}
 use Rattle.spool_state.specs.Image.{StandsFor}
 use Rattle.spool_log.specs.declared.opening.Opening.TheVariants.{Raise}
+use Rattle.spool_log.specs.declared.spool.Spool.{Spool}
 use Rattle.spool_log.specs.Opening.{opened, CanOpen, IsOpening}
 use Rattle.desk_access.specs.Call.{Call}
 use Rattle.desk_access.specs.Desk.{Stood}
@@ -25,7 +27,7 @@ use Rattle.bridge_parts.specs.Opened.{desk_in, IsUnopened}
 use Rattle.bridge_parts.specs.Reached.{Reaches}
 use Rattle.bridge_parts.specs.Run.{DiskRun, InputRun, LinkRun, OutputRun, both_run, IsSilent, IsUngiven}
 use Rattle.commands.specs.Failed.{TellsDiskFault}
-use Rattle.commands.specs.SpoolRun.{SpoolRun, WasIn}
+use Rattle.commands.specs.SpoolRun.{SpoolRun, WasIn, spool_over}
 
 -- the rules of a replay: by these tokens, and each event of RELP is stored by itself
 abbrev pub replay_rules : Proto → Option ℕ → Option ℕ → Rules
@@ -41,6 +43,10 @@ pub record Keeps (s : SpoolState) (old new : Moment) (calls : List Call) : Type 
 -- so it was from whatever state the spool was in
 abbrev pub KeepsFrom : SpoolRun → List Call → Type 0
 KeepsFrom spool calls = (s : SpoolState) → spool.disk.tells → WasIn spool s → Keeps s spool.disk.old spool.disk.new calls
+
+-- so it was of a spool that was given, and of the disk on which it is now
+abbrev pub KeepsOver : {D : Type 0} {disks : Disks D} → Spool D disks → D → List Call → Type 0
+KeepsOver spool new calls = KeepsFrom (spool_over spool new) calls
 
 -- The device stood for a state, and was opened for storing: its run was raised by one, and the connection has
 -- the number that begins the new run. Then the calls were made on the spool. Whatever a crash left meanwhile is what

@@ -8,13 +8,12 @@ ghost use Rattle.forward_core.specs.Turning.{IsHalt};
 ghost use Rattle.forward_core.specs.declared.sent.Sent.TheVariants as Ending;
 ghost use Rattle.conn_serve.specs.Endings.{CountsFaults};
 ghost use Rattle.notes.specs.declared.note.Note.TheVariants.{Usage, WrongLength, ReadFault};
-ghost use Rattle.bridge_parts.specs.Pending.{pending_in};
-ghost use Rattle.bridge_parts.specs.Run.{both_run, disk_run, input_run, output_run};
 ghost use Rattle.commands.specs.Drained.{IsDrained, IsSession};
 ghost use Rattle.commands.specs.Failed.{CountsWrites};
 ghost use Rattle.commands.specs.Released.{MayMark, MayRelease, WereStreamed};
-ghost use Rattle.commands.specs.Sending.{IsSentOut, SendsFrom};
-ghost use Rattle.commands.specs.SpoolRun.{spool_run};
+ghost use Rattle.commands.specs.Sending.{HasPending, IsSentOut, SendsOver};
+ghost use Rattle.commands.specs.SpoolRun.{spool_over};
+ghost use Rattle.commands.specs.Told.{disk_over, input_over, link_over, output_over};
 
 use crate::finished::Finished;
 use crate::sending::{Sending, is_idle, send};
@@ -38,16 +37,15 @@ fn send_both<D: Disk, S: Source, K: Sink, Z: Pause>(
     requires prints { (k : K) (text : List ℕ) → K.permits k text }
     requires sure { spool.doubt ≡ false }
     requires polls { 0 < outward.now.polls }
-    requires releases { MayMark (λ (now : D). spool_run D.tells D.moment spool.memory spool.disk now) outward.now
+    requires releases { MayMark (spool_over spool) outward.now
         (WereStreamed S.same S.given input.old K.same K.taken output.old) D.may_release }
 
     ensures calls { Calls (result.sent ≡ Ending.DiskFault) (D.moment spool.disk) (D.moment result.spool.disk) }
     ensures reads { sending.CountsFaults (result.sent ≡ Ending.ReadFault) (S.read_faults input.old) (S.read_faults input.new) }
     ensures writes { sending.CountsWrites (result.sent ≡ Ending.WriteFault) (IsHalt result.sent) (K.write_faults output.old) (K.write_faults output.new) }
     ensures paused { Z.pause_apart rest.old rest.new }
-    ensures session { IsSession outward.now (both_run (input_run S.given S.left S.read_faults input.old input.new)
-        (output_run K.taken K.write_faults output.old output.new))
-        (SendsFrom (spool_run D.tells D.moment spool.memory spool.disk result.spool.disk) (pending_in result.spool.memory)) result.sent }
+    ensures session { IsSession outward.now (link_over S.Source.own K.Sink.own input.old input.new output.old output.new)
+        (SendsOver spool result.spool) result.sent }
 {
     let mut link = Both {
         source: &mut *input,
@@ -68,7 +66,7 @@ fn send_out<D: Disk, S: Source, K: Sink, Z: Pause>(
     requires prints { (k : K) (text : List ℕ) → K.permits k text }
     requires sure { spool.doubt ≡ false }
     requires polls { 0 < outward.now.polls }
-    requires releases { MayMark (λ (now : D). spool_run D.tells D.moment spool.memory spool.disk now) outward.now
+    requires releases { MayMark (spool_over spool) outward.now
         (WereStreamed S.same S.given input.old K.same K.taken output.old) D.may_release }
 
     ensures known { (result.note ≢ Usage) × ((have want : ℕ) → result.note ≢ WrongLength have want) }
@@ -79,10 +77,8 @@ fn send_out<D: Disk, S: Source, K: Sink, Z: Pause>(
     ensures paused { Z.pause_apart rest.old rest.new }
     ensures idle { end_of spool.memory ≤ cursor_of spool.memory
         → (input.new ≡ input.old) × (output.new ≡ output.old) × (result.note ≡ Note.Fine) × (result.disk ≡ spool.disk) }
-    ensures sent { cursor_of spool.memory < end_of spool.memory
-        → IsSentOut outward.now (spool_run D.tells D.moment spool.memory spool.disk result.disk)
-        (both_run (input_run S.given S.left S.read_faults input.old input.new)
-        (output_run K.taken K.write_faults output.old output.new)) result.note }
+    ensures sent { HasPending spool.memory → IsSentOut outward.now (spool_over spool result.disk)
+        (link_over S.Source.own K.Sink.own input.old input.new output.old output.new) result.note }
 {
     if is_idle(&spool) {
         return Finished::of(Note::Fine, spool.into_disk());
@@ -114,8 +110,8 @@ pub fn drain_out<D: Disk, S: Source, K: Sink, N: Net>(
     requires tears { LetsKeep D.tells D.moment D.may_tear D.may_release }
 
     ensures told { N.told net.new ≡ N.told net.old }
-    ensures drained { IsDrained outward.now (disk_run D.tells D.moment disk result.disk)
-        (input_run S.given S.left S.read_faults input.old input.new) (output_run K.taken K.write_faults output.old output.new) result.note }
+    ensures drained { IsDrained outward.now (disk_over D.Disk disk result.disk) (input_over S.Source.own input.old input.new)
+        (output_over K.Sink.own output.old output.new) result.note }
 {
     match Spool::recover(alloc, disk, Opening::Keep) {
         Ok(spool) => send_out(alloc, outward, spool, input, output, net),

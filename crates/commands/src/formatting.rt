@@ -5,9 +5,9 @@ ghost use Rattle.conn_serve.specs.Endings.{CountsFaults};
 ghost use Rattle.notes.specs.declared.note.Note.TheVariants.{WriteFault, DiskFault};
 ghost use Rattle.bridge_words.specs.Lines.{spool_line};
 ghost use Rattle.bridge_words.specs.Words.{IsSize};
-ghost use Rattle.bridge_parts.specs.Run.{disk_run, output_run};
 ghost use Rattle.bridge_parts.specs.Written.{IsPrinted};
 ghost use Rattle.commands.specs.Formatted.{IsFormatted};
+ghost use Rattle.commands.specs.Told.{disk_over, output_over};
 
 use bridge_words::spool_line;
 use edge_disk::Disk;
@@ -49,8 +49,7 @@ pub fn format<D: Disk, K: Sink>(
     requires prints { (k : K) (text : List ℕ) → K.permits k text }
     requires tears { LetsAll D.may_tear }
 
-    ensures { IsFormatted slots size (disk_run D.tells D.moment disk.old disk.new)
-        (output_run K.taken K.write_faults output.old output.new) result }
+    ensures { IsFormatted slots size (disk_over D.Disk disk.old disk.new) (output_over K.Sink.own output.old output.new) result }
 {
     match spool_log::format(disk, slots, size) {
         Ok(()) => print_line(alloc, output, slots, size),

@@ -1,13 +1,12 @@
 //! The lines of entries: made in the form that is wanted, and written.
-ghost use Rattle.std.specs.Prelude.{◌≡◌, ◌≢◌, ◌⊎◌, ℕ, List, [], ◌∷◌, ◌++◌, IfOk, IfErr, OnOk};
-ghost use Rattle.std.specs.Io.KnownBytes.{Appends};
+ghost use Rattle.std.specs.Prelude.{◌≡◌, ◌≢◌, ℕ, List, [], ◌∷◌, ◌++◌, IfOk, IfErr, OnOk};
 ghost use Rattle.foundation.specs.Faults.{HasCause};
 ghost use Rattle.spool_answers.specs.Pend.{given_entries, AreNumbered};
 ghost use Rattle.conn_serve.specs.Endings.{CountsFaults};
 ghost use Rattle.event_form.specs.Entry.{IsEntry};
 ghost use Rattle.notes.specs.declared.note.Note.TheVariants.{WriteFault, DiskFault};
 ghost use Rattle.bridge_parts.specs.Written.{IsCut};
-ghost use Rattle.commands.specs.Listed.{IsLine, ArePrinted, IsPrintNote};
+ghost use Rattle.commands.specs.Listed.{IsLine, AreHeldOrWritten, ArePrinted, IsPrintNote};
 
 use bridge_words::{ListForm, entry_line};
 use edge_io::{Sink, Stopped, write_whole};
@@ -63,8 +62,7 @@ fn write_many<K: Sink>(output: &mut K, lines: &mut Vec<u8>) -> Result<(), Stoppe
     requires prints { (k : K) (text : List ℕ) → K.permits k text }
 
     ensures cause { HasCause (K.write_faults output.old) (K.write_faults output.new) result }
-    ensures done { OnOk result (((K.taken output.new ≡ K.taken output.old) × (lines.new.items ≡ lines.old.items))
-        ⊎ (Appends (K.taken output.old) (K.taken output.new) lines.old.items × (lines.new.items ≡ []))) }
+    ensures done { OnOk result (AreHeldOrWritten lines.old.items lines.new.items (K.taken output.old) (K.taken output.new)) }
     ensures part { IfErr result (λ _. IsCut lines.old.items (K.taken output.old) (K.taken output.new)) }
 {
     if lines.len() < PIECE {

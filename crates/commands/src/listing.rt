@@ -1,16 +1,16 @@
 //! The command `list`: the entries whose numbers aren't known as confirmed are printed.
-ghost use Rattle.std.specs.Prelude.{◌≡◌, ◌≢◌, ℕ, List, ◌<◌, ◌≤◌, [], IfOk, IfErr, IfSome, IsErrOf, MatchResult, MatchOption};
+ghost use Rattle.std.specs.Prelude.{◌≡◌, ◌≢◌, ℕ, List, ◌<◌, ◌≤◌, IfOk, IfErr, IfSome, IsErrOf};
 ghost use Rattle.spool_state.specs.SpoolState.{SpoolState};
-ghost use Rattle.spool_state.specs.Left.{left, left_from};
+ghost use Rattle.spool_state.specs.Left.{left};
 ghost use Rattle.edge_disk.specs.Calls.{Calls};
 ghost use Rattle.edge_disk.specs.Disk.{LeavesOnly};
 ghost use Rattle.spool_answers.specs.Leave.{LetsKeep};
 ghost use Rattle.spool_log.specs.Memory.{end_of};
-ghost use Rattle.spool_log.specs.State.{view, IsIn};
 ghost use Rattle.conn_serve.specs.Endings.{CountsFaults};
 ghost use Rattle.notes.specs.declared.note.Note.TheVariants.{Fine};
-ghost use Rattle.bridge_parts.specs.Run.{disk_run, output_run};
-ghost use Rattle.commands.specs.Listed.{ArePrinted, PrintsPart, IsPrintNote, IsListed};
+ghost use Rattle.commands.specs.Listed.{ArePrinted, PrintsNext, IsPrintNote, IsListed};
+ghost use Rattle.commands.specs.SpoolRun.{IsOpenIn};
+ghost use Rattle.commands.specs.Told.{disk_over, output_over};
 
 use crate::finished::Finished;
 use crate::lines::print_entries;
@@ -42,13 +42,9 @@ fn print_part<D: Disk, K: Sink>(
     ensures next { IfOk result (λ next. IfSome next (λ n. (number < n) × (n ≤ end_of spool.new.memory))) }
     ensures calls { Calls (IsErrOf result Note.DiskFault) (D.moment spool.old.disk) (D.moment spool.new.disk) }
     ensures writes { CountsFaults (IsErrOf result Note.WriteFault) (K.write_faults output.old) (K.write_faults output.new) }
-    ensures printed { (s : SpoolState) → D.tells → IsIn s [] (view spool.old.memory spool.old.doubt (D.moment spool.old.disk))
-        → MatchResult result
-        (λ next. MatchOption next (ArePrinted form (left_from s number) Fine (K.taken output.old) (K.taken output.new))
-        (λ n. PrintsPart form s number n (K.taken output.old) (K.taken output.new)))
-        (λ note. ArePrinted form (left_from s number) note (K.taken output.old) (K.taken output.new)) }
-    ensures kept { (s : SpoolState) → D.tells → IsIn s [] (view spool.old.memory spool.old.doubt (D.moment spool.old.disk))
-        → IsIn s [] (view spool.new.memory spool.new.doubt (D.moment spool.new.disk))
+    ensures printed { (s : SpoolState) → D.tells → IsOpenIn s spool.old
+        → PrintsNext form s number result (K.taken output.old) (K.taken output.new) }
+    ensures kept { (s : SpoolState) → D.tells → IsOpenIn s spool.old → IsOpenIn s spool.new
         × LeavesOnly (D.moment spool.old.disk).image (D.moment spool.old.disk) (D.moment spool.new.disk) }
 {
     let entries = match spool.pending(number, PART) {
@@ -76,9 +72,9 @@ fn print_left<D: Disk, K: Sink>(
     ensures known { IsPrintNote result }
     ensures calls { Calls (result ≡ Note.DiskFault) (D.moment spool.old.disk) (D.moment spool.new.disk) }
     ensures writes { CountsFaults (result ≡ Note.WriteFault) (K.write_faults output.old) (K.write_faults output.new) }
-    ensures printed { (s : SpoolState) → D.tells → IsIn s [] (view spool.old.memory spool.old.doubt (D.moment spool.old.disk))
+    ensures printed { (s : SpoolState) → D.tells → IsOpenIn s spool.old
         → ArePrinted form (left s) result (K.taken output.old) (K.taken output.new) }
-    ensures kept { (s : SpoolState) → D.tells → IsIn s [] (view spool.old.memory spool.old.doubt (D.moment spool.old.disk))
+    ensures kept { (s : SpoolState) → D.tells → IsOpenIn s spool.old
         → LeavesOnly (D.moment spool.old.disk).image (D.moment spool.old.disk) (D.moment spool.new.disk) }
 {
     let mut number = 0;
@@ -106,8 +102,7 @@ pub fn list<D: Disk, K: Sink>(alloc: Global, disk: D, output: &mut K, form: List
     requires prints { (k : K) (text : List ℕ) → K.permits k text }
     requires tears { LetsKeep D.tells D.moment D.may_tear D.may_release }
 
-    ensures { IsListed form (disk_run D.tells D.moment disk result.disk)
-        (output_run K.taken K.write_faults output.old output.new) result.note }
+    ensures { IsListed form (disk_over D.Disk disk result.disk) (output_over K.Sink.own output.old output.new) result.note }
 {
     match Spool::recover(alloc, disk, Opening::Keep) {
         Ok(mut spool) => {

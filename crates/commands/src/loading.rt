@@ -3,9 +3,9 @@ ghost use Rattle.std.specs.Prelude.{◌≡◌, ◌≤◌, ◌⊎◌, ℕ, List};
 ghost use Rattle.conn_serve.specs.Endings.{CountsFaults};
 ghost use Rattle.load_run.specs.Line.{load_line};
 ghost use Rattle.notes.specs.declared.note.Note.TheVariants.{WriteFault};
-ghost use Rattle.bridge_parts.specs.Run.{output_run};
 ghost use Rattle.bridge_parts.specs.Written.{IsPrinted};
 ghost use Rattle.commands.specs.Loading.{note_of_load, LoadIsTold};
+ghost use Rattle.commands.specs.Told.{output_over};
 
 use bridge_parts::sent_note;
 use edge_io::{Proto, Sink, write_whole};
@@ -50,7 +50,7 @@ pub fn load<K: Sink>(alloc: Global, proto: Proto, number: u32, count: u32, outpu
     requires prints { (k : K) (text : List ℕ) → K.permits k text }
     requires few { count ≤ 100000 }
 
-    ensures { LoadIsTold proto number count (output_run K.taken K.write_faults output.old output.new) result }
+    ensures { LoadIsTold proto number count (output_over K.Sink.own output.old output.new) result }
 {
     load_comes_to_its_numbers();
     match load_run::load(alloc, proto, number, count) {

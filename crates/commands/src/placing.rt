@@ -8,13 +8,14 @@ ghost use Rattle.notes.specs.declared.note.Note.TheVariants.{Usage, WrongLength,
 ghost use Rattle.bridge_words.specs.Lines.{drain_line};
 ghost use Rattle.bridge_parts.specs.Counted.{RoseBy, WroteAfter, WritesOfBoth};
 ghost use Rattle.bridge_parts.specs.Refused.{note_of_sent};
-ghost use Rattle.bridge_parts.specs.Run.{disk_run, net_run, output_run};
+ghost use Rattle.bridge_parts.specs.Run.{net_run};
 ghost use Rattle.bridge_parts.specs.Written.{IsPrinted};
 ghost use Rattle.commands.specs.Drained.{PrintsOf, IsDrainedTo};
 ghost use Rattle.commands.specs.Failed.{TellsNetFault};
 ghost use Rattle.commands.specs.Released.{MayMark, MayRelease};
-ghost use Rattle.commands.specs.Sending.{IsSentOver, IsSentTo, new_link};
-ghost use Rattle.commands.specs.SpoolRun.{spool_run};
+ghost use Rattle.commands.specs.Sending.{IsSentTo, SendsOnLink, new_link};
+ghost use Rattle.commands.specs.SpoolRun.{spool_over};
+ghost use Rattle.commands.specs.Told.{disk_over, output_over};
 
 use crate::finished::Finished;
 use crate::sending::{Sending, is_idle, send};
@@ -57,7 +58,7 @@ fn print_after<K: Sink>(
 
     ensures writes { WroteAfter (note_of_sent sent) result (K.write_faults output.old) (K.write_faults output.new) }
     ensures note { (result ≡ note_of_sent sent) ⊎ ((result ≡ WriteFault) ⊎ (result ≡ Note.NoMemory)) }
-    ensures printed { PrintsOf sent (drain_line confirmed left) result (output_run K.taken K.write_faults output.old output.new) }
+    ensures printed { PrintsOf sent (drain_line confirmed left) result (output_over K.Sink.own output.old output.new) }
 {
     match sent {
         Sent::NoMemory => Note::NoMemory,
@@ -80,7 +81,7 @@ fn send_over<D: Disk, K: Sink, N: Net>(
     requires prints { (k : K) (text : List ℕ) → K.permits k text }
     requires sure { spool.doubt ≡ false }
     requires polls { 0 < outward.now.polls }
-    requires releases { MayMark (λ (now : D). spool_run D.tells D.moment spool.memory spool.disk now) outward.now
+    requires releases { MayMark (spool_over spool) outward.now
         (HasExchanged N.L.same N.L.given N.L.taken link) D.may_release }
     requires room { N.has_room net.old }
 
@@ -91,9 +92,8 @@ fn send_over<D: Disk, K: Sink, N: Net>(
         (N.told net.new).write_faults }
     ensures dials { (result.note ≢ Note.NetFault) × ((N.told net.new).net_faults ≡ (N.told net.old).net_faults) }
     ensures bound { (N.told net.new).bound ≡ (N.told net.old).bound }
-    ensures sent { IsSentOver outward.now (spool_run D.tells D.moment spool.memory spool.disk result.disk)
-        (new_link N.L.dialed N.L.given N.L.left N.L.taken link) (net_run N.told net.old net.new)
-        (output_run K.taken K.write_faults output.old output.new) result.note }
+    ensures sent { SendsOnLink outward.now spool result (new_link N.L.dialed N.L.given N.L.left N.L.taken link)
+        (net_run N.told net.old net.new) (output_over K.Sink.own output.old output.new) }
 {
     let mut link = link;
     let before = pending_count(&spool);
@@ -118,7 +118,7 @@ fn send_there<D: Disk, K: Sink, N: Net>(
     requires named { N.may_dial place.now }
     requires sure { spool.doubt ≡ false }
     requires polls { 0 < outward.now.polls }
-    requires releases { MayMark (λ (now : D). spool_run D.tells D.moment spool.memory spool.disk now) outward.now
+    requires releases { MayMark (spool_over spool) outward.now
         (HasExchangedAt N.L.same N.L.dialed N.L.given N.L.taken place.now) D.may_release }
 
     ensures known { (result.note ≢ Usage) × ((have want : ℕ) → result.note ≢ WrongLength have want) }
@@ -128,8 +128,8 @@ fn send_there<D: Disk, K: Sink, N: Net>(
         (N.told net.new).write_faults }
     ensures dials { TellsNetFault result.note (N.told net.old) (N.told net.new) }
     ensures bound { (N.told net.new).bound ≡ (N.told net.old).bound }
-    ensures placed { IsSentTo outward.now place.now (spool_run D.tells D.moment spool.memory spool.disk result.disk)
-        (net_run N.told net.old net.new) (output_run K.taken K.write_faults output.old output.new) result.note }
+    ensures placed { IsSentTo outward.now place.now (spool_over spool result.disk) (net_run N.told net.old net.new)
+        (output_over K.Sink.own output.old output.new) result.note }
 {
     if is_idle(&spool) {
         let note = print_counts(alloc, output, 0, 0);
@@ -166,8 +166,8 @@ pub fn drain_to<D: Disk, K: Sink, N: Net>(
         (HasExchangedAt N.L.same N.L.dialed N.L.given N.L.taken place.now) D.may_release }
     requires tears { LetsKeep D.tells D.moment D.may_tear D.may_release }
 
-    ensures { IsDrainedTo outward.now place.now (disk_run D.tells D.moment disk result.disk)
-        (net_run N.told net.old net.new) (output_run K.taken K.write_faults output.old output.new) result.note }
+    ensures { IsDrainedTo outward.now place.now (disk_over D.Disk disk result.disk) (net_run N.told net.old net.new)
+        (output_over K.Sink.own output.old output.new) result.note }
 {
     match Spool::recover(alloc, disk, Opening::Keep) {
         Ok(spool) => send_there(alloc, outward, place, spool, output, net),

@@ -5,11 +5,12 @@ ghost use Rattle.spool_answers.specs.Leave.{LetsKeep};
 ghost use Rattle.spool_log.specs.Memory.{run_of};
 ghost use Rattle.conn_serve.specs.Endings.{CountsFaults};
 ghost use Rattle.notes.specs.declared.note.Note.TheVariants.{ReadFault, WriteFault};
-ghost use Rattle.bridge_parts.specs.Run.{both_run, disk_run, input_run, link_run, output_run};
+ghost use Rattle.bridge_parts.specs.Run.{link_run};
 ghost use Rattle.commands.specs.Answered.{MayReplay, MayServe, MayTake, WasRead};
 ghost use Rattle.commands.specs.Failed.{TellsDiskFault};
-ghost use Rattle.commands.specs.Replayed.{ServesLink, IsReplayed, KeepsFrom};
-ghost use Rattle.commands.specs.SpoolRun.{spool_run};
+ghost use Rattle.commands.specs.Replayed.{ServesLink, IsReplayed, KeepsOver};
+ghost use Rattle.commands.specs.SpoolRun.{spool_over};
+ghost use Rattle.commands.specs.Told.{disk_over, input_over, link_over, output_over};
 
 use crate::finished::Finished;
 use bridge_parts::recover_note;
@@ -33,7 +34,7 @@ fn serve_link<D: Disk, L: Link>(
     link: &mut L,
 ) -> Finished<D>
     requires sure { spool.doubt ≡ false }
-    requires answers { MayServe (λ (now : D). spool_run D.tells D.moment spool.memory spool.disk now) (run_of spool.memory * 2 ^ 32) rules
+    requires answers { MayServe (spool_over spool) (run_of spool.memory * 2 ^ 32) rules
         (WasRead L.same L.given link.old) (MayTake L.same L.taken L.permits link.old) }
 
     ensures calls { TellsDiskFault (rules.proto ≡ Proto.Hec) result.note (D.moment spool.disk) (D.moment result.disk) }
@@ -41,7 +42,7 @@ fn serve_link<D: Disk, L: Link>(
     ensures writes { CountsFaults (result.note ≡ WriteFault) (L.write_faults link.old) (L.write_faults link.new) }
     ensures same { L.same link.old link.new }
     ensures served { ServesLink rules (run_of spool.memory * 2 ^ 32) (link_run L.given L.left L.taken link.old link.new)
-        (KeepsFrom (spool_run D.tells D.moment spool.memory spool.disk result.disk)) result.note }
+        (KeepsOver spool result.disk) result.note }
 {
     let run = spool.run();
     let conn = u64::from(run) * CONNECTIONS;
@@ -61,15 +62,14 @@ fn serve_input<D: Disk, S: Source, K: Sink>(
     output: &mut K,
 ) -> Finished<D>
     requires sure { spool.doubt ≡ false }
-    requires answers { MayServe (λ (now : D). spool_run D.tells D.moment spool.memory spool.disk now) (run_of spool.memory * 2 ^ 32) rules
+    requires answers { MayServe (spool_over spool) (run_of spool.memory * 2 ^ 32) rules
         (WasRead S.same S.given input.old) (MayTake K.same K.taken K.permits output.old) }
 
     ensures calls { TellsDiskFault (rules.proto ≡ Proto.Hec) result.note (D.moment spool.disk) (D.moment result.disk) }
     ensures reads { CountsFaults (result.note ≡ ReadFault) (S.read_faults input.old) (S.read_faults input.new) }
     ensures writes { CountsFaults (result.note ≡ WriteFault) (K.write_faults output.old) (K.write_faults output.new) }
-    ensures served { ServesLink rules (run_of spool.memory * 2 ^ 32) (both_run (input_run S.given S.left S.read_faults input.old input.new)
-        (output_run K.taken K.write_faults output.old output.new))
-        (KeepsFrom (spool_run D.tells D.moment spool.memory spool.disk result.disk)) result.note }
+    ensures served { ServesLink rules (run_of spool.memory * 2 ^ 32)
+        (link_over S.Source.own K.Sink.own input.old input.new output.old output.new) (KeepsOver spool result.disk) result.note }
 {
     let mut link = Both {
         source: &mut *input,
@@ -100,8 +100,8 @@ pub fn replay<D: Disk, S: Source, K: Sink>(
         (MayTake K.same K.taken K.permits output.old) }
     requires tears { LetsKeep D.tells D.moment D.may_tear D.may_release }
 
-    ensures { IsReplayed rules (disk_run D.tells D.moment disk result.disk)
-        (input_run S.given S.left S.read_faults input.old input.new) (output_run K.taken K.write_faults output.old output.new) result.note }
+    ensures { IsReplayed rules (disk_over D.Disk disk result.disk) (input_over S.Source.own input.old input.new)
+        (output_over K.Sink.own output.old output.new) result.note }
 {
     match Spool::recover(alloc, disk, Opening::Raise) {
         Ok(spool) => serve_input(alloc, rules, spool, input, output),

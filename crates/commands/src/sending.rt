@@ -6,12 +6,11 @@ ghost use Rattle.forward_core.specs.Exchanged.{HasExchanged};
 ghost use Rattle.forward_core.specs.Forwarded.{CountsFaults, CountsWrites};
 ghost use Rattle.forward_core.specs.Turning.{IsHalt};
 ghost use Rattle.forward_core.specs.declared.sent.Sent.TheVariants as Ending;
-ghost use Rattle.bridge_parts.specs.Pending.{pending_in};
 ghost use Rattle.bridge_parts.specs.Run.{link_run};
 ghost use Rattle.commands.specs.Drained.{IsSession};
 ghost use Rattle.commands.specs.Released.{MayMark};
-ghost use Rattle.commands.specs.Sending.{SendsFrom};
-ghost use Rattle.commands.specs.SpoolRun.{spool_run};
+ghost use Rattle.commands.specs.Sending.{SendsOver};
+ghost use Rattle.commands.specs.SpoolRun.{spool_over};
 
 use edge_disk::Disk;
 use edge_io::{Link, Pause};
@@ -48,8 +47,7 @@ pub(crate) fn send<D: Disk, L: Link, Z: Pause>(
     requires free { (link : L) (text : List ℕ) → L.permits link text }
     requires sure { spool.doubt ≡ false }
     requires polls { 0 < outward.now.polls }
-    requires releases { MayMark (λ (now : D). spool_run D.tells D.moment spool.memory spool.disk now) outward.now
-        (HasExchanged L.same L.given L.taken link.old) D.may_release }
+    requires releases { MayMark (spool_over spool) outward.now (HasExchanged L.same L.given L.taken link.old) D.may_release }
 
     ensures calls { Calls (result.sent ≡ Ending.DiskFault) (D.moment spool.disk) (D.moment result.spool.disk) }
     ensures reads { CountsFaults (result.sent ≡ Ending.ReadFault) (L.read_faults link.old) (L.read_faults link.new) }
@@ -58,8 +56,7 @@ pub(crate) fn send<D: Disk, L: Link, Z: Pause>(
     ensures dialed { L.dialed link.new ≡ L.dialed link.old }
     ensures rested { Z.same rest.old rest.new }
     ensures paused { Z.pause_apart rest.old rest.new }
-    ensures session { IsSession outward.now (link_run L.given L.left L.taken link.old link.new)
-        (SendsFrom (spool_run D.tells D.moment spool.memory spool.disk result.spool.disk) (pending_in result.spool.memory)) result.sent }
+    ensures session { IsSession outward.now (link_run L.given L.left L.taken link.old link.new) (SendsOver spool result.spool) result.sent }
 {
     let run = spool.run();
     let ids = Ids::new(alloc, run, 0);

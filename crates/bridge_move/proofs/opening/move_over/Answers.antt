@@ -51,9 +51,8 @@ pub returns-in-Ok-recover-clause-moved : goal.returns-in-Ok-recover-clause-moved
 returns-in-Ok-recover-clause-moved g c =
     let source = c.in-Ok.source in
     let target = c.in-Ok-recover.target in
-    inr (inr (moves_opened g.D.Disk.tells g.E.Disk.tells g.D.Disk.moment g.E.Disk.moment c.args.tag source.memory target.memory c.args.source source.disk c.move_open.result.source
-    c.args.target target.disk c.move_open.result.target (output_run g.K.Sink.taken g.K.Sink.write_faults c.args.output.now c.move_open.new.output) c.move_open.result.note
-    c.move_open.ensures.ended
+    inr (inr (moves_opened g.D.Disk g.E.Disk c.args.tag c.args.source c.args.target source target c.move_open.result
+    (output_run g.K.Sink.taken g.K.Sink.write_faults c.args.output.now c.move_open.new.output) c.move_open.ensures.ended
     (opened_sure g.D.Disk.tells (g.D.Disk.moment c.args.source).reads source.memory source.doubt (g.D.Disk.moment source.disk) c.in-Ok.ensures.sure c.in-Ok.ensures.opened)
     (opened_sure g.E.Disk.tells (g.E.Disk.moment c.args.target).reads target.memory target.doubt (g.E.Disk.moment target.disk) c.in-Ok-recover.ensures.sure c.in-Ok-recover.ensures.opened)
     c.in-Ok.ensures.any_moment c.in-Ok-recover.ensures.any_moment c.move_open.ensures.any_moment))

@@ -6,6 +6,7 @@ use Rattle.spool_log.specs.State.{view}
 use Rattle.bridge_skip.proofs.Outside.{sure_pends}
 use Rattle.notes.specs.declared.note.Note.TheVariants.{Fine}
 use Rattle.bridge_parts.proofs.Numbers.{end_seen}
+use Rattle.bridge_parts.specs.Run.{disk_run, output_run}
 use Rattle.bridge_skip.specs.Line.{PrintsEvent}
 use Rattle.bridge_skip.specs.Skipped.{IsUnread, SkipsEvent}
 use Rattle.bridge_skip.proofs.Finding.{first_pending, other_first, none_first, past_end}
@@ -47,13 +48,13 @@ returns-in-Some-clause-skipped g c = λ s tells held.
     let old = g.D.Disk.moment c.args.spool.now.disk in
     let mid = g.D.Disk.moment c.pending.new.self.disk in
     let new = g.D.Disk.moment c.skip_event.new.spool.disk in
-    let taken = g.K.Sink.taken c.args.output.now in
-    let taken_after = g.K.Sink.taken c.skip_event.new.output in
+    let disk = disk_run g.D.Disk.tells g.D.Disk.moment c.args.spool.now.disk c.skip_event.new.spool.disk in
+    let output = output_run g.K.Sink.taken g.K.Sink.write_faults c.args.output.now c.skip_event.new.output in
     inr (
       found.0,
       found.1,
-      subst (λ (e : Event). SkipsEvent c.args.number e s old new taken taken_after c.skip_event.result) (sym found.2)
-          (event_after c.args.number s old mid new taken taken_after c.skip_event.result read.any_moment one.entry.event (c.skip_event.ensures.skipped s tells read.reached)),
+      subst (λ (e : Event). SkipsEvent c.args.number e s disk output c.skip_event.result) (sym found.2)
+          (event_after c.args.number s g.D.Disk.tells _ _ old mid new output c.skip_event.result read.any_moment one.entry.event (c.skip_event.ensures.skipped s tells read.reached)),
     )
 
 pub returns-clause-skipped : goal.returns-clause-skipped

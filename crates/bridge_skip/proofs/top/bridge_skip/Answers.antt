@@ -26,7 +26,7 @@ returns-in-Ok-clause-run g c =
           record {
             state = opened.0;
             stood = opened.1.stood;
-            skips = skips_after c.args.number opened.0 old mid new _ _ note (c.in-Ok.ensures.any_moment told) (did.skipped opened.0 told opened.1.reached);
+            skips = skips_after c.args.number opened.0 g.D.Disk.tells _ _ old mid new _ note (c.in-Ok.ensures.any_moment told) (did.skipped opened.0 told opened.1.reached);
           });
     }
 
