@@ -15,7 +15,13 @@ use Rattle.bridge_parts.specs.Written.{IsPrinted}
 
 module _ (words : List (List ℕ)) (run : Run) (note : Note) (is : IsRunOf words run note) (none : NoneFailed run) where
   pub not_disk : note ≡ Note.DiskFault → ⊥
-  not_disk by = elim is.calls [ inl (inl exact) ↦ none.calls (exact.cause by) | inl (inr cut) ↦ none.calls (cut.2.cause tt) | inr served ↦ none.calls (served.1.faults.cause by) ]
+  not_disk by =
+      elim is.calls [
+        | inl (inl exact) ↦ none.calls (exact.cause by)
+        | inl (inr cut) ↦ none.calls (cut.2.cause tt)
+        | inr served ↦ none.calls
+            (served.1.faults.cause by)
+      ]
 
   pub not_read : note ≡ Note.ReadFault → ⊥
   not_read by = elim is.reads [ inl exact ↦ none.reads (exact.cause by) | inr place ↦ none.link_reads (place.1.cause by) ]
@@ -31,7 +37,8 @@ module _ (words : List (List ℕ)) (run : Run) (note : Note) (is : IsRunOf words
   not_dial other by = elim is.dials [ inl exact ↦ none.dials (exact.cause by) | inr served ↦ other served.0 ]
 
 pub format_ends_well : (run : Run) → FormatEndsWell run
-format_ends_well run slots size words note is none asks long = elim (is.done (Format slots size) asks) [ inl undone ↦ inr undone.0 | inr does ↦ by_note note refl does.0.formatted ]
+format_ends_well run slots size words note is none asks long =
+    elim (is.done (Format slots size) asks) [ inl undone ↦ inr undone.0 | inr does ↦ by_note note refl does.0.formatted ]
   where
     by_note : (n : Note) → note ≡ n → Formats slots size run.disk run.output n → EndsWell note
     by_note Note.Fine same made = inl same
@@ -42,7 +49,8 @@ format_ends_well run slots size words note is none asks long = elim (is.done (Fo
     by_note n same never = absurd never
 
 pub list_ends_well : (run : Run) → ListEndsWell run
-list_ends_well run form words note s is none asks tells stands = elim (is.done (ListCommand form) asks) [ inl undone ↦ inr undone.0 | inr does ↦ by_note note refl (does.0.listed tells) ]
+list_ends_well run form words note s is none asks tells stands =
+    elim (is.done (ListCommand form) asks) [ inl undone ↦ inr undone.0 | inr does ↦ by_note note refl (does.0.listed tells) ]
   where
     by_note : (n : Note) → note ≡ n → Lists form run.disk.old.reads run.output.taken run.output.taken_after n → EndsWell note
     by_note Note.Fine same listed = inl same

@@ -1,5 +1,6 @@
 -- `drain` ends well where the peer acknowledges all that is pending.
-use Rattle.std.proofs.Common.{◌≡◌, inl, inr, ℕ, ◌+◌, ◌<◌, ◌≤◌, ◌^◌, List, [], ◌∷◌, length, refl, sym, ◌∙◌, ap, subst, arith, ◌++◌, length-append}
+use Rattle.std.proofs.Common.{◌≡◌, inl, inr, ℕ, ◌+◌, ◌<◌, ◌≤◌, ◌^◌, List, [], ◌∷◌, length, refl, sym, ◌∙◌, ap, subst, arith, ◌++◌}
+use Rattle.std.proofs.Common.{length-append}
 use Rattle.std.specs.Prelude.{Option, None, Some}
 use Rattle.std.proofs.lemmas.List.{append_cancel_left}
 use Rattle.std.specs.Io.KnownBytes.{Appends, Consumes, IsAtEnd}
@@ -52,14 +53,17 @@ read_all : (given' : Option (List ℕ)) (bytes read : List ℕ) → Appends (Som
 read_all None bytes read appends told = absurd appends
 read_all (Some xs) bytes read appends told = sym told ∙ appends
 
-left_all : (before after : Option (List ℕ)) (bytes : List ℕ) (unread : ℕ) → IsTold before → Consumes before after bytes → ((rest : List ℕ) → after ≡ Some rest → unread ≡ length rest) → IsAtEnd after → unread ≡ 0
+left_all : (before after : Option (List ℕ)) (bytes : List ℕ) (unread : ℕ) → IsTold before → Consumes before after bytes
+    → ((rest : List ℕ) → after ≡ Some rest → unread ≡ length rest) → IsAtEnd after → unread ≡ 0
 left_all None after bytes unread told consumed counts at = absurd told
 left_all (Some b) after bytes unread told consumed counts at =
     let k = kept after b bytes consumed in
     counts k.more k.left_is ∙ ap length (subst IsAtEnd k.left_is at)
 
-whole_link : (run : Run) (b : List ℕ) (had : PeerHad run b) (dialed : Option (List ℕ)) (link : LinkRun) (bytes : List ℕ) → IsFresh run.net.old.hung link.given link.taken link.left
-    → Adds run.net.old.hung run.net.new.hung (IsHungUp dialed link.given_after link.taken_after link.left_after) → Appends link.given link.given_after bytes
+whole_link : (run : Run) (b : List ℕ) (had : PeerHad run b) (dialed : Option (List ℕ)) (link : LinkRun) (bytes : List ℕ)
+    → IsFresh run.net.old.hung link.given link.taken link.left
+    → Adds run.net.old.hung run.net.new.hung (IsHungUp dialed link.given_after link.taken_after link.left_after)
+    → Appends link.given link.given_after bytes
     → Consumes link.left link.left_after bytes → Whole link.left_after b bytes
 whole_link run b had dialed link bytes fresh hung read consumed =
     let given = link.given in
@@ -70,9 +74,11 @@ whole_link run b had dialed link bytes fresh hung read consumed =
     let written' = link.taken_after in
     let new = subst (λ (l : Option (List HungUp)). IsFresh l given written before) had.was fresh in
     let added = subst (λ (l : Option (List HungUp)). Adds l run.net.new.hung (IsHungUp dialed given' written' after)) had.was hung in
-    let one : added.0 ≡ had.link = same_last had.before added.0 had.link (some_same (had.before ++ added.0 ∷ []) (had.before ++ had.link ∷ []) (sym added.2 ∙ had.now)) in
+    let one : added.0 ≡ had.link = same_last had.before added.0 had.link
+    (some_same (had.before ++ added.0 ∷ []) (had.before ++ had.link ∷ []) (sym added.2 ∙ had.now)) in
     let told = subst (IsHungUp dialed given' written' after) one added.1 in
-    let read_is : had.link.read ≡ bytes = read_all given' bytes had.link.read (subst (λ (l : Option (List ℕ)). Appends l given' bytes) new.0 read) told.read in
+    let read_is : had.link.read ≡ bytes = read_all given' bytes had.link.read
+    (subst (λ (l : Option (List ℕ)). Appends l given' bytes) new.0 read) told.read in
     record {
       rest = had.rest;
       joined = had.whole ∙ ap (λ (l : List ℕ). l ++ had.rest) read_is;
@@ -88,7 +94,8 @@ hung_some run Is (before, was, now) adds =
 
 -- ---- the run
 
-module _ (words : List (List ℕ)) (run : Run) (note : Note) (is : IsRunOf words run note) (none : NoneFailed run) (s : SpoolState) (can : CanDrain run s) where
+module _ (words : List (List ℕ)) (run : Run) (note : Note) (is : IsRunOf words run note) (none : NoneFailed run) (s : SpoolState)
+    (can : CanDrain run s) where
   -- the device isn't refused
   unread : IsUnread run.disk note → DrainsAll run s note
   unread refused = by_note note refl (refused.why can.told)
@@ -101,12 +108,16 @@ module _ (words : List (List ℕ)) (run : Run) (note : Note) (is : IsRunOf words
 
   -- nothing was pending
   idle : IsLooked IsIdle run.disk.old run.disk.new → LeavesNothing s run.disk.new
-  idle looked = inl (subst (λ (t : SpoolState). left t ≡ []) (one_state looked.state s run.disk.old.reads looked.stood can.stands) looked.is.1)
+  idle looked =
+      inl (subst (λ (t : SpoolState). left t ≡ []) (one_state looked.state s run.disk.old.reads looked.stood can.stands) looked.is.1)
 
   -- one session: what remains of its endings, and what is left where all was drained
-  session_remains : (outward : Outward) (link : LinkRun) (tally : Tally) (sent : Sent) (b : List ℕ) → IsSession outward link (IsOverSpool run.disk tally) sent
-      → ((bytes : List ℕ) → Appends link.given link.given_after bytes → Consumes link.left link.left_after bytes → Whole link.left_after b bytes) → length b < 2 ^ 40
-      → PeerAcknowledges (settings_as outward) outward.proto (pending s) b → Remains sent × (sent ≡ Ending.Drained → LeavesNothing s run.disk.new)
+  session_remains : (outward : Outward) (link : LinkRun) (tally : Tally) (sent : Sent) (b : List ℕ) → IsSession outward link
+      (IsOverSpool run.disk tally) sent
+      → ((bytes : List ℕ) → Appends link.given link.given_after bytes → Consumes link.left link.left_after bytes
+      → Whole link.left_after b bytes) → length b < 2 ^ 40
+      → PeerAcknowledges (settings_as outward) outward.proto (pending s) b
+      → Remains sent × (sent ≡ Ending.Drained → LeavesNothing s run.disk.new)
   session_remains outward link tally sent b session input short answers =
       let after = link.left_after in
       let f = session.forwards in
@@ -118,13 +129,17 @@ module _ (words : List (List ℕ)) (run : Run) (note : Note) (is : IsRunOf words
       let k = input f.bytes f.read f.consumed in
       let settings = settings_as outward in
       let room : s.ordinal + pending_count s ≤ most_number = omega (arith, can.ordinals, left_count s can.stands.sound) in (
-        remains settings outward.proto after s run.disk.new session.start session.until sent f.bytes f.calls f.text b can.stands.sound room start_is until_is reached k short f.ended sent refl
-            (may_be settings outward.proto after s run.disk.new session.start session.until sent f.bytes f.calls f.text b can.stands.sound room start_is until_is reached k short f.ended answers),
-        none_left settings outward.proto after s run.disk.new session.start session.until sent f.bytes f.calls f.text b can.stands.sound room start_is until_is reached k short f.ended,
+        remains settings outward.proto after s run.disk.new session.start session.until sent f.bytes f.calls f.text b can.stands.sound room
+            start_is until_is reached k short f.ended sent refl
+            (may_be settings outward.proto after s run.disk.new session.start session.until sent f.bytes f.calls f.text b can.stands.sound
+            room start_is until_is reached k short f.ended answers),
+        none_left settings outward.proto after s run.disk.new session.start session.until sent f.bytes f.calls f.text b can.stands.sound
+            room start_is until_is reached k short f.ended,
       )
 
   -- the note of what remains
-  by_sent : (sent : Sent) → note ≡ note_of_sent sent → Remains sent × (sent ≡ Ending.Drained → LeavesNothing s run.disk.new) → DrainsAll run s note
+  by_sent : (sent : Sent) → note ≡ note_of_sent sent → Remains sent × (sent ≡ Ending.Drained → LeavesNothing s run.disk.new)
+      → DrainsAll run s note
   by_sent Ending.Drained same r = inr (same, r.1 refl)
   by_sent Ending.ReadFault same r = absurd (not_read words run note is none same)
   by_sent Ending.WriteFault same r = absurd (not_write words run note is none same)
@@ -143,7 +158,8 @@ module _ (words : List (List ℕ)) (run : Run) (note : Note) (is : IsRunOf words
       by_note n same never = absurd never
 
   -- the session's note, and where that was well the print's
-  by_print : (line : List ℕ) (sent : Sent) → PrintsOf sent line note run.output → Remains sent × (sent ≡ Ending.Drained → LeavesNothing s run.disk.new) → DrainsAll run s note
+  by_print : (line : List ℕ) (sent : Sent) → PrintsOf sent line note run.output
+      → Remains sent × (sent ≡ Ending.Drained → LeavesNothing s run.disk.new) → DrainsAll run s note
   by_print line Ending.Drained printed r =
       by_line line run.output.taken run.output.taken_after
       (subst (λ (n : Note). IsPrinted n line run.output.taken run.output.taken_after) (sym printed.0.note_is) printed.0.written) (r.1 refl)
@@ -160,7 +176,8 @@ drain_ends_well run proto words note s b is none asks can input short answers = 
     | inl refused ↦ unread words run note is none s can refused.0
     | inr (inl nothing) ↦ inr (nothing.1, idle words run note is none s can (nothing.0 can.told))
     | inr (inr streamed) ↦ by_sent words run note is none s can streamed.sent streamed.note_is
-        (session_remains words run note is none s can (outward_of proto) (both_run run.input run.output) streamed.tally streamed.sent b streamed.session.session
+        (session_remains words run note is none s can (outward_of proto)
+        (both_run run.input run.output) streamed.tally streamed.sent b streamed.session.session
         (λ bytes read consumed. whole_input run.input.left run.input.left_after b bytes input consumed) short answers)
   ]
 ]
@@ -170,7 +187,8 @@ drain_there_ends_well run proto place words note s is none asks can links = elim
   | inl undone ↦ inl undone.0
   | inr does ↦ elim does.0.drained [
     | inl refused ↦ unread words run note is none s can refused.0
-    | inr (inl needless) ↦ by_line words run note is none s can _ _ _ needless.says.line (idle words run note is none s can (needless.idle can.told))
+    | inr (inl needless) ↦ by_line words run note is none s can _ _ _ needless.says.line
+        (idle words run note is none s can (needless.idle can.told))
     | inr (inr (inl undialed)) ↦ elim undialed.dial.why [
       | inl fault ↦
           absurd (not_dial words run note is none (λ serves. let same = is_serve (Drain proto (Some place)) words asks serves in cc) fault)
@@ -180,8 +198,10 @@ drain_there_ends_well run proto place words note s is none asks can links = elim
       | inl nobody ↦ absurd (hung_some run _ nobody placed.hung)
       | inr link ↦
           by_print words run note is none s can _ placed.sent placed.printed
-          (session_remains words run note is none s can (outward_of proto) placed.link placed.tally placed.sent link.0 placed.session.session
-          (λ bytes read consumed. whole_link run link.0 link.1 placed.dialed placed.link bytes placed.fresh placed.hung read consumed) link.2 link.3)
+          (session_remains words run note is none s can
+          (outward_of proto) placed.link placed.tally placed.sent link.0 placed.session.session
+          (λ bytes read consumed. whole_link run link.0 link.1 placed.dialed placed.link bytes placed.fresh placed.hung read consumed)
+          link.2 link.3)
     ]
   ]
 ]

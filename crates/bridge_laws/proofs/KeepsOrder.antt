@@ -14,6 +14,9 @@ use Rattle.spool_log.specs.declared.fault.RecoverFault.{RecoverFault}
 use Rattle.spool_log.specs.declared.fault.RecoverFault.TheVariants as Recover
 use Rattle.spool_log.specs.declared.opening.Opening.TheVariants.{Raise}
 use Rattle.spool_log.specs.Opening.{opened, CanOpen, IsOpening, IsRefusing}
+use Rattle.desk_access.specs.declared.division.Division.{Division}
+use Rattle.desk_access.specs.declared.division.Division.TheVariants.{Workers}
+use Rattle.desk_access.specs.Division.{divided}
 use Rattle.desk_access.specs.Call.{Call, pends, marks}
 use Rattle.desk_access.specs.Journal.{calls_by}
 use Rattle.desk_access.specs.Legal.{Met}
@@ -40,18 +43,22 @@ use Rattle.bridge_laws.proofs.OnlyCaller.{met_by}
 -- a session takes nothing
 session_takes_none : (until next : ℕ) (calls : List Call) → AreOfSession until next calls → AllWritten Never calls
 session_takes_none until next [] of = tt
-session_takes_none until next (pends from most (Ok given) ∷ calls) of = (All-nil Never, session_takes_none until (next_after until next given) calls of.3)
+session_takes_none until next (pends from most (Ok given) ∷ calls) of =
+    (All-nil Never, session_takes_none until (next_after until next given) calls of.3)
 session_takes_none until next (pends from most (Err fault) ∷ calls) of = (All-nil Never, subst (AllWritten Never) (sym of.3) tt)
 session_takes_none until next (marks stretches (Ok done) ∷ calls) of = (All-nil Never, session_takes_none until next calls of)
 session_takes_none until next (marks stretches (Err fault) ∷ calls) of = (All-nil Never, subst (AllWritten Never) (sym of) tt)
 session_takes_none until next (call ∷ calls) of = absurd of
 
 pub opened_sound : (s : SpoolState) → IsSound s → CanOpen Raise s → IsSound (opened Raise s)
-opened_sound s sound can = sound-registered s (s.run + 1) s.cursor s.known sound (omega (arith, can.0)) can.1 sound.from_base sound.to_end sound.known sound.known_to_end
+opened_sound s sound can =
+    sound-registered s (s.run + 1) s.cursor s.known sound
+    (omega (arith, can.0)) can.1 sound.from_base sound.to_end sound.known sound.known_to_end
 
 -- Something that every command keeps of a spool; something that is true of bytes that stand for a spool exactly where the spool is so; and
 -- so it is of whatever a crash could leave before.
-module _ (Is : SpoolState → Type 0) (kept : IsKept Is) (P : List ℕ → Type 0) (holds : (s : SpoolState) (c : List ℕ) → StandsFor s c → Is s → P c) (held : (s : SpoolState) (c : List ℕ) → StandsFor s c → P c → Is s)
+module _ (Is : SpoolState → Type 0) (kept : IsKept Is) (P : List ℕ → Type 0) (holds : (s : SpoolState) (c : List ℕ) → StandsFor s c → Is s
+    → P c) (held : (s : SpoolState) (c : List ℕ) → StandsFor s c → P c → Is s)
     (old new : Moment) (lawful : IsLawful old) (before : (c : List ℕ) → old.image c → P c) where
   stood_before : (s : SpoolState) → StandsFor s old.reads → Is s
   stood_before s stands = held s old.reads stands (before old.reads lawful.reads_image)
@@ -78,9 +85,9 @@ module _ (Is : SpoolState → Type 0) (kept : IsKept Is) (P : List ℕ → Type 
   opened_only is = weaker (IsOpening Raise old) P old new is.any_moment while_opened
 
   -- the server ran
-  pub served : (tells : Type 0) (grouped : Bool) (talks : ℕ) (rules : List Rules) (doors doors' : List DoorState) (reports : List WorkerReport) (destination : Option Destination) (net net' : NetState) (last : Option Outcome) (memory : Memory) (in_doubt : Bool)
-      → RunsOver tells old new grouped talks rules doors doors' reports destination net net' last memory in_doubt → tells → LeavesOnly P old new
-  served tells grouped talks rules doors doors' reports destination net net' last memory in_doubt over told =
+  pub served : (tells : Type 0) (grouped : Bool) (division : Division) (talks : ℕ) (rules : List Rules) (doors doors' : List DoorState) (reports : List WorkerReport) (destination : Option Destination) (net net' : NetState) (last : Option Outcome) (memory : Memory) (in_doubt : Bool)
+      → RunsOver tells old new grouped division talks rules doors doors' reports destination net net' last memory in_doubt → tells → LeavesOnly P old new
+  served tells grouped division talks rules doors doors' reports destination net net' last memory in_doubt over told =
       let opening = over.opened told in
       let x = opening.0 in
       let is = opening.1 in
@@ -89,41 +96,44 @@ module _ (Is : SpoolState → Type 0) (kept : IsKept Is) (P : List ℕ → Type 
       let begins = closes.replays.begins x is in
       let lead = closes.replays.leads x is in
       let confirming = (length doors + 1) - 1 in
-      let met = subst (λ (run : ℕ). Met run confirming [] log) (sym begins.of_run) closes.met in
+      let met = subst (λ (number : ℕ). Met (divided over.run.division number) confirming [] log) (sym begins.of_run) closes.met in
       weaker _ P old new (over.any_moment x is) (λ c h. elim h [
         | inl image ↦ while_opened c image
-        | inr stood ↦ let state = kept.called is.1 x lead.after log confirming c (stood_before is.1 is.2) is.4 begins.rules lead.goes met stood in holds state.0 c state.1 state.2
+        | inr stood ↦ let state = kept.called is.1 x lead.after log over.run.division confirming c (stood_before is.1 is.2) is.4 begins.rules lead.goes met stood in holds state.0 c state.1 state.2
       ])
 
   -- the input was served as one connection
-  pub stored : (conn : ℕ) (calls : List Call) (is : IsStored old new conn calls) → MayMake (is.state.run + 1) 0 0 [] calls → LeavesOnly P old new
+  pub stored : (conn : ℕ) (calls : List Call) (is : IsStored old new conn calls) → MayMake (divided Workers (is.state.run + 1)) 1 0 [] calls → LeavesOnly P old new
   stored conn calls is may =
       let s = is.state in
       let x = desk_in (opened Raise s) in
       let records = is.reached.records in
       let rules = desk_rules (opened Raise s) (opened_sound s is.stood.sound is.could) in
-      let met = met_by (s.run + 1) [] [] calls records refl may is.reached.by in
+      let met = met_by (divided Workers (s.run + 1)) [] [] calls records refl may is.reached.by in
       weaker _ P old new is.any_moment (λ c h. elim h [
         | inl image ↦ while_opened c image
-        | inr stood ↦ let state = kept.called s x is.reached.after records 0 c (stood_before s is.stood) refl rules is.reached.goes met stood in holds state.0 c state.1 state.2
+        | inr stood ↦ let state = kept.called s x is.reached.after records Workers 1 c (stood_before s is.stood) refl rules is.reached.goes met stood in holds state.0 c state.1 state.2
       ])
 
   -- entries were forwarded
   pub looked : (So : SpoolState → Type 0) → IsLooked So old new → LeavesOnly P old new
   looked So is = unwritten is.any_moment
 
-  pub unread : (tells same : Type 0) (note : Note) → IsUnread (record { tells = tells; old = old; new = new; same = same }) note → tells → LeavesOnly P old new
+  pub unread : (tells same : Type 0) (note : Note) → IsUnread (record { tells = tells; old = old; new = new; same = same }) note → tells
+      → LeavesOnly P old new
   unread tells same note is told = unwritten (is.any_moment told)
 
   sent_on : (tells same : Type 0) (tally : Tally) (start until : ℕ) (calls : List Call)
-      → IsSent (record { tells = tells; old = old; new = new; same = same }) tally start until calls → AreOfSession until start calls → LeavesOnly P old new
+      → IsSent (record { tells = tells; old = old; new = new; same = same }) tally start until calls → AreOfSession until start calls
+      → LeavesOnly P old new
   sent_on tells same tally start until calls is session =
       let made = calls_by 0 calls is.reached.records is.reached.by in
       let none = subst (AllWritten Never) (sym made) (session_takes_none until start calls session) in
       weaker _ P old new is.any_moment (λ c h. elim h [
         | inl image ↦ before c image
         | inr stood ↦
-            let state = kept.read is.state is.reached.records c (stood_before is.state is.stood) (desk_rules is.state is.stood.sound) none stood in
+            let state =
+            kept.read is.state is.reached.records c (stood_before is.state is.stood) (desk_rules is.state is.stood.sound) none stood in
             holds state.0 c state.1 state.2
       ])
 

@@ -1,5 +1,6 @@
 -- What is durable stays so over writes that had leave.
-use Rattle.std.proofs.Common.{◌≡◌, ◌⊎◌, inl, inr, ℕ, ◌+◌, ◌-◌, ◌<◌, List, [], ◌∷◌, length, take, drop, ◌∙◌, ap, subst, arith, length-take, length-drop}
+use Rattle.std.proofs.Common.{◌≡◌, ◌⊎◌, inl, inr, ℕ, ◌+◌, ◌-◌, ◌<◌, List, [], ◌∷◌, length, take, drop, ◌∙◌, ap, subst, arith, length-take}
+use Rattle.std.proofs.Common.{length-drop}
 use Rattle.std.specs.Prelude.{All}
 use Rattle.std.proofs.Math.Logic.{∥∥₁_prop, ∥∥₁_elim, ∥∥₁_map}
 use Rattle.std.proofs.lemmas.Bool.{cases_lt}
@@ -14,17 +15,28 @@ use Rattle.desk_access.specs.History.{IsKept, AreKept}
 use Rattle.bridge_laws.specs.Leave.{IsTouched, AreTouched, AllKeep, IsKnownAt}
 
 -- what a spool keeps one that follows it keeps
-kept_on : (s t : SpoolState) (number : ℕ) (entry : List Entry) → Follows s t → 0 < length entry → IsKept s number entry → IsKept t number entry
+kept_on : (s t : SpoolState) (number : ℕ) (entry : List Entry) → Follows s t → 0 < length entry → IsKept s number entry
+    → IsKept t number entry
 kept_on s t number entry follows some (inl below) = inl (omega (arith, below, follows.cursor))
 kept_on s t number entry follows some (inr there) = elim (cases_lt number (base t)) [
   | inl gone ↦ inl (omega (arith, gone, follows.confirmed))
   | inr ge ↦ inr (follows.kept number ge
-      (omega (arith, ge, some, follows.base_rises, ap length there, length-take 1 (drop (number - base s) (list s)), length-drop (number - base s) (list s))) ∙ there)
+      (omega (
+        arith,
+        ge,
+        some,
+        follows.base_rises,
+        ap length there,
+        length-take 1 (drop (number - base s) (list s)),
+        length-drop
+            (number - base s) (list s),
+      )) ∙ there)
 ]
 
 group_on : (s t : SpoolState) (first : ℕ) (group : List Entry) → Follows s t → AreKept s first group → AreKept t first group
 group_on s t first group follows kept =
-    λ k lt. kept_on s t (first + k) (take 1 (drop k group)) follows (omega (arith, lt, length-take 1 (drop k group), length-drop k group)) (kept k lt)
+    λ k lt. kept_on s t (first + k) (take 1 (drop k group)) follows (omega (arith, lt, length-take 1 (drop k group), length-drop k group))
+    (kept k lt)
 
 pub groups_on : (groups : List Group) (s t : SpoolState) → Follows s t → All (IsGroupKept s) groups → All (IsGroupKept t) groups
 groups_on [] s t follows kept = All-nil (IsGroupKept t)
@@ -35,22 +47,31 @@ groups_on (group ∷ groups) s t follows kept =
 module _ {D : Type 0} (moment : D → Moment) (Release : ℕ → Type 0) where
   -- ---- groups
 
-  keeps_next : (groups : List Group) (old new : D) → AllKeep (moment old) groups → IsTouched moment Release old new → AllKeep (moment new) groups
+  keeps_next : (groups : List Group) (old new : D) → AllKeep (moment old) groups → IsTouched moment Release old new → AllKeep
+      (moment new) groups
   keeps_next groups old new keep (inl untouched) = λ c image. keep c (untouched.images c image)
   keeps_next groups old new keep (inr touched) = λ c image.
       let from = touched.3.images c image in
       ∥∥₁_elim (touched.2 from.0 c from.1 from.2) ∥∥₁_prop (λ one.
       let kept = one.2 in
       ∥∥₁_map (keep one.0 one.1) (λ had.
-      let is : had.0 ≡ kept.state = one_state had.0 kept.state one.0 had.1 kept.stands in
-      (kept.later, kept.stands_later, groups_on groups kept.state kept.later kept.follows (subst (λ (s : SpoolState). All (IsGroupKept s) groups) is had.2))))
+      let is : had.0 ≡ kept.state = one_state had.0 kept.state one.0 had.1 kept.stands in (
+        kept.later,
+        kept.stands_later,
+        groups_on groups kept.state kept.later kept.follows
+            (subst (λ (s : SpoolState). All (IsGroupKept s) groups) is had.2),
+      )))
 
-  all_keep : (groups : List Group) (disk : D) (later : List D) → AllKeep (moment disk) groups → AreTouched moment Release disk later → All (λ next. AllKeep (moment next) groups) (disk ∷ later)
-  all_keep groups disk [] keep touched = All-cons (λ next. AllKeep (moment next) groups) disk [] keep (All-nil (λ next. AllKeep (moment next) groups))
+  all_keep : (groups : List Group) (disk : D) (later : List D) → AllKeep (moment disk) groups → AreTouched moment Release disk later
+      → All (λ next. AllKeep (moment next) groups) (disk ∷ later)
+  all_keep groups disk [] keep touched =
+      All-cons (λ next. AllKeep (moment next) groups) disk [] keep (All-nil (λ next. AllKeep (moment next) groups))
   all_keep groups disk (next ∷ later) keep touched =
-      All-cons (λ next. AllKeep (moment next) groups) disk (next ∷ later) keep (all_keep groups next later (keeps_next groups disk next keep touched.0) touched.1)
+      All-cons (λ next. AllKeep (moment next) groups) disk (next ∷ later) keep
+      (all_keep groups next later (keeps_next groups disk next keep touched.0) touched.1)
 
-  pub leave_lasts : (disk : D) (later : List D) (groups : List Group) → AreDurable (moment disk) groups → AreTouched moment Release disk later → All (λ next. AllKeep (moment next) groups) (disk ∷ later)
+  pub leave_lasts : (disk : D) (later : List D) (groups : List Group) → AreDurable (moment disk) groups
+      → AreTouched moment Release disk later → All (λ next. AllKeep (moment next) groups) (disk ∷ later)
   leave_lasts disk later groups durable touched = all_keep groups disk later (λ c image. ∣ durable c image ∣₁) touched
 
   -- ---- known numbers
@@ -59,7 +80,8 @@ module _ {D : Type 0} (moment : D → Moment) (Release : ℕ → Type 0) where
   abbrev OnlyReleased : D → ℕ → D → Type 0
   OnlyReleased disk number next = IsKnownAt (moment next) number → ∥ (IsKnownAt (moment disk) number ⊎ Release number) ∥₁
 
-  known_next : (disk : D) (number : ℕ) (old new : D) → OnlyReleased disk number old → IsTouched moment Release old new → OnlyReleased disk number new
+  known_next : (disk : D) (number : ℕ) (old new : D) → OnlyReleased disk number old → IsTouched moment Release old new
+      → OnlyReleased disk number new
   known_next disk number old new only (inl untouched) = λ known. only (known.0, known.1, untouched.images known.0 known.2, known.3, known.4)
   known_next disk number old new only (inr touched) = λ known.
       let from = touched.3.images known.0 known.2 in
@@ -71,10 +93,13 @@ module _ {D : Type 0} (moment : D → Moment) (Release : ℕ → Type 0) where
         | inr may ↦ ∣ inr may ∣₁
       ])
 
-  all_known : (disk : D) (number : ℕ) (here : D) (later : List D) → OnlyReleased disk number here → AreTouched moment Release here later → All (OnlyReleased disk number) (here ∷ later)
+  all_known : (disk : D) (number : ℕ) (here : D) (later : List D) → OnlyReleased disk number here → AreTouched moment Release here later
+      → All (OnlyReleased disk number) (here ∷ later)
   all_known disk number here [] only touched = All-cons (OnlyReleased disk number) here [] only (All-nil (OnlyReleased disk number))
   all_known disk number here (next ∷ later) only touched =
-      All-cons (OnlyReleased disk number) here (next ∷ later) only (all_known disk number next later (known_next disk number here next only touched.0) touched.1)
+      All-cons (OnlyReleased disk number) here (next ∷ later) only
+      (all_known disk number next later (known_next disk number here next only touched.0) touched.1)
 
-  pub leave_releases : (disk : D) (later : List D) (number : ℕ) → AreTouched moment Release disk later → All (λ next. IsKnownAt (moment next) number → ∥ (IsKnownAt (moment disk) number ⊎ Release number) ∥₁) (disk ∷ later)
+  pub leave_releases : (disk : D) (later : List D) (number : ℕ) → AreTouched moment Release disk later
+      → All (λ next. IsKnownAt (moment next) number → ∥ (IsKnownAt (moment disk) number ⊎ Release number) ∥₁) (disk ∷ later)
   leave_releases disk later number touched = all_known disk number disk later (λ known. ∣ inl known ∣₁) touched

@@ -1,5 +1,6 @@
 -- A part of a legal list is legal.
-use Rattle.std.proofs.Common.{◌≡◌, ◌≢◌, ◌⊎◌, inl, inr, ℕ, ◌+◌, ◌*◌, ◌^◌, ◌≤◌, ◌<◌, List, [], ◌∷◌, ◌++◌, take, drop, refl, sym, ◌∙◌, ap, subst, arith}
+use Rattle.std.proofs.Common.{◌≡◌, ◌≢◌, ◌⊎◌, inl, inr, ℕ, ◌+◌, ◌*◌, ◌^◌, ◌≤◌, ◌<◌, List, [], ◌∷◌, ◌++◌, take, drop, refl, sym, ◌∙◌, ap}
+use Rattle.std.proofs.Common.{subst, arith}
 use Rattle.std.specs.Prelude.{All}
 use Rattle.std.proofs.lemmas.Bool.{cases_lt}
 use Rattle.std.proofs.lemmas.List.{append-nil, take-append-drop}
@@ -35,16 +36,37 @@ module _ (unit : ℕ) where
     rest : AreTogether unit ys
 
   none_together : (xs : List Entry) → AreOfOthers unit xs → AreTogether unit xs
-  none_together xs none = record { before = []; those = []; after = xs; parts = refl; none_before = All-nil (λ (e : Entry). e.unit ≢ unit); all = All-nil (λ (e : Entry). e.unit ≡ unit); none_after = none }
+  none_together xs none =
+      record {
+        before = [];
+        those = [];
+        after = xs;
+        parts = refl;
+        none_before = All-nil (λ (e : Entry). e.unit ≢ unit);
+        all = All-nil
+            (λ (e : Entry). e.unit ≡ unit);
+        none_after = none;
+      }
 
-  first_parts : (xs ys those after : List Entry) → xs ++ ys ≡ those ++ after → AreOfUnit unit those → AreOfOthers unit after → FirstParts xs ys
+  first_parts : (xs ys those after : List Entry) → xs ++ ys ≡ those ++ after → AreOfUnit unit those → AreOfOthers unit after
+      → FirstParts xs ys
   first_parts [] ys those after is all none = record {
     those = [];
     after = [];
     parts = refl;
     all = All-nil (λ (e : Entry). e.unit ≡ unit);
     none_after = All-nil (λ (e : Entry). e.unit ≢ unit);
-    rest = record { before = []; those = those; after = after; parts = is; none_before = All-nil (λ (e : Entry). e.unit ≢ unit); all = all; none_after = none };
+    rest =
+        record {
+          before = [];
+          those = those;
+          after = after;
+          parts = is;
+          none_before = All-nil
+              (λ (e : Entry). e.unit ≢ unit);
+          all = all;
+          none_after = none;
+        };
   }
   first_parts (x ∷ xs) ys [] after is all none =
       let whole : AreOfOthers unit (x ∷ (xs ++ ys)) = subst (AreOfOthers unit) (sym is) none in
@@ -69,23 +91,47 @@ module _ (unit : ℕ) where
         rest = more.rest;
       }
 
-  together_parts : (xs ys before those after : List Entry) → xs ++ ys ≡ before ++ (those ++ after) → AreOfOthers unit before → AreOfUnit unit those → AreOfOthers unit after → AreTogether unit xs × AreTogether unit ys
-  together_parts [] ys before those after is none_before all none_after =
-      (none_together [] (All-nil (λ (e : Entry). e.unit ≢ unit)), record { before = before; those = those; after = after; parts = is; none_before = none_before; all = all; none_after = none_after })
+  together_parts : (xs ys before those after : List Entry) → xs ++ ys ≡ before ++ (those ++ after) → AreOfOthers unit before
+      → AreOfUnit unit those → AreOfOthers unit after → AreTogether unit xs × AreTogether unit ys
+  together_parts [] ys before those after is none_before all none_after = (
+    none_together [] (All-nil (λ (e : Entry). e.unit ≢ unit)),
+    record {
+      before = before;
+      those = those;
+      after = after;
+      parts = is;
+      none_before = none_before;
+      all = all;
+      none_after = none_after;
+    },
+  )
   together_parts (x ∷ xs) ys [] those after is none_before all none_after =
-      let p = first_parts (x ∷ xs) ys those after is all none_after in
-      (record { before = []; those = p.those; after = p.after; parts = p.parts; none_before = none_before; all = p.all; none_after = p.none_after }, p.rest)
+      let p = first_parts (x ∷ xs) ys those after is all none_after in (
+        record {
+          before = [];
+          those = p.those;
+          after = p.after;
+          parts = p.parts;
+          none_before = none_before;
+          all = p.all;
+          none_after = p.none_after;
+        },
+        p.rest,
+      )
   together_parts (x ∷ xs) ys (b ∷ before) those after is none_before all none_after =
       let tail : xs ++ ys ≡ before ++ (those ++ after) = cc is in
       let head : x ≡ b = cc is in
-      let more = together_parts xs ys before those after tail (All-tail (λ (e : Entry). e.unit ≢ unit) b before none_before) all none_after in
+      let more =
+      together_parts xs ys before those after tail (All-tail (λ (e : Entry). e.unit ≢ unit) b before none_before) all none_after in
       let here = more.0 in (
         record {
           before = b ∷ here.before;
           those = here.those;
           after = here.after;
           parts = ap (λ (l : List Entry). x ∷ l) here.parts ∙ ap (λ (e : Entry). e ∷ (here.before ++ (here.those ++ here.after))) head;
-          none_before = All-cons (λ (e : Entry). e.unit ≢ unit) b here.before (All-head (λ (e : Entry). e.unit ≢ unit) b before none_before) here.none_before;
+          none_before =
+              All-cons (λ (e : Entry). e.unit ≢ unit) b here.before
+              (All-head (λ (e : Entry). e.unit ≢ unit) b before none_before) here.none_before;
           all = here.all;
           none_after = here.none_after;
         },
@@ -97,15 +143,26 @@ module _ (unit : ℕ) where
 indexes_parts : (xs ys : List Entry) (conn : ℕ) → ((first : ℕ) × AreNext conn first (of_conn conn (xs ++ ys)))
     → ((first : ℕ) × AreNext conn first (of_conn conn xs)) × ((first : ℕ) × AreNext conn first (of_conn conn ys))
 indexes_parts xs ys conn next =
-    let both = subst (AreNext conn next.0) (conn_both conn xs ys) next.1 in
-    ((next.0, next_left conn next.0 (of_conn conn xs) (of_conn conn ys) both), next_right conn next.0 (of_conn conn xs) (of_conn conn ys) both)
+    let both = subst (AreNext conn next.0) (conn_both conn xs ys) next.1 in (
+      (next.0, next_left conn next.0 (of_conn conn xs) (of_conn conn ys) both),
+      next_right conn next.0 (of_conn conn xs)
+          (of_conn conn ys) both,
+    )
 
 legal_parts : (xs ys : List Entry) → AreLegal (xs ++ ys) → AreLegal xs × AreLegal ys
 legal_parts xs ys legal =
     let units = λ (unit : ℕ) (large : 2 ^ 32 ≤ unit).
     let u = legal.units unit large in together_parts unit xs ys u.before u.those u.after u.parts u.none_before u.all u.none_after in (
-      record { indexes = λ conn small. (indexes_parts xs ys conn (legal.indexes conn small)).0; units = λ unit large. (units unit large).0 },
-      record { indexes = λ conn small. (indexes_parts xs ys conn (legal.indexes conn small)).1; units = λ unit large. (units unit large).1 },
+      record {
+        indexes = λ conn small. (indexes_parts xs ys conn
+            (legal.indexes conn small)).0;
+        units = λ unit large. (units unit large).0;
+      },
+      record {
+        indexes = λ conn small. (indexes_parts xs ys conn
+            (legal.indexes conn small)).1;
+        units = λ unit large. (units unit large).1;
+      },
     )
 
 -- a legal list of entries of earlier runs than this one
@@ -141,7 +198,9 @@ moved_legal run xs more moved is =
             let all = conn_both conn xs more ∙ ap (λ (l : List Entry). of_conn conn xs ++ l) none ∙ append-nil (of_conn conn xs) in
             let was = is.0.indexes conn small in
             (was.0, subst (AreNext conn was.0) (sym all) was.1);
-        units = λ unit large. together_last unit xs more (is.0.units unit large) (λ k d lt same. omega (arith, (moved k d lt).unit, same, large));
+        units =
+            λ unit large. together_last unit xs more (is.0.units unit large)
+            (λ k d lt same. omega (arith, (moved k d lt).unit, same, large));
       },
       record {
         conns = All-append C xs more is.1.conns (λ k d lt. inr (moved k d lt).conn);
@@ -151,7 +210,8 @@ moved_legal run xs more moved is =
 
 -- ---- where nothing was moved in
 
-pub unmoved_next : (conn : ℕ) (xs : List Entry) → AreLegal xs → All (λ (e : Entry). e.conn < 2 ^ 63) xs → (first : ℕ) × AreNext conn first (of_conn conn xs)
+pub unmoved_next : (conn : ℕ) (xs : List Entry) → AreLegal xs → All (λ (e : Entry). e.conn < 2 ^ 63) xs → (first : ℕ) × AreNext conn first
+    (of_conn conn xs)
 unmoved_next conn xs legal few = elim (cases_lt conn (2 ^ 63)) [
   | inl small ↦ legal.indexes conn small
   | inr large ↦ (0, subst (AreNext conn 0) (sym (conn_none conn xs (λ k d lt same. omega (arith, few k d lt, same, large)))) tt)

@@ -10,6 +10,9 @@ pub mod LumberCalls
 pub mod KeepsOrder
 pub mod OrderOfCommands
 pub mod Moving
+pub mod JournalKnown
+pub mod Skipping
 pub mod Lifetime
 pub mod StaysDurable
 pub mod LeaveLasts
+pub mod Cause

@@ -12,6 +12,8 @@ use Rattle.edge_io.specs.declared.proto.Proto.{Proto}
 use Rattle.edge_io.specs.declared.proto.Proto.TheVariants.{Relp, Lumberjack, Hec}
 use Rattle.event_form.specs.declared.talk.Talk.{Talk}
 use Rattle.hec_session.specs.declared.tokens.Tokens.{Tokens}
+use Rattle.desk_access.specs.declared.division.Division.TheVariants.{Workers}
+use Rattle.desk_access.specs.Division.{DividedRun, divided}
 use Rattle.desk_access.specs.Batch.{Belongs}
 use Rattle.desk_access.specs.Call.{Call}
 use Rattle.conn_serve.specs.Done.{AreBytes}
@@ -63,55 +65,73 @@ desk_opens_legal tells m lawful order x is = opens_legal is.1 (order m.reads (la
 
 -- ---- the commands
 
-while_formatted : (Is : SpoolState → Type 0) → IsKept Is → (slots size : ℕ) (m : Moment) → ((c : List ℕ) → m.image c → HoldsNoOther Is c) → (c : List ℕ) → IsFormatStep slots size m c → HoldsNoOther Is c
+while_formatted : (Is : SpoolState → Type 0) → IsKept Is → (slots size : ℕ) (m : Moment) → ((c : List ℕ) → m.image c → HoldsNoOther Is c)
+    → (c : List ℕ) → IsFormatStep slots size m c → HoldsNoOther Is c
 while_formatted Is kept slots size m before c (inl image) = before c image
-while_formatted Is kept slots size m before c (inr (inl no_name)) = λ s stands. absurd (stands_unbroken s c stands 0 (inl (refl, (λ named. no_name named.name))))
+while_formatted Is kept slots size m before c (inr (inl no_name)) =
+    λ s stands. absurd (stands_unbroken s c stands 0 (inl (refl, (λ named. no_name named.name))))
 while_formatted Is kept slots size m before c (inr (inr made)) = holds_none Is (empty_state slots size) c made (kept.empty slots size)
 
 -- the connection of a replay is the first of its run
-first_conn : (run conn : ℕ) → conn ≡ run * 2 ^ 32 → Belongs run 0 conn
-first_conn run conn is = record { few = omega arith; from = omega (arith, is); below = omega (arith, is) }
+pub is_first : (run conn : ℕ) → conn ≡ run * 2 ^ 32 → Belongs (divided Workers run) 0 conn
+is_first run conn is = record { few = omega arith; from = omega (arith, is); below = omega (arith, is) }
 
-replay_may : RunsOfOne → (proto : Proto) (tokens : Tokens) (run conn : ℕ) (left : Option (List ℕ)) (b : List ℕ) (calls : List Call) (text : List ℕ) (talk : Talk) → AreBytes b → Belongs run 0 conn → CarriedAs proto (terms_with tokens) conn left b calls text talk
-    → MayMake run 0 0 [] calls
-replay_may ones Relp tokens run conn left b calls text talk bytes belongs c = relp_may run conn left b calls text talk belongs (ones.carried conn left b calls text talk c)
-replay_may ones Lumberjack tokens run conn left b calls text talk bytes belongs c = lumber_may run conn left b calls text talk bytes belongs c
+pub replay_may : RunsOfOne → (proto : Proto) (tokens : Tokens) (run : DividedRun) (conn : ℕ) (left : Option (List ℕ)) (b : List ℕ) (calls : List Call) (text : List ℕ) (talk : Talk) → AreBytes b → Belongs run 0 conn → CarriedAs proto (terms_with tokens) conn left b calls text talk
+    → MayMake run 1 0 [] calls
+replay_may ones Relp tokens run conn left b calls text talk bytes belongs c =
+    relp_may run conn left b calls text talk belongs (ones.carried conn left b calls text talk c)
+replay_may ones Lumberjack tokens run conn left b calls text talk bytes belongs c =
+    lumber_may run conn left b calls text talk bytes belongs c
 replay_may ones Hec tokens run conn left b calls text talk bytes belongs c = hec_may tokens run conn left b calls text talk belongs c
 
-module _ (ones : RunsOfOne) (run : Run) (told : run.disk.tells) (lawful : IsLawful run.disk.old) (Is : SpoolState → Type 0) (kept : IsKept Is) (P : List ℕ → Type 0) (holds : (s : SpoolState) (c : List ℕ) → StandsFor s c → Is s → P c) (held : (s : SpoolState) (c : List ℕ) → StandsFor s c → P c → Is s)
+module _ (ones : RunsOfOne) (run : Run) (told : run.disk.tells) (lawful : IsLawful run.disk.old) (Is : SpoolState → Type 0)
+    (kept : IsKept Is) (P : List ℕ → Type 0) (holds : (s : SpoolState) (c : List ℕ) → StandsFor s c → Is s → P c)
+    (held : (s : SpoolState) (c : List ℕ) → StandsFor s c → P c → Is s)
     (before : (c : List ℕ) → run.disk.old.image c → P c) where
-  by_stream : (outward : Outward) (note : Note) → Streams outward run.disk run.input run.output note → LeavesOnly P run.disk.old run.disk.new
-  by_stream outward note (inl done) = unread Is kept P holds held run.disk.old run.disk.new lawful before run.disk.tells run.disk.same note done.0 told
+  by_stream : (outward : Outward) (note : Note) → Streams outward run.disk run.input run.output note
+      → LeavesOnly P run.disk.old run.disk.new
+  by_stream outward note (inl done) =
+      unread Is kept P holds held run.disk.old run.disk.new lawful before run.disk.tells run.disk.same note done.0 told
   by_stream outward note (inr (inl done)) = looked Is kept P holds held run.disk.old run.disk.new lawful before _ (done.0 told)
   by_stream outward note (inr (inr done)) =
-      session Is kept P holds held run.disk.old run.disk.new lawful before outward run.disk.tells run.disk.same (both_run run.input run.output) done.tally done.sent done.session told
+      session Is kept P holds held run.disk.old run.disk.new lawful before outward run.disk.tells run.disk.same
+      (both_run run.input run.output) done.tally done.sent done.session told
 
-  by_place : (outward : Outward) (place : List ℕ) (note : Note) → SendsThere outward place run.disk run.net run.output note → LeavesOnly P run.disk.old run.disk.new
-  by_place outward place note (inl done) = unread Is kept P holds held run.disk.old run.disk.new lawful before run.disk.tells run.disk.same note done.0 told
+  by_place : (outward : Outward) (place : List ℕ) (note : Note) → SendsThere outward place run.disk run.net run.output note
+      → LeavesOnly P run.disk.old run.disk.new
+  by_place outward place note (inl done) =
+      unread Is kept P holds held run.disk.old run.disk.new lawful before run.disk.tells run.disk.same note done.0 told
   by_place outward place note (inr (inl done)) = looked Is kept P holds held run.disk.old run.disk.new lawful before _ (done.idle told)
-  by_place outward place note (inr (inr (inl done))) = looked Is kept P holds held run.disk.old run.disk.new lawful before _ (done.pending told)
+  by_place outward place note (inr (inr (inl done))) =
+      looked Is kept P holds held run.disk.old run.disk.new lawful before _ (done.pending told)
   by_place outward place note (inr (inr (inr done))) =
-      session Is kept P holds held run.disk.old run.disk.new lawful before outward run.disk.tells run.disk.same done.link done.tally done.sent done.session told
+      session Is kept P holds held run.disk.old run.disk.new lawful before outward run.disk.tells run.disk.same done.link done.tally
+      done.sent done.session told
 
-  by_serve : (server : Server) (note : Note) → IsServed server run.disk run.output run.net run.doors note → LeavesOnly P run.disk.old run.disk.new
+  by_serve : (server : Server) (note : Note) → IsServed server run.disk run.output run.net run.doors note
+      → LeavesOnly P run.disk.old run.disk.new
   by_serve server note (inl done) = unopened Is kept P holds held run.disk.old run.disk.new lawful before run.disk.tells note done.0 told
   by_serve server note (inr (inl done)) = opened_only Is kept P holds held run.disk.old run.disk.new lawful before (done.0.opened told)
-  by_serve server note (inr (inr done)) = served Is kept P holds held run.disk.old run.disk.new lawful before run.disk.tells _ _ _ _ _ _ _ _ _ _ _ _ done.ran.over told
+  by_serve server note (inr (inr done)) = served Is kept P holds held run.disk.old run.disk.new lawful before run.disk.tells _ _ _ _ _ _ _ _ _ _ _ _ _ done.ran.over told
 
-  by_replay : (proto : Proto) (token ack_token : Option ℕ) (note : Note) → ServesInput (replay_rules proto token ack_token) run.disk (both_run run.input run.output) note → LeavesOnly P run.disk.old run.disk.new
+  by_replay : (proto : Proto) (token ack_token : Option ℕ) (note : Note) → ServesInput (replay_rules proto token ack_token) run.disk
+      (both_run run.input run.output) note → LeavesOnly P run.disk.old run.disk.new
   by_replay proto token ack_token note done =
       let serves = done.served.serves in
       let is = serves.made told in
-      stored Is kept P holds held run.disk.old run.disk.new lawful before done.conn serves.calls is (replay_may ones proto (record { token = token; ack_token = ack_token }) (is.state.run + 1) done.conn run.input.left_after serves.bytes serves.calls serves.text _ serves.are_bytes (first_conn (is.state.run + 1) done.conn is.conn_is) serves.carried)
+      stored Is kept P holds held run.disk.old run.disk.new lawful before done.conn serves.calls is (replay_may ones proto (record { token = token; ack_token = ack_token }) (divided Workers (is.state.run + 1)) done.conn run.input.left_after serves.bytes serves.calls serves.text _ serves.are_bytes (is_first (is.state.run + 1) done.conn is.conn_is) serves.carried)
 
-  module _ (same : run.disk.same → LeavesOnly run.disk.old.image run.disk.old run.disk.new) (words : List (List ℕ)) (note : Note) (whole : IsRunOf words run note) where
+  module _ (same : run.disk.same → LeavesOnly run.disk.old.image run.disk.old run.disk.new) (words : List (List ℕ)) (note : Note)
+      (whole : IsRunOf words run note) where
     as_before : run.disk.same → LeavesOnly P run.disk.old run.disk.new
     as_before is = unwritten Is kept P holds held run.disk.old run.disk.new lawful before (same is)
 
-    by_command : (command : Command) → IsCommand command words → (AsksFormat words → ⊥) → IsUndone run note ⊎ Does command run note → LeavesOnly P run.disk.old run.disk.new
+    by_command : (command : Command) → IsCommand command words → (AsksFormat words → ⊥) → IsUndone run note ⊎ Does command run note
+        → LeavesOnly P run.disk.old run.disk.new
     by_command command asks never (inl undone) = as_before undone.1.disk.same
     by_command (Format slots size) asks never (inr does) = absurd (never (slots, size, asks))
-    by_command (ListCommand form) asks never (inr does) = unwritten Is kept P holds held run.disk.old run.disk.new lawful before (does.0.any_moment told)
+    by_command (ListCommand form) asks never (inr does) =
+        unwritten Is kept P holds held run.disk.old run.disk.new lawful before (does.0.any_moment told)
     by_command (Replay proto token ack_token) asks never (inr does) = elim does.0.replayed [
       | inl unopen ↦ unopened Is kept P holds held run.disk.old run.disk.new lawful before run.disk.tells note unopen.0 told
       | inr replayed ↦ by_replay proto token ack_token note replayed
@@ -129,28 +149,47 @@ is_format command = ⊥
 
 -- words of another command don't ask for `format`
 not_format : (command : Command) (words : List (List ℕ)) → (is_format command → ⊥) → IsCommand command words → AsksFormat words → ⊥
-not_format command words other asks (slots, size, is) = other (subst is_format (sym (one_command command (Format slots size) words asks is)) tt)
+not_format command words other asks (slots, size, is) =
+    other (subst is_format (sym (one_command command (Format slots size) words asks is)) tt)
 
-module _ (ones : RunsOfOne) (Is : SpoolState → Type 0) (kept : IsKept Is) (run : Run) (lawful : run.disk.tells → IsLawful run.disk.old) (same : run.disk.tells → run.disk.same → LeavesOnly run.disk.old.image run.disk.old run.disk.new)
+module _ (ones : RunsOfOne) (Is : SpoolState → Type 0) (kept : IsKept Is) (run : Run) (lawful : run.disk.tells → IsLawful run.disk.old)
+    (same : run.disk.tells → run.disk.same → LeavesOnly run.disk.old.image run.disk.old run.disk.new)
     (words : List (List ℕ)) (note : Note) (whole : IsRunOf words run note) (told : run.disk.tells) where
   -- `format` is the one call during which a crash may leave no spool
   none_by : IsSomeCommand words ⊎ (IsNoCommand words ⊎ IsUndone run note) → Keeps (HoldsNoOther Is) run.disk.old run.disk.new
-  none_by (inr (inr undone)) before = unwritten Is kept (HoldsNoOther Is) (holds_none Is) (none_held Is) run.disk.old run.disk.new (lawful told) before (same told undone.1.disk.same)
-  none_by (inr (inl none)) before = unwritten Is kept (HoldsNoOther Is) (holds_none Is) (none_held Is) run.disk.old run.disk.new (lawful told) before (same told (whole.unchanged none).disk.same)
+  none_by (inr (inr undone)) before =
+      unwritten Is kept (HoldsNoOther Is) (holds_none Is) (none_held Is) run.disk.old run.disk.new (lawful told) before
+      (same told undone.1.disk.same)
+  none_by (inr (inl none)) before =
+      unwritten Is kept (HoldsNoOther Is) (holds_none Is) (none_held Is) run.disk.old run.disk.new (lawful told) before
+      (same told (whole.unchanged none).disk.same)
   none_by (inl (command, asks)) before = by command asks (whole.done command asks) where
     by : (c : Command) → IsCommand c words → IsUndone run note ⊎ Does c run note → LeavesOnly (HoldsNoOther Is) run.disk.old run.disk.new
-    by c is (inl undone) = unwritten Is kept (HoldsNoOther Is) (holds_none Is) (none_held Is) run.disk.old run.disk.new (lawful told) before (same told undone.1.disk.same)
-    by (Format slots size) is (inr does) = weaker (IsFormatStep slots size run.disk.old) (HoldsNoOther Is) run.disk.old run.disk.new (does.0.any_moment told) (while_formatted Is kept slots size run.disk.old before)
-    by c is (inr does) = by_command ones run told (lawful told) Is kept (HoldsNoOther Is) (holds_none Is) (none_held Is) before (same told) words note whole c is (not_format c words (λ never. never) is) (inr does)
+    by c is (inl undone) =
+        unwritten Is kept (HoldsNoOther Is) (holds_none Is) (none_held Is) run.disk.old run.disk.new (lawful told) before
+        (same told undone.1.disk.same)
+    by (Format slots size) is (inr does) =
+        weaker (IsFormatStep slots size run.disk.old) (HoldsNoOther Is) run.disk.old run.disk.new (does.0.any_moment told)
+        (while_formatted Is kept slots size run.disk.old before)
+    by c is (inr does) =
+        by_command ones run told (lawful told) Is kept (HoldsNoOther Is) (holds_none Is) (none_held Is) before
+        (same told) words note whole c is (not_format c words (λ never. never) is) (inr does)
 
-  some_by : IsSomeCommand words ⊎ (IsNoCommand words ⊎ IsUndone run note) → (AsksFormat words → ⊥) → Keeps (Holds Is) run.disk.old run.disk.new
-  some_by (inr (inr undone)) never before = unwritten Is kept (Holds Is) (holds_some Is) (some_held Is) run.disk.old run.disk.new (lawful told) before (same told undone.1.disk.same)
-  some_by (inr (inl none)) never before = unwritten Is kept (Holds Is) (holds_some Is) (some_held Is) run.disk.old run.disk.new (lawful told) before (same told (whole.unchanged none).disk.same)
+  some_by : IsSomeCommand words ⊎ (IsNoCommand words ⊎ IsUndone run note) → (AsksFormat words → ⊥)
+      → Keeps (Holds Is) run.disk.old run.disk.new
+  some_by (inr (inr undone)) never before =
+      unwritten Is kept (Holds Is) (holds_some Is) (some_held Is) run.disk.old run.disk.new (lawful told) before
+      (same told undone.1.disk.same)
+  some_by (inr (inl none)) never before =
+      unwritten Is kept (Holds Is) (holds_some Is) (some_held Is) run.disk.old run.disk.new (lawful told) before
+      (same told (whole.unchanged none).disk.same)
   some_by (inl (command, asks)) never before =
-      by_command ones run told (lawful told) Is kept (Holds Is) (holds_some Is) (some_held Is) before (same told) words note whole command asks never (whole.done command asks)
+      by_command ones run told (lawful told) Is kept (Holds Is) (holds_some Is) (some_held Is) before
+      (same told) words note whole command asks never (whole.done command asks)
 
   -- `format` that ended well
-  formatted : (slots size : ℕ) (n : Note) → n ≡ Note.Fine → Formats slots size run.disk run.output n → (c : List ℕ) → run.disk.new.image c → Holds Is c
+  formatted : (slots size : ℕ) (n : Note) → n ≡ Note.Fine → Formats slots size run.disk run.output n → (c : List ℕ) → run.disk.new.image c
+      → Holds Is c
   formatted slots size n fine is c image =
       let made = subst (Formats slots size run.disk run.output) fine is in
       (empty_state slots size, made.empty told c image, kept.empty slots size)
@@ -164,6 +203,9 @@ module _ (ones : RunsOfOne) (Is : SpoolState → Type 0) (kept : IsKept Is) (run
   keeps : KeepsOrder Is words run note
   keeps = record { none = none_by whole.which; some = some_by whole.which; made = made_by }
 
-pub each_command_keeps_order : RunsOfOne → (run : Run) → (run.disk.tells → IsLawful run.disk.old) → (run.disk.tells → run.disk.same → LeavesOnly run.disk.old.image run.disk.old run.disk.new) → EachCommandKeepsOrder run
+pub each_command_keeps_order : RunsOfOne → (run : Run) → (run.disk.tells → IsLawful run.disk.old)
+    → (run.disk.tells → run.disk.same → LeavesOnly run.disk.old.image run.disk.old run.disk.new) → EachCommandKeepsOrder run
 each_command_keeps_order ones run lawful same words note whole told =
-    (keeps ones IsInOrder order_is_kept run lawful same words note whole told, keeps ones IsUnmoved unmoved_is_kept run lawful same words note whole told)
+    let order = keeps ones IsInOrder order_is_kept run lawful same words note whole told in
+    let unmoved = keeps ones IsUnmoved unmoved_is_kept run lawful same words note whole told in
+    (order, unmoved)

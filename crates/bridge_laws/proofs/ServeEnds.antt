@@ -31,7 +31,8 @@ use Rattle.bridge_laws.specs.ServeEnds.{Ran, IsStopped, GoesWell, IsUnhindered, 
 
 module _ (server : Server) (words : List (List ℕ)) (run : Run) (note : Note) (is : IsRunOf words run note) (none : NoneFailed run) where
   -- a device that can be opened is refused for want of memory alone
-  unopened_well : (s : SpoolState) → StandsFor s run.disk.old.reads → CanOpen Raise s → (fault : RecoverFault) → note ≡ note_of_recover fault → IsRefusedAs Raise run.disk.old.reads fault → EndsWell note
+  unopened_well : (s : SpoolState) → StandsFor s run.disk.old.reads → CanOpen Raise s → (fault : RecoverFault)
+      → note ≡ note_of_recover fault → IsRefusedAs Raise run.disk.old.reads fault → EndsWell note
   unopened_well s stands can (Recover.NotSpool at) same breaks = absurd (stands_unbroken s run.disk.old.reads stands at breaks)
   unopened_well s stands can (Recover.RunsSpent n) same (t, is_in, spent) =
       let one : t.run ≡ s.run = ap (λ (x : SpoolState). x.run) (one_state t s run.disk.old.reads is_in stands) in
@@ -71,7 +72,8 @@ module _ (server : Server) (words : List (List ℕ)) (run : Run) (note : Note) (
   -- the workers found no memory, or ended well, and then it is the last look that tells
   ended_well : (ran : Ran server run note) → GoesWell server run note ran → note ≡ note_of_run ran.ran.reports ran.ran.last → EndsWell note
   ended_well ran well same =
-      let first = λ (n : Note) (told : note_of_workers ran.ran.reports ≡ n). same ∙ ap (λ (w : Note). first_of w (note_of_look ran.ran.last)) told in
+      let first =
+      λ (n : Note) (told : note_of_workers ran.ran.reports ≡ n). same ∙ ap (λ (w : Note). first_of w (note_of_look ran.ran.last)) told in
       elim (workers_tell ran.ran.reports) [
         | inl memory ↦ inr (first Note.NoMemory memory)
         | inr (inl refused) ↦ absurd (not_net ran well (first Note.NetFault refused))
@@ -86,11 +88,15 @@ module _ (server : Server) (words : List (List ℕ)) (run : Run) (note : Note) (
     | inr (inr memory) ↦ inr memory
   ]
 
-  by_done : (s : SpoolState) → run.disk.tells → StandsFor s run.disk.old.reads → CanOpen Raise s → (done : IsUndone run note ⊎ Does (Serve server) run note) → IsUnhindered server run note done → EndsWell note
+  by_done : (s : SpoolState) → run.disk.tells → StandsFor s run.disk.old.reads → CanOpen Raise s
+      → (done : IsUndone run note ⊎ Does (Serve server) run note) → IsUnhindered server run note done → EndsWell note
   by_done s tells stands can (inl undone) well = inr undone.0
-  by_done s tells stands can (inr (inl unopened, ungiven, told)) well = unopened_well s stands can unopened.0.fault unopened.0.note_is (unopened.0.why tells)
-  by_done s tells stands can (inr (inr (inl unserved), ungiven, told)) well = elim unserved.0.why [ inl memory ↦ inr memory | inr unbound ↦ absurd (none.dials unbound.1) ]
+  by_done s tells stands can (inr (inl unopened, ungiven, told)) well =
+      unopened_well s stands can unopened.0.fault unopened.0.note_is (unopened.0.why tells)
+  by_done s tells stands can (inr (inr (inl unserved), ungiven, told)) well =
+      elim unserved.0.why [ inl memory ↦ inr memory | inr unbound ↦ absurd (none.dials unbound.1) ]
   by_done s tells stands can (inr (inr (inr ran), ungiven, told)) well = ran_well ran well
 
 pub serve_ends_well : (run : Run) → ServeEndsWell run
-serve_ends_well run server words note s is none asks tells stands can well = by_done server words run note is none s tells stands can (is.done (Serve server) asks) well
+serve_ends_well run server words note s is none asks tells stands can well =
+    by_done server words run note is none s tells stands can (is.done (Serve server) asks) well

@@ -1,10 +1,9 @@
--- What is durable stays so, whatever call of `bridge` comes.
+-- What is durable stays so, whatever call of `bridge`, whatever move and whatever skip comes.
 use Rattle.std.proofs.Common.{◌⊎◌, inl, inr, ℕ, List, [], ◌∷◌, sym, subst}
-use Rattle.std.specs.Prelude.{◌≡◌, All, None, Some, map}
+use Rattle.std.specs.Prelude.{All, None, Some}
 use Rattle.std.proofs.lemmas.List.Elements.{All-nil, All-cons, All-head, All-tail}
-use Rattle.edge_disk.specs.Disk.{Moment, IsLawful, LeavesOnly}
-use Rattle.edge_disk.proofs.Moments.{started, weaker}
-use Rattle.edge_io.specs.Door.{DoorState}
+use Rattle.edge_disk.specs.Disk.{IsLawful, LeavesOnly}
+use Rattle.edge_disk.proofs.Moments.{weaker}
 use Rattle.spool_state.specs.SpoolState.{SpoolState}
 use Rattle.spool_state.specs.Image.{StandsFor}
 use Rattle.spool_state.proofs.Laws.{one_state}
@@ -28,7 +27,7 @@ use Rattle.bridge_words.specs.Words.{IsCommand, IsNoCommand, IsSomeCommand}
 use Rattle.notes.specs.declared.note.Note.{Note}
 use Rattle.bridge_parts.specs.Opened.{desk_in, IsUnopened}
 use Rattle.bridge_parts.specs.Receivers.{outward_of}
-use Rattle.bridge_parts.specs.Run.{InputRun, NetRun, OutputRun, Run, both_run, disk_run, run_of}
+use Rattle.bridge_parts.specs.Run.{Run, both_run}
 use Rattle.bridge_parts.proofs.Desks.{desk_rules}
 use Rattle.commands.specs.Drained.{IsSent, SendsThere, Streams, Tally}
 use Rattle.commands.specs.Replayed.{ServesInput, replay_rules}
@@ -37,20 +36,24 @@ use Rattle.bridge_core.specs.Done.{Does, IsUndone}
 use Rattle.bridge_core.specs.RunOf.{IsRunOf}
 use Rattle.bridge_laws.specs.KeepsOrder.{AsksFormat}
 use Rattle.bridge_laws.specs.InOrder.{Holds}
-use Rattle.bridge_laws.specs.Lifetime.{AreNext, IsCalled, IsMovedInto, IsMovedOut, IsNext, Telling, no_format, telling}
+use Rattle.bridge_laws.specs.Lifetime.{IsOneCall, no_format}
+use Rattle.bridge_laws.specs.Told.{DiskKind, Telling}
 use Rattle.bridge_laws.specs.Durable.{DurableLasts, DurableSinceLasts}
 use Rattle.bridge_laws.proofs.KeepsOrder.{opened_sound}
 use Rattle.bridge_laws.proofs.LeaveLasts.{groups_on as follows_keep}
+use Rattle.bridge_laws.proofs.Lifetime.{all_are, run_in, skip_keeps, untouched}
 use Rattle.bridge_laws.proofs.Moving.{moved_into, moved_out}
 
 -- Something that stays so of a spool, in each later state and as it is opened.
-module _ (Is : SpoolState → Type 0) (stays : (s t : SpoolState) → IsLater s t → Is s → Is t) (raises : (s : SpoolState) → Is s → Is (opened Raise s))
+module _ (Is : SpoolState → Type 0) (stays : (s t : SpoolState) → IsLater s t → Is s → Is t)
+    (raises : (s : SpoolState) → Is s → Is (opened Raise s))
     (run : Run) (told : run.disk.tells) (lawful : IsLawful run.disk.old) (before : (c : List ℕ) → run.disk.old.image c → Holds Is c) where
   abbrev Only : Type 0
   Only = LeavesOnly (Holds Is) run.disk.old run.disk.new
 
   stood_before : (s : SpoolState) → StandsFor s run.disk.old.reads → Is s
-  stood_before s stands = let has = before run.disk.old.reads lawful.reads_image in subst Is (one_state has.0 s run.disk.old.reads has.1 stands) has.2
+  stood_before s stands =
+      let has = before run.disk.old.reads lawful.reads_image in subst Is (one_state has.0 s run.disk.old.reads has.1 stands) has.2
 
   unwritten : LeavesOnly run.disk.old.image run.disk.old run.disk.new → Only
   unwritten leaves = weaker run.disk.old.image (Holds Is) run.disk.old run.disk.new leaves before
@@ -68,16 +71,19 @@ module _ (Is : SpoolState → Type 0) (stays : (s t : SpoolState) → IsLater s 
   while_refused Recover.NoMemory c image = before c image
 
   while_called : (x : DeskState) (records : List Record) → IsDesk x → Is x.spool → (c : List ℕ) → Stood x records c → Holds Is c
-  while_called x records rules is c stood = let w = stood_was x records c rules stood in (w.state, w.stands, stays x.spool w.state w.later is)
+  while_called x records rules is c stood =
+      let w = stood_was x records c rules stood in (w.state, w.stands, stays x.spool w.state w.later is)
 
   unopened : (note : Note) → IsUnopened run.disk.tells run.disk.old run.disk.new note → Only
-  unopened note is = weaker (IsRefusing Raise is.fault run.disk.old) (Holds Is) run.disk.old run.disk.new (is.any_moment told) (while_refused is.fault)
+  unopened note is =
+      weaker (IsRefusing Raise is.fault run.disk.old) (Holds Is) run.disk.old run.disk.new (is.any_moment told) (while_refused is.fault)
 
   by_sent : (tally : Tally) (start until : ℕ) (calls : List Call) → IsSent run.disk tally start until calls → Only
   by_sent tally start until calls is =
       weaker _ (Holds Is) run.disk.old run.disk.new is.any_moment (λ c h. elim h [
         | inl image ↦ before c image
-        | inr stood ↦ while_called (desk_in is.state) is.reached.records (desk_rules is.state is.stood.sound) (stood_before is.state is.stood) c stood
+        | inr stood ↦ while_called (desk_in is.state) is.reached.records (desk_rules is.state is.stood.sound)
+            (stood_before is.state is.stood) c stood
       ])
 
   by_stream : (outward : Outward) (note : Note) → Streams outward run.disk run.input run.output note → Only
@@ -97,13 +103,15 @@ module _ (Is : SpoolState → Type 0) (stays : (s t : SpoolState) → IsLater s 
       let s = is.state in
       weaker _ (Holds Is) run.disk.old run.disk.new is.any_moment (λ c h. elim h [
         | inl opening ↦ while_opened c opening
-        | inr stood ↦ while_called (desk_in (opened Raise s)) is.reached.records (desk_rules (opened Raise s) (opened_sound s is.stood.sound is.could))
+        | inr stood ↦ while_called (desk_in (opened Raise s)) is.reached.records
+            (desk_rules (opened Raise s) (opened_sound s is.stood.sound is.could))
             (raises s (stood_before s is.stood)) c stood
       ])
 
   by_serve : (server : Server) (note : Note) → IsServed server run.disk run.output run.net run.doors note → Only
   by_serve server note (inl done) = unopened note done.0
-  by_serve server note (inr (inl done)) = weaker (IsOpening Raise run.disk.old) (Holds Is) run.disk.old run.disk.new (done.0.opened told).any_moment while_opened
+  by_serve server note (inr (inl done)) =
+      weaker (IsOpening Raise run.disk.old) (Holds Is) run.disk.old run.disk.new (done.0.opened told).any_moment while_opened
   by_serve server note (inr (inr done)) =
       let over = done.ran.over in
       let opening = over.opened told in
@@ -147,29 +155,13 @@ groups_on (group ∷ groups) s t later kept =
 abbrev Keeping : List Group → List ℕ → Type 0
 Keeping groups = Holds (λ (s : SpoolState). All (IsGroupKept s) groups)
 
-module _ {D E S K N P : Type 0} (moment : D → Moment) (tell : Telling D E S K N P) (groups : List Group)
-    (keeps : (old new : D) → IsCalled no_format.words tell old new → AreDurable (moment old) groups → LeavesOnly (Keeping groups) (moment old) (moment new))
-    (moves_out : (old new : D) → IsMovedOut moment tell old new → AreDurable (moment old) groups → AreDurable (moment new) groups)
-    (moves_into : (old new : D) → IsMovedInto moment tell old new → AreDurable (moment old) groups → AreDurable (moment new) groups) where
-  abbrev IsDisk : D → Type 0
-  IsDisk disk = AreDurable (moment disk) groups
-
-  next_is : (old new : D) → IsDisk old → IsNext no_format moment tell old new → IsDisk new
-  next_is old new here (inl called) = (keeps old new called here).now
-  next_is old new here (inr (inl left)) = λ c image. here c (left c image)
-  next_is old new here (inr (inr (inl (mid, called, within)))) = λ c image. (keeps old mid called here).each c (within c image)
-  next_is old new here (inr (inr (inr (inl out)))) = moves_out old new out here
-  next_is old new here (inr (inr (inr (inr into)))) = moves_into old new into.1 here
-
-  all_are : (disk : D) (later : List D) → IsDisk disk → AreNext no_format moment tell disk later → All IsDisk (disk ∷ later)
-  all_are disk [] here next = All-cons IsDisk disk [] here (All-nil IsDisk)
-  all_are disk (new ∷ more) here (first, rest) = All-cons IsDisk disk (new ∷ more) here (all_are new more (next_is disk new here first) rest)
-
 each_keeps : (run : Run) (groups : List Group) → run.disk.tells → IsLawful run.disk.old
     → (run.disk.same → LeavesOnly run.disk.old.image run.disk.old run.disk.new) → (words : List (List ℕ)) (note : Note)
-    → IsRunOf words run note → (AsksFormat words → ⊥) → AreDurable run.disk.old groups → LeavesOnly (Keeping groups) run.disk.old run.disk.new
+    → IsRunOf words run note → (AsksFormat words → ⊥) → AreDurable run.disk.old groups → LeavesOnly
+    (Keeping groups) run.disk.old run.disk.new
 each_keeps run groups told lawful same words note whole never here =
-    by_words (λ (s : SpoolState). All (IsGroupKept s) groups) (groups_on groups) (λ s is. is) run told lawful here same words note whole never whole.which
+    by_words (λ (s : SpoolState). All (IsGroupKept s) groups) (groups_on groups)
+    (λ s is. is) run told lawful here same words note whole never whole.which
 
 -- ---- the law
 
@@ -182,32 +174,31 @@ holds groups s c stands is = (s, stands, is)
 held : (groups : List Group) (s : SpoolState) (c : List ℕ) → StandsFor s c → Keeping groups c → AreAllKept groups s
 held groups s c stands has = subst (AreAllKept groups) (one_state has.0 s c has.1 stands) has.2
 
-module _ {D E S K N P : Type 0} (tells : Type 0) (moment : D → Moment) (lawful : (disk : D) → tells → IsLawful (moment disk)) (tells' : Type 0) (other : E → Moment) (lawful' : (disk : E) → tells' → IsLawful (other disk))
-    (input : S → S → InputRun) (output : K → K → OutputRun) (net : N → N → NetRun) (door : P → DoorState) where
-  abbrev tell : Telling D E S K N P
-  tell = telling (disk_run tells moment) tells' other input output net door
+module _ {D E S K N P : Type 0} (tell : Telling D S K N P) (other : DiskKind E)
+    (lawful : (disk : D) → tell.disk.tells → IsLawful (tell.disk.moment disk))
+    (lawful' : (disk : E) → other.tells → IsLawful (other.moment disk)) where
+  call_keeps : (groups : List Group) (old new : D) → IsOneCall no_format.words tell old new → AreDurable (tell.disk.moment old) groups
+      → LeavesOnly (Keeping groups) (tell.disk.moment old) (tell.disk.moment new)
+  call_keeps groups old new (inl called) here =
+      each_keeps (run_in tell lawful old new called) groups called.told (lawful old called.told) (untouched tell lawful old new called.told)
+      called.words called.note called.is called.such here
+  call_keeps groups old new (inr skip) here =
+      skip_keeps tell lawful (AreAllKept groups) (Keeping groups) (holds groups) (held groups)
+      (λ s t marks. follows_keep groups s t marks.follows) old new skip here
 
-  lawful_at : (old new disk : D) → tells → IsLawful (moment disk)
-  lawful_at old new disk told = lawful disk told
-
-  untouched : (old new : D) → tells → new ≡ old → LeavesOnly (moment old).image (moment old) (moment new)
-  untouched old new told same = subst (λ d. LeavesOnly (moment old).image (moment old) (moment d)) (sym same) (started (moment old).image (moment old) (lawful old told) (λ image is. is))
-
-  call_keeps : (groups : List Group) (old new : D) → IsCalled no_format.words tell old new → AreDurable (moment old) groups → LeavesOnly (Keeping groups) (moment old) (moment new)
-  call_keeps groups old new called =
-      each_keeps (run_of (disk_run tells moment old new) (input called.input called.input') (output called.output called.output') (net called.net called.net') (map door called.doors'))
-      groups called.told (lawful old called.told) (untouched old new called.told) called.words called.note called.is called.such
-
-  pub durable_lasts : DurableLasts moment tell
+  pub durable_lasts : DurableLasts tell other
   durable_lasts disk later groups here next =
-      all_are moment tell groups (call_keeps groups)
-      (moved_out moment tell lawful_at lawful' (AreAllKept groups) (Keeping groups) (holds groups) (held groups) (λ m s given gives. follows_keep groups m s gives.follows))
-      (moved_into moment tell lawful_at lawful' (AreAllKept groups) (Keeping groups) (holds groups) (held groups) (λ u t tag xs sound taken. follows_keep groups u t taken.follows))
+      all_are tell other no_format (Keeping groups) (call_keeps groups)
+      (moved_out tell other lawful lawful' (AreAllKept groups) (Keeping groups) (holds groups) (held groups)
+      (λ m s given gives. follows_keep groups m s gives.follows))
+      (λ may. moved_into tell other lawful lawful' (AreAllKept groups) (Keeping groups) (holds groups) (held groups)
+      (λ u t tag xs sound taken. follows_keep groups u t taken.follows))
       disk later here next
 
-  pub durable_since_lasts : DurableSinceLasts tells moment tell
+  pub durable_since_lasts : DurableSinceLasts tell other
   durable_since_lasts disk next clock later groups told le since left more =
       durable_lasts next later groups (elim left [
-        | inl same ↦ subst (λ d. AreDurable (moment d) groups) (sym same) (λ image is. since image ((lawful disk told).counts_now clock image le is))
+        | inl same ↦ subst (λ d. AreDurable (tell.disk.moment d) groups) (sym same)
+            (λ image is. since image ((lawful disk told).counts_now clock image le is))
         | inr crash ↦ λ image is. since image (crash image is)
       ]) more

@@ -33,7 +33,8 @@ conn_in s = (s.run + 1) * 2 ^ 32
 -- the input's events were added to the spool, unless no memory was found
 abbrev pub TakesAll : Proto → Tokens → Run → SpoolState → List ℕ → Note → Type 0
 TakesAll proto tokens run s b note =
-    (note ≡ NoMemory) ⊎ ((note ≡ Fine) × ((events : List Event) × Stores proto tokens b events × Gains (opened Raise s) run.disk.new events))
+    (note ≡ NoMemory)
+    ⊎ ((note ≡ Fine) × ((events : List Event) × Stores proto tokens b events × Gains (opened Raise s) run.disk.new events))
 
 -- Where no call failed, `replay` ends well if the bytes end with a frame, and no group and no id is refused that they bring.
 abbrev pub ReplayEndsWell : Run → Type 0

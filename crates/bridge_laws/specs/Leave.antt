@@ -11,7 +11,8 @@ use Rattle.desk_access.specs.Groups.{Group}
 -- The disk came from the one before by a read or a sync, or by a write that had leave, of which whatever a crash may tear keeps the spool.
 abbrev pub IsTouched : {D : Type 0} → (D → Moment) → (ℕ → Type 0) → D → D → Type 0
 IsTouched moment Release old new =
-    IsUntouched (moment old) (moment new) ⊎ ((at : ℕ) × (n : ℕ) × TearsOn (KeepsSpool Release) (moment old) at n × IsTorn at n (moment old) (moment new))
+    IsUntouched (moment old) (moment new)
+    ⊎ ((at : ℕ) × (n : ℕ) × TearsOn (KeepsSpool Release) (moment old) at n × IsTorn at n (moment old) (moment new))
 
 -- So these came, one after another.
 abbrev pub AreTouched : {D : Type 0} → (D → Moment) → (ℕ → Type 0) → D → List D → Type 0

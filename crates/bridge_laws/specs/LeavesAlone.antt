@@ -23,7 +23,8 @@ pub record LeavesAlone (words : List (List ℕ)) (run : Run) (note : Note) : Typ
   -- Words or a device that are refused leave the input and the output alone, but with `drain` and `serve`.
   pub unused : IsRefusedFirst note → (AsksDrain words → ⊥) → (AsksServe words → ⊥) → run.input.same × run.output.same
   -- `replay` and `drain` without a place alone read the input.
-  pub unread : ((proto : Proto) (token ack_token : Option ℕ) → IsCommand (Replay proto token ack_token) words → ⊥) → (AsksStream words → ⊥) → run.input.same
+  pub unread : ((proto : Proto) (token ack_token : Option ℕ) → IsCommand (Replay proto token ack_token) words → ⊥) → (AsksStream words → ⊥)
+      → run.input.same
   -- `drain` and `serve` alone use the net; without a place `drain` only waits.
   pub net_unused : (AsksDrain words → ⊥) → (AsksServe words → ⊥) → run.net.same
   pub net_undialed : (AsksPlace words → ⊥) → (AsksServe words → ⊥) → run.net.new ≡ run.net.old

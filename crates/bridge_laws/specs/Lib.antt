@@ -1,3 +1,4 @@
+pub mod Told
 pub mod Complete
 pub mod CompleteReplay
 pub mod CompleteDrain
@@ -9,3 +10,4 @@ pub mod Lifetime
 pub mod LeavesAlone
 pub mod Durable
 pub mod Leave
+pub mod Cause

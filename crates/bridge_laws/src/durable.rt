@@ -1,24 +1,24 @@
-//! What was acknowledged lasts, from the contracts of `bridge` and `bridge_move` alone. The functions do nothing: each has laws as its
-//! contract.
-ghost use Rattle.bridge_parts.specs.Run.{disk_run, input_run, net_run, output_run};
+//! What was acknowledged lasts, from the contracts of `bridge`, `bridge_move` and `bridge_skip` alone. The functions do nothing: each has
+//! laws as its contract.
+ghost use Rattle.bridge_parts.specs.Run.{input_run, net_run, output_run};
 ghost use Rattle.bridge_laws.specs.Durable.{DurableLasts, DurableSinceLasts};
 ghost use Rattle.bridge_laws.specs.Leave.{LeaveLasts, LeaveReleases};
-ghost use Rattle.bridge_laws.specs.Lifetime.{telling};
+ghost use Rattle.bridge_laws.specs.Told.{disk_kind, telling};
 
 use edge_disk::Disk;
 use edge_io::{Net, Sink, Source};
 
 /// What is durable lasts: groups of entries that a disk keeps, whatever a crash leaves of it, are kept so after any later calls of
-/// `bridge` and moves out of the device and into it, one after another, and any crashes between them and within them, where none of these
-/// calls is a `format`. Each entry of theirs stands at its number, or the cursor is past it. That `move` puts the cursor past none
+/// `bridge`, skips, and moves out of the device and into it, one after another, and any crashes between them and within them, where none of
+/// these calls is a `format`. Each entry of theirs stands at its number, or the cursor is past it. That `move` puts the cursor past none
 /// before the target has its entry is `bridge_move`'s own promise.
 ///
 /// So it is of groups that are durable since a moment of the first of these calls, as those are that an acknowledgment was for, since
 /// the take was answered: also where a crash ends that call, at any moment since then.
 ///
 /// After a crash the device has something that the crash could leave. Each call has an input, an output, a net and doors of its
-/// own, and no more is known of it than the contract of `bridge` says. Of a move, whose other disk is any disk, no more is known than
-/// [`order_holds_from_format`](crate::order_holds_from_format) tells.
+/// own, and no more is known of it than the contract of `bridge` says. Of a move, whose other disk is any disk, and of a skip no more is
+/// known than [`order_holds_from_format`](crate::order_holds_from_format) tells.
 pub fn durable_lasts<D: Disk, E: Disk, S: Source, K: Sink, N: Net>(
     _disk: &D,
     _other: &E,
@@ -27,10 +27,10 @@ pub fn durable_lasts<D: Disk, E: Disk, S: Source, K: Sink, N: Net>(
     _net: &N,
     _doors: &Vec<N::P>,
 )
-    ensures lasts { DurableLasts D.moment (telling (disk_run D.tells D.moment) E.tells E.moment
-        (input_run S.given S.left S.read_faults) (output_run K.taken K.write_faults) (net_run N.told) N.P.told) }
-    ensures since { DurableSinceLasts D.tells D.moment (telling (disk_run D.tells D.moment) E.tells E.moment
-        (input_run S.given S.left S.read_faults) (output_run K.taken K.write_faults) (net_run N.told) N.P.told) }
+    ensures lasts { DurableLasts (telling (disk_kind D.tells D.moment) (input_run S.given S.left S.read_faults)
+        (output_run K.taken K.write_faults) (net_run N.told) N.P.told) (disk_kind E.tells E.moment) }
+    ensures since { DurableSinceLasts (telling (disk_kind D.tells D.moment) (input_run S.given S.left S.read_faults)
+        (output_run K.taken K.write_faults) (net_run N.told) N.P.told) (disk_kind E.tells E.moment) }
 {}
 
 /// What is durable lasts at each moment within a call, too, whether that ends or not: groups of entries that a disk keeps, whatever a

@@ -1,8 +1,8 @@
 //! When each command has to end well, from the contract of `bridge` alone. The functions do nothing: each has a law as its contract.
-ghost use Rattle.std.specs.Prelude.{map};
-ghost use Rattle.bridge_parts.specs.Run.{disk_run, input_run, net_run, output_run, run_of};
+ghost use Rattle.bridge_parts.specs.Run.{input_run, net_run, output_run};
 ghost use Rattle.bridge_laws.specs.CompleteCommands.{EachEndsWell};
 ghost use Rattle.bridge_laws.specs.ServeEnds.{ServeEndsWell};
+ghost use Rattle.bridge_laws.specs.Told.{OfEachCall, disk_kind, telling};
 
 use conn_serve::runs_of_one;
 use edge_disk::Disk;
@@ -10,8 +10,8 @@ use edge_io::{Net, Sink, Source};
 
 /// Each command ends well where no call failed and nothing stands in its way: only want of memory can take the place of that.
 ///
-/// The arguments are the disk, the input, the output and the net before a call of `bridge` and after it, and the doors that it bound.
-/// Of that call no more is known than its contract says, and that no count of faults rose in it.
+/// So it is of each call of `bridge`, whatever the disk, the input, the output and the net were before it and after it, and whatever doors
+/// were bound. Of that call no more is known than its contract says, and that no count of faults rose in it.
 ///
 /// - `format` ends well on a device of the wanted length.
 /// - `list` does on a device that stands for a spool.
@@ -23,42 +23,32 @@ use edge_io::{Net, Sink, Source};
 ///   their frames or replies acknowledge all that is pending before anything ends the session otherwise. Then nothing is left.
 pub fn each_command_ends_well<D: Disk, S: Source, K: Sink, N: Net>(
     _disk: &D,
-    _disk_after: &D,
     _input: &S,
-    _input_after: &S,
     _output: &K,
-    _output_after: &K,
     _net: &N,
-    _net_after: &N,
-    _doors_after: &Vec<N::P>,
+    _doors: &Vec<N::P>,
 )
-    ensures { EachEndsWell (run_of (disk_run D.tells D.moment _disk.now _disk_after.now)
-        (input_run S.given S.left S.read_faults _input.now _input_after.now) (output_run K.taken K.write_faults _output.now _output_after.now)
-        (net_run N.told _net.now _net_after.now) (map (λ (door : _). N.P.told door) _doors_after.now.items)) }
+    ensures { OfEachCall (telling (disk_kind D.tells D.moment) (input_run S.given S.left S.read_faults)
+        (output_run K.taken K.write_faults) (net_run N.told) N.P.told) EachEndsWell }
 {
     runs_of_one()
 }
 
 /// `serve` ends well where no call failed and nothing stands in its way: only want of memory can take the place of that.
 ///
-/// The arguments are the disk, the input, the output and the net before a call of `bridge` and after it, and the doors that were
-/// bound in it. Of that call no more is known than its contract says, and that no count of faults rose in it.
+/// So it is of each call of `bridge`, whatever the disk, the input, the output and the net were before it and after it, and whatever doors
+/// were bound. Of that call no more is known than its contract says, and that no count of faults rose in it.
 ///
 /// The device stands for a spool of which a run and an ordinal of the register are left. Where the server ran, no accept failed at its
 /// doors, and nothing that the peer answered, nor the state of the spool, stopped its last look at what is pending. How single
 /// connections ended doesn't matter, nor how earlier sessions of the forwarder did.
 pub fn serve_ends_well<D: Disk, S: Source, K: Sink, N: Net>(
     _disk: &D,
-    _disk_after: &D,
     _input: &S,
-    _input_after: &S,
     _output: &K,
-    _output_after: &K,
     _net: &N,
-    _net_after: &N,
-    _doors_after: &Vec<N::P>,
+    _doors: &Vec<N::P>,
 )
-    ensures { ServeEndsWell (run_of (disk_run D.tells D.moment _disk.now _disk_after.now)
-        (input_run S.given S.left S.read_faults _input.now _input_after.now) (output_run K.taken K.write_faults _output.now _output_after.now)
-        (net_run N.told _net.now _net_after.now) (map (λ (door : _). N.P.told door) _doors_after.now.items)) }
+    ensures { OfEachCall (telling (disk_kind D.tells D.moment) (input_run S.given S.left S.read_faults)
+        (output_run K.taken K.write_faults) (net_run N.told) N.P.told) ServeEndsWell }
 {}

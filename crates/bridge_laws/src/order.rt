@@ -1,10 +1,10 @@
-//! What follows for the order of a spool's entries, from the contracts of `bridge` and `bridge_move` alone. The functions do nothing:
-//! each has a law as its contract.
-ghost use Rattle.std.specs.Prelude.{map};
-ghost use Rattle.bridge_parts.specs.Run.{disk_run, input_run, net_run, output_run, run_of};
+//! What follows for the order of a spool's entries, from the contracts of `bridge`, `bridge_move` and `bridge_skip` alone. The functions
+//! do nothing: each has a law as its contract.
+ghost use Rattle.bridge_parts.specs.Run.{input_run, net_run, output_run};
 ghost use Rattle.bridge_laws.specs.InOrder.{DeskOpensLegal, EmptyIsInOrder, OpeningKeepsOrder, UnmovedIsWhole};
 ghost use Rattle.bridge_laws.specs.KeepsOrder.{EachCommandKeepsOrder};
-ghost use Rattle.bridge_laws.specs.Lifetime.{OrderHolds, telling};
+ghost use Rattle.bridge_laws.specs.Lifetime.{OrderHolds};
+ghost use Rattle.bridge_laws.specs.Told.{OfEachCall, disk_kind, telling};
 
 use conn_serve::runs_of_one;
 use edge_disk::Disk;
@@ -37,29 +37,24 @@ pub fn desk_opens_legal<D: Disk>(_disk: &D)
 /// the call or within it. `format` makes a spool in order of any device. And where nothing was moved into the spool before, nothing was
 /// after: all its connections are of the runs that it has had.
 ///
-/// The arguments are the disk, the input, the output and the net before the call and after it, and the doors that were bound in
-/// it. Of the call no more is known than its contract says.
+/// So it is of each call, whatever the disk, the input, the output and the net were before it and after it, and whatever doors were bound
+/// in it. Of the call no more is known than its contract says.
 pub fn each_command_keeps_order<D: Disk, S: Source, K: Sink, N: Net>(
     _disk: &D,
-    _disk_after: &D,
     _input: &S,
-    _input_after: &S,
     _output: &K,
-    _output_after: &K,
     _net: &N,
-    _net_after: &N,
-    _doors_after: &Vec<N::P>,
+    _doors: &Vec<N::P>,
 )
-    ensures { EachCommandKeepsOrder (run_of (disk_run D.tells D.moment _disk.now _disk_after.now)
-        (input_run S.given S.left S.read_faults _input.now _input_after.now) (output_run K.taken K.write_faults _output.now _output_after.now)
-        (net_run N.told _net.now _net_after.now) (map (λ (door : _). N.P.told door) _doors_after.now.items)) }
+    ensures { OfEachCall (telling (disk_kind D.tells D.moment) (input_run S.given S.left S.read_faults)
+        (output_run K.taken K.write_faults) (net_run N.told) N.P.told) EachCommandKeepsOrder }
 {
     runs_of_one()
 }
 
-/// From a call of `format` that ended well on, a crash leaves no spool of the device that is out of order, where `bridge` and
-/// `bridge_move` alone write to it: after any calls of `bridge` and moves out of the device and into it, one after another, and any crashes
-/// between them and within them. Where none of them is a `format`, it leaves a spool in order.
+/// From a call of `format` that ended well on, a crash leaves no spool of the device that is out of order, where `bridge`, `bridge_move`
+/// and `bridge_skip` alone write to it: after any calls of `bridge`, skips, and moves out of the device and into it, one after another, and
+/// any crashes between them and within them. Where none of them is a `format`, it leaves a spool in order.
 ///
 /// Entries that are moved into the device have connection numbers from 2^63 on, one for each tag, and no id. Of their indexes nothing is
 /// said here: they are the numbers that the entries had in the source. Where nothing is moved into the device, the order is that of all
@@ -69,7 +64,8 @@ pub fn each_command_keeps_order<D: Disk, S: Source, K: Sink, N: Net>(
 /// own, and no more is known of it than the contract of `bridge` says. The other disk of a move is any disk, `E`, whose device may stand
 /// for a spool that is out of order, or for none. Of a move no more is known than the contract of `bridge_move` says; of one in the midst
 /// of which a crash came, that it was a run of a move (`IsRun`), as each call of `bridge_move` over two spools is
-/// (`bridge_move::each_call_is_a_run`). One over a device that is no spool changes nothing of what a crash leaves.
+/// (`bridge_move::each_call_is_a_run`). One over a device that is no spool changes nothing of what a crash leaves. A skip has an output of
+/// its own, and no more is known of it than the contract of `bridge_skip` says.
 pub fn order_holds_from_format<D: Disk, E: Disk, S: Source, K: Sink, N: Net>(
     _disk: &D,
     _other: &E,
@@ -78,8 +74,8 @@ pub fn order_holds_from_format<D: Disk, E: Disk, S: Source, K: Sink, N: Net>(
     _net: &N,
     _doors: &Vec<N::P>,
 )
-    ensures { OrderHolds D.moment (telling (disk_run D.tells D.moment) E.tells E.moment (input_run S.given S.left S.read_faults)
-        (output_run K.taken K.write_faults) (net_run N.told) N.P.told) }
+    ensures { OrderHolds (telling (disk_kind D.tells D.moment) (input_run S.given S.left S.read_faults)
+        (output_run K.taken K.write_faults) (net_run N.told) N.P.told) (disk_kind E.tells E.moment) }
 {
     runs_of_one()
 }

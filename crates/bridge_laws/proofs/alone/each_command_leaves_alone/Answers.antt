@@ -2,7 +2,7 @@ use Rattle.bridge_core.proofs.Alone as law
 use Rattle.bridge_laws.proofs.alone.each_command_leaves_alone.Goals as goal
 
 pub returns : goal.returns
-returns g c = λ words note is. record {
+returns g c = λ disk disk' input input' output output' net net' doors words note is. record {
   usage = law.usage_is_of_words words _ note is;
   no_command = law.no_command_is_told words _ note is;
   wrong_length = law.wrong_length_is_left words _ note is;
