@@ -8,6 +8,7 @@ ghost use Rattle.bridge_parts.specs.Run.{disk_run, input_run, net_run, output_ru
 ghost use Rattle.bridge_core.specs.Failed.{TellsReadFault, TellsWriteFault, TellsDial};
 ghost use Rattle.bridge_core.specs.Headline.{KeepsPromises};
 ghost use Rattle.bridge_core.specs.Leave.{ForWords, MayAnswer, MayReplay, MayTake, WasRead, MayRelease, WereStreamed, HasExchangedAt, MayTear, MayBind, MayDial, MayPrint};
+ghost use Rattle.bridge_cli.specs.Texts.{ForTexts};
 ghost use Rattle.bridge_move.specs.Leave.{ForMoves};
 ghost use Rattle.cli_parts.specs.declared.progress.Watched.{Watched};
 ghost use Rattle.edge_file.specs.declared.file.FileDisk.{FileDisk};
@@ -47,7 +48,7 @@ where
     requires dials { ForWords (map string_bytes words.now) (MayDial N.may_dial) }
     requires replays { ForWords (map string_bytes words.now)
         (MayReplay D.tells D.moment disk (WasRead S.same S.given input.old) (MayTake K.same K.taken K.permits output.old)) }
-    requires releases { ForWords (map string_bytes words.now) (MayRelease D.tells D.moment disk
+    requires releases { ForTexts words.now (MayRelease D.tells D.moment disk
         (WereStreamed S.same S.given input.old K.same K.taken output.old)
         (HasExchangedAt N.L.same N.L.dialed N.L.given N.L.taken) D.may_release) }
     requires tears { ForWords (map string_bytes words.now) (MayTear D.tells D.moment D.may_tear D.may_release) }
@@ -135,7 +136,7 @@ where
         (MayAnswer ⟦<FileDisk as Disk>⟧.tells ⟦<FileDisk as Disk>⟧.moment disk N.permits) }
     requires binds { ForWords (map string_bytes words.now) (MayBind N.may_bind) }
     requires dials { ForWords (map string_bytes words.now) (MayDial N.may_dial) }
-    requires replays { (disk : FileDisk) → ForWords (map string_bytes words.now)
+    requires replays { (disk : FileDisk) → ForTexts words.now
         (MayReplay ⟦<FileDisk as Disk>⟧.tells ⟦<FileDisk as Disk>⟧.moment disk (WasRead S.same S.given input.old)
         (MayTake K.same K.taken K.permits output.old)) }
     requires prints { ForWords (map string_bytes words.now) (MayPrint ((sink : K) (text : List ℕ) → K.permits sink text)) }

@@ -1,10 +1,11 @@
 //! The program: its words and its streams, FILE as the device that the words want, and the exit status. All that it does with
-//! them is the one call `bridge`, and with the words of a move or of a skip the one call of these.
+//! them is the one call `bridge`, and with the words of a move, of a skip or of a rescue the one call of these.
 #![tactic(auto)]
 
 mod device;
 mod pair;
 mod program;
+mod rescue;
 mod skip;
 
 use cli_parts::exit_code;

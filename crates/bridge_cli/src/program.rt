@@ -1,10 +1,11 @@
 //! The program over its streams.
 use crate::device::run_words;
+use crate::rescue::run_rescue;
 use crate::skip::run_skip;
 use cli_parts::{
     Arguments, NoArguments, RunOptions, Taken, Untaken, confirm, hold_streams, keep_freed,
-    print_beside_usage, print_beside_wrong_option, print_ending, print_line, print_note, skip_of,
-    take_options,
+    print_beside_usage, print_beside_wrong_option, print_ending, print_line, print_note, rescue_of,
+    skip_of, take_options,
 };
 use edge_io::FileIo;
 use edge_net::{Reports, TcpNet, Waits};
@@ -45,6 +46,9 @@ fn run_arguments<R: Threads + Wait + Sync>(
     let mut output = FileIo::of(io::writer(rt));
     if let Some(number) = skip_of(&arguments.words) {
         return run_skip(rt, &arguments.file, number, &mut output);
+    }
+    if let Some(rescue) = rescue_of(&arguments.words) {
+        return run_rescue(rt, &arguments.file, rescue.layout, &mut output);
     }
     let reports = reports_of(options);
     let mut net = TcpNet::with_waits(rt.alloc(), rt, &reports, waits_of(options));

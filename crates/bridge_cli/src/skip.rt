@@ -6,7 +6,6 @@ ghost use Rattle.notes.specs.declared.note.Note.TheVariants.{WriteFault};
 ghost use Rattle.bridge_parts.specs.Run.{disk_run, output_run};
 ghost use Rattle.bridge_skip.specs.Leave.{MaySkip};
 ghost use Rattle.bridge_skip.specs.SkipRun.{IsSkipNote, IsSkipRun};
-ghost use Rattle.cli_parts.specs.declared.progress.Watched.{Watched};
 
 use crate::device::refuse;
 use bridge_skip::{Skipped, bridge_skip};
@@ -16,8 +15,8 @@ use edge_file::{FileDisk, Sharing};
 use edge_io::Sink;
 use notes::Note;
 
-// Skips the entry over the disk, which is watched meanwhile. Its reading may be shown. What was done is what `bridge_skip` does, and nothing
-// else.
+// Skips the entry over the disk, which is watched meanwhile. Its reading may be shown. What was done is what `bridge_skip` does, and
+// nothing else.
 fn skip_over<D: Disk, K: Sink>(
     rt: &HostRuntime,
     number: u64,
@@ -29,9 +28,8 @@ fn skip_over<D: Disk, K: Sink>(
     requires tears { LetsKeep D.tells D.moment D.may_tear D.may_release }
     requires prints { (k : K) (text : List ℕ) → K.permits k text }
 
-    ensures run { (before after : Watched D) × (before.disk ≡ disk) × (after.disk ≡ result.disk)
-        × IsSkipRun number (disk_run D.tells (λ (watched : Watched D). D.moment watched.disk) before after)
-        (output_run K.taken K.write_faults output.old output.new) result.note }
+    ensures run { IsSkipRun number (disk_run D.tells D.moment disk result.disk) (output_run K.taken K.write_faults output.old output.new)
+        result.note }
 {
     let disk = Watched::new(disk, Progress::new(rt, is_shown), "FILE", Waiting::Nobody);
     let Skipped { status, note, disk } = bridge_skip(rt.alloc(), number, disk, output);

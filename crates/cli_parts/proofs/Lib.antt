@@ -1,4 +1,5 @@
 pub mod Listing
 mod Counted
 mod Options
+mod Rescuing
 mod Skipping

@@ -1,9 +1,10 @@
--- How the next of a command's words is read, where it may be an option of a run.
-use Rattle.std.specs.Prelude.{◌≡◌, ◌≢◌, List, [], ◌++◌, codes}
+-- How the next of a command's words is read, where it may be an option of a run, and what is taken of all.
+use Rattle.std.specs.Prelude.{◌≡◌, ◌≢◌, ◌⊎◌, List, [], ◌++◌, codes, map, string_bytes}
 use Rattle.cli_parts.specs.declared.run_options.Piece.{Piece}
 use Rattle.cli_parts.specs.declared.run_options.Piece.TheVariants.{Quiet, QuietWith, Idle, IdleWith, Other}
 use Rattle.cli_parts.specs.declared.run_options.RunOptions.{RunOptions}
-use Rattle.cli_parts.specs.RunOptions.{Text, IsNoOption, IsRead}
+use Rattle.cli_parts.specs.declared.run_options.Taken.{Taken}
+use Rattle.cli_parts.specs.RunOptions.{Text, IsNoOption, IsRead, AreTaken, AreNone}
 
 -- what the word is
 abbrev pub IsPiece : Piece → Text → Type 0
@@ -25,3 +26,11 @@ pub record IsNext (name : Text) (words left : List Text) (old new : RunOptions) 
   pub own : List Text
   pub words_are : words ≡ own ++ left
   pub goes_on : (read : List Text) → IsRead name read old kept → IsRead name (read ++ own) new more
+
+-- so what was taken goes on to what is taken then
+abbrev pub TakesNext : Text → List Text → List Text → Taken → Taken → Type 0
+TakesNext name words left old new = IsNext name words left old.options new.options (map string_bytes old.words.items) (map string_bytes new.words.items)
+
+-- these are the options of the run among the words, and the other words
+abbrev pub IsTaken : List Text → Taken → Type 0
+IsTaken words taken = AreTaken words taken.options (map string_bytes taken.words.items) ⊎ AreNone words taken.options (map string_bytes taken.words.items)

@@ -22,6 +22,7 @@ Commands, as `bridge FILE COMMAND ..`:
   load PROTO NUMBER COUNT    tests itself in memory; FILE is not opened
   move TARGET TAG            moves the pending entries into TARGET, which is another spool
   skip NUMBER                prints one pending entry, and confirms it
+  rescue [SLOTS SIZE]        prints what is sound in a FILE that is damaged
 
 PROTO is relp, lumberjack or hec. PLACE is an address or a host, a colon and a port.
 
@@ -31,7 +32,9 @@ Options, after the command's name:
   --lumberjack PLACE    serve: where those of Lumberjack come in
   --hec PLACE           serve: where those of the HTTP Event Collector come in
   --workers N           serve: how many connections at once at each place, 1 to 16 (4)
-  --talks N             serve: how many connections each worker serves, 1 to 67108864 (67108864)
+  --connections N       serve: the same, 1 to 1024, in place of --workers
+  --talks N             serve: how many connections each worker serves, 1 to 67108864 (67108864);
+                        with --connections 1 to 1048576 (1048576)
   --token GUID          replay, serve: the collector's token, answered once events are durable
   --ack-token GUID      replay, serve: the collector's token that uses ack ids
   --group               serve: stores together what came together
@@ -46,7 +49,7 @@ Options, after the command's name:
 Exit statuses; a line on standard error says more:
    0  all was done
   64  the words are no command
-  65  FILE is no spool, or has another length
+  65  FILE is no spool, is damaged, or has another length
   66  what came in breaks its protocol
   67  there is no room
   68  the receiver refused, or closed

@@ -4,6 +4,7 @@
 
 mod arguments;
 mod confirming;
+mod digits;
 mod health;
 mod help;
 mod making;
@@ -12,6 +13,7 @@ mod misspelt;
 mod opening;
 mod progress;
 mod report;
+mod rescue_words;
 mod run_options;
 mod seconds;
 mod skip_words;
@@ -29,8 +31,9 @@ pub use opening::{Opening, Showing};
 pub use progress::{Progress, Watched};
 pub use report::{
     print_beside_usage, print_beside_wrong_option, print_ending, print_line, print_no_spool,
-    print_note, print_unopened,
+    print_note, print_rescue, print_unopened,
 };
+pub use rescue_words::{RescueWords, rescue_of};
 pub use run_options::{RunOptions, Taken, Untaken, WrongOption, take_options};
 pub use skip_words::skip_of;
 pub use status::exit_code;

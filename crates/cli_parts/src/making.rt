@@ -1,4 +1,7 @@
 //! How FILE is made.
+ghost use Rattle.std.specs.Prelude.{◌≡◌, ◌⊎◌, ◌<◌, IfOk};
+ghost use Rattle.edge_file.specs.FileDisk.{file_moment};
+
 use edge_file::{FileDisk, OpenFault};
 use std::fs::{File, OpenOptions};
 use std::io;
@@ -18,7 +21,10 @@ const CHUNK: usize = 65_536;
 /// it is written again later and synced (ext4 gives zeros after a power failure then).
 ///
 /// The error says why FILE isn't opened. Where it couldn't be filled it is left empty.
-pub fn make_disk(rt: &HostRuntime, path: &str, len: u64) -> Result<FileDisk, OpenFault> {
+pub fn make_disk(rt: &HostRuntime, path: &str, len: u64) -> Result<FileDisk, OpenFault>
+    ensures faults { IfOk result (λ disk. (file_moment disk).faults ≡ 0) }
+    ensures size { IfOk result (λ disk. (file_moment disk).size ≡ len ⊎ 0 < (file_moment disk).size) }
+{
     fill_empty(rt, path, len)?;
     FileDisk::make_locked(rt, path, len)
 }

@@ -10,8 +10,8 @@ use strsim::levenshtein;
 const NEAR: usize = 2;
 
 // The commands, and the options of each. The last two of these stand without a command too.
-const COMMANDS: [&str; 8] = [
-    "format", "replay", "list", "drain", "serve", "load", "move", "skip",
+const COMMANDS: [&str; 9] = [
+    "format", "replay", "list", "drain", "serve", "load", "move", "skip", "rescue",
 ];
 
 const NO_COMMAND: [&str; 2] = ["--help", "--version"];
@@ -31,11 +31,12 @@ const DRAIN: [&str; 6] = [
     "--version",
 ];
 
-const SERVE: [&str; 17] = [
+const SERVE: [&str; 18] = [
     "--relp",
     "--lumberjack",
     "--hec",
     "--workers",
+    "--connections",
     "--talks",
     "--token",
     "--ack-token",

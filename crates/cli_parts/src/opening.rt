@@ -1,6 +1,7 @@
 //! How FILE is opened.
-ghost use Rattle.std.specs.Prelude.{◌≡◌, ◌↔◌, IfOk, map, string_bytes};
+ghost use Rattle.std.specs.Prelude.{◌≡◌, ◌↔◌, false, IfOk, map, string_bytes};
 ghost use Rattle.edge_file.specs.declared.open_fault.Sharing.TheVariants.{Shared};
+ghost use Rattle.cli_parts.specs.declared.opening.Showing.TheVariants.{Never};
 ghost use Rattle.cli_parts.specs.Opening.{IsList, AreList};
 
 use crate::health::Waiting;
@@ -21,14 +22,25 @@ pub enum Showing {
 }
 
 impl Showing {
-    /// Whether somebody sees how far a command is: standard error is a terminal, and what the command prints doesn't come between.
-    pub fn is_seen(self, rt: &HostRuntime) -> bool {
-        let may_show = match self {
+    // Whether lines on standard error may stand beside what the command prints.
+    fn is_apart(self, rt: &HostRuntime) -> bool
+        ensures { self ≡ Never → result ≡ false }
+    {
+        match self {
             Showing::Always => true,
             Showing::Apart => !rt.stdout().is_terminal(),
             Showing::Never => false,
-        };
-        may_show && rt.stderr().is_terminal()
+        }
+    }
+
+    /// Whether somebody sees how far a command is: standard error is a terminal, and what the command prints doesn't come between.
+    pub fn is_seen(self, rt: &HostRuntime) -> bool
+        ensures { self ≡ Never → result ≡ false }
+    {
+        if !self.is_apart(rt) {
+            return false;
+        }
+        rt.stderr().is_terminal()
     }
 }
 

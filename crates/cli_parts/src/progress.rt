@@ -1,10 +1,20 @@
 //! How far a command is, for a user who waits, and FILE as it is watched meanwhile.
-ghost use Rattle.std.specs.Prelude.{◌≡◌};
+ghost use Rattle.std.specs.Prelude.{◌≡◌, None, false};
 
 use crate::health::{Call, HealthLines, Waiting};
 use crate::tally::Tally;
 use edge_disk::{Disk, DiskFault};
 use std::time::Instant;
+
+// When a command begins that is to be shown, where the clock can be read.
+fn began(rt: &HostRuntime, is_shown: bool) -> Option<Instant>
+    ensures { is_shown ≡ false → result ≡ None }
+{
+    if !is_shown {
+        return None;
+    }
+    Instant::now(rt).ok()
+}
 
 /// How far a command is: a line on standard error, once a second at most.
 #[derive(Drop)]
@@ -20,15 +30,14 @@ pub struct Progress<'a> {
 
 impl<'a> Progress<'a> {
     /// A command that begins, and has read nothing. It is shown where it is to be, and the clock can be read.
-    pub fn new(rt: &'a HostRuntime, is_shown: bool) -> Progress<'a> {
-        let began = if is_shown {
-            Instant::now(rt).ok()
-        } else {
-            None
-        };
+    pub fn new(rt: &'a HostRuntime, is_shown: bool) -> Progress<'a>
+        ensures hidden { is_shown ≡ false → result.began ≡ None }
+        ensures unread { result.tally ≡ None }
+        ensures unshown { result.shown ≡ 0 }
+    {
         Progress {
             rt,
-            began,
+            began: began(rt, is_shown),
             shown: 0,
             tally: None,
         }

@@ -2,9 +2,11 @@
 use crate::arguments::Arguments;
 use crate::help::{Question, question_in, question_of};
 use crate::misspelt::{Misspelt, Named, misspelt_in};
+use crate::rescue_words::{begins_rescue, rescue_of};
 use crate::run_options::WrongOption;
 use crate::skip_words::{begins_skip, skip_of};
 use crate::unopened::{missing_folder, open_text};
+use bridge_rescue::{Report, SlotFault, Why};
 use edge_file::OpenFault;
 use notes::{Note, note_text};
 use std::fs::Files;
@@ -35,9 +37,73 @@ pub fn print_note(rt: &(impl AllocGlobal + Eprint), note: Note) {
     }
 }
 
-/// Prints why what the arguments asked for ended, where it didn't end well: the note's text, but of a skip that found no pending entry, or no
-/// room for a stretch more, what that means.
+// Prints what is wrong with a slot.
+fn print_fault(rt: &impl Eprint, fault: SlotFault) {
+    let SlotFault { place, at, why } = fault;
+    let _ = match why {
+        Why::Cut => eprintln!(rt; "bridge: slot {place}: FILE ends at byte {at}"),
+        Why::Broken => eprintln!(rt; "bridge: slot {place}: no whole group at byte {at}"),
+        Why::TooHigh => eprintln!(rt; "bridge: slot {place}: numbers above 2^63 at byte {at}"),
+        Why::Unread => eprintln!(rt; "bridge: slot {place}: a read failed, from byte {at} on"),
+    };
+}
+
+// Prints how many slots are sound, and how many entries were printed.
+fn print_counts(rt: &impl Eprint, report: &Report) {
+    let sound = report.sound as usize;
+    let wrong = report.faults.len();
+    let closed = (report.slots as usize)
+        .saturating_sub(sound)
+        .saturating_sub(wrong);
+    let _ = match report.printed {
+        Some(printed) => eprintln!(rt;
+            "bridge: slots: {sound} sound, {closed} closed, {wrong} at fault; entries printed: {printed}"
+        ),
+        None => eprintln!(rt;
+            "bridge: slots: {sound} sound, {closed} closed, {wrong} at fault; not all entries were printed"
+        ),
+    };
+}
+
+/// Prints how the rescue of a file of this path ended that began to look at it: a line for each slot at fault, one with the note where a
+/// call failed or no memory was found, and last how many slots are sound and how many entries were printed. With no report, a line says
+/// why no slot was looked at.
+pub fn print_rescue(
+    rt: &(impl AllocGlobal + Eprint),
+    path: &str,
+    note: Note,
+    report: Option<&Report>,
+) {
+    let Some(report) = report else {
+        let _ = match note {
+            Note::NotSpool { at: 0 } => eprintln!(rt;
+                "bridge: {path}: no header of a spool: SLOTS and SIZE after rescue tell what it told"
+            ),
+            Note::NotSpool { at } => eprintln!(rt;
+                "bridge: {path}: header out of range at byte {at}: SLOTS and SIZE after rescue tell what it told"
+            ),
+            _ => {
+                print_note(rt, note);
+                return;
+            }
+        };
+        return;
+    };
+    for fault in &report.faults {
+        print_fault(rt, *fault);
+    }
+    if !matches!(note, Note::NotSpool { .. }) {
+        print_note(rt, note);
+    }
+    print_counts(rt, report);
+}
+
+/// Prints why what the arguments asked for ended, where it didn't end well: the note's text, but of a skip that found no pending entry, or
+/// no room for a stretch more, what that means. Of a rescue it prints nothing: [`print_rescue`] does.
 pub fn print_ending(rt: &(impl AllocGlobal + Eprint), arguments: &Arguments, note: Note) {
+    if rescue_of(&arguments.words).is_some() {
+        return;
+    }
     let _ = match (skip_of(&arguments.words), note) {
         (Some(number), Note::Strange { .. }) => {
             eprintln!(rt; "bridge: entry {number} is not pending")
@@ -78,6 +144,11 @@ fn print_wrong_words(rt: &(impl AllocGlobal + Eprint), arguments: &Arguments) {
         print_line(
             rt,
             "skip takes NUMBER, the number of a pending entry, and nothing else",
+        );
+    } else if begins_rescue(&arguments.words) {
+        print_line(
+            rt,
+            "rescue takes nothing, or SLOTS, 1 to 1024, and SIZE, 4096 to 1073741824",
         );
     } else if let Ok(Some(fault)) = bridge_words::wrong_words(rt.alloc(), &arguments.words) {
         print_line(rt, fault.text());

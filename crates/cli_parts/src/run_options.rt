@@ -1,16 +1,16 @@
 //! The options of a run, which say how the program works and not what a command does. They stand among the command's words, and are
 //! taken out of these before the command is read.
-ghost use Rattle.std.specs.Prelude.{◌≡◌, ◌⊎◌, ◌≤◌, ◌++◌, ◌∷◌, [], Err, IfOk, OnOk, IfErr, length, map, string_bytes};
+ghost use Rattle.std.specs.Prelude.{◌≡◌, ◌≤◌, ◌++◌, ◌∷◌, [], Err, IfOk, OnOk, IfErr, length, map, string_bytes};
 ghost use Rattle.cli_parts.specs.declared.run_options.WrongOption.{WrongOption};
 ghost use Rattle.cli_parts.specs.declared.run_options.Untaken.TheVariants.{Wrong, NoMemory};
-ghost use Rattle.cli_parts.specs.RunOptions.{AreNone, AreTaken, IsNoSeconds, IsWrong, IsWrongNext, TakesIdle, wrong_text};
-ghost use Rattle.cli_parts.specs.Piece.{IsNext, IsPiece, IsPlain};
+ghost use Rattle.cli_parts.specs.RunOptions.{IsNoSeconds, IsWrong, IsWrongNext, TakesIdle, wrong_text};
+ghost use Rattle.cli_parts.specs.Piece.{IsPiece, IsPlain, IsTaken, TakesNext};
 
 use crate::seconds::seconds;
 use std::alloc::{AllocError, Global};
 
 /// The options of a run.
-#[derive(Clone, Copy, Debug, PartialEq, Eq)]
+#[derive(Clone, Copy, PartialEq, Eq)]
 pub struct RunOptions {
     /// Nothing is said of the net on standard error: `--quiet`.
     pub is_quiet: bool,
@@ -20,7 +20,7 @@ pub struct RunOptions {
 }
 
 /// Which option of a run is wrong, and why.
-#[derive(Clone, Copy, Debug, PartialEq, Eq)]
+#[derive(Clone, Copy, PartialEq, Eq)]
 pub enum WrongOption {
     /// `--quiet` is given twice.
     QuietTwice,
@@ -53,7 +53,7 @@ impl WrongOption {
 }
 
 /// Why no options were taken out of words.
-#[derive(Clone, Copy, Debug, PartialEq, Eq)]
+#[derive(Clone, Copy, PartialEq, Eq)]
 pub enum Untaken {
     /// One of them is wrong.
     Wrong(WrongOption),
@@ -171,8 +171,7 @@ impl Taken {
         word: &str,
         more: &'a [String],
     ) -> Result<&'a [String], Untaken>
-        ensures read { IfOk result (λ left. IsNext name.now (word.now ∷ map string_bytes more.now) (map string_bytes left.now)
-            self.old.options self.new.options (map string_bytes self.old.words.items) (map string_bytes self.new.words.items)) }
+        ensures read { IfOk result (λ left. TakesNext name.now (word.now ∷ map string_bytes more.now) (map string_bytes left.now) self.old self.new) }
         ensures shorter { IfOk result (λ left. length left.now ≤ length more.now) }
         ensures wrong { (wrong : WrongOption) → result ≡ Err (Wrong wrong)
             → IsWrongNext wrong name.now self.old.options (word.now ∷ map string_bytes more.now) }
@@ -212,8 +211,7 @@ impl Taken {
 ///
 /// The error says which is the first option that is wrong, and why, or that no memory was found.
 pub fn take_options(alloc: Global, words: &[String]) -> Result<Taken, Untaken>
-    ensures taken { IfOk result (λ taken. AreTaken (map string_bytes words.now) taken.options (map string_bytes taken.words.items)
-        ⊎ AreNone (map string_bytes words.now) taken.options (map string_bytes taken.words.items)) }
+    ensures taken { IfOk result (λ taken. IsTaken (map string_bytes words.now) taken) }
     ensures wrong { (wrong : WrongOption) → result ≡ Err (Wrong wrong) → IsWrong wrong (map string_bytes words.now) }
 {
     let mut taken = Taken {

@@ -1,19 +1,11 @@
 //! The words `skip NUMBER`, which are no command of `bridge` itself: the program reads them, and makes another call for them.
-ghost use Rattle.std.specs.Prelude.{◌≡◌, ◌↔◌, IsTrue, MatchOption, map, slice_index, string_bytes};
+ghost use Rattle.std.specs.Prelude.{MatchOption, map, string_bytes};
 ghost use Rattle.cli_parts.specs.SkipWords.{IsEntryNumber, IsNoEntryNumber, IsSkip, IsNoSkip};
+
+use crate::digits::has_plus;
 
 // The name of the command.
 const SKIP: &str = "skip";
-
-// Whether the word begins with a plus, which `from_str_radix` takes.
-fn has_plus(word: &str) -> bool
-    ensures { IsTrue result ↔ (slice_index word.now 0 ≡ 43) }
-{
-    match word.as_bytes() {
-        [first, ..] => *first == b'+',
-        [] => false,
-    }
-}
 
 // The number of an entry that a word of decimal digits writes. Leading zeros are allowed.
 fn entry_number(word: &str) -> Option<u64>

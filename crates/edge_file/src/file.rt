@@ -3,7 +3,7 @@
 ghost use Rattle.std.specs.Prelude.{◌≡◌, ◌⊎◌, ◌<◌, ◌^◌, IfOk};
 
 use crate::counted_file::CountedFile;
-use crate::opening::{open_file, open_two, set_length, sync_folder};
+use crate::opening::{open_file, open_read_only, open_two, set_length, sync_folder};
 use crate::{OpenFault, PairFault, Sharing, WholePages};
 use edge_disk::{Disk, DiskFault};
 use std::fs::File;
@@ -62,6 +62,14 @@ impl FileDisk {
         ensures { IfOk result (λ disk. (file_moment disk).faults ≡ 0) }
     {
         let (file, len) = open_file(rt, path, false, sharing)?;
+        Ok(disk_of(file, len))
+    }
+
+    /// Opens a file that exists to be read alone, beside others that share it, and says why it isn't opened. A write to it is a fault.
+    pub fn open_to_read(rt: &HostRuntime, path: &str) -> Result<FileDisk, OpenFault>
+        ensures { IfOk result (λ disk. (file_moment disk).faults ≡ 0) }
+    {
+        let (file, len) = open_read_only(rt, path)?;
         Ok(disk_of(file, len))
     }
 

@@ -27,18 +27,15 @@ impl HeldPart {
         }
     }
 
-    /// These bytes wait from this offset on.
-    pub(crate) fn of(at: u64, bytes: &[u8]) -> HeldPart
+    /// Has these bytes wait from this offset on, in place of what waited.
+    pub(crate) fn hold(&mut self, at: u64, bytes: &[u8])
         requires { length bytes.now ≤ PAGE }
-        ensures at { result.at ≡ at }
-        ensures bytes { result.bytes.items ≡ bytes.now }
+        ensures at { self.new.at ≡ at }
+        ensures bytes { self.new.bytes.items ≡ bytes.now }
     {
-        let mut part = HeldPart {
-            at,
-            bytes: ArrayVec::new(),
-        };
-        let _ = part.fill(bytes);
-        part
+        self.at = at;
+        self.bytes.clear();
+        let _ = self.fill(bytes);
     }
 
     /// Whether a piece at this offset goes on where these bytes end, of which there are some.

@@ -40,6 +40,24 @@ pub(crate) fn open_file(
     Ok((file, len))
 }
 
+/// A file or a block device that exists, opened to be read alone and locked beside others that share it, and its length in bytes. Anything
+/// else isn't opened: to open a pipe would wait for whoever writes to it.
+pub(crate) fn open_read_only(rt: &HostRuntime, path: &str) -> Result<(File, u64), OpenFault> {
+    let metadata = fs::metadata(rt, path)?;
+    if metadata.is_dir() {
+        return Err(OpenFault::IsFolder);
+    }
+    if !metadata.is_file() && !metadata.file_type().is_block_device() {
+        return Err(OpenFault::NoFile);
+    }
+    let mut options = OpenOptions::new();
+    options.read(true);
+    let mut file = options.open(rt, path)?;
+    file.try_lock_shared()?;
+    let len = len_of(&mut file)?;
+    Ok((file, len))
+}
+
 // A file that exists, not locked, and which it is.
 fn open_known(rt: &HostRuntime, path: &str) -> io::Result<(File, FileId)> {
     let file = open_unlocked(rt, path, false)?;

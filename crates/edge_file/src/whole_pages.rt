@@ -133,7 +133,7 @@ impl<D: Disk> WholePages<D> {
         let pages = piece.len() - last;
         let (front, back) = piece.split_at(pages);
         self.disk.write_at(at, front)?;
-        self.held = HeldPart::of(at + pages as u64, back);
+        self.held.hold(at + pages as u64, back);
         Ok(())
     }
 

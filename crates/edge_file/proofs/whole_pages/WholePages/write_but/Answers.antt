@@ -18,7 +18,7 @@ returns-clause-written g c = λ tells.
     let cut = put_cut c.args.at (length c.args.piece.now - c.args.last) c.args.piece.now old.reads (omega arith) room in
     let bare = put_empty held.at _ old.reads c.requires.none in
     let now = c.in_ok-write_at.ensures.written tells in
-    cc (c.of-self.ensures.at, c.of-self.ensures.bytes, c.split_at.ensures.front, c.split_at.ensures.back)
+    cc (c.hold.ensures.at, c.hold.ensures.bytes, c.split_at.ensures.front, c.split_at.ensures.back)
 
 pub returns-clause-torn : goal.returns-clause-torn
 returns-clause-torn g c = λ tells.
@@ -27,5 +27,5 @@ returns-clause-torn g c = λ tells.
     let room : c.args.at + length c.args.piece.now ≤ length old.reads = omega (arith, c.requires.room, (g.met.D.Disk.lawful c.args.self.now.disk tells).reads_size) in
     let cut = put_cut c.args.at (length c.args.piece.now - c.args.last) c.args.piece.now old.reads (omega arith) room in
     let now = c.in_ok-write_at.ensures.written tells in
-    same_but_along _ _ _ _ _ _ (put_empty held.at _ _ c.requires.none) (cc (c.of-self.ensures.at, c.of-self.ensures.bytes, c.split_at.ensures.front, c.split_at.ensures.back))
+    same_but_along _ _ _ _ _ _ (put_empty held.at _ _ c.requires.none) (cc (c.hold.ensures.at, c.hold.ensures.bytes, c.split_at.ensures.front, c.split_at.ensures.back))
     (put_same c.args.at (length c.args.piece.now) c.args.piece.now old.reads room (omega arith))

@@ -2,7 +2,7 @@ use Rattle.std.proofs.Common.{◌≡◌, ◌≢◌, ℕ, ◌^◌, ◌<◌, List,
 use Rattle.std.specs.Str.Parse.{without_leading_plus, IsNumeral, digits_value}
 use Rattle.std.proofs.lemmas.Str.Parse.{without_leading_plus_none}
 use Rattle.bridge_words.proofs.Numbers.{is_numeral, no_numeral, fits}
-use Rattle.cli_parts.proofs.seconds.number.Goals as goal
+use Rattle.cli_parts.proofs.digits.number.Goals as goal
 
 pub returns-in-Ok : goal.returns-in-Ok
 returns-in-Ok c =

@@ -1,0 +1,9 @@
+pub mod Gathering
+pub mod Inserting
+pub mod Judging
+pub mod Reading
+pub mod Listed
+pub mod Over
+pub mod Headers
+pub mod Seeing
+pub mod Ending

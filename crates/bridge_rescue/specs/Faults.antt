@@ -1,0 +1,46 @@
+-- What is wrong with the slots that aren't sound.
+use Rattle.std.specs.Prelude.{◌≡◌, ◌≢◌, ◌⊎◌, ℕ, ◌+◌, ◌<◌, List, [], ◌∷◌, length, All}
+use Rattle.spool_state.specs.Layout.{most_number}
+use Rattle.spool_state.specs.Segment.{IsGroup, Segment, entries_of}
+use Rattle.spool_state.specs.Image.{slot_at, HoldsSegment}
+use Rattle.spool_state.specs.Broken.{BreaksAt}
+use Rattle.notes.specs.declared.note.Note.{Note}
+use Rattle.notes.specs.declared.note.Note.TheVariants.{Fine, NotSpool, DiskFault}
+use Rattle.bridge_rescue.specs.declared.fault.Why.{Why}
+use Rattle.bridge_rescue.specs.declared.fault.Why.TheVariants.{Cut, Broken, TooHigh, Unread}
+use Rattle.bridge_rescue.specs.declared.fault.SlotFault.{SlotFault}
+
+-- The slot holds a segment of sound groups, and the number after its last entry is above 2^63.
+pub record IsTooHigh (at size : ℕ) (c : List ℕ) : Type 0 where
+  pub segment : Segment
+  pub holds : HoldsSegment at size segment c
+  pub groups : All IsGroup segment.groups
+  pub high : most_number < segment.first + length (entries_of segment)
+
+-- This is wrong with the slot that begins at an offset of the device, and this is its place. Of a read that failed nothing is known.
+abbrev pub IsWhy : Why → ℕ → ℕ → List ℕ → ℕ → Type 0
+IsWhy Cut begin size c at = (length c < begin + size) × (at ≡ length c)
+IsWhy Broken begin size c at = BreaksAt begin size at c
+IsWhy TooHigh begin size c at = IsTooHigh begin size c × (at ≡ begin)
+IsWhy Unread begin size c at = at ≡ begin
+
+-- the slot of that place is one of so many slots of this size, and this is wrong with it
+pub record IsFault (slots size : ℕ) (c : List ℕ) (fault : SlotFault) : Type 0 where
+  pub place : fault.place < slots
+  pub is : IsWhy fault.why (slot_at size fault.place) size c fault.at
+
+-- none of them is of the slot of that place
+abbrev pub AreNotAt : ℕ → List SlotFault → Type 0
+AreNotAt place faults = All (λ fault. fault.place ≢ place) faults
+
+-- a slot was not read
+abbrev pub HasUnread : List SlotFault → Type 0
+HasUnread [] = ⊥
+HasUnread (fault ∷ more) = (fault.why ≡ Unread) ⊎ HasUnread more
+
+-- The note of a rescue that printed the entries of all sound slots: whether a slot was not read, or else where the first one is at fault.
+abbrev pub IsVerdict : List SlotFault → Note → Type 0
+IsVerdict faults Fine = faults ≡ []
+IsVerdict faults DiskFault = HasUnread faults
+IsVerdict faults (NotSpool at) = (HasUnread faults → ⊥) × (first : SlotFault) × (more : List SlotFault) × (faults ≡ first ∷ more) × (at ≡ first.at)
+IsVerdict faults note = ⊥

@@ -1,0 +1,6 @@
+pub mod Layout
+pub mod Faults
+pub mod Slots
+pub mod Lines
+pub mod Looking
+pub mod RescueRun

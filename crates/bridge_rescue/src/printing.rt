@@ -1,0 +1,95 @@
+//! The entries of the sound slots, printed.
+ghost use Rattle.std.specs.Prelude.{◌≡◌, ◌≤◌, ℕ, List, All, length, IfErr, IsErrOf};
+ghost use Rattle.spool_state.specs.Layout.{most_slots};
+ghost use Rattle.spool_state.specs.Segment.{Segment, entries_of};
+ghost use Rattle.spool_state.specs.SpoolState.{OpenSlot, entries_in};
+ghost use Rattle.edge_disk.specs.Calls.{Calls};
+ghost use Rattle.edge_disk.specs.Disk.{IsUntouched};
+ghost use Rattle.spool_slots.specs.Slot.{Knows};
+ghost use Rattle.conn_serve.specs.Endings.{CountsFaults};
+ghost use Rattle.bridge_rescue.specs.Lines.{GathersMore, PrintsCounted, IsPrintNote};
+ghost use Rattle.bridge_rescue.specs.Looking.{IsReadableSlot, AreKnown, note_of_scan};
+
+use crate::lines::{add_entries, write_rest};
+use edge_disk::Disk;
+use edge_io::Sink;
+use notes::Note;
+use spool_slots::{ScanFault, Slot, Window};
+use std::alloc::Global;
+
+/// How many entries are read at a time.
+const PART: u32 = 256;
+
+// The note of the same name.
+fn note_of_scan(fault: ScanFault) -> Note
+    ensures { result ≡ note_of_scan fault }
+{
+    match fault {
+        ScanFault::NotSpool { at } => Note::NotSpool { at },
+        ScanFault::DiskFault => Note::DiskFault,
+        ScanFault::NoMemory => Note::NoMemory,
+    }
+}
+
+// Reads the entries of the slot, and adds their lines to those that are held, of which many are written.
+fn print_slot<D: Disk, K: Sink>(
+    alloc: Global,
+    disk: &mut D,
+    window: &mut Window,
+    slot: &Slot,
+    output: &mut K,
+    lines: &mut Vec<u8>,
+) -> Result<(), Note>
+    requires prints { (k : K) (text : List ℕ) → K.permits k text }
+    requires readable { IsReadableSlot (D.moment disk.old).size slot.now }
+
+    ensures known { IfErr result IsPrintNote }
+    ensures calls { Calls (IsErrOf result Note.DiskFault) (D.moment disk.old) (D.moment disk.new) }
+    ensures told { D.tells → IsUntouched (D.moment disk.old) (D.moment disk.new) }
+    ensures writes { CountsFaults (IsErrOf result Note.WriteFault) (K.write_faults output.old) (K.write_faults output.new) }
+    ensures gathered { (segment : Segment) → D.tells → Knows slot.now segment (D.moment disk.old).reads
+        → GathersMore (entries_of segment) result (K.taken output.old) (K.taken output.new) lines.old.items lines.new.items }
+{
+    let end = slot.first + slot.count;
+    let mut mark = slot.start();
+    'parts: while mark.number < end {
+        let part = match slot.read_part(alloc, disk, window, mark, PART) {
+            Ok(part) => part,
+            Err(fault) => return Err(note_of_scan(fault)),
+        };
+        add_entries(alloc, output, &part.entries, lines)?;
+        mark = part.mark;
+    }
+    Ok(())
+}
+
+/// Prints the events of the entries of these slots, in order, and answers how many there are. The error is the note that says why not all
+/// were printed: `WriteFault` exactly where a write failed, `DiskFault` exactly where a call of the disk did, `NoMemory`, or `NotSpool` where
+/// a slot is another one than it was.
+pub(crate) fn print_slots<D: Disk, K: Sink>(
+    alloc: Global,
+    disk: &mut D,
+    window: &mut Window,
+    slots: &[Slot],
+    output: &mut K,
+) -> Result<u64, Note>
+    requires prints { (k : K) (text : List ℕ) → K.permits k text }
+    requires few { length slots.now ≤ most_slots }
+    requires readable { All (IsReadableSlot (D.moment disk.old).size) slots.now }
+
+    ensures known { IfErr result IsPrintNote }
+    ensures calls { Calls (IsErrOf result Note.DiskFault) (D.moment disk.old) (D.moment disk.new) }
+    ensures told { D.tells → IsUntouched (D.moment disk.old) (D.moment disk.new) }
+    ensures writes { CountsFaults (IsErrOf result Note.WriteFault) (K.write_faults output.old) (K.write_faults output.new) }
+    ensures printed { (sound : List OpenSlot) → D.tells → AreKnown sound slots.now (D.moment disk.old).reads
+        → PrintsCounted (entries_in sound) result (K.taken output.old) (K.taken output.new) }
+{
+    let mut lines = Vec::new(alloc);
+    let mut count = 0;
+    for slot in slots {
+        print_slot(alloc, disk, window, slot, output, &mut lines)?;
+        count += slot.count;
+    }
+    write_rest(output, &lines)?;
+    Ok(count)
+}

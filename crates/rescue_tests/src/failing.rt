@@ -1,0 +1,57 @@
+//! Reads and writes that fail.
+use crate::devices::{SLOTS, copied, device, is_as, lines, rescue};
+use bridge_rescue::Why;
+use edge_memory::MemDisk;
+use std::alloc::Global;
+use std::process::Abort;
+
+/// The output takes nothing, and the device stays as it was.
+pub(crate) fn a_write_fails(rt: &impl Abort, alloc: Global) {
+    let bytes = device(rt, alloc);
+    let disk = MemDisk::of(copied(rt, alloc, &bytes), Vec::new(alloc));
+    let cut = rescue(rt, alloc, None, disk, &[0]);
+    assert!(rt; cut.status == 72 && cut.printed.is_empty());
+    assert!(rt; cut.disk.bytes() == bytes.as_slice());
+    let Some(report) = &cut.report else {
+        panic!(rt; "no report");
+    };
+    assert!(rt; report.sound == 3 && report.printed.is_none() && report.faults.is_empty());
+}
+
+/// Each call of the disk fails in turn. None is passed over: the status is 73. Where it was a slot's, all others are printed.
+pub(crate) fn each_read_fails(rt: &impl Abort, alloc: Global) {
+    let bytes = device(rt, alloc);
+    let mut failures = 0u64;
+    let mut unread = 0u64;
+    for call in 0..100u64 {
+        let mut failing = Vec::new(alloc);
+        failing.push(call).ok().expect(rt, "memory");
+        let disk = MemDisk::of(copied(rt, alloc, &bytes), failing);
+        let ending = rescue(rt, alloc, None, disk, &[]);
+        assert!(rt; ending.disk.bytes() == bytes.as_slice());
+        if ending.status == 0 {
+            break;
+        }
+        failures = call.saturating_add(1);
+        assert!(rt; ending.status == 73, "{call}");
+        let Some(report) = &ending.report else {
+            assert!(rt; call == 0 && ending.printed.is_empty());
+            continue;
+        };
+        if let Some(fault) = report.faults.first() {
+            unread = unread.saturating_add(1);
+            let place = fault.place as usize;
+            assert!(rt; place < 3 && fault.why == Why::Unread);
+            let left = [b"defg".as_slice(), b"abcg".as_slice(), b"abcdef".as_slice()][place];
+            let due = [(fault.place, Why::Unread, SLOTS[place] as u64)];
+            is_as(rt, alloc, &ending, 73, left, 2, &due);
+        } else {
+            // (a slot that was sound is not read again: the lines of whole entries were printed, in order)
+            assert!(rt; report.printed.is_none());
+            let all = lines(rt, alloc, b"abcdefg");
+            assert!(rt; all.starts_with(&ending.printed));
+        }
+    }
+    // Each slot was looked at by more than one call.
+    assert!(rt; failures > 6 && failures < 99 && unread >= 6);
+}

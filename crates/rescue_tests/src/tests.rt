@@ -1,0 +1,24 @@
+//! All that holds of a rescue.
+use crate::damage::{
+    broken_groups_put_slots_at_fault, closed_gates_end_slots, headers_are_replaced,
+    numbers_order_slots, short_devices_have_slots, whole_slots_are_printed,
+};
+use crate::failing::{a_write_fails, each_read_fails};
+
+#[test]
+fn damage(rt: HostRuntime) {
+    let alloc = rt.alloc();
+    whole_slots_are_printed(&rt, alloc);
+    headers_are_replaced(&rt, alloc);
+    closed_gates_end_slots(&rt, alloc);
+    broken_groups_put_slots_at_fault(&rt, alloc);
+    numbers_order_slots(&rt, alloc);
+    short_devices_have_slots(&rt, alloc);
+}
+
+#[test]
+fn what_fails(rt: HostRuntime) {
+    let alloc = rt.alloc();
+    a_write_fails(&rt, alloc);
+    each_read_fails(&rt, alloc);
+}
