@@ -81,7 +81,7 @@ pub fn check(rt: &impl Abort, alloc: Global, table: &str) {
 }
 
 // What is wrong with words, and the text for it.
-const FAULTS: [(WordsFault, &str); 26] = [
+const FAULTS: [(WordsFault, &str); 29] = [
     (WordsFault::NoCommand, "no command is named"),
     (WordsFault::UnknownWord, "unknown word or option"),
     (WordsFault::MissingWord, "a word is missing"),
@@ -104,7 +104,16 @@ const FAULTS: [(WordsFault, &str); 26] = [
     (WordsFault::NoOutToken, "hec: --out-token is needed"),
     (WordsFault::NoOutChannel, "hec: --out-channel is needed"),
     (WordsFault::Workers, "--workers: 1 to 16"),
+    (WordsFault::Connections, "--connections: 1 to 1024"),
+    (
+        WordsFault::BothCounts,
+        "--connections: not beside --workers",
+    ),
     (WordsFault::Talks, "--talks: 1 to 67108864"),
+    (
+        WordsFault::TalksOfConnections,
+        "--talks: 1 to 1048576 with --connections",
+    ),
     (
         WordsFault::NoDoor,
         "serve: --relp, --lumberjack or --hec is needed",

@@ -1,10 +1,14 @@
 //! Desks over a spool in memory.
 ghost use Rattle.std.specs.Prelude.{◌≡◌, ◌^◌, ◌≤◌, false};
+ghost use Rattle.desk_access.specs.declared.division.Division.TheVariants.{Workers};
+ghost use Rattle.spool_answers.specs.Leave.{LetsKeep};
 ghost use Rattle.spool_log.specs.Memory.{run_of};
 ghost use Rattle.spool_desk.specs.Alone.{HoldsNone};
 ghost use Rattle.spool_turns.specs.Passes.{fresh};
 ghost use Rattle.spool_turns.specs.Named.{IsName};
 
+use desk_access::Division;
+use edge_disk::Disk;
 use edge_memory::MemDisk;
 use hec_ids::Ids;
 use spool_desk::Desk;
@@ -23,7 +27,9 @@ pub(crate) fn formatted(rt: &impl Abort, alloc: Global, slot: u64) -> MemDisk
 }
 
 /// The desk of the spool on a disk, opened for storing, with no id.
-pub(crate) fn opened(rt: &impl Abort, alloc: Global, disk: MemDisk) -> Desk<MemDisk>
+pub(crate) fn opened<D: Disk + Drop>(rt: &impl Abort, alloc: Global, disk: D) -> Desk<D>
+    requires leave { LetsKeep D.tells D.moment D.may_tear D.may_release }
+
     ensures sure { result.spool.doubt ≡ false }
     ensures ids { HoldsNone (run_of result.spool.memory) result.ids }
 {
@@ -34,26 +40,31 @@ pub(crate) fn opened(rt: &impl Abort, alloc: Global, disk: MemDisk) -> Desk<MemD
 }
 
 /// The same desk, which is to be shared.
-pub(crate) fn to_share(rt: &impl Abort, alloc: Global, disk: MemDisk) -> Unnamed<MemDisk> {
+pub(crate) fn to_share<D: Disk + Drop>(rt: &impl Abort, alloc: Global, disk: D) -> Unnamed<D>
+    requires leave { LetsKeep D.tells D.moment D.may_tear D.may_release }
+{
     let unnamed = Unnamed::new(alloc, opened(rt, alloc, disk)).ok();
     unnamed.expect(rt, "memory")
 }
 
 /// That desk under its name, with so many passes. With `group` takes of several of them may be stored as one group.
-pub(crate) fn named<J: Naming, R: Abort>(
+pub(crate) fn named<D: Disk + Drop, J: Naming, R: Abort>(
     rt: &R,
     alloc: Global,
-    unnamed: Unnamed<MemDisk>,
+    unnamed: Unnamed<D>,
     seats: u32,
     group: bool,
-) -> Opened<MemDisk, J>
+) -> Opened<D, J>
     requires seats { seats ≡ J.seats }
     requires group { group ≡ J.began.grouped }
+    requires divided { J.run.division ≡ Workers }
     requires name { IsName J.table J.run J.start J.began unnamed }
 
     ensures { result.passes.items ≡ fresh 0 seats unnamed.alone.end_told unnamed.alone.cursor_told }
 {
-    let opened = unnamed.named::<J>(alloc, seats, group).ok();
+    let opened = unnamed
+        .named::<J>(alloc, seats, group, Division::Workers)
+        .ok();
     opened.expect(rt, "memory")
 }
 

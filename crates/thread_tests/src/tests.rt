@@ -1,6 +1,6 @@
 //! All that holds of callers that share a desk, in turn and in threads: where each take is stored by itself, and where takes of several may
 //! be stored as one group.
-use crate::turns::{answers, crowd, joint, pair, threads};
+use crate::turns::{answers, crowd, joint, meanwhile, pair, threads};
 use crate::workers::{rows, serving};
 use std::alloc::Global;
 use std::process::Abort;
@@ -43,4 +43,10 @@ fn takes_are_stored_together(rt: HostRuntime) {
 #[test]
 fn crowd_is_told_where_its_entries_stand(rt: HostRuntime) {
     crowd::check(&rt, rt.alloc());
+}
+
+#[test]
+fn ids_wait_for_no_sync(rt: HostRuntime) {
+    meanwhile::check(&rt, rt.alloc(), false);
+    meanwhile::check(&rt, rt.alloc(), true);
 }

@@ -10,7 +10,11 @@ pub(crate) mod answers;
 #[cfg(test)]
 pub(crate) mod crowd;
 #[cfg(test)]
+mod gate;
+#[cfg(test)]
 pub(crate) mod joint;
+#[cfg(test)]
+pub(crate) mod meanwhile;
 #[cfg(test)]
 pub(crate) mod pair;
 #[cfg(test)]

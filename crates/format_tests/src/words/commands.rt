@@ -1,5 +1,6 @@
 //! How commands are told.
 use bridge_words::{Command, ListForm, Need, Receiver, Server};
+use desk_access::Division;
 use notes::Place;
 use std::alloc::Global;
 use std::process::Abort;
@@ -69,6 +70,11 @@ fn tell_server(rt: &impl Abort, alloc: Global, server: &Server, told: &mut Strin
     tell_place(rt, server.relp.as_ref(), told);
     tell_place(rt, server.lumberjack.as_ref(), told);
     tell_place(rt, server.hec.as_ref(), told);
+    let division = match server.division {
+        Division::Workers => "",
+        Division::Connections => " connections",
+    };
+    add(rt, told, division);
     let counts = format!(in alloc; " {} {}", server.workers, server.talks).expect(rt, "memory");
     add(rt, told, &counts);
     add(rt, told, token_name(server.token));

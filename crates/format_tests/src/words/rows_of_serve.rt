@@ -1,7 +1,8 @@
 //! The words of `serve`.
 
-/// What the words of `serve` ask for: the places of RELP, of Lumberjack and of the collector, workers, connections of each, the token, the
-/// token with acks, `group` where that is given, and the receiver with its place.
+/// What the words of `serve` ask for: the places of RELP, of Lumberjack and of the collector, workers, after `connections` where that
+/// option says how many, connections of each, the token, the token with acks, `group` where that is given, and the receiver with its
+/// place.
 pub const SERVES: &str = r#"serve --relp p => serve (p) - - 4 67108864 - - -, a device
 serve --lumberjack logs.example:5044 => serve - (logs.example:5044) - 4 67108864 - - -, a device
 serve --hec=0.0.0.0:8088 => serve - - (0.0.0.0:8088) 4 67108864 - - -, a device
@@ -12,6 +13,10 @@ serve --relp - => serve (-) - - 4 67108864 - - -, a device
 serve --relp=-x => serve (-x) - - 4 67108864 - - -, a device
 serve --relp p --workers 1 => serve (p) - - 1 67108864 - - -, a device
 serve --workers=0000000016 --relp=p => serve (p) - - 16 67108864 - - -, a device
+serve --relp p --connections 1 => serve (p) - - connections 1 1048576 - - -, a device
+serve --connections=0000001024 --hec=h => serve - - (h) connections 1024 1048576 - - -, a device
+serve --connections 256 --group --relp p --talks=7 => serve (p) - - connections 256 7 - - group -, a device
+serve --relp p --talks 1048576 --connections 2 => serve (p) - - connections 2 1048576 - - -, a device
 serve --talks 1 --relp p => serve (p) - - 4 1 - - -, a device
 serve --relp p --talks=67108864 => serve (p) - - 4 67108864 - - -, a device
 serve --hec h --token $T --ack-token=$A => serve - - (h) 4 67108864 $T $A -, a device
@@ -53,6 +58,17 @@ serve --relp=p --workers 17 => --workers: 1 to 16
 serve --relp=p --workers=x => --workers: 1 to 16
 serve --relp=p --workers=00000000004 => --workers: 1 to 16
 serve --relp=p --workers=4 --workers=4 => an option is given twice
+serve --relp=p --connections 0 => --connections: 1 to 1024
+serve --relp=p --connections 1025 => --connections: 1 to 1024
+serve --relp=p --connections= => --connections: 1 to 1024
+serve --relp=p --connections=00000000004 => --connections: 1 to 1024
+serve --relp=p --connections => an option has no value
+serve --relp=p --connections=4 --connections=4 => an option is given twice
+serve --relp=p --connections=4 --workers=4 => --connections: not beside --workers
+serve --workers 17 --connections 1025 --relp=p => --connections: not beside --workers
+serve --connections 4 => serve: --relp, --lumberjack or --hec is needed
+serve --relp=p --connections 4 --talks 0 => --talks: 1 to 1048576 with --connections
+serve --relp=p --talks 1048577 --connections 4 => --talks: 1 to 1048576 with --connections
 serve --relp=p --talks 0 => --talks: 1 to 67108864
 serve --relp=p --talks 67108865 => --talks: 1 to 67108864
 serve --relp=p --talks= => --talks: 1 to 67108864

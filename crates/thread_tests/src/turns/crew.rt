@@ -1,5 +1,7 @@
 //! Passes that take in threads of their own.
 ghost use Rattle.std.specs.Prelude.{◌≡◌, ◌+◌, ◌*◌, ◌≤◌, ℕ, [], false, All, IfOk};
+ghost use Rattle.desk_access.specs.declared.division.Division.TheVariants.{Workers};
+ghost use Rattle.desk_access.specs.Division.{divided};
 ghost use Rattle.spool_log.specs.Memory.{run_of};
 ghost use Rattle.spool_desk.specs.Alone.{HoldsNone};
 ghost use Rattle.desk_access.specs.Batch.{Belongs};
@@ -7,6 +9,7 @@ ghost use Rattle.spool_turns.specs.Passes.{fresh};
 ghost use Rattle.spool_turns.specs.Named.{IsName};
 
 use crate::turns::taking::take_many;
+use desk_access::Division;
 use edge_disk::Disk;
 use spool_desk::Desk;
 use spool_turns::{Naming, Opened, Pass, Seated, Shared, Unnamed};
@@ -50,7 +53,7 @@ pub(crate) fn jobs<J: Naming>(
     run: u32,
     seats: u32,
 ) -> Result<Vec<Job<J>>, AllocError>
-    requires run { run ≡ J.run }
+    requires run { (run ≡ J.run.number) × (J.run.division ≡ Workers) }
     requires few { seats ≤ 64 }
     requires fresh { (end : ℕ) × (cursor : ℕ) × (passes.items ≡ fresh 0 seats end cursor) }
 
@@ -71,7 +74,7 @@ pub(crate) fn jobs<J: Naming>(
 /// The first connection of the pass of that number.
 pub(crate) fn first_conn(run: u32, number: u32) -> u64
     requires few { number ≤ 63 }
-    ensures belongs { Belongs run number result }
+    ensures belongs { Belongs (divided Workers run) number result }
 {
     u64::from(run) * RUNS + u64::from(number) * CONNS
 }
@@ -103,6 +106,7 @@ fn crew<D: Disk + Drop + Send, J: Naming + Send + Sync, R: Threads + Wait + Sync
     takes: u64,
 ) -> Result<(u64, Vec<Pass<J>>), AllocError>
     requires few { seats ≤ 64 }
+    requires divided { J.run.division ≡ Workers }
     requires fresh { (end : ℕ) × (cursor : ℕ) × (passes.items ≡ fresh 0 seats end cursor) }
 {
     let jobs = jobs(alloc, passes, shared.run(), seats)?;
@@ -137,9 +141,10 @@ fn work_shift<D: Disk + Drop + Send, J: Naming + Send + Sync, R: Threads + Wait 
     requires seats { seats ≡ J.seats }
     requires few { seats ≤ 64 }
     requires group { group ≡ J.began.grouped }
+    requires divided { J.run.division ≡ Workers }
     requires name { IsName J.table J.run J.start J.began unnamed }
 {
-    let Ok(opened) = unnamed.named::<J>(alloc, seats, group) else {
+    let Ok(opened) = unnamed.named::<J>(alloc, seats, group, Division::Workers) else {
         return Err(AllocError);
     };
     let Opened { shared, passes } = opened;

@@ -1,5 +1,6 @@
 //! Many passes that take in threads of their own, and one that makes other calls meanwhile: what each was told.
 ghost use Rattle.std.specs.Prelude.{◌≡◌, ℕ, [], true};
+ghost use Rattle.desk_access.specs.declared.division.Division.TheVariants.{Workers};
 ghost use Rattle.desk_access.specs.Batch.{Belongs};
 ghost use Rattle.spool_turns.specs.Passes.{fresh};
 ghost use Rattle.spool_turns.specs.Named.{IsName};
@@ -126,6 +127,7 @@ fn crowd<J: Naming + Send + Sync, R: Threads + Wait + Sync>(
     shared: &Shared<MemDisk, J>,
     passes: Vec<Pass<J>>,
 ) -> Result<(Vec<Told>, Vec<Pass<J>>), AllocError>
+    requires divided { J.run.division ≡ Workers }
     requires fresh { (end : ℕ) × (cursor : ℕ) × (passes.items ≡ fresh 0 64 end cursor) }
 {
     let last = first_conn(shared.run(), SEATS - 1);
@@ -148,9 +150,10 @@ fn crowded<J: Naming + Send + Sync, R: Abort + Threads + Wait + Sync>(
 ) -> (Vec<Told>, Desk<MemDisk>)
     requires seats { 64 ≡ J.seats }
     requires group { true ≡ J.began.grouped }
+    requires divided { J.run.division ≡ Workers }
     requires name { IsName J.table J.run J.start J.began unnamed }
 {
-    let opened = named::<J, R>(rt, alloc, unnamed, SEATS, true);
+    let opened = named::<MemDisk, J, R>(rt, alloc, unnamed, SEATS, true);
     let Opened { shared, passes } = opened;
     let worked = crowd(rt, alloc, &shared, passes);
     let (told, passes) = worked.expect(rt, "memory");

@@ -1,5 +1,6 @@
 //! Two passes that hand in before either collects: their takes are stored as one group.
 ghost use Rattle.std.specs.Prelude.{◌≡◌, [], ◌∷◌, true};
+ghost use Rattle.desk_access.specs.declared.division.Division.TheVariants.{Workers};
 ghost use Rattle.event_form.specs.Entry.{IsEntry};
 ghost use Rattle.desk_access.specs.Batch.{IsPlain};
 ghost use Rattle.desk_access.specs.Legal.{IsNext};
@@ -66,6 +67,7 @@ fn tell<J: Naming, R: Abort + Wait>(
     last: Pass<J>,
 ) -> Vec<Pass<J>>
     requires group { J.began.grouped ≡ true }
+    requires divided { J.run.division ≡ Workers }
     requires first { (first.number ≡ 0) × (first.own ≡ []) }
     requires last { (last.number ≡ 1) × (last.own ≡ []) }
 {
@@ -89,9 +91,10 @@ fn two_passes<J: Naming, R: Abort + Wait>(
 ) -> Desk<MemDisk>
     requires seats { 2 ≡ J.seats }
     requires group { true ≡ J.began.grouped }
+    requires divided { J.run.division ≡ Workers }
     requires name { IsName J.table J.run J.start J.began unnamed }
 {
-    let opened = named::<J, R>(rt, *said.allocator(), unnamed, 2, true);
+    let opened = named::<MemDisk, J, R>(rt, *said.allocator(), unnamed, 2, true);
     let Opened { shared, mut passes } = opened;
     let last = passes.pop().expect(rt, "the second pass");
     let first = passes.pop().expect(rt, "the first pass");

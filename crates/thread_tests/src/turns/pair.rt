@@ -1,5 +1,6 @@
 //! Two passes at one desk, of whose disk a call may fail.
 ghost use Rattle.std.specs.Prelude.{◌≡◌, ℕ, []};
+ghost use Rattle.desk_access.specs.declared.division.Division.TheVariants.{Workers};
 ghost use Rattle.spool_turns.specs.Named.{IsName};
 
 use crate::desks::{calls_to_open, formatted, named, to_share};
@@ -17,8 +18,8 @@ use std::marker::Brand;
 use std::process::Abort;
 use std::sync::Wait;
 
-// The channel that asks.
-const CHANNEL: u128 = 0x0aee_ac95_ac74_4aa9_b30d_6c4c_0ac5_81ba;
+/// The channel that asks.
+pub(crate) const CHANNEL: u128 = 0x0aee_ac95_ac74_4aa9_b30d_6c4c_0ac5_81ba;
 
 /// Adds a line with this answer.
 pub(crate) fn say(rt: &impl Abort, said: &mut String, answer: &impl Debug) {
@@ -48,8 +49,8 @@ pub(crate) fn say_places(
     }
 }
 
-// Whether the channel holds the id settled.
-fn asked<A: Access>(access: &mut A, id: u64) -> bool {
+/// Whether the channel holds the id settled.
+pub(crate) fn asked<A: Access>(access: &mut A, id: u64) -> bool {
     let mut known = [true];
     access.ask(CHANNEL, &[id], &mut known);
     known[0]
@@ -127,6 +128,7 @@ fn in_turn<J: Naming, R: Abort + Wait>(
     requires first { (first.number ≡ 0) × (first.own ≡ []) }
     requires last { (last.number ≡ 1) × (last.own ≡ []) }
     requires seats { 2 ≡ J.seats }
+    requires divided { J.run.division ≡ Workers }
 {
     let run = shared.run();
     let mut zero = Seated {
@@ -153,10 +155,11 @@ fn two_passes<J: Naming, R: Abort + Wait>(
     upto: u64,
 ) -> Desk<MemDisk>
     requires seats { 2 ≡ J.seats }
+    requires divided { J.run.division ≡ Workers }
     requires group { group ≡ J.began.grouped }
     requires name { IsName J.table J.run J.start J.began unnamed }
 {
-    let opened = named::<J, R>(rt, *said.allocator(), unnamed, 2, group);
+    let opened = named::<MemDisk, J, R>(rt, *said.allocator(), unnamed, 2, group);
     let Opened { shared, mut passes } = opened;
     let last = passes.pop().expect(rt, "the second pass");
     let first = passes.pop().expect(rt, "the first pass");

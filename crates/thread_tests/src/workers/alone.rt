@@ -3,7 +3,7 @@ ghost use Rattle.std.specs.Prelude.{◌≡◌, ℕ, ◌^◌, ◌≤◌, List, So
 ghost use Rattle.desk_access.specs.Call.{Record};
 ghost use Rattle.spool_turns.specs.Passes.{Known};
 ghost use Rattle.spool_turns.specs.Replays.{Closes, IsReal, desk_at};
-ghost use Rattle.serve_workers.specs.Works.{first_conn};
+ghost use Rattle.desk_access.specs.Division.{callers_of, each_of};
 ghost use Rattle.serve_workers.specs.Crews.{AreNew, HaveWorked};
 ghost use Rattle.serve_workers.specs.Answering.{MayAnswer};
 
@@ -40,11 +40,11 @@ fn crew_of<
 ) -> Result<Crew<P, J>, NoCrew<P, J>>
 where
     P::L: Send,
-    requires many { (vec_len passes ≡ vec_len posts) × (vec_len posts ≤ 64) }
+    requires many { (vec_len passes ≡ vec_len posts) × (vec_len posts ≤ callers_of J.run.division) }
     requires new { AreNew 0 passes.items }
-    requires talks { talks ≤ 2 ^ 26 }
+    requires talks { talks ≤ each_of J.run.division }
     requires says { (i : ℕ) (post : _) → slice_get posts.items i ≡ Some post
-        → MayAnswer (IsReal D.Disk J.start J.run J.seats J.began) J.start (first_conn J.run i) (P.permits post.door) post.rules }
+        → MayAnswer (IsReal D.Disk J.start J.run J.seats J.began) J.start J.run i (P.permits post.door) post.rules }
 
     ensures each { IfOk result (λ crew. HaveWorked J.start J.run talks (map (λ (post : _). post.rules) posts.items) (map (λ (post : _). P.told post.door) posts.items)
         passes.items (map (λ (door : _). P.told door) crew.doors.items) crew.passes.items crew.reports.items) }
@@ -70,11 +70,11 @@ pub fn serve_alone<
 ) -> Result<Served<P, D>, Desk<D>>
 where
     P::L: Send,
-    requires many { (vec_len opened.passes ≡ vec_len posts) × (vec_len posts ≤ 64) }
+    requires many { (vec_len opened.passes ≡ vec_len posts) × (vec_len posts ≤ callers_of J.run.division) }
     requires new { AreNew 0 opened.passes.items }
-    requires talks { talks ≤ 2 ^ 26 }
+    requires talks { talks ≤ each_of J.run.division }
     requires says { (i : ℕ) (post : _) → slice_get posts.items i ≡ Some post
-        → MayAnswer (IsReal D.Disk J.start J.run J.seats J.began) J.start (first_conn J.run i) (P.permits post.door) post.rules }
+        → MayAnswer (IsReal D.Disk J.start J.run J.seats J.began) J.start J.run i (P.permits post.door) post.rules }
 
     ensures journal { IfOk result (λ served. (log : List Record) × (passes : List Known) × Closes D.tells J.start J.run J.seats J.began log passes (desk_at served.desk)
         × HaveWorked J.start J.run talks (map (λ (post : _). post.rules) posts.items) (map (λ (post : _). P.told post.door) posts.items)

@@ -1,5 +1,7 @@
 //! Workers over a spool in memory.
 ghost use Rattle.std.specs.Prelude.{◌≡◌, ◌^◌, ◌≤◌, vec_len};
+ghost use Rattle.desk_access.specs.declared.division.Division.TheVariants.{Workers};
+ghost use Rattle.desk_access.specs.Division.{callers_of, each_of};
 ghost use Rattle.spool_turns.specs.Named.{IsName};
 
 use crate::desks::{formatted, named, to_share};
@@ -24,13 +26,14 @@ fn serve_named<J: Naming + Send + Sync, R: Abort + Threads + Wait + Sync>(
     talks: u32,
 ) -> Served<TestDoor, MemDisk>
     requires seats { vec_len posts ≡ J.seats }
-    requires few { vec_len posts ≤ 64 }
-    requires talks { talks ≤ 2 ^ 26 }
+    requires divided { J.run.division ≡ Workers }
+    requires few { vec_len posts ≤ callers_of J.run.division }
+    requires talks { talks ≤ each_of J.run.division }
     requires group { group ≡ J.began.grouped }
     requires name { IsName J.table J.run J.start J.began unnamed }
 {
     let seats = posts.len() as u32;
-    let opened = named::<J, R>(rt, alloc, unnamed, seats, group);
+    let opened = named::<MemDisk, J, R>(rt, alloc, unnamed, seats, group);
     let served = serve_alone(rt, alloc, opened, posts, talks).ok();
     served.expect(rt, "memory")
 }
