@@ -12,6 +12,9 @@ HERE = os.path.dirname(os.path.realpath(__file__))
 TOP = os.path.dirname(HERE)
 # The parts of a crate that a check reads.
 PARTS = ("src", "specs", "proofs")
+# The goals of a loop's invariant and of a type's. That one of them fails says that a proof no longer goes through, and of no clause that it
+# refuses the edit.
+NO_CLAUSE = re.compile(r"loop-|invariant_of-|.*-(?:preserved|init)\b")
 
 
 class BadEdit(Exception):
@@ -121,6 +124,8 @@ class Edit:
         path, old, found = "", "", set()
         if not self.goal:
             raise BadEdit("no line says what must refuse it")
+        if NO_CLAUSE.match(self.goal):
+            raise BadEdit(f"its goal is that of a loop or a type, and of no clause: {self.goal}")
         for line in self.lines:
             word, _, text = line.partition(":")
             text = text.removeprefix(" ")
