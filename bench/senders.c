@@ -47,6 +47,9 @@ struct sender {
     long port;
     int link;
     long sent, answered, count;
+    unsigned long long id;
+    int asks;
+    char channel[40];
     double at[MOST_AHEAD];
     int *times;
     char *text, piece[65536];
@@ -158,10 +161,7 @@ static void take_lumberjack(struct sender *it) {
 
 // ---- The collector: a request of event objects, and its reply, whose body is one object.
 
-static void open_hec(struct sender *it) {
-    it->text = malloc(400 + window * bytes);
-    it->size = sprintf(it->text, "POST /services/collector/event HTTP/1.1\r\nHost: 127.0.0.1\r\nAuthorization: Splunk " TOKEN "\r\n"
-        "Content-Length: %ld\r\n\r\n", window * bytes);
+static void put_objects(struct sender *it) {
     for (int i = 0; i < window; i++) {
         memset(it->text + it->size, 'x', bytes);
         memcpy(it->text + it->size, "{\"event\":\"", 10), memcpy(it->text + it->size + bytes - 2, "\"}", 2);
@@ -169,11 +169,52 @@ static void open_hec(struct sender *it) {
     }
 }
 
+static void open_hec(struct sender *it) {
+    it->text = malloc(400 + window * bytes);
+    it->size = sprintf(it->text, "POST /services/collector/event HTTP/1.1\r\nHost: 127.0.0.1\r\nAuthorization: Splunk " TOKEN "\r\n"
+        "Content-Length: %ld\r\n\r\n", window * bytes);
+    put_objects(it);
+}
+
 static void take_hec(struct sender *it) {
     for (char *end; (end = strchr(it->piece, '}')); drop(it, end + 1 - it->piece)) {
         if (end - it->piece < 8 || memcmp(end - 8, "\"code\":0", 8)) stop(it->piece);
         note(it);
     }
+}
+
+// ---- The collector with ids: a request of event objects under the token with ids, whose reply has an id, and then queries, one after
+// another's answer, until one says that what has that id is durable. That is the answer of the request. One request is under way.
+
+static void open_ids(struct sender *it) {
+    static int channels;
+    sprintf(it->channel, "%08x-0000-4000-8000-%012x", getpid(), __sync_add_and_fetch(&channels, 1));
+    it->text = malloc(500 + window * bytes);
+    it->size = sprintf(it->text, "POST /services/collector/event HTTP/1.1\r\nHost: 127.0.0.1\r\nAuthorization: Splunk " ACK_TOKEN "\r\n"
+        "X-Splunk-Request-Channel: %s\r\nContent-Length: %ld\r\n\r\n", it->channel, window * bytes);
+    put_objects(it);
+}
+
+static void ask(struct sender *it) {
+    char body[64], text[400];
+    int length = sprintf(body, "{\"acks\":[%llu]}", it->id);
+    put(it, text, sprintf(text, "POST /services/collector/ack HTTP/1.1\r\nHost: 127.0.0.1\r\nAuthorization: Splunk " ACK_TOKEN "\r\n"
+        "X-Splunk-Request-Channel: %s\r\nContent-Length: %d\r\n\r\n%s", it->channel, length, body));
+}
+
+static void take_ids(struct sender *it) {
+    const char *sign = it->asks ? "}}" : "}";
+    char *body = strstr(it->piece, "\r\n\r\n"), *end = body ? strstr(body, sign) : NULL;
+    if (!end) return;
+    if (!it->asks) {
+        char *id = strstr(body, "\"ackId\":");
+        if (!id) stop(it->piece);
+        it->id = strtoull(id + 8, NULL, 10);
+    }
+    it->asks = !it->asks || !strstr(body, ":true");
+    drop(it, end + strlen(sign) - it->piece);
+    if (it->asks) ask(it);
+    else note(it);
 }
 
 // ---- All of them
@@ -195,6 +236,7 @@ static const struct protocol {
     {"relp", open_relp, send_relp, take_relp},
     {"lumberjack", open_lumberjack, send_again, take_lumberjack},
     {"hec", open_hec, send_again, take_hec},
+    {"ids", open_ids, send_again, take_ids},
 };
 
 static void dial(struct sender *it) {

@@ -10,9 +10,10 @@ import struct
 import subprocess
 
 TOKEN = "11111111-2222-3333-4444-555555555555"
+ACK_TOKEN = "aaaaaaaa-2222-3333-4444-555555555555"
 # The most events of a group on the disk that one frame, window or request makes: a frame of RELP is one, a batch of Lumberjack and a
-# request to the collector have more.
-GROUP = {"relp": 1, "lumberjack": 256, "hec": 10_000}
+# request to the collector, with ids or without, have more.
+GROUP = {"relp": 1, "lumberjack": 256, "hec": 10_000, "ids": 10_000}
 
 
 def source(name):
@@ -21,7 +22,8 @@ def source(name):
 
 def build(folder):
     """Builds the program in the folder, and gives its path."""
-    subprocess.run(["gcc", "-O2", "-Wall", "-pthread", f'-DTOKEN="{TOKEN}"', "-o", f"{folder}/senders", source("senders.c")], check=True)
+    tokens = (f'-DTOKEN="{TOKEN}"', f'-DACK_TOKEN="{ACK_TOKEN}"')
+    subprocess.run(["gcc", "-O2", "-Wall", "-pthread", *tokens, "-o", f"{folder}/senders", source("senders.c")], check=True)
     return f"{folder}/senders"
 
 

@@ -117,11 +117,12 @@ class Server(Process):
             self.spool += ", new"
             sparse(self.spool, SPOOL)
         subprocess.run([bridge, self.spool, "format", str(SLOTS), str(SLOT)], check=True, stdout=subprocess.DEVNULL)
-        self.ports = {protocol: free_port() for protocol in senders.GROUP}
+        self.ports = {protocol: free_port() for protocol in ("relp", "lumberjack", "hec")}
         places = [word for protocol, port in self.ports.items() for word in (f"--{protocol}", f"127.0.0.1:{port}")]
-        words = [bridge, self.spool, "serve", *places, "--workers", "16", "--token", senders.TOKEN, *manner]
-        super().__init__(name, words, syncs)
+        tokens = ["--token", senders.TOKEN, "--ack-token", senders.ACK_TOKEN]
+        super().__init__(name, [bridge, self.spool, "serve", *places, "--workers", "16", *tokens, *manner], syncs)
         wait_for(self.ports.values())
+        self.ports["ids"] = self.ports["hec"]
         if state == COLD:
             forget(self.spool)
 
