@@ -21,6 +21,7 @@ COMMANDS = [
     *(Row(f"load {protocol}", ["load", protocol, "1", "3"], first=EVENTS, left=3) for protocol in ("relp", "lumberjack", "hec")),
     Row("move", ["move", "TARGET", "7"], first=EVENTS, left=3, says=MOVED),
     Row("skip", ["skip", "1"], first=EVENTS, left=2),
+    Row("rescue", ["rescue"], first=EVENTS, left=3, tells=b"bridge: slots: 1 sound, 1 closed, 0 at fault; not all entries were printed"),
     Row("a receiver of Lumberjack", ["drain", "lumberjack"], b"2A\0\0\0\3", EVENTS),
     Row("a receiver of Lumberjack at a place", ["drain", "lumberjack", "PLACE"], b"", EVENTS, b"2A\0\0\0\3", says=CONFIRMED),
     Row("a collector at a place", ["drain", "hec", "PLACE", *HEC_OUT], b"", EVENTS, SUCCESS + TRUE, says=CONFIRMED),

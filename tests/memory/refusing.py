@@ -130,12 +130,17 @@ class Bench:
 
 
 def changes_nothing(ran, whole):
-    """Whether a run ended as the whole one, but for the lines that say why, or the last of them, for which there is no memory."""
-    return (ran.status, ran.out, ran.lines) == (whole.status, whole.out, whole.lines) and whole.err.startswith(ran.err)
+    """Whether a run ended as the whole one, but for lines that say why, for each of which memory is wanted anew: those that it has are
+    lines of the whole one, in their order."""
+    left = iter(whole.err.splitlines(keepends=True))
+    is_part = all(line in left for line in ran.err.splitlines(keepends=True))
+    return (ran.status, ran.out, ran.lines) == (whole.status, whole.out, whole.lines) and is_part
 
 
 def lacks(name, row, ran, before, whole):
     """Checks a run of the row in which a call was refused, and which didn't end as the whole one."""
-    check(f"{name}: no memory", (ran.status, ran.err) == (70, b"bridge: no memory\n"), ran)
+    first, *more = ran.err.splitlines() or [b""]
+    is_told = first == b"bridge: no memory" and (not more or bool(row.tells) and len(more) == 1 and more[0].startswith(row.tells))
+    check(f"{name}: no memory", ran.status == 70 and is_told, ran)
     check(f"{name}: the output begins as without a refusal", whole.out.startswith(ran.out) or ran.out in row.says, ran.out)
     check(f"{name}: what is acknowledged is there", row.keeps(before, ran, whole), ran)

@@ -32,16 +32,23 @@ def reply(body):
     return f"HTTP/1.1 200 OK\r\nContent-Type: application/json\r\nContent-Length: {len(body)}\r\n\r\n{body}".encode()
 
 
+def window(payloads):
+    """A window of Lumberjack, with a JSON frame for each payload."""
+    frames = (b"2J" + struct.pack(">II", number, len(payload)) + payload for number, payload in enumerate(payloads, 1))
+    return b"2W" + struct.pack(">I", len(payloads)) + b"".join(frames)
+
+
 def windows(payloads):
     """Windows of Lumberjack, each of one JSON frame."""
-    return b"".join(b"2W\0\0\0\x012J\0\0\0\x01" + struct.pack(">I", len(payload)) + payload for payload in payloads)
+    return b"".join(window([payload]) for payload in payloads)
 
 
 @dataclass
 class Row:
     """A run of the program: the runs before it that make its spool, its words, in which PLACE stands for the peer's and TARGET for
     another spool, what it is given, what the peer replies, its status, how many lines `list` has after it, what of the output
-    acknowledges an event each, what it may print in place of the output's beginning, and how many refused calls may change nothing."""
+    acknowledges an event each, what it may print in place of the output's beginning, how many refused calls may change nothing, how
+    many come after an acknowledgment at least, and how the line on standard error begins that may follow the one on the memory."""
 
     name: str
     words: list
@@ -54,6 +61,8 @@ class Row:
     says: tuple = ()
     # (one of them is the call for the block that is freed at the start, so that the C library keeps memory)
     spares: int = 5
+    late: int = 0
+    tells: bytes = b""
 
     def acknowledged(self, out):
         """How many events this output acknowledges."""
@@ -73,6 +82,7 @@ class Row:
 HELLO = [(["replay", "relp"], OPEN + b"2 syslog 5 hello\n3 close 0\n")]
 HEC_OUT = ["--out-token", TOKEN, "--out-channel", CHANNEL, "--polls", "2"]
 ASKS = request("ack", b'{"acks":[4294967296]}')
+STORED = reply('{"text":"Success","code":0}')
 SUCCESS, NOT_YET, TRUE = (reply(text) for text in ('{"text":"Success","code":0,"ackId":7}', '{"acks":{"7":false}}', '{"acks":{"7":true}}'))
 ROWS = [
     Row("an event by RELP", ["replay", "relp"], HELLO[0][1], left=1, acks=((b"\n2 rsp 6 200 OK\n", 1),)),
@@ -84,18 +94,37 @@ ROWS = [
         acks=((b"2A\0\0\0\x02", 2),),
     ),
     Row(
+        "a long event by RELP after one that was acknowledged",
+        ["replay", "relp"],
+        OPEN + b"2 syslog 5 hello\n3 syslog 100000 %s\n" % (b"x" * 100000),
+        left=2,
+        acks=((b"\n2 rsp 6 200 OK\n", 1), (b"\n3 rsp 6 200 OK\n", 1)),
+        late=1,
+    ),
+    Row(
+        "a large window of Lumberjack after one that was acknowledged",
+        ["replay", "lumberjack"],
+        window([b"{}"]) + window([b"{}"] * 40),
+        left=41,
+        acks=((b"2A\0\0\0\x01", 1), (b"2A\0\0\0\x28", 40)),
+        spares=10,
+        late=10,
+    ),
+    Row(
         "requests of the collector with an id",
         ["replay", "hec", "--token", TOKEN, "--ack-token", ACK_TOKEN],
         request("event", b'{"event":"a"}') + ASKS + ASKS + request("raw", b"p\r\n\nq"),
         left=3,
         acks=((b'{"acks":{"4294967296":true}}', 1),),
+        late=10,
     ),
     Row(
         "requests of the collector without an id",
         ["replay", "hec", "--token", TOKEN],
-        request("event", b'{"event":"a"}', TOKEN),
-        left=1,
-        acks=((b'{"text":"Success","code":0}', 1),),
+        request("event", b'{"event":"a"}', TOKEN) + request("event", b'{"event":"b"}', TOKEN),
+        left=2,
+        acks=((STORED, 1), (STORED * 2, 1)),
+        late=5,
     ),
     Row("a collector that doesn't confirm", ["drain", "hec", *HEC_OUT], SUCCESS + NOT_YET * 2, HELLO, status=69, left=1),
     Row("a collector that confirms", ["drain", "hec", *HEC_OUT], SUCCESS + NOT_YET + TRUE, HELLO),
