@@ -1,5 +1,5 @@
 -- What `replay` does.
-use Rattle.std.specs.Prelude.{◌≡◌, ◌⊎◌, false, ℕ, ◌+◌, ◌*◌, ◌^◌, List, All, Option}
+use Rattle.std.specs.Prelude.{◌≡◌, ◌⊎◌, false, ℕ, ◌+◌, ◌*◌, ◌^◌, List, [], All, Option}
 use Rattle.event_form.specs.declared.talk.Attended.{Attended}
 use Rattle.edge_io.specs.declared.proto.Proto.{Proto}
 use Rattle.edge_io.specs.declared.proto.Proto.TheVariants.{Hec}
@@ -31,7 +31,7 @@ use Rattle.commands.specs.SpoolRun.{SpoolRun, WasIn, spool_over}
 
 -- the rules of a replay: by these tokens, and each event of RELP is stored by itself
 abbrev pub replay_rules : Proto → Option ℕ → Option ℕ → Rules
-replay_rules proto token ack_token = record { proto = proto; token = token; ack_token = ack_token; group = false }
+replay_rules proto token ack_token = record { proto = proto; token = token; ack_token = ack_token; listed = []; group = false }
 
 -- And so it was from that moment on: whatever a crash left meanwhile stands for the state after the first of the
 -- calls, or for a stage of the next one. What a call took stays since that call was answered.

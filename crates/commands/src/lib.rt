@@ -15,6 +15,7 @@ mod loading;
 mod placing;
 mod replaying;
 mod sending;
+mod streams;
 
 pub use draining::drain_out;
 pub use finished::Finished;

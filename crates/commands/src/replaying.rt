@@ -13,10 +13,11 @@ ghost use Rattle.commands.specs.SpoolRun.{spool_over};
 ghost use Rattle.commands.specs.Told.{disk_over, input_over, link_over, output_over};
 
 use crate::finished::Finished;
+use crate::streams::Streams;
 use bridge_parts::recover_note;
 use conn_serve::{Rules, attend};
 use edge_disk::Disk;
-use edge_io::{Both, Link, Sink, Source};
+use edge_io::{Link, Sink, Source};
 use hec_ids::Ids;
 use notes::Note;
 use spool_desk::{Alone, Desk};
@@ -54,12 +55,12 @@ fn serve_link<D: Disk, L: Link>(
 }
 
 // Serves the input by these rules, as the first connection of the spool's run.
-fn serve_input<D: Disk, S: Source, K: Sink>(
+fn serve_input<'a, D: Disk, S: Source, K: Sink>(
     alloc: Global,
     rules: Rules,
     spool: Spool<D>,
-    input: &mut S,
-    output: &mut K,
+    input: &'a mut S,
+    output: &'a mut K,
 ) -> Finished<D>
     requires sure { spool.doubt ≡ false }
     requires answers { MayServe (spool_over spool) (run_of spool.memory * 2 ^ 32) rules
@@ -71,9 +72,9 @@ fn serve_input<D: Disk, S: Source, K: Sink>(
     ensures served { ServesLink rules (run_of spool.memory * 2 ^ 32)
         (link_over S.Source.own K.Sink.own input.old input.new output.old output.new) (KeepsOver spool result.disk) result.note }
 {
-    let mut link = Both {
-        source: &mut *input,
-        sink: &mut *output,
+    let mut link = Streams {
+        source: input,
+        sink: output,
     };
     serve_link(alloc, rules, spool, &mut link)
 }

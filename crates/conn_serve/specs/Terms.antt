@@ -1,5 +1,5 @@
 -- The terms on which a connection is served.
-use Rattle.std.specs.Prelude.{ℕ, Bool, true, false, None}
+use Rattle.std.specs.Prelude.{ℕ, Bool, true, false, None, []}
 use Rattle.hec_session.specs.declared.tokens.Tokens.{Tokens}
 use Rattle.conn_serve.specs.declared.rules.Rules.{Rules}
 
@@ -20,11 +20,11 @@ piece_of false = 8192
 
 -- those of its rules
 abbrev pub terms_of : Rules → Terms
-terms_of rules = record { most = most_of rules.group; tokens = record { token = rules.token; ack_token = rules.ack_token } }
+terms_of rules = record { most = most_of rules.group; tokens = record { token = rules.token; ack_token = rules.ack_token; listed = rules.listed } }
 
 -- no tokens
 abbrev pub no_tokens : Tokens
-no_tokens = record { token = None; ack_token = None }
+no_tokens = record { token = None; ack_token = None; listed = [] }
 
 -- of a protocol that has no tokens
 abbrev pub runs_of : ℕ → Terms

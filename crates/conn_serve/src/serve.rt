@@ -148,7 +148,12 @@ fn attend_by<L: Link, A: Access>(
             Ok(mut session) => run(alloc, link, access, &mut connection, &mut session, buf),
             Err(_) => Talk::NoMemory,
         },
-        Proto::Hec => match HecSession::new(alloc, rules.token, rules.ack_token) {
+        Proto::Hec => match HecSession::new(
+            alloc,
+            rules.token,
+            rules.ack_token,
+            rules.listed.share(),
+        ) {
             Ok(mut session) => run(alloc, link, access, &mut connection, &mut session, buf),
             Err(_) => Talk::NoMemory,
         },
@@ -183,7 +188,7 @@ fn attend_by<L: Link, A: Access>(
 ///   what is staged is one last batch. At `ReadFault`, `WriteFault`, `TooMuch` and `NoMemory` it is given
 ///   up.
 /// - HEC, as Splunk's HTTP Event Collector has it, by the tokens of the rules: a request's events are taken
-///   as one group and then answered Success; by the token with acks an id is issued and said with Success,
+///   as one group and then answered Success; by a token with acks an id is issued and said with Success,
 ///   the events are taken with it as their unit, and it is settled. At a fault of the bytes a reply says so.
 ///
 /// Endings, in the order in which they are judged: what a whole frame asks for that isn't carried whole

@@ -1,12 +1,14 @@
 -- The checks before the body, in their order ("HTTP Event Collector REST API endpoints"): each passes, or
 -- answers at once.
-use Rattle.std.specs.Prelude.{ℕ, ◌==◌, Bool, true, false, ◌||◌, List, take, drop, Option, Some, None, Result, Ok, Err, option_map, codes, if◌then◌else◌}
+use Rattle.std.specs.Prelude.{ℕ, ◌==◌, Bool, true, false, ◌||◌, ◌&&◌, List, take, drop, Option, Some, None, Result, Ok, Err, option_map, codes, if◌then◌else◌}
 use Rattle.std.specs.Int.{from_be_bytes, w128}
+use Rattle.std.specs.List.{list_any}
 use Rattle.std.specs.Option.{option_or}
 use Rattle.std.specs.Str.{bytes_eq, str_eq_ignore_ascii_case}
 use Rattle.uuid.specs.Text.{parsed}
 use Rattle.http_edge.specs.declared.request.HttpRequest.{HttpRequest}
 use Rattle.http_edge.specs.Fields.{field_value}
+use Rattle.hec_tokens.specs.declared.list.ListedToken.{ListedToken}
 use Rattle.hec_session.specs.declared.code.HecCode.{HecCode}
 use Rattle.hec_session.specs.declared.code.HecCode.TheVariants.{TokenRequired, InvalidAuthorization, InvalidToken, InvalidFormat, ChannelMissing, InvalidChannel, AckDisabled, QueryAuthorization, Healthy, NotFound, MethodNotAllowed}
 use Rattle.hec_session.specs.declared.endpoint.Endpoint.{Endpoint}
@@ -77,12 +79,20 @@ abbrev pub is_token : Option ℕ → ℕ → Bool
 is_token None id = false
 is_token (Some token) id = token == id
 
--- what a token grants; one that stands in both places uses acks
+-- whether a GUID is listed
+abbrev pub is_listed : List ListedToken → ℕ → Bool
+is_listed listed id = list_any (λ token. token.guid == id) listed
+
+-- whether it is listed with acks, if only once
+abbrev pub is_listed_with_acks : List ListedToken → ℕ → Bool
+is_listed_with_acks listed id = list_any (λ token. token.guid == id && token.acks) listed
+
+-- what a token grants; one that stands in several places uses acks if it does so in one of them
 abbrev pub granted : Tokens → Option ℕ → Result Grant HecCode
 granted tokens None = Err InvalidToken
 granted tokens (Some id) =
-    if is_token tokens.ack_token id then Ok WithAcks
-    else if is_token tokens.token id then Ok WithoutAcks
+    if is_token tokens.ack_token id || is_listed_with_acks tokens.listed id then Ok WithAcks
+    else if is_token tokens.token id || is_listed tokens.listed id then Ok WithoutAcks
     else Err InvalidToken
 
 abbrev pub granted_by : Tokens → Option (List ℕ) → Result Grant HecCode

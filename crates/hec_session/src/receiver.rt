@@ -11,11 +11,12 @@ use crate::say::HecSay;
 use crate::stop::Stop;
 use crate::task::{Task, task_of};
 use crate::tokens::Tokens;
+use hec_tokens::TokenList;
 use http_edge::{Head, HttpRequest};
 use std::alloc::{AllocError, Global};
 use std::marker::Model;
 
-/// A receiver of Splunk's HTTP Event Collector. Contracts see its two tokens.
+/// A receiver of Splunk's HTTP Event Collector. Contracts see its tokens.
 #[derive(Drop)]
 pub struct HecCore {
     tokens: Tokens,
@@ -30,13 +31,17 @@ impl Model for HecCore {
 }
 
 impl HecCore {
-    /// A receiver with a token without acks and one that uses them, each the number of a GUID. Where both
-    /// are one GUID, it uses acks. It takes no memory.
-    pub fn new(token: Option<u128>, ack_token: Option<u128>) -> HecCore
-        ensures { result ≡ record { token = token; ack_token = ack_token } }
+    /// A receiver with a token without acks, one that uses them, and those of a list, each the number of a
+    /// GUID. A GUID that stands in several places uses acks if it does so in one of them. It takes no memory.
+    pub fn new(token: Option<u128>, ack_token: Option<u128>, listed: TokenList) -> HecCore
+        ensures { result ≡ record { token = token; ack_token = ack_token; listed = listed } }
     {
         HecCore {
-            tokens: Tokens { token, ack_token },
+            tokens: Tokens {
+                token,
+                ack_token,
+                listed,
+            },
         }
     }
 

@@ -1,21 +1,24 @@
 //! The tokens of a receiver, and what a request's token grants.
 ghost use Rattle.std.specs.Prelude.{◌≡◌, codes, IfOk, MatchOption};
 ghost use Rattle.hec_session.specs.Acts.{Finds};
-ghost use Rattle.hec_session.specs.Checks.{credentials, grant_of, granted, granted_by, guid, is_token, request_of, without_field};
+ghost use Rattle.hec_session.specs.Checks.{credentials, grant_of, granted, granted_by, guid, is_listed, is_listed_with_acks, is_token, request_of, without_field};
 ghost use Rattle.hec_session.specs.Target.{parameter};
 
 use crate::code::HecCode;
 use crate::request::RequestRef;
 use crate::stop::Stop;
 use crate::target::parameter;
+use hec_tokens::{ListedToken, TokenList};
 use std::alloc::{AllocError, Global};
 use uuid::Uuid;
 
-/// The tokens of a receiver: one without acks, and one that uses them.
-#[derive(Clone, Copy)]
+/// The tokens of a receiver: one without acks, one that uses them, and those of a list, each without or with
+/// acks.
+#[derive(Drop)]
 pub struct Tokens {
     pub token: Option<u128>,
     pub ack_token: Option<u128>,
+    pub listed: TokenList,
 }
 
 /// What a token grants.
@@ -58,6 +61,18 @@ fn is_token(token: Option<u128>, id: u128) -> bool
     }
 }
 
+fn is_listed(listed: &[ListedToken], id: u128) -> bool
+    ensures { result ≡ is_listed listed.now id }
+{
+    listed.iter().any(|token| token.guid == id)
+}
+
+fn is_listed_with_acks(listed: &[ListedToken], id: u128) -> bool
+    ensures { result ≡ is_listed_with_acks listed.now id }
+{
+    listed.iter().any(|token| token.guid == id && token.acks)
+}
+
 // How a request without the field is answered.
 fn without_field(alloc: Global, target: &[u8]) -> Result<HecCode, AllocError>
     ensures { IfOk result (λ code. code ≡ without_field (parameter (codes "token") target.now)) }
@@ -73,9 +88,10 @@ impl Tokens {
     fn granted(&self, id: u128) -> Result<Grant, HecCode>
         ensures { result ≡ granted self.now (Some id) }
     {
-        if is_token(self.ack_token, id) {
+        let listed = self.listed.as_slice();
+        if is_token(self.ack_token, id) || is_listed_with_acks(listed, id) {
             Ok(Grant::WithAcks)
-        } else if is_token(self.token, id) {
+        } else if is_token(self.token, id) || is_listed(listed, id) {
             Ok(Grant::WithoutAcks)
         } else {
             Err(HecCode::InvalidToken)

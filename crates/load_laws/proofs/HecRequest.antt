@@ -36,7 +36,7 @@ abbrev pub the_request : List ℕ → HttpRequest
 the_request body = record { method = codes "POST"; target = target; minor = 1; fields = the_fields (decimal (length body)); body = body }
 
 abbrev pub the_tokens : Tokens
-the_tokens = record { token = Some 1; ack_token = None }
+the_tokens = record { token = Some 1; ack_token = None; listed = [] }
 
 -- ---- its bytes
 

@@ -35,7 +35,7 @@ pub record LeadsTo (before : DeskState) (calls : List Call) (now : AloneView) : 
 
 -- the tokens by which the collector's requests are judged: the answer to each comes once it is durable
 abbrev pub tokens : Tokens
-tokens = record { token = Some 1; ack_token = None }
+tokens = record { token = Some 1; ack_token = None; listed = [] }
 
 -- the terms of the connection: each event of RELP is stored by itself
 abbrev pub terms : Terms

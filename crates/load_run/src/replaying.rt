@@ -12,6 +12,7 @@ use crate::stream::TOKEN;
 use conn_serve::{Rules, attend};
 use edge_io::{Both, Proto};
 use event_form::Talk;
+use hec_tokens::TokenList;
 use spool_desk::Alone;
 use std::alloc::Global;
 
@@ -40,6 +41,7 @@ fn rules(proto: Proto) -> Rules
         proto,
         token: Some(TOKEN),
         ack_token: None,
+        listed: TokenList::none(),
         group: false,
     }
 }

@@ -19,6 +19,7 @@ use desk_access::Access;
 use edge_io::Link;
 use event_form::{FeedFault, Talk, Why};
 use hec_session::HecCore;
+use hec_tokens::TokenList;
 use http_edge::{HttpFault, HttpWindow, ItemRef};
 use std::alloc::{AllocError, Global};
 
@@ -64,21 +65,22 @@ fn next_asked(window: &mut HttpWindow, alloc: Global, core: &HecCore) -> Result<
 }
 
 impl HecSession {
-    /// A session that has met no byte, with a token without acks and one that uses them. The only error is want of
-    /// memory.
+    /// A session that has met no byte, with a token without acks, one that uses them, and those of a list. The only
+    /// error is want of memory.
     pub fn new(
         alloc: Global,
         token: Option<u128>,
         ack_token: Option<u128>,
+        listed: TokenList,
     ) -> Result<HecSession, AllocError>
         ensures window { IfOk result (λ s. s.window ≡ clear) }
         ensures reads { IfOk result (λ s. Reads [] [] s.window) }
-        ensures core { IfOk result (λ s. s.core ≡ record { token = token; ack_token = ack_token }) }
+        ensures core { IfOk result (λ s. s.core ≡ record { token = token; ack_token = ack_token; listed = listed }) }
         ensures met { IfOk result (λ s. s.met ≡ None) }
     {
         Ok(HecSession {
             window: HttpWindow::new(alloc)?,
-            core: HecCore::new(token, ack_token),
+            core: HecCore::new(token, ack_token, listed),
             text: Vec::new(alloc),
             met: None,
         })

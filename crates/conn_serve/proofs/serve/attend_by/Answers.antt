@@ -1,9 +1,12 @@
-use Rattle.std.proofs.Common.{◌∙◌, ◌<◌, [], ap, arith, length, refl, sym}
+use Rattle.std.proofs.Common.{◌≡◌, ◌∙◌, ℕ, ◌<◌, List, [], ap, arith, length, refl, subst, sym}
+use Rattle.std.specs.Prelude.{Option}
 use Rattle.stream_grammar.specs.Reading.{Window}
 use Rattle.relp_frame.specs.declared.fault.RelpFault.{RelpFault}
 use Rattle.lumber_frame.specs.declared.fault.LumberFault.{LumberFault}
 use Rattle.lumber_session.specs.Counting.{Core}
 use Rattle.http_edge.specs.Window.{Window as Requests}
+use Rattle.hec_tokens.specs.declared.list.ListedToken.{ListedToken}
+use Rattle.hec_session.specs.declared.tokens.Tokens.{Tokens}
 use Rattle.event_form.specs.declared.talk.Talk.TheVariants.{NoMemory}
 use Rattle.desk_access.specs.Carried.{Carried}
 use Rattle.conn_serve.specs.Done.{told}
@@ -20,6 +23,10 @@ use Rattle.conn_serve.proofs.Faults.{counts_none}
 use Rattle.conn_serve.proofs.Running.{serves_as, serves_none}
 use Rattle.conn_serve.proofs.Windowed as windowed
 use Rattle.conn_serve.proofs.serve.attend_by.Goals as goal
+
+-- tokens with a list that was shared
+with_list : (core : Tokens) (token ack_token : Option ℕ) (listed shared : List ListedToken) → shared ≡ listed → core ≡ record { token = token; ack_token = ack_token; listed = shared } → core ≡ record { token = token; ack_token = ack_token; listed = listed }
+with_list core token ack_token listed shared same is = subst (λ (l : List ListedToken). core ≡ record { token = token; ack_token = ack_token; listed = l }) same is
 
 pub run-requires : goal.run-requires
 run-requires g c =
@@ -62,6 +69,7 @@ run-requires-in-Ok-new-2 g c =
     let asked : 0 < length c.args.buf.now = omega (arith, c.requires.piece, asks_some c.args.rules.now.group) in
     let session = c.in-Ok-new-2.session in
     let new = c.in-Ok-new-2.ensures in
+    let core = with_list _ _ _ _ _ c.share.ensures new.core in
     let none = ap (λ (w : Requests). w.reading.waiting) new.window in
     let sound = ap (λ (w : Requests). w.reading.fault) new.window in
     record {
@@ -72,7 +80,7 @@ run-requires-in-Ok-new-2 g c =
       may_end = hec_sessions.may_end session.core c.args.conn session.window session.met none new.met;
       first = refl;
       may = c.requires.may;
-      says = rw (c.in-Hec.is, ← new.core) at c.requires.says;
+      says = rw (c.in-Hec.is, ← core) at c.requires.says;
     }
 
 pub returns-in-Ok : goal.returns-in-Ok
@@ -93,8 +101,9 @@ returns-in-Ok-new g c =
 pub returns-in-Ok-new-2 : goal.returns-in-Ok-new-2
 returns-in-Ok-new-2 g c =
     let run = c.run-in-Ok-new-2.ensures in
+    let core = with_list _ _ _ _ _ c.share.ensures c.in-Ok-new-2.ensures.core in
     record {
-      carried = rw c.in-Hec.is (serves_as (λ t left bytes calls text talk. Carried (hec t c.args.conn) left bytes calls text talk) _ _ _ _ _ _ _ _ _ _ c.in-Ok-new-2.ensures.core run.serves);
+      carried = rw c.in-Hec.is (serves_as (λ t left bytes calls text talk. Carried (hec t c.args.conn) left bytes calls text talk) _ _ _ _ _ _ _ _ _ _ core run.serves);
       reads = run.reads;
       writes = run.writes;
       same = run.same;
