@@ -1,6 +1,6 @@
 -- A net in memory.
 use Rattle.std.specs.Prelude.{◌≡◌, ◌≢◌, ◌⊎◌, ◌↔◌, ◌<◌}
-use Rattle.std.specs.Prelude.{ℕ, List, map, vec_len, take, drop, length, find, Option, Some, None, Result, Ok, Err, IsErrOf, IfOk, OnOk, OnErr}
+use Rattle.std.specs.Prelude.{ℕ, List, map, vec_len, take, drop, length, find, Option, Some, None, Result, Ok, Err, IsErr, IsErrOf, IfOk, OnOk, OnErr}
 use Rattle.std.specs.Global.{Vec}
 use Rattle.std.specs.String.{string_bytes}
 use Rattle.std.specs.Vec.{vec_capacity}
@@ -13,6 +13,7 @@ use Rattle.edge_io.specs.declared.script.Script.{Script}
 use Rattle.edge_io.specs.declared.net_fault.NetFault.{NetFault}
 use Rattle.edge_io.specs.declared.net_fault.NetFault.TheVariants.{Fault, NoMemory}
 use Rattle.edge_io.specs.declared.mem_link.MemLink.{MemLink}
+use Rattle.edge_io.specs.declared.mem_monitor.MemMonitor.{MemMonitor}
 use Rattle.edge_io.specs.declared.mem_door.MemDoor.{MemDoor}
 use Rattle.edge_io.specs.declared.mem_place.MemPlace.{MemPlace}
 use Rattle.edge_io.specs.declared.mem_script.MemScript.{MemScript}
@@ -28,7 +29,7 @@ bound_of one = record { place = string_bytes one.place; doors = one.doors }
 abbrev pub hung_of : Hung → HungUp
 hung_of one = record { place = string_bytes one.place; read = one.read.items; written = one.written.items; left = one.left }
 
--- which calls of bind and dial fail
+-- which calls of bind, monitor and dial fail
 abbrev pub calls_of : MemNet → Script
 calls_of net = net.calls
 
@@ -86,6 +87,14 @@ pub record BindsExactly (name : List ℕ) (count : ℕ) (old new : MemNet) (resu
   pub others : (other : List ℕ) → other ≢ name → doors_at other (places_of new) ≡ doors_at other (places_of old)
   pub counts : CountsNetFault old.faults new.faults result
   pub advances : Advances (calls_of old) (calls_of new)
+  pub scripts : scripts_of new ≡ scripts_of old
+
+-- What a call for a monitor answers and does: it fails exactly where it is to fail.
+pub record MonitorsExactly (old new : MemNet) (result : Result MemMonitor NetFault) : Type 0 where
+  pub fails : IsErr result ↔ IsFailing (calls_of old)
+  pub counts : CountsNetFault old.faults new.faults result
+  pub advances : Advances (calls_of old) (calls_of new)
+  pub places : places_of new ≡ places_of old
   pub scripts : scripts_of new ≡ scripts_of old
 
 -- What a dial answers and does: it fails exactly where it is to fail or the place has no script, and else gives a link

@@ -18,7 +18,7 @@ pub record Bound : Type 0 where
   pub place : List ℕ
   pub doors : ℕ
 
--- What a net tells: the doors that were bound, and the links that were hung up. Its counts of faults are of its binds and dials, and of the reads and the
+-- What a net tells: the doors that were bound, and the links that were hung up. Its counts of faults are of its binds, monitors and dials, and of the reads and the
 -- writes of the links hung up.
 pub record NetState : Type 0 where
   pub bound : Option (List Bound)
@@ -33,13 +33,13 @@ AddsBound place doors (Err _) old new = new ≡ old
 AddsBound place doors (Ok made) None new = new ≡ None
 AddsBound place doors (Ok made) (Some old) new = new ≡ Some (old ++ record { place = place; doors = doors } ∷ [])
 
--- what a bind or a dial leaves
+-- what a bind, a monitor or a dial leaves
 pub record SameHung (old new : NetState) : Type 0 where
   pub hung : new.hung ≡ old.hung
   pub read_faults : new.read_faults ≡ old.read_faults
   pub write_faults : new.write_faults ≡ old.write_faults
 
--- A bind or a dial answers a fault only where the count of faults rose in this call. Want of memory is no fault, and a call
+-- A bind, a monitor or a dial answers a fault only where the count of faults rose in this call. Want of memory is no fault, and a call
 -- that answers none failed at nothing.
 abbrev pub HasNetCause : {T : Type 0} → ℕ → ℕ → Result T NetFault → Type 0
 HasNetCause before now (Ok made) = now ≡ before

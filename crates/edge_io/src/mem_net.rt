@@ -6,7 +6,7 @@ ghost use Rattle.edge_io.specs.MemScript.{is_for};
 
 use crate::mem_script::link_of;
 use crate::script::Script;
-use crate::{MemDoor, MemLink, MemPlace, MemScript, Net, NetFault, Object, Pause};
+use crate::{MemDoor, MemLink, MemMonitor, MemPlace, MemScript, Net, NetFault, Object, Pause};
 use std::alloc::{AllocError, Global};
 
 /// A link that was hung up by a net in memory.
@@ -31,8 +31,8 @@ pub struct BoundDoors {
     pub doors: u32,
 }
 
-/// A net that binds the doors that it was made with and dials links by scripts, and whose binds and dials fail at
-/// the calls that it was given. It tells all.
+/// A net that binds the doors that it was made with and dials links by scripts, and whose binds, monitors and dials
+/// fail at the calls that it was given. It tells all.
 #[derive(Drop)]
 pub struct MemNet {
     alloc: Global,
@@ -94,7 +94,7 @@ impl MemNet {
     ghost use Rattle.edge_io.specs.MemNet.{calls_of, places_of, scripts_of, bound_of, bound_by, hung_of, hung_up_of, state_of, fault_counted};
 
     /// A net that binds these doors and dials links by these scripts. Where two have one place, the first counts.
-    /// `failing` lists the numbers, from 0, of the calls of `bind` and `dial` that fail, in any order. Such a call
+    /// `failing` lists the numbers, from 0, of the calls of `bind`, `monitor` and `dial` that fail, in any order. Such a call
     /// counts a fault and changes nothing else.
     pub fn of(
         alloc: Global,
@@ -136,7 +136,7 @@ impl MemNet {
         &self.hung
     }
 
-    // Counts a fault of a bind or a dial.
+    // Counts a fault of a bind, a monitor or a dial.
     fn count_fault(&mut self)
         ensures counted { self.new ≡ fault_counted self.old }
         ensures cause { (self.old.faults ≤ self.new.faults) × Rose 1 self.old.faults self.new.faults }
@@ -177,11 +177,13 @@ impl Net for MemNet {
     ghost use Rattle.edge_io.specs.MemSource.{given_of, left_of, faults_of as link_read_faults};
     ghost use Rattle.edge_io.specs.MemSink.{taken_of, faults_of as link_write_faults};
     ghost use Rattle.edge_io.specs.MemDoor.{state_of as door_state};
-    ghost use Rattle.edge_io.specs.MemNet.{state_of, has_room_for_one, BindsExactly, DialsExactly, SameSetup};
+    ghost use Rattle.edge_io.specs.MemNet.{state_of, has_room_for_one, BindsExactly, MonitorsExactly, DialsExactly, SameSetup};
 
     type L = MemLink;
 
     type P = MemDoor;
+
+    type M = MemMonitor;
 
     ghost told = { λ net. state_of net };
 
@@ -215,6 +217,20 @@ impl Net for MemNet {
         let made = bind_at(&mut self.places, self.alloc, place, count)?;
         self.bound.push_reserved(bound);
         Ok(made)
+    }
+
+    /// A monitor whom nobody asks, at any place.
+    fn monitor(&mut self, _: &str) -> Result<MemMonitor, NetFault>
+        ensures cause { HasNetCause (state_of self.old).net_faults (state_of self.new).net_faults result }
+        ensures bound { (state_of self.new).bound ≡ (state_of self.old).bound }
+        ensures rest { SameHung (state_of self.old) (state_of self.new) }
+        ensures exact { MonitorsExactly self.old self.new result }
+    {
+        if self.calls.next_fails() {
+            self.count_fault();
+            return Err(NetFault::Fault);
+        }
+        Ok(MemMonitor)
     }
 
     /// A link with the script of the place. The dial takes the memory for telling that the link was hung up.

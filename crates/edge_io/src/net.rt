@@ -5,9 +5,9 @@ ghost use Rattle.edge_io.specs.Told.{IsFresh, IsDialed};
 ghost use Rattle.edge_io.specs.Door.{IsNewDoor};
 ghost use Rattle.edge_io.specs.Net.{NetState, AddsBound, SameHung, HasNetCause, AddsHung, IsHungUp};
 
-use crate::{Door, Link, NetFault, Pause};
+use crate::{Door, Link, Monitor, NetFault, Pause};
 
-/// An object that binds doors, and dials links and hangs them up. It may tell which doors were bound and which links
+/// An object that binds doors and monitors, and dials links and hangs them up. It may tell which doors were bound and which links
 /// were hung up; one that tells nothing, as the sockets of a system, has `None` for them.
 pub trait Net: Pause {
     /// The links that are dialed.
@@ -15,6 +15,9 @@ pub trait Net: Pause {
 
     /// The doors that are bound.
     type P: Door;
+
+    /// Where those come in who ask for a spool's numbers.
+    type M: Monitor;
 
     /// What the net tells.
     ghost told: { Self → NetState };
@@ -42,6 +45,15 @@ pub trait Net: Pause {
         ensures fresh { IfOk result (λ made. All (λ door. IsNewDoor place.now (Self.P.told door)) made.items) }
         ensures cause { HasNetCause (told self.old).net_faults (told self.new).net_faults result }
         ensures bound { AddsBound place.now doors result (told self.old).bound (told self.new).bound }
+        ensures rest { SameHung (told self.old) (told self.new) }
+        ensures same { Self.same self.old self.new };
+
+    /// A monitor at the place, where those come in who ask for a spool's numbers. No door is bound there. `Fault` comes only where the
+    /// net's own count of faults rose in this call.
+    fn monitor(&mut self, place: &str) -> Result<Self::M, NetFault>
+        requires named { may_bind place.now }
+        ensures cause { HasNetCause (told self.old).net_faults (told self.new).net_faults result }
+        ensures bound { (told self.new).bound ≡ (told self.old).bound }
         ensures rest { SameHung (told self.old) (told self.new) }
         ensures same { Self.same self.old self.new };
 

@@ -7,7 +7,7 @@ use std::alloc::AllocError;
 /// Why a place was not bound or dialed.
 #[derive(Clone, Copy, Debug, PartialEq, Eq)]
 pub enum NetFault {
-    /// The bind or the dial failed. The net's own count of faults says how often that was.
+    /// The bind, the monitor or the dial failed. The net's own count of faults says how often that was.
     Fault,
     /// No memory was found. That is no fault of the net, and no count has risen.
     NoMemory,

@@ -1,4 +1,5 @@
 pub mod Answer
+pub mod Fullness
 pub mod Pace
 pub mod Receiver
 pub mod Recent

@@ -109,6 +109,7 @@ impl<'a, R: Clock + Eprint> Door for TcpDoor<'a, R> {
         }
         match self.shared.next_stream(&self.listener) {
             Ok((stream, peer)) => {
+                self.shared.place.connections.begin();
                 let (rt, reports) = (self.shared.rt, self.shared.reports);
                 let waits = self.shared.waits;
                 Ok(Some(TcpLink::accepted(rt, reports, stream, peer, waits)))
@@ -133,6 +134,7 @@ impl<'a, R: Clock + Eprint> Door for TcpDoor<'a, R> {
     ) -> Result<(), AllocError> {
         self.read_errors = self.read_errors.saturating_add(link.read_errors());
         self.write_errors = self.write_errors.saturating_add(link.write_errors());
+        self.shared.place.connections.end(proto, status);
         link.close_served(self.shared.rt, proto, status);
         Ok(())
     }

@@ -264,9 +264,11 @@ impl<R: Clock + Eprint> Link for TcpLink<'_, R> {
     ghost writes_keep = { λ x y same. (Prim.cc, Prim.cc, same.0, same.1) };
 }
 
-// A link, and what accepts it, may be moved to another thread: each impl below owes the proof.
+// A link, what accepts it, and a monitor may be moved to another thread: each impl below owes the proof.
 trait Movable: Send {}
 
 impl<R: Sync> Movable for TcpLink<'_, R> {}
 
 impl<R: Sync> Movable for crate::TcpDoor<'_, R> {}
+
+impl<R: Sync> Movable for crate::TcpMonitor<'_, R> {}

@@ -5,7 +5,7 @@ ghost use Rattle.edge_net.specs.TcpDoor.{state_of as door_state};
 
 use crate::door::Shared;
 use crate::roll::{Place, Roll};
-use crate::{Reports, TcpDoor, TcpLink, Waits};
+use crate::{Reports, TcpDoor, TcpLink, TcpMonitor, Waits};
 use edge_io::{Net, NetFault, Object, Pause};
 use std::alloc::{AllocError, Global};
 use std::net::{self, TcpListener, TcpStream, ToSocketAddrs};
@@ -120,6 +120,18 @@ fn doors_over<'a, R>(
     Ok(made)
 }
 
+// A monitor over a socket that listens at the place. The error is the system's.
+fn monitor_at<'a, R: net::Net<Stream = TcpStream, Listener = TcpListener>>(
+    alloc: Global,
+    rt: &'a R,
+    reports: &'a Reports,
+    roll: Arc<Roll>,
+    place: &str,
+) -> io::Result<TcpMonitor<'a, R>> {
+    let listener = TcpListener::bind(rt, place)?;
+    TcpMonitor::over(alloc, rt, reports, roll, listener)
+}
+
 // Connects to the first of the host's addresses that answers, and waits for each for as long as `wait` at most. The error is that of
 // the last one.
 fn connected<R: net::Net<Stream = TcpStream>>(
@@ -181,7 +193,7 @@ impl<'a, R> TcpNet<'a, R> {
         let roll = self.roll()?;
         let name = String::from_str(self.alloc, place)?;
         let is_quiet = self.reports.is_quiet();
-        let place = Place::with_doors(name, u64::from(doors), is_quiet);
+        let place = Place::with_doors(self.alloc, name, u64::from(doors), is_quiet)?;
         let place = Arc::new(self.alloc, place)?;
         roll.enter(self.places, Arc::try_clone(&place)?);
         self.places = self.places.saturating_add(1);
@@ -202,6 +214,8 @@ impl<'a, R: net::Net<Stream = TcpStream, Listener = TcpListener> + Clock + Eprin
     type L = TcpLink<'a, R>;
 
     type P = TcpDoor<'a, R>;
+
+    type M = TcpMonitor<'a, R>;
 
     ghost told = { λ net. state_of net };
 
@@ -239,12 +253,32 @@ impl<'a, R: net::Net<Stream = TcpStream, Listener = TcpListener> + Clock + Eprin
         }
     }
 
+    /// Listens at the place for those who ask for numbers, and says so on standard error. A port that is taken is a fault; standard error
+    /// says which place it is and what the system says of it.
+    fn monitor(&mut self, place: &str) -> Result<TcpMonitor<'a, R>, NetFault> {
+        let roll = self.roll()?;
+        match monitor_at(self.alloc, self.rt, self.reports, roll, place) {
+            Ok(monitor) => {
+                self.reports.listens_for_askers(self.rt, place);
+                Ok(monitor)
+            }
+            Err(error) => {
+                self.reports.cannot_listen(self.rt, place, &error);
+                self.errors = self.errors.saturating_add(1);
+                Err(NetFault::Fault)
+            }
+        }
+    }
+
     /// Connects to the place. A peer that doesn't listen is a fault, and so is one that doesn't answer in time; standard error says
     /// why, where that is news.
     fn dial(&mut self, place: &str) -> Result<TcpLink<'a, R>, NetFault> {
         let name = String::from_str(self.alloc, place)?;
         match connected(self.rt, place, self.waits.dialed) {
-            Ok(stream) => Ok(TcpLink::dialed(self.rt, self.reports, stream, name, self.waits)),
+            Ok(stream) => {
+                self.reports.counts().sessions.add();
+                Ok(TcpLink::dialed(self.rt, self.reports, stream, name, self.waits))
+            }
             Err(error) => {
                 self.reports.cannot_reach(self.rt, place, &error);
                 self.errors = self.errors.saturating_add(1);

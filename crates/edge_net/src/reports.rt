@@ -1,14 +1,16 @@
 //! What is said on standard error of the sockets.
 ghost use Rattle.std.specs.Prelude.{◌≡◌, true, false};
 
-use crate::{Illness, Line, Matter, Receiver, Recent, Topic};
+use crate::counts::Counts;
+use crate::since::millis;
+use crate::{Illness, Line, Matter, Receiver, Recent, Since, Topic};
 use std::net::SocketAddr;
 use std::rt::Clock;
 use std::sync::Mutex;
 use std::sync::atomic::{AtomicU64, Ordering};
 use std::{fmt, io};
 
-/// What is said on standard error of the doors and links of a net, which share it.
+/// What is said on standard error of the doors and links of a net, which share it, and what is counted of them.
 ///
 /// A line says what befell a sender's connection, with the peer's address: at most one a minute about the same topic, and ten a second
 /// in all. The lines count what they leave out. Others say how the receiver is, where that changes. Nothing waits for a line, and where
@@ -20,6 +22,7 @@ pub struct Reports {
     receiver: Mutex<Receiver>,
     // How often something befell a sender's connection while another thread noted such a thing.
     overlooked: AtomicU64,
+    counts: Counts,
 }
 
 // What a line about the receiver stands for beside what it says.
@@ -37,12 +40,6 @@ impl fmt::Display for Failures {
             _ => write!(f, "; failures meanwhile: {more}"),
         }
     }
-}
-
-// The time, in milliseconds of the clock.
-fn millis(rt: &impl Clock) -> io::Result<u64> {
-    let now = rt.monotonic()?.as_millis();
-    Ok(u64::try_from(now).unwrap_or(u64::MAX))
 }
 
 // Whether a number of 0 to 65,535 stands after the last colon of a place.
@@ -95,6 +92,7 @@ impl Reports {
             senders: Mutex::new(Recent::new()),
             receiver: Mutex::new(Receiver::new()),
             overlooked: AtomicU64::new(0),
+            counts: Counts::new(),
         }
     }
 
@@ -105,10 +103,27 @@ impl Reports {
         self.is_quiet
     }
 
+    /// What is counted, also where no line is printed.
+    pub(crate) fn counts(&self) -> &Counts {
+        &self.counts
+    }
+
+    /// Since when calls of FILE fail, for whoever makes them to note.
+    pub fn disk(&self) -> &Since {
+        &self.counts.disk
+    }
+
     /// That a place is listened at.
     pub(crate) fn listens(&self, rt: &impl Eprint, place: &str) {
         if !self.is_quiet {
             let _ = eprintln!(rt; "bridge: listening on {place}");
+        }
+    }
+
+    /// That a place is listened at for those who ask for numbers.
+    pub(crate) fn listens_for_askers(&self, rt: &impl Eprint, place: &str) {
+        if !self.is_quiet {
+            let _ = eprintln!(rt; "bridge: listening on {place} for those who ask for numbers");
         }
     }
 
@@ -156,6 +171,7 @@ impl Reports {
 
     /// That no address of this place took a connection, and the error of the last one.
     pub(crate) fn cannot_reach(&self, rt: &(impl Clock + Eprint), place: &str, error: &io::Error) {
+        self.counts.unreached.add();
         if let Some(failures) = self.failures_at(rt, Illness::Unreached) {
             let reason = Reason { place, error };
             let _ = eprintln!(rt; "bridge: receiver {place}: can't reach it: {reason}{failures}");
@@ -164,6 +180,7 @@ impl Reports {
 
     // What is said of the failures that a line stands for, if one is to be printed about one of this kind that came just now.
     fn failures_at(&self, rt: &impl Clock, illness: Illness) -> Option<Failures> {
+        self.counts.receiver.fails(rt);
         if self.is_quiet {
             return None;
         }
@@ -178,6 +195,7 @@ impl Reports {
 
     /// That a session with the receiver at this place ended with answers and without a failure.
     pub(crate) fn receiver_is_well(&self, rt: &impl Eprint, place: &str) {
+        self.counts.receiver.is_well();
         if self.is_quiet {
             return;
         }

@@ -1,5 +1,6 @@
 //! Which places have their workers. Each worker begins with an accept, in a thread of its own where the system grants one; where it
 //! refuses one, that worker begins only once another one has ended, and its place is served late.
+use crate::counts::Connections;
 use std::alloc::{AllocError, Global};
 use std::rt::Clock;
 use std::sync::atomic::{AtomicBool, AtomicU64, Ordering};
@@ -20,6 +21,8 @@ pub(crate) struct Place {
     pub(crate) name: String,
     /// When an accept that failed there was reported last, in whole seconds of the clock and one more; 0 for never.
     pub(crate) reported: AtomicU64,
+    /// The connections that came in there.
+    pub(crate) connections: Connections,
     // How many doors it has.
     doors: u64,
     // How many of them have begun to accept.
@@ -29,13 +32,19 @@ pub(crate) struct Place {
 impl Place {
     /// A place with so many doors, none of which has begun. Where it is quiet, no accept that failed there is ever reported: it is as
     /// if one were reported at the end of time.
-    pub(crate) fn with_doors(name: String, doors: u64, is_quiet: bool) -> Place {
-        Place {
+    pub(crate) fn with_doors(
+        alloc: Global,
+        name: String,
+        doors: u64,
+        is_quiet: bool,
+    ) -> Result<Place, AllocError> {
+        Ok(Place {
             name,
             reported: AtomicU64::new(if is_quiet { u64::MAX } else { 0 }),
+            connections: Connections::none(alloc)?,
             doors,
             begun: AtomicU64::new(0),
-        }
+        })
     }
 
     /// Notes that one more of its doors begins.
@@ -74,6 +83,22 @@ impl Roll {
         if let Some(entry) = self.places.get(number) {
             let _ = entry.try_set(place);
         }
+    }
+
+    /// The places, each in an entry of its own. Entries after the last place are empty.
+    pub(crate) fn entries(&self) -> &[OnceLock<Arc<Place>>] {
+        &self.places
+    }
+
+    /// How many connections of all places have ended since FILE had no room for an event.
+    pub(crate) fn without_room(&self) -> u64 {
+        let mut times = 0u64;
+        for entry in &self.places {
+            if let Some(place) = entry.get() {
+                times = times.saturating_add(place.connections.without_room());
+            }
+        }
+        times
     }
 
     // Whether each door of each place has begun.

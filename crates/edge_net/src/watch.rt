@@ -80,7 +80,12 @@ impl<R: Clock + Eprint> Watch<'_, R> {
             return;
         };
         match answer.refusal() {
-            Some(code) => self.fails(place, Illness::Refuses { code }),
+            Some(code) => {
+                if !self.is_said {
+                    self.reports.counts().receiver_refusals.add();
+                }
+                self.fails(place, Illness::Refuses { code });
+            }
             None => self.has_reply = matches!(answer, Answer::Reply { .. }),
         }
     }
@@ -101,6 +106,7 @@ impl<R: Clock + Eprint> Watch<'_, R> {
             Answer::Frame { .. } => Matter::FrameRefused { code },
         };
         self.is_said = true;
+        self.reports.counts().refusals.add();
         self.reports.sender(self.rt, peer, matter);
     }
 
