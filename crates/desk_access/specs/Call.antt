@@ -37,7 +37,8 @@ pub data Call : Type 0 where
 -- A call, with the number of its caller and the numbers of the spool. `met` has those that the call met once a doubt
 -- was mended, or none where mending failed; `after` has those that stood after it. With `met` the state after a journal
 -- is a function of it: a call that failed at the disk may have left a doubt as it was, or mended it and left another.
--- `clock` names the moment of the disk at which the call was answered.
+-- `clock` names the moment of the disk at which the call was answered; of a call of the ids alone, which doesn't go to the disk, the one
+-- at which the spool's last call was answered.
 pub record Record : Type 0 where
   pub by : ℕ
   pub call : Call

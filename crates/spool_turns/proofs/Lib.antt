@@ -17,5 +17,6 @@ pub mod AnsweredAlone
 pub mod KeepsTwins
 pub mod OtherIds
 pub mod Kept
+pub mod Levels
 pub mod Stored
 pub mod NewPass

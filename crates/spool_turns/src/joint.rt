@@ -19,6 +19,7 @@ ghost use Rattle.spool_turns.specs.Joining.{parts_of, numbers_of, AreRising, Are
 use crate::joining::{Entered, Joined, Room, catch_up, enter, join};
 use crate::journal::Journal;
 use crate::letter::{Answer, Letter};
+use crate::level::Level;
 use crate::naming::Naming;
 use crate::rule::{PassSeat, Steps};
 use crate::steps::write_words;
@@ -344,5 +345,6 @@ impl<D: Disk, J: Naming> Journal<D, J> {
             answers,
         );
         *twin = apart(twins, &mut self.twin, alone);
+        self.level = Level::of(alone);
     }
 }

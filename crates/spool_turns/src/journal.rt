@@ -6,10 +6,12 @@ ghost use Rattle.desk_access.specs.Desk.{DeskState};
 ghost use Rattle.desk_access.specs.Legal.{May, IsStored};
 ghost use Rattle.spool_turns.specs.Passes.{IsPass, Sound, Calls, IsAsked, known_of, pass_in};
 ghost use Rattle.spool_turns.specs.Replays.{Closes, IsReal, desk_at};
+ghost use Rattle.spool_turns.specs.Levels.{HasLevel};
 ghost use Rattle.spool_turns.specs.Twins.{of_spool};
 ghost use Rattle.spool_turns.specs.Stands.{IsMade};
 
 use crate::calling::{enter_call, enter_idle};
+use crate::level::Level;
 use crate::naming::Naming;
 use crate::pass::Pass;
 use crate::rule::{Called, PassSeat, Steps};
@@ -21,13 +23,14 @@ use hec_ids::{Ids, IssueFault};
 use spool_desk::{Alone, Desk};
 use std::marker::{Brand, Model, PhantomData};
 
-/// The ids, the seat that has the journal, and the one of two seats that knows where the spool's last call left the desk. To a contract it
-/// is the journal.
+/// The ids, the seat that has the journal, and the one of two seats that knows where the spool's last call left the desk, with the level
+/// there. To a contract it is the journal.
 #[derive(Drop)]
 pub struct Journal<D: Disk, J: Naming> {
     pub(crate) ids: Ids,
     pub(crate) locked: PassSeat,
     pub(crate) twin: TwinSeat<D>,
+    pub(crate) level: Level,
     pub(crate) of: PhantomData<J>,
 }
 
@@ -36,13 +39,15 @@ impl<D: Disk, J: Naming> Model for Journal<D, J> {
     ghost use Rattle.desk_access.specs.Call.{Record};
     ghost use Rattle.spool_turns.specs.Passes.{facts_in};
     ghost use Rattle.spool_turns.specs.Stands.{IsKept};
+    ghost use Rattle.spool_turns.specs.Levels.{IsLevelOf};
 
     ghost Value = { List Record };
 
     ghost view = { λ j. (facts_in j.locked.me.0).log };
 
     ghost invariant = { λ j. (j.locked.table_id ≡ J.table.seats) × (j.twin.table_id ≡ J.table.twins)
-        × IsKept ⟦<D as Disk>⟧ J.start J.run J.seats J.began j.ids j.locked.me j.twin.me };
+        × IsKept ⟦<D as Disk>⟧ J.start J.run J.seats J.began j.ids j.locked.me j.twin.me
+        × IsLevelOf j.twin.me.0 j.level };
 }
 
 impl<D: Disk, J: Naming> Journal<D, J> {
@@ -97,6 +102,7 @@ impl<D: Disk, J: Naming> Journal<D, J> {
         meet(twins, &mut self.twin, twin);
         enter_call::<Brand, D, X, Y>(steps, &mut self.locked, alone, seat, call, answer);
         *twin = apart(twins, &mut self.twin, alone);
+        self.level = Level::of(alone);
     }
 
     pub(crate) fn issue(
@@ -201,6 +207,13 @@ impl<D: Disk, J: Naming> Journal<D, J> {
         );
     }
 
+    /// Where the spool's last call left it.
+    pub(crate) fn level(&self) -> Level
+        ensures { HasLevel ⟦<D as Disk>⟧ J.start J.run J.seats J.began result }
+    {
+        self.level
+    }
+
     /// The desk again: its spool, which lay under the other lock, and the ids.
     pub(crate) fn close(
         self,
@@ -217,7 +230,7 @@ impl<D: Disk, J: Naming> Journal<D, J> {
             ids,
             mut locked,
             twin: mut mine,
-            of: _,
+            ..
         } = self;
         let Turn {
             alone,

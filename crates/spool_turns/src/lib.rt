@@ -12,6 +12,9 @@
 //! letter in a hall, and one of them leads, which stores what lies there and puts the answers. By [`Shared::hand_in`] and
 //! [`Shared::collect`] a caller does so in two steps; between them its pass is [`Away`].
 //!
+//! By [`Shared::level`] whoever holds the desk reads where its spool stands, as [`Level`], without waiting for the disk. It needs no pass,
+//! and the journal has no record of it.
+//!
 //! [`Shared::close`] gives the desk back as one lawful journal left it, of which all that the passes have seen are
 //! beginnings. [`Seated`] is a pass at its desk, as a caller of [`desk_access::Access`].
 //!
@@ -30,6 +33,7 @@ mod joint;
 mod journal;
 mod laws;
 mod letter;
+mod level;
 mod naming;
 mod pass;
 mod rule;
@@ -43,6 +47,7 @@ mod view;
 
 pub use away::Away;
 pub use laws::ids_of_runs_differ;
+pub use level::Level;
 pub use naming::Naming;
 pub use pass::Pass;
 pub use seated::Seated;

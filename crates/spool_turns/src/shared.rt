@@ -13,6 +13,7 @@ ghost use Rattle.desk_access.specs.Desk.{DeskState};
 ghost use Rattle.desk_access.specs.Legal.{IsNext, IsUnused, IsStored};
 ghost use Rattle.spool_turns.specs.Passes.{Calls, IsAsked, LeadsBelow};
 ghost use Rattle.spool_turns.specs.Replays.{Closes, IsReal, desk_at};
+ghost use Rattle.spool_turns.specs.Levels.{HasLevel};
 
 use crate::away::Away;
 use crate::copies::copies_of;
@@ -20,6 +21,7 @@ use crate::going::{collect, send};
 use crate::hall::{Hall, Tray};
 use crate::journal::Journal;
 use crate::letter::Answer;
+use crate::level::Level;
 use crate::naming::Naming;
 use crate::pass::Pass;
 use crate::rule::SeatTable;
@@ -370,6 +372,14 @@ impl<D: Disk, J: Naming> Shared<D, J> {
         ensures seen { (x : DeskState) → J.start x → LeadsBelow x pass.old.seen pass.old.end_known result }
     {
         pass.cursor(&self.table.shared)
+    }
+
+    /// Where the spool stands after the last call that the journal has, as memory has it; in doubt as before the call that failed. It
+    /// needs no pass, and the journal has no record of it. It takes the lock of the journal alone, and doesn't wait for the disk.
+    pub fn level<R: Wait>(&self, rt: &R) -> Level
+        ensures real { HasLevel ⟦<D as Disk>⟧ J.start J.run J.seats J.began result }
+    {
+        self.journal.lock(rt).level()
     }
 
     /// How often the spool was opened for storing.

@@ -9,6 +9,7 @@ ghost use Rattle.spool_turns.specs.Stands.{IsTold};
 
 use crate::hall::Hall;
 use crate::journal::Journal;
+use crate::level::Level;
 use crate::naming::Naming;
 use crate::pass::Pass;
 use crate::rule::{PassSeat, SeatTable};
@@ -185,6 +186,7 @@ impl<D: Disk> Unnamed<D> {
         }
         let (alone, ids) = split(alone, unused_ids(alloc, run));
         let other = apart(&twins.shared, &mut twin, &alone);
+        let level = Level::of(&alone);
         let turn = Turn {
             alone,
             twin: other,
@@ -194,6 +196,7 @@ impl<D: Disk> Unnamed<D> {
             ids,
             locked,
             twin,
+            level,
             of: PhantomData,
         };
         let shared = Shared {

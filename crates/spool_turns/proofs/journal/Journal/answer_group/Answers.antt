@@ -2,6 +2,7 @@ use Rattle.std.proofs.Common.{◌≡◌, sym, ap, ◌∙◌, subst}
 use Rattle.hec_ids.specs.Table.{Table}
 use Rattle.hec_ids.specs.Table as Ids
 use Rattle.spool_turns.proofs.Stored.{stored_all}
+use Rattle.spool_turns.proofs.Levels.{level_beside}
 use Rattle.spool_turns.proofs.journal.Journal.answer_group.Goals as goal
 
 pub meet-requires-clause-tables : goal.meet-requires-clause-tables
@@ -45,6 +46,7 @@ invariant_of-self g c =
         told = e.told;
         unused = subst (λ (t : Table). Ids.IsSound t × (t.run ≡ c.self.inside.ids.run)) (sym (e.ids ∙ done.same_ids ∙ ap (λ a. a.desk.ids) same)) k.unused;
       },
+      level_beside _ _ _ c.apart.ensures.journal c.of-self-inside.ensures,
     )
 
 pub returns-clause-seat : goal.returns-clause-seat

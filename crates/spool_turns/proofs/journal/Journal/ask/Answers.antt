@@ -11,7 +11,7 @@ pub invariant_of-self : goal.invariant_of-self
 invariant_of-self g c =
     let i = c.self.invariant in
     let e = c.enter_idle.ensures in
-    (e.tables.0 ∙ i.0, i.1, idle_kept _ _ _ _ _ _ _ _ _ _ _ i.2 tt e.knew refl (run_asked c.self.inside.ids c.ask.new.self c.args.channel c.args.ids.now c.ask.new.known c.ask.ensures) (λ x met same leaving. (c.ask.new.self, subst (λ t. Asks t c.args.channel c.args.ids.now c.ask.new.known c.ask.new.self) (sym same) c.ask.ensures, leaving)) (g.met.D.Disk.lawful _) _ e.locked)
+    (e.tables.0 ∙ i.0, i.1, idle_kept _ _ _ _ _ _ _ _ _ _ _ i.2 tt e.knew refl (run_asked c.self.inside.ids c.ask.new.self c.args.channel c.args.ids.now c.ask.new.known c.ask.ensures) (λ x met same leaving. (c.ask.new.self, subst (λ t. Asks t c.args.channel c.args.ids.now c.ask.new.known c.ask.new.self) (sym same) c.ask.ensures, leaving)) (g.met.D.Disk.lawful _) _ e.locked, i.3)
 
 pub invariant_of-pass : goal.invariant_of-pass
 invariant_of-pass g c =

@@ -1,6 +1,7 @@
 use Rattle.std.proofs.Common.{◌≤◌, refl, sym, ap, ◌∙◌, subst, arith}
 use Rattle.spool_turns.specs.Passes.{facts_in}
 use Rattle.spool_turns.proofs.Kept.{made_kept, made_pass, made_calls, made_real}
+use Rattle.spool_turns.proofs.Levels.{level_beside}
 use Rattle.spool_turns.proofs.journal.Journal.enter.Goals as goal
 
 pub meet-requires-clause-tables : goal.meet-requires-clause-tables
@@ -40,6 +41,7 @@ invariant_of-self g c =
       e.tables.0 ∙ c.self.invariant.0,
       c.apart.ensures.tables.0 ∙ c.meet.ensures.table ∙ c.self.invariant.1,
       made_kept _ _ _ _ _ _ _ _ _ _ _ _ c.enter_call.new.alone k done same c.requires.may e.knew e.run (e.kept _) e.told e.ids (g.met.D.Disk.lawful _) _ _ e.locked c.apart.ensures.journal,
+      level_beside _ _ _ c.apart.ensures.journal c.of-self-inside.ensures,
     )
 
 pub returns-clause-seats : goal.returns-clause-seats

@@ -11,7 +11,7 @@ pub invariant_of-self : goal.invariant_of-self
 invariant_of-self g c =
     let i = c.self.invariant in
     let e = c.enter_idle.ensures in
-    (e.tables.0 ∙ i.0, i.1, idle_kept _ _ _ _ _ _ _ _ _ _ _ i.2 tt e.knew refl (run_forgotten c.self.inside.ids c.forget-answer.new.self c.args.channel c.args.id c.forget-answer.result c.forget-answer.ensures) (λ x met same leaving. (c.forget-answer.new.self, subst (λ t. Forgets t c.args.channel c.args.id c.forget-answer.result c.forget-answer.new.self) (sym same) c.forget-answer.ensures, leaving)) (g.met.D.Disk.lawful _) _ e.locked)
+    (e.tables.0 ∙ i.0, i.1, idle_kept _ _ _ _ _ _ _ _ _ _ _ i.2 tt e.knew refl (run_forgotten c.self.inside.ids c.forget-answer.new.self c.args.channel c.args.id c.forget-answer.result c.forget-answer.ensures) (λ x met same leaving. (c.forget-answer.new.self, subst (λ t. Forgets t c.args.channel c.args.id c.forget-answer.result c.forget-answer.new.self) (sym same) c.forget-answer.ensures, leaving)) (g.met.D.Disk.lawful _) _ e.locked, i.3)
 
 pub invariant_of-pass : goal.invariant_of-pass
 invariant_of-pass g c =

@@ -2,6 +2,7 @@ use Rattle.std.proofs.Common.{◌≤◌, sym, ap, ◌∙◌, subst, arith}
 use Rattle.spool_turns.specs.Passes.{IsPass, facts_in}
 use Rattle.spool_turns.specs.Twins.{of_journal}
 use Rattle.spool_turns.specs.Stands.{IsKept}
+use Rattle.spool_turns.proofs.Levels.{level_beside, level_known}
 use Rattle.spool_turns.proofs.journal.Journal.look.Goals as goal
 
 pub meet-requires-clause-tables : goal.meet-requires-clause-tables
@@ -29,11 +30,13 @@ invariant_of-self g c =
     let n = g.J.Naming in
     let k = c.self.invariant.2 in
     let l = c.learn.ensures in
-    let same = (c.meet.ensures.same c.args.alone.now k.desk k.twin_is c.requires.twin).0 in (
+    let same = (c.meet.ensures.same c.args.alone.now k.desk k.twin_is c.requires.twin).0 in
+    let seat = c.apart.ensures.journal ∙ ap (λ a. of_journal a) same in (
       l.same.0 ∙ c.self.invariant.0,
       c.apart.ensures.tables.0 ∙ c.meet.ensures.table ∙ c.self.invariant.1,
       subst (λ m. IsKept g.D.Disk n.start n.run n.seats n.began c.self.inside.ids m c.apart.new.both.me) (sym l.same.1)
-          (record { desk = k.desk; twin_is = c.apart.ensures.journal ∙ ap (λ a. of_journal a) same; turn = k.turn; replays = k.replays; met = k.met; told = k.told; unused = k.unused }),
+          (record { desk = k.desk; twin_is = seat; turn = k.turn; replays = k.replays; met = k.met; told = k.told; unused = k.unused }),
+      level_beside _ _ _ seat (level_known _ _ _ k.twin_is c.self.invariant.3),
     )
 
 pub returns-clause-seats : goal.returns-clause-seats

@@ -11,7 +11,7 @@ pub invariant_of-self : goal.invariant_of-self
 invariant_of-self g c =
     let i = c.self.invariant in
     let e = c.enter_idle.ensures in
-    (e.tables.0 ∙ i.0, i.1, idle_kept _ _ _ _ _ _ _ _ _ _ _ i.2 (subst (λ k. IsStored k.own c.args.id) (sym c.pass.view_is) c.requires.taken) e.knew refl (run_settled c.self.inside.ids c.settle-answer.new.self c.args.channel c.args.id c.settle-answer.result c.settle-answer.ensures) (λ x met same leaving. (c.settle-answer.new.self, subst (λ t. Settles t c.args.channel c.args.id c.settle-answer.result c.settle-answer.new.self) (sym same) c.settle-answer.ensures, leaving)) (g.met.D.Disk.lawful _) _ e.locked)
+    (e.tables.0 ∙ i.0, i.1, idle_kept _ _ _ _ _ _ _ _ _ _ _ i.2 (subst (λ k. IsStored k.own c.args.id) (sym c.pass.view_is) c.requires.taken) e.knew refl (run_settled c.self.inside.ids c.settle-answer.new.self c.args.channel c.args.id c.settle-answer.result c.settle-answer.ensures) (λ x met same leaving. (c.settle-answer.new.self, subst (λ t. Settles t c.args.channel c.args.id c.settle-answer.result c.settle-answer.new.self) (sym same) c.settle-answer.ensures, leaving)) (g.met.D.Disk.lawful _) _ e.locked, i.3)
 
 pub invariant_of-pass : goal.invariant_of-pass
 invariant_of-pass g c =

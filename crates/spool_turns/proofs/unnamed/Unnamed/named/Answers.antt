@@ -4,6 +4,7 @@ use Rattle.spool_desk.specs.Alone.{alone_view, alone_at}
 use Rattle.spool_turns.specs.Rules.{facts, one_pass_more, new_pass}
 use Rattle.spool_turns.specs.Passes.{known, known_of, pass_in, facts_in, locked_of, pass_of, fresh}
 use Rattle.spool_turns.proofs.Kept.{kept_first}
+use Rattle.spool_turns.proofs.Levels.{level_beside}
 use Rattle.spool_turns.proofs.NewPass.{new_pass_is}
 use Rattle.spool_turns.proofs.Called.{fresh-more}
 use Rattle.spool_turns.proofs.unnamed.Unnamed.named.Goals as goal
@@ -39,6 +40,7 @@ invariant_of-journal g c =
           u.told c.unused_ids.ensures.sound (c.unused_ids.ensures.run ∙ sym u.ids_of_run) (g.met.D.Disk.lawful u.alone.desk.spool.disk) name.began_is
           (λ x s. let at = name.start_is x s in record { told = at.0; rules = at.1.rules; of_run = sym at.1.spool.knows.run ∙ sym u.run_is ∙ name.run_is; none_held = ap (λ t. t.held) at.1.ids ∙ u.none_held })
           (λ x s. (name.start_is x s).1),
+      level_beside _ _ _ c.apart-other.ensures.journal c.of-level.ensures,
     )
 
 pub invariant_of-shared-clause-run_of_start : goal.invariant_of-shared-clause-run_of_start
