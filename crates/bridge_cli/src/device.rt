@@ -7,7 +7,7 @@ ghost use Rattle.bridge_words.specs.Words.{IsNeed, IsNoCommand, IsNoMove};
 ghost use Rattle.bridge_parts.specs.Run.{disk_run, input_run, net_run, output_run, run_of};
 ghost use Rattle.bridge_core.specs.Failed.{TellsReadFault, TellsWriteFault, TellsDial};
 ghost use Rattle.bridge_core.specs.Headline.{KeepsPromises};
-ghost use Rattle.bridge_core.specs.Leave.{ForWords, MayAnswer, MayReplay, MayTake, WasRead, MayRelease, WereStreamed, HasExchangedAt, MayTear, MayBind, MayDial, MayPrint};
+ghost use Rattle.bridge_core.specs.Leave.{ForWords, MayAnswer, MayReplay, MayTake, WasRead, MayRelease, WereStreamed, HasExchangedAt, MayTear, MayBind, MayTell, MayDial, MayPrint};
 ghost use Rattle.bridge_cli.specs.Texts.{ForTexts};
 ghost use Rattle.bridge_move.specs.Leave.{ForMoves};
 ghost use Rattle.cli_parts.specs.declared.progress.Watched.{Watched};
@@ -21,12 +21,14 @@ use edge_disk::Disk;
 use edge_file::{FileDisk, OpenFault};
 use edge_io::{Door, Net, Sink, Source};
 use edge_memory::MemDisk;
+use edge_net::Since;
 use notes::Note;
 use std::alloc::Global;
 use std::sync::Wait;
 use std::thread::Threads;
 
-// Runs the words over the disk, which is watched meanwhile, and for which somebody may wait. Its reading may be shown. What was done is what `bridge` does, and nothing
+// Runs the words over the disk, which is watched meanwhile, and for which somebody may wait; it is noted in `failing` since when its calls
+// fail. Its reading may be shown. What was done is what `bridge` does, and nothing
 // else: of the disk, of the streams and of the net.
 fn run_over<D: Disk + Drop + Send, S: Source, K: Sink, N: Net + Send, R: Threads + Wait + Sync>(
     rt: &HostRuntime,
@@ -35,6 +37,7 @@ fn run_over<D: Disk + Drop + Send, S: Source, K: Sink, N: Net + Send, R: Threads
     disk: D,
     is_shown: bool,
     waiting: Waiting,
+    failing: &Since,
     input: &mut S,
     output: &mut K,
     net: &mut N,
@@ -43,8 +46,10 @@ where
     N::P: Drop + Send,
     <N::P as Door>::L: Send,
     N::L: Send,
+    N::M: Drop + Send,
     requires answers { ForWords (map string_bytes words.now) (MayAnswer D.tells D.moment disk N.permits) }
     requires binds { ForWords (map string_bytes words.now) (MayBind N.may_bind) }
+    requires tells { ForWords (map string_bytes words.now) (MayTell N.M.may_tell) }
     requires dials { ForWords (map string_bytes words.now) (MayDial N.may_dial) }
     requires replays { ForWords (map string_bytes words.now)
         (MayReplay D.tells D.moment disk (WasRead S.same S.given input.old) (MayTake K.same K.taken K.permits output.old)) }
@@ -60,7 +65,8 @@ where
         (input_run S.given S.left S.read_faults input.old input.new) (output_run K.taken K.write_faults output.old output.new)
         (net_run N.told net.old net.new) (map (λ (door : _). N.P.told door) result.doors.items)) result.note }
 {
-    let disk = Watched::new(disk, Progress::new(rt, is_shown), "FILE", waiting);
+    let progress = Progress::new(rt, is_shown);
+    let disk = Watched::new(disk, progress, "FILE", waiting).noting(failing);
     let Ended {
         status,
         note,
@@ -88,8 +94,10 @@ where
     N::P: Drop + Send,
     <N::P as Door>::L: Send,
     N::L: Send,
+    N::M: Drop + Send,
     requires need { (need : Need) × IsNeed (map string_bytes words.now) need × (need ≢ Existing) }
     requires binds { ForWords (map string_bytes words.now) (MayBind N.may_bind) }
+    requires tells { ForWords (map string_bytes words.now) (MayTell N.M.may_tell) }
     requires dials { ForWords (map string_bytes words.now) (MayDial N.may_dial) }
     requires prints { ForWords (map string_bytes words.now) (MayPrint ((sink : K) (text : List ℕ) → K.permits sink text)) }
 
@@ -117,13 +125,15 @@ pub(crate) fn refuse(rt: &HostRuntime, file: &str, fault: OpenFault) -> Note
 
 /// Does what the words ask for, in threads of `threads` where that takes some, over the device that they want: `file`, opened
 /// or made, or one in memory without a byte where they want none; or a move over `file` and the other that they name. A `file` that can't be
-/// opened is a fault of the disk, and standard error says why in a line of its own; one that is no spool is named there too. `list` shares `file` with others that list it; every
+/// opened is a fault of the disk, and standard error says why in a line of its own; one that is no spool is named there too. Since when
+/// calls of `file` fail is noted in `failing`. `list` shares `file` with others that list it; every
 /// other command has it alone while it runs.
 pub fn run_words<S: Source, K: Sink, N: Net + Send, R: Threads + Wait + Sync>(
     rt: &HostRuntime,
     threads: &R,
     file: &str,
     words: &[String],
+    failing: &Since,
     input: &mut S,
     output: &mut K,
     net: &mut N,
@@ -132,9 +142,11 @@ where
     N::P: Drop + Send,
     <N::P as Door>::L: Send,
     N::L: Send,
+    N::M: Drop + Send,
     requires answers { (disk : FileDisk) → ForWords (map string_bytes words.now)
         (MayAnswer ⟦<FileDisk as Disk>⟧.tells ⟦<FileDisk as Disk>⟧.moment disk N.permits) }
     requires binds { ForWords (map string_bytes words.now) (MayBind N.may_bind) }
+    requires tells { ForWords (map string_bytes words.now) (MayTell N.M.may_tell) }
     requires dials { ForWords (map string_bytes words.now) (MayDial N.may_dial) }
     requires replays { (disk : FileDisk) → ForTexts words.now
         (MayReplay ⟦<FileDisk as Disk>⟧.tells ⟦<FileDisk as Disk>⟧.moment disk (WasRead S.same S.given input.old)
@@ -155,7 +167,10 @@ where
         Ok(Need::Make { len }) => match make_disk(rt, file, len) {
             Ok(disk) => {
                 let waiting = Waiting::Nobody;
-                run_over(rt, threads, words, disk, false, waiting, input, output, net).note
+                run_over(
+                    rt, threads, words, disk, false, waiting, failing, input, output, net,
+                )
+                .note
             }
             Err(fault) => refuse(rt, file, fault),
         },
@@ -168,7 +183,7 @@ where
                     let is_shown = opening.showing.is_seen(rt);
                     let waiting = opening.waiting;
                     let note = run_over(
-                        rt, threads, words, disk, is_shown, waiting, input, output, net,
+                        rt, threads, words, disk, is_shown, waiting, failing, input, output, net,
                     )
                     .note;
                     print_no_spool(rt, file, note);

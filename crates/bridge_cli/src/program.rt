@@ -5,7 +5,7 @@ use crate::skip::run_skip;
 use cli_parts::{
     Arguments, NoArguments, RunOptions, Taken, Untaken, confirm, hold_streams, keep_freed,
     print_beside_usage, print_beside_wrong_option, print_ending, print_line, print_note, rescue_of,
-    skip_of, take_options,
+    skip_of, take_options, with_tokens,
 };
 use edge_io::FileIo;
 use edge_net::{Reports, TcpNet, Waits};
@@ -57,6 +57,7 @@ fn run_arguments<R: Threads + Wait + Sync>(
         threads,
         &arguments.file,
         &arguments.words,
+        reports.disk(),
         &mut input,
         &mut output,
         &mut net,
@@ -69,6 +70,10 @@ fn run_all<R: Threads + Wait + Sync>(rt: &HostRuntime, threads: &R, arguments: A
     let Arguments { file, words } = arguments;
     match taken {
         Ok(Taken { words, options }) => {
+            let words = match with_tokens(rt, words) {
+                Ok(words) => words,
+                Err(note) => return note,
+            };
             let arguments = Arguments { file, words };
             let note = run_arguments(rt, threads, &arguments, options);
             print_ending(rt, &arguments, note);

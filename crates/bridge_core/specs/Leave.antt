@@ -1,9 +1,10 @@
 -- What a command may write to those who send to it, what it may make known as confirmed, what it may write to the disk, where it may bind
--- doors, and where it may dial.
+-- doors, what it may tell of the spool, and where it may dial.
 use Rattle.std.specs.Prelude.{ℕ, List, Some, None}
 use Rattle.edge_disk.specs.declared.disk.Disk.{Ghosts as Disks}
 use Rattle.edge_disk.specs.Disk.{Moment}
 use Rattle.edge_disk.specs.Leave.{LetsAll}
+use Rattle.edge_io.specs.declared.monitor.SpoolNumbers.{SpoolNumbers}
 use Rattle.spool_answers.specs.Leave.{LetsKeep}
 use Rattle.bridge_words.specs.declared.command.Command.{Command}
 use Rattle.bridge_words.specs.declared.command.Command.TheVariants.{Format, Replay, Drain, Serve}
@@ -63,10 +64,15 @@ abbrev pub MayPrint : Type 0 → Command → Type 0
 MayPrint AnyText (Replay proto token ack_token) = Unit {0}
 MayPrint AnyText command = AnyText
 
--- `serve` may bind doors at the places of its words, and no other command any.
+-- `serve` may bind doors at the places of its words, and listen at that of `--status`. No other command may bind any.
 abbrev pub MayBind : (List ℕ → Type 0) → Command → Type 0
 MayBind May (Serve words) = server.MayBind words May
 MayBind May command = Unit {0}
+
+-- `serve` may tell any numbers of the spool to those who ask for them. Nobody asks another command.
+abbrev pub MayTell : (SpoolNumbers → Type 0) → Command → Type 0
+MayTell May (Serve words) = (numbers : SpoolNumbers) → May numbers
+MayTell May command = Unit {0}
 
 -- `drain` and `serve` may dial the place that their words name, and no other command any.
 abbrev pub MayDial : (List ℕ → Type 0) → Command → Type 0

@@ -3,7 +3,7 @@ ghost use Rattle.std.specs.Prelude.{◌≡◌, ℕ, List};
 ghost use Rattle.notes.specs.Notes.{status_of};
 ghost use Rattle.bridge_core.specs.Asked.{IsAsked};
 ghost use Rattle.bridge_core.specs.Done.{Does};
-ghost use Rattle.bridge_core.specs.Leave.{MayAnswer, MayReplay, MayTake, WasRead, MayRelease, WereStreamed, HasExchangedAt, MayTear, MayBind, MayDial, MayPrint};
+ghost use Rattle.bridge_core.specs.Leave.{MayAnswer, MayReplay, MayTake, WasRead, MayRelease, WereStreamed, HasExchangedAt, MayTear, MayBind, MayTell, MayDial, MayPrint};
 ghost use Rattle.bridge_core.specs.Told.{ran};
 
 use crate::ended::Ended;
@@ -14,12 +14,13 @@ use commands::{Finished, drain_out, drain_to, format, list, load, replay};
 use conn_serve::Rules;
 use edge_disk::Disk;
 use edge_io::{Door, Net, Sink, Source};
+use hec_tokens::TokenList;
 use std::alloc::Global;
 use std::sync::Wait;
 use std::thread::Threads;
 
 /// Does the command, which words ask for, with the leave that it has. What a command doesn't need is left alone: `serve` alone binds
-/// doors.
+/// doors, and answers those who ask for numbers.
 pub(crate) fn do_command<
     D: Disk + Drop + Send,
     S: Source,
@@ -39,9 +40,11 @@ where
     N::P: Drop + Send,
     <N::P as Door>::L: Send,
     N::L: Send,
+    N::M: Drop + Send,
     requires asked { IsAsked command }
     requires answers { MayAnswer D.tells D.moment disk N.permits command }
     requires binds { MayBind N.may_bind command }
+    requires tells { MayTell N.M.may_tell command }
     requires dials { MayDial N.may_dial command }
     requires replays { MayReplay D.tells D.moment disk (WasRead S.same S.given input.old) (MayTake K.same K.taken K.permits output.old)
         command }
@@ -69,10 +72,12 @@ where
             token,
             ack_token,
         } => {
+            let listed = TokenList::none();
             let rules = Rules {
                 proto,
                 token,
                 ack_token,
+                listed,
                 group: false,
             };
             let Finished { note, disk } = replay(alloc, rules, disk, input, output);

@@ -3,7 +3,7 @@ ghost use Rattle.std.specs.Prelude.{◌≡◌, ℕ, List};
 ghost use Rattle.notes.specs.Notes.{status_of};
 ghost use Rattle.bridge_core.specs.RunOf.{IsRunOf};
 ghost use Rattle.bridge_core.specs.Headline.{KeepsAcknowledged};
-ghost use Rattle.bridge_core.specs.Leave.{ForWords, MayAnswer, MayReplay, MayTake, WasRead, MayReleaseOn, WereStreamed, HasExchangedAt, MayTear, MayBind, MayDial, MayPrint};
+ghost use Rattle.bridge_core.specs.Leave.{ForWords, MayAnswer, MayReplay, MayTake, WasRead, MayReleaseOn, WereStreamed, HasExchangedAt, MayTear, MayBind, MayTell, MayDial, MayPrint};
 ghost use Rattle.bridge_core.specs.Told.{ran, texts};
 
 use crate::asked::{Unasked, asked_of};
@@ -27,7 +27,9 @@ use std::thread::Threads;
 ///   the output, and with a place over a link that the net dials. The numbers that the peer acknowledges become known, and no others.
 /// - `load` makes a stream, stores and forwards it in memory alone, and prints a line.
 /// - `serve` serves many senders at once, at doors that the net binds, and forwards meanwhile what they store, where the words name a
-///   place.
+///   place. With `--tokens` it takes each token of a list, without or with acks. With `--status` those who ask at that place are told
+///   where the spool stands. That stores nothing and marks nothing: the journal of the clause `run` is of the workers' and the
+///   forwarder's calls alone.
 ///
 /// The result has the note that says why the run ended, and the exit status, which is the note's:
 ///
@@ -66,6 +68,7 @@ where
     N::P: Drop + Send,
     <N::P as Door>::L: Send,
     N::L: Send,
+    N::M: Drop + Send,
 
     // A text may be written to a sender once what it acknowledges is durable: to a link of a door, and by `replay` to the output.
     requires answers { ForWords (texts words.now) (MayAnswer D.tells D.moment disk N.permits) }
@@ -80,8 +83,10 @@ where
     // `format` may write anything to the disk, and every other command what keeps the spool.
     requires tears { ForWords (texts words.now) (MayTear D.tells D.moment D.may_tear D.may_release) }
 
-    // The places that the words name may be bound and dialed, and any text may be printed.
+    // The places that the words name may be bound and dialed, any numbers may be told to those who ask for them, and any text may be
+    // printed.
     requires binds { ForWords (texts words.now) (MayBind N.may_bind) }
+    requires tells { ForWords (texts words.now) (MayTell N.M.may_tell) }
     requires dials { ForWords (texts words.now) (MayDial N.may_dial) }
     requires prints { ForWords (texts words.now) (MayPrint ((sink : K) (text : List ℕ) → K.permits sink text)) }
 

@@ -144,7 +144,7 @@ module _ (ones : RunsOfOne) (run : Run) (told : run.disk.tells) (lawful : IsLawf
       let records = is.reached.records in
       let rules = desk_rules (opened Raise s) (opened_sound s is.stood.sound is.could) in
       let may =
-      replay_may ones proto (record { token = token; ack_token = ack_token }) (divided Workers raised) done.conn run.input.left_after serves.bytes serves.calls
+      replay_may ones proto (record { token = token; ack_token = ack_token; listed = [] }) (divided Workers raised) done.conn run.input.left_after serves.bytes serves.calls
       serves.text _ serves.are_bytes (is_first raised done.conn is.conn_is) serves.carried in
       weaker _ (KnowsNoOther run.disk.old run.disk.new lawful NoNumber) run.disk.old run.disk.new is.any_moment (λ c h. elim h [
         | inl opening ↦ while_opened run.disk.old run.disk.new lawful NoNumber c opening

@@ -1,5 +1,5 @@
 -- `replay` ends well where nothing that its input brings is refused.
-use Rattle.std.proofs.Common.{◌≡◌, inl, inr, ℕ, ◌<◌, ◌^◌, List, length, ◌∙◌, ap, subst, arith}
+use Rattle.std.proofs.Common.{◌≡◌, inl, inr, ℕ, ◌<◌, ◌^◌, List, [], length, ◌∙◌, ap, subst, arith}
 use Rattle.std.specs.Prelude.{Option}
 use Rattle.std.specs.Io.KnownBytes.{Consumes}
 use Rattle.event_form.specs.declared.event.Event.{Event}
@@ -80,10 +80,10 @@ module _ (proto : Proto) (token ack_token : Option ℕ) (words : List (List ℕ)
 
   -- a connection over the spool that the device stood for
   serves_all : RunsOfOne → ServesInput (replay_rules proto token ack_token) run.disk (both_run run.input run.output) note
-      → EndsWhole proto b → NoneIsRefused proto (record { token = token; ack_token = ack_token }) (conn_in s) (opened Raise s) b
-      → TakesAll proto (record { token = token; ack_token = ack_token }) run s b note
+      → EndsWhole proto b → NoneIsRefused proto (record { token = token; ack_token = ack_token; listed = [] }) (conn_in s) (opened Raise s) b
+      → TakesAll proto (record { token = token; ack_token = ack_token; listed = [] }) run s b note
   serves_all ones replayed ends fits =
-      let tokens : Tokens = record { token = token; ack_token = ack_token } in
+      let tokens : Tokens = record { token = token; ack_token = ack_token; listed = [] } in
       let served = replayed.served in
       let serves = served.serves in
       let talk = served.attended.talk in

@@ -119,7 +119,7 @@ module _ (ones : RunsOfOne) (run : Run) (told : run.disk.tells) (lawful : IsLawf
   by_replay proto token ack_token note done =
       let serves = done.served.serves in
       let is = serves.made told in
-      stored Is kept P holds held run.disk.old run.disk.new lawful before done.conn serves.calls is (replay_may ones proto (record { token = token; ack_token = ack_token }) (divided Workers (is.state.run + 1)) done.conn run.input.left_after serves.bytes serves.calls serves.text _ serves.are_bytes (is_first (is.state.run + 1) done.conn is.conn_is) serves.carried)
+      stored Is kept P holds held run.disk.old run.disk.new lawful before done.conn serves.calls is (replay_may ones proto (record { token = token; ack_token = ack_token; listed = [] }) (divided Workers (is.state.run + 1)) done.conn run.input.left_after serves.bytes serves.calls serves.text _ serves.are_bytes (is_first (is.state.run + 1) done.conn is.conn_is) serves.carried)
 
   module _ (same : run.disk.same → LeavesOnly run.disk.old.image run.disk.old run.disk.new) (words : List (List ℕ)) (note : Note)
       (whole : IsRunOf words run note) where

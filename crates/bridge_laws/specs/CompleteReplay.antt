@@ -1,5 +1,5 @@
 -- Where `replay` has to end well, and what the spool has then.
-use Rattle.std.specs.Prelude.{◌≡◌, ◌⊎◌, ◌<◌, ◌+◌, ◌*◌, ◌^◌, ℕ, List, length, Option, Some}
+use Rattle.std.specs.Prelude.{◌≡◌, ◌⊎◌, ◌<◌, ◌+◌, ◌*◌, ◌^◌, ℕ, List, [], length, Option, Some}
 use Rattle.event_form.specs.declared.event.Event.{Event}
 use Rattle.edge_io.specs.declared.proto.Proto.{Proto}
 use Rattle.hec_session.specs.declared.tokens.Tokens.{Tokens}
@@ -40,6 +40,6 @@ TakesAll proto tokens run s b note =
 abbrev pub ReplayEndsWell : Run → Type 0
 ReplayEndsWell run =
     (proto : Proto) (token ack_token : Option ℕ) (words : List (List ℕ)) (note : Note) (s : SpoolState) (b : List ℕ)
-    → let tokens : Tokens = record { token = token; ack_token = ack_token } in
+    → let tokens : Tokens = record { token = token; ack_token = ack_token; listed = [] } in
     IsRunOf words run note → NoneFailed run → IsCommand (Replay proto token ack_token) words → CanReplay run s b
     → EndsWhole proto b → NoneIsRefused proto tokens (conn_in s) (opened Raise s) b → TakesAll proto tokens run s b note

@@ -1,5 +1,5 @@
-//! The lines of entries: made, gathered and written.
-ghost use Rattle.std.specs.Prelude.{◌≡◌, ◌⊎◌, ◌++◌, ℕ, List, [], All, IfOk, IfErr, OnOk, IsErrOf};
+//! The lines of entries: gathered and written.
+ghost use Rattle.std.specs.Prelude.{◌≡◌, ◌⊎◌, ◌++◌, ℕ, List, [], All, IfErr, OnOk, IsErrOf};
 ghost use Rattle.std.specs.Io.KnownBytes.{Appends};
 ghost use Rattle.foundation.specs.Faults.{HasCause};
 ghost use Rattle.event_form.specs.Event.{IsEvent};
@@ -9,31 +9,21 @@ ghost use Rattle.bridge_parts.specs.Written.{IsCut};
 ghost use Rattle.bridge_skip.specs.Line.{IsEventLine};
 ghost use Rattle.bridge_rescue.specs.Lines.{GathersMore, WritesHeld, IsLineNote};
 
+use bridge_skip::event_line;
 use edge_io::{Sink, Stopped, write_whole};
 use event_form::{Entry, Event};
-use event_map::as_json_object;
 use notes::Note;
 use std::alloc::{AllocError, Global};
 
 /// Lines are held until they have so many bytes, and are written then.
 const PIECE: usize = 65_536;
 
-// The event as a JSON object, and LF.
-fn line_of(alloc: Global, event: &Event) -> Result<Vec<u8>, AllocError>
-    requires { IsEvent event.now }
-    ensures { IfOk result (λ line. IsEventLine event.now line.items) }
-{
-    let mut line = as_json_object(alloc, event)?.into_vec();
-    line.push(b'\n')?;
-    Ok(line)
-}
-
 // Adds the line of the event to the lines.
 fn add_line(alloc: Global, event: &Event, lines: &mut Vec<u8>) -> Result<(), AllocError>
     requires { IsEvent event.now }
     ensures { OnOk result ((line : List ℕ) × IsEventLine event.now line × (lines.new.items ≡ lines.old.items ++ line)) }
 {
-    let line = line_of(alloc, event)?;
+    let line = event_line(alloc, event)?;
     lines.extend_from_slice(&line)?;
     Ok(())
 }

@@ -8,3 +8,4 @@ pub mod Promises
 pub mod Ran
 pub mod Answering
 pub mod Releasing
+pub mod Asked

@@ -83,9 +83,9 @@ MayAnswer {D} tells moment given server Permits =
     (record { rules = rules_of server proto; division = server.division; worker = first_worker server proto + door; before = k }) bytes text
     → Permits place door k bytes text
 
--- Doors may be bound at the places that the words name.
+-- Doors may be bound at the places that the words name, and those who ask for numbers may come in at the place of `--status`.
 abbrev pub MayBind : Server → (List ℕ → Type 0) → Type 0
-MayBind server May = (proto : Proto) (place : List ℕ) → place_for server proto ≡ Some place → May place
+MayBind server May = ((proto : Proto) (place : List ℕ) → place_for server proto ≡ Some place → May place) × IfSome server.status May
 
 -- The place that the words forward to may be dialed.
 abbrev pub MayDial : Server → (List ℕ → Type 0) → Type 0

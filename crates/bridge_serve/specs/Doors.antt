@@ -13,7 +13,7 @@ use Rattle.serve_forwarder.specs.declared.destination.Destination.{Destination}
 
 -- the rules by which connections of that protocol are served: events of RELP that came together are stored together where the words say so
 abbrev pub rules_of : Server → Proto → Rules
-rules_of server proto = record { proto = proto; token = server.token; ack_token = server.ack_token; group = server.group }
+rules_of server proto = record { proto = proto; token = server.token; ack_token = server.ack_token; listed = server.listed; group = server.group }
 
 -- the place at which the server serves that protocol, if its words name one
 abbrev pub place_for : Server → Proto → Option (List ℕ)

@@ -2,6 +2,7 @@
 ghost use Rattle.std.specs.Prelude.{◌≡◌, ◌⊎◌, ◌+◌, ◌<◌, ◌^◌, ◌≤◌, ℕ, Some, false, map, IfOk, IfErr, IfSome, option_copied, slice_get, vec_len};
 ghost use Rattle.edge_disk.specs.Calls.{Calls};
 ghost use Rattle.spool_log.specs.State.{view};
+ghost use Rattle.edge_io.specs.declared.monitor.SpoolNumbers.{SpoolNumbers};
 ghost use Rattle.forward_core.specs.Exchanged.{HasExchangedAt};
 ghost use Rattle.spool_turns.specs.Named.{IsName};
 ghost use Rattle.spool_turns.specs.Replays.{desk_at, IsReal};
@@ -50,11 +51,13 @@ fn run_named<
     talks: u32,
     destination: Option<&Destination>,
     net: &mut N,
+    monitor: Option<N::M>,
 ) -> Result<Served<N::P, D>, Unserved<N::P, D>>
 where
     N::P: Drop + Send,
     <N::P as Door>::L: Send,
     N::L: Send,
+    N::M: Drop + Send,
     requires seats { J.seats ≡ vec_len posts + 1 }
     requires few { vec_len posts ≤ callers_of J.run.division }
     requires talks { talks ≤ each_of J.run.division }
@@ -67,6 +70,7 @@ where
     requires named { IfSome destination (λ d. N.may_dial d.now.place) }
     requires earned { IfSome destination (λ d. MayRelease (IsReal ⟦<D as Disk>⟧ J.start J.run J.seats J.began) J.start d.now.outward
         (HasExchangedAt N.L.same N.L.dialed N.L.given N.L.taken d.now.place) D.may_release) }
+    requires tells { (numbers : SpoolNumbers) → N.M.may_tell numbers }
 
     ensures many { IfOk result (λ served. (vec_len served.doors ≡ vec_len posts) × (vec_len served.reports ≡ vec_len posts)) }
     ensures served { IfOk result (λ served. HasServed D.tells J.start J.run J.seats J.began talks (map (λ (post : _). post.rules) posts.items)
@@ -80,7 +84,7 @@ where
         Ok(opened) => opened,
         Err(NoShare { desk }) => return Err(Unserved { desk, posts }),
     };
-    serve_run::serve(rt, alloc, opened, posts, talks, destination, net)
+    serve_run::serve(rt, alloc, opened, posts, talks, destination, net, monitor)
 }
 
 /// Runs the server over a spool that was opened for storing, from a disk as it was `before`: a worker at each of the doors, which ends
@@ -100,11 +104,13 @@ pub(crate) fn run_over<D: Disk + Drop + Send, N: Net + Send, R: Threads + Wait +
     talks: u32,
     destination: Option<&Destination>,
     net: &mut N,
+    monitor: Option<N::M>,
 ) -> Result<Served<N::P, D>, Unserved<N::P, D>>
 where
     N::P: Drop + Send,
     <N::P as Door>::L: Send,
     N::L: Send,
+    N::M: Drop + Send,
     requires opened { IsOpenedFrom D.tells (D.moment before.value) (view spool.memory spool.doubt (D.moment spool.disk)) }
     requires sure { spool.doubt ≡ false }
     requires few { vec_len posts ≤ callers_of division }
@@ -115,6 +121,7 @@ where
     requires dials { IfSome destination (λ d. N.may_dial d.now.place) }
     requires releases { IfSome destination (λ d. ForwarderMayRelease D.tells (λ (d : D). D.moment d) before.value d.now.outward
         (HasExchangedAt N.L.same N.L.dialed N.L.given N.L.taken d.now.place) D.may_release) }
+    requires tells { (numbers : SpoolNumbers) → N.M.may_tell numbers }
 
     ensures many { IfOk result (λ served. (vec_len served.doors ≡ vec_len posts) × (vec_len served.reports ≡ vec_len posts)) }
     ensures over { IfOk result (λ served. RunsOver D.tells (D.moment before.value) (D.moment served.desk.spool.disk) group division talks
@@ -138,6 +145,7 @@ where
             talks,
             destination,
             net,
+            monitor,
         ),
         Err(NoShare { desk }) => Err(Unserved { desk, posts }),
     }

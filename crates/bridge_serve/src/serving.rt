@@ -1,6 +1,7 @@
 //! The command `serve`.
 ghost use Rattle.std.specs.Prelude.{◌≡◌, ◌≢◌, ◌⊎◌, ℕ, ◌+◌, ◌-◌, ◌^◌, ◌<◌, ◌≤◌, List, Some, false, map, slice_get, IfSome, vec_len};
 ghost use Rattle.desk_access.specs.Division.{callers_of, each_of};
+ghost use Rattle.edge_io.specs.declared.monitor.SpoolNumbers.{SpoolNumbers};
 ghost use Rattle.forward_core.specs.Exchanged.{HasExchangedAt};
 ghost use Rattle.spool_answers.specs.Leave.{LetsKeep};
 ghost use Rattle.spool_log.specs.Memory.{end_of};
@@ -19,7 +20,7 @@ ghost use Rattle.bridge_serve.specs.Opened.{IsOpenedFrom};
 ghost use Rattle.bridge_serve.specs.Released.{ForwarderMayRelease, MayRelease};
 ghost use Rattle.bridge_serve.specs.Served.{IsUnserved, IsRunAt, IsServed};
 
-use crate::binding::{Posts, bind_doors};
+use crate::binding::{Posts, bind_places};
 use crate::counting::Numbers;
 use crate::ended::Over;
 use crate::noting::run_note;
@@ -104,6 +105,7 @@ fn serve_posts<D: Disk + Drop + Send, K: Sink, N: Net + Send, R: Threads + Wait 
     posts: Posts<N::P>,
     talks: u32,
     destination: Option<Destination>,
+    monitor: Option<N::M>,
     output: &mut K,
     net: &mut N,
 ) -> Over<D, N::P>
@@ -111,6 +113,7 @@ where
     N::P: Drop + Send,
     <N::P as Door>::L: Send,
     N::L: Send,
+    N::M: Drop + Send,
     requires opened { IsOpenedFrom D.tells (D.moment before.value) (view spool.memory spool.doubt (D.moment spool.disk)) }
     requires sure { spool.doubt ≡ false }
     requires few { vec_len posts.posts ≤ callers_of division }
@@ -122,6 +125,7 @@ where
     requires dials { IfSome destination (λ d. N.may_dial d.place) }
     requires releases { IfSome destination (λ d. ForwarderMayRelease D.tells (λ (d : D). D.moment d) before.value d.outward
         (HasExchangedAt N.L.same N.L.dialed N.L.given N.L.taken d.place) D.may_release) }
+    requires tells { (numbers : SpoolNumbers) → N.M.may_tell numbers }
     requires prints { (sink : K) (text : List ℕ) → K.permits sink text }
 
     ensures known { (result.note ≢ Usage) × ((have want : ℕ) → result.note ≢ WrongLength have want) }
@@ -151,6 +155,7 @@ where
         talks,
         destination.as_ref(),
         net,
+        monitor,
     ) {
         Ok(served) => finish(alloc, opening, served, output),
         Err(Unserved { desk, posts }) => Over {
@@ -197,6 +202,7 @@ where
     N::P: Drop + Send,
     <N::P as Door>::L: Send,
     N::L: Send,
+    N::M: Drop + Send,
     requires workers { server.workers ≤ most_workers server.division }
     requires talks { server.talks ≤ each_of server.division }
     requires polls { HasRelayPolls server.forward }
@@ -206,6 +212,7 @@ where
     requires releases { MayRelease D.tells (λ (d : D). D.moment d) disk server
         (HasExchangedAt N.L.same N.L.dialed N.L.given N.L.taken) D.may_release }
     requires tears { LetsKeep D.tells D.moment D.may_tear D.may_release }
+    requires tells { (numbers : SpoolNumbers) → N.M.may_tell numbers }
     requires prints { (sink : K) (text : List ℕ) → K.permits sink text }
 
     ensures known { (result.note ≢ Usage) × ((have want : ℕ) → result.note ≢ WrongLength have want) }
@@ -225,8 +232,8 @@ where
     let Ok(mut posts) = Posts::reserve(alloc, server.workers) else {
         return Over::unserved(alloc, Note::NoMemory, spool.into_disk());
     };
-    match bind_doors(&server, net, &mut posts.posts) {
-        Ok(()) => serve_posts(
+    match bind_places(&server, net, &mut posts.posts) {
+        Ok(monitor) => serve_posts(
             rt,
             alloc,
             before,
@@ -236,6 +243,7 @@ where
             posts,
             server.talks,
             destination_of(server.forward),
+            monitor,
             output,
             net,
         ),

@@ -3,11 +3,13 @@
 //! these words, as `bridge` is that of most others: what is printed, what is made known and what is answered.
 #![tactic(auto)]
 
+mod line;
 mod opened;
 mod printing;
 mod releasing;
 mod skipped;
 mod top;
 
+pub use line::event_line;
 pub use skipped::Skipped;
 pub use top::bridge_skip;

@@ -1,25 +1,15 @@
 //! The event of an entry, printed as a line.
-ghost use Rattle.std.specs.Prelude.{◌≡◌, ◌⊎◌, ◌∷◌, ◌++◌, ℕ, List, [], IfOk};
+ghost use Rattle.std.specs.Prelude.{◌≡◌, ◌⊎◌, ℕ, List};
 ghost use Rattle.event_form.specs.Event.{IsEvent};
 ghost use Rattle.conn_serve.specs.Endings.{CountsFaults};
 ghost use Rattle.notes.specs.declared.note.Note.TheVariants.{Fine, WriteFault, NoMemory};
-ghost use Rattle.bridge_skip.specs.Line.{IsEventLine, PrintsEvent};
+ghost use Rattle.bridge_skip.specs.Line.{PrintsEvent};
 
+use crate::line::event_line;
 use edge_io::{Sink, write_whole};
 use event_form::Event;
-use event_map::as_json_object;
 use notes::Note;
-use std::alloc::{AllocError, Global};
-
-// The event as a JSON object, and LF.
-fn line_of(alloc: Global, event: &Event) -> Result<Vec<u8>, AllocError>
-    requires { IsEvent event.now }
-    ensures { IfOk result (λ line. IsEventLine event.now line.items) }
-{
-    let mut line = as_json_object(alloc, event)?.into_vec();
-    line.push(b'\n')?;
-    Ok(line)
-}
+use std::alloc::Global;
 
 /// Prints the event as a JSON object, and LF. `Fine` comes exactly where all of the line was written; `WriteFault` where a write failed,
 /// and then not all of it was; `NoMemory` where no memory was found for it, and then nothing was.
@@ -32,7 +22,7 @@ pub(crate) fn print_event<K: Sink>(alloc: Global, output: &mut K, event: &Event)
     ensures same { K.same output.old output.new }
     ensures printed { PrintsEvent event.now result (K.taken output.old) (K.taken output.new) }
 {
-    let Ok(line) = line_of(alloc, event) else {
+    let Ok(line) = event_line(alloc, event) else {
         return Note::NoMemory;
     };
     match write_whole(output, &line) {

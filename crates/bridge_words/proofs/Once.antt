@@ -6,6 +6,7 @@ use Rattle.std.specs.Str.{bytes_eq}
 use Rattle.std.proofs.lemmas.Slice.Eq.{bytes_eq-Decides}
 use Rattle.clap.specs.Walk.{Row, Text}
 use Rattle.desk_access.specs.declared.division.Division.{Division}
+use Rattle.hec_tokens.specs.declared.list.ListedToken.{ListedToken}
 use Rattle.bridge_words.specs.declared.command.Command.{Command}
 use Rattle.bridge_words.specs.declared.command.Relay.{Relay}
 use Rattle.bridge_words.specs.declared.command.Server.{Server}
@@ -50,11 +51,24 @@ pub same_rows : (a b : Text) (x y : List Row) → ◌≡◌ {A = Option (Text ×
 same_rows a b x y is = ap (rows_or x) is
 
 -- a server is what its fields are
-server_of : (relp lumberjack hec : Option Text) (division : Division) (workers talks : ℕ) (token ack_token : Option ℕ) (group : Bool) (forward : Option Relay) → Server
-server_of relp lumberjack hec division workers talks token ack_token group forward =
-    record { relp = relp; lumberjack = lumberjack; hec = hec; division = division; workers = workers; talks = talks; token = token; ack_token = ack_token; group = group; forward = forward }
+server_of : (relp lumberjack hec status : Option Text) (division : Division) (workers talks : ℕ) (token ack_token : Option ℕ) (listed : List ListedToken)
+    (group : Bool) (forward : Option Relay) → Server
+server_of relp lumberjack hec status division workers talks token ack_token listed group forward = record {
+  relp = relp;
+  lumberjack = lumberjack;
+  hec = hec;
+  status = status;
+  division = division;
+  workers = workers;
+  talks = talks;
+  token = token;
+  ack_token = ack_token;
+  listed = listed;
+  group = group;
+  forward = forward;
+}
 
-server_is : (s : Server) → server_of s.relp s.lumberjack s.hec s.division s.workers s.talks s.token s.ack_token s.group s.forward ≡ s
+server_is : (s : Server) → server_of s.relp s.lumberjack s.hec s.status s.division s.workers s.talks s.token s.ack_token s.listed s.group s.forward ≡ s
 unfolding server_of
 server_is s = refl
 
@@ -67,7 +81,10 @@ one_server s t rows x y =
     let workers = x.crew_is.workers_is in let talks = x.crew_is.talks_is in
     let workers' = subst (λ (d : Division). workers_in d rows ≡ Ok t.workers) (sym division) y.crew_is.workers_is in
     let talks' = subst (λ (d : Division). talks_in d rows ≡ Ok t.talks) (sym division) y.crew_is.talks_is in
-    let token = x.token_is in let token' = y.token_is in let ack_token = x.ack_token_is in let ack_token' = y.ack_token_is in
+    let token = x.tokens_are.token_is in let token' = y.tokens_are.token_is in
+    let ack_token = x.tokens_are.ack_token_is in let ack_token' = y.tokens_are.ack_token_is in
+    let listed = x.tokens_are.listed_is in let listed' = y.tokens_are.listed_is in
+    let status = x.status_is in let status' = y.status_is in
     let group = x.group_is in let group' = y.group_is in
     let forward = x.forward_is in let forward' = y.forward_is in
     cc (server_is s, server_is t)

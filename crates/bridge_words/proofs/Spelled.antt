@@ -14,10 +14,10 @@ use Rattle.bridge_words.specs.declared.command.Receiver.TheVariants.{Relp as ToR
 use Rattle.bridge_words.specs.declared.fault.WordsFault.{WordsFault}
 use Rattle.bridge_words.specs.declared.fault.WordsFault.TheVariants as wrong
 use Rattle.bridge_words.specs.Grammar.{refusals, named}
-use Rattle.bridge_words.specs.Values.{value_of, number_within, guid, relp_in, lumberjack_in, hec_in, division_in, workers_in, talks_in, token_in, ack_token_in, group_in}
+use Rattle.bridge_words.specs.Values.{value_of, number_within, guid, relp_in, lumberjack_in, hec_in, status_in, division_in, workers_in, talks_in, group_in}
 use Rattle.bridge_words.specs.Wrong.IsWrong.{found}
 use Rattle.bridge_words.specs.Wrong.WrongBy.{in_move}
-use Rattle.bridge_words.specs.Words.{IsCommand, IsNoCommand, IsServe, IsMove, IsNoMove, relp_server, relay_in}
+use Rattle.bridge_words.specs.Words.{IsCommand, IsNoCommand, AreTokens, IsServe, IsMove, IsNoMove, relp_server, relay_in}
 use Rattle.bridge_words.proofs.Numbers.{within}
 use Rattle.bridge_words.proofs.Wrongs.{wrong_is_no_move}
 
@@ -94,9 +94,10 @@ abbrev relp_words : Text → Text
 relp_words place = codes "--relp=" ++ place
 
 asks_relp : (x : ℕ) (place : Text) (group : Bool) (rows : List Row) → relp_in rows ≡ Ok (Some (x ∷ place)) → lumberjack_in rows ≡ Ok None → hec_in rows ≡ Ok None
-    → division_in rows ≡ Ok Workers → workers_in Workers rows ≡ Ok 4 → talks_in Workers rows ≡ Ok 67108864 → token_in rows ≡ Ok None → ack_token_in rows ≡ Ok None → group_in rows ≡ group → relay_in rows ≡ Ok None
+    → status_in rows ≡ Ok None → division_in rows ≡ Ok Workers → workers_in Workers rows ≡ Ok 4 → talks_in Workers rows ≡ Ok 67108864
+    → AreTokens None None [] rows → group_in rows ≡ group → relay_in rows ≡ Ok None
     → IsServe (relp_server (x ∷ place) group) rows
-asks_relp x place group rows relp lumberjack hec division workers talks token ack_token grouped relay = record {
+asks_relp x place group rows relp lumberjack hec status division workers talks tokens grouped relay = record {
   doors_are = record { relp_is = relp; lumberjack_is = lumberjack; hec_is = hec; some_door = inl refl };
   crew_is = record {
     division_is = division;
@@ -107,8 +108,8 @@ asks_relp x place group rows relp lumberjack hec division workers talks token ac
     some_talk = omega arith;
     few_talks = omega arith;
   };
-  token_is = token;
-  ack_token_is = ack_token;
+  tokens_are = tokens;
+  status_is = status;
   group_is = grouped;
   forward_is = relay;
   few_polls = tt;
@@ -123,7 +124,7 @@ without x place = record {
   rows = rows_of_words (without_words (x ∷ place));
   taken = refl;
   found = refl;
-  asks = asks_relp x place false (rows_of_words (without_words (x ∷ place))) refl refl refl refl refl refl refl refl refl refl;
+  asks = asks_relp x place false (rows_of_words (without_words (x ∷ place))) refl refl refl refl refl refl refl (record { token_is = refl; ack_token_is = refl; listed_is = refl }) refl refl;
 }
 
 abbrev before_words : Text → List Text
@@ -135,7 +136,7 @@ grouped_before x place = record {
   rows = rows_of_words (before_words (x ∷ place));
   taken = refl;
   found = refl;
-  asks = asks_relp x place true (rows_of_words (before_words (x ∷ place))) refl refl refl refl refl refl refl refl refl refl;
+  asks = asks_relp x place true (rows_of_words (before_words (x ∷ place))) refl refl refl refl refl refl refl (record { token_is = refl; ack_token_is = refl; listed_is = refl }) refl refl;
 }
 
 abbrev behind_words : Text → List Text
@@ -147,7 +148,7 @@ grouped_behind x place = record {
   rows = rows_of_words (behind_words (x ∷ place));
   taken = refl;
   found = refl;
-  asks = asks_relp x place true (rows_of_words (behind_words (x ∷ place))) refl refl refl refl refl refl refl refl refl refl;
+  asks = asks_relp x place true (rows_of_words (behind_words (x ∷ place))) refl refl refl refl refl refl refl (record { token_is = refl; ack_token_is = refl; listed_is = refl }) refl refl;
 }
 
 pub grouped_twice : (place : Text) → IsNoCommand (codes "serve" ∷ codes "--group" ∷ codes "--group" ∷ relp_words place ∷ [])

@@ -7,6 +7,7 @@ use Rattle.clap.specs.declared.error.kind.ErrorKind.{ErrorKind}
 use Rattle.clap.specs.declared.error.kind.ErrorKind.TheVariants as kind
 use Rattle.desk_access.specs.declared.division.Division.{Division}
 use Rattle.edge_io.specs.declared.proto.Proto.{Proto}
+use Rattle.hec_tokens.specs.declared.list.ListedToken.{ListedToken}
 use Rattle.bridge_words.specs.declared.command.Command.{Command}
 use Rattle.bridge_words.specs.declared.command.Command.TheVariants.{Format, List as ListCommand, Replay, Drain, Load, Serve}
 use Rattle.bridge_words.specs.declared.command.Receiver.{Receiver}
@@ -15,8 +16,8 @@ use Rattle.bridge_words.specs.declared.fault.WordsFault.{WordsFault}
 use Rattle.bridge_words.specs.declared.reading.Unread.TheVariants.{Wrong}
 use Rattle.bridge_words.specs.Grammar.{refusals}
 use Rattle.bridge_words.specs.Values.{division_in, workers_in, talks_in}
-use Rattle.bridge_words.specs.Words.{IsFormat, IsReplay, IsDrain, IsLoad, HasDoor, AreDoors, IsCrew, IsServe, IsCommandBy, IsNoCommand, IsPair, IsNoMove, name_of}
-use Rattle.bridge_words.specs.Wrong.{fault_for, unread_for, WrongFormat, WrongReplay, WrongDrain, WrongLoad, WrongDoors, WrongCounts, WrongServe, WrongMove, WrongBy, IsWrong}
+use Rattle.bridge_words.specs.Words.{IsFormat, IsReplay, IsDrain, IsLoad, HasDoor, AreDoors, IsCrew, AreTokens, IsServe, IsCommandBy, IsNoCommand, IsPair, IsNoMove, name_of}
+use Rattle.bridge_words.specs.Wrong.{fault_for, unread_for, WrongFormat, WrongReplay, WrongDrain, WrongLoad, WrongDoors, WrongCounts, WrongTokens, WrongServe, WrongMove, WrongBy, IsWrong}
 use Rattle.bridge_words.specs.Wrong.WrongBy.{no_name, in_format, in_list, in_replay, in_drain, in_load, in_serve, in_move}
 use Rattle.bridge_words.specs.Wrong.IsWrong.{refused, nameless, found}
 use Rattle.bridge_words.proofs.Once.{apart, no_move_name, same_name, same_rows}
@@ -67,13 +68,19 @@ no_counts w rows division workers talks (other, at, wrong) is =
       | inr h ↦ never _ _ _ is.talks_is (subst (λ (d : Division). talks_in d rows ≡ Err w) same h)
     ]
 
+no_tokens : (w : WordsFault) (rows : List Row) (token ack_token : Option ℕ) (listed : List ListedToken)
+    → WrongTokens w rows → AreTokens token ack_token listed rows → ⊥
+no_tokens w rows token ack_token listed (inl h) are = never _ _ _ are.token_is h
+no_tokens w rows token ack_token listed (inr (inl h)) are = never _ _ _ are.ack_token_is h
+no_tokens w rows token ack_token listed (inr (inr h)) are = never _ _ _ are.listed_is h
+
 no_serve : (w : WordsFault) (rows : List Row) (server : Server) → WrongServe w rows → IsServe server rows → ⊥
 no_serve w rows server (inl h) is = no_doors w rows _ _ _ h is.doors_are
 no_serve w rows server (inr (inl h)) is = never _ _ _ is.crew_is.division_is h
 no_serve w rows server (inr (inr (inl h))) is = no_counts w rows server.division server.workers server.talks h is.crew_is
-no_serve w rows server (inr (inr (inr (inl h)))) is = never _ _ _ is.token_is h
-no_serve w rows server (inr (inr (inr (inr (inl h))))) is = never _ _ _ is.ack_token_is h
-no_serve w rows server (inr (inr (inr (inr (inr h))))) is = never _ _ _ is.forward_is h
+no_serve w rows server (inr (inr (inr (inl h)))) is = no_tokens w rows _ _ _ h is.tokens_are
+no_serve w rows server (inr (inr (inr (inr (inl h))))) is = never _ _ _ is.forward_is h
+no_serve w rows server (inr (inr (inr (inr (inr h))))) is = never _ _ _ is.status_is h
 
 wrong_by : (name : Text) (w : WordsFault) (rows : List Row) (command : Command) → WrongBy name w rows → name_of command ≡ name → IsCommandBy command rows → ⊥
 wrong_by name w rows command (no_name none other is) at asks = none command at

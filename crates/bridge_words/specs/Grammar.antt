@@ -44,15 +44,15 @@ drain_app =
 abbrev pub load_app : App
 load_app = needs (codes "count") (needs (codes "number") (needs (codes "proto") (new_app (codes "load"))))
 
--- `serve [--relp P] [--lumberjack P] [--hec P] [--workers N] [--connections N] [--talks N] [--token G]
---     [--ack-token G] [--group] [--forward PROTO] [--to P] [--out-token G] [--out-channel G] [--polls N]`
+-- `serve [--relp P] [--lumberjack P] [--hec P] [--status P] [--workers N] [--connections N] [--talks N] [--token G]
+--     [--ack-token G] [--tokens LIST] [--group] [--forward PROTO] [--to P] [--out-token G] [--out-channel G] [--polls N]`
 abbrev pub serve_app : App
 serve_app =
     option (codes "polls") (option (codes "out-channel") (option (codes "out-token")
     (option (codes "to") (option (codes "forward") (flag (codes "group")
-    (option (codes "ack-token") (option (codes "token")
-    (option (codes "talks") (option (codes "connections") (option (codes "workers")
-    (option (codes "hec") (option (codes "lumberjack") (option (codes "relp") (new_app (codes "serve")))))))))))))))
+    (option (codes "tokens") (option (codes "ack-token") (option (codes "token")
+    (option (codes "talks") (option (codes "connections") (option (codes "workers") (option (codes "status")
+    (option (codes "hec") (option (codes "lumberjack") (option (codes "relp") (new_app (codes "serve")))))))))))))))))
 
 -- `move TARGET TAG`
 abbrev pub move_app : App

@@ -1,5 +1,6 @@
 pub mod Grammar
 pub mod Values
+pub mod Tokens
 pub mod Words
 pub mod Asked
 pub mod Wrong

@@ -107,7 +107,7 @@ place_for id rows = may_be wrong.Place place_at (value_of id rows)
 abbrev pub place_in : List Row → Result (Option Text) WordsFault
 place_in = place_for (codes "place")
 
--- the places of `--relp`, `--lumberjack` and `--hec`, at which connections come in, and of `--to`
+-- the places of `--relp`, `--lumberjack` and `--hec`, at which connections come in, of `--status` and of `--to`
 abbrev pub relp_in : List Row → Result (Option Text) WordsFault
 relp_in = place_for (codes "relp")
 
@@ -116,6 +116,9 @@ lumberjack_in = place_for (codes "lumberjack")
 
 abbrev pub hec_in : List Row → Result (Option Text) WordsFault
 hec_in = place_for (codes "hec")
+
+abbrev pub status_in : List Row → Result (Option Text) WordsFault
+status_in = place_for (codes "status")
 
 abbrev pub to_in : List Row → Result (Option Text) WordsFault
 to_in = place_for (codes "to")

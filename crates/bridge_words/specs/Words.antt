@@ -2,6 +2,7 @@
 use Rattle.std.specs.Prelude.{◌≡◌, ◌⊎◌, Bool, ℕ, ◌≤◌, ◌^◌, List, [], Option, None, Some, IsSome, IfSome, Result, Ok, Err, codes}
 use Rattle.clap.specs.Walk.{Row, Text}
 use Rattle.edge_io.specs.declared.proto.Proto.{Proto}
+use Rattle.hec_tokens.specs.declared.list.ListedToken.{ListedToken}
 use Rattle.spool_state.specs.Image.{slot_at}
 use Rattle.desk_access.specs.declared.division.Division.{Division}
 use Rattle.desk_access.specs.declared.division.Division.TheVariants.{Workers, Connections}
@@ -10,15 +11,15 @@ use Rattle.bridge_words.specs.declared.command.Command.{Command}
 use Rattle.bridge_words.specs.declared.command.Command.TheVariants.{Format, List as ListCommand, Replay, Drain, Load, Serve}
 use Rattle.bridge_words.specs.declared.command.Relay.{Relay}
 use Rattle.bridge_words.specs.declared.command.Server.{Server}
-use Rattle.bridge_words.specs.declared.server.Crew.{Crew}
 use Rattle.bridge_words.specs.declared.command.Receiver.{Receiver}
 use Rattle.bridge_words.specs.declared.command.Receiver.TheVariants.{Hec as ToHec}
 use Rattle.bridge_words.specs.declared.fault.WordsFault.{WordsFault}
 use Rattle.bridge_words.specs.declared.need.Need.{Need}
 use Rattle.bridge_words.specs.declared.need.Need.TheVariants.{NoCommand, Nothing, Existing, Make, Pair}
 use Rattle.bridge_words.specs.Grammar.{refusals, named}
+use Rattle.bridge_words.specs.Tokens.{listed_in}
 use Rattle.bridge_words.specs.Values.{slots_in, size_in, proto_in, place_in, number_in, count_in, form_in, token_in, ack_token_in, out_token_in, out_channel_in, polls_in, receiver_of, target_in, tag_in}
-use Rattle.bridge_words.specs.Values.{relp_in, lumberjack_in, hec_in, division_in, workers_in, talks_in, group_in, forward_in, to_in, relay_of}
+use Rattle.bridge_words.specs.Values.{relp_in, lumberjack_in, hec_in, status_in, division_in, workers_in, talks_in, group_in, forward_in, to_in, relay_of}
 
 -- ---- the table
 
@@ -113,20 +114,19 @@ pub record IsCrew (division : Division) (workers talks : ℕ) (rows : List Row) 
   pub some_talk : 1 ≤ talks
   pub few_talks : talks ≤ each_of division
 
--- how a server works, and the tokens of the HTTP Event Collector
-pub record IsManner (crew : Crew) (token ack_token : Option ℕ) (group : Bool) (rows : List Row) : Type 0 where
-  pub crew_is : IsCrew crew.division crew.workers crew.talks rows
+-- the tokens of the HTTP Event Collector
+pub record AreTokens (token ack_token : Option ℕ) (listed : List ListedToken) (rows : List Row) : Type 0 where
   pub token_is : token_in rows ≡ Ok token
   pub ack_token_is : ack_token_in rows ≡ Ok ack_token
-  pub group_is : group_in rows ≡ group
+  pub listed_is : listed_in rows ≡ Ok listed
 
--- `serve [--relp P] [--lumberjack P] [--hec P] [--workers N] [--connections N] [--talks N] [--token G]
---     [--ack-token G] [--group] [--forward PROTO] [--to P] [--out-token G] [--out-channel G] [--polls N]`
+-- `serve [--relp P] [--lumberjack P] [--hec P] [--status P] [--workers N] [--connections N] [--talks N] [--token G]
+--     [--ack-token G] [--tokens LIST] [--group] [--forward PROTO] [--to P] [--out-token G] [--out-channel G] [--polls N]`
 pub record IsServe (server : Server) (rows : List Row) : Type 0 where
   pub doors_are : AreDoors server.relp server.lumberjack server.hec rows
   pub crew_is : IsCrew server.division server.workers server.talks rows
-  pub token_is : token_in rows ≡ Ok server.token
-  pub ack_token_is : ack_token_in rows ≡ Ok server.ack_token
+  pub tokens_are : AreTokens server.token server.ack_token server.listed rows
+  pub status_is : status_in rows ≡ Ok server.status
   pub group_is : group_in rows ≡ server.group
   pub forward_is : relay_in rows ≡ Ok server.forward
   pub few_polls : HasRelayPolls server.forward
@@ -134,7 +134,20 @@ pub record IsServe (server : Server) (rows : List Row) : Type 0 where
 -- a server of RELP at this place, with nothing else said but whether events that came together are stored together
 abbrev pub relp_server : Text → Bool → Server
 relp_server place group =
-    record { relp = Some place; lumberjack = None; hec = None; division = Workers; workers = 4; talks = 67108864; token = None; ack_token = None; group = group; forward = None }
+    record {
+      relp = Some place;
+      lumberjack = None;
+      hec = None;
+      status = None;
+      division = Workers;
+      workers = 4;
+      talks = 67108864;
+      token = None;
+      ack_token = None;
+      listed = [];
+      group = group;
+      forward = None;
+    }
 
 -- what was found of the words asks for this
 abbrev pub IsCommandBy : Command → List Row → Type 0

@@ -12,7 +12,8 @@ use Rattle.bridge_words.specs.declared.reading.Unread.{Unread}
 use Rattle.bridge_words.specs.declared.reading.Unread.TheVariants.{NoMemory, Wrong}
 use Rattle.bridge_words.specs.Grammar.{refusals, named}
 use Rattle.bridge_words.specs.Values.{slots_in, size_in, proto_in, place_in, number_in, count_in, form_in, token_in, ack_token_in}
-use Rattle.bridge_words.specs.Values.{relp_in, lumberjack_in, hec_in, division_in, workers_in, talks_in, target_in, tag_in}
+use Rattle.bridge_words.specs.Values.{relp_in, lumberjack_in, hec_in, status_in, division_in, workers_in, talks_in, target_in, tag_in}
+use Rattle.bridge_words.specs.Tokens.{listed_in}
 use Rattle.bridge_words.specs.Words.{name_of, receiver_in, relay_in}
 
 -- what a kind of clap's errors says of the words
@@ -61,8 +62,12 @@ abbrev pub WrongCounts : WordsFault → List Row → Type 0
 WrongCounts w rows =
     (division : Division) × (division_in rows ≡ Ok division) × ((workers_in division rows ≡ Err w) ⊎ (talks_in division rows ≡ Err w))
 
+abbrev pub WrongTokens : WordsFault → List Row → Type 0
+WrongTokens w rows = (token_in rows ≡ Err w) ⊎ ((ack_token_in rows ≡ Err w) ⊎ (listed_in rows ≡ Err w))
+
 abbrev pub WrongServe : WordsFault → List Row → Type 0
-WrongServe w rows = WrongDoors w rows ⊎ ((division_in rows ≡ Err w) ⊎ (WrongCounts w rows ⊎ ((token_in rows ≡ Err w) ⊎ ((ack_token_in rows ≡ Err w) ⊎ (relay_in rows ≡ Err w)))))
+WrongServe w rows =
+    WrongDoors w rows ⊎ ((division_in rows ≡ Err w) ⊎ (WrongCounts w rows ⊎ (WrongTokens w rows ⊎ ((relay_in rows ≡ Err w) ⊎ (status_in rows ≡ Err w)))))
 
 abbrev pub WrongMove : WordsFault → List Row → Type 0
 WrongMove w rows = (target_in rows ≡ Err w) ⊎ (tag_in rows ≡ Err w)
@@ -104,6 +109,8 @@ fault_text fault.Tag = codes "TAG: 0 to 4294967295"
 fault_text fault.Form = codes "--as: relp, json or hec"
 fault_text fault.Token = codes "--token: no GUID"
 fault_text fault.AckToken = codes "--ack-token: no GUID"
+fault_text fault.Tokens = codes "--tokens: 1 to 1000 lines, each a GUID or a GUID and ack"
+fault_text fault.BothTokens = codes "--tokens: not beside --token or --ack-token"
 fault_text fault.OutToken = codes "--out-token: no GUID"
 fault_text fault.OutChannel = codes "--out-channel: no GUID"
 fault_text fault.Polls = codes "--polls: 1 to 1000"

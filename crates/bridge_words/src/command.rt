@@ -6,6 +6,7 @@ ghost use Rattle.bridge_words.specs.Words.{IsCommand, IsNoCommand};
 use crate::reading::{Asked, Unread, read};
 use desk_access::Division;
 use edge_io::Proto;
+use hec_tokens::TokenList;
 use notes::Place;
 use std::alloc::{AllocError, Global};
 
@@ -56,6 +57,8 @@ pub struct Server {
     pub lumberjack: Option<Place>,
     /// The place at which connections of the HTTP Event Collector come in.
     pub hec: Option<Place>,
+    /// The place at which those come in who ask how the spool stands.
+    pub status: Option<Place>,
     /// How the numbers of connections are divided among the workers of all places: by `--connections` among 4,096, and else among 64.
     pub division: Division,
     /// How many workers serve each place, 1 to 16, or by `--connections` 1 to 1,024: as many connections are served there at once.
@@ -66,6 +69,8 @@ pub struct Server {
     pub token: Option<u128>,
     /// The token of the HTTP Event Collector that uses acks.
     pub ack_token: Option<u128>,
+    /// Tokens of the HTTP Event Collector in place of these two, each without or with acks, 1,000 at most.
+    pub listed: TokenList,
     /// Whether events that came together are stored together: one pair of syncs for many of them.
     pub group: bool,
     /// Where what was stored is forwarded to, if it is.
@@ -119,13 +124,15 @@ impl Command {
     /// - `drain PROTO [PLACE] [--out-token GUID] [--out-channel GUID] [--polls N]`. `hec`
     ///   needs the token and the channel. Without `--polls` it is 60;
     /// - `load PROTO NUMBER COUNT`;
-    /// - `serve [--relp PLACE] [--lumberjack PLACE] [--hec PLACE] [--workers N] [--connections N] [--talks N] [--token GUID]
-    ///   [--ack-token GUID] [--group] [--forward PROTO] [--to PLACE] [--out-token GUID] [--out-channel GUID] [--polls N]`, with one
-    ///   of the first three places at least. `--workers` and `--connections` don't stand together. Without both there are 4 workers,
-    ///   without `--talks` it is 67,108,864, or with `--connections` 1,048,576, and without `--polls` 60. `--forward` and `--to` stand
-    ///   together, and `--forward hec` needs the token and the channel that go out.
+    /// - `serve [--relp PLACE] [--lumberjack PLACE] [--hec PLACE] [--status PLACE] [--workers N] [--connections N] [--talks N]
+    ///   [--token GUID] [--ack-token GUID] [--tokens LIST] [--group] [--forward PROTO] [--to PLACE] [--out-token GUID]
+    ///   [--out-channel GUID] [--polls N]`, with one of the first three places at least. `--workers` and `--connections` don't stand
+    ///   together. Without both there are 4 workers, without `--talks` it is 67,108,864, or with `--connections` 1,048,576, and without
+    ///   `--polls` 60. `--tokens` stands neither with `--token` nor with `--ack-token`. `--forward` and `--to` stand together, and
+    ///   `--forward hec` needs the token and the channel that go out.
     ///
-    /// A place is any text that isn't empty.
+    /// A place is any text that isn't empty. LIST has 1 to 1,000 lines, each a GUID, or a GUID, one space and `ack`; LF ends a line, or
+    /// CR and LF, but the last line may end with the text.
     ///
     /// Options stand in any order after the name, each once at most, as `--name value` or as `--name=value`. `--group` has no
     /// value. A word of two bytes or more that begins with `-` is an option, and no value, unless it stands after `--`. `--`

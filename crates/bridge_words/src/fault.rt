@@ -42,6 +42,10 @@ pub enum WordsFault {
     Token,
     /// `--ack-token` is no GUID.
     AckToken,
+    /// `--tokens` lists no tokens, more than 1,000, or has a line that is none.
+    Tokens,
+    /// `--tokens` is given beside `--token` or `--ack-token`.
+    BothTokens,
     /// `--out-token` is no GUID.
     OutToken,
     /// `--out-channel` is no GUID.
@@ -92,6 +96,8 @@ impl WordsFault {
             WordsFault::Form => "--as: relp, json or hec",
             WordsFault::Token => "--token: no GUID",
             WordsFault::AckToken => "--ack-token: no GUID",
+            WordsFault::Tokens => "--tokens: 1 to 1000 lines, each a GUID or a GUID and ack",
+            WordsFault::BothTokens => "--tokens: not beside --token or --ack-token",
             WordsFault::OutToken => "--out-token: no GUID",
             WordsFault::OutChannel => "--out-channel: no GUID",
             WordsFault::Polls => "--polls: 1 to 1000",

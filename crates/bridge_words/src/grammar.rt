@@ -119,8 +119,8 @@ fn load_words<'a>(alloc: Global) -> Result<Command<'a>, AllocError>
     with_word(alloc, load, "count", true)
 }
 
-// `serve [--relp P] [--lumberjack P] [--hec P] [--workers N] [--connections N] [--talks N] [--token G]
-// [--ack-token G] [--group] [--forward PROTO] [--to P] [--out-token G] [--out-channel G] [--polls N]`
+// `serve [--relp P] [--lumberjack P] [--hec P] [--status P] [--workers N] [--connections N] [--talks N] [--token G]
+// [--ack-token G] [--tokens LIST] [--group] [--forward PROTO] [--to P] [--out-token G] [--out-channel G] [--polls N]`
 fn serve_words<'a>(alloc: Global) -> Result<Command<'a>, AllocError>
     ensures { IfOk result (IsApp serve_app) }
 {
@@ -128,11 +128,13 @@ fn serve_words<'a>(alloc: Global) -> Result<Command<'a>, AllocError>
     let serve = with_option(alloc, serve, "relp");
     let serve = with_option(alloc, serve, "lumberjack");
     let serve = with_option(alloc, serve, "hec");
+    let serve = with_option(alloc, serve, "status");
     let serve = with_option(alloc, serve, "workers");
     let serve = with_option(alloc, serve, "connections");
     let serve = with_option(alloc, serve, "talks");
     let serve = with_option(alloc, serve, "token");
     let serve = with_option(alloc, serve, "ack-token");
+    let serve = with_option(alloc, serve, "tokens");
     let serve = with_flag(alloc, serve, "group");
     let serve = with_option(alloc, serve, "forward");
     let serve = with_option(alloc, serve, "to");

@@ -13,6 +13,7 @@ mod number;
 mod pair;
 mod reading;
 mod server;
+mod tokens;
 mod values;
 
 pub use command::{Command, ListForm, Receiver, Relay, Server};
@@ -21,3 +22,4 @@ pub use law::{grouping, moving, one_command, one_move, spelling};
 pub use line::{drain_line, entry_line, move_line, serve_line, spool_line};
 pub use need::{Need, need_of};
 pub use pair::FilePath;
+pub use tokens::is_token;

@@ -4,11 +4,12 @@ ghost use Rattle.desk_access.specs.Division.{each_of};
 ghost use Rattle.bridge_words.specs.declared.fault.WordsFault.{WordsFault};
 ghost use Rattle.bridge_words.specs.declared.reading.Unread.TheVariants.{Wrong};
 ghost use Rattle.bridge_words.specs.Values.{rows_in, division_in, workers_in, talks_in, relay_of};
-ghost use Rattle.bridge_words.specs.Words.{HasDoor, AreDoors, HasRelayPolls, IsCrew, IsManner, IsNamed, most_workers, relay_in};
+ghost use Rattle.bridge_words.specs.Words.{HasDoor, AreDoors, HasRelayPolls, IsCrew, IsNamed, most_workers, relay_in};
 ghost use Rattle.bridge_words.specs.Wrong.{WrongCounts, WrongDoors, WrongServe};
 
 use crate::fault::WordsFault;
 use crate::reading::{Unread, receiver_of};
+use crate::tokens::{AskedTokens, tokens_in};
 use crate::values::{flag_for, forward_in, guid_for, number_for, number_or, place_for, value_of};
 use crate::{Command, Relay, Server};
 use clap::ArgMatches;
@@ -160,57 +161,40 @@ fn crew_in(matches: &ArgMatches<'_>) -> Result<Crew, WordsFault>
     })
 }
 
-/// How a server works, and the tokens of the HTTP Event Collector.
-#[derive(Clone, Copy)]
-struct Manner {
-    crew: Crew,
-    token: Option<u128>,
-    ack_token: Option<u128>,
-    group: bool,
-}
-
-// How a server works, and the tokens.
-fn manner_in(matches: &ArgMatches<'_>) -> Result<Manner, WordsFault>
-    ensures manner { IfOk result (λ manner. IsManner manner.crew manner.token manner.ack_token manner.group (rows_in matches.now)) }
-    ensures wrong { (fault : WordsFault) → result ≡ Err fault → WrongServe fault (rows_in matches.now) }
-{
-    let crew = crew_in(matches)?;
-    let token = guid_for(matches, "token", WordsFault::Token)?;
-    let ack_token = guid_for(matches, "ack-token", WordsFault::AckToken)?;
-    let group = flag_for(matches, "group");
-    Ok(Manner {
-        crew,
-        token,
-        ack_token,
-        group,
-    })
-}
-
-/// `serve [--relp P] [--lumberjack P] [--hec P] [--workers N] [--connections N] [--talks N] [--token G]
-/// [--ack-token G] [--group] [--forward PROTO] [--to P] [--out-token G] [--out-channel G] [--polls N]`
+/// `serve [--relp P] [--lumberjack P] [--hec P] [--status P] [--workers N] [--connections N] [--talks N] [--token G]
+/// [--ack-token G] [--tokens LIST] [--group] [--forward PROTO] [--to P] [--out-token G] [--out-channel G] [--polls N]`
 pub(crate) fn serve_in(alloc: Global, matches: &ArgMatches<'_>) -> Result<Command, Unread>
     ensures command { IfOk result (IsNamed (codes "serve") (rows_in matches.now)) }
     ensures wrong { (fault : WordsFault) → result ≡ Err (Wrong fault) → WrongServe fault (rows_in matches.now) }
 {
     let doors = doors_in(alloc, matches)?;
-    let manner = manner_in(matches)?;
+    let crew = crew_in(matches)?;
+    let tokens = tokens_in(alloc, matches)?;
     let forward = relay_in(alloc, matches)?;
+    let status = place_for(alloc, matches, "status")?;
     let Doors {
         relp,
         lumberjack,
         hec,
     } = doors;
+    let AskedTokens {
+        token,
+        ack_token,
+        listed,
+    } = tokens;
     Ok(Command::Serve {
         server: Server {
             relp,
             lumberjack,
             hec,
-            division: manner.crew.division,
-            workers: manner.crew.workers,
-            talks: manner.crew.talks,
-            token: manner.token,
-            ack_token: manner.ack_token,
-            group: manner.group,
+            status,
+            division: crew.division,
+            workers: crew.workers,
+            talks: crew.talks,
+            token,
+            ack_token,
+            listed,
+            group: flag_for(matches, "group"),
             forward,
         },
     })

@@ -24,8 +24,8 @@ pub(crate) fn value_of<'a>(matches: &ArgMatches<'a>, id: &str) -> Option<&'a str
     matches.get_str(id)
 }
 
-// The number of the GUID that a text writes: simple, hyphenated, in braces or as a URN (RFC 9562, section 4).
-fn guid(text: &str) -> Option<u128>
+/// The number of the GUID that a text writes: simple, hyphenated, in braces or as a URN (RFC 9562, section 4).
+pub(crate) fn guid(text: &str) -> Option<u128>
     ensures { result ≡ guid text.now }
 {
     match Uuid::try_parse(text) {

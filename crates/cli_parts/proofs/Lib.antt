@@ -3,3 +3,4 @@ mod Counted
 mod Options
 mod Rescuing
 mod Skipping
+pub mod TokenWords

@@ -1,3 +1,4 @@
+pub mod TokenWords
 pub mod Help
 pub mod Near
 pub mod Opening

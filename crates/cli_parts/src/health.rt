@@ -1,5 +1,6 @@
 //! Whether FILE, or the TARGET of a move, is well, for an operator who watches standard error.
 use edge_disk::DiskFault;
+use edge_net::Since;
 
 /// A call of the file.
 #[derive(Clone, Copy, PartialEq, Eq)]
@@ -65,6 +66,8 @@ pub(crate) struct HealthLines<'a> {
     name: &'static str,
     waiting: Waiting,
     health: Health,
+    // Where it is noted too since when calls fail, if anywhere.
+    failing: Option<&'a Since>,
 }
 
 impl<'a> HealthLines<'a> {
@@ -79,6 +82,26 @@ impl<'a> HealthLines<'a> {
             name,
             waiting,
             health: Health::Well,
+            failing: None,
+        }
+    }
+
+    /// The same, but it is noted in `failing` too since when calls fail.
+    pub(crate) fn noting(self, failing: &'a Since) -> HealthLines<'a> {
+        HealthLines {
+            failing: Some(failing),
+            ..self
+        }
+    }
+
+    // Notes since when calls fail.
+    fn note(&self) {
+        let Some(failing) = self.failing else {
+            return;
+        };
+        match self.health {
+            Health::Well => failing.is_well(),
+            Health::Unread { .. } | Health::Failing => failing.fails(self.rt),
         }
     }
 
@@ -90,6 +113,7 @@ impl<'a> HealthLines<'a> {
             return;
         }
         self.health = after;
+        self.note();
         let name = self.name;
         let notice = self.waiting.notice();
         let _ = match (after, call) {

@@ -31,12 +31,14 @@ Options, after the command's name:
   --relp PLACE          serve: where connections of RELP come in
   --lumberjack PLACE    serve: where those of Lumberjack come in
   --hec PLACE           serve: where those of the HTTP Event Collector come in
+  --status PLACE        serve: where HTTP asks how the spool stands: /metrics, /health
   --workers N           serve: how many connections at once at each place, 1 to 16 (4)
   --connections N       serve: the same, 1 to 1024, in place of --workers
   --talks N             serve: how many connections each worker serves, 1 to 67108864 (67108864);
                         with --connections 1 to 1048576 (1048576)
   --token GUID          replay, serve: the collector's token, answered once events are durable
   --ack-token GUID      replay, serve: the collector's token that uses ack ids
+  --tokens FILE         serve: lines of such tokens in place of the two, with ack or without
   --group               serve: stores together what came together
   --forward PROTO       serve: forwards what was stored, by this protocol
   --to PLACE            serve: where it is forwarded to

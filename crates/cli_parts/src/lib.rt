@@ -1,4 +1,4 @@
-//! What the program does around its one call: what it was called with, which options of the run are among the words, how FILE is made and opened, whether a `format` of it goes on, what
+//! What the program does around its one call: what it was called with, which options of the run are among the words, which tokens a file of them has, how FILE is made and opened, whether a `format` of it goes on, what
 //! is shown of a command's progress and of FILE's health, the lines on standard error, the page of help, and the exit status.
 #![tactic(auto)]
 
@@ -20,6 +20,9 @@ mod skip_words;
 mod status;
 mod streams;
 mod tally;
+mod token_file;
+mod token_lines;
+mod token_words;
 mod unopened;
 
 pub use arguments::{Arguments, NoArguments};
@@ -38,3 +41,4 @@ pub use run_options::{RunOptions, Taken, Untaken, WrongOption, take_options};
 pub use skip_words::skip_of;
 pub use status::exit_code;
 pub use streams::hold_streams;
+pub use token_file::with_tokens;

@@ -31,15 +31,17 @@ const DRAIN: [&str; 6] = [
     "--version",
 ];
 
-const SERVE: [&str; 18] = [
+const SERVE: [&str; 20] = [
     "--relp",
     "--lumberjack",
     "--hec",
+    "--status",
     "--workers",
     "--connections",
     "--talks",
     "--token",
     "--ack-token",
+    "--tokens",
     "--group",
     "--forward",
     "--to",

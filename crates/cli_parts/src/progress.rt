@@ -4,6 +4,7 @@ ghost use Rattle.std.specs.Prelude.{◌≡◌, None, false};
 use crate::health::{Call, HealthLines, Waiting};
 use crate::tally::Tally;
 use edge_disk::{Disk, DiskFault};
+use edge_net::Since;
 use std::time::Instant;
 
 // When a command begins that is to be shown, where the clock can be read.
@@ -101,6 +102,16 @@ impl<'a, D: Disk> Watched<'a, D> {
             progress,
             health,
             is_read: false,
+        }
+    }
+
+    /// The same, but it is noted in `failing` too since when calls of the disk fail.
+    pub fn noting(self, failing: &'a Since) -> Watched<'a, D>
+        ensures { result.disk ≡ self.entry.disk }
+    {
+        Watched {
+            health: self.health.noting(failing),
+            ..self
         }
     }
 

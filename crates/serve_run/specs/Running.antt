@@ -23,6 +23,20 @@ pub record HasMet (others : List Known) (pass pass' : Known) : Type 0 where
   pub seen : IsPrefix pass.seen pass'.seen
   pub each : All (λ (other : Known). IsPrefix other.seen pass'.seen) others
 
+-- A forwarder's pass, and what its net tells, at one moment.
+pub record Forwarder : Type 0 where
+  pub pass : Known
+  pub net : NetState
+
+abbrev pub with_net : Known → NetState → Forwarder
+with_net pass net = record { pass = pass; net = net }
+
+-- The forwarder's pass was shown all that these passes have seen. Then it looked, at all that was pending, and `last` came of that.
+abbrev pub LooksLast : (DeskState → Type 0) → Destination → List Known → Forwarder → Forwarder → Outcome → Type 0
+LooksLast start destination workers old new last =
+    (met : Known) × (look : Look) × HasMet workers old.pass met
+    × IsLook start destination.outward destination.place look met new.pass old.net new.net × (look.offer ≡ Every) × (last ≡ outcome_of look.found)
+
 -- The forwarder looked beside the workers, again and again. Once they had ended, and it had seen all that they had seen, it looked
 -- once more, at all that was pending, and `last` came of that.
 pub record HasForwarded (start : DeskState → Type 0) (destination : Destination) (workers : List Known) (pass pass' : Known)
@@ -45,18 +59,39 @@ Forwarded start None workers pass pass' net net' last = (pass'.number ≡ pass.n
 Forwarded start (Some destination) workers pass pass' net net' last =
     (outcome : Outcome) × (last ≡ Some outcome) × HasForwarded start destination workers pass pass' net net' outcome
 
--- What the workers and the forwarder did. All lists are in the order of the workers; the forwarder's pass comes after theirs.
-pub record HasRun (start : DeskState → Type 0) (run : DividedRun) (talks : ℕ) (rules : List Rules) (doors doors' : List DoorState) (passes passes' : List Known)
-    (reports : List WorkerReport) (destination : Option Destination) (net net' : NetState) (last : Option Outcome) : Type 0 where
+-- What a run is given: how many links each worker serves at most, the rules and the doors in the order of the workers, the destination,
+-- if there is one, and the net.
+pub record Given : Type 0 where
+  pub talks : ℕ
+  pub rules : List Rules
+  pub doors : List DoorState
+  pub destination : Option Destination
+  pub net : NetState
+
+abbrev pub given_as : ℕ → List Rules → List DoorState → Option Destination → NetState → Given
+given_as talks rules doors destination net = record { talks = talks; rules = rules; doors = doors; destination = destination; net = net }
+
+-- What it leaves: the doors and the reports in the order of the workers, the net, and what came of the last look, if there was one.
+pub record Left : Type 0 where
+  pub doors : List DoorState
+  pub reports : List WorkerReport
+  pub net : NetState
+  pub last : Option Outcome
+
+abbrev pub left_as : List DoorState → List WorkerReport → NetState → Option Outcome → Left
+left_as doors reports net last = record { doors = doors; reports = reports; net = net; last = last }
+
+-- What the workers and the forwarder did. The lists of passes are in the order of the workers; the forwarder's pass comes after theirs.
+pub record HasRun (start : DeskState → Type 0) (run : DividedRun) (given : Given) (left : Left) (passes passes' : List Known) : Type 0 where
   pub workers : List Known
   pub workers' : List Known
   pub forwarder : Known
   pub forwarder' : Known
   pub before : passes ≡ workers ++ forwarder ∷ []
   pub after : passes' ≡ workers' ++ forwarder' ∷ []
-  pub count : (length workers ≡ length rules) × (length workers' ≡ length rules)
-  pub worked : HaveWorked start run talks rules doors workers doors' workers' reports
-  pub forwarded : Forwarded start destination workers' forwarder forwarder' net net' last
+  pub count : (length workers ≡ length given.rules) × (length workers' ≡ length given.rules)
+  pub worked : HaveWorked start run given.talks given.rules given.doors workers left.doors workers' left.reports
+  pub forwarded : Forwarded start given.destination workers' forwarder forwarder' given.net left.net left.last
 
 -- One journal of all calls led to the desk that comes back. Each worker's part of it is the calls of the links that it served at its
 -- door. The part of the forwarder, whose pass has the greatest number, is the calls of its looks. All lists are in the order of the

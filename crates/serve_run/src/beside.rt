@@ -1,14 +1,17 @@
-//! Workers, and a forwarder beside them.
-ghost use Rattle.std.specs.Prelude.{◌≡◌, ◌+◌, ◌<◌, ◌^◌, ◌≤◌, List, None, length, map, vec_len};
+//! Workers, and a forwarder beside them, with those who are told how the spool stands.
+ghost use Rattle.std.specs.Prelude.{◌≡◌, ◌+◌, ◌<◌, ◌^◌, ◌≤◌, List, None, IfSome, length, map, vec_len};
 ghost use Rattle.desk_access.specs.Division.{each_of};
 ghost use Rattle.std.specs.Vec.{vec_capacity};
 ghost use Rattle.forward_core.specs.Exchanged.{HasExchangedAt};
+ghost use Rattle.spool_turns.specs.Levels.{HasLevel};
 ghost use Rattle.spool_turns.specs.Replays.{IsReal};
 ghost use Rattle.serve_workers.specs.Crews.{AreNew, HaveWorked};
 ghost use Rattle.serve_forwarder.specs.Looks.{AreInTurn, AreLooks, Look};
 ghost use Rattle.serve_forwarder.specs.Released.{MayRelease};
+ghost use Rattle.serve_run.specs.Telling.{MayTell};
 
-use crate::working::{Task, work_beside};
+use crate::reporting::work_beside_and_tell;
+use crate::working::Task;
 use edge_disk::Disk;
 use edge_io::{Door, Net};
 use serve_forwarder::{Destination, forward_beside};
@@ -16,7 +19,7 @@ use serve_workers::{Crew, Hired};
 use spool_turns::{Naming, Pass, Seated};
 use std::alloc::Global;
 use std::sync::Wait;
-use std::sync::atomic::AtomicBool;
+use std::sync::atomic::{AtomicBool, Ordering};
 use std::thread::Threads;
 
 // The forwarder as a task: it looks until the workers have ended, and hands back the net that it was lent, and its pass.
@@ -60,7 +63,8 @@ fn take_back<N>(net: &mut N)
     ensures { net.new ≡ net.old }
 {}
 
-/// Has the workers work, and forwards beside them until they have ended. It answers the forwarder's pass and what the workers leave.
+/// Has the workers work, and forwards beside them until they have ended. Where there is a monitor, those who ask there are answered
+/// meanwhile. It answers the forwarder's pass and what the workers leave.
 ///
 /// The forwarder has a thread of its own. Where none can be made it comes last, once the workers have ended, and leaves all to the
 /// last look.
@@ -76,6 +80,7 @@ pub(crate) fn work_and_forward<
     talks: u32,
     destination: &Destination,
     net: &mut N,
+    monitor: Option<N::M>,
     seated: Seated<'_, D, J, R>,
     hired: Hired<'_, P, D, J, R>,
 ) -> (Pass<J>, Crew<P, J>)
@@ -83,6 +88,7 @@ where
     P::L: Send,
     N::L: Send,
     N::P: Send,
+    N::M: Send + Drop,
     <N::P as Door>::L: Send,
     requires new { AreNew 0 hired.passes }
     requires talks { talks ≤ each_of J.run.division }
@@ -91,6 +97,7 @@ where
     requires named { N.may_dial destination.now.place }
     requires earned { MayRelease (IsReal D.Disk J.start J.run J.seats J.began) J.start destination.now.outward
         (HasExchangedAt N.L.same N.L.dialed N.L.given N.L.taken destination.now.place) D.may_release }
+    requires tells { IfSome monitor (λ _. MayTell (HasLevel D.Disk J.start J.run J.seats J.began) J.run.number N.M.may_tell) }
 
     ensures worked { HaveWorked J.start J.run talks hired.entry.rules hired.entry.doors hired.entry.passes
         (map (λ (door : _). P.told door) result.1.doors.items) result.1.passes.items result.1.reports.items }
@@ -100,15 +107,35 @@ where
     ensures looked { (looks : List Look) × AreLooks J.start destination.now.outward destination.now.place looks seated.entry.pass result.0
         (N.told net.old) (N.told net.new) × AreInTurn None looks }
 {
-    let ended = AtomicBool::new(false);
+    let flag = AtomicBool::new(false);
+    let ended = &flag;
+    let shared = seated.shared;
     let forwarding = Forwarding {
         alloc,
         destination,
         net,
         seated,
-        ended: &ended,
+        ended,
     };
-    let ((net, pass), crew) = work_beside(rt, alloc, talks, forwarding, hired, &ended);
+    let ((net, pass), crew) = work_beside_and_tell(
+        rt,
+        forwarding,
+        move || -> Crew<P, J>
+            requires { AreNew 0 hired.passes × (talks ≤ each_of J.run.division) }
+            ensures worked { HaveWorked J.start J.run talks hired.entry.rules hired.entry.doors hired.entry.passes
+                (map (λ (door : _). P.told door) result.doors.items) result.passes.items result.reports.items }
+            ensures many { (vec_len result.doors ≡ length hired.entry.passes) × (vec_len result.passes ≡ length hired.entry.passes)
+                × (vec_len result.reports ≡ length hired.entry.passes) }
+            ensures room { vec_len result.passes < vec_capacity result.passes }
+        {
+            let crew = hired.work(rt, alloc, talks);
+            ended.store(true, Ordering::SeqCst);
+            crew
+        },
+        monitor,
+        shared,
+        ended,
+    );
     take_back(net);
     (pass, crew)
 }

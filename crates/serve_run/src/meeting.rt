@@ -2,11 +2,9 @@
 ghost use Rattle.std.specs.Prelude.{◌≡◌, ◌+◌, ◌<◌, vec_len};
 ghost use Rattle.std.specs.Vec.{vec_capacity};
 ghost use Rattle.forward_core.specs.Exchanged.{HasExchangedAt};
-ghost use Rattle.spool_turns.specs.Passes.{Known};
 ghost use Rattle.spool_turns.specs.Replays.{IsReal};
-ghost use Rattle.serve_forwarder.specs.Looks.{Every, IsLook, Look, outcome_of};
 ghost use Rattle.serve_forwarder.specs.Released.{MayRelease};
-ghost use Rattle.serve_run.specs.Running.{HasMet};
+ghost use Rattle.serve_run.specs.Running.{HasMet, LooksLast, with_net};
 
 use edge_disk::Disk;
 use edge_io::Net;
@@ -45,9 +43,8 @@ pub(crate) fn look_again<N: Net, D: Disk, J: Naming, R: Wait>(
     requires earned { MayRelease (IsReal D.Disk J.start J.run J.seats J.began) J.start destination.now.outward
         (HasExchangedAt N.L.same N.L.dialed N.L.given N.L.taken destination.now.place) D.may_release }
 
-    ensures looked { (met : Known) × (one : Look) × HasMet workers.old.items forwarder.old.pass met
-        × IsLook J.start destination.now.outward destination.now.place one met forwarder.new.pass (N.told net.old) (N.told net.new)
-        × (one.offer ≡ Every) × (result ≡ outcome_of one.found) }
+    ensures looked { LooksLast J.start destination.now workers.old.items (with_net forwarder.old.pass (N.told net.old))
+        (with_net forwarder.new.pass (N.told net.new)) result }
     ensures same { (workers.new.items ≡ workers.old.items) × (vec_len workers.new ≡ vec_len workers.old)
         × (vec_capacity workers.new ≡ vec_capacity workers.old) }
 {

@@ -4,14 +4,17 @@ ghost use Rattle.desk_access.specs.Division.{callers_of, each_of};
 ghost use Rattle.std.specs.Prelude.{Some, IfOk, IfErr, IfSome, option_copied};
 ghost use Rattle.std.specs.Vec.{vec_capacity};
 ghost use Rattle.forward_core.specs.Exchanged.{HasExchangedAt};
+ghost use Rattle.spool_turns.specs.Levels.{HasLevel};
 ghost use Rattle.spool_turns.specs.Replays.{IsReal, desk_at};
 ghost use Rattle.serve_workers.specs.Crews.{AreNew, HaveWorked};
 ghost use Rattle.serve_workers.specs.Answering.{MayAnswer};
 ghost use Rattle.serve_forwarder.specs.Released.{MayRelease};
-ghost use Rattle.serve_run.specs.Running.{Forwarded, HasRun, HasServed, HasNotServed};
+ghost use Rattle.serve_run.specs.Running.{Forwarded, HasRun, given_as, left_as, HasServed, HasNotServed};
+ghost use Rattle.serve_run.specs.Telling.{MayTell};
 
 use crate::beside::work_and_forward;
 use crate::meeting::look_again;
+use crate::reporting::work_and_tell;
 use edge_disk::Disk;
 use edge_io::{Door, Net};
 use serve_forwarder::{Destination, Outcome};
@@ -51,7 +54,8 @@ struct CrewAndLook<P: Door, J: Naming> {
     last: Option<Outcome>,
 }
 
-// Has the workers work and the forwarder forward beside them, and then look once more. The forwarder's pass comes back beside that.
+// Has the workers work and the forwarder forward beside them, and then look once more. Those who ask at the monitor are answered while the
+// workers work. The forwarder's pass comes back beside that.
 fn run_beside<
     P: Door + Drop + Send,
     D: Disk + Drop + Send,
@@ -64,6 +68,7 @@ fn run_beside<
     talks: u32,
     destination: &Destination,
     net: &mut N,
+    monitor: Option<N::M>,
     seated: Seated<'_, D, J, R>,
     hired: Hired<'_, P, D, J, R>,
 ) -> (CrewAndLook<P, J>, Pass<J>)
@@ -71,6 +76,7 @@ where
     P::L: Send,
     N::L: Send,
     N::P: Send,
+    N::M: Send + Drop,
     <N::P as Door>::L: Send,
     requires new { AreNew 0 hired.passes }
     requires talks { talks ≤ each_of J.run.division }
@@ -79,6 +85,7 @@ where
     requires named { N.may_dial destination.now.place }
     requires earned { MayRelease (IsReal D.Disk J.start J.run J.seats J.began) J.start destination.now.outward
         (HasExchangedAt N.L.same N.L.dialed N.L.given N.L.taken destination.now.place) D.may_release }
+    requires tells { IfSome monitor (λ _. MayTell (HasLevel D.Disk J.start J.run J.seats J.began) J.run.number N.M.may_tell) }
 
     ensures worked { HaveWorked J.start J.run talks hired.entry.rules hired.entry.doors hired.entry.passes
         (map (λ (door : _). P.told door) result.0.crew.doors.items) result.0.crew.passes.items result.0.crew.reports.items }
@@ -89,7 +96,16 @@ where
         (N.told net.old) (N.told net.new) result.0.last }
 {
     let shared = seated.shared;
-    let (pass, mut crew) = work_and_forward(rt, alloc, talks, destination, net, seated, hired);
+    let (pass, mut crew) = work_and_forward(
+        rt,
+        alloc,
+        talks,
+        destination,
+        net,
+        monitor,
+        seated,
+        hired,
+    );
     let mut seated = Seated { shared, pass, rt };
     let last = look_again(alloc, destination, net, &mut seated, &mut crew.passes);
     let Seated { pass, .. } = seated;
@@ -100,7 +116,8 @@ where
     (ran, pass)
 }
 
-// Has the workers work, and forwards where there is a destination. The forwarder's pass comes back beside what that leaves.
+// Has the workers work, forwards where there is a destination, and answers those who ask where there is a monitor. The forwarder's pass
+// comes back beside what that leaves.
 fn run_seated<
     P: Door + Drop + Send,
     D: Disk + Drop + Send,
@@ -113,6 +130,7 @@ fn run_seated<
     talks: u32,
     destination: Option<&Destination>,
     net: &mut N,
+    monitor: Option<N::M>,
     seated: Seated<'_, D, J, R>,
     hired: Hired<'_, P, D, J, R>,
 ) -> (CrewAndLook<P, J>, Pass<J>)
@@ -120,6 +138,7 @@ where
     P::L: Send,
     N::L: Send,
     N::P: Send,
+    N::M: Send + Drop,
     <N::P as Door>::L: Send,
     requires new { AreNew 0 hired.passes }
     requires talks { talks ≤ each_of J.run.division }
@@ -128,6 +147,7 @@ where
     requires named { IfSome destination (λ d. N.may_dial d.now.place) }
     requires earned { IfSome destination (λ d. MayRelease (IsReal D.Disk J.start J.run J.seats J.began) J.start d.now.outward
         (HasExchangedAt N.L.same N.L.dialed N.L.given N.L.taken d.now.place) D.may_release) }
+    requires tells { IfSome monitor (λ _. MayTell (HasLevel D.Disk J.start J.run J.seats J.began) J.run.number N.M.may_tell) }
 
     ensures worked { HaveWorked J.start J.run talks hired.entry.rules hired.entry.doors hired.entry.passes
         (map (λ (door : _). P.told door) result.0.crew.doors.items) result.0.crew.passes.items result.0.crew.reports.items }
@@ -138,11 +158,11 @@ where
         (N.told net.old) (N.told net.new) result.0.last }
 {
     match destination {
-        Some(destination) => run_beside(rt, alloc, talks, destination, net, seated, hired),
+        Some(destination) => run_beside(rt, alloc, talks, destination, net, monitor, seated, hired),
         None => {
-            let Seated { pass, .. } = seated;
+            let Seated { shared, pass, .. } = seated;
             let ran = CrewAndLook {
-                crew: hired.work(rt, alloc, talks),
+                crew: work_and_tell(rt, alloc, talks, monitor, shared, hired),
                 last: None,
             };
             (ran, pass)
@@ -167,11 +187,13 @@ fn run<
     talks: u32,
     destination: Option<&Destination>,
     net: &mut N,
+    monitor: Option<N::M>,
 ) -> Result<CrewAndLook<P, J>, NoCrew<P, J>>
 where
     P::L: Send,
     N::L: Send,
     N::P: Send,
+    N::M: Send + Drop,
     <N::P as Door>::L: Send,
     requires many { (vec_len passes ≡ vec_len posts + 1) × (vec_len posts ≤ callers_of J.run.division) × (J.seats ≡ vec_len posts + 1) }
     requires new { AreNew 0 passes.items }
@@ -182,11 +204,13 @@ where
     requires named { IfSome destination (λ d. N.may_dial d.now.place) }
     requires earned { IfSome destination (λ d. MayRelease (IsReal D.Disk J.start J.run J.seats J.began) J.start d.now.outward
         (HasExchangedAt N.L.same N.L.dialed N.L.given N.L.taken d.now.place) D.may_release) }
+    requires tells { IfSome monitor (λ _. MayTell (HasLevel D.Disk J.start J.run J.seats J.began) J.run.number N.M.may_tell) }
 
     ensures many { IfOk result (λ ran. (vec_len ran.crew.doors ≡ vec_len posts) × (vec_len ran.crew.reports ≡ vec_len posts)) }
-    ensures ran { IfOk result (λ ran. HasRun J.start J.run talks (map (λ (post : _). post.rules) posts.items) (map (λ (post : _). P.told post.door) posts.items)
-        (map (λ (door : _). P.told door) ran.crew.doors.items) passes.items ran.crew.passes.items ran.crew.reports.items (option_copied destination.entry)
-        (N.told net.old) (N.told net.new) ran.last) }
+    ensures ran { IfOk result (λ ran. HasRun J.start J.run (given_as talks (map (λ (post : _). post.rules) posts.items)
+        (map (λ (post : _). P.told post.door) posts.items) (option_copied destination.entry) (N.told net.old))
+        (left_as (map (λ (door : _). P.told door) ran.crew.doors.items) ran.crew.reports.items (N.told net.new) ran.last)
+        passes.items ran.crew.passes.items) }
     ensures err { IfErr result (λ none. (none.posts ≡ posts) × (none.passes.items ≡ passes.items) × (net.new ≡ net.old)) }
 {
     let mut passes = passes;
@@ -201,7 +225,7 @@ where
         }
     };
     let seated = Seated { shared, pass, rt };
-    let (mut ran, pass) = run_seated(rt, alloc, talks, destination, net, seated, hired);
+    let (mut ran, pass) = run_seated(rt, alloc, talks, destination, net, monitor, seated, hired);
     ran.crew.passes.push_reserved(pass);
     Ok(ran)
 }
@@ -219,13 +243,19 @@ where
 /// Its report says which of these it was, and how many links it gave back. Before the last look the forwarder is shown all that the
 /// workers did; `last` says what came of that look.
 ///
+/// Where there is a monitor, those who ask there are told the spool's numbers (`numbers_of`) until the workers have ended, in a thread
+/// of its own; where none can be made, nobody is answered. The numbers are those of the spool after its last call, as memory has them.
+/// Whoever asks has nothing stored and nothing marked: no call is made on the desk. Nor is the disk waited for, which others may be
+/// waiting for meanwhile. The monitor is let go when the workers have ended, and where none of them began.
+///
 /// `opened` has one pass for each worker, in the order of the doors, of which there are at most as many as the run's numbers are divided
 /// among, and after them one for the forwarder. None of them has made a call. `polls` of the destination is above 0. The error is want of
 /// memory before a worker began: it gives back the posts as they were and the desk, on which no call was made.
 ///
 /// `says` is all the leave that it has to write to a sender: each door permits, link by link, what may be said once it is stored
 /// (`MayAnswer`). It dials the destination's place and no other, by `named`. And `earned` is all the leave that it has to make numbers
-/// known as confirmed: a number may become known once the peer at that place has acknowledged its entry (`MayRelease`).
+/// known as confirmed: a number may become known once the peer at that place has acknowledged its entry (`MayRelease`). By `tells`, what
+/// is told to those who ask are the numbers of this run, of a spool to which a journal of calls led that was really made (`MayTell`).
 pub fn serve<
     P: Door + Drop + Send,
     D: Disk + Drop + Send,
@@ -240,11 +270,13 @@ pub fn serve<
     talks: u32,
     destination: Option<&Destination>,
     net: &mut N,
+    monitor: Option<N::M>,
 ) -> Result<Served<P, D>, Unserved<P, D>>
 where
     P::L: Send,
     N::L: Send,
     N::P: Send,
+    N::M: Send + Drop,
     <N::P as Door>::L: Send,
     requires many { (vec_len opened.passes ≡ vec_len posts + 1) × (vec_len posts ≤ callers_of J.run.division) × (J.seats ≡ vec_len posts + 1) }
     requires new { AreNew 0 opened.passes.items }
@@ -255,6 +287,7 @@ where
     requires named { IfSome destination (λ d. N.may_dial d.now.place) }
     requires earned { IfSome destination (λ d. MayRelease (IsReal D.Disk J.start J.run J.seats J.began) J.start d.now.outward
         (HasExchangedAt N.L.same N.L.dialed N.L.given N.L.taken d.now.place) D.may_release) }
+    requires tells { IfSome monitor (λ _. MayTell (HasLevel D.Disk J.start J.run J.seats J.began) J.run.number N.M.may_tell) }
 
     ensures many { IfOk result (λ served. (vec_len served.doors ≡ vec_len posts) × (vec_len served.reports ≡ vec_len posts)) }
     ensures served { IfOk result (λ served. HasServed D.tells J.start J.run J.seats J.began talks (map (λ (post : _). post.rules) posts.items)
@@ -264,7 +297,17 @@ where
         × HasNotServed D.tells J.start J.run J.seats J.began (desk_at unserved.desk)) }
 {
     let Opened { shared, passes } = opened;
-    match run(rt, alloc, &shared, posts, passes, talks, destination, net) {
+    match run(
+        rt,
+        alloc,
+        &shared,
+        posts,
+        passes,
+        talks,
+        destination,
+        net,
+        monitor,
+    ) {
         Ok(CrewAndLook { crew, last }) => {
             let Crew {
                 doors,

@@ -1,16 +1,4 @@
-//! Workers that work until they have ended, beside a task.
-ghost use Rattle.std.specs.Prelude.{◌≡◌, ◌^◌, ◌<◌, ◌≤◌, length, map, vec_len};
-ghost use Rattle.desk_access.specs.Division.{each_of};
-ghost use Rattle.std.specs.Vec.{vec_capacity};
-ghost use Rattle.serve_workers.specs.Crews.{AreNew, HaveWorked};
-
-use edge_disk::Disk;
-use edge_io::Door;
-use serve_workers::{Crew, Hired};
-use spool_turns::Naming;
-use std::alloc::Global;
-use std::sync::Wait;
-use std::sync::atomic::{AtomicBool, Ordering};
+//! Tasks that are done beside the work of others.
 use std::thread::{Threads, join};
 
 /// Something that is done once, in a thread of its own. Each `&mut` that it was lent comes back in its output, since a join says
@@ -31,36 +19,20 @@ pub(crate) trait Task {
         ensures { leaves self result };
 }
 
-/// Has the workers work, and the task done beside them in a thread of its own. Where no thread can be made the task comes last, once
-/// the workers have ended. `ended` is set once they have, so that the task may watch it. It answers the task's output and what the
-/// workers leave.
+/// Has the task done in a thread of its own beside the work of others, which is done in this one. Where no thread can be made the task
+/// comes last. It answers the output of both.
 pub(crate) fn work_beside<
     S: Task<Output = A> + Send + Drop,
     A: Send,
-    P: Door + Drop + Send,
-    D: Disk + Drop + Send,
-    J: Naming + Send + Sync,
-    R: Threads + Wait + Sync,
->(
-    rt: &R,
-    alloc: Global,
-    talks: u32,
-    task: S,
-    hired: Hired<'_, P, D, J, R>,
-    ended: &AtomicBool,
-) -> (A, Crew<P, J>)
-where
-    P::L: Send,
+    W: FnOnce() -> C,
+    C,
+    R: Threads,
+>(rt: &R, task: S, work: W) -> (A, C)
     requires task { S.can_run task }
-    requires new { AreNew 0 hired.passes }
-    requires talks { talks ≤ each_of J.run.division }
+    requires work { W.pre work }
 
     ensures task { S.leaves task result.0 }
-    ensures worked { HaveWorked J.start J.run talks hired.entry.rules hired.entry.doors hired.entry.passes
-        (map (λ (door : _). P.told door) result.1.doors.items) result.1.passes.items result.1.reports.items }
-    ensures many { (vec_len result.1.doors ≡ length hired.entry.passes) × (vec_len result.1.passes ≡ length hired.entry.passes)
-        × (vec_len result.1.reports ≡ length hired.entry.passes) }
-    ensures room { vec_len result.1.passes < vec_capacity result.1.passes }
+    ensures work { W.post work result.1 }
 {
     join(
         rt,
@@ -68,17 +40,37 @@ where
             requires { S.can_run task }
             ensures { S.leaves task result }
         { task.run() },
-        move || -> Crew<P, J>
-            requires { AreNew 0 hired.passes × (talks ≤ each_of J.run.division) }
-            ensures worked { HaveWorked J.start J.run talks hired.entry.rules hired.entry.doors hired.entry.passes
-                (map (λ (door : _). P.told door) result.doors.items) result.passes.items result.reports.items }
-            ensures many { (vec_len result.doors ≡ length hired.entry.passes) × (vec_len result.passes ≡ length hired.entry.passes)
-                × (vec_len result.reports ≡ length hired.entry.passes) }
-            ensures room { vec_len result.passes < vec_capacity result.passes }
-        {
-            let crew = hired.work(rt, alloc, talks);
-            ended.store(true, Ordering::SeqCst);
-            crew
-        },
+        work,
     )
+}
+
+/// Has two tasks done beside the work of others, each in a thread of its own, as by [`work_beside`]. Where no thread can be made the
+/// other one, which hands nothing back, comes last of all.
+pub(crate) fn work_beside_both<
+    S: Task<Output = A> + Send + Drop,
+    A: Send,
+    T: Task<Output = ()> + Send + Drop,
+    W: FnOnce() -> C,
+    C,
+    R: Threads,
+>(rt: &R, task: S, other: T, work: W) -> (A, C)
+    requires task { S.can_run task }
+    requires other { T.can_run other }
+    requires work { W.pre work }
+
+    ensures task { S.leaves task result.0 }
+    ensures work { W.post work result.1 }
+{
+    let ((), worked) = join(
+        rt,
+        move || -> ()
+            requires { T.can_run other }
+        { other.run() },
+        move || -> (A, C)
+            requires { S.can_run task × W.pre work }
+            ensures task { S.leaves task result.0 }
+            ensures work { W.post work result.1 }
+        { work_beside(rt, task, work) },
+    );
+    worked
 }

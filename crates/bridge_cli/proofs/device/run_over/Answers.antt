@@ -1,4 +1,4 @@
-use Rattle.std.proofs.Common.{sym, subst}
+use Rattle.std.proofs.Common.{◌∙◌, sym, subst}
 use Rattle.bridge_core.specs.Leave.{MayAnswer, MayReplay, MayTake, WasRead, MayRelease, WereStreamed, HasExchangedAt}
 use Rattle.bridge_core.proofs.Leave.{answers_within, replays_within, releases_within, tears_within}
 use Rattle.bridge_cli.proofs.device.run_over.Goals as goal
@@ -9,8 +9,8 @@ bridge-status-requires-clause-answers g c κs within =
     let tells = g.D.Disk.tells in
     let moment = g.D.Disk.moment in
     let permits = g.N.Net.permits in
-    λ command asks. answers_within tells moment (λ w. w.disk) c.new-disk.result permits command
-    (subst (λ d. MayAnswer tells moment d permits command) (sym c.new-disk.ensures) (c.requires.answers command asks))
+    λ command asks. answers_within tells moment (λ w. w.disk) c.noting-disk.result permits command
+    (subst (λ d. MayAnswer tells moment d permits command) (sym (c.noting-disk.ensures ∙ c.new.ensures)) (c.requires.answers command asks))
 
 pub bridge-status-requires-clause-replays : goal.bridge-status-requires-clause-replays
 bridge-status-requires-clause-replays g c κs within =
@@ -18,8 +18,8 @@ bridge-status-requires-clause-replays g c κs within =
     let moment = g.D.Disk.moment in
     let read = WasRead g.S.Object.same g.S.Source.given c.args.input.now in
     let take = MayTake g.K.Object.same g.K.Sink.taken g.K.Sink.permits c.args.output.now in
-    λ command asks. replays_within tells moment (λ w. w.disk) c.new-disk.result read take command
-    (subst (λ d. MayReplay tells moment d read take command) (sym c.new-disk.ensures) (c.requires.replays command asks))
+    λ command asks. replays_within tells moment (λ w. w.disk) c.noting-disk.result read take command
+    (subst (λ d. MayReplay tells moment d read take command) (sym (c.noting-disk.ensures ∙ c.new.ensures)) (c.requires.replays command asks))
 
 -- and what is received of the disk that is watched is so of the disk
 pub bridge-status-requires-clause-releases : goal.bridge-status-requires-clause-releases
@@ -29,8 +29,8 @@ bridge-status-requires-clause-releases g c κs within =
     let streamed = WereStreamed g.S.Object.same g.S.Source.given c.args.input.now g.K.Object.same g.K.Sink.taken c.args.output.now in
     let at = HasExchangedAt g.N.L.Object.same g.N.L.Link.dialed g.N.L.Source.given g.N.L.Sink.taken in
     let release = g.D.Disk.may_release in
-    λ command asks. releases_within tells moment (λ w. w.disk) c.new-disk.result streamed at release command
-    (subst (λ d. MayRelease tells moment d streamed at release command) (sym c.new-disk.ensures) (c.requires.releases command asks))
+    λ command asks. releases_within tells moment (λ w. w.disk) c.noting-disk.result streamed at release command
+    (subst (λ d. MayRelease tells moment d streamed at release command) (sym (c.noting-disk.ensures ∙ c.new.ensures)) (c.requires.releases command asks))
 
 -- what may be written to the disk may be so to the one that is watched
 pub bridge-status-requires-clause-tears : goal.bridge-status-requires-clause-tears
@@ -40,4 +40,4 @@ bridge-status-requires-clause-tears g c κs within =
 pub returns : goal.returns
 returns g c =
     let done = c.bridge-status in
-    record { run = (c.new-disk.result, done.result.disk, c.new-disk.ensures, sym c.into_disk.ensures, (done.ensures.run, done.ensures.acknowledged)) }
+    record { run = (c.noting-disk.result, done.result.disk, c.noting-disk.ensures ∙ c.new.ensures, sym c.into_disk.ensures, (done.ensures.run, done.ensures.acknowledged)) }

@@ -17,7 +17,7 @@ pub list-note-requires : goal.list-note-requires
 list-note-requires g c = record { prints = rw c.in-List.is at c.requires.prints; tears = rw c.in-List.is at c.requires.tears }
 
 pub replay-note-requires : goal.replay-note-requires
-replay-note-requires g c = record { answers = rw c.in-Replay.is at c.requires.replays; tears = rw c.in-Replay.is at c.requires.tears }
+replay-note-requires g c = rw c.none-listed.ensures (record { answers = rw c.in-Replay.is at c.requires.replays; tears = rw c.in-Replay.is at c.requires.tears })
 
 pub load-note-requires-clause-few : goal.load-note-requires-clause-few
 load-note-requires-clause-few g c = (rw c.in-Load.is at c.requires.asked).1.asks.few
@@ -66,6 +66,9 @@ serve-note-requires-clause-answers g c κs within = rw c.in-Serve.is at c.requir
 pub serve-note-requires-clause-binds : goal.serve-note-requires-clause-binds
 serve-note-requires-clause-binds g c κs within = rw c.in-Serve.is at c.requires.binds
 
+pub serve-note-requires-clause-tells : goal.serve-note-requires-clause-tells
+serve-note-requires-clause-tells g c κs within = rw c.in-Serve.is at c.requires.tells
+
 pub serve-note-requires-clause-dials : goal.serve-note-requires-clause-dials
 serve-note-requires-clause-dials g c κs within = rw c.in-Serve.is at c.requires.dials
 
@@ -90,7 +93,7 @@ returns-in-List-clause-done g c = rw (c.in-List.is, c.of-in-List.ensures.disk, c
 
 pub returns-in-Replay-clause-done : goal.returns-in-Replay-clause-done
 returns-in-Replay-clause-done g c = rw (c.in-Replay.is, c.of-in-Replay.ensures.disk, c.of-in-Replay.ensures.note, c.of-in-Replay.ensures.doors)
-    (c.replay-note.ensures, record { same = refl; told = refl }, refl)
+    (rw c.none-listed.ensures at c.replay-note.ensures, record { same = refl; told = refl }, refl)
 
 pub returns-in-Drain-default-None-clause-done : goal.returns-in-Drain-default-None-clause-done
 returns-in-Drain-default-None-clause-done g c =

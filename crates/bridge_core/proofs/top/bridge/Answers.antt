@@ -11,6 +11,9 @@ do_command-requires-clause-answers g c κs within = c.requires.answers c.in-Ok.c
 pub do_command-requires-clause-binds : goal.do_command-requires-clause-binds
 do_command-requires-clause-binds g c κs within = c.requires.binds c.in-Ok.command c.in-Ok.ensures.command
 
+pub do_command-requires-clause-tells : goal.do_command-requires-clause-tells
+do_command-requires-clause-tells g c κs within = c.requires.tells c.in-Ok.command c.in-Ok.ensures.command
+
 pub do_command-requires-clause-dials : goal.do_command-requires-clause-dials
 do_command-requires-clause-dials g c κs within = c.requires.dials c.in-Ok.command c.in-Ok.ensures.command
 

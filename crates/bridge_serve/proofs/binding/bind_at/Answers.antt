@@ -8,7 +8,7 @@ use Rattle.bridge_serve.proofs.Doors.{adds_bound, adds_default, map_more, more_s
 use Rattle.bridge_serve.proofs.binding.bind_at.Goals as goal
 
 pub bind-requires : goal.bind-requires
-bind-requires g c = record { named = subst g.N.Net.may_bind (sym c.as_str.ensures) (c.requires.binds c.args.proto _ (sym c.requires.named ∙ c.in-Some.is)) }
+bind-requires g c = record { named = subst g.N.Net.may_bind (sym c.as_str.ensures) (c.requires.binds.0 c.args.proto _ (sym c.requires.named ∙ c.in-Some.is)) }
 
 -- there is no place
 pub returns-in_default-clause-bound : goal.returns-in_default-clause-bound

@@ -35,7 +35,7 @@ reserve-requires g c = few_each c.args.server.division c.args.server.workers c.r
 
 pub serve_posts-requires-clause-few : goal.serve_posts-requires-clause-few
 serve_posts-requires-clause-few g c κs within =
-    omega (arith, c.in-Ok-bind_doors.ensures.few, few_all c.args.server.division c.args.server.workers c.requires.workers)
+    omega (arith, c.in-Ok-bind_places.ensures.few, few_all c.args.server.division c.args.server.workers c.requires.workers)
 
 pub serve_posts-requires-clause-opened : goal.serve_posts-requires-clause-opened
 serve_posts-requires-clause-opened g c κs within = rw c.of-before.ensures (record {
@@ -49,7 +49,7 @@ serve_posts-requires-clause-answers g c κs within =
     λ i post at. subst (λ (given : _). WorkerMayAnswer g.D.Disk.tells (λ (d : _). g.D.Disk.moment d) given (first_link c.args.server.division i post.rules) (g.N.P.Door.permits post.door))
     (sym c.of-before.ensures)
     (stands_may g.D.Disk.tells (λ (d : _). g.D.Disk.moment d) c.args.disk c.args.server g.N.Net.permits i post.rules (g.N.P.Door.permits post.door) c.requires.answers
-    (c.in-Ok-bind_doors.ensures.stand i post at))
+    (c.in-Ok-bind_places.ensures.stand i post at))
 
 pub serve_posts-requires-clause-dials : goal.serve_posts-requires-clause-dials
 serve_posts-requires-clause-dials g c κs within = rw c.destination_of.ensures (may_dial c.args.server.forward g.N.Net.may_dial c.requires.dials)
@@ -58,12 +58,12 @@ pub serve_posts-requires-clause-releases : goal.serve_posts-requires-clause-rele
 serve_posts-requires-clause-releases g c κs within = rw (c.of-before.ensures, c.destination_of.ensures)
     (may_release g.D.Disk.tells (λ (d : _). g.D.Disk.moment d) c.args.disk c.args.server.forward _ g.D.Disk.may_release c.requires.releases)
 
-pub returns-in-Ok-bind_doors-clause-served : goal.returns-in-Ok-bind_doors-clause-served
-returns-in-Ok-bind_doors-clause-served g c =
-    let bound = c.in-Ok-bind_doors.ensures.bound in
-    let told = c.in-Ok-bind_doors.ensures.told in
-    let cause = c.in-Ok-bind_doors.ensures.cause in
-    let rest = c.in-Ok-bind_doors.ensures.rest in
+pub returns-in-Ok-bind_places-clause-served : goal.returns-in-Ok-bind_places-clause-served
+returns-in-Ok-bind_places-clause-served g c =
+    let bound = c.in-Ok-bind_places.ensures.bound in
+    let told = c.in-Ok-bind_places.ensures.told in
+    let cause = c.in-Ok-bind_places.ensures.cause in
+    let rest = c.in-Ok-bind_places.ensures.rest in
     let ran = rw (c.of-before.ensures, c.destination_of.ensures) at c.serve_posts.ensures.ran in
     inr (elim ran [
       | inl none ↦
@@ -71,7 +71,7 @@ returns-in-Ok-bind_doors-clause-served g c =
           let same = net_bound _ _ _ cause rest (ap (λ (n : _). n.bound) net) in
           inl (
             unserved_with _ _ _ _ _ _ _ _ _ (rw same at none.0),
-            rw net (unused_doors c.args.server _ _ (λ (post : _). post.door) (λ (door : _). g.N.P.Door.told door) c.bind_doors.new.posts.items _ none.2
+            rw net (unused_doors c.args.server _ _ (λ (post : _). post.door) (λ (door : _). g.N.P.Door.told door) c.bind_places.new.posts.items _ none.2
                 (all_unused c.args.server _ _ _ _ bound told)),
           )
       | inr run ↦
@@ -80,10 +80,10 @@ returns-in-Ok-bind_doors-clause-served g c =
           inr (record { doors = _; rules = _; bound = bound; told = tells_same _ _ _ _ told binds; ran = rw same at run })
     ])
 
-pub returns-in-Err-bind_doors-clause-served : goal.returns-in-Err-bind_doors-clause-served
-returns-in-Err-bind_doors-clause-served g c =
-    let disk = c.into_disk-in-Err-bind_doors.ensures in
-    let why = net_refused (Unit {0}) c.in-Err-bind_doors.fault _ _ _ c.net_note.ensures c.in-Err-bind_doors.ensures.cause in
+pub returns-in-Err-bind_places-clause-served : goal.returns-in-Err-bind_places-clause-served
+returns-in-Err-bind_places-clause-served g c =
+    let disk = c.into_disk-in-Err-bind_places.ensures in
+    let why = net_refused (Unit {0}) c.in-Err-bind_places.fault _ _ _ c.net_note.ensures c.in-Err-bind_places.ensures.cause in
     let from : IsOpenedFrom g.D.Disk.tells (g.D.Disk.moment c.args.disk)
     (view c.in-Ok.spool.memory c.in-Ok.spool.doubt (g.D.Disk.moment c.in-Ok.spool.disk)) = record {
       calls = c.in-Ok.ensures.calls;
@@ -95,12 +95,12 @@ returns-in-Err-bind_doors-clause-served g c =
         why = why.0;
         opened = λ tells. rw disk (opened_only g.D.Disk.tells _ _ from tells);
         calls = rw disk c.in-Ok.ensures.calls;
-        hung = c.in-Err-bind_doors.ensures.rest;
+        hung = c.in-Err-bind_places.ensures.rest;
         binds = why.1;
         silent = refl;
       },
-      unused_doors c.args.server _ _ (λ (post : _). post.door) (λ (door : _). g.N.P.Door.told door) c.bind_doors.new.posts.items _ c.into_doors.ensures
-          c.in-Err-bind_doors.ensures.err,
+      unused_doors c.args.server _ _ (λ (post : _). post.door) (λ (door : _). g.N.P.Door.told door) c.bind_places.new.posts.items _ c.into_doors.ensures
+          c.in-Err-bind_places.ensures.err,
     ))
 
 -- no memory was found for the posts

@@ -1,0 +1,53 @@
+//! The lines of a file of tokens, as `--tokens` has them.
+use bridge_words::is_token;
+use std::alloc::{AllocError, Global};
+
+/// What stands in a file of tokens.
+#[derive(Drop)]
+pub(crate) struct TokenLines {
+    /// The lines that have a token, each ended by LF.
+    pub list: String,
+    /// The numbers of the lines that have something else, the first of the file being 1.
+    pub wrong: Vec<usize>,
+}
+
+// A line without the blanks at its ends, and with one space where others stand.
+fn spaced(alloc: Global, line: &str) -> Result<String, AllocError> {
+    let mut spaced = String::new(alloc);
+    for word in line.split_ascii_whitespace() {
+        if !spaced.is_empty() {
+            spaced.push_str(" ")?;
+        }
+        spaced.push_str(word)?;
+    }
+    Ok(spaced)
+}
+
+impl TokenLines {
+    // Reads one more line, of this number. One that is blank or begins with `#` has nothing.
+    fn add(&mut self, alloc: Global, number: usize, line: &str) -> Result<(), AllocError> {
+        let line = spaced(alloc, line)?;
+        if line.is_empty() || line.as_str().starts_with('#') {
+            return Ok(());
+        }
+        if is_token(line.as_str()) {
+            self.list.push_str(line.as_str())?;
+            self.list.push_str("\n")?;
+        } else {
+            self.wrong.push(number)?;
+        }
+        Ok(())
+    }
+
+    /// The lines of a text. The error says that no memory was found.
+    pub(crate) fn of(alloc: Global, text: &str) -> Result<TokenLines, AllocError> {
+        let mut lines = TokenLines {
+            list: String::new(alloc),
+            wrong: Vec::new(alloc),
+        };
+        for (before, line) in text.lines().enumerate() {
+            lines.add(alloc, before.saturating_add(1), line)?;
+        }
+        Ok(lines)
+    }
+}
