@@ -1,9 +1,11 @@
 //! Tests of the top call: scripts of calls, with what each is given and what it has to leave; senders that wait; and `serve`.
 
+use crate::listed::tokens_are_listed;
 use crate::meets::talks_meet;
 use crate::moves::entries_move;
 use crate::script::{run_script, run_scripts};
 use crate::served::serve_places;
+use crate::status::status_is_told;
 use crate::waiting::wait_for_answers;
 use crate::{
     collectors, devices, drains, faults, frames, lacks, lists, marks, peers, requests, sessions,
@@ -71,6 +73,16 @@ fn links_are_served(rt: HostRuntime) {
     wait_for_answers(&rt, rt.alloc());
     talks_meet(&rt, rt.alloc());
     serve_places(&rt, rt.alloc());
+}
+
+#[test]
+fn numbers_are_told(rt: HostRuntime) {
+    status_is_told(&rt, rt.alloc());
+}
+
+#[test]
+fn tokens_of_a_list(rt: HostRuntime) {
+    tokens_are_listed(&rt, rt.alloc());
 }
 
 #[test]

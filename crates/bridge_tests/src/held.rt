@@ -38,8 +38,8 @@ pub(crate) struct Held<'a> {
     pub(crate) write_faults: u64,
 }
 
-// Whether all of these marks are set.
-fn are_set(marks: &[AtomicBool], these: &[usize]) -> bool {
+/// Whether all of these marks are set.
+pub(crate) fn are_set(marks: &[AtomicBool], these: &[usize]) -> bool {
     for place in these {
         match marks.get(*place) {
             Some(mark) if mark.load(Ordering::SeqCst) => {}
@@ -49,14 +49,21 @@ fn are_set(marks: &[AtomicBool], these: &[usize]) -> bool {
     true
 }
 
-// Whether all of these marks come to be set.
-fn come(marks: &[AtomicBool], these: &[usize]) -> bool {
+/// Whether all of these marks come to be set.
+pub(crate) fn come(marks: &[AtomicBool], these: &[usize]) -> bool {
     for _ in 0..TRIES {
         if are_set(marks, these) {
             return true;
         }
     }
     false
+}
+
+/// Sets the mark, if there is one.
+pub(crate) fn set(marks: &[AtomicBool], place: usize) {
+    if let Some(mark) = marks.get(place) {
+        mark.store(true, Ordering::SeqCst);
+    }
 }
 
 // Copies the bytes from the place on, as many as there is room for, and answers how many.
@@ -146,9 +153,7 @@ impl Sink for Held<'_> {
             return Err(WriteFault);
         }
         if self.written.starts_with(self.plan.answer) {
-            if let Some(mark) = self.marks.get(self.plan.mark) {
-                mark.store(true, Ordering::SeqCst);
-            }
+            set(self.marks, self.plan.mark);
         }
         Ok(piece.len())
     }
@@ -162,7 +167,7 @@ impl Link for Held<'_> {
     ghost writes_keep = { λ x y same. (Prim.cc, Prim.cc, same, Prim.cc) };
 }
 
-/// Links and doors may be moved to another thread: each impl owes the proof.
+/// Links, doors and monitors may be moved to another thread: each impl owes the proof.
 pub(crate) trait Movable: Send {}
 
 impl Movable for Held<'_> {}

@@ -1,8 +1,9 @@
-//! Doors and a net that give links which hold back what they give.
+//! Doors and a net that give links which hold back what they give, and a monitor at which those ask whom a test lets.
 ghost use Rattle.std.specs.Prelude.{◌≡◌, None, IfOk, length, All};
 ghost use Rattle.edge_io.specs.Door.{IsNewDoor};
 
 use crate::held::{Held, Movable, Plan};
+use crate::held_monitor::{Ask, HeldMonitor};
 use edge_io::{AcceptFault, Door, Net, NetFault, Object, Pause, Proto};
 use std::alloc::{AllocError, Global};
 use std::sync::atomic::AtomicBool;
@@ -61,34 +62,51 @@ impl<'a> Door for HeldDoor<'a> {
 }
 
 /// A net that gives links by plans: the doors of a place have those of the place, one each, in order, and each dial of a place gives
-/// one by the first plan there.
+/// one by the first plan there. A monitor is to be had at the place `s` alone.
 #[derive(Drop)]
 pub(crate) struct HeldNet<'a> {
     alloc: Global,
     plans: &'static [Plan],
+    asks: &'static [Ask],
     marks: &'a [AtomicBool],
     faults: u64,
     pub(crate) read_faults: u64,
     pub(crate) write_faults: u64,
     /// What was written to the links that were hung up, one after another.
     pub(crate) sent: Vec<u8>,
+    /// Whether no monitor is to be had, and how many were asked for.
+    pub(crate) is_refusing: bool,
+    pub(crate) monitors: u64,
 }
 
 impl<'a> HeldNet<'a> {
-    /// A net by these plans, whose answers these marks tell.
+    /// A net by these plans, whose answers these marks tell. Nobody asks at its monitor.
     pub(crate) fn new(
         alloc: Global,
         plans: &'static [Plan],
         marks: &'a [AtomicBool],
     ) -> HeldNet<'a> {
+        HeldNet::watched(alloc, plans, &[], marks)
+    }
+
+    /// A net by these plans, at whose monitor these ask. The marks tell the answers of both.
+    pub(crate) fn watched(
+        alloc: Global,
+        plans: &'static [Plan],
+        asks: &'static [Ask],
+        marks: &'a [AtomicBool],
+    ) -> HeldNet<'a> {
         HeldNet {
             alloc,
             plans,
+            asks,
             marks,
             faults: 0,
             read_faults: 0,
             write_faults: 0,
             sent: Vec::new(alloc),
+            is_refusing: false,
+            monitors: 0,
         }
     }
 }
@@ -169,6 +187,8 @@ impl<'a> Net for HeldNet<'a> {
 
     type P = HeldDoor<'a>;
 
+    type M = HeldMonitor<'a>;
+
     ghost told = { λ net. record {
       bound = None;
       hung = None;
@@ -190,6 +210,15 @@ impl<'a> Net for HeldNet<'a> {
             Ok(made) => Ok(made),
             Err(_) => Err(NetFault::NoMemory),
         }
+    }
+
+    fn monitor(&mut self, place: &str) -> Result<HeldMonitor<'a>, NetFault> {
+        self.monitors = self.monitors.saturating_add(1);
+        if self.is_refusing || place != "s" {
+            self.faults = self.faults.saturating_add(1);
+            return Err(NetFault::Fault);
+        }
+        Ok(HeldMonitor::new(self.asks, self.marks))
     }
 
     fn dial(&mut self, place: &str) -> Result<Held<'a>, NetFault> {

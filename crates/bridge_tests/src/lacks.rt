@@ -23,8 +23,15 @@ fn is_told(play: &Play, left: &Left) -> bool {
     }
 }
 
-/// Whether the call ends as it may where one call for memory may have been refused: well and with the last outcome; or with the status of
-/// what lacked memory, and an outcome that may be. A test that lacks memory itself ends there, and says so.
+// Whether this is the output that is wanted, or where the call didn't end well how that begins. A session that forwards isn't asked.
+fn is_written(play: &Play, status: u8, written: &[u8]) -> bool {
+    let wanted = play.output.as_slice();
+    play.is_drain || written == wanted || status != 0 && wanted.starts_with(written)
+}
+
+/// Whether the call ends as it may where one call for memory may have been refused: well, with the last outcome and just the output that
+/// is wanted; or with the status of what lacked memory, and an outcome that may be. A test that lacks memory itself ends there, and says
+/// so.
 pub(crate) fn lacks_well<R: Abort + Threads + Wait + Sync>(
     rt: &R,
     alloc: Global,
@@ -38,8 +45,7 @@ pub(crate) fn lacks_well<R: Abort + Threads + Wait + Sync>(
     let written = left.output.taken();
     let found = place_of(play, written.len() as u64, list.output.taken());
     let is_last = found.saturating_add(1) == play.outcomes.len() as u64;
-    let is_begun = play.is_drain || play.output.starts_with(written);
-    let is_left = list.status == 0 && found != WRONG && is_begun;
+    let is_left = list.status == 0 && found != WRONG && is_written(play, left.status, written);
     is_left && is_told(play, &left) && (is_last || left.status != 0)
 }
 

@@ -21,9 +21,15 @@ mod frames;
 #[cfg(test)]
 mod held;
 #[cfg(test)]
+mod held_disk;
+#[cfg(test)]
+mod held_monitor;
+#[cfg(test)]
 mod held_net;
 #[cfg(test)]
 mod lacks;
+#[cfg(test)]
+mod listed;
 #[cfg(test)]
 mod lists;
 #[cfg(test)]
@@ -50,6 +56,8 @@ mod served;
 mod sessions;
 #[cfg(test)]
 mod slots;
+#[cfg(test)]
+mod status;
 #[cfg(test)]
 mod sweeps;
 #[cfg(test)]

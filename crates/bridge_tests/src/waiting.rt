@@ -8,6 +8,7 @@ use desk_access::Access;
 use edge_io::{Link, Object, Proto, ReadFault, Sink, Source, WriteFault};
 use edge_memory::MemDisk;
 use hec_ids::Ids;
+use hec_tokens::TokenList;
 use notes::Note;
 use spool_desk::{Alone, Desk};
 use spool_log::{Opening, Spool, format};
@@ -192,6 +193,7 @@ fn serve(
         proto,
         token: Some(0x1111_1111_2222_3333_4444_5555_5555_5555),
         ack_token: Some(0xaaaa_aaaa_2222_3333_4444_5555_5555_5555),
+        listed: TokenList::none(),
         group: false,
     };
     let spool = spool(rt, alloc);

@@ -3,6 +3,7 @@ use crate::hec::{bodies, sessions};
 use crate::http::{replies, requests, windows};
 use crate::spelling::spell;
 use hec_session::HecCore;
+use hec_tokens::{ListedToken, TokenList};
 use std::alloc::Global;
 use std::process::Abort;
 
@@ -21,8 +22,8 @@ pub enum Form {
     Events,
     Lines,
     Query,
-    /// Requests to a receiver with these tokens: one without acks, and one with acks.
-    Session(Option<u128>, Option<u128>),
+    /// Requests to a receiver with these tokens: one without acks, one with acks, and a list.
+    Session(Option<u128>, Option<u128>, &'static [ListedToken]),
 }
 
 // What a text tells, read in pieces of a size where it is a stream.
@@ -37,8 +38,10 @@ fn told(rt: &impl Abort, alloc: Global, form: &Form, text: &[u8], size: usize) -
         Form::Events => bodies::events(rt, alloc, text),
         Form::Lines => bodies::lines(rt, alloc, text),
         Form::Query => bodies::ids(rt, alloc, text),
-        Form::Session(token, ack_token) => {
-            sessions::done(rt, alloc, &HecCore::new(*token, *ack_token), text)
+        Form::Session(token, ack_token, listed) => {
+            let listed = TokenList::of(listed.to_vec(alloc).expect(rt, "memory"));
+            let core = HecCore::new(*token, *ack_token, listed);
+            sessions::done(rt, alloc, &core, text)
         }
     }
 }

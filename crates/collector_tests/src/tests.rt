@@ -3,7 +3,7 @@ use crate::hec::body_rows::{
     EVENT_BODIES, LIMITS_OF_EVENTS, LIMITS_OF_LINES, LIMITS_OF_QUERIES, QUERIES, RAW_BODIES,
 };
 use crate::hec::session_rows::{
-    ALIKE, AUTHORIZATIONS, CHANNELS_AND_BODIES, EVENTS_AND_PATHS, NO_TOKENS,
+    ALIKE, AUTHORIZATIONS, CHANNELS_AND_BODIES, EVENTS_AND_PATHS, LISTED, NO_TOKENS,
 };
 use crate::hec::{ids, replies};
 use crate::http::limit_rows::{
@@ -14,12 +14,45 @@ use crate::http::request_rows::{FAULTS, STREAMS};
 use crate::http::window_rows::{FIRST, FULL, HELD};
 use crate::http::written;
 use crate::rows::{Form, check};
+use hec_tokens::ListedToken;
 use std::alloc::Global;
 use std::process::Abort;
 
 const TOKEN: u128 = 0x1111_1111_2222_3333_4444_5555_5555_5555;
 
 const ACK_TOKEN: u128 = 0xaaaa_aaaa_2222_3333_4444_5555_5555_5555;
+
+// One without acks, one with acks, two that stand there without and with acks, and `TOKEN` with acks.
+const LIST: &[ListedToken] = &[
+    ListedToken {
+        guid: 0x2222_2222_2222_3333_4444_5555_5555_5555,
+        acks: false,
+    },
+    ListedToken {
+        guid: 0xbbbb_bbbb_2222_3333_4444_5555_5555_5555,
+        acks: true,
+    },
+    ListedToken {
+        guid: 0x3333_3333_2222_3333_4444_5555_5555_5555,
+        acks: false,
+    },
+    ListedToken {
+        guid: 0x3333_3333_2222_3333_4444_5555_5555_5555,
+        acks: true,
+    },
+    ListedToken {
+        guid: 0x5555_5555_2222_3333_4444_5555_5555_5555,
+        acks: true,
+    },
+    ListedToken {
+        guid: 0x5555_5555_2222_3333_4444_5555_5555_5555,
+        acks: false,
+    },
+    ListedToken {
+        guid: 0x1111_1111_2222_3333_4444_5555_5555_5555,
+        acks: true,
+    },
+];
 
 // How many bytes the pieces have in which streams are fed.
 const SIZES: &[usize] = &[1, 2, 3, 7, 64, 150, 1000];
@@ -75,7 +108,7 @@ fn sessions(rt: &impl Abort, alloc: Global) {
         check(
             rt,
             alloc,
-            &Form::Session(Some(TOKEN), Some(ACK_TOKEN)),
+            &Form::Session(Some(TOKEN), Some(ACK_TOKEN), &[]),
             WHOLE,
             table,
         );
@@ -83,11 +116,18 @@ fn sessions(rt: &impl Abort, alloc: Global) {
     check(
         rt,
         alloc,
-        &Form::Session(Some(TOKEN), Some(TOKEN)),
+        &Form::Session(Some(TOKEN), Some(TOKEN), &[]),
         WHOLE,
         ALIKE,
     );
-    check(rt, alloc, &Form::Session(None, None), WHOLE, NO_TOKENS);
+    check(rt, alloc, &Form::Session(None, None, &[]), WHOLE, NO_TOKENS);
+    check(
+        rt,
+        alloc,
+        &Form::Session(Some(TOKEN), None, LIST),
+        WHOLE,
+        LISTED,
+    );
 }
 
 #[test]

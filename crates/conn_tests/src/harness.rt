@@ -9,6 +9,7 @@ use edge_io::{Both, MemSink, MemSource, Proto};
 use edge_memory::MemDisk;
 use event_form::{Attended, Origin};
 use hec_ids::Ids;
+use hec_tokens::TokenList;
 use spool_answers::Numbered;
 use spool_desk::{Alone, Desk};
 use spool_log::{Opening, Spool, format};
@@ -148,6 +149,7 @@ pub(crate) fn serve(
         proto,
         token: Some(TOKEN),
         ack_token: Some(ACK_TOKEN),
+        listed: TokenList::none(),
         group: is_grouped(rt, row),
     };
     let attended = attend(alloc, &mut link, &rules, &mut desk, CONN);

@@ -18,6 +18,8 @@ mod lines;
 #[cfg(test)]
 mod marks;
 #[cfg(test)]
+mod monitors;
+#[cfg(test)]
 mod nets;
 #[cfg(test)]
 mod pages;

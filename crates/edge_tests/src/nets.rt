@@ -3,8 +3,8 @@ ghost use Rattle.edge_io.specs.MemLink.{IsUnused};
 ghost use Rattle.edge_io.specs.MemDoor.{IsUntouched};
 
 use edge_io::{
-    Door, Finished, Hung, MemDoor, MemLink, MemNet, MemPlace, MemScript, MemSink, MemSource, Net,
-    NetFault, Pause, Proto, Sink, Source,
+    Door, Finished, Hung, MemDoor, MemLink, MemNet, MemPlace, MemScript, MemSink, MemSource,
+    Monitor, Net, NetFault, Pause, Proto, Sink, Source,
 };
 use std::alloc::Global;
 use std::process::Abort;
@@ -135,6 +135,19 @@ pub(crate) fn a_net_tells_which_doors_it_bound(rt: &impl Abort, alloc: Global) {
         );
         net.hang_up(link);
     }
+}
+
+pub(crate) fn a_net_gives_monitors_whom_nobody_asks(rt: &impl Abort, alloc: Global) {
+    let failing = [1].to_vec(alloc).expect(rt, "memory");
+    let mut net = MemNet::of(alloc, Vec::new(alloc), Vec::new(alloc), failing);
+    for is_given in [true, false, true] {
+        let is_right = match net.monitor("m") {
+            Ok(mut monitor) => is_given && !monitor.is_asked(),
+            Err(fault) => !is_given && fault == NetFault::Fault,
+        };
+        assert!(rt; is_right, "{is_given}");
+    }
+    assert!(rt; net.bound().is_empty());
 }
 
 // A script for the place `d`, whose second write fails.

@@ -122,6 +122,22 @@ fn a_place_without_a_port_is_named(
     );
 }
 
+// A place where those come in who ask for numbers is said, and so is one that is taken.
+fn a_monitor_is_said(
+    rt: &impl Abort,
+    staged: &Staged<'_>,
+    net: &mut StagedNet<'_, '_>,
+    place: &str,
+) {
+    let monitor = net.monitor(place).expect(rt, "a free port");
+    let words = " for those who ask for numbers";
+    assert_line(rt, staged, "bridge: listening on 127.0.0.1:", words);
+    assert!(rt; net.monitor(place).is_err(), "the port is taken");
+    let reason = ": Address already in use (os error 98)";
+    assert_line(rt, staged, "bridge: can't listen on 127.0.0.1:", reason);
+    drop(monitor);
+}
+
 // A receiver isn't reached, and then it is.
 fn a_receiver_is_reached_again(
     rt: &impl Abort,
@@ -390,6 +406,7 @@ pub(crate) fn the_net_says_what_befalls_it(rt: &impl Abort, alloc: Global, host:
     let mut net = TcpNet::with_waits(alloc, &staged, &reports, waits());
     a_place_that_is_taken_is_named(rt, &staged, &mut net, &free_place(rt, host));
     a_place_without_a_port_is_named(rt, &staged, &mut net);
+    a_monitor_is_said(rt, &staged, &mut net, &free_place(rt, host));
     senders_are_said(rt, alloc, host, &staged);
     receivers_are_said(rt, alloc, host, &staged);
     let quiet = Reports::quiet();

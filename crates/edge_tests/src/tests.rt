@@ -1,6 +1,7 @@
 //! All that holds of bytes, numbers, streams, nets and disks.
 use crate::{
-    accepts, bytes, disks, files, lines, marks, nets, pages, ranges, said, sockets, streams, waits,
+    accepts, bytes, disks, files, lines, marks, monitors, nets, pages, ranges, said, sockets,
+    streams, waits,
 };
 use std::alloc::Global;
 use std::process::Abort;
@@ -22,6 +23,7 @@ fn nets_and_disks(rt: &impl Abort, alloc: Global) {
     nets::a_net_binds_the_doors_of_a_place(rt, alloc);
     nets::a_net_tells_which_doors_it_bound(rt, alloc);
     nets::a_net_dials_by_a_script_and_tells_what_it_hung_up(rt, alloc);
+    nets::a_net_gives_monitors_whom_nobody_asks(rt, alloc);
     disks::a_stop_and_a_crash_leave_all_or_nothing(rt, alloc);
     disks::calls_fail_by_their_numbers(rt, alloc);
     disks::gates_open_and_close_on_a_plain_disk(rt, alloc);
@@ -44,4 +46,9 @@ fn edges(rt: HostRuntime) {
     waits::links_wait_for_a_while(&rt, &rt);
     accepts::accepts_fail_and_pass(&rt, alloc, &rt);
     said::the_net_says_what_befalls_it(&rt, alloc, &rt);
+}
+
+#[test]
+fn those_who_ask(rt: HostRuntime) {
+    monitors::those_who_ask_are_answered(&rt, &rt);
 }

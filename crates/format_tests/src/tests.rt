@@ -8,6 +8,7 @@ use crate::words::rows_of_drain::{DRAINS, NO_DRAINS};
 use crate::words::rows_of_move::{MOVES, NO_MOVES};
 use crate::words::rows_of_replay::{NO_REPLAYS, REPLAYS};
 use crate::words::rows_of_serve::{NO_SERVES, SERVES};
+use crate::words::token_lists::LISTS;
 use crate::{entries, maps, words};
 use std::alloc::Global;
 use std::process::Abort;
@@ -54,6 +55,7 @@ fn events_and_their_forms(rt: HostRuntime) {
     ] {
         words::check(&rt, alloc, table);
     }
+    words::check_lists(&rt, alloc, LISTS);
     words::fault_texts(&rt);
     note_texts::texts(&rt, alloc);
     note_texts::lines(&rt, alloc);

@@ -6,7 +6,9 @@ pub mod rows_of_drain;
 pub mod rows_of_move;
 pub mod rows_of_replay;
 pub mod rows_of_serve;
+pub mod token_lists;
 
+use crate::spelling::spell;
 use bridge_words::{Command, Need, WordsFault, need_of, wrong_words};
 use std::alloc::Global;
 use std::process::Abort;
@@ -80,8 +82,36 @@ pub fn check(rt: &impl Abort, alloc: Global, table: &str) {
     }
 }
 
+// What the words of a server are that has the list of tokens that a row spells.
+fn told_of_list(rt: &impl Abort, alloc: Global, spelt: &str) -> String {
+    let mut list = Vec::new(alloc);
+    spell(rt, spelt, &mut list);
+    let list = String::from_utf8(list).expect(rt, "a text");
+    let mut words = Vec::new(alloc);
+    for word in ["serve", "--hec=h", "--tokens"] {
+        let word = String::from_str(alloc, word).expect(rt, "memory");
+        words.push(word).expect(rt, "memory");
+    }
+    words.push(list).expect(rt, "memory");
+    told(rt, alloc, &words)
+}
+
+/// Each row has a list, `=>`, and its tokens as [`check`] has them, or `wrong`.
+pub fn check_lists(rt: &impl Abort, alloc: Global, table: &str) {
+    for row in table.lines() {
+        let (spelt, want) = row.split_once("=>").expect(rt, "what the list is");
+        let want = match want.trim() {
+            "wrong" => String::from_str(alloc, WordsFault::Tokens.text()),
+            tokens => { format!(in alloc; "serve - - (h) 4 67108864 - - {tokens} -, a device") }
+        };
+        let want = want.expect(rt, "memory");
+        let told = told_of_list(rt, alloc, spelt.trim());
+        assert!(rt; told.as_str() == want.as_str(), "{row}");
+    }
+}
+
 // What is wrong with words, and the text for it.
-const FAULTS: [(WordsFault, &str); 29] = [
+const FAULTS: [(WordsFault, &str); 31] = [
     (WordsFault::NoCommand, "no command is named"),
     (WordsFault::UnknownWord, "unknown word or option"),
     (WordsFault::MissingWord, "a word is missing"),
@@ -98,6 +128,14 @@ const FAULTS: [(WordsFault, &str); 29] = [
     (WordsFault::Form, "--as: relp, json or hec"),
     (WordsFault::Token, "--token: no GUID"),
     (WordsFault::AckToken, "--ack-token: no GUID"),
+    (
+        WordsFault::Tokens,
+        "--tokens: 1 to 1000 lines, each a GUID or a GUID and ack",
+    ),
+    (
+        WordsFault::BothTokens,
+        "--tokens: not beside --token or --ack-token",
+    ),
     (WordsFault::OutToken, "--out-token: no GUID"),
     (WordsFault::OutChannel, "--out-channel: no GUID"),
     (WordsFault::Polls, "--polls: 1 to 1000"),

@@ -46,7 +46,7 @@ fn crowd_is_told_where_its_entries_stand(rt: HostRuntime) {
 }
 
 #[test]
-fn ids_wait_for_no_sync(rt: HostRuntime) {
+fn ids_and_level_wait_for_no_sync(rt: HostRuntime) {
     meanwhile::check(&rt, rt.alloc(), false);
     meanwhile::check(&rt, rt.alloc(), true);
 }

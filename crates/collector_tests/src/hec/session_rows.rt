@@ -65,3 +65,15 @@ one token for both needs a channel|POST /services/collector/raw|P||p => 400 10"#
 /// Requests to a receiver with no tokens.
 pub const NO_TOKENS: &str = r#"
 a receiver without tokens|POST /services/collector/raw|PC||p => 403 4"#;
+
+/// Requests to a receiver with a token and a list.
+pub const LISTED: &str = r#"
+listed without acks|POST /services/collector/raw||Splunk 22222222-2222-3333-4444-555555555555|p => store r[p]
+no acks for it|POST /services/collector/ack|C|Splunk 22222222-2222-3333-4444-555555555555|{"acks":[0]} => 400 14
+listed with acks|POST /services/collector/raw|C|Splunk bbbbbbbb-2222-3333-4444-555555555555|p => say r[p]
+it needs a channel|POST /services/collector/raw||Splunk bbbbbbbb-2222-3333-4444-555555555555|p => 400 10
+acks for it|POST /services/collector/ack|C|Splunk bbbbbbbb-2222-3333-4444-555555555555|{"acks":[0]} => ask 0
+listed twice, with acks at last|POST /services/collector/raw|C|Splunk 33333333-2222-3333-4444-555555555555|p => say r[p]
+listed twice, with acks at first|POST /services/collector/raw|C|Splunk 55555555-2222-3333-4444-555555555555|p => say r[p]
+the token, which is listed with acks|POST /services/collector/raw|PC||p => say r[p]
+not listed|POST /services/collector/raw|C|Splunk 44444444-2222-3333-4444-555555555555|p => 403 4"#;

@@ -1,6 +1,7 @@
 //! How commands are told.
 use bridge_words::{Command, ListForm, Need, Receiver, Server};
 use desk_access::Division;
+use hec_tokens::ListedToken;
 use notes::Place;
 use std::alloc::Global;
 use std::process::Abort;
@@ -64,12 +65,33 @@ fn tell_receiver(rt: &impl Abort, alloc: Global, receiver: &Receiver, told: &mut
     }
 }
 
-// A server: the places of RELP, Lumberjack and the collector, its workers, the connections of each, the token, the token with
-// acks, `group` where it stores together what came together, and what it forwards to.
+// The tokens of a list, where it has some: each of the first three, with `ack` after one that uses acks, and of more how many they are.
+fn tell_list(rt: &impl Abort, alloc: Global, listed: &[ListedToken], told: &mut String) {
+    if listed.is_empty() {
+        return;
+    }
+    add(rt, told, " listed");
+    for token in listed.iter().take(3) {
+        add(rt, told, token_name(Some(token.guid)));
+        add(rt, told, if token.acks { " ack" } else { "" });
+    }
+    if listed.len() > 3 {
+        let count = format!(in alloc; " of {}", listed.len()).expect(rt, "memory");
+        add(rt, told, &count);
+    }
+}
+
+// A server: the places of RELP, Lumberjack and the collector, `status` and the place of those who ask where there is one, its workers,
+// the connections of each, the token, the token with acks, `listed` and the tokens of a list where there is one, `group` where it
+// stores together what came together, and what it forwards to.
 fn tell_server(rt: &impl Abort, alloc: Global, server: &Server, told: &mut String) {
     tell_place(rt, server.relp.as_ref(), told);
     tell_place(rt, server.lumberjack.as_ref(), told);
     tell_place(rt, server.hec.as_ref(), told);
+    if let Some(status) = &server.status {
+        add(rt, told, " status");
+        tell_place(rt, Some(status), told);
+    }
     let division = match server.division {
         Division::Workers => "",
         Division::Connections => " connections",
@@ -79,6 +101,7 @@ fn tell_server(rt: &impl Abort, alloc: Global, server: &Server, told: &mut Strin
     add(rt, told, &counts);
     add(rt, told, token_name(server.token));
     add(rt, told, token_name(server.ack_token));
+    tell_list(rt, alloc, server.listed.as_slice(), told);
     add(rt, told, if server.group { " group" } else { "" });
     match &server.forward {
         Some(relay) => {

@@ -211,6 +211,6 @@ pub fn lines(rt: &impl Abort, alloc: Global) {
                 text: Blob::of(Vec::from_slice(alloc, b"hello").expect(rt, "memory")),
             },
         };
-        assert!(rt; is(rt, entry_line(alloc, 7, &entry), line));
+        assert!(rt; is(rt, entry_line(alloc, 7, &entry), line), "{line}");
     }
 }

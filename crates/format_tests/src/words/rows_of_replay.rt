@@ -54,4 +54,5 @@ replay -- --token=$T hec => unknown word or option
 replay hec --tok $T => unknown word or option
 replay hec -t $T => unknown word or option
 replay hec --as json => unknown word or option
+replay hec --tokens $T => unknown word or option
 replay hec $T => unknown word or option"#;

@@ -1,8 +1,8 @@
 //! The words of `serve`.
 
-/// What the words of `serve` ask for: the places of RELP, of Lumberjack and of the collector, workers, after `connections` where that
-/// option says how many, connections of each, the token, the token with acks, `group` where that is given, and the receiver with its
-/// place.
+/// What the words of `serve` ask for: the places of RELP, of Lumberjack and of the collector, `status` and the place of those who ask
+/// where that is given, workers, after `connections` where that option says how many, connections of each, the token, the token with
+/// acks, `listed` and the tokens of `--tokens` where that is given, `group` where that is, and the receiver with its place.
 pub const SERVES: &str = r#"serve --relp p => serve (p) - - 4 67108864 - - -, a device
 serve --lumberjack logs.example:5044 => serve - (logs.example:5044) - 4 67108864 - - -, a device
 serve --hec=0.0.0.0:8088 => serve - - (0.0.0.0:8088) 4 67108864 - - -, a device
@@ -21,6 +21,14 @@ serve --talks 1 --relp p => serve (p) - - 4 1 - - -, a device
 serve --relp p --talks=67108864 => serve (p) - - 4 67108864 - - -, a device
 serve --hec h --token $T --ack-token=$A => serve - - (h) 4 67108864 $T $A -, a device
 serve --relp p --ack-token $A => serve (p) - - 4 67108864 - $A -, a device
+serve --relp p --status s => serve (p) - - status (s) 4 67108864 - - -, a device
+serve --status=127.0.0.1:9514 --hec=h => serve - - (h) status (127.0.0.1:9514) 4 67108864 - - -, a device
+serve --status=-x --relp p --group => serve (p) - - status (-x) 4 67108864 - - group -, a device
+serve --relp p --status p => serve (p) - - status (p) 4 67108864 - - -, a device
+serve --hec h --tokens $T => serve - - (h) 4 67108864 - - listed $T -, a device
+serve --tokens=$A --group --hec=h => serve - - (h) 4 67108864 - - listed $A group -, a device
+serve --relp p --tokens $T => serve (p) - - 4 67108864 - - listed $T -, a device
+serve --hec h --tokens {11111111-2222-3333-4444-555555555555} => serve - - (h) 4 67108864 - - listed $T -, a device
 serve --relp p --group => serve (p) - - 4 67108864 - - group -, a device
 serve --group --relp=p => serve (p) - - 4 67108864 - - group -, a device
 serve --group --hec h --lumberjack l --token $T => serve - (l) (h) 4 67108864 $T - group -, a device
@@ -45,6 +53,15 @@ serve --lumberjack= => PLACE: empty
 serve --relp p --hec= => PLACE: empty
 serve --relp => an option has no value
 serve --relp --hec h => an option has no value
+serve --status s => serve: --relp, --lumberjack or --hec is needed
+serve --relp p --status '' => PLACE: empty
+serve --status= --hec h => PLACE: empty
+serve --relp p --status => an option has no value
+serve --relp p --status s --status=s => an option is given twice
+serve --relp p --stat s => unknown word or option
+serve --relp p -- --status s => unknown word or option
+list --status s => unknown word or option
+replay relp --status s => unknown word or option
 serve --relp -- p => unknown word or option
 serve p => unknown word or option
 serve relp p => unknown word or option
@@ -83,6 +100,19 @@ serve --relp p --grou => unknown word or option
 serve --relp p -- --group => unknown word or option
 serve --relp=p --token zz => --token: no GUID
 serve --relp=p --ack-token=zz => --ack-token: no GUID
+serve --relp=p --tokens => an option has no value
+serve --relp=p --tokens $T --tokens=$T => an option is given twice
+serve --relp=p --tokens= => --tokens: 1 to 1000 lines, each a GUID or a GUID and ack
+serve --relp=p --tokens zz => --tokens: 1 to 1000 lines, each a GUID or a GUID and ack
+serve --relp=p --tokens - => --tokens: 1 to 1000 lines, each a GUID or a GUID and ack
+serve --relp=p --tokens $T --token $T => --tokens: not beside --token or --ack-token
+serve --ack-token=$A --tokens=$T --hec=h => --tokens: not beside --token or --ack-token
+serve --token $T --ack-token=$A --tokens=$T --hec=h => --tokens: not beside --token or --ack-token
+serve --relp=p --token zz --tokens=$T => --token: no GUID
+serve --relp=p --token $T --tokens zz => --tokens: not beside --token or --ack-token
+serve --tokens $T => serve: --relp, --lumberjack or --hec is needed
+serve --relp=p -- --tokens $T => unknown word or option
+serve --relp=p --tokns $T => unknown word or option
 serve --relp=p --forward relp => --forward: --to is needed
 serve --relp=p --to d => --to: --forward is needed
 serve --relp=p --to=d --out-token $T --out-channel=$A => --to: --forward is needed

@@ -62,8 +62,11 @@ pub(crate) fn connections(rt: &impl Abort, alloc: Global) {
     for (stream, acts, texts, acks) in ROWS {
         assert!(rt; stream.len() <= 100);
         let (letters, stored, answers) = listen(rt, alloc, stream);
-        assert!(rt; letters.as_slice() == acts.as_bytes());
-        assert!(rt; stored.as_slice() == *texts && answers.as_slice() == *acks);
+        assert!(rt; letters.as_slice() == acts.as_bytes(), "{stream:?}");
+        assert!(rt;
+            stored.as_slice() == *texts && answers.as_slice() == *acks,
+            "{stream:?}"
+        );
     }
 }
 
@@ -95,6 +98,9 @@ pub(crate) fn large_windows(rt: &impl Abort, alloc: Global) {
         let stream = window(rt, alloc, *frames, *len);
         assert!(rt; stream.len() <= 1_000_000);
         let (_, _, acks) = listen(rt, alloc, &stream);
-        assert!(rt; acks == acks_for(rt, alloc, last));
+        assert!(rt;
+            acks == acks_for(rt, alloc, last),
+            "{frames} frames of {len} bytes"
+        );
     }
 }

@@ -45,7 +45,7 @@ fn answers(rt: &impl Abort, alloc: Global, core: &mut RelpCore, text: &[u8], don
         let act = core.step(alloc, frame).expect(rt, "memory");
         show(rt, alloc, &act, &mut out);
     }
-    assert!(rt; out.as_slice() == done);
+    assert!(rt; out.as_slice() == done, "{text:?}");
 }
 
 /// What is done for some frames of a row, and then for another frame.

@@ -36,10 +36,16 @@ pub(crate) fn streams(rt: &impl Abort, alloc: Global) {
         let (rest_at, held) = rest_of(text.len(), *whole, *fault);
         let wanted = (frames, rest_at, *fault);
         for size in 1..102 {
-            assert!(rt; is(&by_reader(rt, alloc, *side, text, size), wanted));
+            assert!(rt;
+                is(&by_reader(rt, alloc, *side, text, size), wanted),
+                "{text:?} in pieces of {size}"
+            );
             if *side == Side::Receiver {
                 let (read, holds) = by_window(rt, alloc, text, size);
-                assert!(rt; is(&read, wanted) && holds as u64 == held);
+                assert!(rt;
+                    is(&read, wanted) && holds as u64 == held,
+                    "{text:?} in pieces of {size}"
+                );
             }
         }
     }
@@ -84,12 +90,12 @@ fn steps(rt: &impl Abort, alloc: Global, text: &[u8], steps: &[Step]) {
     let mut fed = Fed::new(rt, alloc);
     let mut rest = text;
     for (taken, held, frame) in steps {
-        assert!(rt; fed.feed(rest) == Ok(*taken));
-        assert!(rt; fed.window.held() == *held);
+        assert!(rt; fed.feed(rest) == Ok(*taken), "{taken} taken");
+        assert!(rt; fed.window.held() == *held, "{taken} taken, {held} held");
         rest = rest.get(*taken..).unwrap_or(&[]);
         let more = if *held == 131_140 { rest } else { &[] };
         assert!(rt; fed.feed(more) == Ok(0));
-        assert!(rt; fed.next() == *frame);
+        assert!(rt; fed.next() == *frame, "the frame after {taken} taken");
     }
 }
 

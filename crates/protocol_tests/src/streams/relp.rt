@@ -19,8 +19,16 @@ pub(crate) fn streams(rt: &impl Abort, alloc: Global) {
         assert!(rt; row.text.len() <= 300);
         for size in 1..301 {
             let (read, held) = by_window(rt, alloc, row.text, size);
-            assert!(rt; is(&read, row) && held == row.held);
-            assert!(rt; is(&by_reader(rt, alloc, row.text, size), row));
+            assert!(rt;
+                is(&read, row) && held == row.held,
+                "{:?} in pieces of {size}",
+                row.text
+            );
+            assert!(rt;
+                is(&by_reader(rt, alloc, row.text, size), row),
+                "{:?} in pieces of {size}",
+                row.text
+            );
         }
     }
 }

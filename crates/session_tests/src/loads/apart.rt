@@ -6,6 +6,7 @@ use edge_io::{Both, MemSink, MemSource, Proto};
 use edge_memory::MemDisk;
 use event_form::Talk;
 use forward_core::Sent;
+use hec_tokens::TokenList;
 use load_run::{Loaded, load};
 use spool_desk::Alone;
 use std::alloc::Global;
@@ -33,6 +34,7 @@ fn replayed(rt: &impl Abort, alloc: Global, access: &mut Alone<MemDisk>) -> (u64
         proto: Proto::Relp,
         token: None,
         ack_token: None,
+        listed: TokenList::none(),
         group: false,
     };
     let attended = attend(alloc, &mut link, &rules, access, 1 << 32);

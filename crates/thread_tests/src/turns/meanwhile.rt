@@ -1,4 +1,4 @@
-//! A pass that makes calls of ids while the take of another waits for the disk.
+//! A pass that makes calls of ids, and asks for the level, while the take of another waits for the disk.
 ghost use Rattle.std.specs.Prelude.{◌≡◌, ◌^◌, ◌<◌, ℕ, [], length, All, IfOk, OnOk};
 ghost use Rattle.event_form.specs.Entry.{IsEntry};
 ghost use Rattle.desk_access.specs.declared.division.Division.TheVariants.{Workers};
@@ -116,7 +116,6 @@ fn call_of_ids<A: Access, R: Abort>(rt: &R, said: &mut String, access: &mut A, i
 }
 
 // Stores an entry under an id, and shuts the gate. Makes the calls of ids while the first take is inside a sync and the second waits.
-// Says then whether the second was answered, opens the gate, and says whether the sync went on before that.
 fn ask<A: Access, R: Abort + Clock>(
     rt: &R,
     said: &mut String,
@@ -133,6 +132,17 @@ fn ask<A: Access, R: Abort + Clock>(
         "no take waits"
     );
     call_of_ids(rt, said, access, id);
+}
+
+// Says the end at the level while the first take is inside a sync. Says then whether the second was answered, opens the gate, and says
+// whether the sync went on before that.
+fn let_on<D: Disk + Drop, J: Naming, R: Abort + Clock + Wait>(
+    rt: &R,
+    said: &mut String,
+    shared: &Shared<D, J>,
+    stage: &Stage,
+) {
+    say(rt, said, &shared.level(rt).standing.end);
     thread::sleep(rt, Duration::from_millis(SHORT_MILLIS));
     say(rt, said, &stage.answered.is_set());
     stage.gate.open.set();
@@ -192,6 +202,7 @@ fn work<D: Disk + Drop, J: Naming, R: Abort + Clock + Wait>(
     };
     if conn == first_conn(run, 0) {
         ask(rt, &mut told, &mut seated, stage, conn);
+        let_on(rt, &mut told, shared, stage);
     } else if conn == first_conn(run, 1) {
         take_inside(rt, &mut told, &mut seated, stage, conn);
     } else {
@@ -265,9 +276,9 @@ fn three_passes<'a, J: Naming + Send + Sync, R: Abort + Clock + Threads + Wait +
 }
 
 // What the second take answers, and the first. Then what the one that asks is told: its take's receipt, whether its id was held
-// unsettled, whether that is told as settled, the next id, whether that is, whether it was held; whether the second take was answered
-// by then; and whether the sync went on before the gate was opened. Then the entries of the desk, each with its number, connection and
-// index.
+// unsettled, whether that is told as settled, the next id, whether that is, whether it was held; the end at the level; whether the second
+// take was answered by then; and whether the sync went on before the gate was opened. Then the entries of the desk, each with its number,
+// connection and index.
 const TOLD: &str = "Ok(Receipt { first: 2, count: 1 })
 Ok(Receipt { first: 1, count: 1 })
 Ok(Receipt { first: 0, count: 1 })
@@ -276,6 +287,7 @@ true
 4294967297
 false
 true
+1
 false
 false
 0 4294967296 0
@@ -283,8 +295,8 @@ false
 2 4429185024 0
 ";
 
-/// While a take is inside a sync of the disk, and another waits, a third caller is issued ids, settles, asks and forgets, and has its
-/// answers before the sync ends; so with `group` and without. Each thread waits for some ten seconds at most.
+/// While a take is inside a sync of the disk, and another waits, a third caller is issued ids, settles, asks and forgets, reads the level,
+/// and has its answers before the sync ends; so with `group` and without. Each thread waits for some ten seconds at most.
 pub(crate) fn check<R: Abort + Clock + Threads + Wait + Sync>(rt: &R, alloc: Global, group: bool) {
     let stage = Stage {
         gate: Gate::new(),

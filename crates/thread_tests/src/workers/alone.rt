@@ -49,8 +49,10 @@ where
     ensures each { IfOk result (λ crew. HaveWorked J.start J.run talks (map (λ (post : _). post.rules) posts.items) (map (λ (post : _). P.told post.door) posts.items)
         passes.items (map (λ (door : _). P.told door) crew.doors.items) crew.passes.items crew.reports.items) }
 {
-    let hired = hire(rt, alloc, shared, posts, passes)?;
-    Ok(hired.work(rt, alloc, talks))
+    match hire(rt, alloc, shared, posts, passes) {
+        Ok(hired) => Ok(hired.work(rt, alloc, talks)),
+        Err(NoCrew { posts, passes }) => Err(NoCrew { posts, passes }),
+    }
 }
 
 /// Has a worker serve at each of the doors, with the passes of a desk that nobody else calls, and closes the desk. One journal

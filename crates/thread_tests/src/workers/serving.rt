@@ -8,6 +8,7 @@ use crate::workers::rows::{Case, DOORS, LINKS, Link, STARVED, STEP};
 use conn_serve::Rules;
 use edge_io::{Door, Finished, MemDoor, MemLink, MemSink, MemSource};
 use edge_memory::MemDisk;
+use hec_tokens::TokenList;
 use serve_workers::{Post, WorkerEnd, WorkerReport};
 use spool_answers::Numbered;
 use std::alloc::Global;
@@ -46,6 +47,7 @@ fn post(rt: &impl Abort, alloc: Global, door: usize, failing: &[u64]) -> Post<Te
         proto: DOORS[door % 4],
         token: Some(TOKEN),
         ack_token: None,
+        listed: TokenList::none(),
         group: false,
     };
     let door = TestDoor {

@@ -5,9 +5,9 @@ use Rattle.spool_turns.specs.Passes.{Known}
 use Rattle.serve_workers.specs.Crews.{HaveWorked}
 use Rattle.thread_tests.proofs.workers.alone.crew_of.Goals as goal
 
-pub returns : goal.returns
-returns g c =
-    let hired = c.in_ok-hired.ensures in
+pub returns-in-Ok : goal.returns-in-Ok
+returns-in-Ok g c =
+    let hired = c.in-Ok.ensures in
     let crew = c.work.result in
     record {
       each = subst (λ (t : List Rules × List DoorState × List Known). HaveWorked g.J.Naming.start g.J.Naming.run c.args.talks t.0 t.1 t.2 (map g.P.Door.told crew.doors.items) crew.passes.items crew.reports.items)
