@@ -21,6 +21,7 @@ use edge_memory::MemDisk;
 use event_form::Talk;
 use hec_body::event_pieces;
 use hec_ids::Ids;
+use hec_tokens::TokenList;
 use spool_desk::{Alone, Desk};
 use spool_log::Spool;
 use std::alloc::Global;
@@ -53,6 +54,7 @@ fn carry(
         proto: Proto::Hec,
         token: Some(TOKEN),
         ack_token: None,
+        listed: TokenList::none(),
         group: false,
     };
     let ids = Ids::new(alloc, spool.run(), 0);

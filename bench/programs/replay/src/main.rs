@@ -21,6 +21,7 @@ use edge_io::{Both, MemSource, Proto};
 use edge_memory::MemDisk;
 use event_form::Talk;
 use hec_ids::Ids;
+use hec_tokens::TokenList;
 use spool_desk::{Alone, Desk};
 use spool_log::Spool;
 use std::alloc::Global;
@@ -57,6 +58,7 @@ fn carry(rt: &HostRuntime, stream: &Stream, spool: Spool<MemDisk>) -> anyhow::Re
         proto,
         token: None,
         ack_token: None,
+        listed: TokenList::none(),
         group: false,
     };
     let ids = Ids::new(alloc, spool.run(), 0);
