@@ -6,7 +6,9 @@ ghost use Rattle.edge_io.specs.MemScript.{is_for};
 
 use crate::mem_script::link_of;
 use crate::script::Script;
-use crate::{MemDoor, MemLink, MemMonitor, MemPlace, MemScript, Net, NetFault, Object, Pause};
+use crate::{
+    HeldUp, MemDoor, MemLink, MemMonitor, MemPlace, MemScript, Net, NetFault, Object, Pause,
+};
 use std::alloc::{AllocError, Global};
 
 /// A link that was hung up by a net in memory.
@@ -286,6 +288,11 @@ impl Net for MemNet {
 
     /// It waits for nothing.
     fn wait_briefly(&mut self)
+        ensures { self.new ≡ self.old }
+    {}
+
+    /// It reports nothing.
+    fn report_held_up(&mut self, _: &str, _: &HeldUp)
         ensures { self.new ≡ self.old }
     {}
 

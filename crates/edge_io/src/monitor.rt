@@ -1,7 +1,18 @@
 //! Numbers of a spool that is served, and where those come in who ask for them.
 ghost use Rattle.edge_io.specs.declared.monitor.SpoolNumbers.{SpoolNumbers};
 
-/// Numbers of a spool that is served, as they stood together at one moment.
+/// How many events of each protocol were stored since a server started.
+#[derive(Clone, Copy, Debug, PartialEq, Eq)]
+pub struct EventCounts {
+    /// By RELP.
+    pub relp: u64,
+    /// By Lumberjack.
+    pub lumberjack: u64,
+    /// By the collector's protocol.
+    pub hec: u64,
+}
+
+/// Numbers of a spool that is served. All but `stored` stood so together at one moment.
 #[derive(Clone, Copy, Debug, PartialEq, Eq)]
 pub struct SpoolNumbers {
     /// The number of the run that serves it.
@@ -20,6 +31,8 @@ pub struct SpoolNumbers {
     pub free_slots: u32,
     /// How many bytes of events a slot takes at most.
     pub most: u64,
+    /// How many events this run has stored: none that isn't durable, and maybe not yet the last ones.
+    pub stored: EventCounts,
 }
 
 /// An object at which those come in who ask for a spool's numbers.

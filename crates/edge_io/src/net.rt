@@ -5,7 +5,7 @@ ghost use Rattle.edge_io.specs.Told.{IsFresh, IsDialed};
 ghost use Rattle.edge_io.specs.Door.{IsNewDoor};
 ghost use Rattle.edge_io.specs.Net.{NetState, AddsBound, SameHung, HasNetCause, AddsHung, IsHungUp};
 
-use crate::{Door, Link, Monitor, NetFault, Pause};
+use crate::{Door, HeldUp, Link, Monitor, NetFault, Pause};
 
 /// An object that binds doors and monitors, and dials links and hangs them up. It may tell which doors were bound and which links
 /// were hung up; one that tells nothing, as the sockets of a system, has `None` for them.
@@ -85,6 +85,11 @@ pub trait Net: Pause {
     /// Waits a short while, where there was nothing to do and may soon be: no longer than a pause, which comes after what failed. It
     /// changes nothing that the net tells.
     fn wait_briefly(&mut self)
+        ensures same { Self.same self.old self.new }
+        ensures apart { Self.pause_apart self.old self.new };
+
+    /// Reports, to whoever looks after the net, what holds up the forwarding to that place. It changes nothing that the net tells.
+    fn report_held_up(&mut self, place: &str, held_up: &HeldUp)
         ensures same { Self.same self.old self.new }
         ensures apart { Self.pause_apart self.old self.new };
 

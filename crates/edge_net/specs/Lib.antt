@@ -3,6 +3,7 @@ pub mod Fullness
 pub mod Pace
 pub mod Receiver
 pub mod Recent
+pub mod Standstill
 pub mod TcpDoor
 pub mod TcpLink
 pub mod TcpNet

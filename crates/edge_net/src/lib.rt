@@ -1,7 +1,7 @@
 //! Links, doors and a net over the sockets of the system, TCP's. They are thin: they count the errors of
 //! the system and name their places, and tell no bytes. What befalls them is said on standard error ([`Reports`]), in few lines: which
-//! are due is decided by parts that know no clock ([`Recent`], [`Pace`], [`Receiver`]). That the bytes go out and come in as the peer has
-//! them is trusted. A call that waits for a peer has a bound, but that of a door that accepts, which waits for the next
+//! are due is decided by parts that know no clock ([`Recent`], [`Pace`], [`Receiver`], [`Standstill`]). That the bytes go out and come in as
+//! the peer has them is trusted. A call that waits for a peer has a bound, but that of a door that accepts, which waits for the next
 //! connection for as long as it takes.
 #![tactic(auto)]
 
@@ -12,6 +12,7 @@ mod closing;
 mod counts;
 mod door;
 mod fullness;
+mod hindrance;
 mod illness;
 mod link;
 mod metric;
@@ -24,6 +25,7 @@ mod recent;
 mod reports;
 mod roll;
 mod since;
+mod standstill;
 mod telling;
 mod topic;
 mod trouble;
@@ -43,6 +45,7 @@ pub use receiver::Receiver;
 pub use recent::{Line, Recent};
 pub use reports::Reports;
 pub use since::Since;
+pub use standstill::Standstill;
 pub use topic::{Matter, Topic};
 pub use trouble::{Trouble, Way};
 pub use waits::Waits;

@@ -2,7 +2,7 @@
 ghost use Rattle.std.specs.Prelude.{◌≡◌, ◌≤◌, length, IfOk};
 
 use crate::closing::close_after_peer;
-use crate::trouble::Way;
+use crate::trouble::{Way, is_reset};
 use crate::watch::Watch;
 use crate::{Reports, Waits};
 use edge_io::{Link, Object, Proto, ReadFault, Sink, Source, WriteFault};
@@ -21,6 +21,8 @@ pub struct TcpLink<'a, R> {
     place: Option<String>,
     stream: TcpStream,
     watch: Watch<'a, R>,
+    // The receiver has broken the connection off while it was written to. What it sent before can still be read.
+    is_gone: bool,
     read_errors: u64,
     write_errors: u64,
 }
@@ -61,6 +63,7 @@ impl<'a, R> TcpLink<'a, R> {
             place,
             stream,
             watch,
+            is_gone: false,
             read_errors: 0,
             write_errors: 0,
         }
@@ -237,11 +240,22 @@ impl<R: Clock + Eprint> Sink for TcpLink<'_, R> {
     /// A write to the socket, which waits for a peer that doesn't read for as long as the link's bound. A call that a signal
     /// interrupts is made again, up to 1,000 times. Each other error is a fault, and so are a wait in vain and 0 bytes for a piece
     /// that isn't empty.
+    ///
+    /// A receiver may break the connection off after it has acknowledged some of what it got. So where the link was dialed such an error is
+    /// no fault of the write: the piece is taken and goes nowhere, as one that the system has taken and not sent yet, and so are those after
+    /// it. Reads then give what the receiver sent before, and end as the connection did.
     fn write(&mut self, piece: &[u8]) -> Result<usize, WriteFault> {
+        if self.is_gone {
+            return Ok(piece.len());
+        }
         match write_on(&mut self.stream, piece) {
             Ok(n) if n > 0 || piece.is_empty() => {
                 self.watch.saw_write(piece);
                 Ok(n)
+            }
+            Err(error) if self.place.is_some() && is_reset(error.kind()) => {
+                self.is_gone = true;
+                Ok(piece.len())
             }
             outcome => {
                 self.write_errors = self.write_errors.saturating_add(1);

@@ -6,7 +6,7 @@ ghost use Rattle.edge_net.specs.TcpDoor.{state_of as door_state};
 use crate::door::Shared;
 use crate::roll::{Place, Roll};
 use crate::{Reports, TcpDoor, TcpLink, TcpMonitor, Waits};
-use edge_io::{Net, NetFault, Object, Pause};
+use edge_io::{HeldUp, Net, NetFault, Object, Pause};
 use std::alloc::{AllocError, Global};
 use std::net::{self, TcpListener, TcpStream, ToSocketAddrs};
 use std::rt::Clock;
@@ -298,6 +298,12 @@ impl<'a, R: net::Net<Stream = TcpStream, Listener = TcpListener> + Clock + Eprin
     /// Sleeps for a twentieth of a second.
     fn wait_briefly(&mut self) {
         self.wait_for(SHORT)
+    }
+
+    /// Says on standard error which entry holds the forwarding up, where the receiver refused it or the session before failed at it too,
+    /// once a minute at most.
+    fn report_held_up(&mut self, place: &str, held_up: &HeldUp) {
+        self.reports.held_up(self.rt, place, held_up);
     }
 
     ghost dialed_is_free = { λ _ _. tt };

@@ -26,6 +26,12 @@ const ENDED: Head = Head {
     kind: "counter",
 };
 
+const STORED: Head = Head {
+    name: "bridge_events_stored_total",
+    help: "Events that this run has stored, by the protocol by which they came.",
+    kind: "counter",
+};
+
 // The numbers of a spool.
 #[derive(Clone, Copy)]
 struct Spool<'a> {
@@ -108,13 +114,29 @@ impl Spool<'_> {
         let help = "Runs that the spool can have after this one.";
         write!(f, "{}", gauge("bridge_spool_runs_left", help, left))
     }
+
+    // A sample for each protocol.
+    fn write_stored<W: fmt::Write>(&self, f: &mut fmt::Formatter<W>) -> fmt::Result {
+        let (name, stored) = (STORED.name, self.numbers.stored);
+        write!(f, "{STORED}")?;
+        for (proto, times) in [
+            (Proto::Relp, stored.relp),
+            (Proto::Lumberjack, stored.lumberjack),
+            (Proto::Hec, stored.hec),
+        ] {
+            let label = label_of(Some(proto));
+            write!(f, "{name}{{protocol=\"{label}\"}} {times}\n")?;
+        }
+        Ok(())
+    }
 }
 
 impl fmt::Display for Spool<'_> {
     fn fmt<W: fmt::Write>(&self, f: &mut fmt::Formatter<W>) -> fmt::Result {
         self.write_entries(f)?;
         self.write_room(f)?;
-        self.write_runs(f)
+        self.write_runs(f)?;
+        self.write_stored(f)
     }
 }
 

@@ -2,8 +2,10 @@
 ghost use Rattle.std.specs.Prelude.{◌≡◌, true, false};
 
 use crate::counts::Counts;
+use crate::hindrance::Hindrance;
 use crate::since::millis;
-use crate::{Illness, Line, Matter, Receiver, Recent, Since, Topic};
+use crate::{Illness, Line, Matter, Receiver, Recent, Since, Standstill, Topic};
+use edge_io::HeldUp;
 use std::net::SocketAddr;
 use std::rt::Clock;
 use std::sync::Mutex;
@@ -13,13 +15,14 @@ use std::{fmt, io};
 /// What is said on standard error of the doors and links of a net, which share it, and what is counted of them.
 ///
 /// A line says what befell a sender's connection, with the peer's address: at most one a minute about the same topic, and ten a second
-/// in all. The lines count what they leave out. Others say how the receiver is, where that changes. Nothing waits for a line, and where
-/// one can't be written that isn't reported.
+/// in all. The lines count what they leave out. Others say how the receiver is, where that changes, and which entry it holds up, at most
+/// once a minute about the same one. Nothing waits for a line, and where one can't be written that isn't reported.
 #[derive(Drop)]
 pub struct Reports {
     is_quiet: bool,
     senders: Mutex<Recent>,
     receiver: Mutex<Receiver>,
+    standstill: Mutex<Standstill>,
     // How often something befell a sender's connection while another thread noted such a thing.
     overlooked: AtomicU64,
     counts: Counts,
@@ -91,6 +94,7 @@ impl Reports {
             is_quiet,
             senders: Mutex::new(Recent::new()),
             receiver: Mutex::new(Receiver::new()),
+            standstill: Mutex::new(Standstill::new()),
             overlooked: AtomicU64::new(0),
             counts: Counts::new(),
         }
@@ -191,6 +195,26 @@ impl Reports {
         Some(Failures {
             more: count.saturating_sub(1),
         })
+    }
+
+    /// That a session with the receiver at this place failed, and what holds the forwarding up.
+    pub(crate) fn held_up(&self, rt: &(impl Clock + Eprint), place: &str, held_up: &HeldUp) {
+        if !self.is_quiet && self.is_hindrance(rt, held_up) {
+            let hindrance = Hindrance { held_up };
+            let _ = eprintln!(rt; "bridge: receiver {place}: {hindrance}");
+        }
+    }
+
+    // Whether a line is to be printed about the entry, at which a session failed just now. Without a clock none is.
+    fn is_hindrance(&self, rt: &impl Clock, held_up: &HeldUp) -> bool {
+        let Ok(now) = millis(rt) else {
+            return false;
+        };
+        let is_refused = held_up.code.is_some();
+        match self.standstill.try_lock() {
+            Some(mut standstill) => standstill.fails(held_up.number, is_refused, now),
+            None => false,
+        }
     }
 
     /// That a session with the receiver at this place ended with answers and without a failure.

@@ -33,8 +33,8 @@ pub struct Topic {
     pub matter: Matter,
 }
 
-// The protocol's name.
-fn name_of(proto: Proto) -> &'static str {
+/// The protocol's name.
+pub(crate) fn name_of(proto: Proto) -> &'static str {
     match proto {
         Proto::Relp => "RELP",
         Proto::Lumberjack => "Lumberjack",

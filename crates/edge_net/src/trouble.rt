@@ -39,7 +39,7 @@ fn is_timeout(kind: ErrorKind) -> bool
 }
 
 // Whether the peer broke the connection off.
-fn is_reset(kind: ErrorKind) -> bool
+pub(crate) fn is_reset(kind: ErrorKind) -> bool
     ensures { IsTrue result ↔ IsReset kind }
 {
     matches!(kind, ErrorKind::ConnectionReset | ErrorKind::BrokenPipe)
