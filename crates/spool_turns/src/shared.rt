@@ -25,6 +25,7 @@ use crate::level::Level;
 use crate::naming::Naming;
 use crate::pass::Pass;
 use crate::rule::SeatTable;
+use crate::tally::{StoredCounts, Tally};
 use crate::turn::Turn;
 use crate::twin::{TwinTable, free};
 use desk_access::{Division, Front};
@@ -54,6 +55,7 @@ pub struct Shared<D: Disk, J: Naming> {
     pub(crate) turn: Mutex<Turn<D, J>>,
     pub(crate) journal: Mutex<Journal<D, J>>,
     pub(crate) hall: Hall<D, J>,
+    pub(crate) tally: Tally,
     pub(crate) group: bool,
     pub(crate) alloc: Global,
     pub(crate) run: u32,
@@ -96,7 +98,9 @@ impl<D: Disk, J: Naming> Shared<D, J> {
                 return self.exchange(rt, pass, copies, false).answer;
             }
         }
-        self.turn.lock(rt).take(rt, self, pass, entries)
+        let answer = self.turn.lock(rt).take(rt, self, pass, entries);
+        self.tally.note(entries, &answer);
+        answer
     }
 
     /// Takes a front of the entries as one group: as many as the active slot has room for, and the first one at least. They are of
@@ -121,6 +125,7 @@ impl<D: Disk, J: Naming> Shared<D, J> {
             return self.exchange(rt, pass, entries, true);
         }
         let (count, answer) = self.turn.lock(rt).take_front(rt, self, pass, &entries);
+        self.tally.note(&entries, &answer);
         Front {
             entries,
             count,
@@ -167,6 +172,7 @@ impl<D: Disk, J: Naming> Shared<D, J> {
         } = away;
         let answer = self.answer_for(rt, number);
         let front = collect(&self.table.shared, &mut seat, answer);
+        self.tally.note(&front.entries, &front.answer);
         (Pass { seat, number, of }, front)
     }
 
@@ -198,7 +204,9 @@ impl<D: Disk, J: Naming> Shared<D, J> {
         let letter = send(&self.table.shared, &mut pass.seat, number, entries, front);
         self.hall.leave(rt, letter);
         let answer = self.answer_for(rt, number);
-        collect(&self.table.shared, &mut pass.seat, answer)
+        let front = collect(&self.table.shared, &mut pass.seat, answer);
+        self.tally.note(&front.entries, &front.answer);
+        front
     }
 
     // The answer to what the pass of that number handed in. Where it isn't there, and nobody leads, this caller does.
@@ -380,6 +388,12 @@ impl<D: Disk, J: Naming> Shared<D, J> {
         ensures real { HasLevel ⟦<D as Disk>⟧ J.start J.run J.seats J.began result }
     {
         self.journal.lock(rt).level()
+    }
+
+    /// How many events of each protocol the takes so far have stored. Those of a take are counted when it is answered; nothing waits for
+    /// that.
+    pub fn stored(&self) -> StoredCounts {
+        self.tally.stored()
     }
 
     /// How often the spool was opened for storing.

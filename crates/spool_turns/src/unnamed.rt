@@ -15,6 +15,7 @@ use crate::pass::Pass;
 use crate::rule::{PassSeat, SeatTable};
 use crate::shared::Shared;
 use crate::steps::make_pass;
+use crate::tally::Tally;
 use crate::turn::Turn;
 use crate::twin::{TwinSeat, TwinTable, apart, free};
 use desk_access::{Access, Division};
@@ -205,6 +206,7 @@ impl<D: Disk> Unnamed<D> {
             turn: Mutex::new(turn),
             journal: Mutex::new(journal),
             hall,
+            tally: Tally::new(),
             group,
             alloc,
             run,

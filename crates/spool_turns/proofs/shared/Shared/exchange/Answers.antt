@@ -24,8 +24,8 @@ send-letter-requires g c =
       plain = c.requires.plain;
     }
 
-pub collect-requires : goal.collect-requires
-collect-requires g c =
+pub collect-front-requires : goal.collect-front-requires
+collect-front-requires g c =
     let i = c.pass.invariant in
     let s = c.send-letter.ensures in
     record {
@@ -38,30 +38,30 @@ pub invariant_of-pass : goal.invariant_of-pass
 invariant_of-pass g c =
     let i = c.pass.invariant in
     let s = c.send-letter.ensures in
-    let k = c.collect.ensures in
+    let k = c.collect-front.ensures in
     (k.table ∙ s.table ∙ i.0, k.pass.0, k.pass.1, k.pass.2 ∙ number_out _ (pass_in c.pass.inside.seat.me.0) _ _ _ s.claim i.3, i.4, k.pass.3)
 
 pub returns-clause-call : goal.returns-clause-call
 returns-clause-call g c =
     let i = c.pass.invariant in
     let s = c.send-letter.ensures in
-    let k = c.collect.ensures in
-    subst (λ (x : Known × List Entry). Calls g.J.Naming.start g.J.Naming.run g.J.Naming.seats x.0 (takes (take c.collect.result.count x.1) c.collect.result.answer) (known_of (pass_in c.collect.new.seat.me.0)))
+    let k = c.collect-front.ensures in
+    subst (λ (x : Known × List Entry). Calls g.J.Naming.start g.J.Naming.run g.J.Naming.seats x.0 (takes (take c.collect-front.result.count x.1) c.collect-front.result.answer) (known_of (pass_in c.collect-front.new.seat.me.0)))
     (λ j. ((claimed_is _ (pass_in c.pass.inside.seat.me.0) _ _ _ s.claim i.3 ∙ c.pass.view_is) j, entries_out _ (pass_in c.pass.inside.seat.me.0) _ _ _ s.claim i.3 j)) k.call
 
 pub returns-clause-same : goal.returns-clause-same
-returns-clause-same g c = c.collect.ensures.same ∙ entries_out _ (pass_in c.pass.inside.seat.me.0) _ _ _ c.send-letter.ensures.claim c.pass.invariant.3
+returns-clause-same g c = c.collect-front.ensures.same ∙ entries_out _ (pass_in c.pass.inside.seat.me.0) _ _ _ c.send-letter.ensures.claim c.pass.invariant.3
 
 pub returns-clause-front : goal.returns-clause-front
 returns-clause-front g c =
-    let k = c.collect.ensures in
-    (k.front.0, subst (λ (e : List Entry). c.collect.result.count ≤ length e) (entries_out _ (pass_in c.pass.inside.seat.me.0) _ _ _ c.send-letter.ensures.claim c.pass.invariant.3) k.front.1)
+    let k = c.collect-front.ensures in
+    (k.front.0, subst (λ (e : List Entry). c.collect-front.result.count ≤ length e) (entries_out _ (pass_in c.pass.inside.seat.me.0) _ _ _ c.send-letter.ensures.claim c.pass.invariant.3) k.front.1)
 
 pub returns-clause-whole : goal.returns-clause-whole
 returns-clause-whole g c =
     let i = c.pass.invariant.3 in
     let claim = c.send-letter.ensures.claim in
-    λ whole. subst (λ (e : List Entry). c.collect.result.count ≡ length e) (entries_out _ (pass_in c.pass.inside.seat.me.0) _ _ _ claim i) (c.collect.ensures.whole (front_out _ (pass_in c.pass.inside.seat.me.0) _ _ _ claim i ∙ whole))
+    λ whole. subst (λ (e : List Entry). c.collect-front.result.count ≡ length e) (entries_out _ (pass_in c.pass.inside.seat.me.0) _ _ _ claim i) (c.collect-front.ensures.whole (front_out _ (pass_in c.pass.inside.seat.me.0) _ _ _ claim i ∙ whole))
 
 pub returns-clause-alone : goal.returns-clause-alone
-returns-clause-alone g c = λ front. c.collect.ensures.alone (front_out _ (pass_in c.pass.inside.seat.me.0) _ _ _ c.send-letter.ensures.claim c.pass.invariant.3 ∙ front)
+returns-clause-alone g c = λ front. c.collect-front.ensures.alone (front_out _ (pass_in c.pass.inside.seat.me.0) _ _ _ c.send-letter.ensures.claim c.pass.invariant.3 ∙ front)
