@@ -1,6 +1,6 @@
 -- Looks one after another: the calls that they made on the desk, the links that the net reports, and its counts of faults.
 use Rattle.std.proofs.Common.{◌≡◌, ◌⊎◌, inl, inr, ◌∙◌, ℕ, ◌≤◌, List, [], ◌∷◌, ◌++◌, length, refl, sym, ap, subst, append_assoc, arith}
-use Rattle.std.specs.Prelude.{Option, Some, None, Result, Err}
+use Rattle.std.specs.Prelude.{Option, Some, None, Err}
 use Rattle.std.specs.List.{AllZip}
 use Rattle.std.specs.Io.KnownBytes.{IsAtEnd}
 use Rattle.std.proofs.lemmas.List.{append-nil}
@@ -8,8 +8,6 @@ use Rattle.edge_io.specs.Net.{HungUp, NetState, HasNetCause}
 use Rattle.edge_io.specs.Told.{Adds}
 use Rattle.edge_io.specs.declared.net_fault.NetFault.{NetFault}
 use Rattle.edge_io.specs.declared.net_fault.NetFault.TheVariants.{Fault, NoMemory}
-use Rattle.spool_answers.specs.declared.fault.PendFault.{PendFault}
-use Rattle.spool_answers.specs.declared.numbered.Numbered.{Numbered}
 use Rattle.desk_access.specs.Call.{pends}
 use Rattle.desk_access.specs.Desk.{DeskState}
 use Rattle.forward_core.specs.Protocols.{HintsAs}
@@ -17,22 +15,23 @@ use Rattle.forward_core.specs.declared.outward.Outward.{Outward}
 use Rattle.forward_core.specs.declared.sent.Sent.TheVariants.{PeerClosed}
 use Rattle.spool_turns.specs.Passes.{Known}
 use Rattle.spool_turns.specs.Ran.{Ran, ran_none, ran_more}
+use Rattle.serve_forwarder.specs.declared.destination.Destination.{Destination}
 use Rattle.serve_forwarder.specs.Sessions.{Session, IsHeld, TellsSession, TellsSessions}
-use Rattle.serve_forwarder.specs.Looks.{Found, Idle, Unread, Undialed, Held, Look, held_in, sessions_of, calls_found, calls_at, calls_of, first_of, upto_of, IsFound, IsToldBy, IsLook, AreLooks}
+use Rattle.serve_forwarder.specs.Looks.{Forwarder, Found, Idle, Unread, Undialed, Held, Look, forwarder_at, held_in, sessions_of, calls_found, calls_at, calls_of, first_of, upto_of, IsFound, IsToldBy, IsLook, AreLooks}
 use Rattle.serve_forwarder.specs.Laws.{KeepsCounts}
 
 -- ---- one after another
 
 -- some looks, and then others
-pub looks_then : (start : DeskState → Type 0) (outward : Outward) (place : List ℕ) (looks more : List Look) (a b c : Known) (m n o : NetState)
-    → AreLooks start outward place looks a b m n → AreLooks start outward place more b c n o → AreLooks start outward place (looks ++ more) a c m o
-looks_then start outward place [] more a b c m n o p q = subst (λ (t : Known × NetState). AreLooks start outward place more t.0 c t.1 o) (λ i. (p.0 i, p.1 i)) q
-looks_then start outward place (look ∷ looks) more a b c m n o p q = (p.0, p.1, p.2, looks_then start outward place looks more p.0 b c p.1 n o p.3 q)
+pub looks_then : (start : DeskState → Type 0) (destination : Destination) (looks more : List Look) (a b c : Forwarder)
+    → AreLooks start destination looks a b → AreLooks start destination more b c → AreLooks start destination (looks ++ more) a c
+looks_then start destination [] more a b c p q = subst (λ (t : Forwarder). AreLooks start destination more t c) (λ i. forwarder_at (p.0 i) (p.1 i)) q
+looks_then start destination (look ∷ looks) more a b c p q = (p.0, p.1, looks_then start destination looks more p.0 b c p.2 q)
 
 -- one look more
-pub look_more : (start : DeskState → Type 0) (outward : Outward) (place : List ℕ) (looks : List Look) (look : Look) (a b c : Known) (m n o : NetState)
-    → AreLooks start outward place looks a b m n → IsLook start outward place look b c n o → AreLooks start outward place (looks ++ look ∷ []) a c m o
-look_more start outward place looks look a b c m n o p q = looks_then start outward place looks (look ∷ []) a b c m n o p (c, o, q, (refl, refl))
+pub look_more : (start : DeskState → Type 0) (destination : Destination) (looks : List Look) (look : Look) (a b c : Forwarder)
+    → AreLooks start destination looks a b → IsLook start destination look b c → AreLooks start destination (looks ++ look ∷ []) a c
+look_more start destination looks look a b c p q = looks_then start destination looks (look ∷ []) a b c p (c, q, (refl, refl))
 
 -- ---- the calls
 
@@ -43,23 +42,23 @@ held_ran start outward upto one pass pass' h =
 same_ran : (start : DeskState → Type 0) (pass pass' : Known) → pass' ≡ pass → Ran start pass [] pass'
 same_ran start pass pass' same = subst (Ran start pass []) (sym same) (ran_none start pass)
 
-found_ran : (start : DeskState → Type 0) (outward : Outward) (upto : Option ℕ) (given : Result (List Numbered) PendFault) (found : Found) (pass pass' : Known) → IsFound start outward upto given found pass pass' → Ran start pass (calls_found found) pass'
-found_ran start outward upto given Idle pass pass' f = same_ran start pass pass' f.1
-found_ran start outward upto given (Unread _) pass pass' f = same_ran start pass pass' f.1
-found_ran start outward upto given (Undialed _) pass pass' f = same_ran start pass pass' f.1
-found_ran start outward upto given (Held one) pass pass' f = held_ran start outward upto one pass pass' f.1
+found_ran : (start : DeskState → Type 0) (outward : Outward) (look : Look) (found : Found) (pass pass' : Known) → IsFound start outward look found pass pass' → Ran start pass (calls_found found) pass'
+found_ran start outward look Idle pass pass' f = same_ran start pass pass' f.1
+found_ran start outward look (Unread _) pass pass' f = same_ran start pass pass' f.1
+found_ran start outward look (Undialed _) pass pass' f = same_ran start pass pass' f.1
+found_ran start outward look (Held one) pass pass' f = held_ran start outward (upto_of look.offer (first_of look.given)) one pass pass' f.1
 
-pub look_is_ran : (start : DeskState → Type 0) (outward : Outward) (place : List ℕ) (look : Look) (pass pass' : Known) (net net' : NetState)
-    → IsLook start outward place look pass pass' net net' → Ran start pass (calls_at look) pass'
-look_is_ran start outward place look pass pass' net net' l =
-    ran_more start pass l.asked pass' (pends 0 1 look.given ∷ []) (calls_found look.found) l.asks (found_ran start outward (upto_of look.offer (first_of look.given)) look.given look.found l.asked pass' l.found)
+pub look_is_ran : (start : DeskState → Type 0) (destination : Destination) (look : Look) (old new : Forwarder)
+    → IsLook start destination look old new → Ran start old.pass (calls_at look) new.pass
+look_is_ran start destination look old new l =
+    ran_more start old.pass l.asked new.pass (pends 0 1 look.given ∷ []) (calls_found look.found) l.asks (found_ran start destination.outward look look.found l.asked new.pass l.found)
 
 -- the calls of looks lead the pass from the one moment to the other
-pub looks_are_ran : (start : DeskState → Type 0) (outward : Outward) (place : List ℕ) (looks : List Look) (pass pass' : Known) (net net' : NetState)
-    → AreLooks start outward place looks pass pass' net net' → Ran start pass (calls_of looks) pass'
-looks_are_ran start outward place [] pass pass' net net' a = same_ran start pass pass' a.0
-looks_are_ran start outward place (look ∷ looks) pass pass' net net' a =
-    ran_more start pass a.0 pass' (calls_at look) (calls_of looks) (look_is_ran start outward place look pass a.0 net a.1 a.2) (looks_are_ran start outward place looks a.0 pass' a.1 net' a.3)
+pub looks_are_ran : (start : DeskState → Type 0) (destination : Destination) (looks : List Look) (old new : Forwarder)
+    → AreLooks start destination looks old new → Ran start old.pass (calls_of looks) new.pass
+looks_are_ran start destination [] old new a = same_ran start old.pass new.pass a.0
+looks_are_ran start destination (look ∷ looks) old new a =
+    ran_more start old.pass a.0.pass new.pass (calls_at look) (calls_of looks) (look_is_ran start destination look old a.0 a.1) (looks_are_ran start destination looks a.0 new a.2)
 
 -- ---- the links
 
@@ -90,11 +89,11 @@ found_told place (Undialed _) net net' t = tells_none place net.hung net'.hung t
 found_told place (Held one) net net' t = tells_one place one net.hung net'.hung t.hung
 
 -- what the net reports more is the links of the sessions of the looks, in order
-pub looks_are_told : (start : DeskState → Type 0) (outward : Outward) (place : List ℕ) (looks : List Look) (pass pass' : Known) (net net' : NetState)
-    → AreLooks start outward place looks pass pass' net net' → TellsSessions place (sessions_of looks) net.hung net'.hung
-looks_are_told start outward place [] pass pass' net net' a = tells_none place net.hung net'.hung (ap (λ (n : NetState). n.hung) a.1)
-looks_are_told start outward place (look ∷ looks) pass pass' net net' a =
-    tells_then place (held_in look.found) (sessions_of looks) net.hung a.1.hung net'.hung (found_told place look.found net a.1 a.2.told) (looks_are_told start outward place looks a.0 pass' a.1 net' a.3)
+pub looks_are_told : (start : DeskState → Type 0) (destination : Destination) (looks : List Look) (old new : Forwarder)
+    → AreLooks start destination looks old new → TellsSessions destination.place (sessions_of looks) old.net.hung new.net.hung
+looks_are_told start destination [] old new a = tells_none destination.place old.net.hung new.net.hung (ap (λ (n : NetState). n.hung) a.1)
+looks_are_told start destination (look ∷ looks) old new a =
+    tells_then destination.place (held_in look.found) (sessions_of looks) old.net.hung a.0.net.hung new.net.hung (found_told destination.place look.found old.net a.0.net a.1.told) (looks_are_told start destination looks a.0 new a.2)
 
 -- ---- counts of faults
 
@@ -112,12 +111,12 @@ found_counts place (Undialed why) net net' t = record { net_faults = dial_counts
 found_counts place (Held one) net net' t = record { net_faults = omega (arith, t.net_faults); reads = t.reads.later; writes = t.writes.later }
 
 -- over looks no count of faults falls
-pub looks_keep_counts : (start : DeskState → Type 0) (outward : Outward) (place : List ℕ) (looks : List Look) (pass pass' : Known) (net net' : NetState)
-    → AreLooks start outward place looks pass pass' net net' → KeepsCounts net net'
-looks_keep_counts start outward place [] pass pass' net net' a = counts_stay net net' a.1
-looks_keep_counts start outward place (look ∷ looks) pass pass' net net' a =
-    let here = found_counts place look.found net a.1 a.2.told in
-    let more = looks_keep_counts start outward place looks a.0 pass' a.1 net' a.3 in
+pub looks_keep_counts : (start : DeskState → Type 0) (destination : Destination) (looks : List Look) (old new : Forwarder)
+    → AreLooks start destination looks old new → KeepsCounts old.net new.net
+looks_keep_counts start destination [] old new a = counts_stay old.net new.net a.1
+looks_keep_counts start destination (look ∷ looks) old new a =
+    let here = found_counts destination.place look.found old.net a.0.net a.1.told in
+    let more = looks_keep_counts start destination looks a.0 new a.2 in
     record { net_faults = omega (arith, here.net_faults, more.net_faults); reads = omega (arith, here.reads, more.reads); writes = omega (arith, here.writes, more.writes) }
 
 -- ---- doors
@@ -129,16 +128,16 @@ found_binds_none place (Undialed why) net net' t = t.2
 found_binds_none place (Held one) net net' t = t.bound
 
 -- a look binds no door
-pub look_binds_none : (start : DeskState → Type 0) (outward : Outward) (place : List ℕ) (look : Look) (pass pass' : Known) (net net' : NetState)
-    → IsLook start outward place look pass pass' net net' → net'.bound ≡ net.bound
-look_binds_none start outward place look pass pass' net net' l = found_binds_none place look.found net net' l.told
+pub look_binds_none : (start : DeskState → Type 0) (destination : Destination) (look : Look) (old new : Forwarder)
+    → IsLook start destination look old new → new.net.bound ≡ old.net.bound
+look_binds_none start destination look old new l = found_binds_none destination.place look.found old.net new.net l.told
 
 -- nor do looks one after another
-pub looks_bind_none : (start : DeskState → Type 0) (outward : Outward) (place : List ℕ) (looks : List Look) (pass pass' : Known) (net net' : NetState)
-    → AreLooks start outward place looks pass pass' net net' → net'.bound ≡ net.bound
-looks_bind_none start outward place [] pass pass' net net' a = ap (λ (n : NetState). n.bound) a.1
-looks_bind_none start outward place (look ∷ looks) pass pass' net net' a =
-    looks_bind_none start outward place looks a.0 pass' a.1 net' a.3 ∙ look_binds_none start outward place look pass a.0 net a.1 a.2
+pub looks_bind_none : (start : DeskState → Type 0) (destination : Destination) (looks : List Look) (old new : Forwarder)
+    → AreLooks start destination looks old new → new.net.bound ≡ old.net.bound
+looks_bind_none start destination [] old new a = ap (λ (n : NetState). n.bound) a.1
+looks_bind_none start destination (look ∷ looks) old new a =
+    looks_bind_none start destination looks a.0 new a.2 ∙ look_binds_none start destination look old a.0 a.1
 
 -- ---- ends of input
 

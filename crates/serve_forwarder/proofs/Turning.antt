@@ -1,5 +1,5 @@
 -- What looks offer, one after another.
-use Rattle.std.proofs.Common.{◌≡◌, ◌∙◌, ℕ, List, [], ◌∷◌, ◌++◌, refl, sym, subst}
+use Rattle.std.proofs.Common.{◌≡◌, ℕ, List, [], ◌∷◌, ◌++◌, refl}
 use Rattle.std.specs.Prelude.{Option}
 use Rattle.serve_forwarder.specs.Looks.{Look, first_of, offer_at, stuck_after, AreInTurn}
 

@@ -7,18 +7,19 @@ use Rattle.forward_core.specs.declared.outward.Outward.{Outward}
 use Rattle.forward_core.specs.declared.sent.Sent.TheVariants.{PeerClosed}
 use Rattle.spool_turns.specs.Passes.{Known}
 use Rattle.spool_turns.specs.Ran.{Ran}
+use Rattle.serve_forwarder.specs.declared.destination.Destination.{Destination}
 use Rattle.serve_forwarder.specs.Sessions.{Session, IsHeld, TellsSession, TellsSessions}
-use Rattle.serve_forwarder.specs.Looks.{Look, AreLooks, calls_of, sessions_of}
+use Rattle.serve_forwarder.specs.Looks.{Forwarder, Look, AreLooks, calls_of, sessions_of}
 
 -- the calls of looks, joined, lead the pass from the one moment to the other
 abbrev pub LooksCall : (DeskState → Type 0) → Type 0
-LooksCall start = (outward : Outward) (place : List ℕ) (looks : List Look) (pass pass' : Known) (net net' : NetState)
-    → AreLooks start outward place looks pass pass' net net' → Ran start pass (calls_of looks) pass'
+LooksCall start = (destination : Destination) (looks : List Look) (old new : Forwarder)
+    → AreLooks start destination looks old new → Ran start old.pass (calls_of looks) new.pass
 
 -- what the net reports more is the links of the sessions of the looks
 abbrev pub LooksTell : (DeskState → Type 0) → Type 0
-LooksTell start = (outward : Outward) (place : List ℕ) (looks : List Look) (pass pass' : Known) (net net' : NetState)
-    → AreLooks start outward place looks pass pass' net net' → TellsSessions place (sessions_of looks) net.hung net'.hung
+LooksTell start = (destination : Destination) (looks : List Look) (old new : Forwarder)
+    → AreLooks start destination looks old new → TellsSessions destination.place (sessions_of looks) old.net.hung new.net.hung
 
 -- no count of faults of the net fell
 pub record KeepsCounts (net net' : NetState) : Type 0 where
@@ -27,13 +28,13 @@ pub record KeepsCounts (net net' : NetState) : Type 0 where
   pub writes : net.write_faults ≤ net'.write_faults
 
 abbrev pub LooksKeepCounts : (DeskState → Type 0) → Type 0
-LooksKeepCounts start = (outward : Outward) (place : List ℕ) (looks : List Look) (pass pass' : Known) (net net' : NetState)
-    → AreLooks start outward place looks pass pass' net net' → KeepsCounts net net'
+LooksKeepCounts start = (destination : Destination) (looks : List Look) (old new : Forwarder)
+    → AreLooks start destination looks old new → KeepsCounts old.net new.net
 
 -- what the net tells of the doors that were bound stays
 abbrev pub LooksBindNone : (DeskState → Type 0) → Type 0
-LooksBindNone start = (outward : Outward) (place : List ℕ) (looks : List Look) (pass pass' : Known) (net net' : NetState)
-    → AreLooks start outward place looks pass pass' net net' → net'.bound ≡ net.bound
+LooksBindNone start = (destination : Destination) (looks : List Look) (old new : Forwarder)
+    → AreLooks start destination looks old new → new.net.bound ≡ old.net.bound
 
 -- Where a session ended as the peer closed it, the peer's bytes say so, or no byte of its link is left unread.
 abbrev pub ClosedIsReadOut : (DeskState → Type 0) → Type 0

@@ -2,3 +2,4 @@ pub mod Sessions
 pub mod Looks
 pub mod Released
 pub mod Laws
+pub mod Held

@@ -12,9 +12,19 @@ use Rattle.forward_core.specs.declared.sent.Sent.{Sent}
 use Rattle.forward_core.specs.declared.sent.Sent.TheVariants.{Drained}
 use Rattle.spool_turns.specs.Passes.{Known}
 use Rattle.spool_turns.specs.Ran.{Ran}
+use Rattle.serve_forwarder.specs.declared.destination.Destination.{Destination}
+use Rattle.serve_forwarder.specs.declared.looking.Looked.{Looked}
 use Rattle.serve_forwarder.specs.declared.looking.Outcome.{Outcome}
 use Rattle.serve_forwarder.specs.declared.looking.Outcome.TheVariants as outcome
 use Rattle.serve_forwarder.specs.Sessions.{Session, IsHeld, HangsUp}
+
+-- A forwarder at one moment: what its pass knows, and what its net tells.
+pub record Forwarder : Type 0 where
+  pub pass : Known
+  pub net : NetState
+
+abbrev pub forwarder_at : Known → NetState → Forwarder
+forwarder_at pass net = record { pass = pass; net = net }
 
 -- What came of a look: nothing was pending; the desk refused to say; the dial of the place failed; or this session was held.
 pub data Found : Type 0 where
@@ -78,13 +88,13 @@ IsPending (Ok []) = ⊥
 IsPending (Ok (one ∷ given)) = Unit {0}
 IsPending (Err fault) = ⊥
 
--- By the desk's answer this came of a look, and led the pass from one moment to another. The place is dialed, and a session held, only
--- where an entry is pending. The session ends at the desk's end, or at the number given, where that is less.
-abbrev pub IsFound : (DeskState → Type 0) → Outward → Option ℕ → Result (List Numbered) PendFault → Found → Known → Known → Type 0
-IsFound start outward upto given Idle pass pass' = (given ≡ Ok []) × (pass' ≡ pass)
-IsFound start outward upto given (Unread fault) pass pass' = (given ≡ Err fault) × (pass' ≡ pass)
-IsFound start outward upto given (Undialed _) pass pass' = IsPending given × (pass' ≡ pass)
-IsFound start outward upto given (Held one) pass pass' = IsPending given × IsHeld start outward upto one pass pass'
+-- By the desk's answer this came of the look, and led the pass from one moment to another. The place is dialed, and a session held,
+-- only where an entry is pending. The session ends at the desk's end, or at the number that the look's offer gives, where that is less.
+abbrev pub IsFound : (DeskState → Type 0) → Outward → Look → Found → Known → Known → Type 0
+IsFound start outward look Idle pass pass' = (look.given ≡ Ok []) × (pass' ≡ pass)
+IsFound start outward look (Unread fault) pass pass' = (look.given ≡ Err fault) × (pass' ≡ pass)
+IsFound start outward look (Undialed _) pass pass' = IsPending look.given × (pass' ≡ pass)
+IsFound start outward look (Held one) pass pass' = IsPending look.given × IsHeld start outward (upto_of look.offer (first_of look.given)) one pass pass'
 
 -- A dial failed: no link is added to those hung up, and the count of binds and dials that failed rose, unless memory was wanting. No
 -- door was bound.
@@ -99,19 +109,18 @@ IsToldBy place (Unread fault) net net' = net' ≡ net
 IsToldBy place (Undialed fault) net net' = FailsDial fault net net'
 IsToldBy place (Held one) net net' = HangsUp place one net net'
 
--- One look, which led the pass and the net from one moment to another.
-pub record IsLook (start : DeskState → Type 0) (outward : Outward) (place : List ℕ) (look : Look) (pass pass' : Known) (net net' : NetState) : Type 0 where
+-- One look, which led the forwarder from one moment to another.
+pub record IsLook (start : DeskState → Type 0) (destination : Destination) (look : Look) (old new : Forwarder) : Type 0 where
   pub asked : Known
-  pub asks : Ran start pass (pends 0 1 look.given ∷ []) asked
-  pub found : IsFound start outward (upto_of look.offer (first_of look.given)) look.given look.found asked pass'
-  pub told : IsToldBy place look.found net net'
+  pub asks : Ran start old.pass (pends 0 1 look.given ∷ []) asked
+  pub found : IsFound start destination.outward look look.found asked new.pass
+  pub told : IsToldBy destination.place look.found old.net new.net
 
 -- looks one after another
-abbrev pub AreLooks : (DeskState → Type 0) → Outward → List ℕ → List Look → Known → Known → NetState → NetState → Type 0
-AreLooks start outward place [] pass pass' net net' = (pass' ≡ pass) × (net' ≡ net)
-AreLooks start outward place (look ∷ looks) pass pass' net net' =
-    (between : Known) × (net_between : NetState) × IsLook start outward place look pass between net net_between
-    × AreLooks start outward place looks between pass' net_between net'
+abbrev pub AreLooks : (DeskState → Type 0) → Destination → List Look → Forwarder → Forwarder → Type 0
+AreLooks start destination [] old new = (new.pass ≡ old.pass) × (new.net ≡ old.net)
+AreLooks start destination (look ∷ looks) old new =
+    (between : Forwarder) × IsLook start destination look old between × AreLooks start destination looks between new
 
 -- ---- what looks offer, one after another
 
@@ -141,3 +150,11 @@ offer_at (Some stuck) (Some first) = if stuck == first then First else Every
 abbrev pub AreInTurn : Option ℕ → List Look → Type 0
 AreInTurn stuck [] = Unit {0}
 AreInTurn stuck (look ∷ looks) = (look.offer ≡ offer_at stuck (first_of look.given)) × AreInTurn (stuck_after stuck look) looks
+
+-- Looks that are stuck there, if they are anywhere, looked once more, and this came of it.
+pub record LooksOnce (start : DeskState → Type 0) (destination : Destination) (stuck : Option ℕ) (old new : Forwarder) (looked : Looked) : Type 0 where
+  pub look : Look
+  pub is_look : IsLook start destination look old new
+  pub offers : look.offer ≡ offer_at stuck (first_of look.given)
+  pub outcome_is : looked.outcome ≡ outcome_of look.found
+  pub stuck_is : looked.stuck ≡ stuck_after stuck look

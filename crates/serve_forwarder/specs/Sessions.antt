@@ -15,6 +15,7 @@ use Rattle.forward_core.specs.declared.sent.Sent.{Sent}
 use Rattle.forward_core.specs.declared.sent.Sent.TheVariants.{ReadFault, WriteFault}
 use Rattle.spool_turns.specs.Passes.{Known}
 use Rattle.spool_turns.specs.Ran.{Ran}
+use Rattle.serve_forwarder.specs.declared.destination.Destination.{Destination}
 
 -- A session: it was to send the entries with numbers from `start` on and below `until`. The bytes read, the calls made on the desk,
 -- the text written, the bytes that the link's input has left unread, where it says so, and the ending.
@@ -29,25 +30,38 @@ pub record Session : Type 0 where
 
 -- ---- on the desk
 
+-- A caller of a desk: which calls of it lead from one moment to another, the cursor and the end that it knows, and what it has seen.
+pub record CallerOf (A : Type 0) : Type 1 where
+  pub ran : A → List Call → A → Type 0
+  pub cursor_known : A → ℕ
+  pub end_known : A → ℕ
+  pub seen : A → DeskState → List Record → Type 0
+
+abbrev pub caller_by : {A : Type 0} → (A → List Call → A → Type 0) → (A → ℕ) → (A → ℕ) → (A → DeskState → List Record → Type 0) → CallerOf A
+caller_by ran cursor_known end_known seen = record { ran = ran; cursor_known = cursor_known; end_known = end_known; seen = seen }
+
 -- A caller of a desk held the session, which led it from one moment to another. It asked for the cursor, where the session starts, and
 -- for the end. The session ends there, or at the number that it was given, where that is less. For the entries between them the protocol
 -- allows these bytes, calls and text with this ending.
-pub record IsHeldBy {A : Type 0} (ran : A → List Call → A → Type 0) (cursor_known end_known : A → ℕ) (seen : A → DeskState → List Record → Type 0)
-    (outward : Outward) (upto : Option ℕ) (one : Session) (old new : A) : Type 0 where
+pub record IsHeldBy {A : Type 0} (caller : CallerOf A) (outward : Outward) (upto : Option ℕ) (one : Session) (old new : A) : Type 0 where
   pub begun : A
   pub end : ℕ
-  pub asked : Asked ran cursor_known end_known seen old one.start end begun
+  pub asked : Asked caller.ran caller.cursor_known caller.end_known caller.seen old one.start end begun
   pub until_is : one.until ≡ until_by upto end
-  pub made : ran begun one.calls new
+  pub made : caller.ran begun one.calls new
   pub ended : Ended (EndsAs (settings_as outward) outward.proto) (HintsAs outward.proto) one.left one.until one.sent one.start one.bytes one.calls one.text
 
 -- a pass has seen this of a desk: that it was given in this state, one of those in which it may have been, and the journal since
 abbrev pub Saw : (DeskState → Type 0) → Known → DeskState → List Record → Type 0
 Saw start pass x journal = start x × IsDesk x × (journal ≡ pass.seen)
 
--- the caller that has the pass held the session
+-- the caller that has a pass
+abbrev pub caller_of : (DeskState → Type 0) → CallerOf Known
+caller_of start = caller_by (Ran start) (λ known. known.cursor_known) (λ known. known.end_known) (Saw start)
+
+-- it held the session
 abbrev pub IsHeld : (DeskState → Type 0) → Outward → Option ℕ → Session → Known → Known → Type 0
-IsHeld start outward upto one pass pass' = IsHeldBy (Ran start) (λ known. known.cursor_known) (λ known. known.end_known) (Saw start) outward upto one pass pass'
+IsHeld start outward upto one pass pass' = IsHeldBy (caller_of start) outward upto one pass pass'
 
 -- ---- on the net
 
@@ -78,3 +92,13 @@ pub record HangsUp (place : List ℕ) (one : Session) (net net' : NetState) : Ty
   pub writes : RoseBy (one.sent ≡ WriteFault) net.write_faults net'.write_faults
   pub net_faults : net'.net_faults ≡ net.net_faults
   pub bound : net'.bound ≡ net.bound
+
+-- ---- on both
+
+-- A caller held a session that ended so, over a link that was dialed at the destination's place and hung up. Each moment is what the
+-- caller was then, and what its net told.
+pub record Holds {A : Type 0} (caller : CallerOf A) (destination : Destination) (upto : Option ℕ) (old new : A × NetState) (sent : Sent) : Type 0 where
+  pub one : Session
+  pub held : IsHeldBy caller destination.outward upto one old.0 new.0
+  pub hung : HangsUp destination.place one old.1 new.1
+  pub sent_is : sent ≡ one.sent

@@ -2,7 +2,7 @@
 ghost use Rattle.std.specs.Prelude.{◌≡◌, ◌+◌, ◌*◌, ◌<◌, List, None, min};
 ghost use Rattle.forward_core.specs.Exchanged.{HasExchangedAt};
 ghost use Rattle.spool_turns.specs.Replays.{IsReal};
-ghost use Rattle.serve_forwarder.specs.Looks.{AreInTurn, AreLooks, Look};
+ghost use Rattle.serve_forwarder.specs.Looks.{AreInTurn, AreLooks, Look, forwarder_at};
 ghost use Rattle.serve_forwarder.specs.Released.{MayRelease};
 
 use crate::Destination;
@@ -95,8 +95,8 @@ pub fn forward_beside<N: Net, D: Disk, J: Naming, R: Wait>(
     requires earned { MayRelease (IsReal D.Disk J.start J.run J.seats J.began) J.start destination.now.outward
         (HasExchangedAt N.L.same N.L.dialed N.L.given N.L.taken destination.now.place) D.may_release }
 
-    ensures { (looks : List Look) × AreLooks J.start destination.now.outward destination.now.place looks seated.old.pass seated.new.pass
-        (N.told net.old) (N.told net.new) × AreInTurn None looks }
+    ensures { (looks : List Look) × AreLooks J.start destination.now looks (forwarder_at seated.old.pass (N.told net.old))
+        (forwarder_at seated.new.pass (N.told net.new)) × AreInTurn None looks }
 {
     let rt = seated.rt;
     let mut stuck = None;

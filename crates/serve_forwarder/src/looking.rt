@@ -1,14 +1,13 @@
 //! One look at what is pending.
 ghost use Rattle.std.specs.Prelude.{◌≡◌, ◌+◌, ◌<◌, ◌^◌, Ok, Some, IfOk, IfErr};
-ghost use Rattle.forward_core.specs.Acknowledged as session;
-ghost use Rattle.forward_core.specs.Exchanged.{HasExchangedAt, IsNewAt};
-ghost use Rattle.forward_core.specs.Protocols.{EndsAs, settings_as};
+ghost use Rattle.forward_core.specs.Exchanged.{HasExchangedAt};
 ghost use Rattle.spool_turns.specs.Replays.{IsReal};
-ghost use Rattle.serve_forwarder.specs.Sessions.{Session, IsHeldBy, HangsUp};
-ghost use Rattle.serve_forwarder.specs.Looks.{FailsDial, IsLook, Look, first_of, offer_at, outcome_of, stuck_after, stuck_from, upto_of};
-ghost use Rattle.serve_forwarder.specs.Released.{MayRelease};
+ghost use Rattle.serve_forwarder.specs.Sessions.{Holds, caller_by};
+ghost use Rattle.serve_forwarder.specs.Looks.{FailsDial, LooksOnce, first_of, forwarder_at, offer_at, stuck_from, upto_of};
+ghost use Rattle.serve_forwarder.specs.Released.{MayEarn, MayRelease, link_by};
 
 use crate::Destination;
+use crate::held::report_held_up;
 use desk_access::Access;
 use edge_disk::Disk;
 use edge_io::{Net, NetFault};
@@ -85,12 +84,11 @@ fn hold<N: Net, A: Access>(
     requires confirms { A.may_confirm access.old }
     requires polls { 0 < destination.now.outward.polls }
     requires named { N.may_dial destination.now.place }
-    requires earned { (link : N.L) → IsNewAt destination.now.place (N.L.dialed link) (N.L.given link) (N.L.taken link)
-        → session.MayRelease upto A.ran A.cursor_known A.end_known A.seen access.old N.L.same N.L.given N.L.taken link
-        (EndsAs (settings_as destination.now.outward) destination.now.outward.proto) A.may_release }
+    requires earned { MayEarn (caller_by A.ran A.cursor_known A.end_known A.seen) (link_by N.L.same N.L.dialed N.L.given N.L.taken)
+        destination.now upto access.old A.may_release }
 
-    ensures held { IfOk result (λ sent. (one : Session) × IsHeldBy A.ran A.cursor_known A.end_known A.seen destination.now.outward upto one access.old access.new
-        × HangsUp destination.now.place one (N.told net.old) (N.told net.new) × (sent ≡ one.sent)) }
+    ensures held { IfOk result (λ sent. Holds (caller_by A.ran A.cursor_known A.end_known A.seen) destination.now upto
+        (access.old, N.told net.old) (access.new, N.told net.new) sent) }
     ensures undialed { IfErr result (λ fault. (access.new ≡ access.old) × FailsDial fault (N.told net.old) (N.told net.new)) }
 {
     let mut link = match net.dial(destination.place.as_str()) {
@@ -110,6 +108,9 @@ fn hold<N: Net, A: Access>(
 /// the session offers it alone; so a receiver that refuses it gets one event, and not all that wait behind it, each time. Else all are
 /// offered. What comes back says where the looks are stuck now: where nothing is pending, or the session ended as `Drained`, at no entry;
 /// after any other session at the entry that was pending first; and without a session as before.
+///
+/// After a session that offered one entry alone and did not end as `Drained` the net is told that this entry holds the forwarding up, how
+/// long its text is by the destination's protocol, and the code with which the peer refused it, where it did.
 ///
 /// The pass is the one that may confirm, which has the greatest number. The destination's place is one that may be dialed. `polls` of
 /// the destination, above 0, is how often at most a collector is asked whether a request is acknowledged.
@@ -133,8 +134,8 @@ pub fn look<N: Net, D: Disk, J: Naming, R: Wait>(
     requires earned { MayRelease (IsReal D.Disk J.start J.run J.seats J.began) J.start destination.now.outward
         (HasExchangedAt N.L.same N.L.dialed N.L.given N.L.taken destination.now.place) D.may_release }
 
-    ensures { (one : Look) × IsLook J.start destination.now.outward destination.now.place one seated.old.pass seated.new.pass (N.told net.old) (N.told net.new)
-        × (one.offer ≡ offer_at stuck (first_of one.given)) × (result.outcome ≡ outcome_of one.found) × (result.stuck ≡ stuck_after stuck one) }
+    ensures { LooksOnce J.start destination.now stuck (forwarder_at seated.old.pass (N.told net.old))
+        (forwarder_at seated.new.pass (N.told net.new)) result }
 {
     let given = match seated.pending(0, 1) {
         Ok(given) => given,
@@ -156,10 +157,13 @@ pub fn look<N: Net, D: Disk, J: Naming, R: Wait>(
     };
     let upto = upto_at(stuck, first);
     match hold(alloc, destination, upto, net, seated) {
-        Ok(sent) => Looked {
-            outcome: Outcome::Held(sent),
-            stuck: stuck_from(sent, first),
-        },
+        Ok(sent) => {
+            report_held_up(alloc, destination, &given, upto, sent, net);
+            Looked {
+                outcome: Outcome::Held(sent),
+                stuck: stuck_from(sent, first),
+            }
+        }
         Err(fault) => Looked {
             outcome: Outcome::Undialed(fault),
             stuck,

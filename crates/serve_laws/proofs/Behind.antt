@@ -14,7 +14,8 @@ use Rattle.spool_turns.specs.Passes.{Known, Stands}
 use Rattle.spool_turns.specs.Ran.{Ran}
 use Rattle.spool_turns.specs.Replays.{HasNumber}
 use Rattle.serve_workers.specs.declared.worker.WorkerReport.{WorkerReport}
-use Rattle.serve_workers.specs.Crews.{AreNew, HaveWorked}
+use Rattle.serve_workers.specs.Crews.{AreNew, HaveWorked, returned_as, roster_as}
+use Rattle.serve_workers.specs.Works.{dismissed_as, posted_as}
 use Rattle.serve_laws.proofs.Parts.{AsLong}
 
 -- ---- passes that were new
@@ -25,10 +26,10 @@ HaveRun start number [] = Unit {0}
 HaveRun start number (pass' ∷ passes') = ((pass : Known) × (calls : List Call) × (pass.number ≡ number) × (pass.own ≡ []) × Ran start pass calls pass') × HaveRun start (number + 1) passes'
 
 pub have_run : (start : DeskState → Type 0) (run : DividedRun) (talks number : ℕ) (rules : List Rules) (doors : List DoorState) (passes : List Known) (doors' : List DoorState) (passes' more : List Known) (reports : List WorkerReport)
-    → AsLong (length rules) doors passes doors' passes' reports → AreNew number (passes ++ more) → HaveWorked start run talks rules doors passes doors' passes' reports → HaveRun start number passes'
+    → AsLong (length rules) doors passes doors' passes' reports → AreNew number (passes ++ more) → HaveWorked start run talks (roster_as rules doors passes) (returned_as doors' passes' reports) → HaveRun start number passes'
 have_run start run talks number [] [] [] [] [] more [] long new worked = tt
 have_run start run talks number (by ∷ rules) (old ∷ doors) (pass ∷ passes) (new ∷ doors') (pass' ∷ passes') more (report ∷ reports) long fresh worked =
-    let here = worked 0 by old new pass pass' report refl refl refl refl refl refl in (
+    let here = worked 0 (posted_as by old pass) (dismissed_as new pass' report) (refl, refl, refl) (refl, refl, refl) in (
       (pass, _, fresh.0, fresh.1, here.at_door.calls),
       have_run start run talks (number + 1) rules doors passes doors' passes' more reports
           (record { doors_are = omega (arith, long.doors_are); passes_are = omega (arith, long.passes_are); doors'_are = omega (arith, long.doors'_are); passes'_are = omega (arith, long.passes'_are); reports_are = omega (arith, long.reports_are) })

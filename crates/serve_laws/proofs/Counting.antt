@@ -1,5 +1,6 @@
 -- How many calls of a journal were answered that the disk failed, by their callers.
-use Rattle.std.proofs.Common.{◌≡◌, inl, inr, ℕ, zero, suc, ◌+◌, ◌<◌, ◌≤◌, ◌==◌, Bool, true, false, cond, List, [], ◌∷◌, length, refl, ap, arith, ne_eqb}
+use Rattle.std.proofs.Common.{◌≡◌, inl, inr, ℕ, zero, suc, ◌+◌, ◌<◌, ◌≤◌, ◌==◌, Bool, true, false, cond, List, [], ◌∷◌, length, refl, ap, ◌∙◌, arith, ne_eqb}
+use Rattle.std.specs.Prelude.{map}
 use Rattle.std.specs.List.{All, sum_by}
 use Rattle.std.proofs.lemmas.Bool.{cases_eq, cond-false, eqb-true}
 use Rattle.std.proofs.lemmas.List.Elements.{All-nil, All-cons}
@@ -18,7 +19,8 @@ use Rattle.conn_serve.specs.Terms.{terms_of}
 use Rattle.conn_serve.proofs.Failing.{disk_fault_is_told}
 use Rattle.serve_workers.specs.declared.worker.WorkerReport.{WorkerReport}
 use Rattle.serve_workers.specs.Served.{Served, AreServed, by_disk, calls_in, how_many}
-use Rattle.serve_laws.specs.Parts.{Part, links_of, AreParts}
+use Rattle.serve_run.specs.Running.{Given, Left}
+use Rattle.serve_laws.specs.Parts.{AreParts, EachPart, IsPart, Part, links_of}
 use Rattle.serve_laws.specs.Faults.{ended_by_disk, CountsEnded}
 
 -- ---- of so many callers, from a number on
@@ -68,42 +70,48 @@ links_by_disk rules conn (one ∷ links) served =
     let tells = disk_fault_is_told rules.proto (terms_of rules) one.conn one.left one.bytes one.calls one.text one.talk served.1 in
     omega (arith, sum_by-cons (λ (s : Served). by_disk s.talk) one links, failures_then one.calls (calls_in links), one_by_disk rules.proto one.talk (failures_of one.calls) tells, links_by_disk rules (conn + 1) links served.2)
 
-parts_by_disk : (run : DividedRun) (talks : ℕ) (log : List Record) (number : ℕ) (rules : List Rules) (doors doors' : List DoorState) (reports : List WorkerReport) (parts : List Part) → AreParts run talks log number rules doors doors' reports parts
+parts_by_disk : (run : DividedRun) (talks : ℕ) (log : List Record) (number : ℕ) (rules : List Rules) (doors doors' : List DoorState) (parts : List Part) → EachPart (IsPart run talks log) number rules doors doors' parts
     → sum_by ended_by_disk parts ≤ failures_from (length parts) number log
 unfolding failures_from
-parts_by_disk run talks log number [] [] [] [] [] are = omega arith
-parts_by_disk run talks log number (by ∷ rules) (old ∷ doors) (new ∷ doors') (report ∷ reports) (part ∷ parts) (one, are) =
+parts_by_disk run talks log number [] [] [] [] are = omega arith
+parts_by_disk run talks log number (by ∷ rules) (old ∷ doors) (new ∷ doors') (part ∷ parts) (one, are) =
     let own : failures_of (own_of number log) ≡ failures_of (calls_in (links_of part)) = ap failures_of one.at_door.calls in
-    omega (arith, sum_by-cons ended_by_disk part parts, own, links_by_disk by _ (links_of part) one.at_door.served, parts_by_disk run talks log (number + 1) rules doors doors' reports parts are)
-parts_by_disk run talks log number rules doors doors' reports parts are = absurd are
+    omega (arith, sum_by-cons ended_by_disk part parts, own, links_by_disk by _ (links_of part) one.at_door.served, parts_by_disk run talks log (number + 1) rules doors doors' parts are)
+parts_by_disk run talks log number rules doors doors' parts are = absurd are
 
 rose_less : (n k before now : ℕ) → Rose n before now → k ≤ n → Rose k before now
 rose_less n k before now rose less = omega (arith, rose, less)
 
 -- of each part by itself, where no caller was answered so more often than changes failed
-each_by_disk : (run : DividedRun) (talks : ℕ) (log : List Record) (number : ℕ) (rules : List Rules) (doors doors' : List DoorState) (reports : List WorkerReport) (parts : List Part) (before now : ℕ) → AreParts run talks log number rules doors doors' reports parts
+each_by_disk : (run : DividedRun) (talks : ℕ) (log : List Record) (number : ℕ) (rules : List Rules) (doors doors' : List DoorState) (parts : List Part) (before now : ℕ) → EachPart (IsPart run talks log) number rules doors doors' parts
     → Rose (failed_of log) before now → ((n : ℕ) → failures_of (own_of n log) ≤ failed_of log) → All (λ (part : Part). Rose (ended_by_disk part) before now) parts
-each_by_disk run talks log number [] [] [] [] [] before now are rose each = All-nil (λ (part : Part). Rose (ended_by_disk part) before now)
-each_by_disk run talks log number (by ∷ rules) (old ∷ doors) (new ∷ doors') (report ∷ reports) (part ∷ parts) before now (one, are) rose each =
+each_by_disk run talks log number [] [] [] [] before now are rose each = All-nil (λ (part : Part). Rose (ended_by_disk part) before now)
+each_by_disk run talks log number (by ∷ rules) (old ∷ doors) (new ∷ doors') (part ∷ parts) before now (one, are) rose each =
     let own : failures_of (own_of number log) ≡ failures_of (calls_in (links_of part)) = ap failures_of one.at_door.calls in
     All-cons (λ (part : Part). Rose (ended_by_disk part) before now) part parts
     (rose_less (failed_of log) (ended_by_disk part) before now rose (omega (arith, own, links_by_disk by _ (links_of part) one.at_door.served, each number)))
-    (each_by_disk run talks log (number + 1) rules doors doors' reports parts before now are rose each)
-each_by_disk run talks log number rules doors doors' reports parts before now are rose each = absurd are
+    (each_by_disk run talks log (number + 1) rules doors doors' parts before now are rose each)
+each_by_disk run talks log number rules doors doors' parts before now are rose each = absurd are
 
-pub disk_faults_counted : (grouped : Bool) (run : DividedRun) (talks : ℕ) (log : List Record) (rules : List Rules) (doors doors' : List DoorState) (reports : List WorkerReport) (parts : List Part) (before now : ℕ) → AreParts run talks log 0 rules doors doors' reports parts
+pub disk_faults_counted : (grouped : Bool) (run : DividedRun) (log : List Record) (given : Given) (left : Left) (parts : List Part) (before now : ℕ) → AreParts run log given left parts
     → Rose (failed_of log) before now → (grouped ≡ false → NoneJoins log) → ((n : ℕ) → failures_of (own_of n log) ≤ failed_of log) → CountsEnded grouped parts before now
-disk_faults_counted false run talks log rules doors doors' reports parts before now are rose alone each =
+disk_faults_counted false run log given left parts before now are rose alone each =
     rose_less (failed_of log) (sum_by ended_by_disk parts) before now rose
-    (omega (arith, parts_by_disk run talks log 0 rules doors doors' reports parts are, failures_from-all (length parts) 0 log, failures_split log, none_joined log (alone refl)))
-disk_faults_counted true run talks log rules doors doors' reports parts before now are rose alone each =
-    each_by_disk run talks log 0 rules doors doors' reports parts before now are rose each
+    (omega (arith, parts_by_disk run given.talks log 0 given.rules given.doors left.doors parts are.each, failures_from-all (length parts) 0 log, failures_split log, none_joined log (alone refl)))
+disk_faults_counted true run log given left parts before now are rose alone each =
+    each_by_disk run given.talks log 0 given.rules given.doors left.doors parts before now are.each rose each
 
 -- ---- reports
 
-pub reports_counted : (run : DividedRun) (talks number : ℕ) (log : List Record) (rules : List Rules) (doors doors' : List DoorState) (reports : List WorkerReport) (parts : List Part) → AreParts run talks log number rules doors doors' reports parts
-    → sum_by (λ (report : WorkerReport). report.finished) reports ≡ sum_by (λ (part : Part). length part.finished) parts
-reports_counted run talks number log [] [] [] [] [] are = refl
-reports_counted run talks number log (by ∷ rules) (old ∷ doors) (new ∷ doors') (report ∷ reports) (part ∷ parts) (one, are) =
-    omega (arith, sum_by-cons (λ (r : WorkerReport). r.finished) report reports, sum_by-cons (λ (p : Part). length p.finished) part parts, one.finished, reports_counted run talks (number + 1) log rules doors doors' reports parts are)
-reports_counted run talks number log rules doors doors' reports parts are = absurd are
+each_counted : (run : DividedRun) (talks : ℕ) (log : List Record) (number : ℕ) (rules : List Rules) (doors doors' : List DoorState) (parts : List Part) → EachPart (IsPart run talks log) number rules doors doors' parts
+    → sum_by (λ (report : WorkerReport). report.finished) (map (λ (part : Part). part.report) parts) ≡ sum_by (λ (part : Part). length part.links.finished) parts
+each_counted run talks log number [] [] [] [] are = refl
+each_counted run talks log number (by ∷ rules) (old ∷ doors) (new ∷ doors') (part ∷ parts) (one, are) =
+    let more = map (λ (part : Part). part.report) parts in
+    omega (arith, sum_by-cons (λ (r : WorkerReport). r.finished) part.report more, sum_by-cons (λ (p : Part). length p.links.finished) part parts, one.finished, each_counted run talks log (number + 1) rules doors doors' parts are)
+each_counted run talks log number rules doors doors' parts are = absurd are
+
+pub reports_counted : (run : DividedRun) (log : List Record) (given : Given) (left : Left) (parts : List Part) → AreParts run log given left parts
+    → sum_by (λ (report : WorkerReport). report.finished) left.reports ≡ sum_by (λ (part : Part). length part.links.finished) parts
+reports_counted run log given left parts are =
+    ap (sum_by (λ (report : WorkerReport). report.finished)) are.reports ∙ each_counted run given.talks log 0 given.rules given.doors left.doors parts are.each

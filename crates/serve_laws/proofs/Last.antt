@@ -9,7 +9,6 @@ use Rattle.spool_answers.specs.declared.fault.PendFault.{PendFault}
 use Rattle.spool_answers.specs.declared.numbered.Numbered.{Numbered}
 use Rattle.spool_answers.specs.Stages.{IsOneOf}
 use Rattle.spool_desk.specs.Alone.{AloneView}
-use Rattle.desk_access.specs.Division.{DividedRun}
 use Rattle.desk_access.specs.Call.{Call, Record, own_of, calls_of, pends}
 use Rattle.desk_access.specs.Desk.{DeskState, Goes}
 use Rattle.desk_access.specs.History.{IsDesk}
@@ -21,15 +20,15 @@ use Rattle.desk_access.proofs.Nexts.{all_left, all_right}
 use Rattle.desk_access.proofs.OneState.{one_state}
 use Rattle.desk_access.proofs.Steps.{goes_later}
 use Rattle.forward_core.specs.declared.outward.Outward.{Outward}
-use Rattle.spool_turns.specs.Passes.{Beginning, Known}
+use Rattle.spool_turns.specs.Passes.{Known}
 use Rattle.spool_turns.specs.Ran.{Ran}
 use Rattle.serve_forwarder.specs.declared.destination.Destination.{Destination}
 use Rattle.serve_forwarder.specs.declared.looking.Outcome.{Outcome}
 use Rattle.serve_forwarder.specs.Sessions.{Session, IsHeld}
-use Rattle.serve_forwarder.specs.Looks.{Found, Idle, Unread, Undialed, Held, Look, held_in, calls_at, Every, Offer, first_of, upto_of, IsFound, IsLook}
+use Rattle.serve_forwarder.specs.Looks.{Forwarder, Found, Idle, Unread, Undialed, Held, Look, forwarder_at, held_in, calls_at, Every, Offer, first_of, upto_of, IsFound, IsLook, IsPending}
 use Rattle.serve_forwarder.proofs.Chain.{look_is_ran}
-use Rattle.serve_run.specs.Running.{Forwarded}
-use Rattle.serve_laws.specs.Last.{EndsWith, IsFoundBy, SendsUpTo, IsLastOfAll, LooksLast, LastLookIsLast}
+use Rattle.serve_run.specs.Running.{Forwarded, Seating}
+use Rattle.serve_laws.specs.Last.{EndsWith, IsFoundBy, SendsUpTo, IsLastOfAll, LastLookIsLast}
 use Rattle.serve_laws.specs.Runs.{ServerRun}
 use Rattle.serve_laws.proofs.Behind.{all_own}
 use Rattle.serve_laws.proofs.Contributing.{in_groups}
@@ -60,11 +59,11 @@ end_stays x y records rules sure goes written =
 
 -- ---- the last look
 
-answered : (start : DeskState → Type 0) (outward : Outward) (upto : Option ℕ) (given : Result (List Numbered) PendFault) (found : Found) (a b : Known) → IsFound start outward upto given found a b → IsFoundBy given found
-answered start outward upto given Idle a b f = f.0
-answered start outward upto given (Unread _) a b f = f.0
-answered start outward upto given (Undialed _) a b f = f.0
-answered start outward upto given (Held one) a b f = f.0
+answered : (start : DeskState → Type 0) (outward : Outward) (look : Look) (found : Found) (a b : Known) → IsFound start outward look found a b → IsFoundBy look.given found
+answered start outward look Idle a b f = f.0
+answered start outward look (Unread _) a b f = f.0
+answered start outward look (Undialed _) a b f = f.0
+answered start outward look (Held one) a b f = f.0
 
 module _ (start : DeskState → Type 0) (log : List Record) (met last : Known) (whole : last.seen ≡ log) (only : (rest : List Record) → met.seen ++ rest ≡ log → All (λ (one : Record). one.by ≡ met.number) rest) where
   ends_with : (calls : List Call) → Ran start met calls last → EndsWith met.number calls log
@@ -106,42 +105,58 @@ module _ (start : DeskState → Type 0) (log : List Record) (met last : Known) (
               omega (arith, ends, least, most),
         )
 
-    found_to_end : (outward : Outward) (given : Result (List Numbered) PendFault) (found : Found) (asked : Known) → Ran start met (pends 0 1 given ∷ []) asked → IsFound start outward None given found asked last → All (SendsUpTo (end y.spool)) (held_in found)
-    found_to_end outward given Idle asked ran f = All-nil (SendsUpTo (end y.spool))
-    found_to_end outward given (Unread _) asked ran f = All-nil (SendsUpTo (end y.spool))
-    found_to_end outward given (Undialed _) asked ran f = All-nil (SendsUpTo (end y.spool))
-    found_to_end outward (Ok given) (Held one) asked ran f = All-cons (SendsUpTo (end y.spool)) one [] (held_to_end outward given one asked ran f.1) (All-nil (SendsUpTo (end y.spool)))
-    found_to_end outward (Err fault) (Held one) asked ran f = absurd f.0
+    pending_to_end : (outward : Outward) (given : Result (List Numbered) PendFault) (one : Session) (asked : Known) → Ran start met (pends 0 1 given ∷ []) asked → IsPending given → IsHeld start outward None one asked last → SendsUpTo (end y.spool) one
+    pending_to_end outward (Ok given) one asked ran some held = held_to_end outward given one asked ran held
+    pending_to_end outward (Err fault) one asked ran some held = absurd some
 
-  looked_last : (outward : Outward) (place : List ℕ) (look : Look) (net net' : NetState) → ((x : DeskState) → start x → IsDesk x) → look.offer ≡ Every → IsLook start outward place look met last net net' → IsLastOfAll start met.number log look
-  looked_last outward place look net net' desk every l =
-      let all = subst (λ (o : Offer). IsFound start outward (upto_of o (first_of look.given)) look.given look.found l.asked last) every l.found in
-      record {
-        ends = ends_with (calls_at look) (look_is_ran start outward place look met last net net' l);
-        answered = answered start outward None look.given look.found l.asked last all;
-        to_end = λ x y s goes. found_to_end x y s (desk x s) goes outward look.given look.found l.asked l.asks all;
-      }
+    found_to_end : (outward : Outward) (look : Look) (found : Found) (asked : Known) → look.offer ≡ Every → Ran start met (pends 0 1 look.given ∷ []) asked → IsFound start outward look found asked last → All (SendsUpTo (end y.spool)) (held_in found)
+    found_to_end outward look Idle asked every ran f = All-nil (SendsUpTo (end y.spool))
+    found_to_end outward look (Unread _) asked every ran f = All-nil (SendsUpTo (end y.spool))
+    found_to_end outward look (Undialed _) asked every ran f = All-nil (SendsUpTo (end y.spool))
+    found_to_end outward look (Held one) asked every ran f =
+        All-cons (SendsUpTo (end y.spool)) one []
+        (pending_to_end outward look.given one asked ran f.0 (subst (λ (o : Offer). IsHeld start outward (upto_of o (first_of look.given)) one asked last) every f.1))
+        (All-nil (SendsUpTo (end y.spool)))
+
+  looked_last : (destination : Destination) (look : Look) (net net' : NetState) → ((x : DeskState) → start x → IsDesk x) → look.offer ≡ Every → IsLook start destination look (forwarder_at met net) (forwarder_at last net')
+      → IsLastOfAll start met.number log look
+  looked_last destination look net net' desk every l = record {
+    ends = ends_with (calls_at look) (look_is_ran start destination look (forwarder_at met net) (forwarder_at last net') l);
+    answered = answered start destination.outward look look.found l.asked last l.found;
+    to_end = λ x y s goes. found_to_end x y s (desk x s) goes destination.outward look look.found l.asked every l.asks l.found;
+  }
 
 -- ---- of a run
 
-module _ (tells : Type 0) (start : DeskState → Type 0) (run : DividedRun) (seats : ℕ) (began : Beginning) (new : AloneView) (r : ServerRun tells start run seats began new) where
-  forwarded_last : (destination : Option Destination) (net net' : NetState) (last : Option Outcome) (f : Forwarded start destination r.served.workers' r.served.forwarder r.served.forwarder' net net' last)
-      → LooksLast start (seats - 1) r.served.log destination r.served.workers' r.served.forwarder r.served.forwarder' net net' last f
+-- so it is of a forwarder's last look
+abbrev pub IsLastOf : (start : DeskState → Type 0) (number : ℕ) (log : List Record) (destination : Option Destination) (workers : List Known) (old new : Forwarder)
+    (last : Option Outcome) → Forwarded start destination workers old new last → Type 0
+IsLastOf start number log destination workers old new last forwarded =
+    elim destination as (λ destination. Forwarded start destination workers old new last → Type 0) [
+      | None ↦ λ none. Unit {0}
+      | Some destination ↦ λ forwarded. IsLastOfAll start number log forwarded.2.look
+    ] forwarded
+
+module _ (tells : Type 0) (start : DeskState → Type 0) (seating : Seating) (new : AloneView) (r : ServerRun tells start seating new) where
+  forwarded_last : (destination : Option Destination) (net net' : NetState) (last : Option Outcome) (f : Forwarded start destination r.served.workers' (forwarder_at r.served.forwarder net) (forwarder_at r.served.forwarder' net') last)
+      → IsLastOf start (seating.seats - 1) r.served.log destination r.served.workers' (forwarder_at r.served.forwarder net) (forwarder_at r.served.forwarder' net') last f
   forwarded_last None net net' last f = tt
   forwarded_last (Some destination) net net' last f =
       let served = r.served in
-      let ran = passes_ran tells start run seats began new r in
-      let fresh = forwarder_new tells start run seats began new r in
-      let workers = workers_stand tells start run seats began new r in
-      let stands = forwarder_stands tells start run seats began new r in
-      let each = by_passes tells start run seats began new r in
+      let old = forwarder_at served.forwarder net in
+      let left = forwarder_at served.forwarder' net' in
+      let ran = passes_ran tells start seating new r in
+      let fresh = forwarder_new tells start seating new r in
+      let workers = workers_stand tells start seating new r in
+      let stands = forwarder_stands tells start seating new r in
+      let each = by_passes tells start seating new r in
       let h = f.2 in
-      let whole = sees_all start served.log served.workers' served.forwarder served.forwarder' net net' ran fresh workers stands each destination f.0 h in
-      let only = behind_met start served.log served.workers' served.forwarder served.forwarder' net net' ran fresh workers stands each destination f.0 h in
-      let look = look_is_ran start destination.outward destination.place h.look h.met served.forwarder' h.net_beside net' h.looked_last in
-      let number : h.met.number ≡ seats - 1 = omega (arith, look.number, last_number tells start run seats began new r, served.count.1, r.seats_are) in
+      let whole = sees_all start served.log served.workers' old left ran fresh workers stands each destination f.0 h in
+      let only = behind_met start served.log served.workers' old left ran fresh workers stands each destination f.0 h in
+      let look = look_is_ran start destination h.look (forwarder_at h.met h.beside.net) left h.looked_last in
+      let number : h.met.number ≡ seating.seats - 1 = omega (arith, look.number, last_number tells start seating new r, served.count.1, r.seats_are) in
       subst (λ (n : ℕ). IsLastOfAll start n served.log h.look) number
-      (looked_last start served.log h.met served.forwarder' whole only destination.outward destination.place h.look h.net_beside net' (λ x s. (served.closes.replays.begins x s).rules) h.every h.looked_last)
+      (looked_last start served.log h.met served.forwarder' whole only destination h.look h.beside.net net' (λ x s. (served.closes.replays.begins x s).rules) h.every h.looked_last)
 
-pub last_look_is_last : (tells : Type 0) (start : DeskState → Type 0) (run : DividedRun) (seats : ℕ) (began : Beginning) (new : AloneView) → LastLookIsLast tells start run seats began new
-last_look_is_last tells start run seats began new r = forwarded_last tells start run seats began new r r.destination r.net r.net' r.last r.served.forwarded
+pub last_look_is_last : (tells : Type 0) (start : DeskState → Type 0) (seating : Seating) (new : AloneView) → LastLookIsLast tells start seating new
+last_look_is_last tells start seating new r = forwarded_last tells start seating new r r.given.destination r.given.net r.left.net r.left.last r.served.forwarded

@@ -1,7 +1,6 @@
 -- What the last look of a run leaves.
 use Rattle.std.proofs.Common.{◌≡◌, ℕ, ◌≤◌, List, [], ◌∷◌, ◌++◌, refl, sym, ap, ◌∙◌, subst, arith, append_assoc}
 use Rattle.std.specs.Prelude.{All, None, Some, Result, Ok, Err}
-use Rattle.edge_io.specs.Net.{NetState}
 use Rattle.spool_state.specs.SpoolState.{end}
 use Rattle.spool_answers.specs.declared.fault.PendFault.{PendFault}
 use Rattle.spool_answers.specs.declared.numbered.Numbered.{Numbered}
@@ -19,9 +18,10 @@ use Rattle.forward_core.specs.declared.sent.Sent.{Sent}
 use Rattle.forward_core.specs.declared.sent.Sent.TheVariants as Ending
 use Rattle.spool_turns.specs.Passes.{Known}
 use Rattle.spool_turns.specs.Ran.{Ran}
+use Rattle.serve_forwarder.specs.declared.destination.Destination.{Destination}
 use Rattle.serve_forwarder.specs.declared.looking.Outcome.TheVariants as outcome
 use Rattle.serve_forwarder.specs.Sessions.{Session, IsHeld}
-use Rattle.serve_forwarder.specs.Looks.{Found, Idle, Unread, Undialed, Held, Look, outcome_of, Every, Offer, first_of, upto_of, IsFound, IsLook}
+use Rattle.serve_forwarder.specs.Looks.{Forwarder, Found, Idle, Unread, Undialed, Held, Look, outcome_of, Every, Offer, first_of, upto_of, IsFound, IsLook, IsPending}
 use Rattle.serve_laws.specs.Leaves.{IsDone, HasNoneLeft}
 use Rattle.serve_laws.proofs.Behind.{all_own}
 use Rattle.serve_laws.proofs.Drained.{read_none, read_sure, drained_none}
@@ -67,19 +67,24 @@ module _ (start : DeskState → Type 0) (x y : DeskState) (log : List Record) (s
       (omega (arith, after.2, held.asked.end_is, held.until_is), omega (arith, after.3, held.asked.cursor, held.asked.end_ran.cursor_known)))
       ended
 
-  look_leaves : (outward : Outward) (given : Result (List Numbered) PendFault) (found : Found) (asked : Known) → IsDone (Some (outcome_of found)) → Ran start met (pends 0 1 given ∷ []) asked → IsFound start outward None given found asked last → HasNoneLeft y
-  look_leaves outward given Idle asked done ran (none, same) = idle_leaves asked (subst (λ (r : Result (List Numbered) PendFault). Ran start met (pends 0 1 r ∷ []) asked) none ran) same
-  look_leaves outward given (Unread fault) asked done ran found = absurd done
-  look_leaves outward given (Undialed _) asked done ran found = absurd done
-  look_leaves outward (Ok given) (Held one) asked done ran (some, held) = held_leaves outward given one asked (is_drained one.sent done) ran held where
-    is_drained : (sent : Sent) → IsDone (Some (outcome.Held sent)) → sent ≡ Ending.Drained
-    is_drained Ending.Drained done = refl
-    is_drained sent done = absurd done
-  look_leaves outward (Err fault) (Held one) asked done ran (some, held) = absurd some
+  pending_leaves : (outward : Outward) (given : Result (List Numbered) PendFault) (one : Session) (asked : Known) → one.sent ≡ Ending.Drained → Ran start met (pends 0 1 given ∷ []) asked → IsPending given → IsHeld start outward None one asked last → HasNoneLeft y
+  pending_leaves outward (Ok given) one asked drained ran some held = held_leaves outward given one asked drained ran held
+  pending_leaves outward (Err fault) one asked drained ran some held = absurd some
 
-pub last_look_leaves : (start : DeskState → Type 0) (outward : Outward) (place : List ℕ) (x y : DeskState) (log : List Record) (look : Look) (met last : Known) (net net' : NetState) → start x → IsDesk x → Goes x log y
-    → last.seen ≡ log → ((rest : List Record) → met.seen ++ rest ≡ log → All (λ (one : Record). one.by ≡ met.number) rest)
-    → look.offer ≡ Every → IsLook start outward place look met last net net' → IsDone (Some (outcome_of look.found)) → HasNoneLeft y
-last_look_leaves start outward place x y log look met last net net' s rules goes whole only every l done =
-    look_leaves start x y log s rules goes met last whole only outward look.given look.found l.asked done l.asks
-    (subst (λ (o : Offer). IsFound start outward (upto_of o (first_of look.given)) look.given look.found l.asked last) every l.found)
+  is_drained : (sent : Sent) → IsDone (Some (outcome.Held sent)) → sent ≡ Ending.Drained
+  is_drained Ending.Drained done = refl
+  is_drained sent done = absurd done
+
+  look_leaves : (outward : Outward) (look : Look) (found : Found) (asked : Known) → look.offer ≡ Every → IsDone (Some (outcome_of found)) → Ran start met (pends 0 1 look.given ∷ []) asked → IsFound start outward look found asked last → HasNoneLeft y
+  look_leaves outward look Idle asked every done ran (none, same) = idle_leaves asked (subst (λ (r : Result (List Numbered) PendFault). Ran start met (pends 0 1 r ∷ []) asked) none ran) same
+  look_leaves outward look (Unread fault) asked every done ran found = absurd done
+  look_leaves outward look (Undialed _) asked every done ran found = absurd done
+  look_leaves outward look (Held one) asked every done ran (some, held) =
+      pending_leaves outward look.given one asked (is_drained one.sent done) ran some
+      (subst (λ (o : Offer). IsHeld start outward (upto_of o (first_of look.given)) one asked last) every held)
+
+pub last_look_leaves : (start : DeskState → Type 0) (destination : Destination) (x y : DeskState) (log : List Record) (look : Look) (old new : Forwarder) → start x → IsDesk x → Goes x log y
+    → new.pass.seen ≡ log → ((rest : List Record) → old.pass.seen ++ rest ≡ log → All (λ (one : Record). one.by ≡ old.pass.number) rest)
+    → look.offer ≡ Every → IsLook start destination look old new → IsDone (Some (outcome_of look.found)) → HasNoneLeft y
+last_look_leaves start destination x y log look old new s rules goes whole only every l done =
+    look_leaves start x y log s rules goes old.pass new.pass whole only destination.outward look look.found l.asked every done l.asks l.found

@@ -4,7 +4,6 @@ use Rattle.std.specs.Prelude.{All, Option, None, Some}
 use Rattle.std.proofs.lemmas.List.{append-nil}
 use Rattle.std.proofs.lemmas.List.Elements.{All-nil, All-cons, All-head, All-tail}
 use mathlib.Core.List.{IsPrefix}
-use Rattle.edge_io.specs.Net.{NetState}
 use Rattle.desk_access.specs.Call.{Call, Record, own_of, calls_of}
 use Rattle.desk_access.specs.Desk.{DeskState, Goes}
 use Rattle.desk_access.specs.History.{IsDesk}
@@ -15,6 +14,7 @@ use Rattle.spool_turns.specs.Ran.{Ran}
 use Rattle.spool_turns.specs.Replays.{HasNumber}
 use Rattle.serve_forwarder.specs.declared.destination.Destination.{Destination}
 use Rattle.serve_forwarder.specs.declared.looking.Outcome.{Outcome}
+use Rattle.serve_forwarder.specs.Looks.{Forwarder, forwarder_at}
 use Rattle.serve_forwarder.proofs.Chain.{look_is_ran, looks_are_ran}
 use Rattle.serve_run.specs.Running.{HasForwarded, Forwarded}
 use Rattle.serve_laws.specs.Leaves.{IsDone, HasNoneLeft}
@@ -52,37 +52,37 @@ none_more start log rest fresh beside met last before calls new first number own
     no_length (own_of n rest) (omega (arith, a, b, c, e, f, g, h, i))
 
 -- the forwarder keeps its number
-pub number_kept : (start : DeskState → Type 0) (destination : Option Destination) (workers : List Known) (pass pass' : Known) (net net' : NetState) (last : Option Outcome) → Forwarded start destination workers pass pass' net net' last → pass'.number ≡ pass.number
-number_kept start None workers pass pass' net net' last f = f.0
-number_kept start (Some destination) workers pass pass' net net' last (outcome, is, f) =
-    (look_is_ran start destination.outward destination.place f.look f.met pass' f.net_beside net' f.looked_last).number ∙ f.has_met.number
-    ∙ (looks_are_ran start destination.outward destination.place f.looks pass f.beside net f.net_beside f.looked).number
+pub number_kept : (start : DeskState → Type 0) (destination : Option Destination) (workers : List Known) (old new : Forwarder) (last : Option Outcome) → Forwarded start destination workers old new last → new.pass.number ≡ old.pass.number
+number_kept start None workers old new last f = f.0
+number_kept start (Some destination) workers old new last (outcome, is, f) =
+    (look_is_ran start destination f.look (forwarder_at f.met f.beside.net) new f.looked_last).number ∙ f.has_met.number
+    ∙ (looks_are_ran start destination f.looks old f.beside f.looked).number
 
-module _ (start : DeskState → Type 0) (log : List Record) (workers' : List Known) (forwarder forwarder' : Known) (net net' : NetState)
-    (run : HaveRun start 0 workers') (new : forwarder.own ≡ []) (stand : All (Stands log) workers') (stands : Stands log forwarder') (each : All (λ (one : Record). HasNumber (workers' ++ forwarder' ∷ []) one.by) log) where
+module _ (start : DeskState → Type 0) (log : List Record) (workers' : List Known) (old new : Forwarder)
+    (run : HaveRun start 0 workers') (fresh : old.pass.own ≡ []) (stand : All (Stands log) workers') (stands : Stands log new.pass) (each : All (λ (one : Record). HasNumber (workers' ++ new.pass ∷ []) one.by) log) where
   -- all records after what the forwarder had seen when it had met the workers are its own
-  pub behind_met : (destination : Destination) (outcome : Outcome) (f : HasForwarded start destination workers' forwarder forwarder' net net' outcome) (rest : List Record) → f.met.seen ++ rest ≡ log → All (λ (one : Record). one.by ≡ f.met.number) rest
+  pub behind_met : (destination : Destination) (outcome : Outcome) (f : HasForwarded start destination workers' old new outcome) (rest : List Record) → f.met.seen ++ rest ≡ log → All (λ (one : Record). one.by ≡ f.met.number) rest
   behind_met destination outcome f rest parts =
-      let H : Record → Type 0 = λ one. HasNumber (workers' ++ forwarder' ∷ []) one.by in
-      let more = look_is_ran start destination.outward destination.place f.look f.met forwarder' f.net_beside net' f.looked_last in
+      let H : Record → Type 0 = λ one. HasNumber (workers' ++ new.pass ∷ []) one.by in
+      let more = look_is_ran start destination f.look (forwarder_at f.met f.beside.net) new f.looked_last in
       subst (λ (n : ℕ). All (λ (one : Record). one.by ≡ n) rest) more.number
-      (only_last workers' forwarder' rest (all_right H f.met.seen rest (subst (All H) (sym parts) each)) (workers_silent start log f.met.seen rest 0 workers' run stand f.has_met.each parts))
+      (only_last workers' new.pass rest (all_right H f.met.seen rest (subst (All H) (sym parts) each)) (workers_silent start log f.met.seen rest 0 workers' run stand f.has_met.each parts))
 
   -- and the journal ends with the last that it has seen
-  pub sees_all : (destination : Destination) (outcome : Outcome) (f : HasForwarded start destination workers' forwarder forwarder' net net' outcome) → forwarder'.seen ≡ log
+  pub sees_all : (destination : Destination) (outcome : Outcome) (f : HasForwarded start destination workers' old new outcome) → new.pass.seen ≡ log
   sees_all destination outcome f =
-      let more = look_is_ran start destination.outward destination.place f.look f.met forwarder' f.net_beside net' f.looked_last in
-      let first = looks_are_ran start destination.outward destination.place f.looks forwarder f.beside net f.net_beside f.looked in
+      let more = look_is_ran start destination f.look (forwarder_at f.met f.beside.net) new f.looked_last in
+      let first = looks_are_ran start destination f.looks old f.beside f.looked in
       let rest = stands.0.0 in
-      let parts : forwarder'.seen ++ rest ≡ log = stands.0.1 in
+      let parts : new.pass.seen ++ rest ≡ log = stands.0.1 in
       let from_met : f.met.seen ++ (more.between ++ rest) ≡ log = sym (append_assoc f.met.seen more.between rest) ∙ ap (λ (l : List Record). l ++ rest) (sym more.seen) ∙ parts in
       let mine = all_right (λ (one : Record). one.by ≡ f.met.number) more.between rest (behind_met destination outcome f (more.between ++ rest) from_met) in
-      let none = none_more start log rest forwarder f.beside f.met forwarder' _ _ new first f.has_met.number f.has_met.own f.has_met.seen more stands.1 parts in
+      let none = none_more start log rest old.pass f.beside.pass f.met new.pass _ _ fresh first f.has_met.number f.has_met.own f.has_met.seen more stands.1 parts in
       let gone : rest ≡ [] = no_calls rest (all_own f.met.number rest mine ∙ ap (λ (n : ℕ). own_of n rest) (sym more.number) ∙ none) in
-      sym (append-nil forwarder'.seen) ∙ ap (λ (l : List Record). forwarder'.seen ++ l) (sym gone) ∙ parts
+      sym (append-nil new.pass.seen) ∙ ap (λ (l : List Record). new.pass.seen ++ l) (sym gone) ∙ parts
 
-  pub forwarded_leaves : (x y : DeskState) → start x → IsDesk x → Goes x log y → (destination : Option Destination) (last : Option Outcome) → Forwarded start destination workers' forwarder forwarder' net net' last → IsDone last → HasNoneLeft y
+  pub forwarded_leaves : (x y : DeskState) → start x → IsDesk x → Goes x log y → (destination : Option Destination) (last : Option Outcome) → Forwarded start destination workers' old new last → IsDone last → HasNoneLeft y
   forwarded_leaves x y s rules goes None last f done = absurd (subst IsDone f.3 done)
   forwarded_leaves x y s rules goes (Some destination) last (outcome, is, f) done =
-      last_look_leaves start destination.outward destination.place x y log f.look f.met forwarder' f.net_beside net' s rules goes (sees_all destination outcome f) (behind_met destination outcome f) f.every f.looked_last
+      last_look_leaves start destination x y log f.look (forwarder_at f.met f.beside.net) new s rules goes (sees_all destination outcome f) (behind_met destination outcome f) f.every f.looked_last
       (subst IsDone (is ∙ ap (λ (o : Outcome). Some o) f.last_is) done)

@@ -1,12 +1,11 @@
 -- How many entries the links took, and how far the spool's end rose.
 use Rattle.std.proofs.Common.{◌≡◌, inl, inr, ℕ, zero, suc, ◌+◌, ◌<◌, ◌≤◌, ◌==◌, Bool, true, false, cond, List, [], ◌∷◌, ◌++◌, length, length-append, refl, sym, ap, ◌∙◌, subst, arith, ne_eqb}
-use Rattle.std.specs.Prelude.{All, Option, Ok, Err}
+use Rattle.std.specs.Prelude.{All, Ok, Err}
 use Rattle.std.proofs.lemmas.Bool.{cases_lt, cond-false, eqb-true, eqb-false}
 use Rattle.std.proofs.lemmas.List.Elements.{All-head, All-tail}
 use Rattle.std.proofs.lemmas.List.Sums.{sum_by-cons}
 use Rattle.event_form.specs.declared.event.Entry.{Entry}
 use Rattle.edge_io.specs.Door.{DoorState}
-use Rattle.edge_io.specs.Net.{NetState}
 use Rattle.spool_state.specs.SpoolState.{SpoolState, end}
 use Rattle.spool_answers.specs.Stages.{IsOneOf}
 use Rattle.desk_access.specs.Division.{DividedRun}
@@ -20,12 +19,10 @@ use Rattle.desk_access.proofs.Lasting.{goes_grows}
 use Rattle.conn_serve.specs.declared.rules.Rules.{Rules}
 use Rattle.spool_turns.specs.Passes.{Known}
 use Rattle.spool_turns.specs.Replays.{HasNumber}
-use Rattle.serve_workers.specs.declared.worker.WorkerReport.{WorkerReport}
 use Rattle.serve_workers.specs.Served.{calls_in}
-use Rattle.serve_forwarder.specs.declared.destination.Destination.{Destination}
-use Rattle.serve_forwarder.specs.declared.looking.Outcome.{Outcome}
-use Rattle.serve_run.specs.Running.{Forwarded}
-use Rattle.serve_laws.specs.Parts.{Part, links_of, AreParts}
+use Rattle.serve_forwarder.specs.Looks.{forwarder_at}
+use Rattle.serve_run.specs.Running.{Forwarded, Given, Left}
+use Rattle.serve_laws.specs.Parts.{AreParts, EachPart, IsPart, Part, links_of}
 use Rattle.serve_laws.specs.Contributes.{taken_over, EndRises}
 use Rattle.serve_laws.proofs.Contributing.{step_of}
 use Rattle.serve_laws.proofs.Behind.{HaveRun}
@@ -75,25 +72,25 @@ taken_from-all many (one ∷ log) all =
 
 -- ---- of the parts, and of the forwarder after them
 
-parts_taken : (run : DividedRun) (talks : ℕ) (log : List Record) (number : ℕ) (rules : List Rules) (doors doors' : List DoorState) (reports : List WorkerReport) (parts : List Part) → AreParts run talks log number rules doors doors' reports parts
+parts_taken : (run : DividedRun) (talks : ℕ) (log : List Record) (number : ℕ) (rules : List Rules) (doors doors' : List DoorState) (parts : List Part) → EachPart (IsPart run talks log) number rules doors doors' parts
     → taken_from (suc (length parts)) number log ≡ taken_over parts + count (own_of (number + length parts) log)
 unfolding taken_from
-parts_taken run talks log number [] [] [] [] [] are =
+parts_taken run talks log number [] [] [] [] are =
     let same : number ≡ number + 0 = omega arith in
     let here = ap (λ (n : ℕ). count (own_of n log)) same in
     omega (arith, here)
-parts_taken run talks log number (by ∷ rules) (old ∷ doors) (new ∷ doors') (report ∷ reports) (part ∷ parts) (one, are) =
+parts_taken run talks log number (by ∷ rules) (old ∷ doors) (new ∷ doors') (part ∷ parts) (one, are) =
     let own : count (own_of number log) ≡ count (calls_in (links_of part)) = ap count one.at_door.calls in
     let same : number + 1 + length parts ≡ number + length (part ∷ parts) = omega arith in
     let last = ap (λ (n : ℕ). count (own_of n log)) same in
-    let rest = parts_taken run talks log (number + 1) rules doors doors' reports parts are in
+    let rest = parts_taken run talks log (number + 1) rules doors doors' parts are in
     omega (arith, own, last, rest, sum_by-cons (λ (p : Part). count (calls_in (links_of p))) part parts)
-parts_taken run talks log number rules doors doors' reports parts are = absurd are
+parts_taken run talks log number rules doors doors' parts are = absurd are
 
-as_many : (run : DividedRun) (talks : ℕ) (log : List Record) (number : ℕ) (rules : List Rules) (doors doors' : List DoorState) (reports : List WorkerReport) (parts : List Part) → AreParts run talks log number rules doors doors' reports parts → length parts ≡ length rules
-as_many run talks log number [] [] [] [] [] are = refl
-as_many run talks log number (by ∷ rules) (old ∷ doors) (new ∷ doors') (report ∷ reports) (part ∷ parts) (one, are) = omega (arith, as_many run talks log (number + 1) rules doors doors' reports parts are)
-as_many run talks log number rules doors doors' reports parts are = absurd are
+as_many : (run : DividedRun) (talks : ℕ) (log : List Record) (number : ℕ) (rules : List Rules) (doors doors' : List DoorState) (parts : List Part) → EachPart (IsPart run talks log) number rules doors doors' parts → length parts ≡ length rules
+as_many run talks log number [] [] [] [] are = refl
+as_many run talks log number (by ∷ rules) (old ∷ doors) (new ∷ doors') (part ∷ parts) (one, are) = omega (arith, as_many run talks log (number + 1) rules doors doors' parts are)
+as_many run talks log number rules doors doors' parts are = absurd are
 
 took_none : (call : Call) → All (λ (entry : Entry). ⊥) (written_by call) → length (taken_by call) ≡ 0
 took_none (takes [] (Ok receipt)) none = refl
@@ -126,20 +123,23 @@ pub first_one : (s : SpoolState) (doubt : List SpoolState) → IsOneOf s doubt s
 first_one s [] = refl
 first_one s (stage ∷ stages) = inl refl
 
-pub end_rises : (start : DeskState → Type 0) (run : DividedRun) (talks : ℕ) (log : List Record) (rules : List Rules) (doors doors' : List DoorState) (reports : List WorkerReport) (parts : List Part) (workers' : List Known) (forwarder forwarder' : Known)
-    (destination : Option Destination) (net net' : NetState) (last : Option Outcome) (x y : DeskState) → AreParts run talks log 0 rules doors doors' reports parts → length workers' ≡ length rules → HaveRun start 0 workers'
-    → forwarder.own ≡ [] → own_of forwarder'.number log ≡ forwarder'.own → Forwarded start destination workers' forwarder forwarder' net net' last → All (λ (one : Record). HasNumber (workers' ++ forwarder' ∷ []) one.by) log
-    → forwarder'.number ≡ length workers' → IsDesk x → x.doubt ≡ [] → Goes x log y → EndRises x y (failures_of (calls_of log)) (taken_over parts)
-end_rises start run talks log rules doors doors' reports parts workers' forwarder forwarder' destination net net' last x y are many run_all new stands forwarded each number rules_of sure goes =
-    let same = as_many run talks log 0 rules doors doors' reports parts are in
+pub end_rises : (start : DeskState → Type 0) (run : DividedRun) (log : List Record) (given : Given) (left : Left) (parts : List Part) (workers' : List Known) (forwarder forwarder' : Known)
+    (x y : DeskState) → AreParts run log given left parts → length workers' ≡ length given.rules → HaveRun start 0 workers'
+    → forwarder.own ≡ [] → own_of forwarder'.number log ≡ forwarder'.own → Forwarded start given.destination workers' (forwarder_at forwarder given.net) (forwarder_at forwarder' left.net) left.last
+    → All (λ (one : Record). HasNumber (workers' ++ forwarder' ∷ []) one.by) log → forwarder'.number ≡ length workers' → IsDesk x → x.doubt ≡ [] → Goes x log y
+    → EndRises x y (failures_of (calls_of log)) (taken_over parts)
+end_rises start run log given left parts workers' forwarder forwarder' x y are many run_all new stands forwarded each number rules_of sure goes =
+    let same = as_many run given.talks log 0 given.rules given.doors left.doors parts are.each in
+    let old_is = forwarder_at forwarder given.net in
+    let new_is = forwarder_at forwarder' left.net in
     let below : All (λ (one : Record). one.by < suc (length parts)) log = λ k d lt. elim (which_pass start 0 workers' forwarder' _ run_all (each k d lt)) [
       | inl within ↦ omega (arith, within.1, many, same)
       | inr is ↦ omega (arith, is, number, many, same)
     ] in
     let own : count (own_of (0 + length parts) log) ≡ 0 =
     ap (λ (n : ℕ). count (own_of n log)) (let at : 0 + length parts ≡ forwarder'.number = omega (arith, number, many, same) in at)
-    ∙ none_taken (own_of forwarder'.number log) (subst (AllWritten (λ (entry : Entry). ⊥)) (sym stands) (forwarder_written (λ (entry : Entry). ⊥) start destination workers' forwarder forwarder' net net' last new forwarded)) in
-    let taken : count (calls_of log) ≡ taken_over parts = omega (arith, taken_from-all (suc (length parts)) log below, parts_taken run talks log 0 rules doors doors' reports parts are, own) in
+    ∙ none_taken (own_of forwarder'.number log) (subst (AllWritten (λ (entry : Entry). ⊥)) (sym stands) (forwarder_written (λ (entry : Entry). ⊥) start given.destination workers' old_is new_is left.last new forwarded)) in
+    let taken : count (calls_of log) ≡ taken_over parts = omega (arith, taken_from-all (suc (length parts)) log below, parts_taken run given.talks log 0 given.rules given.doors left.doors parts are.each, own) in
     let grows = goes_grows x y log y.spool rules_of goes (first_one y.spool y.doubt) in
     let mended : grows.mended ≡ x.spool = subst (λ (l : List SpoolState). IsOneOf x.spool l grows.mended) sure grows.one in
     let rose : end y.spool ≡ end x.spool + length grows.more = grown_end grows.mended y.spool grows.more grows.grown ∙ ap (λ (s : SpoolState). end s + length grows.more) mended in

@@ -5,7 +5,6 @@ use Rattle.std.proofs.lemmas.Bool.{cases_lt}
 use Rattle.std.proofs.lemmas.List.Elements.{All-nil, All-head, All-tail, Contains-append_left, Contains-append_right}
 use Rattle.event_form.specs.declared.event.Entry.{Entry}
 use Rattle.edge_io.specs.Door.{DoorState}
-use Rattle.edge_io.specs.Net.{NetState}
 use Rattle.desk_access.specs.Division.{DividedRun}
 use Rattle.desk_access.specs.Call.{Call, takes, pends, marks, Record, own_of, calls_of, taken_by}
 use Rattle.desk_access.specs.Desk.{DeskState}
@@ -20,14 +19,13 @@ use Rattle.forward_core.specs.Calls.{AreOfSession, next_after}
 use Rattle.forward_core.specs.declared.outward.Outward.{Outward}
 use Rattle.spool_turns.specs.Passes.{Known}
 use Rattle.spool_turns.specs.Replays.{HasNumber}
-use Rattle.serve_workers.specs.declared.worker.WorkerReport.{WorkerReport}
 use Rattle.serve_workers.specs.Served.{Served, AreServed, calls_in}
 use Rattle.serve_forwarder.specs.declared.destination.Destination.{Destination}
 use Rattle.serve_forwarder.specs.declared.looking.Outcome.{Outcome}
-use Rattle.serve_forwarder.specs.Looks.{Idle, Unread, Undialed, Held, Found, Look, calls_at, calls_found, calls_of as calls_of_looks, first_of, upto_of, IsFound, IsLook, AreLooks}
+use Rattle.serve_forwarder.specs.Looks.{Forwarder, Idle, Unread, Undialed, Held, Found, Look, calls_at, calls_found, calls_of as calls_of_looks, forwarder_at, IsFound, IsLook, AreLooks}
 use Rattle.serve_forwarder.proofs.Chain.{look_is_ran, looks_are_ran}
-use Rattle.serve_run.specs.Running.{Forwarded}
-use Rattle.serve_laws.specs.Parts.{Part, links_of, AreParts}
+use Rattle.serve_run.specs.Running.{Forwarded, Given, Left}
+use Rattle.serve_laws.specs.Parts.{AreParts, EachPart, IsPart, Part, links_of}
 use Rattle.serve_laws.specs.Contributes.{IsOfLink, IsOfParts}
 use Rattle.serve_laws.proofs.Contributing.{in_groups}
 use Rattle.serve_laws.proofs.Behind.{HaveRun}
@@ -59,20 +57,20 @@ links_written rules first (one ∷ links) served =
     (conn_written one.conn 0 one.calls (calls_are_of_conn rules.proto (terms_of rules) one.conn one.left one.bytes one.calls one.text one.talk served.1)))
     (written_weaker (IsOfLink links) (IsOfLink (one ∷ links)) (calls_in links) (λ entry of. (of.0, Contains-append_right (one ∷ []) links of.0 of.1, of.2)) (links_written rules (first + 1) links served.2))
 
-parts_written : (run : DividedRun) (talks : ℕ) (log : List Record) (number : ℕ) (rules : List Rules) (doors doors' : List DoorState) (reports : List WorkerReport) (parts : List Part) → AreParts run talks log number rules doors doors' reports parts
+parts_written : (run : DividedRun) (talks : ℕ) (log : List Record) (number : ℕ) (rules : List Rules) (doors doors' : List DoorState) (parts : List Part) → EachPart (IsPart run talks log) number rules doors doors' parts
     → (n : ℕ) → number ≤ n → n < number + length rules → AllWritten (IsOfParts parts) (own_of n log)
-parts_written run talks log number [] [] [] [] [] are n least most = absurd (omega (arith, least, most))
-parts_written run talks log number (by ∷ rules) (old ∷ doors) (new ∷ doors') (report ∷ reports) (part ∷ parts) (one, are) n least most = elim (cases_lt number n) [
+parts_written run talks log number [] [] [] [] are n least most = absurd (omega (arith, least, most))
+parts_written run talks log number (by ∷ rules) (old ∷ doors) (new ∷ doors') (part ∷ parts) (one, are) n least most = elim (cases_lt number n) [
   | inl later ↦
       written_weaker (IsOfParts parts) (IsOfParts (part ∷ parts)) (own_of n log) (λ entry of. inr of)
-      (parts_written run talks log (number + 1) rules doors doors' reports parts are n (omega (arith, later)) (omega (arith, most)))
+      (parts_written run talks log (number + 1) rules doors doors' parts are n (omega (arith, later)) (omega (arith, most)))
   | inr here ↦
       let same : number ≡ n = omega (arith, here, least) in
       subst (λ (k : ℕ). AllWritten (IsOfParts (part ∷ parts)) (own_of k log)) same
       (written_weaker (IsOfLink (links_of part)) (IsOfParts (part ∷ parts)) (own_of number log) (λ entry of. inl of)
       (subst (AllWritten (IsOfLink (links_of part))) (sym one.at_door.calls) (links_written by _ (links_of part) one.at_door.served)))
 ]
-parts_written run talks log number rules doors doors' reports parts are n least most = absurd are
+parts_written run talks log number rules doors doors' parts are n least most = absurd are
 
 -- ---- a forwarder writes nothing
 
@@ -85,31 +83,31 @@ module _ (P : Entry → Type 0) where
   session_written end next (marks stretches (Err fault) ∷ calls) of = (All-nil P, subst (AllWritten P) (sym of) tt)
   session_written end next (call ∷ calls) of = absurd of
 
-  module _ (start : DeskState → Type 0) (outward : Outward) (place : List ℕ) where
-    found_written : (look : Look) (found : Found) (a b : Known) → IsFound start outward (upto_of look.offer (first_of look.given)) look.given found a b → AllWritten P (calls_found found)
-    found_written look Idle a b f = tt
-    found_written look (Unread fault) a b f = tt
-    found_written look (Undialed _) a b f = tt
-    found_written look (Held one) a b f = session_written one.until one.start one.calls f.1.ended.session
+  module _ (start : DeskState → Type 0) where
+    found_written : (outward : Outward) (look : Look) (found : Found) (a b : Known) → IsFound start outward look found a b → AllWritten P (calls_found found)
+    found_written outward look Idle a b f = tt
+    found_written outward look (Unread fault) a b f = tt
+    found_written outward look (Undialed _) a b f = tt
+    found_written outward look (Held one) a b f = session_written one.until one.start one.calls f.1.ended.session
 
-    look_written : (look : Look) (a b : Known) (net net' : NetState) → IsLook start outward place look a b net net' → AllWritten P (calls_at look)
-    look_written look a b net net' l = (All-nil P, found_written look look.found l.asked b l.found)
+    look_written : (destination : Destination) (look : Look) (old new : Forwarder) → IsLook start destination look old new → AllWritten P (calls_at look)
+    look_written destination look old new l = (All-nil P, found_written destination.outward look look.found l.asked new.pass l.found)
 
-    looks_written : (looks : List Look) (a b : Known) (net net' : NetState) → AreLooks start outward place looks a b net net' → AllWritten P (calls_of_looks looks)
-    looks_written [] a b net net' are = tt
-    looks_written (look ∷ looks) a b net net' (between, net_between, first, rest) =
-        written_then P (calls_at look) (calls_of_looks looks) (look_written look a between net net_between first) (looks_written looks between b net_between net' rest)
+    looks_written : (destination : Destination) (looks : List Look) (old new : Forwarder) → AreLooks start destination looks old new → AllWritten P (calls_of_looks looks)
+    looks_written destination [] old new are = tt
+    looks_written destination (look ∷ looks) old new (between, first, rest) =
+        written_then P (calls_at look) (calls_of_looks looks) (look_written destination look old between first) (looks_written destination looks between new rest)
 
-  pub forwarder_written : (start : DeskState → Type 0) (destination : Option Destination) (workers : List Known) (pass pass' : Known) (net net' : NetState) (last : Option Outcome) → pass.own ≡ [] → Forwarded start destination workers pass pass' net net' last
-      → AllWritten P pass'.own
-  forwarder_written start None workers pass pass' net net' last new f = subst (AllWritten P) (sym f.1) tt
-  forwarder_written start (Some destination) workers pass pass' net net' last new (outcome, is, f) =
-      let first = looks_are_ran start destination.outward destination.place f.looks pass f.beside net f.net_beside f.looked in
-      let more = look_is_ran start destination.outward destination.place f.look f.met pass' f.net_beside net' f.looked_last in
-      let own : pass'.own ≡ calls_of_looks f.looks ++ calls_at f.look = more.own ∙ ap (λ (l : List Call). l ++ calls_at f.look) (f.has_met.own ∙ first.own ∙ ap (λ (l : List Call). l ++ calls_of_looks f.looks) new) in
+  pub forwarder_written : (start : DeskState → Type 0) (destination : Option Destination) (workers : List Known) (old new : Forwarder) (last : Option Outcome) → old.pass.own ≡ [] → Forwarded start destination workers old new last
+      → AllWritten P new.pass.own
+  forwarder_written start None workers old new last fresh f = subst (AllWritten P) (sym f.1) tt
+  forwarder_written start (Some destination) workers old new last fresh (outcome, is, f) =
+      let first = looks_are_ran start destination f.looks old f.beside f.looked in
+      let more = look_is_ran start destination f.look (forwarder_at f.met f.beside.net) new f.looked_last in
+      let own : new.pass.own ≡ calls_of_looks f.looks ++ calls_at f.look = more.own ∙ ap (λ (l : List Call). l ++ calls_at f.look) (f.has_met.own ∙ first.own ∙ ap (λ (l : List Call). l ++ calls_of_looks f.looks) fresh) in
       subst (AllWritten P) (sym own)
-      (written_then P (calls_of_looks f.looks) (calls_at f.look) (looks_written start destination.outward destination.place f.looks pass f.beside net f.net_beside f.looked)
-      (look_written start destination.outward destination.place f.look f.met pass' f.net_beside net' f.looked_last))
+      (written_then P (calls_of_looks f.looks) (calls_at f.look) (looks_written start destination f.looks old f.beside f.looked)
+      (look_written start destination f.look (forwarder_at f.met f.beside.net) new f.looked_last))
 
   -- ---- a journal
 
@@ -137,17 +135,19 @@ which_pass start number (pass ∷ passes) last n run (inr has) = elim (which_pas
   | inr is ↦ inr is
 ]
 
-pub all_of_parts : (start : DeskState → Type 0) (run : DividedRun) (talks : ℕ) (log : List Record) (rules : List Rules) (doors doors' : List DoorState) (reports : List WorkerReport) (parts : List Part) (workers' : List Known) (forwarder forwarder' : Known)
-    (destination : Option Destination) (net net' : NetState) (last : Option Outcome) (added : List Entry) → AreParts run talks log 0 rules doors doors' reports parts → length workers' ≡ length rules → HaveRun start 0 workers'
-    → forwarder.own ≡ [] → own_of forwarder'.number log ≡ forwarder'.own → Forwarded start destination workers' forwarder forwarder' net net' last → All (λ (one : Record). HasNumber (workers' ++ forwarder' ∷ []) one.by) log
-    → AddsAll (calls_of log) added → All (IsOfParts parts) added
-all_of_parts start run talks log rules doors doors' reports parts workers' forwarder forwarder' destination net net' last added are many run_all new stands forwarded each adds =
+pub all_of_parts : (start : DeskState → Type 0) (run : DividedRun) (log : List Record) (given : Given) (left : Left) (parts : List Part) (workers' : List Known) (forwarder forwarder' : Known)
+    (added : List Entry) → AreParts run log given left parts → length workers' ≡ length given.rules → HaveRun start 0 workers'
+    → forwarder.own ≡ [] → own_of forwarder'.number log ≡ forwarder'.own → Forwarded start given.destination workers' (forwarder_at forwarder given.net) (forwarder_at forwarder' left.net) left.last
+    → All (λ (one : Record). HasNumber (workers' ++ forwarder' ∷ []) one.by) log → AddsAll (calls_of log) added → All (IsOfParts parts) added
+all_of_parts start run log given left parts workers' forwarder forwarder' added are many run_all new stands forwarded each adds =
     let P = IsOfParts parts in
     let g = in_groups (calls_of log) added adds in
+    let old_is = forwarder_at forwarder given.net in
+    let new_is = forwarder_at forwarder' left.net in
     let written = journal_written P (workers' ++ forwarder' ∷ []) log each (λ n has. elim (which_pass start 0 workers' forwarder' n run_all has) [
-      | inl within ↦ parts_written run talks log 0 rules doors doors' reports parts are n within.0 (omega (arith, within.1, many))
+      | inl within ↦ parts_written run given.talks log 0 given.rules given.doors left.doors parts are.each n within.0 (omega (arith, within.1, many))
       | inr is ↦
           subst (λ (k : ℕ). AllWritten P (own_of k log)) is
-          (subst (AllWritten P) (sym stands) (forwarder_written P start destination workers' forwarder forwarder' net net' last new forwarded))
+          (subst (AllWritten P) (sym stands) (forwarder_written P start given.destination workers' old_is new_is left.last new forwarded))
     ]) in
     subst (All P) (sym g.2) (groups_all P (calls_of log) g.0 g.1 written)

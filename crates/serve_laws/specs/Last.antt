@@ -1,19 +1,14 @@
 -- The last look of a run.
-use Rattle.std.specs.Prelude.{◌≡◌, ℕ, ◌-◌, ◌<◌, ◌≤◌, List, [], ◌++◌, length, All, Option, None, Some, Result, Ok, Err}
-use Rattle.edge_io.specs.Net.{NetState}
+use Rattle.std.specs.Prelude.{◌≡◌, ℕ, ◌-◌, ◌<◌, ◌≤◌, List, [], ◌++◌, length, All, None, Some, Result, Ok, Err}
 use Rattle.spool_state.specs.SpoolState.{end}
 use Rattle.spool_answers.specs.declared.fault.PendFault.{PendFault}
 use Rattle.spool_answers.specs.declared.numbered.Numbered.{Numbered}
 use Rattle.spool_desk.specs.Alone.{AloneView}
-use Rattle.desk_access.specs.Division.{DividedRun}
 use Rattle.desk_access.specs.Call.{Call, Record, calls_of}
 use Rattle.desk_access.specs.Desk.{DeskState, Goes}
-use Rattle.spool_turns.specs.Passes.{Beginning, Known}
-use Rattle.serve_forwarder.specs.declared.destination.Destination.{Destination}
-use Rattle.serve_forwarder.specs.declared.looking.Outcome.{Outcome}
 use Rattle.serve_forwarder.specs.Sessions.{Session}
-use Rattle.serve_forwarder.specs.Looks.{Found, Idle, Unread, Undialed, Held, Look, held_in, calls_at, IsPending}
-use Rattle.serve_run.specs.Running.{Forwarded}
+use Rattle.serve_forwarder.specs.Looks.{Found, Idle, Unread, Undialed, Held, Look, forwarder_at, held_in, calls_at, IsPending}
+use Rattle.serve_run.specs.Running.{Forwarded, Seating}
 use Rattle.serve_laws.specs.Runs.{ServerRun}
 
 -- The journal ends with these calls of that caller: after the first of them stands no other caller's record.
@@ -43,16 +38,15 @@ pub record IsLastOfAll (start : DeskState → Type 0) (number : ℕ) (log : List
   pub answered : IsFoundBy look.given look.found
   pub to_end : (x y : DeskState) → start x → Goes x log y → All (SendsUpTo (end y.spool)) (held_in look.found)
 
--- So it is of the last look of a forwarder, where there is a place to forward to.
-abbrev pub LooksLast : (start : DeskState → Type 0) (number : ℕ) (log : List Record) (destination : Option Destination) (workers : List Known)
-    (pass pass' : Known) (net net' : NetState) (last : Option Outcome)
-    → Forwarded start destination workers pass pass' net net' last → Type 0
-LooksLast start number log None workers pass pass' net net' last forwarded = Unit {0}
-LooksLast start number log (Some destination) workers pass pass' net net' last forwarded = IsLastOfAll start number log forwarded.2.look
+-- So it is of the last look of a run's forwarder, where there is a place to forward to.
+abbrev pub LooksLast : {tells : Type 0} {start : DeskState → Type 0} {seating : Seating} {new : AloneView} → ServerRun tells start seating new → Type 0
+LooksLast {start = start} {seating = seating} r =
+    elim r.given.destination as (λ destination. Forwarded start destination r.served.workers' (forwarder_at r.served.forwarder r.given.net)
+    (forwarder_at r.served.forwarder' r.left.net) r.left.last → Type 0) [
+      | None ↦ λ none. Unit {0}
+      | Some destination ↦ λ forwarded. IsLastOfAll start (seating.seats - 1) r.served.log forwarded.2.look
+    ] r.served.forwarded
 
 -- So it is in a run of the server: as the forwarder looks for the last time it has seen all that the workers did, and they do no more.
-abbrev pub LastLookIsLast : Type 0 → (DeskState → Type 0) → DividedRun → ℕ → Beginning → AloneView → Type 0
-LastLookIsLast tells start run seats began new =
-    (r : ServerRun tells start run seats began new)
-    → LooksLast start (seats - 1) r.served.log r.destination r.served.workers' r.served.forwarder r.served.forwarder'
-    r.net r.net' r.last r.served.forwarded
+abbrev pub LastLookIsLast : Type 0 → (DeskState → Type 0) → Seating → AloneView → Type 0
+LastLookIsLast tells start seating new = (r : ServerRun tells start seating new) → LooksLast r

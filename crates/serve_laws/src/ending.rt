@@ -1,5 +1,6 @@
 //! How the journal of a run ends.
 ghost use Rattle.spool_turns.specs.Replays.{desk_at};
+ghost use Rattle.serve_run.specs.Running.{seating_as};
 ghost use Rattle.serve_laws.specs.Last.{LastLookIsLast};
 
 use edge_disk::Disk;
@@ -11,5 +12,5 @@ use spool_turns::Naming;
 /// last record. Where the dial failed, the last record is the look's question, and an entry was pending. Where a session was held, it
 /// was to send all entries up to the end of the list.
 pub fn last_look_is_last<D: Disk, J: Naming>(_desk: &Desk<D>)
-    ensures { LastLookIsLast D.tells J.start J.run J.seats J.began (desk_at _desk.now) }
+    ensures { LastLookIsLast D.tells J.start (seating_as J.run J.seats J.began) (desk_at _desk.now) }
 {}

@@ -1,16 +1,13 @@
 -- A pass that has met others, and the numbers of passes that looked.
 use Rattle.std.proofs.Common.{◌≡◌, ℕ, List, [], ◌∷◌, ◌++◌, ◌∙◌, append_assoc, refl, sym, ap}
-use Rattle.std.specs.Prelude.{Option, Result}
 use Rattle.std.proofs.lemmas.List.Elements.{All-nil, All-push, All-weaker}
 use mathlib.Core.List.{IsPrefix}
-use Rattle.edge_io.specs.Net.{NetState}
-use Rattle.spool_answers.specs.declared.fault.PendFault.{PendFault}
-use Rattle.spool_answers.specs.declared.numbered.Numbered.{Numbered}
 use Rattle.desk_access.specs.Desk.{DeskState}
 use Rattle.forward_core.specs.declared.outward.Outward.{Outward}
 use Rattle.spool_turns.specs.Passes.{Known}
 use Rattle.spool_turns.specs.Own.{prefix_self}
-use Rattle.serve_forwarder.specs.Looks.{Found, Idle, Unread, Undialed, Held, Look, first_of, upto_of, IsFound, AreLooks}
+use Rattle.serve_forwarder.specs.declared.destination.Destination.{Destination}
+use Rattle.serve_forwarder.specs.Looks.{Forwarder, Found, Idle, Unread, Undialed, Held, Look, IsFound, AreLooks}
 use Rattle.serve_run.specs.Running.{HasMet}
 
 prefix_then : {A : Type 0} (xs ys zs : List A) → IsPrefix xs ys → IsPrefix ys zs → IsPrefix xs zs
@@ -32,13 +29,13 @@ met_more others other pass between pass' met first second same = record {
 
 -- ---- looks leave a pass its number
 
-found_number : (start : DeskState → Type 0) (outward : Outward) (upto : Option ℕ) (given : Result (List Numbered) PendFault) (found : Found) (pass pass' : Known) → IsFound start outward upto given found pass pass' → pass'.number ≡ pass.number
-found_number start outward upto given Idle pass pass' is = ap (λ (p : Known). p.number) is.1
-found_number start outward upto given (Unread fault) pass pass' is = ap (λ (p : Known). p.number) is.1
-found_number start outward upto given (Undialed fault) pass pass' is = ap (λ (p : Known). p.number) is.1
-found_number start outward upto given (Held one) pass pass' is = is.1.made.number ∙ is.1.asked.end_ran.number ∙ is.1.asked.cursor_ran.number
+found_number : (start : DeskState → Type 0) (outward : Outward) (look : Look) (found : Found) (pass pass' : Known) → IsFound start outward look found pass pass' → pass'.number ≡ pass.number
+found_number start outward look Idle pass pass' is = ap (λ (p : Known). p.number) is.1
+found_number start outward look (Unread _) pass pass' is = ap (λ (p : Known). p.number) is.1
+found_number start outward look (Undialed _) pass pass' is = ap (λ (p : Known). p.number) is.1
+found_number start outward look (Held one) pass pass' is = is.1.made.number ∙ is.1.asked.end_ran.number ∙ is.1.asked.cursor_ran.number
 
-pub looks_number : (start : DeskState → Type 0) (outward : Outward) (place : List ℕ) (looks : List Look) (pass pass' : Known) (net net' : NetState) → AreLooks start outward place looks pass pass' net net' → pass'.number ≡ pass.number
-looks_number start outward place [] pass pass' net net' are = ap (λ (p : Known). p.number) are.0
-looks_number start outward place (look ∷ looks) pass pass' net net' are =
-    looks_number start outward place looks are.0 pass' are.1 net' are.3 ∙ found_number start outward (upto_of look.offer (first_of look.given)) look.given look.found are.2.asked are.0 are.2.found ∙ are.2.asks.number
+pub looks_number : (start : DeskState → Type 0) (destination : Destination) (looks : List Look) (old new : Forwarder) → AreLooks start destination looks old new → new.pass.number ≡ old.pass.number
+looks_number start destination [] old new are = ap (λ (p : Known). p.number) are.0
+looks_number start destination (look ∷ looks) old new are =
+    looks_number start destination looks are.0 new are.2 ∙ found_number start destination.outward look look.found are.1.asked are.0.pass are.1.found ∙ are.1.asks.number

@@ -1,5 +1,5 @@
 -- What a run of the server did.
-use Rattle.std.specs.Prelude.{◌≡◌, ℕ, List, [], ◌∷◌, ◌++◌, length, All, Option, None, Some}
+use Rattle.std.specs.Prelude.{◌≡◌, ℕ, List, [], ◌∷◌, ◌++◌, length, map, All, Option, None, Some}
 use mathlib.Core.List.{IsPrefix}
 use Rattle.edge_io.specs.Door.{DoorState}
 use Rattle.edge_io.specs.Net.{NetState}
@@ -10,11 +10,12 @@ use Rattle.desk_access.specs.Desk.{DeskState}
 use Rattle.conn_serve.specs.declared.rules.Rules.{Rules}
 use Rattle.spool_turns.specs.Passes.{Beginning, Known}
 use Rattle.spool_turns.specs.Replays.{Closes}
+use Rattle.serve_workers.specs.declared.crew.Post.{Post}
 use Rattle.serve_workers.specs.declared.worker.WorkerReport.{WorkerReport}
-use Rattle.serve_workers.specs.Crews.{AreNew, HaveWorked}
+use Rattle.serve_workers.specs.Crews.{AreNew, HaveWorked, roster_as, returned_as}
 use Rattle.serve_forwarder.specs.declared.destination.Destination.{Destination}
 use Rattle.serve_forwarder.specs.declared.looking.Outcome.{Outcome}
-use Rattle.serve_forwarder.specs.Looks.{Every, Look, IsLook, AreInTurn, AreLooks, outcome_of}
+use Rattle.serve_forwarder.specs.Looks.{Every, Forwarder, Look, IsLook, AreInTurn, AreLooks, forwarder_at, outcome_of}
 
 -- A pass has seen what it had seen before and what these others have seen. It made no call for that.
 pub record HasMet (others : List Known) (pass pass' : Known) : Type 0 where
@@ -23,41 +24,40 @@ pub record HasMet (others : List Known) (pass pass' : Known) : Type 0 where
   pub seen : IsPrefix pass.seen pass'.seen
   pub each : All (λ (other : Known). IsPrefix other.seen pass'.seen) others
 
--- A forwarder's pass, and what its net tells, at one moment.
-pub record Forwarder : Type 0 where
-  pub pass : Known
-  pub net : NetState
-
-abbrev pub with_net : Known → NetState → Forwarder
-with_net pass net = record { pass = pass; net = net }
-
 -- The forwarder's pass was shown all that these passes have seen. Then it looked, at all that was pending, and `last` came of that.
 abbrev pub LooksLast : (DeskState → Type 0) → Destination → List Known → Forwarder → Forwarder → Outcome → Type 0
 LooksLast start destination workers old new last =
     (met : Known) × (look : Look) × HasMet workers old.pass met
-    × IsLook start destination.outward destination.place look met new.pass old.net new.net × (look.offer ≡ Every) × (last ≡ outcome_of look.found)
+    × IsLook start destination look (forwarder_at met old.net) new × (look.offer ≡ Every) × (last ≡ outcome_of look.found)
 
 -- The forwarder looked beside the workers, again and again. Once they had ended, and it had seen all that they had seen, it looked
 -- once more, at all that was pending, and `last` came of that.
-pub record HasForwarded (start : DeskState → Type 0) (destination : Destination) (workers : List Known) (pass pass' : Known)
-    (net net' : NetState) (last : Outcome) : Type 0 where
+pub record HasForwarded (start : DeskState → Type 0) (destination : Destination) (workers : List Known) (old new : Forwarder) (last : Outcome) : Type 0 where
   pub looks : List Look
-  pub beside : Known
-  pub net_beside : NetState
-  pub looked : AreLooks start destination.outward destination.place looks pass beside net net_beside
+  pub beside : Forwarder
+  pub looked : AreLooks start destination looks old beside
   pub in_turn : AreInTurn None looks
   pub met : Known
-  pub has_met : HasMet workers beside met
+  pub has_met : HasMet workers beside.pass met
   pub look : Look
-  pub looked_last : IsLook start destination.outward destination.place look met pass' net_beside net'
+  pub looked_last : IsLook start destination look (forwarder_at met beside.net) new
   pub every : look.offer ≡ Every
   pub last_is : last ≡ outcome_of look.found
 
 -- So it is where there is a destination. Where there is none it made no call, and the net is as it was.
-abbrev pub Forwarded : (DeskState → Type 0) → Option Destination → List Known → Known → Known → NetState → NetState → Option Outcome → Type 0
-Forwarded start None workers pass pass' net net' last = (pass'.number ≡ pass.number) × (pass'.own ≡ []) × (net' ≡ net) × (last ≡ None)
-Forwarded start (Some destination) workers pass pass' net net' last =
-    (outcome : Outcome) × (last ≡ Some outcome) × HasForwarded start destination workers pass pass' net net' outcome
+abbrev pub Forwarded : (DeskState → Type 0) → Option Destination → List Known → Forwarder → Forwarder → Option Outcome → Type 0
+Forwarded start None workers old new last = (new.pass.number ≡ old.pass.number) × (new.pass.own ≡ []) × (new.net ≡ old.net) × (last ≡ None)
+Forwarded start (Some destination) workers old new last =
+    (outcome : Outcome) × (last ≡ Some outcome) × HasForwarded start destination workers old new outcome
+
+-- The run by which a desk was opened, how many have a seat at it, and how it began.
+pub record Seating : Type 1 where
+  pub run : DividedRun
+  pub seats : ℕ
+  pub began : Beginning
+
+abbrev pub seating_as : DividedRun → ℕ → Beginning → Seating
+seating_as run seats began = record { run = run; seats = seats; began = began }
 
 -- What a run is given: how many links each worker serves at most, the rules and the doors in the order of the workers, the destination,
 -- if there is one, and the net.
@@ -70,6 +70,10 @@ pub record Given : Type 0 where
 
 abbrev pub given_as : ℕ → List Rules → List DoorState → Option Destination → NetState → Given
 given_as talks rules doors destination net = record { talks = talks; rules = rules; doors = doors; destination = destination; net = net }
+
+-- the same of posts, each of which has its rules and its door, where a door tells this
+abbrev pub given_by : {P L : Type 0} → (P → DoorState) → ℕ → List (Post P L) → Option Destination → NetState → Given
+given_by told talks posts destination net = given_as talks (map (λ post. post.rules) posts) (map (λ post. told post.door) posts) destination net
 
 -- What it leaves: the doors and the reports in the order of the workers, the net, and what came of the last look, if there was one.
 pub record Left : Type 0 where
@@ -90,26 +94,24 @@ pub record HasRun (start : DeskState → Type 0) (run : DividedRun) (given : Giv
   pub before : passes ≡ workers ++ forwarder ∷ []
   pub after : passes' ≡ workers' ++ forwarder' ∷ []
   pub count : (length workers ≡ length given.rules) × (length workers' ≡ length given.rules)
-  pub worked : HaveWorked start run given.talks given.rules given.doors workers left.doors workers' left.reports
-  pub forwarded : Forwarded start given.destination workers' forwarder forwarder' given.net left.net left.last
+  pub worked : HaveWorked start run given.talks (roster_as given.rules given.doors workers) (returned_as left.doors workers' left.reports)
+  pub forwarded : Forwarded start given.destination workers' (forwarder_at forwarder given.net) (forwarder_at forwarder' left.net) left.last
 
 -- One journal of all calls led to the desk that comes back. Each worker's part of it is the calls of the links that it served at its
 -- door. The part of the forwarder, whose pass has the greatest number, is the calls of its looks. All lists are in the order of the
 -- workers.
-pub record HasServed (tells : Type 0) (start : DeskState → Type 0) (run : DividedRun) (seats : ℕ) (began : Beginning) (talks : ℕ) (rules : List Rules)
-    (doors doors' : List DoorState) (reports : List WorkerReport) (destination : Option Destination) (net net' : NetState)
-    (last : Option Outcome) (new : AloneView) : Type 0 where
+pub record HasServed (tells : Type 0) (start : DeskState → Type 0) (seating : Seating) (given : Given) (left : Left) (new : AloneView) : Type 0 where
   pub log : List Record
   pub workers : List Known
   pub workers' : List Known
   pub forwarder : Known
   pub forwarder' : Known
   pub fresh : AreNew 0 (workers ++ forwarder ∷ [])
-  pub count : (length workers ≡ length rules) × (length workers' ≡ length rules)
-  pub closes : Closes tells start run seats began log (workers' ++ forwarder' ∷ []) new
-  pub worked : HaveWorked start run talks rules doors workers doors' workers' reports
-  pub forwarded : Forwarded start destination workers' forwarder forwarder' net net' last
+  pub count : (length workers ≡ length given.rules) × (length workers' ≡ length given.rules)
+  pub closes : Closes tells start seating.run seating.seats seating.began log (workers' ++ forwarder' ∷ []) new
+  pub worked : HaveWorked start seating.run given.talks (roster_as given.rules given.doors workers) (returned_as left.doors workers' left.reports)
+  pub forwarded : Forwarded start given.destination workers' (forwarder_at forwarder given.net) (forwarder_at forwarder' left.net) left.last
 
 -- No call was made on the desk.
-abbrev pub HasNotServed : Type 0 → (DeskState → Type 0) → DividedRun → ℕ → Beginning → AloneView → Type 0
-HasNotServed tells start run seats began new = (passes : List Known) × Closes tells start run seats began [] passes new
+abbrev pub HasNotServed : Type 0 → (DeskState → Type 0) → Seating → AloneView → Type 0
+HasNotServed tells start seating new = (passes : List Known) × Closes tells start seating.run seating.seats seating.began [] passes new

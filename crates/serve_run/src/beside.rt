@@ -5,8 +5,8 @@ ghost use Rattle.std.specs.Vec.{vec_capacity};
 ghost use Rattle.forward_core.specs.Exchanged.{HasExchangedAt};
 ghost use Rattle.spool_turns.specs.Levels.{HasLevel};
 ghost use Rattle.spool_turns.specs.Replays.{IsReal};
-ghost use Rattle.serve_workers.specs.Crews.{AreNew, HaveWorked};
-ghost use Rattle.serve_forwarder.specs.Looks.{AreInTurn, AreLooks, Look};
+ghost use Rattle.serve_workers.specs.Crews.{AreNew, HaveWorked, returned_as};
+ghost use Rattle.serve_forwarder.specs.Looks.{AreInTurn, AreLooks, Look, forwarder_at};
 ghost use Rattle.serve_forwarder.specs.Released.{MayRelease};
 ghost use Rattle.serve_run.specs.Telling.{MayTell};
 
@@ -41,8 +41,8 @@ impl<'a, N: Net, D: Disk + Drop, J: Naming, R: Wait> Task for Forwarding<'a, N, 
         (HasExchangedAt N.L.same N.L.dialed N.L.given N.L.taken t.destination.now.place) D.may_release };
 
     ghost leaves = { λ t r. (r.0.ghost_name ≡ t.net.ghost_name)
-        × ((looks : List Look) × AreLooks J.start t.destination.now.outward t.destination.now.place looks t.seated.pass r.1
-        (N.told t.net.now) (N.told r.0.now) × AreInTurn None looks) };
+        × ((looks : List Look) × AreLooks J.start t.destination.now looks (forwarder_at t.seated.pass (N.told t.net.now))
+        (forwarder_at r.1 (N.told r.0.now)) × AreInTurn None looks) };
 
     fn run(self) -> (&'a mut N, Pass<J>) {
         let Forwarding {
@@ -99,13 +99,13 @@ where
         (HasExchangedAt N.L.same N.L.dialed N.L.given N.L.taken destination.now.place) D.may_release }
     requires tells { IfSome monitor (λ _. MayTell (HasLevel D.Disk J.start J.run J.seats J.began) J.run.number N.M.may_tell) }
 
-    ensures worked { HaveWorked J.start J.run talks hired.entry.rules hired.entry.doors hired.entry.passes
-        (map (λ (door : _). P.told door) result.1.doors.items) result.1.passes.items result.1.reports.items }
+    ensures worked { HaveWorked J.start J.run talks hired.entry
+        (returned_as (map (λ (door : _). P.told door) result.1.doors.items) result.1.passes.items result.1.reports.items) }
     ensures many { (vec_len result.1.doors ≡ length hired.entry.passes) × (vec_len result.1.passes ≡ length hired.entry.passes)
         × (vec_len result.1.reports ≡ length hired.entry.passes) }
     ensures room { vec_len result.1.passes < vec_capacity result.1.passes }
-    ensures looked { (looks : List Look) × AreLooks J.start destination.now.outward destination.now.place looks seated.entry.pass result.0
-        (N.told net.old) (N.told net.new) × AreInTurn None looks }
+    ensures looked { (looks : List Look) × AreLooks J.start destination.now looks (forwarder_at seated.entry.pass (N.told net.old))
+        (forwarder_at result.0 (N.told net.new)) × AreInTurn None looks }
 {
     let flag = AtomicBool::new(false);
     let ended = &flag;
@@ -122,8 +122,8 @@ where
         forwarding,
         move || -> Crew<P, J>
             requires { AreNew 0 hired.passes × (talks ≤ each_of J.run.division) }
-            ensures worked { HaveWorked J.start J.run talks hired.entry.rules hired.entry.doors hired.entry.passes
-                (map (λ (door : _). P.told door) result.doors.items) result.passes.items result.reports.items }
+            ensures worked { HaveWorked J.start J.run talks hired.entry
+                (returned_as (map (λ (door : _). P.told door) result.doors.items) result.passes.items result.reports.items) }
             ensures many { (vec_len result.doors ≡ length hired.entry.passes) × (vec_len result.passes ≡ length hired.entry.passes)
                 × (vec_len result.reports ≡ length hired.entry.passes) }
             ensures room { vec_len result.passes < vec_capacity result.passes }

@@ -4,7 +4,8 @@ ghost use Rattle.std.specs.Vec.{vec_capacity};
 ghost use Rattle.forward_core.specs.Exchanged.{HasExchangedAt};
 ghost use Rattle.spool_turns.specs.Replays.{IsReal};
 ghost use Rattle.serve_forwarder.specs.Released.{MayRelease};
-ghost use Rattle.serve_run.specs.Running.{HasMet, LooksLast, with_net};
+ghost use Rattle.serve_forwarder.specs.Looks.{forwarder_at};
+ghost use Rattle.serve_run.specs.Running.{HasMet, LooksLast};
 
 use edge_disk::Disk;
 use edge_io::Net;
@@ -43,8 +44,8 @@ pub(crate) fn look_again<N: Net, D: Disk, J: Naming, R: Wait>(
     requires earned { MayRelease (IsReal D.Disk J.start J.run J.seats J.began) J.start destination.now.outward
         (HasExchangedAt N.L.same N.L.dialed N.L.given N.L.taken destination.now.place) D.may_release }
 
-    ensures looked { LooksLast J.start destination.now workers.old.items (with_net forwarder.old.pass (N.told net.old))
-        (with_net forwarder.new.pass (N.told net.new)) result }
+    ensures looked { LooksLast J.start destination.now workers.old.items (forwarder_at forwarder.old.pass (N.told net.old))
+        (forwarder_at forwarder.new.pass (N.told net.new)) result }
     ensures same { (workers.new.items ≡ workers.old.items) × (vec_len workers.new ≡ vec_len workers.old)
         × (vec_capacity workers.new ≡ vec_capacity workers.old) }
 {

@@ -3,14 +3,14 @@ ghost use Rattle.std.specs.Prelude.{◌≡◌, ◌<◌, ◌≤◌, IfSome, lengt
 ghost use Rattle.std.specs.Vec.{vec_capacity};
 ghost use Rattle.desk_access.specs.Division.{each_of};
 ghost use Rattle.spool_turns.specs.Levels.{HasLevel};
-ghost use Rattle.serve_workers.specs.Crews.{AreNew, HaveWorked};
+ghost use Rattle.serve_workers.specs.Crews.{AreNew, HaveWorked, returned_as};
 ghost use Rattle.serve_run.specs.Telling.{MayTell, numbers_of};
 
 use crate::working::{Task, work_beside, work_beside_both};
 use edge_disk::Disk;
-use edge_io::{Door, Monitor, SpoolNumbers};
+use edge_io::{Door, EventCounts, Monitor, SpoolNumbers};
 use serve_workers::{Crew, Hired};
-use spool_turns::{Level, Naming, Shared};
+use spool_turns::{Level, Naming, Shared, StoredCounts};
 use std::alloc::Global;
 use std::sync::Wait;
 use std::sync::atomic::{AtomicBool, Ordering};
@@ -26,9 +26,20 @@ struct Reporting<'a, M: Monitor, D: Disk, J: Naming, R: Wait> {
     ended: &'a AtomicBool,
 }
 
-// The numbers of a spool that stands at this level, in that run.
-fn numbers_at(run: u32, level: Level) -> SpoolNumbers
-    ensures { result ≡ numbers_of run level }
+// How many events were stored, as it is told.
+fn counts_of(stored: StoredCounts) -> EventCounts
+    ensures { result ≡ record { relp = stored.relp; lumberjack = stored.lumberjack; hec = stored.hec } }
+{
+    EventCounts {
+        relp: stored.relp,
+        lumberjack: stored.lumberjack,
+        hec: stored.hec,
+    }
+}
+
+// The numbers of a spool that stands at this level, in that run, which has stored these events.
+fn numbers_at(run: u32, level: Level, stored: EventCounts) -> SpoolNumbers
+    ensures { result ≡ numbers_of run level stored }
 {
     SpoolNumbers {
         run,
@@ -39,6 +50,7 @@ fn numbers_at(run: u32, level: Level) -> SpoolNumbers
         slots: level.slots,
         free_slots: level.free_slots,
         most: level.most,
+        stored,
     }
 }
 
@@ -61,7 +73,8 @@ impl<'a, M: Monitor + Drop, D: Disk, J: Naming, R: Wait> Task for Reporting<'a, 
                 break;
             }
             if monitor.is_asked() {
-                let numbers = numbers_at(shared.run(), shared.level(rt));
+                let stored = counts_of(shared.stored());
+                let numbers = numbers_at(shared.run(), shared.level(rt), stored);
                 monitor.tell(&numbers);
             }
         }
@@ -120,8 +133,8 @@ where
     requires new { AreNew 0 hired.passes }
     requires talks { talks ≤ each_of J.run.division }
 
-    ensures worked { HaveWorked J.start J.run talks hired.entry.rules hired.entry.doors hired.entry.passes
-        (map (λ (door : _). P.told door) result.doors.items) result.passes.items result.reports.items }
+    ensures worked { HaveWorked J.start J.run talks hired.entry
+        (returned_as (map (λ (door : _). P.told door) result.doors.items) result.passes.items result.reports.items) }
     ensures many { (vec_len result.doors ≡ length hired.entry.passes) × (vec_len result.passes ≡ length hired.entry.passes)
         × (vec_len result.reports ≡ length hired.entry.passes) }
     ensures room { vec_len result.passes < vec_capacity result.passes }
@@ -142,8 +155,8 @@ where
         reporting,
         move || -> Crew<P, J>
             requires { AreNew 0 hired.passes × (talks ≤ each_of J.run.division) }
-            ensures worked { HaveWorked J.start J.run talks hired.entry.rules hired.entry.doors hired.entry.passes
-                (map (λ (door : _). P.told door) result.doors.items) result.passes.items result.reports.items }
+            ensures worked { HaveWorked J.start J.run talks hired.entry
+                (returned_as (map (λ (door : _). P.told door) result.doors.items) result.passes.items result.reports.items) }
             ensures many { (vec_len result.doors ≡ length hired.entry.passes) × (vec_len result.passes ≡ length hired.entry.passes)
                 × (vec_len result.reports ≡ length hired.entry.passes) }
             ensures room { vec_len result.passes < vec_capacity result.passes }

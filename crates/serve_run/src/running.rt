@@ -6,10 +6,12 @@ ghost use Rattle.std.specs.Vec.{vec_capacity};
 ghost use Rattle.forward_core.specs.Exchanged.{HasExchangedAt};
 ghost use Rattle.spool_turns.specs.Levels.{HasLevel};
 ghost use Rattle.spool_turns.specs.Replays.{IsReal, desk_at};
-ghost use Rattle.serve_workers.specs.Crews.{AreNew, HaveWorked};
+ghost use Rattle.serve_workers.specs.Crews.{AreNew, HaveWorked, returned_as};
 ghost use Rattle.serve_workers.specs.Answering.{MayAnswer};
 ghost use Rattle.serve_forwarder.specs.Released.{MayRelease};
-ghost use Rattle.serve_run.specs.Running.{Forwarded, HasRun, given_as, left_as, HasServed, HasNotServed};
+ghost use Rattle.serve_forwarder.specs.Looks.{forwarder_at};
+ghost use Rattle.serve_run.specs.Running.{Forwarded, HasRun, HasNotServed, given_by, seating_as};
+ghost use Rattle.serve_run.specs.Served.{IsServed, left_by};
 ghost use Rattle.serve_run.specs.Telling.{MayTell};
 
 use crate::beside::work_and_forward;
@@ -87,13 +89,13 @@ where
         (HasExchangedAt N.L.same N.L.dialed N.L.given N.L.taken destination.now.place) D.may_release }
     requires tells { IfSome monitor (λ _. MayTell (HasLevel D.Disk J.start J.run J.seats J.began) J.run.number N.M.may_tell) }
 
-    ensures worked { HaveWorked J.start J.run talks hired.entry.rules hired.entry.doors hired.entry.passes
-        (map (λ (door : _). P.told door) result.0.crew.doors.items) result.0.crew.passes.items result.0.crew.reports.items }
+    ensures worked { let crew = result.0.crew in HaveWorked J.start J.run talks hired.entry
+        (returned_as (map (λ (door : _). P.told door) crew.doors.items) crew.passes.items crew.reports.items) }
     ensures many { (vec_len result.0.crew.doors ≡ length hired.entry.passes) × (vec_len result.0.crew.passes ≡ length hired.entry.passes)
         × (vec_len result.0.crew.reports ≡ length hired.entry.passes) }
     ensures room { vec_len result.0.crew.passes < vec_capacity result.0.crew.passes }
-    ensures forwarded { Forwarded J.start (Some destination.now) result.0.crew.passes.items seated.entry.pass result.1
-        (N.told net.old) (N.told net.new) result.0.last }
+    ensures forwarded { Forwarded J.start (Some destination.now) result.0.crew.passes.items
+        (forwarder_at seated.entry.pass (N.told net.old)) (forwarder_at result.1 (N.told net.new)) result.0.last }
 {
     let shared = seated.shared;
     let (pass, mut crew) = work_and_forward(
@@ -149,13 +151,13 @@ where
         (HasExchangedAt N.L.same N.L.dialed N.L.given N.L.taken d.now.place) D.may_release) }
     requires tells { IfSome monitor (λ _. MayTell (HasLevel D.Disk J.start J.run J.seats J.began) J.run.number N.M.may_tell) }
 
-    ensures worked { HaveWorked J.start J.run talks hired.entry.rules hired.entry.doors hired.entry.passes
-        (map (λ (door : _). P.told door) result.0.crew.doors.items) result.0.crew.passes.items result.0.crew.reports.items }
+    ensures worked { let crew = result.0.crew in HaveWorked J.start J.run talks hired.entry
+        (returned_as (map (λ (door : _). P.told door) crew.doors.items) crew.passes.items crew.reports.items) }
     ensures many { (vec_len result.0.crew.doors ≡ length hired.entry.passes) × (vec_len result.0.crew.passes ≡ length hired.entry.passes)
         × (vec_len result.0.crew.reports ≡ length hired.entry.passes) }
     ensures room { vec_len result.0.crew.passes < vec_capacity result.0.crew.passes }
-    ensures forwarded { Forwarded J.start (option_copied destination.entry) result.0.crew.passes.items seated.entry.pass result.1
-        (N.told net.old) (N.told net.new) result.0.last }
+    ensures forwarded { Forwarded J.start (option_copied destination.entry) result.0.crew.passes.items
+        (forwarder_at seated.entry.pass (N.told net.old)) (forwarder_at result.1 (N.told net.new)) result.0.last }
 {
     match destination {
         Some(destination) => run_beside(rt, alloc, talks, destination, net, monitor, seated, hired),
@@ -207,10 +209,9 @@ where
     requires tells { IfSome monitor (λ _. MayTell (HasLevel D.Disk J.start J.run J.seats J.began) J.run.number N.M.may_tell) }
 
     ensures many { IfOk result (λ ran. (vec_len ran.crew.doors ≡ vec_len posts) × (vec_len ran.crew.reports ≡ vec_len posts)) }
-    ensures ran { IfOk result (λ ran. HasRun J.start J.run (given_as talks (map (λ (post : _). post.rules) posts.items)
-        (map (λ (post : _). P.told post.door) posts.items) (option_copied destination.entry) (N.told net.old))
-        (left_as (map (λ (door : _). P.told door) ran.crew.doors.items) ran.crew.reports.items (N.told net.new) ran.last)
-        passes.items ran.crew.passes.items) }
+    ensures ran { IfOk result (λ it. HasRun J.start J.run
+        (given_by P.told talks posts.items (option_copied destination.entry) (N.told net.old))
+        (left_by P.told it (N.told net.new)) passes.items it.crew.passes.items) }
     ensures err { IfErr result (λ none. (none.posts ≡ posts) × (none.passes.items ≡ passes.items) × (net.new ≡ net.old)) }
 {
     let mut passes = passes;
@@ -290,11 +291,10 @@ where
     requires tells { IfSome monitor (λ _. MayTell (HasLevel D.Disk J.start J.run J.seats J.began) J.run.number N.M.may_tell) }
 
     ensures many { IfOk result (λ served. (vec_len served.doors ≡ vec_len posts) × (vec_len served.reports ≡ vec_len posts)) }
-    ensures served { IfOk result (λ served. HasServed D.tells J.start J.run J.seats J.began talks (map (λ (post : _). post.rules) posts.items)
-        (map (λ (post : _). P.told post.door) posts.items) (map (λ (door : _). P.told door) served.doors.items) served.reports.items
-        (option_copied destination.entry) (N.told net.old) (N.told net.new) served.last (desk_at served.desk)) }
+    ensures served { IfOk result (IsServed P.told J.start (seating_as J.run J.seats J.began)
+        (given_by P.told talks posts.items (option_copied destination.entry) (N.told net.old)) (N.told net.new)) }
     ensures err { IfErr result (λ unserved. (unserved.posts ≡ posts) × (net.new ≡ net.old)
-        × HasNotServed D.tells J.start J.run J.seats J.began (desk_at unserved.desk)) }
+        × HasNotServed D.tells J.start (seating_as J.run J.seats J.began) (desk_at unserved.desk)) }
 {
     let Opened { shared, passes } = opened;
     match run(

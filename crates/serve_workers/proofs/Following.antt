@@ -28,10 +28,10 @@ use Rattle.spool_turns.specs.Ran.{Ran, ran_none, ran_more}
 use Rattle.serve_workers.specs.declared.worker.WorkerEnd.{WorkerEnd}
 use Rattle.serve_workers.specs.declared.worker.WorkerEnd.TheVariants.{Shut, Enough, AcceptFault, NoMemory}
 use Rattle.serve_workers.specs.declared.worker.WorkerReport.{WorkerReport}
-use Rattle.serve_workers.specs.Served.{Served, AtDoor, AreServed, calls_in, how_many, by_disk}
-use Rattle.serve_workers.specs.Works.{ServesLink, EndsBy, Stops, Worked}
+use Rattle.serve_workers.specs.Served.{Served, Links, AtDoor, links_as, AreServed, calls_in, how_many, by_disk}
+use Rattle.serve_workers.specs.Works.{ServesLink, EndsBy, Stops, Worked, posted_as, dismissed_as}
 use Rattle.serve_workers.specs.Crews.{IsReady}
-use Rattle.serve_workers.proofs.Joining.{at_door_none, at_door_then}
+use Rattle.serve_workers.proofs.Joining.{Done, at_door_of, done_of, done_none, done_then}
 
 -- ---- what was taken is of earlier connections
 
@@ -81,14 +81,14 @@ disk_faults rules first (one ∷ more) are =
 pub record Works (start : DeskState → Type 0) (run : DividedRun) (rules : Rules) (many : ℕ) (old new : DoorState) (pass pass' : Known) : Type 0 where
   pub finished : List Served
   pub count : length finished ≡ many
-  pub at_door : AtDoor rules (first_conn run pass.number) old new (λ calls. Ran start pass calls pass') finished finished
+  pub done : Done rules (first_conn run pass.number) old new (λ calls. Ran start pass calls pass') finished finished
   pub accept_faults : new.accept_faults ≡ old.accept_faults
 
 pub works_none : (start : DeskState → Type 0) (run : DividedRun) (rules : Rules) (old : DoorState) (pass : Known) → Works start run rules 0 old old pass pass
 works_none start run rules old pass = record {
   finished = [];
   count = refl;
-  at_door = at_door_none rules (first_conn run pass.number) old (λ calls. Ran start pass calls pass) (ran_none start pass);
+  done = done_none rules (first_conn run pass.number) old (λ calls. Ran start pass calls pass) (ran_none start pass);
   accept_faults = refl;
 }
 
@@ -113,10 +113,10 @@ module _ (start : DeskState → Type 0) (run : DividedRun) (rules : Rules) (many
   pub works_may : IsReady run pass.number pass → n < each_of run.division → IsNext run pass1.number pass1.own (first + n) 0
   works_may ready few =
       let conn : first + n ≡ first_conn run pass.number + length w.finished = omega (arith, first_is, same, w.count) in
-      let number : pass1.number ≡ pass.number = w.at_door.calls.number in
+      let number : pass1.number ≡ pass.number = w.done.calls.number in
       let belongs : Belongs run pass.number (first + n) = record { few = ready.1; from = omega (arith, first_is); below = omega (arith, first_is, few) } in
-      let own : calls_in w.finished ≡ pass1.own = sym (w.at_door.calls.own ∙ ap (λ (l : List Call). l ++ calls_in w.finished) ready.2) in
-      let earlier : AreEarlier (first + n) (calls_in w.finished) = links_earlier rules (first_conn run pass.number) (first + n) w.finished (omega (arith, conn)) w.at_door.served in
+      let own : calls_in w.finished ≡ pass1.own = sym (w.done.calls.own ∙ ap (λ (l : List Call). l ++ calls_in w.finished) ready.2) in
+      let earlier : AreEarlier (first + n) (calls_in w.finished) = links_earlier rules (first_conn run pass.number) (first + n) w.finished (omega (arith, conn)) w.done.served in
       next_first run pass1.number pass1.own (first + n) (subst (λ (k : ℕ). Belongs run k (first + n)) (sym number) belongs) (subst (AreEarlier (first + n)) own earlier)
 
   -- a link more
@@ -124,48 +124,48 @@ module _ (start : DeskState → Type 0) (run : DividedRun) (rules : Rules) (many
   works_more new pass2 (one, at_door, faults) = record {
     finished = w.finished ++ one ∷ [];
     count = length-append w.finished (one ∷ []) ∙ ap (λ (k : ℕ). k + 1) w.count;
-    at_door = at_door_then rules (first_conn run pass.number) (first + n) old between new (λ calls. Ran start pass calls pass1) (λ calls. Ran start pass1 calls pass2) (λ calls. Ran start pass calls pass2) w.finished (one ∷ []) (one ∷ [])
-        (omega (arith, first_is, same, w.count)) (λ calls more p q. ran_more start pass pass1 pass2 calls more p q) w.at_door at_door;
+    done = done_then rules (first_conn run pass.number) (first + n) old between new (λ calls. Ran start pass calls pass1) (λ calls. Ran start pass1 calls pass2) (λ calls. Ran start pass calls pass2) w.finished (one ∷ []) (one ∷ [])
+        (omega (arith, first_is, same, w.count)) (λ calls more p q. ran_more start pass pass1 pass2 calls more p q) w.done (done_of rules (first + n) between new (λ calls. Ran start pass1 calls pass2) (links_as (one ∷ []) []) at_door);
     accept_faults = faults ∙ w.accept_faults;
   }
 
   -- the worker has ended, before it served as many links as it was to
-  pub works_ends : (talks : ℕ) (new : DoorState) (pass2 : Known) (end : WorkerEnd) → many < talks → Stops rules (first + n) between new (λ calls. Ran start pass1 calls pass2) end → Worked start run rules talks old new pass pass2 (report end many)
+  pub works_ends : (talks : ℕ) (new : DoorState) (pass2 : Known) (end : WorkerEnd) → many < talks → Stops rules (first + n) between new (λ calls. Ran start pass1 calls pass2) end → Worked start run talks (posted_as rules old pass) (dismissed_as new pass2 (report end many))
   works_ends talks new pass2 end less o =
-      let at_door : AtDoor rules (first_conn run pass.number) old new (λ calls. Ran start pass calls pass2) (w.finished ++ o.late) (w.finished ++ []) =
-      at_door_then rules (first_conn run pass.number) (first + n) old between new (λ calls. Ran start pass calls pass1) (λ calls. Ran start pass1 calls pass2) (λ calls. Ran start pass calls pass2) w.finished o.late []
-      (omega (arith, first_is, same, w.count)) (λ calls more p q. ran_more start pass pass1 pass2 calls more p q) w.at_door o.at_door in
+      let made = λ (calls : List Call). Ran start pass calls pass2 in
+      let last = done_of rules (first + n) between new (λ calls. Ran start pass1 calls pass2) (links_as [] o.late) o.at_door in
+      let done : Done rules (first_conn run pass.number) old new made (w.finished ++ o.late) (w.finished ++ []) =
+      done_then rules (first_conn run pass.number) (first + n) old between new (λ calls. Ran start pass calls pass1) (λ calls. Ran start pass1 calls pass2) made w.finished o.late []
+      (omega (arith, first_is, same, w.count)) (λ calls more p q. ran_more start pass pass1 pass2 calls more p q) w.done last in
       record {
-        finished = w.finished;
-        late = o.late;
+        links = links_as w.finished o.late;
         count = sym w.count;
-        at_door = subst (AtDoor rules (first_conn run pass.number) old new (λ calls. Ran start pass calls pass2) (w.finished ++ o.late)) (append-nil w.finished) at_door;
+        at_door = at_door_of rules (first_conn run pass.number) old new made (links_as w.finished o.late) (subst (Done rules (first_conn run pass.number) old new made (w.finished ++ o.late)) (append-nil w.finished) done);
         many = omega (arith, length-append w.finished o.late, w.count, late_few end (length o.late) new o.ends, less);
         ends = ends_so (length w.finished ≡ talks) end (length o.late) new o.ends;
         accept_faults = subst (λ (k : ℕ). CountsFaults (end ≡ AcceptFault) k new.accept_faults) w.accept_faults o.accept_faults;
-        disk_faults = disk_faults rules (first_conn run pass.number) (w.finished ++ o.late) at_door.served;
+        disk_faults = disk_faults rules (first_conn run pass.number) (w.finished ++ o.late) done.served;
       }
 
 -- it served as many links as it was to
-pub works_enough : (start : DeskState → Type 0) (run : DividedRun) (rules : Rules) (many talks : ℕ) (old new : DoorState) (pass pass' : Known) → many ≡ talks → Works start run rules many old new pass pass' → Worked start run rules talks old new pass pass' (report Enough talks)
+pub works_enough : (start : DeskState → Type 0) (run : DividedRun) (rules : Rules) (many talks : ℕ) (old new : DoorState) (pass pass' : Known) → many ≡ talks → Works start run rules many old new pass pass' → Worked start run talks (posted_as rules old pass) (dismissed_as new pass' (report Enough talks))
 works_enough start run rules many talks old new pass pass' all w =
     let made = λ (calls : List Call). Ran start pass calls pass' in
-    let at_door = subst (λ (l : List Served). AtDoor rules (first_conn run pass.number) old new made l w.finished) (sym (append-nil w.finished)) w.at_door in
+    let done = subst (λ (l : List Served). Done rules (first_conn run pass.number) old new made l w.finished) (sym (append-nil w.finished)) w.done in
     record {
-      finished = w.finished;
-      late = [];
+      links = links_as w.finished [];
       count = sym (w.count ∙ all);
-      at_door = at_door;
+      at_door = at_door_of rules (first_conn run pass.number) old new made (links_as w.finished []) done;
       many = omega (arith, length-append w.finished [], w.count, all);
       ends = (refl, w.count ∙ all);
       accept_faults = record { later = omega (arith, w.accept_faults); cause = λ (is : Enough ≡ AcceptFault). absurd (cc); quiet = λ none. w.accept_faults };
-      disk_faults = disk_faults rules (first_conn run pass.number) (w.finished ++ []) at_door.served;
+      disk_faults = disk_faults rules (first_conn run pass.number) (w.finished ++ []) done.served;
     }
 
 -- ---- the calls alone, of calls of which more is known
 
-door_plain : (rules : Rules) (first : ℕ) (old new : DoorState) (made more : List Call → Type 0) (links told : List Served) → AtDoor rules first old new (λ calls. made calls × more calls) links told → AtDoor rules first old new made links told
-door_plain rules first old new made more links told d = record {
+door_plain : (rules : Rules) (first : ℕ) (old new : DoorState) (made more : List Call → Type 0) (links : Links) → AtDoor rules first old new (λ calls. made calls × more calls) links → AtDoor rules first old new made links
+door_plain rules first old new made more links d = record {
   calls = d.calls.0;
   served = d.served;
   talks = d.talks;
@@ -177,7 +177,7 @@ door_plain rules first old new made more links told d = record {
 }
 
 pub serves_plain : (rules : Rules) (conn : ℕ) (old new : DoorState) (made more : List Call → Type 0) → ServesLink rules conn old new (λ calls. made calls × more calls) → ServesLink rules conn old new made
-serves_plain rules conn old new made more s = (s.0, door_plain rules conn old new made more _ _ s.1, s.2)
+serves_plain rules conn old new made more s = (s.0, door_plain rules conn old new made more _ s.1, s.2)
 
 pub stops_plain : (rules : Rules) (conn : ℕ) (old new : DoorState) (made more : List Call → Type 0) (end : WorkerEnd) → Stops rules conn old new (λ calls. made calls × more calls) end → Stops rules conn old new made end
-stops_plain rules conn old new made more end s = record { late = s.late; at_door = door_plain rules conn old new made more _ _ s.at_door; ends = s.ends; accept_faults = s.accept_faults }
+stops_plain rules conn old new made more end s = record { late = s.late; at_door = door_plain rules conn old new made more _ s.at_door; ends = s.ends; accept_faults = s.accept_faults }

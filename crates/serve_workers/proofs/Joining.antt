@@ -10,7 +10,7 @@ use Rattle.event_form.specs.declared.talk.Talk.{Talk}
 use Rattle.edge_io.specs.Door.{Talked, DoorState}
 use Rattle.desk_access.specs.Call.{Call}
 use Rattle.conn_serve.specs.declared.rules.Rules.{Rules}
-use Rattle.serve_workers.specs.Served.{Served, AtDoor, Tells, TellsMore, RisesBy, AreServed, calls_in, how_many, by_read, by_write}
+use Rattle.serve_workers.specs.Served.{Served, Links, AtDoor, links_in, Tells, TellsMore, RisesBy, AreServed, calls_in, how_many, by_read, by_write}
 
 pub calls_then : (xs ys : List Served) → calls_in (xs ++ ys) ≡ calls_in xs ++ calls_in ys
 calls_then [] ys = refl
@@ -53,9 +53,44 @@ rose_none a b same = grind (arith, common_steps, same)
 many_then : (so : Talk → ℕ) (xs ys : List Served) (a b c : ℕ) → Rose (how_many so xs) a b → Rose (how_many so ys) b c → Rose (how_many so (xs ++ ys)) a c
 many_then so xs ys a b c p q = subst (λ (n : ℕ). Rose n a c) (sym (sum_by-append (λ (one : Served). so one.talk) xs ys)) (rose_then (how_many so xs) (how_many so ys) a b c p q)
 
+-- What was done at a door, by the list of its links and by the list of those that were given back.
+pub record Done (rules : Rules) (first : ℕ) (old new : DoorState) (made : List Call → Type 0) (links told : List Served) : Type 0 where
+  pub calls : made (calls_in links)
+  pub served : AreServed rules first links
+  pub talks : TellsMore rules told old.talks new.talks
+  pub place : new.place ≡ old.place
+  pub waiting : RisesBy (length links) new.waiting old.waiting
+  pub accepted : RisesBy (length links) old.accepted new.accepted
+  pub reads : Rose (how_many by_read links) old.read_faults new.read_faults
+  pub writes : Rose (how_many by_write links) old.write_faults new.write_faults
+
+pub at_door_of : (rules : Rules) (first : ℕ) (old new : DoorState) (made : List Call → Type 0) (links : Links) → Done rules first old new made (links_in links) links.finished → AtDoor rules first old new made links
+at_door_of rules first old new made links d = record {
+  calls = d.calls;
+  served = d.served;
+  talks = d.talks;
+  place = d.place;
+  waiting = d.waiting;
+  accepted = d.accepted;
+  reads = d.reads;
+  writes = d.writes;
+}
+
+pub done_of : (rules : Rules) (first : ℕ) (old new : DoorState) (made : List Call → Type 0) (links : Links) → AtDoor rules first old new made links → Done rules first old new made (links_in links) links.finished
+done_of rules first old new made links d = record {
+  calls = d.calls;
+  served = d.served;
+  talks = d.talks;
+  place = d.place;
+  waiting = d.waiting;
+  accepted = d.accepted;
+  reads = d.reads;
+  writes = d.writes;
+}
+
 -- nothing was done
-pub at_door_none : (rules : Rules) (first : ℕ) (old : DoorState) (made : List Call → Type 0) → made [] → AtDoor rules first old old made [] []
-at_door_none rules first old made none = record {
+pub done_none : (rules : Rules) (first : ℕ) (old : DoorState) (made : List Call → Type 0) → made [] → Done rules first old old made [] []
+done_none rules first old made none = record {
   calls = none;
   served = tt;
   talks = tells_none rules old.talks old.talks refl;
@@ -67,10 +102,10 @@ at_door_none rules first old made none = record {
 }
 
 -- some links, and then others
-pub at_door_then : (rules : Rules) (first next : ℕ) (old between new : DoorState) (before after made : List Call → Type 0) (xs ys told : List Served)
+pub done_then : (rules : Rules) (first next : ℕ) (old between new : DoorState) (before after made : List Call → Type 0) (xs ys told : List Served)
     → next ≡ first + length xs → ((calls more : List Call) → before calls → after more → made (calls ++ more))
-    → AtDoor rules first old between before xs xs → AtDoor rules next between new after ys told → AtDoor rules first old new made (xs ++ ys) (xs ++ told)
-at_door_then rules first next old between new before after made xs ys told is join p q =
+    → Done rules first old between before xs xs → Done rules next between new after ys told → Done rules first old new made (xs ++ ys) (xs ++ told)
+done_then rules first next old between new before after made xs ys told is join p q =
     let many : length xs + length ys ≡ length (xs ++ ys) = sym (length-append xs ys) in
     let swapped : length ys + length xs ≡ length (xs ++ ys) = omega (arith, length-append xs ys) in
     record {

@@ -25,8 +25,8 @@ use Rattle.conn_serve.specs.Hec.{hec}
 use Rattle.conn_serve.specs.Terms.{Terms, terms_of}
 use Rattle.conn_serve.specs.Serves.{CarriedAs, CarriedBy, Serves}
 use Rattle.notes.specs.Notes.{status_of, note_of_talk}
-use Rattle.serve_workers.specs.Served.{Served, AtDoor, Tells, TellsMore, RisesBy, by_read, by_write}
-use Rattle.serve_workers.proofs.Joining.{tells_none, rises_none, rose_none}
+use Rattle.serve_workers.specs.Served.{Served, AtDoor, links_as, Tells, TellsMore, RisesBy, by_read, by_write}
+use Rattle.serve_workers.proofs.Joining.{Done, tells_none, rises_none, rose_none}
 
 -- ---- the input
 
@@ -113,11 +113,11 @@ rises_one (Some n) b c same more = subst (λ (o : Option ℕ). RisesBy 1 o b) (s
 -- ---- one link
 
 -- It was accepted and served, and its door was given it back. What is reported of that is known apart.
-pub link_at_door : (rules : Rules) (conn : ℕ) (old between new : DoorState) (given given' left left' taken taken' : Option (List ℕ)) (made : List Call → Type 0) (attended : Attended) (before now before' now' : ℕ) (told : List Served)
+pub link_done : (rules : Rules) (conn : ℕ) (old between new : DoorState) (given given' left left' taken taken' : Option (List ℕ)) (made : List Call → Type 0) (attended : Attended) (before now before' now' : ℕ) (told : List Served)
     → TakesLink old between → SameTalks old between → (s : Serves (CarriedBy rules conn) given given' left left' taken taken' made attended)
     → CountsFaults (attended.talk ≡ ReadFault) before now → CountsFaults (attended.talk ≡ WriteFault) before' now' → Gains now between.read_faults new.read_faults → Gains now' between.write_faults new.write_faults → SameDoor between new
-    → TellsMore rules told old.talks new.talks → AtDoor rules conn old new made (link_of conn left' s.calls s.bytes s.text attended.talk ∷ []) told
-link_at_door rules conn old between new given given' left left' taken taken' made attended before now before' now' told takes rest s reads writes gain gain' same tells = record {
+    → TellsMore rules told old.talks new.talks → Done rules conn old new made (link_of conn left' s.calls s.bytes s.text attended.talk ∷ []) told
+link_done rules conn old between new given given' left left' taken taken' made attended before now before' now' told takes rest s reads writes gain gain' same tells = record {
   calls = subst made (sym (append-nil s.calls)) s.made;
   served = (refl, s.carried, tt);
   talks = tells;
@@ -129,7 +129,7 @@ link_at_door rules conn old between new given given' left left' taken taken' mad
 }
 
 -- no link was accepted
-pub idle_at_door : (rules : Rules) (conn : ℕ) (old new : DoorState) (made : List Call → Type 0) → made [] → new.waiting ≡ old.waiting → new.accepted ≡ old.accepted → SameTalks old new → AtDoor rules conn old new made [] []
+pub idle_at_door : (rules : Rules) (conn : ℕ) (old new : DoorState) (made : List Call → Type 0) → made [] → new.waiting ≡ old.waiting → new.accepted ≡ old.accepted → SameTalks old new → AtDoor rules conn old new made (links_as [] [])
 idle_at_door rules conn old new made none waiting accepted same = record {
   calls = none;
   served = tt;

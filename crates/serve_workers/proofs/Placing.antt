@@ -10,8 +10,8 @@ use Rattle.desk_access.specs.Desk.{DeskState}
 use Rattle.conn_serve.specs.declared.rules.Rules.{Rules}
 use Rattle.spool_turns.specs.Passes.{Known, fresh}
 use Rattle.serve_workers.specs.declared.worker.WorkerReport.{WorkerReport}
-use Rattle.serve_workers.specs.Works.{Worked}
-use Rattle.serve_workers.specs.Crews.{AreNew, IsAtDesk, IsReady, HaveWorked}
+use Rattle.serve_workers.specs.Works.{Posted, Dismissed, Worked, posted_as, dismissed_as}
+use Rattle.serve_workers.specs.Crews.{AreNew, Each, IsAtDesk, IsReady, Roster, Returned, HaveWorked, roster_as, returned_as}
 
 -- one at a place of a list of what a function has of each
 at_map : {X Y : Type 0} (f : X → Y) (xs : List X) (k : ℕ) (y : Y) → slice_get (map f xs) k ≡ Some y → (x : X) × (slice_get xs k ≡ Some x) × (f x ≡ y)
@@ -32,22 +32,26 @@ in_list f xs ys k x y is here there =
     ap f same ∙ found.2
 
 -- What each worker did, where it is known by its place.
-pub have_worked : {X : Type 0} (rules_of : X → Rules) (door_of : X → DoorState) (pass_of : X → Known) (report_of : X → WorkerReport) (start : DeskState → Type 0) (run : DividedRun) (talks : ℕ) (xs ys : List X)
-    (rules : List Rules) (doors doors' : List DoorState) (passes passes' : List Known) (reports : List WorkerReport)
-    → ((k : ℕ) (d : X) → k < length xs → Worked start run (rules_of (get_or xs k d)) talks (door_of (get_or xs k d)) (door_of (get_or ys k d)) (pass_of (get_or xs k d)) (pass_of (get_or ys k d)) (report_of (get_or ys k d)))
-    → map rules_of xs ≡ rules → map door_of xs ≡ doors → map pass_of xs ≡ passes → map door_of ys ≡ doors' → map pass_of ys ≡ passes' → map report_of ys ≡ reports
-    → HaveWorked start run talks rules doors passes doors' passes' reports
-have_worked rules_of door_of pass_of report_of start run talks xs ys rules doors doors' passes passes' ends each r d p d' p' e k by old new pass pass' report by_is old_is pass_is new_is pass'_is report_is =
-    let x = at_map rules_of xs k by (ap (λ l. slice_get l k) r ∙ by_is) in
-    let y = at_map report_of ys k report (ap (λ l. slice_get l k) e ∙ report_is) in
-    let x_at = at_place xs k x.0 x.0 x.1 in
-    let y_at = at_place ys k y.0 x.0 y.1 in
-    let old_of = in_list door_of xs doors k x.0 old d old_is x.1 in
-    let pass_of_is = in_list pass_of xs passes k x.0 pass p pass_is x.1 in
-    let new_of = in_list door_of ys doors' k y.0 new d' new_is y.1 in
-    let pass'_of = in_list pass_of ys passes' k y.0 pass' p' pass'_is y.1 in
-    subst (λ (t : Rules × DoorState × DoorState × Known × Known × WorkerReport). Worked start run t.0 talks t.1 t.2 t.3 t.4 t.5)
-    (λ i. ((ap rules_of x_at.1 ∙ x.2) i, (ap door_of x_at.1 ∙ old_of) i, (ap door_of y_at.1 ∙ new_of) i, (ap pass_of x_at.1 ∙ pass_of_is) i, (ap pass_of y_at.1 ∙ pass'_of) i, (ap report_of y_at.1 ∙ y.2) i)) (each k x.0 x_at.0)
+module _ {X : Type 0} (rules_of : X → Rules) (door_of : X → DoorState) (pass_of : X → Known) (report_of : X → WorkerReport) (start : DeskState → Type 0) (run : DividedRun) (talks : ℕ) (xs ys : List X)
+    (each : Each (λ old new. Worked start run talks (posted_as (rules_of old) (door_of old) (pass_of old)) (dismissed_as (door_of new) (pass_of new) (report_of new))) xs ys) where
+  worked_each : HaveWorked start run talks (roster_as (map rules_of xs) (map door_of xs) (map pass_of xs)) (returned_as (map door_of ys) (map pass_of ys) (map report_of ys))
+  worked_each k posted dismissed is left =
+      let x = at_map rules_of xs k posted.rules is.0 in
+      let y = at_map report_of ys k dismissed.report left.2 in
+      let x_at = at_place xs k x.0 x.0 x.1 in
+      let y_at = at_place ys k y.0 x.0 y.1 in
+      let old_door = ap door_of x_at.1 ∙ in_list door_of xs (map door_of xs) k x.0 posted.door refl is.1 x.1 in
+      let old_pass = ap pass_of x_at.1 ∙ in_list pass_of xs (map pass_of xs) k x.0 posted.pass refl is.2 x.1 in
+      let new_door = ap door_of y_at.1 ∙ in_list door_of ys (map door_of ys) k y.0 dismissed.door refl left.0 y.1 in
+      let new_pass = ap pass_of y_at.1 ∙ in_list pass_of ys (map pass_of ys) k y.0 dismissed.pass refl left.1 y.1 in
+      let rules = ap rules_of x_at.1 ∙ x.2 in
+      let report = ap report_of y_at.1 ∙ y.2 in
+      subst (λ (t : Posted × Dismissed). Worked start run talks t.0 t.1)
+      (λ i. (posted_as (rules i) (old_door i) (old_pass i), dismissed_as (new_door i) (new_pass i) (report i))) (each k x.0 x_at.0)
+
+  pub have_worked : (roster : Roster) (returned : Returned) → roster_as (map rules_of xs) (map door_of xs) (map pass_of xs) ≡ roster
+      → returned_as (map door_of ys) (map pass_of ys) (map report_of ys) ≡ returned → HaveWorked start run talks roster returned
+  have_worked roster returned r l = subst (λ (t : Roster × Returned). HaveWorked start run talks t.0 t.1) (λ i. (r i, l i)) worked_each
 
 -- ---- the numbers of workers
 

@@ -72,15 +72,27 @@ by_disk talk = 0
 abbrev pub how_many : (Talk → ℕ) → List Served → ℕ
 how_many so served = sum_by (λ one. so one.talk) served
 
--- What was done at a door: `links` were accepted, one after another, and each was served to its end by the rules, as connections
--- numbered from `first` on. `told` were given back, and the door reports them. The calls made are those of the links. As many links
--- wait fewer, and the counts of reads and of writes that failed rose by at least as many as ended a link.
-pub record AtDoor (rules : Rules) (first : ℕ) (old new : DoorState) (made : List Call → Type 0) (links told : List Served) : Type 0 where
-  pub calls : made (calls_in links)
-  pub served : AreServed rules first links
-  pub talks : TellsMore rules told old.talks new.talks
+-- Links that were served at a door: those that were given back, and after them one that no memory was found to give back, if any.
+pub record Links : Type 0 where
+  pub finished : List Served
+  pub late : List Served
+
+abbrev pub links_as : List Served → List Served → Links
+links_as finished late = record { finished = finished; late = late }
+
+-- all of them, in order
+abbrev pub links_in : Links → List Served
+links_in links = links.finished ++ links.late
+
+-- What was done at a door: the links were accepted, one after another, and each was served to its end by the rules, as connections
+-- numbered from `first` on. Those that were given back the door reports. The calls made are those of all links. As many links wait
+-- fewer, and the counts of reads and of writes that failed rose by at least as many as ended a link.
+pub record AtDoor (rules : Rules) (first : ℕ) (old new : DoorState) (made : List Call → Type 0) (links : Links) : Type 0 where
+  pub calls : made (calls_in (links_in links))
+  pub served : AreServed rules first (links_in links)
+  pub talks : TellsMore rules links.finished old.talks new.talks
   pub place : new.place ≡ old.place
-  pub waiting : RisesBy (length links) new.waiting old.waiting
-  pub accepted : RisesBy (length links) old.accepted new.accepted
-  pub reads : Rose (how_many by_read links) old.read_faults new.read_faults
-  pub writes : Rose (how_many by_write links) old.write_faults new.write_faults
+  pub waiting : RisesBy (length (links_in links)) new.waiting old.waiting
+  pub accepted : RisesBy (length (links_in links)) old.accepted new.accepted
+  pub reads : Rose (how_many by_read (links_in links)) old.read_faults new.read_faults
+  pub writes : Rose (how_many by_write (links_in links)) old.write_faults new.write_faults

@@ -1,10 +1,10 @@
 //! Workers that are hired: they have their doors and passes, and room is reserved for all that they leave.
-ghost use Rattle.std.specs.Prelude.{◌≡◌, ℕ, ◌<◌, ◌≤◌, Some, map, length, All, IfOk, IfErr, vec_len, slice_get, slice_index_or};
+ghost use Rattle.std.specs.Prelude.{◌≡◌, ℕ, ◌<◌, ◌≤◌, Some, map, length, All, IfOk, IfErr, vec_len, slice_get};
 ghost use Rattle.std.specs.Vec.{vec_capacity};
 ghost use Rattle.spool_turns.specs.Replays.{IsReal};
 ghost use Rattle.desk_access.specs.Division.{callers_of, each_of};
-ghost use Rattle.serve_workers.specs.Works.{Worked};
-ghost use Rattle.serve_workers.specs.Crews.{AreNew, IsReady, IsRoom, HaveWorked};
+ghost use Rattle.serve_workers.specs.Works.{Worked, posted_as, dismissed_as};
+ghost use Rattle.serve_workers.specs.Crews.{AreNew, Each, IsReady, IsRoom, HaveWorked, returned_as};
 ghost use Rattle.serve_workers.specs.Answering.{MayAnswer};
 
 use crate::crew::{Crew, NoCrew, Post, Room, dismissed, room_for};
@@ -99,10 +99,9 @@ where
     requires says { All (λ (worker : _). MayAnswer (IsReal D.Disk J.start J.run J.seats J.began) J.start J.run worker.number
         (P.permits worker.door) worker.rules) workers.old }
 
-    ensures worked { (k : ℕ) (d : _) → k < length workers.old → Worked J.start J.run (slice_index_or workers.old k d).rules talks
-        (P.told (slice_index_or workers.old k d).door) (P.told (slice_index_or workers.new k d).door)
-        (slice_index_or workers.old k d).seated.pass (slice_index_or workers.new k d).seated.pass (slice_index_or workers.new k d).report }
-    ensures numbers { (k : ℕ) (d : _) → k < length workers.old → (slice_index_or workers.new k d).number ≡ (slice_index_or workers.old k d).number }
+    ensures worked { Each (λ (was is : _). Worked J.start J.run talks (posted_as was.rules (P.told was.door) was.seated.pass)
+        (dismissed_as (P.told is.door) is.seated.pass is.report)) workers.old workers.new }
+    ensures numbers { Each (λ (was is : _). is.number ≡ was.number) workers.old workers.new }
 {
     let threads = workers.len().max(1);
     for_each_mut(
@@ -113,8 +112,8 @@ where
             requires ready { IsReady J.run worker.now.number worker.now.seated.pass × (talks ≤ each_of J.run.division) }
             requires says { MayAnswer (IsReal D.Disk J.start J.run J.seats J.began) J.start J.run worker.now.number
                 (P.permits worker.now.door) worker.now.rules }
-            ensures worked { Worked J.start J.run worker.entry.now.rules talks (P.told worker.entry.now.door) (P.told worker.exit.now.door)
-                worker.entry.now.seated.pass worker.exit.now.seated.pass worker.exit.now.report }
+            ensures worked { let was = worker.entry.now in let is = worker.exit.now in Worked J.start J.run talks
+                (posted_as was.rules (P.told was.door) was.seated.pass) (dismissed_as (P.told is.door) is.seated.pass is.report) }
             ensures number { worker.exit.now.number ≡ worker.entry.now.number }
         { worker.work(alloc, talks) },
     );
@@ -172,8 +171,8 @@ where
         requires new { AreNew 0 self.passes }
         requires talks { talks ≤ each_of J.run.division }
 
-        ensures worked { HaveWorked J.start J.run talks self.entry.rules self.entry.doors self.entry.passes
-            (map (λ (door : _). P.told door) result.doors.items) result.passes.items result.reports.items }
+        ensures worked { HaveWorked J.start J.run talks self.entry
+            (returned_as (map (λ (door : _). P.told door) result.doors.items) result.passes.items result.reports.items) }
         ensures many { (vec_len result.doors ≡ length self.entry.passes) × (vec_len result.passes ≡ length self.entry.passes)
             × (vec_len result.reports ≡ length self.entry.passes) }
         ensures room { vec_len result.passes < vec_capacity result.passes }

@@ -4,7 +4,7 @@ ghost use Rattle.conn_serve.specs.Serves.{CarriedBy};
 ghost use Rattle.conn_serve.specs.Says.{HasCarried, MaySay};
 ghost use Rattle.spool_turns.specs.Replays.{IsReal};
 ghost use Rattle.desk_access.specs.Division.{each_of, first_conn};
-ghost use Rattle.serve_workers.specs.Works.{ServesLink, Stops, Worked};
+ghost use Rattle.serve_workers.specs.Works.{ServesLink, Stops, Worked, posted_as, dismissed_as};
 ghost use Rattle.serve_workers.specs.Crews.{IsReady};
 ghost use Rattle.serve_workers.specs.Answering.{MayAnswer};
 
@@ -97,7 +97,7 @@ fn serve_all<P: Door, D: Disk, J: Naming, R: Wait>(
     requires says { MayAnswer (IsReal D.Disk J.start J.run J.seats J.began) J.start J.run seated.old.pass.number
         (P.permits door.old) rules.now }
 
-    ensures worked { Worked J.start J.run rules.now talks (P.told door.old) (P.told door.new) seated.old.pass seated.new.pass result }
+    ensures worked { Worked J.start J.run talks (posted_as rules.now (P.told door.old) seated.old.pass) (dismissed_as (P.told door.new) seated.new.pass result) }
 {
     for talk in 0..talks {
         if let Err(end) = serve_next(alloc, door, rules, seated, first + u64::from(talk)) {
@@ -122,8 +122,8 @@ impl<'a, P: Door, D: Disk, J: Naming, R: Wait> Worker<'a, P, D, J, R> {
         requires says { MayAnswer (IsReal D.Disk J.start J.run J.seats J.began) J.start J.run self.old.number
             (P.permits self.old.door) self.old.rules }
 
-        ensures worked { Worked J.start J.run self.old.rules talks (P.told self.old.door) (P.told self.new.door) self.old.seated.pass
-            self.new.seated.pass self.new.report }
+        ensures worked { Worked J.start J.run talks (posted_as self.old.rules (P.told self.old.door) self.old.seated.pass)
+            (dismissed_as (P.told self.new.door) self.new.seated.pass self.new.report) }
         ensures number { self.new.number ≡ self.old.number }
     {
         let shared = self.seated.shared;

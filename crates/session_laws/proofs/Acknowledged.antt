@@ -20,7 +20,7 @@ use Rattle.forward_core.proofs.Numbered.{after_within, numbered_lower, numbered_
 use Rattle.forward_core.proofs.Rest.{given_as, one_entry}
 use Rattle.serve_forwarder.specs.Sessions.{Session}
 use Rattle.session_laws.specs.Beside.{unsent}
-use Rattle.session_laws.specs.Sessions.{AreSent, IsSent, IsToldHere, IsToldIn, Reach}
+use Rattle.session_laws.specs.Sessions.{AreSent, IsSent, IsToldHere, IsToldIn, Reach, sending_as}
 use Rattle.session_laws.proofs.Entries.{filter_both}
 
 -- ---- of a list
@@ -93,7 +93,7 @@ told_here settings proto whole before after one sent k d lt is =
     ]
 
 pub only_told : (settings : Settings) (proto : Proto) (whole : List NumberedEntry) (before after : Reach) (sessions : List Session) (sent : AreSent settings proto whole before sessions after)
-    → All (λ e. IsKnown after.known e.number → IsKnown before.known e.number ⊎ IsToldIn settings proto whole before sessions after sent e.number) whole
+    → All (λ e. IsKnown after.known e.number → IsKnown before.known e.number ⊎ IsToldIn (sending_as settings proto whole) before sessions after sent e.number) whole
 only_told settings proto whole before after [] sent k d lt is = inl (subst (λ (m : Numbers). IsKnown m (get_or whole k d).number) sent.0 is)
 only_told settings proto whole before after (one ∷ sessions) sent k d lt is = elim (only_told settings proto whole sent.0 after sessions sent.2 k d lt is) [
   | inl earlier ↦ elim (told_here settings proto whole before sent.0 one sent.1 k d lt earlier) [ inl old ↦ inl old | inr here ↦ inr (inl here) ]

@@ -4,7 +4,6 @@ use Rattle.std.specs.Prelude.{Result, Ok, Err}
 use Rattle.std.proofs.lemmas.List.{append-nil}
 use mathlib.Core.List.{IsPrefix}
 use Rattle.known_numbers.specs.Numbers.{IsKnown, Numbers}
-use Rattle.edge_io.specs.Net.{NetState}
 use Rattle.edge_io.specs.declared.proto.Proto.{Proto}
 use Rattle.spool_state.specs.SpoolState.{SpoolState}
 use Rattle.spool_state.specs.Left.{NumberedEntry}
@@ -23,7 +22,8 @@ use Rattle.forward_core.specs.Settings.{Settings}
 use Rattle.forward_core.specs.declared.outward.Outward.{Outward}
 use Rattle.spool_turns.specs.Passes.{Known, known}
 use Rattle.spool_turns.specs.Ran.{Ran}
-use Rattle.serve_forwarder.specs.Looks.{AreLooks, Found, Held, Idle, Undialed, Unread, IsFound, IsLook, IsPending, Look, calls_at, calls_found, calls_of, held_in, sessions_of, Offer, first_of, upto_of}
+use Rattle.serve_forwarder.specs.declared.destination.Destination.{Destination}
+use Rattle.serve_forwarder.specs.Looks.{AreLooks, Forwarder, Found, Held, Idle, Undialed, Unread, IsFound, IsLook, IsPending, Look, calls_at, calls_found, calls_of, forwarder_at, held_in, sessions_of, Offer, first_of, upto_of}
 use Rattle.serve_forwarder.specs.Sessions.{IsHeld, Session}
 use Rattle.session_laws.specs.Beside.{MarksAlone, history}
 use Rattle.session_laws.specs.Led.{Led}
@@ -115,24 +115,25 @@ steps_asked : (settings : Settings) (proto : Proto) (start : DeskState → Type 
 steps_asked settings proto start given pass asked pass' asks same =
     subst (λ (k : Known). Steps settings proto start pass k [] (pends 0 1 given ∷ [])) (sym same) (steps_ran settings proto start pass asked (pends 0 1 given ∷ []) asks ((λ marking. marking), tt))
 
-steps_found : (start : DeskState → Type 0) (outward : Outward) (offer : Offer) (given : Result (List Numbered) PendFault) (found : Found) (pass asked pass' : Known) → Ran start pass (pends 0 1 given ∷ []) asked → IsFound start outward (upto_of offer (first_of given)) given found asked pass'
-    → Steps (settings_as outward) outward.proto start pass pass' (held_in found) (pends 0 1 given ∷ calls_found found)
-steps_found start outward offer given Idle pass asked pass' asks f = steps_asked (settings_as outward) outward.proto start given pass asked pass' asks f.1
-steps_found start outward offer given (Unread why) pass asked pass' asks f = steps_asked (settings_as outward) outward.proto start given pass asked pass' asks f.1
-steps_found start outward offer given (Undialed why) pass asked pass' asks f = steps_asked (settings_as outward) outward.proto start given pass asked pass' asks f.1
-steps_found start outward offer given (Held one) pass asked pass' asks f = steps_pending start outward offer one given pass asked pass' asks f.0 f.1
+steps_found : (start : DeskState → Type 0) (outward : Outward) (look : Look) (found : Found) (pass asked pass' : Known) → Ran start pass (pends 0 1 look.given ∷ []) asked → IsFound start outward look found asked pass'
+    → Steps (settings_as outward) outward.proto start pass pass' (held_in found) (pends 0 1 look.given ∷ calls_found found)
+steps_found start outward look Idle pass asked pass' asks f = steps_asked (settings_as outward) outward.proto start look.given pass asked pass' asks f.1
+steps_found start outward look (Unread why) pass asked pass' asks f = steps_asked (settings_as outward) outward.proto start look.given pass asked pass' asks f.1
+steps_found start outward look (Undialed why) pass asked pass' asks f = steps_asked (settings_as outward) outward.proto start look.given pass asked pass' asks f.1
+steps_found start outward look (Held one) pass asked pass' asks f = steps_pending start outward look.offer one look.given pass asked pass' asks f.0 f.1
 
-pub steps_look : (start : DeskState → Type 0) (outward : Outward) (place : List ℕ) (look : Look) (pass pass' : Known) (net net' : NetState) → IsLook start outward place look pass pass' net net'
-    → Steps (settings_as outward) outward.proto start pass pass' (held_in look.found) (calls_at look)
-steps_look start outward place look pass pass' net net' is = steps_found start outward look.offer look.given look.found pass is.asked pass' is.asks is.found
+pub steps_look : (start : DeskState → Type 0) (destination : Destination) (look : Look) (old new : Forwarder) → IsLook start destination look old new
+    → Steps (settings_as destination.outward) destination.outward.proto start old.pass new.pass (held_in look.found) (calls_at look)
+steps_look start destination look old new is = steps_found start destination.outward look look.found old.pass is.asked new.pass is.asks is.found
 
-pub steps_looks : (start : DeskState → Type 0) (outward : Outward) (place : List ℕ) (looks : List Look) (pass pass' : Known) (net net' : NetState) → AreLooks start outward place looks pass pass' net net'
-    → Steps (settings_as outward) outward.proto start pass pass' (sessions_of looks) (calls_of looks)
-steps_looks start outward place [] pass pass' net net' are =
-    steps_met (settings_as outward) outward.proto start pass pass' (ap (λ (k : Known). k.number) are.0) (ap (λ (k : Known). k.own) are.0) ([], append-nil pass.seen ∙ sym (ap (λ (k : Known). k.seen) are.0)) refl
-steps_looks start outward place (look ∷ looks) pass pass' net net' are =
-    steps_then (settings_as outward) outward.proto start pass are.0 pass' (held_in look.found) (sessions_of looks) (calls_at look) (calls_of looks)
-    (steps_look start outward place look pass are.0 net are.1 are.2) (steps_looks start outward place looks are.0 pass' are.1 net' are.3)
+pub steps_looks : (start : DeskState → Type 0) (destination : Destination) (looks : List Look) (old new : Forwarder) → AreLooks start destination looks old new
+    → Steps (settings_as destination.outward) destination.outward.proto start old.pass new.pass (sessions_of looks) (calls_of looks)
+steps_looks start destination [] old new are =
+    steps_met (settings_as destination.outward) destination.outward.proto start old.pass new.pass (ap (λ (k : Known). k.number) are.0) (ap (λ (k : Known). k.own) are.0)
+    ([], append-nil old.pass.seen ∙ sym (ap (λ (k : Known). k.seen) are.0)) refl
+steps_looks start destination (look ∷ looks) old new are =
+    steps_then (settings_as destination.outward) destination.outward.proto start old.pass are.0.pass new.pass (held_in look.found) (sessions_of looks) (calls_at look) (calls_of looks)
+    (steps_look start destination look old are.0 are.1) (steps_looks start destination looks are.0 new are.2)
 
 sessions_then : (xs ys : List Look) → sessions_of (xs ++ ys) ≡ sessions_of xs ++ sessions_of ys
 sessions_then [] ys = refl
@@ -165,33 +166,36 @@ none_beside n o a b c d xs ys is first last =
     omega (arith, whole, four, three, two, of_whole, of_four, of_three, of_two, of_calls, ap len is, ap len first, ap len last) in
     (no_calls (own_of n o) (omega (arith, sum)), no_calls (own_of n b) (omega (arith, sum)), no_calls (own_of n d) (omega (arith, sum)))
 
-pub sessions_follow : (start : DeskState → Type 0) (outward : Outward) (place : List ℕ) (looks : List Look) (last : Look) (x y : DeskState) (log : List Record) (t : SpoolState)
-    → (looked : HasLooked start outward place looks last log) → start x → IsDesk x → Goes x log y → IsOneOf y.spool y.doubt t
-    → SentBeside outward x (looks ++ last ∷ []) log t × (own_of looked.pass'.number log ≡ calls_of (looks ++ last ∷ []))
-sessions_follow start outward place looks last x y log t h could rules goes stands =
-    let settings = settings_as outward in
-    let proto = outward.proto in
-    let a = steps_looks start outward place looks h.pass h.beside h.net h.net_beside h.looked in
-    let c = steps_look start outward place last h.met h.pass' h.net_beside h.net' h.looked_last in
-    let n = h.pass.number in
+pub sessions_follow : (start : DeskState → Type 0) (destination : Destination) (looks : List Look) (last : Look) (x y : DeskState) (log : List Record) (t : SpoolState)
+    → (looked : HasLooked start destination looks last log) → start x → IsDesk x → Goes x log y → IsOneOf y.spool y.doubt t
+    → SentBeside destination.outward x (looks ++ last ∷ []) log t × (own_of looked.new.pass.number log ≡ calls_of (looks ++ last ∷ []))
+sessions_follow start destination looks last x y log t h could rules goes stands =
+    let settings = settings_as destination.outward in
+    let proto = destination.outward.proto in
+    let pass = h.old.pass in
+    let beside = h.beside.pass in
+    let pass' = h.new.pass in
+    let a = steps_looks start destination looks h.old h.beside h.looked in
+    let c = steps_look start destination last (forwarder_at h.met h.beside.net) h.new h.looked_last in
+    let n = pass.number in
     let met_number : h.met.number ≡ n = h.same.0 ∙ a.number in
-    let end_number : h.pass'.number ≡ n = c.number ∙ met_number in
-    let own : h.pass'.own ≡ calls_of looks ++ calls_at last = c.own ∙ ap (λ (l : List Call). l ++ calls_at last) (h.same.1 ∙ a.own ∙ ap (λ (l : List Call). l ++ calls_of looks) h.fresh) in
-    let seen = h.pass.seen in
+    let end_number : pass'.number ≡ n = c.number ∙ met_number in
+    let own : pass'.own ≡ calls_of looks ++ calls_at last = c.own ∙ ap (λ (l : List Call). l ++ calls_at last) (h.same.1 ∙ a.own ∙ ap (λ (l : List Call). l ++ calls_of looks) h.fresh) in
+    let seen = pass.seen in
     let log_is : log ≡ (((seen ++ a.records) ++ h.saw.0) ++ c.records) ++ h.stands.0 =
     sym h.stands.1 ∙ ap (λ (l : List Record). l ++ h.stands.0) (c.seen ∙ ap (λ (l : List Record). l ++ c.records) (sym h.saw.1 ∙ ap (λ (l : List Record). l ++ h.saw.0) a.seen)) in
     let own_log : own_of n log ≡ calls_of looks ++ calls_at last = ap (λ (k : ℕ). own_of k log) (sym end_number) ∙ h.own ∙ own in
     let none = none_beside n seen a.records h.saw.0 c.records h.stands.0 (calls_of looks) (calls_at last) (ap (own_of n) (sym log_is) ∙ own_log) a.own_records (ap (λ (k : ℕ). own_of k c.records) (sym met_number) ∙ c.own_records) in
-    let begun : Known = known n [] h.pass.own h.pass.end_known h.pass.cursor_known in
-    let over : Known = known h.pass'.number log h.pass'.own h.pass'.end_known h.pass'.cursor_known in
-    let o = steps_met settings proto start begun h.pass refl refl (seen, refl) none.0 in
-    let b = steps_met settings proto start h.beside h.met h.same.0 h.same.1 h.saw (ap (λ (k : ℕ). own_of k h.saw.0) a.number ∙ none.1) in
-    let d = steps_met settings proto start h.pass' over refl refl h.stands (ap (λ (k : ℕ). own_of k h.stands.0) end_number ∙ none.2) in
+    let begun : Known = known n [] pass.own pass.end_known pass.cursor_known in
+    let over : Known = known pass'.number log pass'.own pass'.end_known pass'.cursor_known in
+    let o = steps_met settings proto start begun pass refl refl (seen, refl) none.0 in
+    let b = steps_met settings proto start beside h.met h.same.0 h.same.1 h.saw (ap (λ (k : ℕ). own_of k h.saw.0) a.number ∙ none.1) in
+    let d = steps_met settings proto start pass' over refl refl h.stands (ap (λ (k : ℕ). own_of k h.stands.0) end_number ∙ none.2) in
     let held = held_in last.found in
     let calls = calls_of looks in
-    let first = steps_then settings proto start begun h.pass h.beside [] (sessions_of looks) [] calls o a in
-    let all = steps_then settings proto start begun h.pass' over ((sessions_of looks ++ []) ++ held) [] ((calls ++ []) ++ calls_at last) []
-    (steps_then settings proto start begun h.met h.pass' (sessions_of looks ++ []) held (calls ++ []) (calls_at last) (steps_then settings proto start begun h.beside h.met (sessions_of looks) [] calls [] first b) c) d in
+    let first = steps_then settings proto start begun pass beside [] (sessions_of looks) [] calls o a in
+    let all = steps_then settings proto start begun pass' over ((sessions_of looks ++ []) ++ held) [] ((calls ++ []) ++ calls_at last) []
+    (steps_then settings proto start begun h.met pass' (sessions_of looks ++ []) held (calls ++ []) (calls_at last) (steps_then settings proto start begun beside h.met (sessions_of looks) [] calls [] first b) c) d in
     let records_are : log ≡ all.records = all.seen in
     let f = all.from x x y t could rules refl (subst (λ (l : List Record). Goes x l y) records_are goes)
     (subst (λ (l : List Record). MarksAlone n l) records_are (subst (λ (k : ℕ). MarksAlone k log) end_number h.alone)) stands in

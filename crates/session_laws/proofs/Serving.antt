@@ -1,37 +1,33 @@
 -- The sessions of a run of the server.
 use Rattle.std.proofs.Common.{◌≡◌, ℕ, ◌-◌, List, [], ◌∷◌, sym, ◌∙◌, ap, subst, arith}
 use Rattle.std.proofs.lemmas.List.Elements.{All-head}
-use Rattle.edge_io.specs.Net.{NetState}
 use Rattle.spool_desk.specs.Alone.{AloneView}
-use Rattle.desk_access.specs.Division.{DividedRun}
 use Rattle.desk_access.specs.Call.{Record, own_of}
 use Rattle.desk_access.specs.Desk.{DeskState}
 use Rattle.desk_access.proofs.Nexts.{all_right}
-use Rattle.spool_turns.specs.Passes.{Beginning, Known, Stands}
+use Rattle.spool_turns.specs.Passes.{Known, Stands}
 use Rattle.serve_forwarder.specs.declared.destination.Destination.{Destination}
 use Rattle.serve_forwarder.specs.declared.looking.Outcome.{Outcome}
+use Rattle.serve_forwarder.specs.Looks.{Forwarder, forwarder_at}
 use Rattle.serve_workers.proofs.Placing.{new_last}
-use Rattle.serve_run.specs.Running.{HasForwarded}
+use Rattle.serve_run.specs.Running.{HasForwarded, Seating}
 use Rattle.session_laws.specs.Beside.{MarksAlone}
 use Rattle.session_laws.specs.Run.{SessionsOfRun}
 use Rattle.session_laws.specs.Sessions.{HasLooked}
 use Rattle.session_laws.proofs.Holding.{met_alone}
 use Rattle.session_laws.proofs.Journal.{sessions_follow, steps_look, steps_looks}
 
-abbrev pub has_looked : (start : DeskState → Type 0) (destination : Destination) (workers : List Known) (pass pass' : Known) (net net' : NetState) (last : Outcome) (number : ℕ) (log : List Record) → (f : HasForwarded start destination workers pass pass' net net' last)
-    → pass.own ≡ [] → pass.number ≡ number → Stands log pass' → MarksAlone number log → HasLooked start destination.outward destination.place f.looks f.look log
-has_looked start destination workers pass pass' net net' last number log f fresh is stands alone =
-    let first = steps_looks start destination.outward destination.place f.looks pass f.beside net f.net_beside f.looked in
-    let more = steps_look start destination.outward destination.place f.look f.met pass' f.net_beside net' f.looked_last in
-    let at : pass'.number ≡ number = more.number ∙ f.has_met.number ∙ first.number ∙ is in
+abbrev pub has_looked : (start : DeskState → Type 0) (destination : Destination) (workers : List Known) (old new : Forwarder) (last : Outcome) (number : ℕ) (log : List Record) → (f : HasForwarded start destination workers old new last)
+    → old.pass.own ≡ [] → old.pass.number ≡ number → Stands log new.pass → MarksAlone number log → HasLooked start destination f.looks f.look log
+has_looked start destination workers old new last number log f fresh is stands alone =
+    let first = steps_looks start destination f.looks old f.beside f.looked in
+    let more = steps_look start destination f.look (forwarder_at f.met f.beside.net) new f.looked_last in
+    let at : new.pass.number ≡ number = more.number ∙ f.has_met.number ∙ first.number ∙ is in
     record {
-      pass = pass;
+      old = old;
       beside = f.beside;
       met = f.met;
-      pass' = pass';
-      net = net;
-      net_beside = f.net_beside;
-      net' = net';
+      new = new;
       fresh = fresh;
       looked = f.looked;
       same = (f.has_met.number, f.has_met.own);
@@ -42,16 +38,19 @@ has_looked start destination workers pass pass' net net' last number log f fresh
       alone = subst (λ (n : ℕ). MarksAlone n log) (sym at) alone;
     }
 
-pub sessions_of_run : (tells : Type 0) (start : DeskState → Type 0) (run : DividedRun) (seats : ℕ) (began : Beginning) (new : AloneView) → SessionsOfRun tells start run seats began new
-sessions_of_run tells start run seats began new talks rules doors doors' reports destination net net' last r many x y t could goes stands =
+pub sessions_of_run : (tells : Type 0) (start : DeskState → Type 0) (seating : Seating) (new : AloneView) → SessionsOfRun tells start seating new
+sessions_of_run tells start seating new given left destination r many x y t could goes stands =
     let f = r.forwarded.2 in
+    let old = forwarder_at r.forwarder given.net in
+    let over = forwarder_at r.forwarder' left.net in
     let behind = new_last 0 r.workers r.forwarder r.fresh in
-    let number : r.forwarder.number ≡ seats - 1 = omega (arith, behind.0, r.count.0, many) in
-    let alone = met_alone run (seats - 1) [] r.log r.closes.met in
+    let confirming = seating.seats - 1 in
+    let number : r.forwarder.number ≡ confirming = omega (arith, behind.0, r.count.0, many) in
+    let alone = met_alone seating.run confirming [] r.log r.closes.met in
     let stand = All-head (Stands r.log) r.forwarder' [] (all_right (Stands r.log) r.workers' (r.forwarder' ∷ []) r.closes.pass) in
-    let looked = has_looked start destination r.workers' r.forwarder r.forwarder' net net' r.forwarded.0 (seats - 1) r.log f behind.1 number stand alone in
-    let all = sessions_follow start destination.outward destination.place f.looks f.look x y r.log t looked could (r.closes.replays.begins x could).rules goes stands in
-    let more = steps_look start destination.outward destination.place f.look f.met r.forwarder' f.net_beside net' f.looked_last in
-    let first = steps_looks start destination.outward destination.place f.looks r.forwarder f.beside net f.net_beside f.looked in
-    let at : r.forwarder'.number ≡ seats - 1 = more.number ∙ f.has_met.number ∙ first.number ∙ number in
+    let looked = has_looked start destination r.workers' old over r.forwarded.0 confirming r.log f behind.1 number stand alone in
+    let all = sessions_follow start destination f.looks f.look x y r.log t looked could (r.closes.replays.begins x could).rules goes stands in
+    let more = steps_look start destination f.look (forwarder_at f.met f.beside.net) over f.looked_last in
+    let first = steps_looks start destination f.looks old f.beside f.looked in
+    let at : r.forwarder'.number ≡ confirming = more.number ∙ f.has_met.number ∙ first.number ∙ number in
     (all.0, ap (λ (n : ℕ). own_of n r.log) (sym at) ∙ all.1, alone)

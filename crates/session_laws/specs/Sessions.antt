@@ -3,7 +3,6 @@ use Rattle.std.specs.Prelude.{◌≡◌, ◌⊎◌, ℕ, ◌+◌, ◌<◌, ◌�
 use mathlib.Core.List.{IsPrefix}
 use Rattle.known_numbers.specs.Numbers.{IsKnown, Numbers}
 use Rattle.event_form.specs.declared.event.Entry.{Entry}
-use Rattle.edge_io.specs.Net.{NetState}
 use Rattle.edge_io.specs.declared.proto.Proto.{Proto}
 use Rattle.spool_state.specs.SpoolState.{SpoolState, end, numbers_of}
 use Rattle.spool_state.specs.Left.{NumberedEntry, left, unknown}
@@ -17,7 +16,8 @@ use Rattle.forward_core.specs.Settings.{Settings}
 use Rattle.forward_core.specs.Turning.{IsTold}
 use Rattle.forward_core.specs.declared.outward.Outward.{Outward}
 use Rattle.spool_turns.specs.Passes.{Known}
-use Rattle.serve_forwarder.specs.Looks.{AreLooks, IsLook, Look, calls_of, sessions_of}
+use Rattle.serve_forwarder.specs.declared.destination.Destination.{Destination}
+use Rattle.serve_forwarder.specs.Looks.{AreLooks, Forwarder, IsLook, Look, calls_of, forwarder_at, sessions_of}
 use Rattle.serve_forwarder.specs.Sessions.{Session}
 use Rattle.session_laws.specs.Beside.{EndsAmong, KnowsMarked, MarksAlone, course_of, history}
 use Rattle.session_laws.specs.Led.{Led}
@@ -57,23 +57,19 @@ AreSent settings proto whole before (one ∷ sessions) after =
 
 -- A forwarder whose pass had made no call looked again and again, was shown what others had seen, and looked once more. The journal
 -- has these calls of it and no others, and nobody else marked or confirmed.
-pub record HasLooked (start : DeskState → Type 0) (outward : Outward) (place : List ℕ) (looks : List Look) (last : Look)
-    (log : List Record) : Type 0 where
-  pub pass : Known
-  pub beside : Known
+pub record HasLooked (start : DeskState → Type 0) (destination : Destination) (looks : List Look) (last : Look) (log : List Record) : Type 0 where
+  pub old : Forwarder
+  pub beside : Forwarder
   pub met : Known
-  pub pass' : Known
-  pub net : NetState
-  pub net_beside : NetState
-  pub net' : NetState
-  pub fresh : pass.own ≡ []
-  pub looked : AreLooks start outward place looks pass beside net net_beside
-  pub same : (met.number ≡ beside.number) × (met.own ≡ beside.own)
-  pub saw : IsPrefix beside.seen met.seen
-  pub looked_last : IsLook start outward place last met pass' net_beside net'
-  pub stands : IsPrefix pass'.seen log
-  pub own : own_of pass'.number log ≡ pass'.own
-  pub alone : MarksAlone pass'.number log
+  pub new : Forwarder
+  pub fresh : old.pass.own ≡ []
+  pub looked : AreLooks start destination looks old beside
+  pub same : (met.number ≡ beside.pass.number) × (met.own ≡ beside.pass.own)
+  pub saw : IsPrefix beside.pass.seen met.seen
+  pub looked_last : IsLook start destination last (forwarder_at met beside.net) new
+  pub stands : IsPrefix new.pass.seen log
+  pub own : own_of new.pass.number log ≡ new.pass.own
+  pub alone : MarksAlone new.pass.number log
 
 -- This is said of a state t in which the spool may be after the journal. From one in which it may have begun the journal led it
 -- there, each record with the group that it added. Over the whole list that this makes the sessions of all looks were held, one after
@@ -89,9 +85,10 @@ pub record SentBeside (outward : Outward) (x : DeskState) (looks : List Look) (l
 -- So it is in each journal of a forwarder beside other callers; and the forwarder's calls there are those of its looks.
 abbrev pub SessionsFollow : (DeskState → Type 0) → Type 0
 SessionsFollow start =
-    (outward : Outward) (place : List ℕ) (looks : List Look) (last : Look) (x y : DeskState) (log : List Record) (t : SpoolState)
-    → (looked : HasLooked start outward place looks last log) → start x → IsDesk x → Goes x log y → IsOneOf y.spool y.doubt t
-    → SentBeside outward x (looks ++ last ∷ []) log t × (own_of looked.pass'.number log ≡ calls_of (looks ++ last ∷ []))
+    (destination : Destination) (looks : List Look) (last : Look) (x y : DeskState) (log : List Record) (t : SpoolState)
+    → (looked : HasLooked start destination looks last log) → start x → IsDesk x → Goes x log y → IsOneOf y.spool y.doubt t
+    → SentBeside destination.outward x (looks ++ last ∷ []) log t
+    × (own_of looked.new.pass.number log ≡ calls_of (looks ++ last ∷ []))
 
 -- one of the sessions marked the number, or was refused to mark it
 abbrev pub IsMarkedIn : List Session → ℕ → Type 0
@@ -109,16 +106,31 @@ abbrev pub IsToldHere : {settings : Settings} {proto : Proto} {whole : List Numb
     → IsSent settings proto whole before one after → ℕ → Type 0
 IsToldHere sent n = (place : ℕ) × (place < length sent.ends.all) × (n ≡ number_at sent.ends.all place) × IsTold sent.told sent.also place
 
+-- What sessions were held over: a whole list, by a protocol with these settings.
+pub record Sending : Type 0 where
+  pub settings : Settings
+  pub proto : Proto
+  pub whole : List NumberedEntry
+
+abbrev pub sending_as : Settings → Proto → List NumberedEntry → Sending
+sending_as settings proto whole = record { settings = settings; proto = proto; whole = whole }
+
 -- It is so of one of these sessions.
-abbrev pub IsToldIn : (settings : Settings) (proto : Proto) (whole : List NumberedEntry) (before : Reach) (sessions : List Session)
-    (after : Reach) → AreSent settings proto whole before sessions after → ℕ → Type 0
-IsToldIn settings proto whole before [] after sent n = ⊥
-IsToldIn settings proto whole before (one ∷ sessions) after sent n =
-    IsToldHere sent.1 n ⊎ IsToldIn settings proto whole sent.0 sessions after sent.2 n
+abbrev pub IsToldIn : (sending : Sending) (before : Reach) (sessions : List Session) (after : Reach)
+    → AreSent sending.settings sending.proto sending.whole before sessions after → ℕ → Type 0
+IsToldIn sending before [] after sent n = ⊥
+IsToldIn sending before (one ∷ sessions) after sent n = IsToldHere sent.1 n ⊎ IsToldIn sending sent.0 sessions after sent.2 n
+
+-- It is so of one of the sessions of a forwarder beside other callers.
+abbrev pub IsToldBeside : {outward : Outward} {x : DeskState} {looks : List Look} {log : List Record} {t : SpoolState}
+    → SentBeside outward x looks log t → ℕ → Type 0
+IsToldBeside {outward} {x} {looks} {log} {t} sent n =
+    IsToldIn (sending_as (settings_as outward) outward.proto (history sent.begun sent.groups)) (reach_of sent.begun) (sessions_of looks)
+    (reach_of t) sent.sent n
 
 -- An entry of the whole list that is known after sessions was known before them, or was reported as acknowledged in one of them.
 abbrev pub OnlyToldIsKnown : Type 0
-OnlyToldIsKnown = (settings : Settings) (proto : Proto) (whole : List NumberedEntry) (before after : Reach) (sessions : List Session)
-    (sent : AreSent settings proto whole before sessions after)
+OnlyToldIsKnown = (sending : Sending) (before after : Reach) (sessions : List Session)
+    (sent : AreSent sending.settings sending.proto sending.whole before sessions after)
     → All (λ e. IsKnown after.known e.number
-    → IsKnown before.known e.number ⊎ IsToldIn settings proto whole before sessions after sent e.number) whole
+    → IsKnown before.known e.number ⊎ IsToldIn sending before sessions after sent e.number) sending.whole

@@ -1,5 +1,6 @@
 //! What holds of sessions beside other callers. These functions do nothing: each has a law as its contract.
 ghost use Rattle.spool_turns.specs.Replays.{desk_at};
+ghost use Rattle.serve_run.specs.Running.{seating_as};
 ghost use Rattle.session_laws.specs.Laws.{SendsAmongOthers, ToldIsKnown};
 ghost use Rattle.session_laws.specs.Run.{SessionsOfRun};
 ghost use Rattle.session_laws.specs.Sessions.{OnlyTheirMarksAreKnown, OnlyToldIsKnown, SessionsFollow};
@@ -35,7 +36,7 @@ pub fn sessions_follow_one_another<J: Naming>()
 /// So it is in a run of the server that forwards, of all its looks in order, with the last one, which comes after the workers have
 /// ended. Nobody else marks or confirms: the marks of the one journal are those of these sessions.
 pub fn sessions_of_a_run<D: Disk, J: Naming>(_desk: &Desk<D>)
-    ensures { SessionsOfRun D.tells J.start J.run J.seats J.began (desk_at _desk.now) }
+    ensures { SessionsOfRun D.tells J.start (seating_as J.run J.seats J.began) (desk_at _desk.now) }
 {}
 
 /// No number is known after sessions but those that were known before them, and those that they marked or were refused to mark.

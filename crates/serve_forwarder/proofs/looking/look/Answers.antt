@@ -1,9 +1,9 @@
 use Rattle.std.proofs.Common.{ℕ, refl, ap, sym, ◌∙◌, subst}
-use Rattle.std.specs.Prelude.{Option, Some, None, Ok, Err}
+use Rattle.std.specs.Prelude.{Option, None, Ok, Err}
 use Rattle.forward_core.specs.declared.sent.Sent.{Sent}
 use Rattle.serve_forwarder.specs.declared.looking.Outcome.TheVariants as outcome
-use Rattle.serve_forwarder.specs.Looks.{Idle, Unread, Undialed, Held, Look, first_of, offer_at, stuck_from, upto_of}
-use Rattle.serve_forwarder.specs.Sessions.{IsHeld}
+use Rattle.serve_forwarder.specs.Looks.{Idle, Unread, Undialed, Held, Look, first_of, offer_at, stuck_from}
+use Rattle.serve_forwarder.specs.Sessions.{HangsUp, IsHeld}
 use Rattle.serve_forwarder.proofs.Asking.{first_within, none_pending, offered, some_pending}
 use Rattle.serve_forwarder.proofs.looking.look.Goals as goal
 
@@ -24,24 +24,25 @@ pub upto_at-upto-requires : goal.upto_at-upto-requires
 upto_at-upto-requires g c = first_within c.in-Ok.given.items c.in-Some.first c.in-Ok.ensures.numbered (sym c.in-Some.ensures)
 
 pub returns-in-Err : goal.returns-in-Err
-returns-in-Err g c = (
-  record { given = Err c.in-Err.fault; offer = offer_at c.args.stuck None; found = Unread c.in-Err.fault },
-  record { asked = c.pending.new.self.pass; asks = c.in-Err.ensures.ran.0; found = (refl, refl); told = refl },
-  refl,
-  refl,
-  refl,
-)
+returns-in-Err g c = record {
+  look = record { given = Err c.in-Err.fault; offer = offer_at c.args.stuck None; found = Unread c.in-Err.fault };
+  is_look = record { asked = c.pending.new.self.pass; asks = c.in-Err.ensures.ran.0; found = (refl, refl); told = refl };
+  offers = refl;
+  outcome_is = refl;
+  stuck_is = refl;
+}
 
 pub returns-in-None : goal.returns-in-None
 returns-in-None g c =
     let given = c.in-Ok.given in
-    let none = none_pending given.items (sym c.in-None.ensures) in (
-      record { given = Ok given.items; offer = offer_at c.args.stuck (first_of (Ok given.items)); found = Idle },
-      record { asked = c.pending.new.self.pass; asks = c.in-Ok.ensures.ran.0; found = (ap (λ l. Ok l) none, refl {a = c.pending.new.self.pass}); told = refl {a = g.N.Net.told c.args.net.now} },
-      refl,
-      refl,
-      refl,
-    )
+    let none = none_pending given.items (sym c.in-None.ensures) in
+    record {
+      look = record { given = Ok given.items; offer = offer_at c.args.stuck (first_of (Ok given.items)); found = Idle };
+      is_look = record { asked = c.pending.new.self.pass; asks = c.in-Ok.ensures.ran.0; found = (ap (λ l. Ok l) none, refl {a = c.pending.new.self.pass}); told = refl {a = g.N.Net.told c.args.net.now} };
+      offers = refl;
+      outcome_is = refl;
+      stuck_is = refl;
+    }
 
 pub returns-in-Ok-hold : goal.returns-in-Ok-hold
 returns-in-Ok-hold g c =
@@ -49,17 +50,19 @@ returns-in-Ok-hold g c =
     let to = c.args.destination.now in
     let first = c.in-Some.ensures in
     let held = c.in-Ok-hold.ensures.held in
-    let by = held.1 in
+    let one = held.one in
+    let by = held.held in
     let asked = by.asked in
     let upto = offered c.args.stuck (first_of (Ok given.items)) c.in-Some.first c.upto_at-upto.result (sym first) c.upto_at-upto.ensures in
-    let one : Look = record { given = Ok given.items; offer = offer_at c.args.stuck (first_of (Ok given.items)); found = Held held.0 } in (
-      one,
-      record {
+    let look : Look = record { given = Ok given.items; offer = offer_at c.args.stuck (first_of (Ok given.items)); found = Held one } in
+    record {
+      look = look;
+      is_look = record {
         asked = c.pending.new.self.pass;
         asks = c.in-Ok.ensures.ran.0;
         found = (
           some_pending given.items c.in-Some.first (sym first),
-          subst (λ (u : Option ℕ). IsHeld g.J.Naming.start to.outward u held.0 c.pending.new.self.pass c.hold.new.access.pass) upto (record {
+          subst (λ (u : Option ℕ). IsHeld g.J.Naming.start to.outward u one c.pending.new.self.pass c.hold.new.access.pass) upto (record {
             begun = by.begun.pass;
             end = by.end;
             asked = record {
@@ -76,26 +79,27 @@ returns-in-Ok-hold g c =
             ended = by.ended;
           }),
         );
-        told = held.2;
-      },
-      refl,
-      ap (λ (sent : Sent). outcome.Held sent) held.3,
-      c.stuck_from.ensures ∙ (λ i. stuck_from (held.3 i) (first i)),
-    )
+        told = subst (HangsUp to.place one (g.N.Net.told c.args.net.now)) (sym c.report_held_up.ensures) held.hung;
+      };
+      offers = refl;
+      outcome_is = ap (λ (sent : Sent). outcome.Held sent) held.sent_is;
+      stuck_is = c.stuck_from.ensures ∙ (λ i. stuck_from (held.sent_is i) (first i));
+    }
 
 pub returns : goal.returns
 returns g c =
     let given = c.in-Ok.given in
     let first = c.in-Some.ensures in
-    let undialed = c.in-Err-hold.ensures.undialed in (
-      record { given = Ok given.items; offer = offer_at c.args.stuck (first_of (Ok given.items)); found = Undialed c.in-Err-hold.fault },
-      record {
+    let undialed = c.in-Err-hold.ensures.undialed in
+    record {
+      look = record { given = Ok given.items; offer = offer_at c.args.stuck (first_of (Ok given.items)); found = Undialed c.in-Err-hold.fault };
+      is_look = record {
         asked = c.pending.new.self.pass;
         asks = c.in-Ok.ensures.ran.0;
         found = (some_pending given.items c.in-Some.first (sym first), λ i. (undialed.0 i).pass);
         told = undialed.1;
-      },
-      refl,
-      refl,
-      refl,
-    )
+      };
+      offers = refl;
+      outcome_is = refl;
+      stuck_is = refl;
+    }

@@ -3,4 +3,4 @@ use Rattle.serve_laws.proofs.Runs.{connections_contribute}
 use Rattle.serve_laws.proofs.laws.connections_contribute.Goals as goal
 
 pub returns : goal.returns
-returns g c = connections_contribute _ _ _ _ _ _
+returns g c = connections_contribute _ _ _ _

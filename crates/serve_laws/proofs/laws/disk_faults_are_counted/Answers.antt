@@ -3,4 +3,4 @@ use Rattle.serve_laws.proofs.Runs.{disk_faults_are_counted}
 use Rattle.serve_laws.proofs.laws.disk_faults_are_counted.Goals as goal
 
 pub returns : goal.returns
-returns g c = disk_faults_are_counted _ _ _ _ _ _
+returns g c = disk_faults_are_counted _ _ _ _

@@ -3,4 +3,4 @@ use Rattle.serve_laws.proofs.Runs.{doors_tell_durable}
 use Rattle.serve_laws.proofs.laws.doors_tell_durable.Goals as goal
 
 pub returns : goal.returns
-returns g c = doors_tell_durable _ _ _ _ _ _
+returns g c = doors_tell_durable _ _ _ _

@@ -3,4 +3,4 @@ use Rattle.serve_laws.proofs.Runs.{order_is_kept}
 use Rattle.serve_laws.proofs.laws.order_is_kept.Goals as goal
 
 pub returns : goal.returns
-returns g c = order_is_kept _ _ _ _ _ _
+returns g c = order_is_kept _ _ _ _

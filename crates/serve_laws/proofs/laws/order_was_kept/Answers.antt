@@ -3,4 +3,4 @@ use Rattle.serve_laws.proofs.Runs.{order_was_kept}
 use Rattle.serve_laws.proofs.laws.order_was_kept.Goals as goal
 
 pub returns : goal.returns
-returns g c = order_was_kept _ _ _ _ _ _
+returns g c = order_was_kept _ _ _ _

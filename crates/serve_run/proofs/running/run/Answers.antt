@@ -1,9 +1,6 @@
-use Rattle.std.proofs.Common.{◌≡◌, List, length, map, ap, sym, ◌∙◌, subst, arith}
+use Rattle.std.proofs.Common.{◌≡◌, length, map, ap, sym, ◌∙◌, subst, arith}
 use Rattle.std.proofs.lemmas.List.{length-map}
-use Rattle.edge_io.specs.Door.{DoorState}
-use Rattle.conn_serve.specs.declared.rules.Rules.{Rules}
-use Rattle.spool_turns.specs.Passes.{Known}
-use Rattle.serve_workers.specs.Crews.{AreNew, HaveWorked}
+use Rattle.serve_workers.specs.Crews.{AreNew, HaveWorked, Roster, returned_as, roster_as}
 use Rattle.serve_workers.proofs.Placing.{new_front, new_last}
 use Rattle.serve_run.proofs.Leaving.{front_many}
 use Rattle.serve_run.proofs.running.run.Goals as goal
@@ -37,6 +34,6 @@ returns-clause-ran g c =
       before = c.in-Some.ensures.items;
       after = c.push_reserved-2.ensures.items;
       count = (omega (arith, many, posts, c.args.posts.ok.0), omega (arith, ran.many.1, crew.passes.ok.0, ap length hired.passes, many, posts, c.args.posts.ok.0));
-      worked = subst (λ (t : List Rules × List DoorState × List Known). HaveWorked g.J.Naming.start g.J.Naming.run c.args.talks t.0 t.1 t.2 (map g.P.Door.told crew.doors.items) crew.passes.items crew.reports.items) (λ i. (hired.rules i, hired.doors i, hired.passes i)) ran.worked;
+      worked = subst (λ (r : Roster). HaveWorked g.J.Naming.start g.J.Naming.run c.args.talks r (returned_as (map g.P.Door.told crew.doors.items) crew.passes.items crew.reports.items)) (λ i. roster_as (hired.rules i) (hired.doors i) (hired.passes i)) ran.worked;
       forwarded = ran.forwarded;
     }

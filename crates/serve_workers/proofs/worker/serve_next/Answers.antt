@@ -4,8 +4,9 @@ use Rattle.std.specs.Prelude.{Option, Some, None, Ok, IfSome, IfNone}
 use Rattle.edge_io.specs.Told.{IsFresh, IsToldAs, MayFollow}
 use Rattle.edge_io.specs.Door.{TakesLink, SameLinks, StaysPermitted}
 use Rattle.notes.specs.Notes.{status_of}
-use Rattle.serve_workers.proofs.Joining.{tells_none}
-use Rattle.serve_workers.proofs.Linking.{link_of, tells_one, link_at_door, idle_at_door}
+use Rattle.serve_workers.specs.Served.{links_as}
+use Rattle.serve_workers.proofs.Joining.{at_door_of, tells_none}
+use Rattle.serve_workers.proofs.Linking.{link_of, tells_one, link_done, idle_at_door}
 use Rattle.serve_workers.proofs.worker.serve_next.Goals as goal
 
 at_some : {X : Type 0} (o : Option X) (x : X) (P : X → Type 0) → o ≡ Some x → IfSome o P → P x
@@ -32,7 +33,8 @@ returns-in-Ok-clause-serves g c =
     let one = link_of c.args.conn (g.P.L.Source.left c.attend-attended.new.link) s.calls s.bytes s.text attended.talk in
     let tells = tells_one c.args.rules.now c.args.conn _ old between new _ _ _ _ _ _ _ attended fresh rest s status back.adds in (
       one,
-      link_at_door c.args.rules.now c.args.conn old between new _ _ _ _ _ _ _ attended _ _ _ _ (one ∷ []) takes rest s served.reads served.writes back.reads back.writes back.rest tells,
+      at_door_of c.args.rules.now c.args.conn old new _ (links_as (one ∷ []) [])
+          (link_done c.args.rules.now c.args.conn old between new _ _ _ _ _ _ _ attended _ _ _ _ (one ∷ []) takes rest s served.reads served.writes back.reads back.writes back.rest tells),
       back.rest.accept_faults ∙ c.in-Ok-Some.ensures.cause.quiet refl,
     )
 
@@ -79,7 +81,8 @@ returns-in-Err-give_back-clause-stops g c =
     let same = back.rest.accept_faults ∙ c.in-Ok-Some.ensures.cause.quiet refl in
     record {
       late = one ∷ [];
-      at_door = link_at_door c.args.rules.now c.args.conn old between new _ _ _ _ _ _ _ attended _ _ _ _ [] takes rest s served.reads served.writes back.reads back.writes back.rest tells;
+      at_door = at_door_of c.args.rules.now c.args.conn old new _ (links_as [] (one ∷ []))
+          (link_done c.args.rules.now c.args.conn old between new _ _ _ _ _ _ _ attended _ _ _ _ [] takes rest s served.reads served.writes back.reads back.writes back.rest tells);
       ends = refl;
       accept_faults = record { later = omega (arith, same); cause = λ is. absurd (cc); quiet = λ none. same };
     }

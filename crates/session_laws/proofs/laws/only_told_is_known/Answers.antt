@@ -2,4 +2,4 @@ use Rattle.session_laws.proofs.Acknowledged.{only_told}
 use Rattle.session_laws.proofs.laws.only_told_is_known.Goals as goal
 
 pub returns : goal.returns
-returns c = only_told
+returns c = λ sending. only_told sending.settings sending.proto sending.whole

@@ -1,7 +1,7 @@
 use Rattle.std.proofs.Common.{◌≡◌, map, length, sym, ap, ◌∙◌, arith, subst}
 use Rattle.std.specs.Prelude.{All}
 use Rattle.spool_turns.specs.Replays.{IsReal}
-use Rattle.serve_workers.specs.Crews.{AreNew, IsReady}
+use Rattle.serve_workers.specs.Crews.{AreNew, IsReady, roster_as, returned_as}
 use Rattle.serve_workers.specs.Answering.{MayAnswer}
 use Rattle.serve_workers.proofs.Placing.{have_worked, all_ready, told_same, written_back}
 use Rattle.serve_workers.proofs.hired.Hired.work.Goals as goal
@@ -27,10 +27,9 @@ returns-clause-worked g c =
     let ys = c.work_all.new.workers in
     let many : c.self.inside.workers.len ≡ length ys = omega (arith, c.work_all.auto.workers, c.deref_mut.ensures.len) in
     let back = written_back c.self.inside.workers.len ys _ many in
-    have_worked (λ w. w.rules) (λ w. told w.door) (λ w. w.seated.pass) (λ w. w.report) g.J.Naming.start g.J.Naming.run c.args.talks xs ys _ _ _ _ _ _ c.work_all.ensures.worked
-    (ap (map (λ w. w.rules)) value ∙ ap (λ r. r.rules) was)
-    (ap (map (λ w. told w.door)) value ∙ ap (λ r. r.doors) was)
-    (ap (map (λ w. w.seated.pass)) value ∙ ap (λ r. r.passes) was)
-    (ap (map (λ w. told w.door)) (sym back) ∙ told_same (λ w. w.door) told _ c.dismissed.result.doors.items (sym left.doors))
-    (ap (map (λ w. w.seated.pass)) (sym back) ∙ sym left.passes)
-    (ap (map (λ w. w.report)) (sym back) ∙ sym left.reports)
+    let doors = ap (map (λ w. told w.door)) (sym back) ∙ told_same (λ w. w.door) told _ c.dismissed.result.doors.items (sym left.doors) in
+    let passes = ap (map (λ w. w.seated.pass)) (sym back) ∙ sym left.passes in
+    let reports = ap (map (λ w. w.report)) (sym back) ∙ sym left.reports in
+    have_worked (λ w. w.rules) (λ w. told w.door) (λ w. w.seated.pass) (λ w. w.report) g.J.Naming.start g.J.Naming.run c.args.talks xs ys c.work_all.ensures.worked _ _
+    (ap (λ l. roster_as (map (λ w. w.rules) l) (map (λ w. told w.door) l) (map (λ w. w.seated.pass) l)) value ∙ was)
+    (λ i. returned_as (doors i) (passes i) (reports i))
