@@ -21,7 +21,7 @@ use Rattle.bridge_parts.specs.Run.{OutputRun}
 use Rattle.bridge_parts.proofs.Numbers.{pending_seen}
 use Rattle.bridge_move.specs.declared.moved.Moved.{Moved}
 use Rattle.bridge_move.specs.Ended.{EndsOpen, LeavesOpen}
-use Rattle.bridge_move.specs.MoveRun.{MovesFromDevices, MovesOpened}
+use Rattle.bridge_move.specs.MoveRun.{MovesFromDevices, MovesOpened, two_disks}
 use Rattle.bridge_move.proofs.Both.{both_weaker, both_opened}
 
 -- refused, it has what it had
@@ -61,7 +61,7 @@ module _ {D E : Type 0} (disks : Disks D) (targets : Disks E) (tag : ℕ) (sourc
       → (disks.tells → LeavesOnly (on source).image (on source) (on opened.disk))
       → (targets.tells → LeavesOnly (onto target).image (onto target) (onto opened'.disk))
       → LeavesOpen tag opened opened' ended
-      → MovesOpened disks.tells targets.tells on onto tag source ended.source target ended.target output ended.note
+      → MovesOpened (two_disks disks.tells targets.tells on onto) tag (source, target) (ended.source, ended.target) output ended.note
   moves_opened ends opens opens' only only' leaves = record {
     result = ends.result;
     source_memory = ends.source_memory;

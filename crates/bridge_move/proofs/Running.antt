@@ -49,7 +49,7 @@ module _ {D E : Type 0} (tells tells' : Type 0) (on : D → Moment) (onto : E �
   none_done c d count is = absurd (cc)
 
   -- nothing was done
-  left_alone : source' ≡ source → target' ≡ target → (note ≡ Note.Fine → ⊥) → IsRunBy on onto tag source source' target target' note
+  left_alone : source' ≡ source → target' ≡ target → (note ≡ Note.Fine → ⊥) → IsRunBy (run.two_disks tells tells' on onto) tag (source, target) (source', target') note
   left_alone same same' ill = record {
     result = Err Fault.NoMemory;
     turns = [];
@@ -58,7 +58,7 @@ module _ {D E : Type 0} (tells tells' : Type 0) (on : D → Moment) (onto : E �
   }
 
   -- the source was opened only, or not
-  one_alone : LeavesOnly (on source).image (on source) (on source') → target' ≡ target → (note ≡ Note.Fine → ⊥) → IsRunBy on onto tag source source' target target' note
+  one_alone : LeavesOnly (on source).image (on source) (on source') → target' ≡ target → (note ≡ Note.Fine → ⊥) → IsRunBy (run.two_disks tells tells' on onto) tag (source, target) (source', target') note
   one_alone only same' ill = record {
     result = Err Fault.NoMemory;
     turns = OfSource source' ∷ [];
@@ -75,7 +75,7 @@ module _ {D E : Type 0} (tells tells' : Type 0) (on : D → Moment) (onto : E �
   }
 
   both_alone : LeavesOnly (on source).image (on source) (on source') → LeavesOnly (onto target).image (onto target) (onto target') → (note ≡ Note.Fine → ⊥)
-      → IsRunBy on onto tag source source' target target' note
+      → IsRunBy (run.two_disks tells tells' on onto) tag (source, target) (source', target') note
   both_alone only only' ill = record {
     result = Err Fault.NoMemory;
     turns = OfSource source' ∷ OfTarget target' ∷ [];
@@ -102,7 +102,7 @@ module _ {D E : Type 0} (tells tells' : Type 0) (on : D → Moment) (onto : E �
   midst s t c d (inr any) =
       inr (subst (λ (u : SpoolState). IsMoving tag s u c d) any.3 (subst (λ (m : SpoolState). IsMoving tag m any.1 c d) any.2 any.4))
 
-  all_done : (moved : run.MovesOpened tells tells' on onto tag source source' target target' output note) (h : tells) (h' : tells') (result : Result ℕ MoveFault) → moved.result ≡ result
+  all_done : (moved : run.MovesOpened (run.two_disks tells tells' on onto) tag (source, target) (source', target') output note) (h : tells) (h' : tells') (result : Result ℕ MoveFault) → moved.result ≡ result
       → (count : ℕ) → result ≡ Ok count → (c d : List ℕ) → (on source').image c → (onto target').image d
       → IsMoved tag (moved.moved h h').source_state (moved.moved h h').target_state c d
   all_done moved h h' result is count at c d image image' =
@@ -113,7 +113,7 @@ module _ {D E : Type 0} (tells tells' : Type 0) (on : D → Moment) (onto : E �
       let reaches = done.reaches in
       (reaches.s, reaches.t, reaches.source.each c image, reaches.target.each d image', reaches.stands)
 
-  moved_run : run.MovesOpened tells tells' on onto tag source source' target target' output note → tells → tells' → IsRunBy on onto tag source source' target target' note
+  moved_run : run.MovesOpened (run.two_disks tells tells' on onto) tag (source, target) (source', target') output note → tells → tells' → IsRunBy (run.two_disks tells tells' on onto) tag (source, target) (source', target') note
   moved_run moved h h' =
       let devices = moved.moved h h' in
       record {
@@ -132,7 +132,7 @@ module _ {D E : Type 0} (tells tells' : Type 0) (on : D → Moment) (onto : E �
       }
 
 pub each_is_run : {D E : Type 0} (tells tells' : Type 0) (on : D → Moment) (onto : E → Moment) (source source' : D) (target target' : E) (output : OutputRun)
-    → EachCallIsRun tells tells' on onto source source' target target' output
+    → EachCallIsRun (run.two_disks tells tells' on onto) (source, target) (source', target') output
 each_is_run tells tells' on onto source source' target target' output words path tag note move is h h' s t stood stood' =
     elim (is.done path tag move) [
       | inl alone ↦ left_alone tells tells' on onto tag source source' target target' output note s t stood stood' alone.1.source_same alone.1.target_same (λ well. let never : Note.NoMemory ≡ Note.Fine = sym alone.0 ∙ well in cc)

@@ -14,7 +14,7 @@ use Rattle.bridge_words.proofs.Once.{move_is_no_command, one_tag}
 use Rattle.notes.specs.declared.note.Note.{Note}
 use Rattle.bridge_parts.specs.Run.{OutputRun, IsSilent}
 use Rattle.bridge_move.specs.Ended.{TellsDisks, IsMoveNote}
-use Rattle.bridge_move.specs.MoveRun.{IsMoved, IsLeftAlone, IsMoveRun}
+use Rattle.bridge_move.specs.MoveRun.{IsMoved, IsLeftAlone, IsMoveRun, two_disks}
 
 no_pair : (command : Command) (target : List ℕ) (tag : ℕ) → need_for command ≡ Pair target tag → ⊥
 no_pair (Format slots size) target tag is = cc
@@ -43,24 +43,24 @@ none_is words need (inr (inr is)) other = absurd (other is.0 is.1 is.3)
 module _ {D E : Type 0} (tells tells' : Type 0) (on : D → Moment) (onto : E → Moment) (words : List (List ℕ)) (source source' : D) (target target' : E) (output : OutputRun) (note : Note) where
   -- the words move entries
   pub run_of_move : (path : List ℕ) (tag : ℕ) → IsMove path tag words → IsMoveNote note → TellsDisks note (on source) (on source') (onto target) (onto target')
-      → CountsFaults (note ≡ Note.WriteFault) output.faults output.faults_after → IsMoved tells tells' on onto tag source source' target target' output note
-      → IsMoveRun tells tells' on onto words source source' target target' output note
+      → CountsFaults (note ≡ Note.WriteFault) output.faults output.faults_after → IsMoved (two_disks tells tells' on onto) tag (source, target) (source', target') output note
+      → IsMoveRun (two_disks tells tells' on onto) words (source, target) (source', target') output note
   run_of_move path tag move known disks writes moved = record {
-    disks = disks;
+    calls = disks;
     writes = writes;
     which = inl (path, tag, move);
     known = inr known;
     usage = λ is. absurd (subst IsMoveNote is known);
     no_move = λ none. absurd (none path tag move);
     done = λ other n is.
-        inr (subst (λ (t : ℕ). IsMoved tells tells' on onto t source source' target target' output note) (one_tag path other tag n words move is) moved);
+        inr (subst (λ (t : ℕ). IsMoved (two_disks tells tells' on onto) t (source, target) (source', target') output note) (one_tag path other tag n words move is) moved);
   }
 
   -- they don't
   pub run_of_others : IsNoMove words → note ≡ Note.Usage → source' ≡ source → target' ≡ target → IsSilent output
-      → IsMoveRun tells tells' on onto words source source' target target' output note
+      → IsMoveRun (two_disks tells tells' on onto) words (source, target) (source', target') output note
   run_of_others none is source_same target_same silent = record {
-    disks = inl (
+    calls = inl (
       subst (λ (d : D). Calls (note ≡ Note.DiskFault) (on source) (on d)) (sym source_same)
           (calls_as ⊥ (note ≡ Note.DiskFault) (on source) (on source) (calls_none (on source)) (λ by. cc) (λ never. absurd never)),
       subst (λ (e : E). Calls ⊥ (onto target) (onto e)) (sym target_same) (calls_none (onto target)),

@@ -19,6 +19,7 @@ use Rattle.bridge_words.specs.Words.{IsMove, IsNoMove, IsSomeMove}
 use Rattle.bridge_parts.specs.Pending.{pending_in}
 use Rattle.bridge_parts.specs.Refused.{note_of_recover}
 use Rattle.bridge_parts.specs.Run.{OutputRun, IsSilent}
+use Rattle.bridge_move.specs.declared.moved.Moved.{Moved}
 use Rattle.bridge_move.specs.Ended.{IsMoveNote, TellsDisks, IsTold}
 
 -- The device was not opened: it breaks a rule, the first one at that place, or a call of the disk failed, or no memory was found. Whatever
@@ -35,18 +36,41 @@ pub record IsOpenedOnly (old new : Moment) : Type 0 where
   pub stood : StandsFor state old.reads
   pub any_moment : LeavesOnly old.image old new
 
+-- What the two disks of a move tell: whether each tells what it reads, and what it tells at a moment. The source is the first.
+pub record TwoDisks (D E : Type 0) : Type 1 where
+  pub tells : Type 0
+  pub tells' : Type 0
+  pub on : D → Moment
+  pub onto : E → Moment
+
+abbrev pub two_disks : {D E : Type 0} (tells tells' : Type 0) (on : D → Moment) (onto : E → Moment) → TwoDisks D E
+two_disks tells tells' on onto = record { tells = tells; tells' = tells'; on = on; onto = onto }
+
+-- both disks as they are handed back
+abbrev pub disks_in : {D E : Type 0} → Moved D E → D × E
+disks_in moved = (moved.source, moved.target)
+
+-- What two open spools show: the source's, and the target's.
+pub record Views : Type 1 where
+  pub source : View
+  pub target : View
+
+abbrev pub views : View → View → Views
+views source target = record { source = source; target = target }
+
 -- A move began with what both devices stood for. This is what came of both, by the answer, and what a crash left of both at any moment.
-pub record MovesFromDevices {D E : Type 0} (on : D → Moment) (onto : E → Moment) (tag : ℕ) (result : Result ℕ MoveFault) (source source' : D) (target target' : E) (from into : View) : Type 0 where
+pub record MovesFromDevices {D E : Type 0} (disks : TwoDisks D E) (tag : ℕ) (result : Result ℕ MoveFault) (old new : D × E) (shown : Views) : Type 0 where
   pub source_state : SpoolState
   pub target_state : SpoolState
-  pub source_stood : StandsFor source_state (on source).reads
-  pub target_stood : StandsFor target_state (onto target).reads
-  pub moves : Moves tag source_state target_state result from into
-  pub any_moment : LeavesBoth on onto (IsAnyMoment tag source_state [] target_state [] (on source) (onto target)) source target source' target'
+  pub source_stood : StandsFor source_state (disks.on old.0).reads
+  pub target_stood : StandsFor target_state (disks.onto old.1).reads
+  pub moves : Moves tag source_state target_state result shown.source shown.target
+  pub any_moment : LeavesBoth disks.on disks.onto
+      (IsAnyMoment tag source_state [] target_state [] (disks.on old.0) (disks.onto old.1)) old.0 old.1 new.0 new.1
 
 -- Both devices were opened. The answer of the move, what was printed after it, and what memory has of both spools then. Where all entries
 -- were moved the source has none left, and so the line says.
-pub record MovesOpened {D E : Type 0} (tells tells' : Type 0) (on : D → Moment) (onto : E → Moment) (tag : ℕ) (source source' : D) (target target' : E) (output : OutputRun) (note : Note) : Type 0 where
+pub record MovesOpened {D E : Type 0} (disks : TwoDisks D E) (tag : ℕ) (old new : D × E) (output : OutputRun) (note : Note) : Type 0 where
   pub result : Result ℕ MoveFault
   pub source_memory : Memory
   pub source_doubt : Bool
@@ -54,35 +78,35 @@ pub record MovesOpened {D E : Type 0} (tells tells' : Type 0) (on : D → Moment
   pub target_doubt : Bool
   pub told : IsTold result (pending_in source_memory) output note
   pub said : IfErr result (IsSaidBy source_memory target_memory)
-  pub none_left : IsOk result → tells → tells' → pending_in source_memory ≡ 0
-  pub moved : tells → tells' → MovesFromDevices on onto tag result source source' target target'
-      (view source_memory source_doubt (on source')) (view target_memory target_doubt (onto target'))
+  pub none_left : IsOk result → disks.tells → disks.tells' → pending_in source_memory ≡ 0
+  pub moved : disks.tells → disks.tells' → MovesFromDevices disks tag result old new
+      (views (view source_memory source_doubt (disks.on new.0)) (view target_memory target_doubt (disks.onto new.1)))
 
 -- The source was not opened, and then the target was left alone; or the target was not; or both were, and entries were moved. Nothing was
 -- printed but after a move.
-abbrev pub IsMoved : {D E : Type 0} → Type 0 → Type 0 → (D → Moment) → (E → Moment) → ℕ → D → D → E → E → OutputRun → Note → Type 0
-IsMoved tells tells' on onto tag source source' target target' output note =
-    (IsClosed tells (on source) (on source') note × (target' ≡ target) × IsSilent output)
-    ⊎ (((tells → IsOpenedOnly (on source) (on source')) × IsClosed tells' (onto target) (onto target') note × IsSilent output)
-    ⊎ MovesOpened tells tells' on onto tag source source' target target' output note)
+abbrev pub IsMoved : {D E : Type 0} → TwoDisks D E → ℕ → D × E → D × E → OutputRun → Note → Type 0
+IsMoved disks tag old new output note =
+    (IsClosed disks.tells (disks.on old.0) (disks.on new.0) note × (new.1 ≡ old.1) × IsSilent output)
+    ⊎ (((disks.tells → IsOpenedOnly (disks.on old.0) (disks.on new.0))
+    × IsClosed disks.tells' (disks.onto old.1) (disks.onto new.1) note × IsSilent output)
+    ⊎ MovesOpened disks tag old new output note)
 
 -- nothing was done
-pub record IsLeftAlone {D E : Type 0} (source source' : D) (target target' : E) (output : OutputRun) : Type 0 where
-  pub source_same : source' ≡ source
-  pub target_same : target' ≡ target
+pub record IsLeftAlone {D E : Type 0} (old new : D × E) (output : OutputRun) : Type 0 where
+  pub source_same : new.0 ≡ old.0
+  pub target_same : new.1 ≡ old.1
   pub silent : IsSilent output
 
 -- What a call with these words did that ended with this note.
-pub record IsMoveRun {D E : Type 0} (tells tells' : Type 0) (on : D → Moment) (onto : E → Moment) (words : List (List ℕ)) (source source' : D) (target target' : E) (output : OutputRun) (note : Note) : Type 0 where
+pub record IsMoveRun {D E : Type 0} (disks : TwoDisks D E) (words : List (List ℕ)) (old new : D × E) (output : OutputRun) (note : Note) : Type 0 where
   -- A call of one of the disks, or a write of the output, failed exactly where the note says so.
-  pub disks : TellsDisks note (on source) (on source') (onto target) (onto target')
+  pub calls : TellsDisks note (disks.on old.0) (disks.on new.0) (disks.onto old.1) (disks.onto new.1)
   pub writes : CountsFaults (note ≡ WriteFault) output.faults output.faults_after
   -- The words move entries, or they don't and the note says so and nothing was done; or no memory was found for reading them.
   pub which : IsSomeMove words ⊎ (IsNoMove words ⊎ (note ≡ NoMemory))
   pub known : (note ≡ Usage) ⊎ IsMoveNote note
   pub usage : note ≡ Usage → IsNoMove words
-  pub no_move : IsNoMove words → ((note ≡ Usage) ⊎ (note ≡ NoMemory)) × IsLeftAlone source source' target target' output
+  pub no_move : IsNoMove words → ((note ≡ Usage) ⊎ (note ≡ NoMemory)) × IsLeftAlone old new output
   -- Where they move entries, what was done is that; or nothing, where no memory was found for reading them.
   pub done : (path : List ℕ) (tag : ℕ) → IsMove path tag words
-      → ((note ≡ NoMemory) × IsLeftAlone source source' target target' output)
-      ⊎ IsMoved tells tells' on onto tag source source' target target' output note
+      → ((note ≡ NoMemory) × IsLeftAlone old new output) ⊎ IsMoved disks tag old new output note

@@ -2,6 +2,7 @@
 //! contract.
 ghost use Rattle.bridge_parts.specs.Run.{output_run};
 ghost use Rattle.bridge_move.specs.Calls.{EachCallIsRun};
+ghost use Rattle.bridge_move.specs.MoveRun.{two_disks};
 
 use edge_disk::Disk;
 use edge_io::Sink;
@@ -19,6 +20,6 @@ pub fn each_call_is_a_run<D: Disk, E: Disk, K: Sink>(
     _output: &K,
     _output_after: &K,
 )
-    ensures { EachCallIsRun D.tells E.tells D.moment E.moment _source.now _source_after.now _target.now _target_after.now
+    ensures { EachCallIsRun (two_disks D.tells E.tells D.moment E.moment) (_source.now, _target.now) (_source_after.now, _target_after.now)
         (output_run K.taken K.write_faults _output.now _output_after.now) }
 {}

@@ -7,7 +7,7 @@ ghost use Rattle.notes.specs.Notes.{status_of};
 ghost use Rattle.notes.specs.declared.note.Note.TheVariants.{WriteFault};
 ghost use Rattle.bridge_parts.specs.Run.{output_run};
 ghost use Rattle.bridge_move.specs.Ended.{TellsDisks, IsMoveNote};
-ghost use Rattle.bridge_move.specs.MoveRun.{IsMoved};
+ghost use Rattle.bridge_move.specs.MoveRun.{IsMoved, disks_in, two_disks};
 
 use crate::ended::move_open;
 use crate::moved::Moved;
@@ -35,7 +35,7 @@ pub(crate) fn move_over<D: Disk, E: Disk, K: Sink>(
     ensures known { IsMoveNote result.note }
     ensures disks { TellsDisks result.note (D.moment source) (D.moment result.source) (E.moment target) (E.moment result.target) }
     ensures writes { CountsFaults (result.note ≡ WriteFault) (K.write_faults output.old) (K.write_faults output.new) }
-    ensures moved { IsMoved D.tells E.tells D.moment E.moment tag source result.source target result.target
+    ensures moved { IsMoved (two_disks D.tells E.tells D.moment E.moment) tag (source, target) (disks_in result)
         (output_run K.taken K.write_faults output.old output.new) result.note }
 {
     let source = match Spool::recover(alloc, source, Opening::Keep) {

@@ -5,7 +5,7 @@ ghost use Rattle.notes.specs.Notes.{status_of};
 ghost use Rattle.bridge_words.specs.Words.{IsMove, IsNoMove};
 ghost use Rattle.bridge_parts.specs.Run.{output_run};
 ghost use Rattle.bridge_move.specs.Leave.{ForMoves};
-ghost use Rattle.bridge_move.specs.MoveRun.{IsMoveRun};
+ghost use Rattle.bridge_move.specs.MoveRun.{IsMoveRun, disks_in, two_disks};
 ghost use Rattle.spool_move.specs.Leave.{MayMove};
 
 use crate::moved::Moved;
@@ -68,7 +68,7 @@ pub fn bridge_move<D: Disk, E: Disk, K: Sink>(
     ensures status { result.status ≡ status_of result.note }
 
     // What was done, what was left alone, and what failed meanwhile.
-    ensures run { IsMoveRun D.tells E.tells D.moment E.moment (map string_bytes words.now) source result.source target result.target
+    ensures run { IsMoveRun (two_disks D.tells E.tells D.moment E.moment) (map string_bytes words.now) (source, target) (disks_in result)
         (output_run K.taken K.write_faults output.old output.new) result.note }
 {
     match tag_of(alloc, words) {

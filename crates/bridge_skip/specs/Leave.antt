@@ -22,8 +22,17 @@ pub record WasPrinted (device : List ℕ) (number : ℕ) (old new : Option (List
   pub stands : StandsFor state device
   pub printed : IsPrintedOf state number old new
 
+-- An output, as a call is given it: which outputs are the very one, what it tells that it took, and it as it was.
+pub record Given (K : Type 0) : Type 1 where
+  pub same : K → K → Type 0
+  pub taken : K → Option (List ℕ)
+  pub old : K
+
+abbrev pub given_output : {K : Type 0} (same : K → K → Type 0) (taken : K → Option (List ℕ)) → K → Given K
+given_output same taken old = record { same = same; taken = taken; old = old }
+
 -- The number may become known once the output took all of the line. Of a device that doesn't tell what it reads nothing is said of its
 -- entries.
-abbrev pub MaySkip : {K : Type 0} → Type 0 → List ℕ → ℕ → (K → K → Type 0) → (K → Option (List ℕ)) → K → (ℕ → Type 0) → Type 0
-MaySkip {K} tells device number same taken output Release =
-    (now : K) → same output now → (tells → WasPrinted device number (taken output) (taken now)) → Release number
+abbrev pub MaySkip : {K : Type 0} → Type 0 → List ℕ → ℕ → Given K → (ℕ → Type 0) → Type 0
+MaySkip {K} tells device number output Release =
+    (now : K) → output.same output.old now → (tells → WasPrinted device number (output.taken output.old) (output.taken now)) → Release number

@@ -3,7 +3,7 @@ ghost use Rattle.std.specs.Prelude.{◌≡◌, ℕ, List};
 ghost use Rattle.spool_answers.specs.Leave.{LetsKeep};
 ghost use Rattle.notes.specs.Notes.{status_of};
 ghost use Rattle.bridge_parts.specs.Run.{disk_run, output_run};
-ghost use Rattle.bridge_skip.specs.Leave.{MaySkip};
+ghost use Rattle.bridge_skip.specs.Leave.{MaySkip, given_output};
 ghost use Rattle.bridge_skip.specs.SkipRun.{IsSkipRun};
 
 use crate::opened::skip_open;
@@ -40,7 +40,7 @@ pub fn bridge_skip<D: Disk, K: Sink>(
     output: &mut K,
 ) -> Skipped<D>
     // The number may be given up once the output has the whole line of its entry.
-    requires earned { MaySkip D.tells (D.moment disk).reads number K.same K.taken output.old D.may_release }
+    requires earned { MaySkip D.tells (D.moment disk).reads number (given_output K.same K.taken output.old) D.may_release }
 
     // What keeps the spool may be written to the disk, and any text may be printed.
     requires tears { LetsKeep D.tells D.moment D.may_tear D.may_release }

@@ -5,7 +5,7 @@ use Rattle.cli_parts.specs.declared.run_options.RunOptions.{RunOptions}
 use Rattle.cli_parts.specs.declared.run_options.WrongOption.{WrongOption}
 use Rattle.cli_parts.specs.declared.run_options.WrongOption.TheVariants.{QuietTwice, QuietValue, IdleElsewhere, IdleTwice, IdleNoValue, IdleRange}
 use Rattle.cli_parts.specs.RunOptions.{Text, no_options, option_name, IsNoOption, IsNoSeconds, IsIdle, IsRead, named, quiet, idle, other, EndsOptions, AreTaken, TakesIdle, IsWrong, IsWrongNext}
-use Rattle.cli_parts.specs.Piece.{IsNext}
+use Rattle.cli_parts.specs.Piece.{IsNext, so_far_as}
 
 -- the first of some elements, and the others as a pattern has them
 pub first_and_rest : {X : Type 0} (f : X → Text) (xs : List X) (x : X) (text : Text) → 1 ≤ length xs → x ≡ get_or xs 0 x → text ≡ f x
@@ -22,7 +22,7 @@ none_of f (x ∷ xs) few = absurd (omega arith)
 -- ---- one word, or an option with its value
 
 pub next_quiet : (name word : Text) (more : List Text) (old : RunOptions) (kept : List Text) → word ≡ codes "--quiet" → old.is_quiet ≡ false
-    → IsNext name (word ∷ more) more old (record old { is_quiet = true }) kept kept
+    → IsNext name (word ∷ more) more (so_far_as old kept) (so_far_as (record old { is_quiet = true }) kept)
 next_quiet name word more old kept is unsaid = record {
   own = codes "--quiet" ∷ [];
   words_are = ap (λ w. w ∷ more) is;
@@ -30,7 +30,7 @@ next_quiet name word more old kept is unsaid = record {
 }
 
 pub next_idle : (name word value : Text) (whole more : List Text) (old new : RunOptions) (kept : List Text) → whole ≡ value ∷ more
-    → word ≡ codes "--idle" → TakesIdle name value old new → IsNext name (word ∷ whole) more old new kept kept
+    → word ≡ codes "--idle" → TakesIdle name value old new → IsNext name (word ∷ whole) more (so_far_as old kept) (so_far_as new kept)
 next_idle name word value whole more old new kept whole_is is takes = record {
   own = word ∷ value ∷ [];
   words_are = ap (λ l. word ∷ l) whole_is;
@@ -39,7 +39,7 @@ next_idle name word value whole more old new kept whole_is is takes = record {
 }
 
 pub next_idle_with : (name word value : Text) (more : List Text) (old new : RunOptions) (kept : List Text) → word ≡ codes "--idle=" ++ value
-    → TakesIdle name value old new → IsNext name (word ∷ more) more old new kept kept
+    → TakesIdle name value old new → IsNext name (word ∷ more) more (so_far_as old kept) (so_far_as new kept)
 next_idle_with name word value more old new kept is takes = record {
   own = word ∷ [];
   words_are = refl;
@@ -69,7 +69,7 @@ wrong_idle_with name word value more old IdleNoValue is why = absurd why
 wrong_idle_with name word value more old IdleRange is why = (word ∷ [], more, value, refl, inr (ap (λ w. w ∷ []) is), why)
 
 pub next_other : (name word : Text) (more : List Text) (old new : RunOptions) (kept now : List Text) → IsNoOption word → new ≡ old
-    → now ≡ kept ++ word ∷ [] → IsNext name (word ∷ more) more old new kept now
+    → now ≡ kept ++ word ∷ [] → IsNext name (word ∷ more) more (so_far_as old kept) (so_far_as new now)
 next_other name word more old new kept now is same one = record {
   own = word ∷ [];
   words_are = refl;

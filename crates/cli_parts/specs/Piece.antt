@@ -21,15 +21,24 @@ IsPlain Idle word = word ≡ codes "--idle"
 IsPlain Other word = (word ≢ codes "--quiet") × (word ≢ codes "--idle")
 IsPlain piece word = ⊥
 
+-- what came of the words that were read: the options, and the words that are kept
+pub record SoFar : Type 0 where
+  pub options : RunOptions
+  pub kept : List Text
+
+abbrev pub so_far_as : RunOptions → List Text → SoFar
+so_far_as options kept = record { options = options; kept = kept }
+
 -- some of the words are read, and these are left: whatever was read before, the options and the words that are kept go on with them
-pub record IsNext (name : Text) (words left : List Text) (old new : RunOptions) (kept more : List Text) : Type 0 where
+pub record IsNext (name : Text) (words left : List Text) (old new : SoFar) : Type 0 where
   pub own : List Text
   pub words_are : words ≡ own ++ left
-  pub goes_on : (read : List Text) → IsRead name read old kept → IsRead name (read ++ own) new more
+  pub goes_on : (read : List Text) → IsRead name read old.options old.kept → IsRead name (read ++ own) new.options new.kept
 
 -- so what was taken goes on to what is taken then
 abbrev pub TakesNext : Text → List Text → List Text → Taken → Taken → Type 0
-TakesNext name words left old new = IsNext name words left old.options new.options (map string_bytes old.words.items) (map string_bytes new.words.items)
+TakesNext name words left old new =
+    IsNext name words left (so_far_as old.options (map string_bytes old.words.items)) (so_far_as new.options (map string_bytes new.words.items))
 
 -- these are the options of the run among the words, and the other words
 abbrev pub IsTaken : List Text → Taken → Type 0

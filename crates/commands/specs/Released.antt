@@ -10,7 +10,6 @@ use Rattle.forward_core.specs.Received.{IsReceived}
 use Rattle.forward_core.specs.declared.outward.Outward.{Outward}
 use Rattle.bridge_parts.specs.Opened.{desk_in}
 use Rattle.bridge_parts.specs.Reached.{Reaches}
-use Rattle.commands.specs.Answered.{WasRead}
 use Rattle.commands.specs.Replayed.{Keeps}
 use Rattle.commands.specs.SpoolRun.{SpoolRun, WasIn}
 
@@ -41,7 +40,6 @@ MayMark {D} spool outward Exchanged Release = (disk : D) (n : ℕ) → IsReceive
 abbrev pub WasWritten : {K : Type 0} → (K → K → Type 0) → (K → Option (List ℕ)) → K → List ℕ → Type 0
 WasWritten {K} same taken old text = (now : K) × same old now × Appends (taken old) (taken now) text
 
--- The input gave these bytes and the output took this text, since they were the old ones.
-abbrev pub WereStreamed : {S K : Type 0} → (S → S → Type 0) → (S → Option (List ℕ)) → S → (K → K → Type 0) → (K → Option (List ℕ)) → K
-    → List ℕ → List ℕ → Type 0
-WereStreamed same_input given input same_output taken output bytes text = WasRead same_input given input bytes × WasWritten same_output taken output text
+-- These bytes were read from the input, and this text was written to the output.
+abbrev pub WereStreamed : (List ℕ → Type 0) → (List ℕ → Type 0) → List ℕ → List ℕ → Type 0
+WereStreamed Read Written bytes text = Read bytes × Written text

@@ -8,9 +8,10 @@ ghost use Rattle.forward_core.specs.Turning.{IsHalt};
 ghost use Rattle.forward_core.specs.declared.sent.Sent.TheVariants as Ending;
 ghost use Rattle.conn_serve.specs.Endings.{CountsFaults};
 ghost use Rattle.notes.specs.declared.note.Note.TheVariants.{Usage, WrongLength, ReadFault};
+ghost use Rattle.commands.specs.Answered.{WasRead};
 ghost use Rattle.commands.specs.Drained.{IsDrained, IsSession};
 ghost use Rattle.commands.specs.Failed.{CountsWrites};
-ghost use Rattle.commands.specs.Released.{MayMark, MayRelease, WereStreamed};
+ghost use Rattle.commands.specs.Released.{MayMark, MayRelease, WasWritten, WereStreamed};
 ghost use Rattle.commands.specs.Sending.{HasPending, IsSentOut, SendsOver};
 ghost use Rattle.commands.specs.SpoolRun.{spool_over};
 ghost use Rattle.commands.specs.Told.{disk_over, input_over, link_over, output_over};
@@ -38,7 +39,7 @@ fn send_both<D: Disk, S: Source, K: Sink, Z: Pause>(
     requires sure { spool.doubt ≡ false }
     requires polls { 0 < outward.now.polls }
     requires releases { MayMark (spool_over spool) outward.now
-        (WereStreamed S.same S.given input.old K.same K.taken output.old) D.may_release }
+        (WereStreamed (WasRead S.same S.given input.old) (WasWritten K.same K.taken output.old)) D.may_release }
 
     ensures calls { Calls (result.sent ≡ Ending.DiskFault) (D.moment spool.disk) (D.moment result.spool.disk) }
     ensures reads { sending.CountsFaults (result.sent ≡ Ending.ReadFault) (S.read_faults input.old) (S.read_faults input.new) }
@@ -67,7 +68,7 @@ fn send_out<D: Disk, S: Source, K: Sink, Z: Pause>(
     requires sure { spool.doubt ≡ false }
     requires polls { 0 < outward.now.polls }
     requires releases { MayMark (spool_over spool) outward.now
-        (WereStreamed S.same S.given input.old K.same K.taken output.old) D.may_release }
+        (WereStreamed (WasRead S.same S.given input.old) (WasWritten K.same K.taken output.old)) D.may_release }
 
     ensures known { (result.note ≢ Usage) × ((have want : ℕ) → result.note ≢ WrongLength have want) }
     ensures calls { Calls (result.note ≡ Note.DiskFault) (D.moment spool.disk) (D.moment result.disk) }
@@ -106,7 +107,7 @@ pub fn drain_out<D: Disk, S: Source, K: Sink, N: Net>(
     requires prints { (k : K) (text : List ℕ) → K.permits k text }
     requires polls { 0 < outward.now.polls }
     requires releases { MayRelease D.tells D.moment disk outward.now
-        (WereStreamed S.same S.given input.old K.same K.taken output.old) D.may_release }
+        (WereStreamed (WasRead S.same S.given input.old) (WasWritten K.same K.taken output.old)) D.may_release }
     requires tears { LetsKeep D.tells D.moment D.may_tear D.may_release }
 
     ensures told { N.told net.new ≡ N.told net.old }

@@ -26,7 +26,7 @@ use Rattle.load_run.specs.declared.loaded.LoadFault.TheVariants as Load
 use Rattle.load_run.specs.declared.loaded.Loaded.{Loaded}
 use Rattle.load_run.specs.Load.{IsDrained, IsFailed, IsIll, IsLoaded, IsReplayed, IsStopped, IsWell, new_spool}
 use Rattle.load_run.specs.Peer.{peer_of}
-use Rattle.load_run.specs.Runs.{Leads, settings}
+use Rattle.load_run.specs.Runs.{Leads, replay_as, settings}
 use Rattle.ending_laws.specs.Draining.{PeerAcknowledges, pending}
 use Rattle.load_laws.specs.Loads.{AllConfirmed}
 use Rattle.bridge_parts.specs.Opened.{desk_in}
@@ -153,12 +153,12 @@ module _ (proto : Proto) (n : ℕ) (x : DeskState) (h : Holds n x) (few : n ≤ 
 
 -- what a load of so many events by a protocol has to have
 pub record CanLoad (proto : Proto) (number n : ℕ) : Type 0 where
-  pub replayed : (taken : ℕ) (talk : Talk) (text : List ℕ) (x : DeskState) → IsReplayed proto number n taken talk text x → (talk ≡ Talk.DiskFault → ⊥) → (talk ≡ Talk.WriteFault → ⊥) → Replayed n taken talk x
+  pub replayed : (taken : ℕ) (talk : Talk) (text : List ℕ) (x : DeskState) → IsReplayed proto number n (replay_as taken talk text) x → (talk ≡ Talk.DiskFault → ⊥) → (talk ≡ Talk.WriteFault → ⊥) → Replayed n taken talk x
   pub answers : (x : DeskState) → Holds n x → PeerAcknowledges settings proto (pending x.spool) (peer_of proto n)
   pub short : length (peer_of proto n) < 2 ^ 40
 
 module _ (proto : Proto) (number n : ℕ) (few : n ≤ 100000) (can : CanLoad proto number n) where
-  stored_well : (taken : ℕ) (talk : Talk) (text : List ℕ) (x : DeskState) → IsWell talk → IsReplayed proto number n taken talk text x → (taken ≡ n) × Holds n x
+  stored_well : (taken : ℕ) (talk : Talk) (text : List ℕ) (x : DeskState) → IsWell talk → IsReplayed proto number n (replay_as taken talk text) x → (taken ≡ n) × Holds n x
   stored_well taken talk text x well is = (can.replayed taken talk text x is (well_disk talk well) (well_write talk well)).all (well_done talk well)
 
   emptied_well : (sent : Sent) (x after : DeskState) → Holds n x → IsDrained proto n x sent after → Emptied n sent after

@@ -24,7 +24,7 @@ use Rattle.conn_serve.specs.Front.{IsFront}
 use Rattle.conn_serve.specs.RunsOfOne.{RunsOfOne}
 use Rattle.load_run.specs.Events.{load_texts}
 use Rattle.load_run.specs.Load.{IsReplayed, new_spool}
-use Rattle.load_run.specs.Runs.{settings, terms, tokens}
+use Rattle.load_run.specs.Runs.{replay_as, settings, terms, tokens}
 use Rattle.load_run.specs.Stream.{hec_stream, lumber_stream, relp_stream}
 use Rattle.load_run.proofs.Shorts.{AreShort, length-texts, texts_short}
 use Rattle.ending_laws.specs.Draining.{pending}
@@ -61,7 +61,7 @@ module _ (number n : ℕ) (few : n ≤ 100000) where
   unfolding texts
   shorts = texts_short 0 number n (omega (arith, few))
 
-  relp_replayed : RunsOfOne → (taken : ℕ) (talk : Talk) (text : List ℕ) (x : DeskState) → IsReplayed Relp number n taken talk text x → (talk ≡ Talk.DiskFault → ⊥) → (talk ≡ Talk.WriteFault → ⊥) → Replayed n taken talk x
+  relp_replayed : RunsOfOne → (taken : ℕ) (talk : Talk) (text : List ℕ) (x : DeskState) → IsReplayed Relp number n (replay_as taken talk text) x → (talk ≡ Talk.DiskFault → ⊥) → (talk ≡ Talk.WriteFault → ⊥) → Replayed n taken talk x
   unfolding texts
   relp_replayed ones taken talk text x is disk write =
       let r = is.replays in
@@ -107,7 +107,7 @@ module _ (number n : ℕ) (few : n ≤ 100000) where
   unfolding lumber_texts
   lumber_shorts = texts_short 0 number n (omega (arith, few))
 
-  lumber_replayed : (taken : ℕ) (talk : Talk) (text : List ℕ) (x : DeskState) → IsReplayed Lumberjack number n taken talk text x → (talk ≡ Talk.DiskFault → ⊥) → (talk ≡ Talk.WriteFault → ⊥) → Replayed n taken talk x
+  lumber_replayed : (taken : ℕ) (talk : Talk) (text : List ℕ) (x : DeskState) → IsReplayed Lumberjack number n (replay_as taken talk text) x → (talk ≡ Talk.DiskFault → ⊥) → (talk ≡ Talk.WriteFault → ⊥) → Replayed n taken talk x
   unfolding lumber_texts
   lumber_replayed taken talk text x is disk write =
       let r = is.replays in
@@ -157,7 +157,7 @@ module _ (number n : ℕ) (few : n ≤ 100000) where
   unfolding hec_texts
   are_texts = texts_are 0 number n (omega (arith, few))
 
-  hec_replayed : (taken : ℕ) (talk : Talk) (text : List ℕ) (x : DeskState) → IsReplayed Hec number n taken talk text x → (talk ≡ Talk.DiskFault → ⊥) → (talk ≡ Talk.WriteFault → ⊥) → Replayed n taken talk x
+  hec_replayed : (taken : ℕ) (talk : Talk) (text : List ℕ) (x : DeskState) → IsReplayed Hec number n (replay_as taken talk text) x → (talk ≡ Talk.DiskFault → ⊥) → (talk ≡ Talk.WriteFault → ⊥) → Replayed n taken talk x
   unfolding hec_texts
   hec_replayed taken talk text x is disk write =
       let r = is.replays in

@@ -16,7 +16,7 @@ use Rattle.load_run.specs.declared.loaded.LoadFault.TheVariants.{Replayed, Drain
 use Rattle.load_run.specs.declared.loaded.Loaded.{Loaded}
 use Rattle.load_run.specs.Load.{IsDrained, IsDrainedOf, IsFailed, IsIll, IsLoaded, IsReplayed, IsStopped, IsUndrained, IsWell, new_spool}
 use Rattle.load_run.specs.Peer.{peer_of}
-use Rattle.load_run.specs.Runs.{Drains, LeadsTo, Replays, desk_in}
+use Rattle.load_run.specs.Runs.{Drains, LeadsTo, ReplaysTo, replay_as, desk_in}
 use Rattle.load_run.specs.Stream.{stream_of}
 
 -- the desk after the replay
@@ -24,13 +24,13 @@ pub record IsStored (proto : Proto) (number count taken : ℕ) (talk : Talk) (wr
   pub text : List ℕ
   pub long : written ≡ length text
   pub after : DeskState
-  pub replayed : IsReplayed proto number count taken talk text after
+  pub replayed : IsReplayed proto number count (replay_as taken talk text) after
   pub here : IsAt after v
 
 pub stored_of : (proto : Proto) (number count taken written : ℕ) (talk : Talk) (stream : List ℕ) (v : AloneView) → stream ≡ stream_of proto number count
-    → (text : List ℕ) × (written ≡ length text) × Replays (λ calls. LeadsTo (desk_in new_spool) calls v) proto stream taken talk text → IsStored proto number count taken talk written v
+    → (text : List ℕ) × (written ≡ length text) × ReplaysTo (desk_in new_spool) v proto stream (replay_as taken talk text) → IsStored proto number count taken talk written v
 stored_of proto number count taken written talk stream v is told =
-    let r = subst (λ (s : List ℕ). Replays (λ calls. LeadsTo (desk_in new_spool) calls v) proto s taken talk told.0) is told.2 in record {
+    let r = subst (λ (s : List ℕ). ReplaysTo (desk_in new_spool) v proto s (replay_as taken talk told.0)) is told.2 in record {
       text = told.0;
       long = told.1;
       after = r.made.after;
@@ -80,7 +80,7 @@ loaded_of proto number count taken written bytes_in talk v w loaded is well done
       well = well;
       text = is.text;
       stored = is.after;
-      replayed = subst (λ (n : ℕ). IsReplayed proto number count n talk is.text is.after) (sym counts.0) is.replayed;
+      replayed = subst (λ (n : ℕ). IsReplayed proto number count (replay_as n talk is.text) is.after) (sym counts.0) is.replayed;
       bytes_in = counts.1 ∙ stream;
       bytes_out = counts.2 ∙ is.long;
       after = done.0;

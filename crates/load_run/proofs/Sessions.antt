@@ -14,14 +14,14 @@ use Rattle.forward_core.specs.Session.{Ended}
 use Rattle.forward_core.specs.Settings.{Settings}
 use Rattle.forward_core.specs.declared.outward.Outward.{Outward}
 use Rattle.forward_core.specs.declared.sent.Sent.{Sent}
-use Rattle.load_run.specs.Runs.{Replays, Drains, terms, settings}
+use Rattle.load_run.specs.Runs.{Replays, Drains, replay_as, terms, settings}
 
 some_same : (a b : List ℕ) → Some a ≡ Some b → a ≡ b
 some_same a b e = cc
 
 pub replays_of : (Made ran : List Call → Type 0) (rules : Rules) (proto : Proto) (given given' left left' written written' : Option (List ℕ)) (attended : Attended) (stream out : List ℕ) (n : ℕ)
     → rules.proto ≡ proto → terms_of rules ≡ terms → left ≡ Some stream → written ≡ Some [] → written' ≡ Some out → n ≡ length out → ((calls : List Call) → ran calls → Made calls)
-    → Serves (CarriedBy rules (2 ^ 32)) given given' left left' written written' ran attended → (text : List ℕ) × (n ≡ length text) × Replays Made proto stream attended.taken attended.talk text
+    → Serves (CarriedBy rules (2 ^ 32)) given given' left left' written written' ran attended → (text : List ℕ) × (n ≡ length text) × Replays Made proto stream (replay_as attended.taken attended.talk text)
 replays_of Made ran rules proto given given' left left' written written' attended stream out n by_proto by_terms fed none took count on run =
     let split = consumes_told left left' stream run.bytes fed run.consumed in
     let told : Some out ≡ Some run.text = sym took ∙ appends_told written written' [] run.text none run.wrote in

@@ -14,7 +14,7 @@ use Rattle.load_run.specs.declared.loaded.LoadFault.{LoadFault}
 use Rattle.load_run.specs.declared.loaded.LoadFault.TheVariants.{Replayed, Drained, NoMemory}
 use Rattle.load_run.specs.declared.loaded.Loaded.{Loaded}
 use Rattle.load_run.specs.Peer.{peer_of}
-use Rattle.load_run.specs.Runs.{Leads, desk_in, Replays, Drains}
+use Rattle.load_run.specs.Runs.{Leads, Replay, replay_as, desk_in, Replays, Drains}
 use Rattle.load_run.specs.Stream.{stream_of}
 
 -- the spool of a load: new, of 8 slots of 4 MiB, and opened for storing
@@ -42,9 +42,9 @@ pub record IsStopped (sent : Sent) : Type 0 where
   pub disk : sent ≢ sents.DiskFault
   pub fed : sent ≢ sents.NoMemory
 
--- THE REPLAY: the stream was sent over a connection to a desk of the new spool, and the connection ended so.
-pub record IsReplayed (proto : Proto) (number count taken : ℕ) (talk : Talk) (text : List ℕ) (after : DeskState) : Type 0 where
-  pub replays : Replays (λ calls. Leads (desk_in new_spool) calls after) proto (stream_of proto number count) taken talk text
+-- THE REPLAY: the stream was sent over a connection to a desk of the new spool, and that came of the connection.
+pub record IsReplayed (proto : Proto) (number count : ℕ) (replay : Replay) (after : DeskState) : Type 0 where
+  pub replays : Replays (λ calls. Leads (desk_in new_spool) calls after) proto (stream_of proto number count) replay
 
 -- THE DRAIN: what the replay left was sent to the peer, and the session ended so.
 pub record IsDrained (proto : Proto) (count : ℕ) (before : DeskState) (sent : Sent) (after : DeskState) : Type 0 where
@@ -60,7 +60,7 @@ pub record IsLoaded (proto : Proto) (number count : ℕ) (loaded : Loaded) : Typ
   pub well : IsWell talk
   pub text : List ℕ
   pub stored : DeskState
-  pub replayed : IsReplayed proto number count loaded.events talk text stored
+  pub replayed : IsReplayed proto number count (replay_as loaded.events talk text) stored
   pub bytes_in : loaded.bytes_in ≡ length (stream_of proto number count)
   pub bytes_out : loaded.bytes_out ≡ length text
   pub after : DeskState
@@ -76,8 +76,8 @@ IsUndrained proto count before NoMemory = Unit {0}
 
 -- one of the two ended otherwise, as the fault says, and not for want of memory; or no memory was found
 abbrev pub IsFailed : Proto → ℕ → ℕ → LoadFault → Type 0
-IsFailed proto number count (Replayed talk) = IsIll talk × ((taken : ℕ) × (text : List ℕ) × (after : DeskState) × IsReplayed proto number count taken talk text after)
+IsFailed proto number count (Replayed talk) = IsIll talk × ((taken : ℕ) × (text : List ℕ) × (after : DeskState) × IsReplayed proto number count (replay_as taken talk text) after)
 IsFailed proto number count (Drained sent) =
     IsStopped sent
-    × ((taken : ℕ) × (talk : Talk) × (text : List ℕ) × (stored after : DeskState) × IsWell talk × IsReplayed proto number count taken talk text stored × IsDrained proto count stored sent after)
+    × ((taken : ℕ) × (talk : Talk) × (text : List ℕ) × (stored after : DeskState) × IsWell talk × IsReplayed proto number count (replay_as taken talk text) stored × IsDrained proto count stored sent after)
 IsFailed proto number count NoMemory = Unit {0}

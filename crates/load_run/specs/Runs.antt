@@ -45,16 +45,29 @@ terms = terms_with tokens
 abbrev pub settings : Settings
 settings = record { token = 1; channel = 2; polls = 1 }
 
+-- What came of a connection: how many entries were taken, how it ended, and the text that was written.
+pub record Replay : Type 0 where
+  pub taken : ℕ
+  pub talk : Talk
+  pub text : List ℕ
+
+abbrev pub replay_as : ℕ → Talk → List ℕ → Replay
+replay_as taken talk text = record { taken = taken; talk = talk; text = text }
+
 -- A connection was served to which this stream was sent: some of it was read, and the rest is left. What was called on the
 -- desk and what was written is what its protocol has for the bytes read, and the entries taken are counted.
-pub record Replays (Made : List Call → Type 0) (proto : Proto) (stream : List ℕ) (taken : ℕ) (talk : Talk) (text : List ℕ) : Type 0 where
+pub record Replays (Made : List Call → Type 0) (proto : Proto) (stream : List ℕ) (replay : Replay) : Type 0 where
   pub bytes : List ℕ
   pub behind : List ℕ
   pub calls : List Call
   pub whole : stream ≡ bytes ++ behind
   pub made : Made calls
-  pub counted : taken ≡ count calls
-  pub carried : CarriedAs proto terms (2 ^ 32) (Some behind) bytes calls text talk
+  pub counted : replay.taken ≡ count calls
+  pub carried : CarriedAs proto terms (2 ^ 32) (Some behind) bytes calls replay.text replay.talk
+
+-- The same, where the calls led the desk from that state to what is seen now.
+abbrev pub ReplaysTo : DeskState → AloneView → Proto → List ℕ → Replay → Type 0
+ReplaysTo before now proto stream replay = Replays (λ calls. LeadsTo before calls now) proto stream replay
 
 -- A session sent the entries from one number on and below another to a peer that sends these bytes. What was called on the
 -- desk, and how it ended, is what its protocol has for the bytes read.

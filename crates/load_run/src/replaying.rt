@@ -3,7 +3,7 @@ ghost use Rattle.std.specs.Prelude.{◌≡◌, ◌≢◌, ℕ, List, length, IsT
 ghost use Rattle.spool_desk.specs.Alone.{alone_at, IsAt};
 ghost use Rattle.desk_access.specs.Desk.{DeskState};
 ghost use Rattle.conn_serve.specs.Terms.{terms_of};
-ghost use Rattle.load_run.specs.Runs.{LeadsTo, Replays, terms};
+ghost use Rattle.load_run.specs.Runs.{ReplaysTo, replay_as, terms};
 
 use crate::catching::Catch;
 use crate::disk::SureDisk;
@@ -54,7 +54,7 @@ pub(crate) fn replay(
     access: &mut Alone<SureDisk>,
 ) -> Served
     ensures replays { (x : DeskState) → IsAt x (alone_at access.old)
-        → (text : List ℕ) × (result.written ≡ length text) × Replays (λ calls. LeadsTo x calls (alone_at access.new)) proto stream.items result.taken result.talk text }
+        → (text : List ℕ) × (result.written ≡ length text) × ReplaysTo x (alone_at access.new) proto stream.items (replay_as result.taken result.talk text) }
     ensures read { result.talk ≢ Talk.ReadFault }
     ensures disk { result.talk ≢ Talk.DiskFault }
     ensures starved { result.talk ≡ Talk.WriteFault → IsTrue result.starved }
