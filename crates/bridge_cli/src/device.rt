@@ -4,13 +4,11 @@ ghost use Rattle.notes.specs.declared.note.Note.TheVariants.{Usage, NoMemory, Di
 ghost use Rattle.bridge_words.specs.declared.need.Need.{Need};
 ghost use Rattle.bridge_words.specs.declared.need.Need.TheVariants.{Existing};
 ghost use Rattle.bridge_words.specs.Words.{IsNeed, IsNoCommand, IsNoMove};
-ghost use Rattle.bridge_parts.specs.Run.{disk_run, input_run, net_run, output_run, run_of};
 ghost use Rattle.bridge_core.specs.Failed.{TellsReadFault, TellsWriteFault, TellsDial};
-ghost use Rattle.bridge_core.specs.Headline.{KeepsPromises};
-ghost use Rattle.bridge_core.specs.Leave.{ForWords, MayAnswer, MayReplay, MayTake, WasRead, MayRelease, WereStreamed, HasExchangedAt, MayTear, MayBind, MayTell, MayDial, MayPrint};
+ghost use Rattle.bridge_core.specs.Leave.{ForWords, MayAnswer, MayReplay, MayTake, WasRead, MayReleaseOn, WasWritten, exchanges_as, HasExchangedAt, MayTear, MayBind, MayTell, MayDial, MayPrint};
 ghost use Rattle.bridge_cli.specs.Texts.{ForTexts};
+ghost use Rattle.bridge_cli.specs.Watched.{KeepsWatched};
 ghost use Rattle.bridge_move.specs.Leave.{ForMoves};
-ghost use Rattle.cli_parts.specs.declared.progress.Watched.{Watched};
 ghost use Rattle.edge_file.specs.declared.file.FileDisk.{FileDisk};
 
 use crate::pair::run_move;
@@ -53,17 +51,14 @@ where
     requires dials { ForWords (map string_bytes words.now) (MayDial N.may_dial) }
     requires replays { ForWords (map string_bytes words.now)
         (MayReplay D.tells D.moment disk (WasRead S.same S.given input.old) (MayTake K.same K.taken K.permits output.old)) }
-    requires releases { ForTexts words.now (MayRelease D.tells D.moment disk
-        (WereStreamed S.same S.given input.old K.same K.taken output.old)
-        (HasExchangedAt N.L.same N.L.dialed N.L.given N.L.taken) D.may_release) }
+    requires releases { ForTexts words.now (MayReleaseOn D.Disk disk (exchanges_as
+        (WasRead S.same S.given input.old) (WasWritten K.same K.taken output.old)
+        (HasExchangedAt N.L.same N.L.dialed N.L.given N.L.taken))) }
     requires tears { ForWords (map string_bytes words.now) (MayTear D.tells D.moment D.may_tear D.may_release) }
     requires prints { ForWords (map string_bytes words.now) (MayPrint ((sink : K) (text : List ℕ) → K.permits sink text)) }
 
-    ensures run { (before : Watched D) × (after : Watched D) × (before.disk ≡ disk) × (after.disk ≡ result.disk)
-        × KeepsPromises (map string_bytes words.now)
-        (run_of (disk_run D.tells (λ (watched : Watched D). D.moment watched.disk) before after)
-        (input_run S.given S.left S.read_faults input.old input.new) (output_run K.taken K.write_faults output.old output.new)
-        (net_run N.told net.old net.new) (map (λ (door : _). N.P.told door) result.doors.items)) result.note }
+    ensures run { KeepsWatched (D.Disk, S.Source.own, K.Sink.own, N.told, N.P.told) (map string_bytes words.now)
+        (disk, input.old, output.old, net.old) (input.new, output.new, net.new) result }
 {
     let progress = Progress::new(rt, is_shown);
     let disk = Watched::new(disk, progress, "FILE", waiting).noting(failing);

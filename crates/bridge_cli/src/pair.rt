@@ -8,8 +8,9 @@ ghost use Rattle.bridge_words.specs.Words.{IsSomeMove};
 ghost use Rattle.bridge_parts.specs.Run.{output_run};
 ghost use Rattle.bridge_move.specs.Ended.{IsMoveNote};
 ghost use Rattle.bridge_move.specs.Leave.{ForMoves};
-ghost use Rattle.bridge_move.specs.MoveRun.{IsMoveRun};
-ghost use Rattle.cli_parts.specs.declared.progress.Watched.{Watched};
+ghost use Rattle.bridge_move.specs.MoveRun.{two_disks};
+ghost use Rattle.bridge_core.specs.Told.{texts};
+ghost use Rattle.bridge_cli.specs.Watched.{MovesWatched};
 
 use crate::device::refuse;
 use bridge_move::{Moved, bridge_move};
@@ -35,10 +36,8 @@ fn move_over<D: Disk, E: Disk, K: Sink>(
     requires tears_target { LetsKeep E.tells E.moment E.may_tear E.may_release }
     requires prints { (k : K) (text : List ℕ) → K.permits k text }
 
-    ensures run { (before after : Watched D) × (before_target after_target : Watched E) × (before.disk ≡ source) × (after.disk ≡ result.source)
-        × (before_target.disk ≡ target) × (after_target.disk ≡ result.target)
-        × IsMoveRun D.tells E.tells (λ (watched : Watched D). D.moment watched.disk) (λ (watched : Watched E). E.moment watched.disk)
-        (map string_bytes words.now) before after before_target after_target (output_run K.taken K.write_faults output.old output.new) result.note }
+    ensures run { MovesWatched (two_disks D.tells E.tells D.moment E.moment) (texts words.now) (source, target)
+        (result.source, result.target) (output_run K.taken K.write_faults output.old output.new) result.note }
 {
     let source = Watched::new(source, Progress::new(rt, is_shown), "FILE", Waiting::Nobody);
     let target = Watched::new(target, Progress::new(rt, false), "TARGET", Waiting::Nobody);

@@ -4,7 +4,7 @@ ghost use Rattle.spool_answers.specs.Leave.{LetsKeep};
 ghost use Rattle.conn_serve.specs.Endings.{CountsFaults};
 ghost use Rattle.notes.specs.declared.note.Note.TheVariants.{WriteFault};
 ghost use Rattle.bridge_parts.specs.Run.{disk_run, output_run};
-ghost use Rattle.bridge_skip.specs.Leave.{MaySkip};
+ghost use Rattle.bridge_skip.specs.Leave.{MaySkip, given_output};
 ghost use Rattle.bridge_skip.specs.SkipRun.{IsSkipNote, IsSkipRun};
 
 use crate::device::refuse;
@@ -24,7 +24,7 @@ fn skip_over<D: Disk, K: Sink>(
     is_shown: bool,
     output: &mut K,
 ) -> Skipped<D>
-    requires earned { MaySkip D.tells (D.moment disk).reads number K.same K.taken output.old D.may_release }
+    requires earned { MaySkip D.tells (D.moment disk).reads number (given_output K.same K.taken output.old) D.may_release }
     requires tears { LetsKeep D.tells D.moment D.may_tear D.may_release }
     requires prints { (k : K) (text : List ℕ) → K.permits k text }
 

@@ -12,17 +12,16 @@ use Rattle.edge_disk.specs.Disk.{Moment}
 use Rattle.desk_access.specs.Division.{DividedRun, divided, first_conn}
 use Rattle.desk_access.specs.Call.{Call, Record, own_of}
 use Rattle.conn_serve.specs.declared.rules.Rules.{Rules}
-use Rattle.serve_workers.specs.declared.worker.WorkerReport.{WorkerReport}
 use Rattle.serve_workers.specs.Served.{Served, AreServed, Tells, TellsMore, calls_in}
 use Rattle.serve_laws.specs.Durable.{IsLinkDurable}
-use Rattle.serve_laws.specs.Parts.{Part, AreParts, IsPart}
+use Rattle.serve_laws.specs.Parts.{Part, WorkerDoor, worker_door, IsPart, EachPart}
 use Rattle.bridge_words.specs.declared.command.Command.{Command}
 use Rattle.bridge_words.specs.declared.command.Command.TheVariants.{Format, List as ListCommand, Replay, Drain, Load, Serve}
 use Rattle.bridge_words.specs.declared.command.Server.{Server}
 use Rattle.notes.specs.declared.note.Note.{Note}
 use Rattle.bridge_serve.specs.Answered.{HasLed}
 use Rattle.bridge_serve.specs.Doors.{rules_of, AreAt, AreBound, AreNewAt}
-use Rattle.bridge_serve.specs.Promised.{EachPart, LinksAreDurable}
+use Rattle.bridge_serve.specs.Promised.{LinksAreDurable}
 use Rattle.bridge_serve.specs.Served.{IsRun}
 use Rattle.bridge_parts.specs.Run.{Run, both_run}
 use Rattle.commands.specs.Replayed.{ServesInput, replay_rules}
@@ -137,44 +136,44 @@ each_at P number (y ∷ ys) (suc k) x each is = subst (λ (n : ℕ). P n x) (ome
 module _ (server : Server) (run : Run) (numbered : DividedRun) (talks : ℕ) (log : List Record) (led : HasLed run.disk.tells run.disk.old run.disk.new log)
     (of_run : led.start.spool.run ≡ numbered.number) (divided_by : numbered.division ≡ server.division) where
   -- the door tells none of before, or it tells nothing
-  door_kept : (number : ℕ) (rules : Rules) (old new : DoorState) (report : WorkerReport) (part : Part) → rules ≡ rules_of server rules.proto → IsToldAs old.talks []
-      → IsPart numbered talks log number rules old new report part → LinksAreDurable log run.disk.new number rules old new part → TalksAreKept server run.disk number new
-  door_kept number rules old new report part is fresh at all told same k talk here = by old.talks refl
+  door_kept : (at : WorkerDoor) (part : Part) → at.rules ≡ rules_of server at.rules.proto → IsToldAs at.old.talks [] → IsPart numbered talks log at part
+      → LinksAreDurable log run.disk.new at part → TalksAreKept server run.disk at.number at.new
+  door_kept at part is fresh is_part all told same k talk here = by at.old.talks refl
     where
-      by : (before : Option (List Talked)) → old.talks ≡ before
-          → TalkIsKept run.disk.tells run.disk.old run.disk.new (record { rules = rules_of server talk.proto; division = server.division; worker = number; before = k }) talk
-      by None none = absurd (not_some new.talks told (subst (λ (o : Option (List Talked)). TellsMore rules part.finished o new.talks) none at.at_door.talks) same)
+      by : (before : Option (List Talked)) → at.old.talks ≡ before
+          → TalkIsKept run.disk.tells run.disk.old run.disk.new (record { rules = rules_of server talk.proto; division = server.division; worker = at.number; before = k }) talk
+      by None none = absurd (not_some at.new.talks told (subst (λ (o : Option (List Talked)). TellsMore at.rules part.links.finished o at.new.talks) none is_part.at_door.talks) same)
       by (Some before) some =
           let empty : before ≡ [] = subst (λ (o : Option (List Talked)). IsToldAs o []) some fresh in
-          let more = subst (λ (o : Option (List Talked)). TellsMore rules part.finished o new.talks) some at.at_door.talks in
+          let more = subst (λ (o : Option (List Talked)). TellsMore at.rules part.links.finished o at.new.talks) some is_part.at_door.talks in
           let whole : told ≡ more.0 = same_some told more.0 (sym same ∙ more.2 ∙ ap (λ (l : List Talked). Some (l ++ more.0)) empty) in
-          let found = told_at rules part.finished more.0 k talk more.1 (subst (λ (l : List Talked). slice_get l k ≡ Some talk) whole here) in
-          let link = among log number (first_conn numbered number) run.disk.new rules part.finished part.late k found.0 found.1 at.at_door.served at.at_door.calls all in
-          let ruled : rules ≡ rules_of server talk.proto = is ∙ ap (λ (p : Proto). rules_of server p) (sym found.2.proto) in
-          subst (λ (r : Rules). TalkIsKept run.disk.tells run.disk.old run.disk.new (record { rules = r; division = server.division; worker = number; before = k }) talk) ruled (record {
+          let found = told_at at.rules part.links.finished more.0 k talk more.1 (subst (λ (l : List Talked). slice_get l k ≡ Some talk) whole here) in
+          let link = among log at.number (first_conn numbered at.number) run.disk.new at.rules part.links.finished part.links.late k found.0 found.1 is_part.at_door.served is_part.at_door.calls all in
+          let ruled : at.rules ≡ rules_of server talk.proto = is ∙ ap (λ (p : Proto). rules_of server p) (sym found.2.proto) in
+          subst (λ (r : Rules). TalkIsKept run.disk.tells run.disk.old run.disk.new (record { rules = r; division = server.division; worker = at.number; before = k }) talk) ruled (record {
             one = found.0;
             told_as = found.2;
             log = log;
             led = led;
-            conn_is = link.conn ∙ (λ i. first_conn (divided (divided_by i) (sym of_run i)) number + k);
+            conn_is = link.conn ∙ (λ i. first_conn (divided (divided_by i) (sym of_run i)) at.number + k);
             earlier = link.earlier;
             later = link.later;
             own = link.own;
             durable = link.durable;
           })
 
-  doors_kept : (number : ℕ) (rules : List Rules) (doors doors' : List DoorState) (reports : List WorkerReport) (parts : List Part)
-      → AreParts numbered talks log number rules doors doors' reports parts → EachPart (LinksAreDurable log run.disk.new) number rules doors doors' parts
+  doors_kept : (number : ℕ) (rules : List Rules) (doors doors' : List DoorState) (parts : List Part)
+      → EachPart (IsPart numbered talks log) number rules doors doors' parts → EachPart (LinksAreDurable log run.disk.new) number rules doors doors' parts
       → All (λ (r : Rules). r ≡ rules_of server r.proto) rules → All (λ (door : DoorState). IsToldAs door.talks []) doors
       → EachFrom (TalksAreKept server run.disk) number doors'
-  doors_kept number [] [] [] [] [] are each ruled fresh = tt
-  doors_kept number (by ∷ rules) (old ∷ doors) (new ∷ doors') (report ∷ reports) (part ∷ parts) are each ruled fresh = (
-    door_kept number by old new report part (All-head (λ (r : Rules). r ≡ rules_of server r.proto) by rules ruled)
+  doors_kept number [] [] [] [] are each ruled fresh = tt
+  doors_kept number (by ∷ rules) (old ∷ doors) (new ∷ doors') (part ∷ parts) are each ruled fresh = (
+    door_kept (worker_door number by old new) part (All-head (λ (r : Rules). r ≡ rules_of server r.proto) by rules ruled)
         (All-head (λ (d : DoorState). IsToldAs d.talks []) old doors fresh) are.0 each.0,
-    doors_kept (number + 1) rules doors doors' reports parts are.1 each.1 (All-tail (λ (r : Rules). r ≡ rules_of server r.proto) by rules ruled)
+    doors_kept (number + 1) rules doors doors' parts are.1 each.1 (All-tail (λ (r : Rules). r ≡ rules_of server r.proto) by rules ruled)
         (All-tail (λ (d : DoorState). IsToldAs d.talks []) old doors fresh),
   )
-  doors_kept number rules doors doors' reports parts are each ruled fresh = absurd are
+  doors_kept number rules doors doors' parts are each ruled fresh = absurd are
 
 -- ---- the doors that were bound
 
@@ -200,8 +199,7 @@ ruled_bound server doors rules b =
 
 -- ---- the command
 
-server_kept : (server : Server) (run : Run) (note : Note) → run.disk.tells
-    → IsRun server run.disk.tells run.disk.old run.disk.new run.net.old run.net.new run.doors run.output.faults run.output.faults_after run.output.taken run.output.taken_after note
+server_kept : (server : Server) (run : Run) (note : Note) → run.disk.tells → IsRun server run.disk run.output run.net run.doors note
     → DoorsAreKept server run.disk run.doors
 server_kept server run note told ran =
     let over = ran.ran.over in
@@ -217,7 +215,7 @@ server_kept server run note told ran =
       any_moment = over.any_moment opened.0 opened.1;
     } in
     let each = doors_kept server run over.run server.talks over.served.log led (closes.replays.begins opened.0 opened.1).of_run over.divided_by
-    0 ran.rules ran.doors run.doors ran.ran.reports promises.parts promises.are_parts (promises.acknowledged opened.0 opened.1)
+    0 ran.rules ran.doors run.doors promises.parts promises.are_parts.each (promises.acknowledged opened.0 opened.1)
     (ruled_bound server ran.doors ran.rules ran.bound) (fresh_bound server ran.doors ran.rules ran.bound) in
     λ worker door here. subst (λ (n : ℕ). TalksAreKept server run.disk n door) (omega arith) (each_at (TalksAreKept server run.disk) 0 run.doors worker door each here)
 

@@ -9,7 +9,7 @@ use Rattle.bridge_words.specs.declared.need.Need.TheVariants.{Existing}
 use Rattle.bridge_words.specs.Words.{IsNeed, need_for}
 use Rattle.bridge_words.proofs.Once.{one_command, move_is_no_command}
 use Rattle.bridge_serve.proofs.Releasing.{any_some, if_some}
-use Rattle.bridge_core.specs.Leave.{ForWords, MayAnswer, MayRelease, MayReplay, MayTear}
+use Rattle.bridge_core.specs.Leave.{Exchanges, ForWords, MayAnswer, MayRelease, MayReplay, MayTear}
 
 -- what is durable on a disk within another is so on that
 pub answers_within : {D W : Type 0} (tells : Type 0) (moment : D → Moment) (within : W → D) (given : W) (Permits : List ℕ → ℕ → ℕ → List ℕ → List ℕ → Type 0)
@@ -31,18 +31,17 @@ replays_within tells moment within given Read Take (Drain receiver place) may = 
 replays_within tells moment within given Read Take (Load proto number count) may = tt
 replays_within tells moment within given Read Take (Serve server) may = tt
 
-pub releases_within : {D W : Type 0} (tells : Type 0) (moment : D → Moment) (within : W → D) (given : W) (Streamed : List ℕ → List ℕ → Type 0)
-    (ExchangedAt : List ℕ → List ℕ → List ℕ → Type 0) (Release : ℕ → Type 0) (command : Command)
-    → MayRelease tells moment (within given) Streamed ExchangedAt Release command
-    → MayRelease tells (λ (w : W). moment (within w)) given Streamed ExchangedAt Release command
-releases_within tells moment within given Streamed ExchangedAt Release (Format slots size) may = tt
-releases_within tells moment within given Streamed ExchangedAt Release (ListCommand form) may = tt
-releases_within tells moment within given Streamed ExchangedAt Release (Replay proto token ack_token) may = tt
-releases_within tells moment within given Streamed ExchangedAt Release (Drain receiver None) may = λ disk n received. may (within disk) n received
-releases_within tells moment within given Streamed ExchangedAt Release (Drain receiver (Some place)) may =
+pub releases_within : {D W : Type 0} (tells : Type 0) (moment : D → Moment) (within : W → D) (given : W) (exchanges : Exchanges) (Release : ℕ → Type 0) (command : Command)
+    → MayRelease tells moment (within given) exchanges Release command
+    → MayRelease tells (λ (w : W). moment (within w)) given exchanges Release command
+releases_within tells moment within given exchanges Release (Format slots size) may = tt
+releases_within tells moment within given exchanges Release (ListCommand form) may = tt
+releases_within tells moment within given exchanges Release (Replay proto token ack_token) may = tt
+releases_within tells moment within given exchanges Release (Drain receiver None) may = λ disk n received. may (within disk) n received
+releases_within tells moment within given exchanges Release (Drain receiver (Some place)) may =
     λ disk n received. may (within disk) n received
-releases_within tells moment within given Streamed ExchangedAt Release (Load proto number count) may = tt
-releases_within tells moment within given Streamed ExchangedAt Release (Serve server) may =
+releases_within tells moment within given exchanges Release (Load proto number count) may = tt
+releases_within tells moment within given exchanges Release (Serve server) may =
     if_some server.forward _ _ (λ relay may disk n received. may (within disk) n received) may
 
 -- what may be written to a disk may be so to one round it
@@ -65,16 +64,15 @@ all_torn tells moment Tear Release all (Load proto number count) = λ disk at n 
 all_torn tells moment Tear Release all (Serve server) = λ disk at n tears. ∣ all disk at n ∣₁
 
 -- of a disk of which any number may become known
-pub all_released : {D : Type 0} (tells : Type 0) (moment : D → Moment) (given : D) (Streamed : List ℕ → List ℕ → Type 0)
-    (ExchangedAt : List ℕ → List ℕ → List ℕ → Type 0) (Release : ℕ → Type 0) → ((n : ℕ) → Release n)
-    → (command : Command) → MayRelease tells moment given Streamed ExchangedAt Release command
-all_released tells moment given Streamed ExchangedAt Release all (Format slots size) = tt
-all_released tells moment given Streamed ExchangedAt Release all (ListCommand form) = tt
-all_released tells moment given Streamed ExchangedAt Release all (Replay proto token ack_token) = tt
-all_released tells moment given Streamed ExchangedAt Release all (Drain receiver None) = λ disk n received. all n
-all_released tells moment given Streamed ExchangedAt Release all (Drain receiver (Some place)) = λ disk n received. all n
-all_released tells moment given Streamed ExchangedAt Release all (Load proto number count) = tt
-all_released tells moment given Streamed ExchangedAt Release all (Serve server) =
+pub all_released : {D : Type 0} (tells : Type 0) (moment : D → Moment) (given : D) (exchanges : Exchanges) (Release : ℕ → Type 0) → ((n : ℕ) → Release n)
+    → (command : Command) → MayRelease tells moment given exchanges Release command
+all_released tells moment given exchanges Release all (Format slots size) = tt
+all_released tells moment given exchanges Release all (ListCommand form) = tt
+all_released tells moment given exchanges Release all (Replay proto token ack_token) = tt
+all_released tells moment given exchanges Release all (Drain receiver None) = λ disk n received. all n
+all_released tells moment given exchanges Release all (Drain receiver (Some place)) = λ disk n received. all n
+all_released tells moment given exchanges Release all (Load proto number count) = tt
+all_released tells moment given exchanges Release all (Serve server) =
     any_some server.forward _ (λ relay disk n received. all n)
 
 -- words that don't want a device that exists answer nobody

@@ -15,9 +15,19 @@ use Rattle.commands.specs.Answered as input
 pub use Rattle.commands.specs.Answered.{WasRead, MayTake}
 use Rattle.commands.specs.Released as drain
 use Rattle.commands.specs.Replayed.{replay_rules}
-pub use Rattle.commands.specs.Released.{WereStreamed}
+pub use Rattle.commands.specs.Released.{WasWritten, WereStreamed}
 use Rattle.bridge_serve.specs.Answered as server
 use Rattle.bridge_serve.specs.Released as forwarder
+
+-- What was exchanged with peers: which bytes were read from the input, which text was written to the output, and which of both over a link
+-- that was dialed at a place.
+pub record Exchanges : Type 1 where
+  pub read : List ℕ → Type 0
+  pub written : List ℕ → Type 0
+  pub dialed : List ℕ → List ℕ → List ℕ → Type 0
+
+abbrev pub exchanges_as : (List ℕ → Type 0) → (List ℕ → Type 0) → (List ℕ → List ℕ → List ℕ → Type 0) → Exchanges
+exchanges_as read written dialed = record { read = read; written = written; dialed = dialed }
 
 -- so it is for the words of each command
 abbrev pub ForWords : List (List ℕ) → (Command → Type 0) → Type 0
@@ -40,18 +50,17 @@ MayReplay tells moment given Read Take command = Unit {0}
 -- exchanged with it: with `drain` over the streams, or over a link that was dialed at the place of the words; with `serve` over such a
 -- link, where the words name a place. `given` is the disk as it was before. No other command may make a number of this disk known:
 -- `load` has a spool of its own.
-abbrev pub MayRelease : {D : Type 0} → Type 0 → (D → Moment) → D → (List ℕ → List ℕ → Type 0) → (List ℕ → List ℕ → List ℕ → Type 0) → (ℕ → Type 0)
-    → Command → Type 0
-MayRelease tells moment given Streamed ExchangedAt Release (Drain receiver None) =
-    drain.MayRelease tells moment given (outward_of receiver) Streamed Release
-MayRelease tells moment given Streamed ExchangedAt Release (Drain receiver (Some place)) =
-    drain.MayRelease tells moment given (outward_of receiver) (ExchangedAt place) Release
-MayRelease tells moment given Streamed ExchangedAt Release (Serve words) = forwarder.MayRelease tells moment given words ExchangedAt Release
-MayRelease tells moment given Streamed ExchangedAt Release command = Unit {0}
+abbrev pub MayRelease : {D : Type 0} → Type 0 → (D → Moment) → D → Exchanges → (ℕ → Type 0) → Command → Type 0
+MayRelease tells moment given exchanges Release (Drain receiver None) =
+    drain.MayRelease tells moment given (outward_of receiver) (WereStreamed exchanges.read exchanges.written) Release
+MayRelease tells moment given exchanges Release (Drain receiver (Some place)) =
+    drain.MayRelease tells moment given (outward_of receiver) (exchanges.dialed place) Release
+MayRelease tells moment given exchanges Release (Serve words) = forwarder.MayRelease tells moment given words exchanges.dialed Release
+MayRelease tells moment given exchanges Release command = Unit {0}
 
 -- so it is with what may become known on this disk
-abbrev pub MayReleaseOn : {D : Type 0} → Disks D → D → (List ℕ → List ℕ → Type 0) → (List ℕ → List ℕ → List ℕ → Type 0) → Command → Type 0
-MayReleaseOn disks given Streamed ExchangedAt command = MayRelease disks.tells disks.moment given Streamed ExchangedAt disks.may_release command
+abbrev pub MayReleaseOn : {D : Type 0} → Disks D → D → Exchanges → Command → Type 0
+MayReleaseOn disks given exchanges command = MayRelease disks.tells disks.moment given exchanges disks.may_release command
 
 -- `format` may write anything to the disk. Every other command may write what keeps the spool: whatever a crash may tear of it stands for a
 -- later state of a spool for which an image of now stands, and knows no number anew but those that may become known.

@@ -3,7 +3,7 @@ ghost use Rattle.std.specs.Prelude.{◌≡◌, ℕ, List};
 ghost use Rattle.notes.specs.Notes.{status_of};
 ghost use Rattle.bridge_core.specs.Asked.{IsAsked};
 ghost use Rattle.bridge_core.specs.Done.{Does};
-ghost use Rattle.bridge_core.specs.Leave.{MayAnswer, MayReplay, MayTake, WasRead, MayRelease, WereStreamed, HasExchangedAt, MayTear, MayBind, MayTell, MayDial, MayPrint};
+ghost use Rattle.bridge_core.specs.Leave.{MayAnswer, MayReplay, MayTake, WasRead, MayReleaseOn, WasWritten, exchanges_as, HasExchangedAt, MayTear, MayBind, MayTell, MayDial, MayPrint};
 ghost use Rattle.bridge_core.specs.Told.{ran};
 
 use crate::ended::Ended;
@@ -48,8 +48,8 @@ where
     requires dials { MayDial N.may_dial command }
     requires replays { MayReplay D.tells D.moment disk (WasRead S.same S.given input.old) (MayTake K.same K.taken K.permits output.old)
         command }
-    requires releases { MayRelease D.tells D.moment disk (WereStreamed S.same S.given input.old K.same K.taken output.old)
-        (HasExchangedAt N.L.same N.L.dialed N.L.given N.L.taken) D.may_release command }
+    requires releases { MayReleaseOn D.Disk disk (exchanges_as (WasRead S.same S.given input.old) (WasWritten K.same K.taken output.old)
+        (HasExchangedAt N.L.same N.L.dialed N.L.given N.L.taken)) command }
     requires tears { MayTear D.tells D.moment D.may_tear D.may_release command }
     requires prints { MayPrint ((sink : K) (text : List ℕ) → K.permits sink text) command }
 

@@ -3,7 +3,7 @@ ghost use Rattle.std.specs.Prelude.{◌≡◌, ℕ, List};
 ghost use Rattle.notes.specs.Notes.{status_of};
 ghost use Rattle.bridge_core.specs.RunOf.{IsRunOf};
 ghost use Rattle.bridge_core.specs.Headline.{KeepsAcknowledged};
-ghost use Rattle.bridge_core.specs.Leave.{ForWords, MayAnswer, MayReplay, MayTake, WasRead, MayReleaseOn, WereStreamed, HasExchangedAt, MayTear, MayBind, MayTell, MayDial, MayPrint};
+ghost use Rattle.bridge_core.specs.Leave.{ForWords, MayAnswer, MayReplay, MayTake, WasRead, MayReleaseOn, WasWritten, exchanges_as, HasExchangedAt, MayTear, MayBind, MayTell, MayDial, MayPrint};
 ghost use Rattle.bridge_core.specs.Told.{ran, texts};
 
 use crate::asked::{Unasked, asked_of};
@@ -76,9 +76,9 @@ where
         (MayReplay D.tells D.moment disk (WasRead S.same S.given input.old) (MayTake K.same K.taken K.permits output.old)) }
 
     // A number may become known as confirmed once the peer has received its entry, to whom the words forward.
-    requires releases { ForWords (texts words.now) (MayReleaseOn D.Disk disk
-        (WereStreamed S.same S.given input.old K.same K.taken output.old)
-        (HasExchangedAt N.L.same N.L.dialed N.L.given N.L.taken)) }
+    requires releases { ForWords (texts words.now) (MayReleaseOn D.Disk disk (exchanges_as
+        (WasRead S.same S.given input.old) (WasWritten K.same K.taken output.old)
+        (HasExchangedAt N.L.same N.L.dialed N.L.given N.L.taken))) }
 
     // `format` may write anything to the disk, and every other command what keeps the spool.
     requires tears { ForWords (texts words.now) (MayTear D.tells D.moment D.may_tear D.may_release) }

@@ -1,20 +1,16 @@
 -- What the commands leave of the order of a spool's entries, by what was done to the device.
 use Rattle.std.proofs.Common.{inl, inr, ℕ, ◌+◌, ◌-◌, List, [], ◌∷◌, length, refl, sym, subst, arith}
-use Rattle.std.specs.Prelude.{Bool, Option, Ok, Err}
+use Rattle.std.specs.Prelude.{Ok, Err}
 use Rattle.std.proofs.lemmas.List.Elements.{All-nil}
 use Rattle.edge_disk.specs.Disk.{Moment, IsLawful, LeavesOnly}
 use Rattle.edge_disk.proofs.Moments.{weaker}
-use Rattle.edge_io.specs.Door.{DoorState}
-use Rattle.edge_io.specs.Net.{NetState}
 use Rattle.spool_state.specs.SpoolState.{SpoolState, IsSound}
 use Rattle.spool_state.specs.Image.{StandsFor}
 use Rattle.spool_state.proofs.Registered.{sound-registered}
-use Rattle.spool_log.specs.declared.memory.Memory.{Memory}
 use Rattle.spool_log.specs.declared.fault.RecoverFault.{RecoverFault}
 use Rattle.spool_log.specs.declared.fault.RecoverFault.TheVariants as Recover
 use Rattle.spool_log.specs.declared.opening.Opening.TheVariants.{Raise}
 use Rattle.spool_log.specs.Opening.{opened, CanOpen, IsOpening, IsRefusing}
-use Rattle.desk_access.specs.declared.division.Division.{Division}
 use Rattle.desk_access.specs.declared.division.Division.TheVariants.{Workers}
 use Rattle.desk_access.specs.Division.{divided}
 use Rattle.desk_access.specs.Call.{Call, pends, marks}
@@ -22,17 +18,14 @@ use Rattle.desk_access.specs.Journal.{calls_by}
 use Rattle.desk_access.specs.Legal.{Met}
 use Rattle.desk_access.proofs.Added.{AllWritten}
 use Rattle.spool_turns.specs.Replays.{MayMake}
-use Rattle.conn_serve.specs.declared.rules.Rules.{Rules}
-use Rattle.serve_workers.specs.declared.worker.WorkerReport.{WorkerReport}
-use Rattle.serve_forwarder.specs.declared.destination.Destination.{Destination}
-use Rattle.serve_forwarder.specs.declared.looking.Outcome.{Outcome}
 use Rattle.forward_core.specs.Calls.{AreOfSession, next_after}
 use Rattle.forward_core.specs.declared.outward.Outward.{Outward}
 use Rattle.forward_core.specs.declared.sent.Sent.{Sent}
 use Rattle.notes.specs.declared.note.Note.{Note}
 use Rattle.bridge_parts.specs.Opened.{desk_in, IsUnopened}
 use Rattle.bridge_serve.specs.Opened.{IsOpenedOnly}
-use Rattle.bridge_serve.specs.Served.{RunsOver}
+use Rattle.serve_run.specs.Running.{Given, Left}
+use Rattle.bridge_serve.specs.Served.{DeskLeft, RunsOver, Setup}
 use Rattle.bridge_parts.specs.Run.{LinkRun}
 use Rattle.commands.specs.Drained.{IsLooked, IsSent, IsSessionOver, IsUnread, Tally}
 use Rattle.commands.specs.Replayed.{IsStored}
@@ -85,9 +78,9 @@ module _ (Is : SpoolState → Type 0) (kept : IsKept Is) (P : List ℕ → Type 
   opened_only is = weaker (IsOpening Raise old) P old new is.any_moment while_opened
 
   -- the server ran
-  pub served : (tells : Type 0) (grouped : Bool) (division : Division) (talks : ℕ) (rules : List Rules) (doors doors' : List DoorState) (reports : List WorkerReport) (destination : Option Destination) (net net' : NetState) (last : Option Outcome) (memory : Memory) (in_doubt : Bool)
-      → RunsOver tells old new grouped division talks rules doors doors' reports destination net net' last memory in_doubt → tells → LeavesOnly P old new
-  served tells grouped division talks rules doors doors' reports destination net net' last memory in_doubt over told =
+  pub served : (tells same : Type 0) (setup : Setup) (given : Given) (left : Left) (desk : DeskLeft)
+      → RunsOver (record { tells = tells; old = old; new = new; same = same }) setup given left desk → tells → LeavesOnly P old new
+  served tells same setup given left desk over told =
       let opening = over.opened told in
       let x = opening.0 in
       let is = opening.1 in
@@ -95,7 +88,7 @@ module _ (Is : SpoolState → Type 0) (kept : IsKept Is) (P : List ℕ → Type 
       let closes = over.served.closes in
       let begins = closes.replays.begins x is in
       let lead = closes.replays.leads x is in
-      let confirming = (length doors + 1) - 1 in
+      let confirming = (length given.doors + 1) - 1 in
       let met = subst (λ (number : ℕ). Met (divided over.run.division number) confirming [] log) (sym begins.of_run) closes.met in
       weaker _ P old new (over.any_moment x is) (λ c h. elim h [
         | inl image ↦ while_opened c image

@@ -18,7 +18,7 @@ use Rattle.spool_move.specs.Stands.{HasGivenUp, HasTaken}
 use Rattle.spool_move.specs.Turns.{Turn, AreTurns, WasLeft}
 use Rattle.spool_move.specs.Turns.Turn.{OfSource, OfTarget}
 use Rattle.bridge_parts.specs.Run.{OutputRun}
-use Rattle.bridge_move.specs.MoveRun.{MovesOpened}
+use Rattle.bridge_move.specs.MoveRun.{MovesOpened, two_disks}
 use Rattle.bridge_move.proofs.Running.{each_is_run}
 use Rattle.bridge_laws.specs.InOrder.{IsInOrder, IsUnmoved}
 use Rattle.bridge_laws.specs.Lifetime.{IsMoveCall, IsMovedInto, IsMovedOut, WasCutOff}
@@ -175,7 +175,7 @@ module _ {D E K : Type 0} (on : DiskKind D) (onto : DiskKind E) (printed : K →
   output = printed call.output call.output'
 
   abbrev pub Opened : Type 0
-  Opened = MovesOpened on.tells onto.tells on.moment onto.moment call.tag a a' b b' output call.note
+  Opened = MovesOpened (two_disks on.tells onto.tells on.moment onto.moment) call.tag (a, b) (a', b') output call.note
 
   pub ran : Opened → (result : Result ℕ MoveFault) × (turns : List (Turn D E)) × IsRun on.moment onto.moment call.tag result a b turns a' b'
   ran opened =

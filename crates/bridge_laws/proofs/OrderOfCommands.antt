@@ -112,7 +112,7 @@ module _ (ones : RunsOfOne) (run : Run) (told : run.disk.tells) (lawful : IsLawf
       → LeavesOnly P run.disk.old run.disk.new
   by_serve server note (inl done) = unopened Is kept P holds held run.disk.old run.disk.new lawful before run.disk.tells note done.0 told
   by_serve server note (inr (inl done)) = opened_only Is kept P holds held run.disk.old run.disk.new lawful before (done.0.opened told)
-  by_serve server note (inr (inr done)) = served Is kept P holds held run.disk.old run.disk.new lawful before run.disk.tells _ _ _ _ _ _ _ _ _ _ _ _ _ done.ran.over told
+  by_serve server note (inr (inr done)) = served Is kept P holds held run.disk.old run.disk.new lawful before run.disk.tells run.disk.same _ _ _ _ done.ran.over told
 
   by_replay : (proto : Proto) (token ack_token : Option ℕ) (note : Note) → ServesInput (replay_rules proto token ack_token) run.disk
       (both_run run.input run.output) note → LeavesOnly P run.disk.old run.disk.new

@@ -9,7 +9,7 @@ use Rattle.notes.specs.declared.note.Note.{Note}
 use Rattle.notes.specs.declared.note.Note.TheVariants.{Fine}
 use Rattle.bridge_words.specs.Words.{IsMove}
 use Rattle.bridge_parts.specs.Run.{OutputRun, run_of}
-use Rattle.bridge_move.specs.MoveRun.{IsMoveRun}
+use Rattle.bridge_move.specs.MoveRun.{IsMoveRun, two_disks}
 use Rattle.bridge_skip.specs.SkipRun.{IsSkipRun}
 use Rattle.bridge_core.specs.RunOf.{IsRunOf}
 use Rattle.bridge_laws.specs.InOrder.{IsUnmoved, Holds, HoldsInOrder, HoldsNoDisorder, HoldsNoOther}
@@ -59,7 +59,7 @@ pub record IsMoveCall {D E K : Type 0} (on : DiskKind D) (onto : DiskKind E) (pr
   pub note : Note
   pub output : K
   pub output' : K
-  pub is : IsMoveRun on.tells onto.tells on.moment onto.moment words before.0 after.0 before.1 after.1 (printed output output') note
+  pub is : IsMoveRun (two_disks on.tells onto.tells on.moment onto.moment) words before after (printed output output') note
   pub told : on.tells
   pub told' : onto.tells
 

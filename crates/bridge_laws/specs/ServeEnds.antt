@@ -22,9 +22,7 @@ use Rattle.bridge_core.specs.RunOf.{IsRunOf}
 
 -- The server ran for these words, as its contract tells.
 abbrev pub Ran : Server → Run → Note → Type 0
-Ran server run note =
-    IsRun server run.disk.tells run.disk.old run.disk.new run.net.old run.net.new run.doors run.output.faults run.output.faults_after
-    run.output.taken run.output.taken_after note
+Ran server run note = IsRun server run.disk run.output run.net run.doors note
 
 -- What stopped the last look at what is pending, where that was neither a call that failed nor want of memory: what the peer
 -- answered, or the state of the spool.

@@ -9,4 +9,4 @@ use Rattle.serve_run.specs.Telling.{numbers_of, MayTell}
 pub told_any : {A : Type 0} (o : Option A) (IsLevel : Level → Type 0) (run : ℕ) (May : SpoolNumbers → Type 0)
     → ((numbers : SpoolNumbers) → May numbers) → IfSome o (λ _. MayTell IsLevel run May)
 told_any None IsLevel run May all = tt
-told_any (Some x) IsLevel run May all = λ level is. all (numbers_of run level)
+told_any (Some x) IsLevel run May all = λ level stored is. all (numbers_of run level stored)

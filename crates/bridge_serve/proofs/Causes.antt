@@ -16,17 +16,17 @@ use Rattle.desk_access.specs.Journal.{failures_then}
 use Rattle.conn_serve.specs.declared.rules.Rules.{Rules}
 use Rattle.conn_serve.specs.Endings.{CountsFaults}
 use Rattle.conn_serve.proofs.Faults.{counts_none}
-use Rattle.forward_core.specs.declared.outward.Outward.{Outward}
 use Rattle.forward_core.specs.declared.sent.Sent.{Sent}
 use Rattle.forward_core.specs.declared.sent.Sent.TheVariants as Ending
 use Rattle.spool_turns.specs.Passes.{Known}
 use Rattle.serve_workers.specs.declared.worker.WorkerEnd.{WorkerEnd}
 use Rattle.serve_workers.specs.declared.worker.WorkerEnd.TheVariants as worker
 use Rattle.serve_workers.specs.declared.worker.WorkerReport.{WorkerReport}
-use Rattle.serve_workers.specs.Crews.{HaveWorked}
+use Rattle.serve_workers.specs.Crews.{Roster, Returned, HaveWorked}
+use Rattle.serve_workers.specs.Works.{posted_as, dismissed_as}
 use Rattle.serve_forwarder.specs.declared.destination.Destination.{Destination}
 use Rattle.serve_forwarder.specs.declared.looking.Outcome.{Outcome}
-use Rattle.serve_forwarder.specs.Looks.{Found, Idle, Unread, Undialed, Held, Look, IsLook, AreLooks, IsToldBy, first_of as first_given, upto_of, IsFound, outcome_of}
+use Rattle.serve_forwarder.specs.Looks.{Forwarder, Found, Idle, Unread, Undialed, Held, Look, IsLook, AreLooks, IsToldBy, forwarder_at, IsFound, outcome_of}
 use Rattle.serve_forwarder.proofs.Chain.{look_binds_none, looks_bind_none}
 use Rattle.serve_run.specs.Running.{Forwarded, HasForwarded}
 use Rattle.notes.specs.declared.note.Note.{Note}
@@ -121,16 +121,16 @@ told_later place (Held one) net net' hangs = record { faults = omega (arith, han
 later_then : (a b c : NetState) → IsLater a b → IsLater b c → IsLater a c
 later_then a b c p q = record { faults = omega (arith, p.faults, q.faults); reads = omega (arith, p.reads, q.reads); writes = omega (arith, p.writes, q.writes) }
 
-looks_later : (start : DeskState → Type 0) (outward : Outward) (place : List ℕ) (looks : List Look) (pass pass' : Known) (net net' : NetState) → AreLooks start outward place looks pass pass' net net' → IsLater net net'
-looks_later start outward place [] pass pass' net net' are = later_same net net' are.1
-looks_later start outward place (look ∷ looks) pass pass' net net' are =
-    later_then net are.1 net' (told_later place look.found net are.1 are.2.told) (looks_later start outward place looks are.0 pass' are.1 net' are.3)
+looks_later : (start : DeskState → Type 0) (destination : Destination) (looks : List Look) (old new : Forwarder) → AreLooks start destination looks old new → IsLater old.net new.net
+looks_later start destination [] old new are = later_same old.net new.net are.1
+looks_later start destination (look ∷ looks) old new are =
+    later_then old.net are.0.net new.net (told_later destination.place look.found old.net are.0.net are.1.told) (looks_later start destination looks are.0 new are.2)
 
-pub forwarded_later : (start : DeskState → Type 0) (destination : Option Destination) (workers : List Known) (pass pass' : Known)
-    (net net' : NetState) (last : Option Outcome) → Forwarded start destination workers pass pass' net net' last → IsLater net net'
-forwarded_later start None workers pass pass' net net' last none = later_same net net' none.2
-forwarded_later start (Some d) workers pass pass' net net' last (outcome, is, has) =
-    later_then net has.net_beside net' (looks_later start d.outward d.place has.looks pass has.beside net has.net_beside has.looked) (told_later d.place has.look.found has.net_beside net' has.looked_last.told)
+pub forwarded_later : (start : DeskState → Type 0) (destination : Option Destination) (workers : List Known) (old new : Forwarder)
+    (last : Option Outcome) → Forwarded start destination workers old new last → IsLater old.net new.net
+forwarded_later start None workers old new last none = later_same old.net new.net none.2
+forwarded_later start (Some d) workers old new last (outcome, is, has) =
+    later_then old.net has.beside.net new.net (looks_later start d has.looks old has.beside has.looked) (told_later d.place has.look.found has.beside.net new.net has.looked_last.told)
 
 -- ---- what the last look tells
 
@@ -183,13 +183,13 @@ found_dial place (Undialed Net.NoMemory) net net' told is = absurd (cc)
 found_dial place (Held one) net net' hangs is = absurd (sent_net one.sent is)
 
 -- a call was answered that the disk failed
-found_disk : (start : DeskState → Type 0) (outward : Outward) (place : List ℕ) (look : Look) (pass pass' : Known) (net net' : NetState)
-    → IsLook start outward place look pass pass' net net' → note_of_look (Some (outcome_of look.found)) ≡ Note.DiskFault → 1 ≤ failures_of pass'.own
-found_disk start outward place look pass pass' net net' is disk = by look.found disk is.found where
-  here : failures_of is.asked.own ≡ failures_of pass.own + failures_of (pends 0 1 look.given ∷ [])
-  here = ap failures_of is.asks.own ∙ failures_then pass.own (pends 0 1 look.given ∷ [])
+found_disk : (start : DeskState → Type 0) (destination : Destination) (look : Look) (old new : Forwarder)
+    → IsLook start destination look old new → note_of_look (Some (outcome_of look.found)) ≡ Note.DiskFault → 1 ≤ failures_of new.pass.own
+found_disk start destination look old new is disk = by look.found disk is.found where
+  here : failures_of is.asked.own ≡ failures_of old.pass.own + failures_of (pends 0 1 look.given ∷ [])
+  here = ap failures_of is.asks.own ∙ failures_then old.pass.own (pends 0 1 look.given ∷ [])
 
-  by : (found : Found) → note_of_look (Some (outcome_of found)) ≡ Note.DiskFault → IsFound start outward (upto_of look.offer (first_given look.given)) look.given found is.asked pass' → 1 ≤ failures_of pass'.own
+  by : (found : Found) → note_of_look (Some (outcome_of found)) ≡ Note.DiskFault → IsFound start destination.outward look found is.asked new.pass → 1 ≤ failures_of new.pass.own
   by Idle disk has = absurd (cc)
   by (Unread Pend.DiskFault) disk has =
       omega (arith, here, ap (λ (k : Known). failures_of k.own) has.1, ap (λ (given : _). failures_of (pends 0 1 given ∷ [])) has.0)
@@ -240,26 +240,26 @@ workers_refused reports = by (list_any (λ (report : WorkerReport). is_starved r
   by false false is = absurd (cc)
 
 -- and then the count of its door rose
-pub door_rose : (start : DeskState → Type 0) (run : DividedRun) (talks : ℕ) (rules : List Rules) (doors : List DoorState) (passes : List Known) (doors' : List DoorState) (passes' : List Known) (reports : List WorkerReport)
-    → HaveWorked start run talks rules doors passes doors' passes' reports → length rules ≡ length reports → length doors ≡ length reports
-    → length passes ≡ length reports → length doors' ≡ length reports → length passes' ≡ length reports
-    → note_of_workers reports ≡ Note.NetFault → SomeRose doors doors'
-door_rose start run talks rules doors passes doors' passes' reports worked r d p d' p' is =
-    let found = some_refused reports (workers_refused reports is) in
-    let by = at_same rules found.0 (omega (arith, found.2, r)) in
-    let old = at_same doors found.0 (omega (arith, found.2, d)) in
-    let pass = at_same passes found.0 (omega (arith, found.2, p)) in
-    let new = at_same doors' found.0 (omega (arith, found.2, d')) in
-    let pass' = at_same passes' found.0 (omega (arith, found.2, p')) in
-    let one = worked found.0 by.0 old.0 new.0 pass.0 pass'.0 found.1 by.1 old.1 pass.1 new.1 pass'.1 found.3 in
+pub door_rose : (start : DeskState → Type 0) (run : DividedRun) (talks : ℕ) (roster : Roster) (returned : Returned)
+    → HaveWorked start run talks roster returned → length roster.rules ≡ length returned.reports → length roster.doors ≡ length returned.reports
+    → length roster.passes ≡ length returned.reports → length returned.doors ≡ length returned.reports → length returned.passes ≡ length returned.reports
+    → note_of_workers returned.reports ≡ Note.NetFault → SomeRose roster.doors returned.doors
+door_rose start run talks roster returned worked r d p d' p' is =
+    let found = some_refused returned.reports (workers_refused returned.reports is) in
+    let by = at_same roster.rules found.0 (omega (arith, found.2, r)) in
+    let old = at_same roster.doors found.0 (omega (arith, found.2, d)) in
+    let pass = at_same roster.passes found.0 (omega (arith, found.2, p)) in
+    let new = at_same returned.doors found.0 (omega (arith, found.2, d')) in
+    let pass' = at_same returned.passes found.0 (omega (arith, found.2, p')) in
+    let one = worked found.0 (posted_as by.0 old.0 pass.0) (dismissed_as new.0 pass'.0 found.1) (by.1, old.1, pass.1) (new.1, pass'.1, found.3) in
     (found.0, old.0, new.0, old.1, new.1, one.accept_faults.cause found.4)
 
 -- ---- the whole
 
-module _ (start : DeskState → Type 0) (destination : Option Destination) (workers : List Known) (pass pass' : Known) (net net' : NetState)
-    (last : Option Outcome) (has : Forwarded start destination workers pass pass' net net' last) where
-  by_last : (P : Option Outcome → Type 0) → P None → ((d : Destination) (outcome : Outcome) → last ≡ Some outcome → HasForwarded start d workers pass pass' net net' outcome → P (Some outcome)) → P last
-  by_last P none some = elim destination as (λ d. Forwarded start d workers pass pass' net net' last → P last) [
+module _ (start : DeskState → Type 0) (destination : Option Destination) (workers : List Known) (old new : Forwarder)
+    (last : Option Outcome) (has : Forwarded start destination workers old new last) where
+  by_last : (P : Option Outcome → Type 0) → P None → ((d : Destination) (outcome : Outcome) → last ≡ Some outcome → HasForwarded start d workers old new outcome → P (Some outcome)) → P last
+  by_last P none some = elim destination as (λ d. Forwarded start d workers old new last → P last) [
     | None ↦ λ h. subst P (sym h.3) none
     | Some d ↦ λ h. subst P (sym h.1) (some d h.0 h.1 h.2)
   ] has
@@ -268,24 +268,24 @@ module _ (start : DeskState → Type 0) (destination : Option Destination) (work
   run_told reports = by_last (λ l. IsTold (note_of_run reports l)) (workers_told (note_of_workers reports) Note.Fine (workers_tell reports) tt) (λ d outcome is f.
       subst (λ o. IsTold (note_of_run reports (Some o))) (sym f.last_is) (workers_told (note_of_workers reports) (note_of_look (Some (outcome_of f.look.found))) (workers_tell reports) (look_told f.look.found)))
 
-  pub last_read : note_of_look last ≡ Note.ReadFault → Rose 1 net.read_faults net'.read_faults
-  last_read = by_last (λ l. note_of_look l ≡ Note.ReadFault → Rose 1 net.read_faults net'.read_faults) (λ is. absurd (cc)) (λ d outcome is f by.
-      rose_later 1 net.read_faults f.net_beside.read_faults net'.read_faults (looks_later start d.outward d.place f.looks pass f.beside net f.net_beside f.looked).reads
-      (found_read d.place f.look.found f.net_beside net' f.looked_last.told (ap (λ (o : Outcome). note_of_look (Some o)) (sym f.last_is) ∙ by)))
+  pub last_read : note_of_look last ≡ Note.ReadFault → Rose 1 old.net.read_faults new.net.read_faults
+  last_read = by_last (λ l. note_of_look l ≡ Note.ReadFault → Rose 1 old.net.read_faults new.net.read_faults) (λ is. absurd (cc)) (λ d outcome is f by.
+      rose_later 1 old.net.read_faults f.beside.net.read_faults new.net.read_faults (looks_later start d f.looks old f.beside f.looked).reads
+      (found_read d.place f.look.found f.beside.net new.net f.looked_last.told (ap (λ (o : Outcome). note_of_look (Some o)) (sym f.last_is) ∙ by)))
 
-  pub last_write : note_of_look last ≡ Note.WriteFault → Rose 1 net.write_faults net'.write_faults
-  last_write = by_last (λ l. note_of_look l ≡ Note.WriteFault → Rose 1 net.write_faults net'.write_faults) (λ is. absurd (cc)) (λ d outcome is f by.
-      rose_later 1 net.write_faults f.net_beside.write_faults net'.write_faults (looks_later start d.outward d.place f.looks pass f.beside net f.net_beside f.looked).writes
-      (found_write d.place f.look.found f.net_beside net' f.looked_last.told (ap (λ (o : Outcome). note_of_look (Some o)) (sym f.last_is) ∙ by)))
+  pub last_write : note_of_look last ≡ Note.WriteFault → Rose 1 old.net.write_faults new.net.write_faults
+  last_write = by_last (λ l. note_of_look l ≡ Note.WriteFault → Rose 1 old.net.write_faults new.net.write_faults) (λ is. absurd (cc)) (λ d outcome is f by.
+      rose_later 1 old.net.write_faults f.beside.net.write_faults new.net.write_faults (looks_later start d f.looks old f.beside f.looked).writes
+      (found_write d.place f.look.found f.beside.net new.net f.looked_last.told (ap (λ (o : Outcome). note_of_look (Some o)) (sym f.last_is) ∙ by)))
 
-  pub last_dial : note_of_look last ≡ Note.NetFault → Rose 1 net.net_faults net'.net_faults
-  last_dial = by_last (λ l. note_of_look l ≡ Note.NetFault → Rose 1 net.net_faults net'.net_faults) (λ is. absurd (cc)) (λ d outcome is f by.
-      rose_later 1 net.net_faults f.net_beside.net_faults net'.net_faults (looks_later start d.outward d.place f.looks pass f.beside net f.net_beside f.looked).faults
-      (found_dial d.place f.look.found f.net_beside net' f.looked_last.told (ap (λ (o : Outcome). note_of_look (Some o)) (sym f.last_is) ∙ by)))
+  pub last_dial : note_of_look last ≡ Note.NetFault → Rose 1 old.net.net_faults new.net.net_faults
+  last_dial = by_last (λ l. note_of_look l ≡ Note.NetFault → Rose 1 old.net.net_faults new.net.net_faults) (λ is. absurd (cc)) (λ d outcome is f by.
+      rose_later 1 old.net.net_faults f.beside.net.net_faults new.net.net_faults (looks_later start d f.looks old f.beside f.looked).faults
+      (found_dial d.place f.look.found f.beside.net new.net f.looked_last.told (ap (λ (o : Outcome). note_of_look (Some o)) (sym f.last_is) ∙ by)))
 
-  pub last_disk : note_of_look last ≡ Note.DiskFault → 1 ≤ failures_of pass'.own
-  last_disk = by_last (λ l. note_of_look l ≡ Note.DiskFault → 1 ≤ failures_of pass'.own) (λ is. absurd (cc)) (λ d outcome is f by.
-      found_disk start d.outward d.place f.look f.met pass' f.net_beside net' f.looked_last (ap (λ (o : Outcome). note_of_look (Some o)) (sym f.last_is) ∙ by))
+  pub last_disk : note_of_look last ≡ Note.DiskFault → 1 ≤ failures_of new.pass.own
+  last_disk = by_last (λ l. note_of_look l ≡ Note.DiskFault → 1 ≤ failures_of new.pass.own) (λ is. absurd (cc)) (λ d outcome is f by.
+      found_disk start d f.look (forwarder_at f.met f.beside.net) new f.looked_last (ap (λ (o : Outcome). note_of_look (Some o)) (sym f.last_is) ∙ by))
 
 -- ---- a bind
 
@@ -295,12 +295,12 @@ net_bound net net' bound faults same is =
     λ i. record { bound = sym is i; hung = same.hung i; net_faults = faults i; read_faults = same.read_faults i; write_faults = same.write_faults i }
 
 -- nor did a run after them
-pub forwarded_binds_none : (start : DeskState → Type 0) (destination : Option Destination) (workers : List Known) (pass pass' : Known)
-    (net net' : NetState) (last : Option Outcome) → Forwarded start destination workers pass pass' net net' last → net'.bound ≡ net.bound
-forwarded_binds_none start None workers pass pass' net net' last none = ap (λ (n : NetState). n.bound) none.2
-forwarded_binds_none start (Some d) workers pass pass' net net' last (outcome, is, has) =
-    look_binds_none start d.outward d.place has.look has.met pass' has.net_beside net' has.looked_last
-    ∙ looks_bind_none start d.outward d.place has.looks pass has.beside net has.net_beside has.looked
+pub forwarded_binds_none : (start : DeskState → Type 0) (destination : Option Destination) (workers : List Known) (old new : Forwarder)
+    (last : Option Outcome) → Forwarded start destination workers old new last → new.net.bound ≡ old.net.bound
+forwarded_binds_none start None workers old new last none = ap (λ (n : NetState). n.bound) none.2
+forwarded_binds_none start (Some d) workers old new last (outcome, is, has) =
+    look_binds_none start d has.look (forwarder_at has.met has.beside.net) new has.looked_last
+    ∙ looks_bind_none start d has.looks old has.beside has.looked
 
 -- one that was refused is counted, unless no memory was found
 pub net_refused : (T : Type 0) (fault : NetFault) (note : Note) (before now : ℕ) → note ≡ note_of_net fault → HasNetCause {T = T} before now (Err fault)

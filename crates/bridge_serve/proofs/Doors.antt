@@ -15,7 +15,7 @@ use Rattle.serve_workers.proofs.Placing.{told_same}
 use Rattle.bridge_words.specs.declared.command.Relay.{Relay}
 use Rattle.bridge_words.specs.declared.command.Server.{Server}
 use Rattle.bridge_words.specs.Words.{most_workers}
-use Rattle.bridge_serve.specs.Doors.{rules_of, workers_at, binds_at, binds_of, TellsBound, AreAt, AreNewAt, AddsDoors, AreBound, AreUnused, destination_of}
+use Rattle.bridge_serve.specs.Doors.{rules_of, workers_at, binds_at, binds_of, TellsBound, AreAt, AreNewAt, Ruled, ruled_as, AddsDoors, AreBound, AreUnused, destination_of}
 
 -- what another function has of each then
 pub map_more : {X Y Z : Type 0} (f : X → Y) (h : Y → Z) (olds news : List X) (made : List Y)
@@ -35,25 +35,26 @@ twice {X} {Y} {Z} f z (x ∷ xs) = ap (λ (l : List Z). z ∷ l) (twice f z xs)
 
 -- doors that were bound at a place
 pub adds_bound : {X : Type 0} (told : X → DoorState) (server : Server) (proto : Proto) (at : Option (List ℕ)) (place : List ℕ) (made : List X)
-    (doors doors' : List DoorState) (rules rules' : List Rules)
-    → at ≡ Some place → length made ≡ server.workers → All (λ door. IsNewDoor place (told door)) made → doors' ≡ doors ++ map told made
-    → rules' ≡ rules ++ map (λ door. rules_of server proto) made
-    → AddsDoors server proto at doors doors' rules rules'
-adds_bound told server proto at place made doors doors' rules rules' some count new doors_are rules_are = record {
+    (old new : Ruled)
+    → at ≡ Some place → length made ≡ server.workers → All (λ door. IsNewDoor place (told door)) made → new.doors ≡ old.doors ++ map told made
+    → new.rules ≡ old.rules ++ map (λ door. rules_of server proto) made
+    → AddsDoors server proto at old new
+adds_bound told server proto at place made old new some count fresh doors_are rules_are = record {
   made = map told made;
   made_at = subst (λ (at : Option (List ℕ)). AreAt server.workers at (map told made)) (sym some)
-      (length-map made told ∙ count, all_map told (IsNewDoor place) made new);
+      (length-map made told ∙ count, all_map told (IsNewDoor place) made fresh);
   doors_are = doors_are;
-  rules_are = rules_are ∙ ap (λ (l : List Rules). rules ++ l) (twice told (rules_of server proto) made);
+  rules_are = rules_are ∙ ap (λ (l : List Rules). old.rules ++ l) (twice told (rules_of server proto) made);
 }
 
-pub adds_none : (server : Server) (proto : Proto) (doors : List DoorState) (rules : List Rules) → AddsDoors server proto None doors doors rules rules
-adds_none server proto doors rules = record { made = []; made_at = refl; doors_are = sym (append-nil doors); rules_are = sym (append-nil rules) }
+adds_none : (server : Server) (proto : Proto) (ruled : Ruled) → AddsDoors server proto None ruled ruled
+adds_none server proto ruled =
+    record { made = []; made_at = refl; doors_are = sym (append-nil ruled.doors); rules_are = sym (append-nil ruled.rules) }
 
-pub adds_default : (server : Server) (proto : Proto) (place : Option (List ℕ)) (doors : List DoorState) (rules : List Rules)
-    → ((x : List ℕ) → place ≡ Some x → ⊥) → AddsDoors server proto place doors doors rules rules
-adds_default server proto None doors rules none = adds_none server proto doors rules
-adds_default server proto (Some x) doors rules none = absurd (none x refl)
+pub adds_default : (server : Server) (proto : Proto) (place : Option (List ℕ)) (ruled : Ruled)
+    → ((x : List ℕ) → place ≡ Some x → ⊥) → AddsDoors server proto place ruled ruled
+adds_default server proto None ruled none = adds_none server proto ruled
+adds_default server proto (Some x) ruled none = absurd (none x refl)
 
 -- ---- each at its place
 
@@ -133,11 +134,11 @@ new_then (one ∷ first) second doors more (here, rest, parts, count, new, are) 
 pub new_nowhere : AreNewAt [] []
 new_nowhere = refl
 
-pub new_more : (server : Server) (proto : Proto) (at : Option (List ℕ)) (bound : List Bound) (doors doors' : List DoorState) (rules rules' : List Rules)
-    → AreNewAt bound doors → AddsDoors server proto at doors doors' rules rules' → AreNewAt (bound ++ binds_at server.workers at) doors'
-new_more server proto at bound doors doors' rules rules' new adds =
+pub new_more : (server : Server) (proto : Proto) (at : Option (List ℕ)) (bound : List Bound) (old new : Ruled)
+    → AreNewAt bound old.doors → AddsDoors server proto at old new → AreNewAt (bound ++ binds_at server.workers at) new.doors
+new_more server proto at bound old new fresh adds =
     subst (AreNewAt (bound ++ binds_at server.workers at)) (sym adds.doors_are)
-    (new_then bound (binds_at server.workers at) doors adds.made new (new_at server.workers at adds.made adds.made_at))
+    (new_then bound (binds_at server.workers at) old.doors adds.made fresh (new_at server.workers at adds.made adds.made_at))
 
 pub new_all : (server : Server) (doors : List DoorState) (rules : List Rules) → AreBound server doors rules → AreNewAt (binds_of server) doors
 new_all server doors rules bound =
@@ -169,22 +170,22 @@ none_unused server old new same = record {
 }
 
 -- a bind failed after that of the first place, or of the second
-pub first_unused : (server : Server) (old mid new : Option (List Bound)) (doors : List DoorState) (rules : List Rules)
-    → AddsDoors server Relp server.relp [] doors [] rules → TellsBound (binds_at server.workers server.relp) old mid → new ≡ mid
-    → AreUnused server old new doors
-first_unused server old mid new doors rules adds told same = record {
+pub first_unused : (server : Server) (old mid new : Option (List Bound)) (one : Ruled)
+    → AddsDoors server Relp server.relp (ruled_as [] []) one → TellsBound (binds_at server.workers server.relp) old mid → new ≡ mid
+    → AreUnused server old new one.doors
+first_unused server old mid new one adds told same = record {
   made = binds_at server.workers server.relp;
   rest = binds_at server.workers server.lumberjack ++ binds_at server.workers server.hec;
   parts = refl;
   told = tells_same (binds_at server.workers server.relp) old mid new told same;
-  new = new_more server Relp server.relp [] [] doors [] rules refl adds;
+  new = new_more server Relp server.relp [] (ruled_as [] []) one refl adds;
 }
 
-pub second_unused : (server : Server) (old mid more new : Option (List Bound)) (doors doors' : List DoorState) (rules rules' : List Rules)
-    → AddsDoors server Relp server.relp [] doors [] rules → AddsDoors server Lumberjack server.lumberjack doors doors' rules rules'
+pub second_unused : (server : Server) (old mid more new : Option (List Bound)) (one two : Ruled)
+    → AddsDoors server Relp server.relp (ruled_as [] []) one → AddsDoors server Lumberjack server.lumberjack one two
     → TellsBound (binds_at server.workers server.relp) old mid → TellsBound (binds_at server.workers server.lumberjack) mid more → new ≡ more
-    → AreUnused server old new doors'
-second_unused server old mid more new doors doors' rules rules' adds adds' told told' same =
+    → AreUnused server old new two.doors
+second_unused server old mid more new one two adds adds' told told' same =
     let first = binds_at server.workers server.relp in
     let second = binds_at server.workers server.lumberjack in
     record {
@@ -192,7 +193,7 @@ second_unused server old mid more new doors doors' rules rules' adds adds' told 
       rest = binds_at server.workers server.hec;
       parts = sym (append_assoc first second (binds_at server.workers server.hec));
       told = tells_same (first ++ second) old more new (tells_then first second old mid more told told') same;
-      new = new_more server Lumberjack server.lumberjack first doors doors' rules rules' (new_more server Relp server.relp [] [] doors [] rules refl adds) adds';
+      new = new_more server Lumberjack server.lumberjack first one two (new_more server Relp server.relp [] (ruled_as [] []) one refl adds) adds';
     }
 
 pub tells_all : (server : Server) (a b c d : Option (List Bound)) → TellsBound (binds_at server.workers server.relp) a b
@@ -212,10 +213,10 @@ unused_doors server old new door_of told posts doors is = subst (AreUnused serve
 
 -- ---- at all places
 
-pub all_bound : (server : Server) (one two three : List DoorState) (rules rules' rules'' : List Rules)
-    → AddsDoors server Relp server.relp [] one [] rules → AddsDoors server Lumberjack server.lumberjack one two rules rules'
-    → AddsDoors server Hec server.hec two three rules' rules'' → AreBound server three rules''
-all_bound server one two three rules rules' rules'' a b c = record {
+pub all_bound : (server : Server) (one two three : Ruled)
+    → AddsDoors server Relp server.relp (ruled_as [] []) one → AddsDoors server Lumberjack server.lumberjack one two
+    → AddsDoors server Hec server.hec two three → AreBound server three.doors three.rules
+all_bound server one two three a b c = record {
   relp = a.made;
   lumberjack = b.made;
   hec = c.made;

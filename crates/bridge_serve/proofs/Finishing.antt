@@ -1,6 +1,6 @@
 -- A worker that ended well, at its door.
 use Rattle.std.proofs.Common.{◌≡◌, ◌⊎◌, inl, inr, ℕ, ◌+◌, Bool, true, false, List, [], ◌∷◌, ◌++◌, length, refl, ◌∙◌, ap, subst, arith}
-use Rattle.std.specs.Prelude.{Option, None, Some, if◌then◌else◌, ◌||◌}
+use Rattle.std.specs.Prelude.{Option, None, Some, map, if◌then◌else◌, ◌||◌}
 use Rattle.std.specs.List.{AllZip, list_any}
 use Rattle.std.proofs.lemmas.List.{append-nil}
 use Rattle.foundation.specs.Faults.{Rose}
@@ -14,11 +14,12 @@ use Rattle.serve_workers.specs.Works.{EndsBy}
 use Rattle.serve_workers.specs.declared.worker.WorkerEnd.{WorkerEnd}
 use Rattle.serve_workers.specs.declared.worker.WorkerEnd.TheVariants as worker
 use Rattle.serve_workers.specs.declared.worker.WorkerReport.{WorkerReport}
-use Rattle.serve_laws.specs.Parts.{Part, IsPart, AreParts}
+use Rattle.serve_run.specs.Running.{Given, Left}
+use Rattle.serve_laws.specs.Parts.{Part, WorkerDoor, worker_door, IsPart, AreParts, EachPart}
 use Rattle.serve_laws.proofs.Behind.{no_length}
 use Rattle.notes.specs.declared.note.Note.{Note}
 use Rattle.bridge_serve.specs.Noted.{is_starved, is_refused, note_of_workers}
-use Rattle.bridge_serve.specs.Promised.{EachPart, GivesBack, IsServedOut}
+use Rattle.bridge_serve.specs.Promised.{GivesBack, IsServedOut}
 
 -- ---- of each worker
 
@@ -40,17 +41,19 @@ ended_well enough door late before now worker.Enough well ends cause = (ends.0, 
 ended_well enough door late before now worker.AcceptFault well ends cause = (ends, inr (inr (cause refl)))
 ended_well enough door late before now worker.NoMemory well ends cause = absurd (cc)
 
-one_served_out : (run : DividedRun) (talks : ℕ) (log : List Record) (number : ℕ) (rules : Rules) (old new : DoorState) (report : WorkerReport) (part : Part) → IsPart run talks log number rules old new report part → is_starved report.end ≡ false
-    → IsServedOut talks number rules old new part
-one_served_out run talks log number rules old new report part is well =
-    let ended = ended_well (length part.finished ≡ talks) new (length part.late) old.accept_faults new.accept_faults report.end well is.ends is.accept_faults.cause in
-    let none : part.late ≡ [] = no_length part.late ended.0 in
-    let all : length (part.finished ++ part.late) ≡ length part.finished = ap (λ (l : List Served). length (part.finished ++ l)) none ∙ ap (λ (l : List Served). length l) (append-nil part.finished) in
+one_served_out : (run : DividedRun) (talks : ℕ) (log : List Record) (at : WorkerDoor) (part : Part) → IsPart run talks log at part → is_starved part.report.end ≡ false
+    → IsServedOut talks at part
+one_served_out run talks log at part is well =
+    let finished = part.links.finished in
+    let late = part.links.late in
+    let ended = ended_well (length finished ≡ talks) at.new (length late) at.old.accept_faults at.new.accept_faults part.report.end well is.ends is.accept_faults.cause in
+    let none : late ≡ [] = no_length late ended.0 in
+    let all : length (finished ++ late) ≡ length finished = ap (λ (l : List Served). length (finished ++ l)) none ∙ ap (λ (l : List Served). length l) (append-nil finished) in
     record {
       place = is.at_door.place;
       none_late = none;
-      accepted = subst (λ (n : ℕ). RisesBy n old.accepted new.accepted) all is.at_door.accepted;
-      given_back = gives_back rules part.finished old.talks new.talks is.at_door.talks;
+      accepted = subst (λ (n : ℕ). RisesBy n at.old.accepted at.new.accepted) all is.at_door.accepted;
+      given_back = gives_back at.rules finished at.old.talks at.new.talks is.at_door.talks;
       why = ended.1;
     }
 
@@ -63,14 +66,14 @@ none_starved report reports = by (is_starved report.end) where
   by true none = absurd (cc)
   by false none = (refl, none)
 
-all_served_out : (run : DividedRun) (talks : ℕ) (log : List Record) (number : ℕ) (rules : List Rules) (doors doors' : List DoorState) (reports : List WorkerReport)
-    (parts : List Part) → AreParts run talks log number rules doors doors' reports parts
-    → list_any (λ (report : WorkerReport). is_starved report.end) reports ≡ false → EachPart (IsServedOut talks) number rules doors doors' parts
-all_served_out run talks log number [] [] [] [] [] are well = tt
-all_served_out run talks log number (by ∷ rules) (old ∷ doors) (new ∷ doors') (report ∷ reports) (part ∷ parts) are well =
-    let none = none_starved report reports well in
-    (one_served_out run talks log number by old new report part are.0 none.0, all_served_out run talks log (number + 1) rules doors doors' reports parts are.1 none.1)
-all_served_out run talks log number rules doors doors' reports parts are well = absurd are
+all_served_out : (run : DividedRun) (talks : ℕ) (log : List Record) (number : ℕ) (rules : List Rules) (doors doors' : List DoorState) (parts : List Part)
+    → EachPart (IsPart run talks log) number rules doors doors' parts
+    → list_any (λ (report : WorkerReport). is_starved report.end) (map (λ (part : Part). part.report) parts) ≡ false → EachPart (IsServedOut talks) number rules doors doors' parts
+all_served_out run talks log number [] [] [] [] each well = tt
+all_served_out run talks log number (by ∷ rules) (old ∷ doors) (new ∷ doors') (part ∷ parts) each well =
+    let none = none_starved part.report (map (λ (one : Part). one.report) parts) well in
+    (one_served_out run talks log (worker_door number by old new) part each.0 none.0, all_served_out run talks log (number + 1) rules doors doors' parts each.1 none.1)
+all_served_out run talks log number rules doors doors' parts each well = absurd each
 
 -- the note of the workers is want of memory where one of them found none
 starved_note : (reports : List WorkerReport) → (note_of_workers reports ≡ Note.NoMemory → ⊥) → list_any (λ (report : WorkerReport). is_starved report.end) reports ≡ false
@@ -79,6 +82,8 @@ starved_note reports = by (list_any (λ (report : WorkerReport). is_starved repo
   by true refused none = absurd (none refl)
   by false refused none = refl
 
-pub served_out : (run : DividedRun) (talks : ℕ) (log : List Record) (rules : List Rules) (doors doors' : List DoorState) (reports : List WorkerReport) (parts : List Part) → AreParts run talks log 0 rules doors doors' reports parts
-    → (note_of_workers reports ≡ Note.NoMemory → ⊥) → EachPart (IsServedOut talks) 0 rules doors doors' parts
-served_out run talks log rules doors doors' reports parts are well = all_served_out run talks log 0 rules doors doors' reports parts are (starved_note reports well)
+pub served_out : (run : DividedRun) (log : List Record) (given : Given) (left : Left) (parts : List Part) → AreParts run log given left parts
+    → (note_of_workers left.reports ≡ Note.NoMemory → ⊥) → EachPart (IsServedOut given.talks) 0 given.rules given.doors left.doors parts
+served_out run log given left parts are well =
+    all_served_out run given.talks log 0 given.rules given.doors left.doors parts are.each
+    (subst (λ (reports : List WorkerReport). list_any (λ (report : WorkerReport). is_starved report.end) reports ≡ false) are.reports (starved_note left.reports well))

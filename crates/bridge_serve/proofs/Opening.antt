@@ -1,6 +1,7 @@
 -- A desk over a spool that was opened for storing.
 use Rattle.std.proofs.Common.{◌≡◌, ◌⊎◌, inl, inr, ℕ, ◌+◌, ◌≤◌, List, [], ◌∷◌, ◌++◌, length, refl, sym, subst, arith}
-use Rattle.std.specs.Prelude.{Bool, Option, Result, Ok, Err, IfOk, IfErr}
+use Rattle.std.specs.Prelude.{Bool, Result, Ok, Err, IfOk, IfErr, map}
+use Rattle.edge_disk.specs.declared.disk.Disk.{Ghosts as Disks}
 use Rattle.edge_disk.specs.Calls.{Calls}
 use Rattle.edge_disk.specs.Disk.{Moment, LeavesOnly}
 use Rattle.edge_disk.proofs.Moments.{weaker}
@@ -20,15 +21,13 @@ use Rattle.spool_turns.specs.Passes.{begun}
 use Rattle.spool_turns.specs.Replays.{BeganAt}
 use Rattle.edge_io.specs.Door.{DoorState}
 use Rattle.edge_io.specs.Net.{NetState}
-use Rattle.conn_serve.specs.declared.rules.Rules.{Rules}
-use Rattle.spool_log.specs.declared.memory.Memory.{Memory}
-use Rattle.serve_workers.specs.declared.worker.WorkerReport.{WorkerReport}
-use Rattle.serve_forwarder.specs.declared.destination.Destination.{Destination}
-use Rattle.serve_forwarder.specs.declared.looking.Outcome.{Outcome}
-use Rattle.serve_run.specs.Running.{HasServed, HasNotServed}
+use Rattle.serve_run.specs.declared.running.Served.{Served}
+use Rattle.serve_run.specs.Running.{Given, Left, HasServed, HasNotServed, left_as, seating_as}
+use Rattle.serve_run.specs.Served.{IsServed}
+use Rattle.bridge_parts.specs.Run.{DiskRun, disk_run}
 use Rattle.bridge_parts.specs.Opened.{desk_in}
 use Rattle.bridge_serve.specs.Opened.{IsOpenedDesk, opened_at, IsOpenedFrom, IsOpenedOnly, desk_over}
-use Rattle.bridge_serve.specs.Served.{RunsOver}
+use Rattle.bridge_serve.specs.Served.{DeskLeft, RunsOver, RanOver, desk_as, setup_as}
 
 -- ---- the state in which it was given
 
@@ -92,7 +91,7 @@ none_stood x c stood = by stood.first stood.rest stood.parts stood.found stood.g
 
 -- a desk that was given back, with which nothing was done
 pub given_back : (tells : Type 0) (old : Moment) (v : View) (clock : ℕ) (grouped : Bool) (run : DividedRun) (seats : ℕ) (new : AloneView) → IsOpenedFrom tells old v → (tells → old.clock ≤ clock)
-    → HasNotServed tells (IsOpenedDesk tells old.reads) run seats (begun (opened_at tells old clock) grouped) new → tells → IsOpenedOnly old new.spool.moment
+    → HasNotServed tells (IsOpenedDesk tells old.reads) (seating_as run seats (begun (opened_at tells old clock) grouped)) new → tells → IsOpenedOnly old new.spool.moment
 given_back tells old v clock grouped run seats new from le none told =
     let found = from.opens told in
     let x = desk_in (opened Raise found.0) in
@@ -111,38 +110,43 @@ given_back tells old v clock grouped run seats new from le none told =
     }
 
 pub given_calls : (tells : Type 0) (old : Moment) (start : DeskState → Type 0) (clock : ℕ) (grouped : Bool) (run : DividedRun) (seats : ℕ) (new : AloneView)
-    → HasNotServed tells start run seats (begun (opened_at tells old clock) grouped) new → Calls ⊥ old new.spool.moment
+    → HasNotServed tells start (seating_as run seats (begun (opened_at tells old clock) grouped)) new → Calls ⊥ old new.spool.moment
 given_calls tells old start clock grouped run seats new none =
     record { size = none.1.replays.size; later = none.1.replays.later; cause = λ never. absurd never; quiet = λ never. none.1.replays.quiet refl }
 
 -- ---- where the server ran
 
-pub runs_over : (tells : Type 0) (old new : Moment) (v : View) (clock : ℕ) (grouped : Bool) (run : DividedRun) (seats talks : ℕ) (rules : List Rules) (doors doors' : List DoorState)
-    (reports : List WorkerReport) (destination : Option Destination) (net net' : NetState) (last : Option Outcome) (memory : Memory) (in_doubt : Bool)
-    (ids : Table)
-    → IsOpenedFrom tells old v → (tells → old.clock ≤ clock) → seats ≡ length doors + 1
-    → HasServed tells (IsOpenedDesk tells old.reads) run seats (begun (opened_at tells old clock) grouped) talks rules doors doors' reports destination net net' last
-    (desk_over memory in_doubt new ids)
-    → RunsOver tells old new grouped run.division talks rules doors doors' reports destination net net' last memory in_doubt
-runs_over tells old new v clock grouped run seats talks rules doors doors' reports destination net net' last memory in_doubt ids from le many served =
-    let whole = subst (λ (n : ℕ). HasServed tells (IsOpenedDesk tells old.reads) run n (begun (opened_at tells old clock) grouped) talks rules doors doors' reports
-    destination net net' last (desk_over memory in_doubt new ids)) many served in
+runs_over : (disk : DiskRun) (v : View) (clock : ℕ) (grouped : Bool) (run : DividedRun) (seats : ℕ) (given : Given) (left : Left) (desk : DeskLeft)
+    (ids : Table) → IsOpenedFrom disk.tells disk.old v → (disk.tells → disk.old.clock ≤ clock) → seats ≡ length given.doors + 1
+    → HasServed disk.tells (IsOpenedDesk disk.tells disk.old.reads) (seating_as run seats (begun (opened_at disk.tells disk.old clock) grouped)) given left
+    (desk_over desk.memory desk.in_doubt disk.new ids)
+    → RunsOver disk (setup_as grouped run.division) given left desk
+runs_over disk v clock grouped run seats given left desk ids from le many served =
+    let whole = subst (λ (n : ℕ). HasServed disk.tells (IsOpenedDesk disk.tells disk.old.reads) (seating_as run n (begun (opened_at disk.tells disk.old clock) grouped))
+    given left (desk_over desk.memory desk.in_doubt disk.new ids)) many served in
     record {
       run = run;
       divided_by = refl;
       clock = clock;
       later = le;
-      opened = opened_desk tells old.reads v from.opens;
+      opened = opened_desk disk.tells disk.old.reads v from.opens;
       ids = ids;
       served = whole;
-      any_moment = λ x is. any_moment tells old new clock (Stood x whole.log) is.0 (le is.0) (whole.closes.replays.leads x is).any_moment;
+      any_moment = λ x is. any_moment disk.tells disk.old disk.new clock (Stood x whole.log) is.0 (le is.0) (whole.closes.replays.leads x is).any_moment;
     }
 
--- ---- of a result
+-- of all that such a run leaves
+pub ran_over : {P D L E : Type 0} {disks : Disks D} (told : P → DoorState) (before : D) (v : View) (clock : ℕ) (grouped : Bool) (run : DividedRun) (seats : ℕ)
+    (given : Given) (net : NetState) (r : Result (Served P D L disks) E)
+    → IsOpenedFrom disks.tells (disks.moment before) v → (disks.tells → (disks.moment before).clock ≤ clock) → seats ≡ length given.doors + 1
+    → IfOk r (IsServed told (IsOpenedDesk disks.tells (disks.moment before).reads) (seating_as run seats (begun (opened_at disks.tells (disks.moment before) clock) grouped)) given net)
+    → IfOk r (RanOver told before (setup_as grouped run.division) given net)
+ran_over {disks = disks} told before v clock grouped run seats given net (Ok served) from le many is =
+    runs_over (disk_run disks.tells disks.moment before served.desk.spool.disk) v clock grouped run seats given
+    (left_as (map told served.doors.items) served.reports.items net served.last) (desk_as served.desk.spool.memory served.desk.spool.doubt) served.desk.ids from le many is
+ran_over told before v clock grouped run seats given net (Err e) from le many is = is
 
-pub if_ok : {T E : Type 0} (P Q : T → Type 0) (r : Result T E) → ((v : T) → P v → Q v) → IfOk r P → IfOk r Q
-if_ok P Q (Ok v) leads is = leads v is
-if_ok P Q (Err e) leads is = is
+-- ---- of a result
 
 pub if_err : {T E : Type 0} (P Q : E → Type 0) (r : Result T E) → ((e : E) → P e → Q e) → IfErr r P → IfErr r Q
 if_err P Q (Ok v) leads is = is

@@ -6,6 +6,7 @@ use Rattle.edge_io.specs.declared.proto.Proto.TheVariants.{Relp, Lumberjack, Hec
 use Rattle.edge_io.specs.Door.{DoorState, IsNewDoor}
 use Rattle.edge_io.specs.Net.{Bound, NetState}
 use Rattle.conn_serve.specs.declared.rules.Rules.{Rules}
+use Rattle.serve_workers.specs.declared.crew.Post.{Post}
 use Rattle.bridge_words.specs.declared.command.Relay.{Relay}
 use Rattle.bridge_words.specs.declared.command.Server.{Server}
 use Rattle.bridge_parts.specs.Receivers.{outward_of}
@@ -84,12 +85,24 @@ pub record AreBound (server : Server) (doors : List DoorState) (rules : List Rul
   pub rules_are : rules ≡ map (λ door. rules_of server Relp) relp
       ++ (map (λ door. rules_of server Lumberjack) lumberjack ++ map (λ door. rules_of server Hec) hec)
 
+-- doors, with the rules of each
+pub record Ruled : Type 0 where
+  pub doors : List DoorState
+  pub rules : List Rules
+
+abbrev pub ruled_as : List DoorState → List Rules → Ruled
+ruled_as doors rules = record { doors = doors; rules = rules }
+
+-- those of posts, where a door tells this
+abbrev pub ruled_by : {P L : Type 0} → (P → DoorState) → List (Post P L) → Ruled
+ruled_by told posts = ruled_as (map (λ post. told post.door) posts) (map (λ post. post.rules) posts)
+
 -- Doors at one place were added after others, with the rules of each.
-pub record AddsDoors (server : Server) (proto : Proto) (place : Option (List ℕ)) (doors doors' : List DoorState) (rules rules' : List Rules) : Type 0 where
+pub record AddsDoors (server : Server) (proto : Proto) (place : Option (List ℕ)) (old new : Ruled) : Type 0 where
   pub made : List DoorState
   pub made_at : AreAt server.workers place made
-  pub doors_are : doors' ≡ doors ++ made
-  pub rules_are : rules' ≡ rules ++ map (λ door. rules_of server proto) made
+  pub doors_are : new.doors ≡ old.doors ++ made
+  pub rules_are : new.rules ≡ old.rules ++ map (λ door. rules_of server proto) made
 
 -- the place that is dialed, and how a session speaks there
 abbrev pub destination_at : Relay → Destination

@@ -9,6 +9,7 @@ use Rattle.serve_forwarder.specs.declared.looking.Outcome.TheVariants as outcome
 use Rattle.conn_serve.specs.Endings.{CountsFaults}
 use Rattle.notes.specs.declared.note.Note.{Note}
 use Rattle.notes.specs.declared.note.Note.TheVariants.{Fine, NoMemory, NetFault, WriteFault}
+use Rattle.bridge_parts.specs.Run.{OutputRun}
 use Rattle.bridge_parts.specs.Refused.{note_of_pend, note_of_net, note_of_sent}
 use Rattle.bridge_parts.specs.Written.{first_of, PrintsAfter}
 
@@ -46,9 +47,11 @@ talks_of reports = sum_by (λ report. report.finished) reports
 -- The line is printed after a run that ended so, unless no memory was found in it: whole; or cut, where a write of it failed; or not at
 -- all, where no memory was found for it. The output's count of writes that failed rose where a write of the line failed, and nowhere
 -- else.
-abbrev pub PrintsLast : Note → List ℕ → Note → (writes writes' : ℕ) → Option (List ℕ) → Option (List ℕ) → Type 0
-PrintsLast NoMemory line note writes writes' old new = (note ≡ NoMemory) × (writes' ≡ writes) × (new ≡ old)
-PrintsLast ended line note writes writes' old new = (prints : PrintsAfter ended line note old new) × CountsFaults (prints.print ≡ WriteFault) writes writes'
+abbrev pub PrintsLast : Note → List ℕ → Note → OutputRun → Type 0
+PrintsLast NoMemory line note output = (note ≡ NoMemory) × (output.faults_after ≡ output.faults) × (output.taken_after ≡ output.taken)
+PrintsLast ended line note output =
+    (prints : PrintsAfter ended line note output.taken output.taken_after)
+    × CountsFaults (prints.print ≡ WriteFault) output.faults output.faults_after
 
 -- the note is that of the run, or of the print of its line
 abbrev pub IsNoteOf : Note → Note → Type 0

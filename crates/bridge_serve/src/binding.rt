@@ -4,7 +4,7 @@ ghost use Rattle.std.specs.Prelude.{◌≡◌, ◌*◌, ◌+◌, ◌≤◌, ◌+
 ghost use Rattle.std.specs.Vec.{vec_capacity};
 ghost use Rattle.edge_io.specs.Net.{SameHung, HasNetCause};
 ghost use Rattle.serve_workers.specs.Crews.{IsRoom};
-ghost use Rattle.bridge_serve.specs.Doors.{rules_of, place_for, workers_at, first_worker, binds_at, binds_of, TellsBound, AddsDoors, AreBound, AreUnused};
+ghost use Rattle.bridge_serve.specs.Doors.{rules_of, place_for, workers_at, first_worker, binds_at, binds_of, TellsBound, ruled_by, AddsDoors, AreBound, AreUnused};
 ghost use Rattle.bridge_serve.specs.Answered.{MayBind, StandsAt};
 
 use crate::watching::watch;
@@ -104,9 +104,8 @@ where
     requires stand { (i : ℕ) (post : _) → slice_get posts.old.items i ≡ Some post
         → StandsAt server.now N.permits i post.rules (N.P.permits post.door) }
 
-    ensures bound { IfOk result (λ _. AddsDoors server.now proto place.now
-        (map (λ (post : _). N.P.told post.door) posts.old.items) (map (λ (post : _). N.P.told post.door) posts.new.items)
-        (map (λ (post : _). post.rules) posts.old.items) (map (λ (post : _). post.rules) posts.new.items)) }
+    ensures bound { IfOk result (λ _. AddsDoors server.now proto place.now (ruled_by N.P.told posts.old.items)
+        (ruled_by N.P.told posts.new.items)) }
     ensures told { IfOk result (λ _. TellsBound (binds_at server.now.workers place.now) (N.told net.old).bound (N.told net.new).bound) }
     ensures many { IfOk result (λ _. vec_len posts.new ≡ vec_len posts.old + workers_at server.now place.now) }
     ensures stand { IfOk result (λ _. (i : ℕ) (post : _) → slice_get posts.new.items i ≡ Some post

@@ -1,5 +1,5 @@
 //! A run of the server over a spool that was opened for storing.
-ghost use Rattle.std.specs.Prelude.{◌≡◌, ◌⊎◌, ◌+◌, ◌<◌, ◌^◌, ◌≤◌, ℕ, Some, false, map, IfOk, IfErr, IfSome, option_copied, slice_get, vec_len};
+ghost use Rattle.std.specs.Prelude.{◌≡◌, ◌⊎◌, ◌+◌, ◌<◌, ◌^◌, ◌≤◌, ℕ, Some, false, IfOk, IfErr, IfSome, option_copied, slice_get, vec_len};
 ghost use Rattle.edge_disk.specs.Calls.{Calls};
 ghost use Rattle.spool_log.specs.State.{view};
 ghost use Rattle.edge_io.specs.declared.monitor.SpoolNumbers.{SpoolNumbers};
@@ -9,11 +9,12 @@ ghost use Rattle.spool_turns.specs.Replays.{desk_at, IsReal};
 ghost use Rattle.serve_workers.specs.Answering.{MayAnswer};
 ghost use Rattle.desk_access.specs.Division.{callers_of, each_of};
 ghost use Rattle.serve_forwarder.specs.Released.{MayRelease};
-ghost use Rattle.serve_run.specs.Running.{HasServed, HasNotServed};
+ghost use Rattle.serve_run.specs.Running.{HasNotServed, given_by, seating_as};
+ghost use Rattle.serve_run.specs.Served.{IsServed};
 ghost use Rattle.bridge_serve.specs.Answered.{WorkerMayAnswer, first_link};
 ghost use Rattle.bridge_serve.specs.Opened.{IsOpenedFrom, IsOpenedOnly};
 ghost use Rattle.bridge_serve.specs.Released.{ForwarderMayRelease};
-ghost use Rattle.bridge_serve.specs.Served.{RunsOver};
+ghost use Rattle.bridge_serve.specs.Served.{RanOver, setup_as};
 
 use desk_access::Division;
 use edge_disk::Disk;
@@ -73,11 +74,10 @@ where
     requires tells { (numbers : SpoolNumbers) → N.M.may_tell numbers }
 
     ensures many { IfOk result (λ served. (vec_len served.doors ≡ vec_len posts) × (vec_len served.reports ≡ vec_len posts)) }
-    ensures served { IfOk result (λ served. HasServed D.tells J.start J.run J.seats J.began talks (map (λ (post : _). post.rules) posts.items)
-        (map (λ (post : _). N.P.told post.door) posts.items) (map (λ (door : _). N.P.told door) served.doors.items) served.reports.items
-        (option_copied destination.entry) (N.told net.old) (N.told net.new) served.last (desk_at served.desk)) }
-    ensures err { IfErr result (λ none. (none.posts ≡ posts) × (net.new ≡ net.old)
-        × ((none.desk ≡ unnamed.alone.desk) ⊎ HasNotServed D.tells J.start J.run J.seats J.began (desk_at none.desk))) }
+    ensures served { IfOk result (IsServed N.P.told J.start (seating_as J.run J.seats J.began)
+        (given_by N.P.told talks posts.items (option_copied destination.entry) (N.told net.old)) (N.told net.new)) }
+    ensures err { IfErr result (λ none. (none.posts ≡ posts) × (net.new ≡ net.old) × ((none.desk ≡ unnamed.alone.desk)
+        ⊎ HasNotServed D.tells J.start (seating_as J.run J.seats J.began) (desk_at none.desk))) }
 {
     let seats = posts.len() as u32 + 1;
     let opened = match unnamed.named::<J>(alloc, seats, group, division) {
@@ -124,13 +124,10 @@ where
     requires tells { (numbers : SpoolNumbers) → N.M.may_tell numbers }
 
     ensures many { IfOk result (λ served. (vec_len served.doors ≡ vec_len posts) × (vec_len served.reports ≡ vec_len posts)) }
-    ensures over { IfOk result (λ served. RunsOver D.tells (D.moment before.value) (D.moment served.desk.spool.disk) group division talks
-        (map (λ (post : _). post.rules) posts.items) (map (λ (post : _). N.P.told post.door) posts.items)
-        (map (λ (door : _). N.P.told door) served.doors.items) served.reports.items (option_copied destination.entry)
-        (N.told net.old) (N.told net.new) served.last served.desk.spool.memory served.desk.spool.doubt) }
-    ensures err { IfErr result (λ none. (none.posts ≡ posts) × (net.new ≡ net.old)
-        × Calls ⊥ (D.moment before.value) (D.moment none.desk.spool.disk)
-        × (D.tells → IsOpenedOnly (D.moment before.value) (D.moment none.desk.spool.disk))) }
+    ensures over { IfOk result (RanOver N.P.told before.value (setup_as group division)
+        (given_by N.P.told talks posts.items (option_copied destination.entry) (N.told net.old)) (N.told net.new)) }
+    ensures err { let old = D.moment before.value in IfErr result (λ none. let new = D.moment none.desk.spool.disk in
+        (none.posts ≡ posts) × (net.new ≡ net.old) × Calls ⊥ old new × (D.tells → IsOpenedOnly old new)) }
 {
     let ids = Ids::new(alloc, spool.run(), 0);
     match Unnamed::new(alloc, Desk { spool, ids }) {

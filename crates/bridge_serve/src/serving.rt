@@ -1,24 +1,21 @@
 //! The command `serve`.
-ghost use Rattle.std.specs.Prelude.{◌≡◌, ◌≢◌, ◌⊎◌, ℕ, ◌+◌, ◌-◌, ◌^◌, ◌<◌, ◌≤◌, List, Some, false, map, slice_get, IfSome, vec_len};
+ghost use Rattle.std.specs.Prelude.{◌≡◌, ◌≢◌, ◌⊎◌, ℕ, ◌^◌, ◌<◌, ◌≤◌, List, Some, false, map, slice_get, IfSome, vec_len};
 ghost use Rattle.desk_access.specs.Division.{callers_of, each_of};
 ghost use Rattle.edge_io.specs.declared.monitor.SpoolNumbers.{SpoolNumbers};
 ghost use Rattle.forward_core.specs.Exchanged.{HasExchangedAt};
 ghost use Rattle.spool_answers.specs.Leave.{LetsKeep};
-ghost use Rattle.spool_log.specs.Memory.{end_of};
 ghost use Rattle.spool_log.specs.State.{view};
 ghost use Rattle.notes.specs.declared.note.Note.TheVariants.{Usage, WrongLength, WriteFault};
-ghost use Rattle.bridge_words.specs.Lines.{serve_line};
 ghost use Rattle.bridge_words.specs.Words.{HasRelayPolls, most_workers};
 ghost use Rattle.bridge_parts.specs.Counted.{RoseBy, DiskRoseBy, WroteAfter, WritesOfBoth};
-ghost use Rattle.bridge_parts.specs.Pending.{pending_in};
 ghost use Rattle.bridge_parts.specs.Run.{disk_run, net_run, output_run};
 ghost use Rattle.serve_workers.specs.Crews.{IsRoom};
 ghost use Rattle.bridge_serve.specs.Answered.{WorkerMayAnswer, first_link, MayAnswer, MayBind, MayDial};
 ghost use Rattle.bridge_serve.specs.Doors.{destination_of};
-ghost use Rattle.bridge_serve.specs.Noted.{note_of_run, talks_of, PrintsLast};
+ghost use Rattle.bridge_serve.specs.Noted.{note_of_run, PrintsLast};
 ghost use Rattle.bridge_serve.specs.Opened.{IsOpenedFrom};
 ghost use Rattle.bridge_serve.specs.Released.{ForwarderMayRelease, MayRelease};
-ghost use Rattle.bridge_serve.specs.Served.{IsUnserved, IsRunAt, IsServed};
+ghost use Rattle.bridge_serve.specs.Served.{EndsAt, IsServed, line_after, setup_as};
 
 use crate::binding::{Posts, bind_places};
 use crate::counting::Numbers;
@@ -67,10 +64,8 @@ fn finish<D: Disk, P: Door + Drop, K: Sink>(
     ensures doors { result.doors ≡ served.doors }
     ensures writes { WroteAfter (note_of_run served.reports.items served.last) result.note (K.write_faults output.old) (K.write_faults output.new) }
     ensures note { (result.note ≡ note_of_run served.reports.items served.last) ⊎ ((result.note ≡ WriteFault) ⊎ (result.note ≡ Note.NoMemory)) }
-    ensures printed { let taken = end_of served.desk.spool.memory - opening.end in
-        PrintsLast (note_of_run served.reports.items served.last)
-        (serve_line (talks_of served.reports.items) taken (opening.left + taken - pending_in served.desk.spool.memory) (pending_in served.desk.spool.memory))
-        result.note (K.write_faults output.old) (K.write_faults output.new) (K.taken output.old) (K.taken output.new) }
+    ensures printed { PrintsLast (note_of_run served.reports.items served.last) (line_after opening.end opening.left served) result.note
+        (output_run K.taken K.write_faults output.old output.new) }
 {
     let Served {
         desk,
@@ -134,13 +129,8 @@ where
     ensures writes { WritesOfBoth result.note (K.write_faults output.old) (K.write_faults output.new) (N.told net.old).write_faults
         (N.told net.new).write_faults }
     ensures dials { (N.told net.old).net_faults ≤ (N.told net.new).net_faults }
-    ensures ran { (IsUnserved D.tells (D.moment before.value) (D.moment result.disk) (N.told net.old) (N.told net.new)
-        (K.taken output.old) (K.taken output.new) result.note × (net.new ≡ net.old)
-        × (result.doors.items ≡ map (λ (post : _). post.door) posts.posts.items))
-        ⊎ IsRunAt group division talks destination D.tells (D.moment before.value) (D.moment result.disk) (N.told net.old) (N.told net.new)
-        (map (λ (post : _). post.rules) posts.posts.items) (map (λ (post : _). N.P.told post.door) posts.posts.items)
-        (map (λ (door : _). N.P.told door) result.doors.items)
-        (K.write_faults output.old) (K.write_faults output.new) (K.taken output.old) (K.taken output.new) result.note }
+    ensures ran { EndsAt (D.Disk, K.Sink.own, N.told, N.P.told) (setup_as group division) (talks, destination, posts.posts.items)
+        (before.value, output.old, net.old) (output.new, net.new) result }
 {
     let opening = Numbers::of(&spool);
     let Posts { posts, room } = posts;
@@ -222,7 +212,7 @@ where
         (N.told net.new).write_faults }
     ensures dials { (N.told net.old).net_faults ≤ (N.told net.new).net_faults }
     ensures served { IsServed server (disk_run D.tells D.moment disk result.disk) (output_run K.taken K.write_faults output.old output.new)
-        (net_run N.told net.old net.new) (map (λ (door : _). N.P.told door) result.doors.items) result.note }
+        (net_run N.told net.old net.new) (map N.P.told result.doors.items) result.note }
 {
     let before = Snapshot::of(&disk);
     let spool = match Spool::recover(alloc, disk, Opening::Raise) {

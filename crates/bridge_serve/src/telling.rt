@@ -4,6 +4,7 @@ ghost use Rattle.conn_serve.specs.Endings.{CountsFaults};
 ghost use Rattle.notes.specs.declared.note.Note.TheVariants.{WriteFault};
 ghost use Rattle.bridge_words.specs.Lines.{serve_line};
 ghost use Rattle.bridge_parts.specs.Counted.{WroteAfter};
+ghost use Rattle.bridge_parts.specs.Run.{output_run};
 ghost use Rattle.bridge_parts.specs.Written.{IsPrinted};
 ghost use Rattle.bridge_serve.specs.Noted.{talks_of, PrintsLast};
 
@@ -75,7 +76,7 @@ pub(crate) fn print_after<K: Sink>(
     ensures writes { WroteAfter ended result (K.write_faults output.old) (K.write_faults output.new) }
     ensures note { (result ≡ ended) ⊎ ((result ≡ WriteFault) ⊎ (result ≡ Note.NoMemory)) }
     ensures printed { PrintsLast ended (serve_line summary.talks summary.taken summary.confirmed summary.left) result
-        (K.write_faults output.old) (K.write_faults output.new) (K.taken output.old) (K.taken output.new) }
+        (output_run K.taken K.write_faults output.old output.new) }
 {
     match ended {
         Note::NoMemory => Note::NoMemory,

@@ -1,5 +1,5 @@
 use Rattle.edge_memory.specs.contracts.memory.MemDiskDisk.TheImpl.{ghosts}
-use Rattle.bridge_core.specs.Leave.{MayTake, WasRead, WereStreamed, HasExchangedAt}
+use Rattle.bridge_core.specs.Leave.{MayTake, WasRead, WasWritten, HasExchangedAt, exchanges_as}
 use Rattle.bridge_core.proofs.Alone.{no_command_is_told, usage_is_of_words}
 use Rattle.bridge_core.proofs.Leave.{all_released, all_torn, nobody_answers, nothing_replayed}
 use Rattle.bridge_cli.proofs.device.run_bare.Goals as goal
@@ -17,9 +17,10 @@ bridge-requires-clause-replays g c κs within =
 -- a disk in memory lets any number become known
 pub bridge-requires-clause-releases : goal.bridge-requires-clause-releases
 bridge-requires-clause-releases g c κs within =
-    let streamed = WereStreamed g.S.Object.same g.S.Source.given c.args.input.now g.K.Object.same g.K.Sink.taken c.args.output.now in
+    let read = WasRead g.S.Object.same g.S.Source.given c.args.input.now in
+    let written = WasWritten g.K.Object.same g.K.Sink.taken c.args.output.now in
     let at = HasExchangedAt g.N.L.Object.same g.N.L.Link.dialed g.N.L.Source.given g.N.L.Sink.taken in
-    λ command asks. all_released ghosts.tells ghosts.moment c.in-Ok.disk streamed at ghosts.may_release (λ n. tt) command
+    λ command asks. all_released ghosts.tells ghosts.moment c.in-Ok.disk (exchanges_as read written at) ghosts.may_release (λ n. tt) command
 
 -- and anything be written to it
 pub bridge-requires-clause-tears : goal.bridge-requires-clause-tears

@@ -1,5 +1,5 @@
 use Rattle.std.proofs.Common.{◌∙◌, sym, subst}
-use Rattle.bridge_core.specs.Leave.{MayAnswer, MayReplay, MayTake, WasRead, MayRelease, WereStreamed, HasExchangedAt}
+use Rattle.bridge_core.specs.Leave.{MayAnswer, MayReplay, MayTake, WasRead, MayRelease, WasWritten, HasExchangedAt, exchanges_as}
 use Rattle.bridge_core.proofs.Leave.{answers_within, replays_within, releases_within, tears_within}
 use Rattle.bridge_cli.proofs.device.run_over.Goals as goal
 
@@ -26,11 +26,13 @@ pub bridge-status-requires-clause-releases : goal.bridge-status-requires-clause-
 bridge-status-requires-clause-releases g c κs within =
     let tells = g.D.Disk.tells in
     let moment = g.D.Disk.moment in
-    let streamed = WereStreamed g.S.Object.same g.S.Source.given c.args.input.now g.K.Object.same g.K.Sink.taken c.args.output.now in
+    let read = WasRead g.S.Object.same g.S.Source.given c.args.input.now in
+    let written = WasWritten g.K.Object.same g.K.Sink.taken c.args.output.now in
     let at = HasExchangedAt g.N.L.Object.same g.N.L.Link.dialed g.N.L.Source.given g.N.L.Sink.taken in
+    let exchanges = exchanges_as read written at in
     let release = g.D.Disk.may_release in
-    λ command asks. releases_within tells moment (λ w. w.disk) c.noting-disk.result streamed at release command
-    (subst (λ d. MayRelease tells moment d streamed at release command) (sym (c.noting-disk.ensures ∙ c.new.ensures)) (c.requires.releases command asks))
+    λ command asks. releases_within tells moment (λ w. w.disk) c.noting-disk.result exchanges release command
+    (subst (λ d. MayRelease tells moment d exchanges release command) (sym (c.noting-disk.ensures ∙ c.new.ensures)) (c.requires.releases command asks))
 
 -- what may be written to the disk may be so to the one that is watched
 pub bridge-status-requires-clause-tears : goal.bridge-status-requires-clause-tears

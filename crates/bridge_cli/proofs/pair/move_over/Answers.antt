@@ -9,5 +9,5 @@ pub returns : goal.returns
 returns g c =
     let done = c.bridge_move-status in
     record {
-      run = (c.new-source.result, done.result.source, c.new-target.result, done.result.target, c.new-source.ensures, sym c.into_disk.ensures, c.new-target.ensures, sym c.into_disk-2.ensures, done.ensures.run);
+      run = ((c.new-source.result, c.new-target.result), (done.result.source, done.result.target), c.new-source.ensures, sym c.into_disk.ensures, c.new-target.ensures, sym c.into_disk-2.ensures, done.ensures.run);
     }

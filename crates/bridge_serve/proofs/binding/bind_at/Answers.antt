@@ -3,7 +3,7 @@ use Rattle.std.specs.Prelude.{All, Ok}
 use Rattle.edge_io.specs.Door.{IsNewDoor}
 use Rattle.edge_io.specs.Net.{AddsBound}
 use Rattle.bridge_serve.specs.Answered.{StandsAt}
-use Rattle.bridge_serve.specs.Doors.{rules_of}
+use Rattle.bridge_serve.specs.Doors.{rules_of, ruled_by}
 use Rattle.bridge_serve.proofs.Doors.{adds_bound, adds_default, map_more, more_stand, at_less, tells_at, tells_default}
 use Rattle.bridge_serve.proofs.binding.bind_at.Goals as goal
 
@@ -12,20 +12,20 @@ bind-requires g c = record { named = subst g.N.Net.may_bind (sym c.as_str.ensure
 
 -- there is no place
 pub returns-in_default-clause-bound : goal.returns-in_default-clause-bound
-returns-in_default-clause-bound g c = adds_default _ _ _ _ _ c.in_default.not-Some
+returns-in_default-clause-bound g c = adds_default _ _ _ _ c.in_default.not-Some
 
 pub returns-in_default-clause-told : goal.returns-in_default-clause-told
 returns-in_default-clause-told g c = tells_default _ _ _ c.in_default.not-Some
 
 pub returns-clause-bound : goal.returns-clause-bound
 returns-clause-bound g c =
-    let told = λ (door : _). g.N.P.Door.told door in
+    let told = g.N.P.Door.told in
     let made = c.in_ok-doors.doors.items in
     let fresh = subst (λ (at : _). All (λ door. IsNewDoor at (told door)) made) c.as_str.ensures c.in_ok-doors.ensures.fresh in
     let rules = subst (λ (r : _). map (λ (post : _). post.rules) c.add_doors.new.posts.items
     ≡ map (λ (post : _). post.rules) c.args.posts.now.items ++ map (λ (door : _). r) made)
     c.rules_of.ensures c.add_doors.ensures.rules in
-    adds_bound told c.args.server.now c.args.proto _ _ made _ _ _ _ c.in-Some.is c.in_ok-doors.ensures.count fresh
+    adds_bound told c.args.server.now c.args.proto _ _ made (ruled_by told c.args.posts.now.items) (ruled_by told c.add_doors.new.posts.items) c.in-Some.is c.in_ok-doors.ensures.count fresh
     (map_more (λ (post : _). post.door) told c.args.posts.now.items c.add_doors.new.posts.items made c.add_doors.ensures.doors) rules
 
 pub returns-clause-told : goal.returns-clause-told

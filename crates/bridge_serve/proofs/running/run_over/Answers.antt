@@ -11,7 +11,7 @@ use Rattle.bridge_serve.specs.Opened.{IsOpenedOnly}
 use Rattle.bridge_parts.proofs.Desks.{desk_at}
 use Rattle.bridge_serve.proofs.Answering.{worker_may}
 use Rattle.bridge_serve.proofs.Releasing.{forwarder_may, if_some}
-use Rattle.bridge_serve.proofs.Opening.{desk_is, began_at, opened_only, given_back, given_calls, runs_over, if_ok, if_err}
+use Rattle.bridge_serve.proofs.Opening.{desk_is, began_at, opened_only, given_back, given_calls, ran_over, if_err}
 use Rattle.bridge_serve.proofs.running.run_over.Goals as goal
 
 pub run_named-requires-clause-name : goal.run_named-requires-clause-name
@@ -58,8 +58,8 @@ returns-in-Ok-clause-over g c =
     let old = g.D.Disk.moment c.args.before.value in
     let later = λ (told : g.D.Disk.tells). subst (λ (d : _). old.clock ≤ (g.D.Disk.moment d.spool.disk).clock) (sym c.in-Ok.ensures.desk)
     (c.requires.opened.any_moment told).later in
-    if_ok _ _ c.run_named.result (λ served is. runs_over g.D.Disk.tells old _ _ _ _ _ _ _ _ _ _ _ _ _ _ _ _ _ _ c.requires.opened later
-    (omega (arith, c.args.posts.ok.0, length-map c.args.posts.items (λ (post : _). g.N.P.Door.told post.door))) is) c.run_named.ensures.served
+    ran_over g.N.P.Door.told c.args.before.value _ _ _ _ _ _ _ c.run_named.result c.requires.opened later
+    (omega (arith, c.args.posts.ok.0, length-map c.args.posts.items (λ (post : _). g.N.P.Door.told post.door))) c.run_named.ensures.served
 
 pub returns-in-Ok-clause-err : goal.returns-in-Ok-clause-err
 returns-in-Ok-clause-err g c =

@@ -8,7 +8,7 @@ use Rattle.bridge_serve.specs.Answered.{WorkerMayAnswer, first_link}
 use Rattle.bridge_serve.proofs.Answering.{stands_may}
 use Rattle.bridge_serve.proofs.Causes.{net_bound, net_refused}
 use Rattle.bridge_serve.proofs.Doors.{few_each, few_all, all_unused, none_unused, unused_doors, tells_same, may_dial}
-use Rattle.bridge_serve.proofs.Ran.{run_binds_none, unserved_with}
+use Rattle.bridge_serve.proofs.Ran.{run_binds_none, run_with, unserved_with}
 use Rattle.bridge_serve.proofs.Releasing.{may_release}
 use Rattle.bridge_serve.proofs.serving.serve.Goals as goal
 
@@ -70,14 +70,14 @@ returns-in-Ok-bind_places-clause-served g c =
           let net = ap (λ (n : _). g.N.Net.told n) none.1 in
           let same = net_bound _ _ _ cause rest (ap (λ (n : _). n.bound) net) in
           inl (
-            unserved_with _ _ _ _ _ _ _ _ _ (rw same at none.0),
+            unserved_with _ _ _ _ _ _ _ _ _ same none.0,
             rw net (unused_doors c.args.server _ _ (λ (post : _). post.door) (λ (door : _). g.N.P.Door.told door) c.bind_places.new.posts.items _ none.2
                 (all_unused c.args.server _ _ _ _ bound told)),
           )
       | inr run ↦
-          let binds = run_binds_none _ _ _ _ _ _ _ _ _ _ _ _ _ _ _ _ _ run in
+          let binds = run_binds_none _ _ _ _ _ _ run in
           let same = net_bound _ _ _ cause rest binds in
-          inr (record { doors = _; rules = _; bound = bound; told = tells_same _ _ _ _ told binds; ran = rw same at run })
+          inr (record { doors = _; rules = _; bound = bound; told = tells_same _ _ _ _ told binds; ran = run_with _ _ _ _ _ _ _ _ _ _ _ same run })
     ])
 
 pub returns-in-Err-bind_places-clause-served : goal.returns-in-Err-bind_places-clause-served
