@@ -4,7 +4,7 @@ ghost use Rattle.edge_io.specs.Door.{IsNewDoor};
 
 use crate::held::{Held, Movable, Plan};
 use crate::held_monitor::{Ask, HeldMonitor};
-use edge_io::{AcceptFault, Door, Net, NetFault, Object, Pause, Proto};
+use edge_io::{AcceptFault, Door, HeldUp, Net, NetFault, Object, Pause, Proto};
 use std::alloc::{AllocError, Global};
 use std::sync::atomic::AtomicBool;
 
@@ -238,6 +238,8 @@ impl<'a> Net for HeldNet<'a> {
     }
 
     fn wait_briefly(&mut self) {}
+
+    fn report_held_up(&mut self, _: &str, _: &HeldUp) {}
 
     ghost dialed_is_free = { λ _ _. tt };
 

@@ -117,6 +117,10 @@ const THREE: &[Plan] = &[
 const SENT: &[u8] =
     b"1 open 59 relp_version=0\nrelp_software=bridge,1,local\ncommands=syslog\n2 syslog 5 hello\n";
 
+/// What it sends in all: that, and its close.
+const ALL_SENT: &[u8] =
+    b"1 open 59 relp_version=0\nrelp_software=bridge,1,local\ncommands=syslog\n2 syslog 5 hello\n3 close 0\n";
+
 /// A link that ends only once its event was sent on, and what is dialed.
 const ONWARD: &[Plan] = &[
     Plan {
@@ -176,8 +180,8 @@ fn are_served(doors: &[HeldDoor<'_>], answers: &[(&[u8], &[u8])]) -> bool {
     true
 }
 
-// Serves links by these plans, with these words, over an empty spool: so it prints, and each link ends well, with a first and a last
-// answer.
+// Serves links by these plans, with these words, over an empty spool: so it prints, each link ends well, with a first and a last
+// answer, and just that is sent on.
 fn check<R: Abort + Threads + Wait + Sync>(
     rt: &R,
     alloc: Global,
@@ -185,6 +189,7 @@ fn check<R: Abort + Threads + Wait + Sync>(
     words: &str,
     line: &str,
     answers: &[(&[u8], &[u8])],
+    sent: &[u8],
 ) {
     let marks = [
         AtomicBool::new(false),
@@ -205,6 +210,7 @@ fn check<R: Abort + Threads + Wait + Sync>(
     assert!(rt; output.taken() == line.as_bytes());
     assert!(rt; note == Note::Fine);
     assert!(rt; are_served(&doors, answers));
+    assert!(rt; net.sent.as_slice() == sent);
 }
 
 /// Two talks meet, three do, and one meets what forwards its event; where events are stored one by one, and together.
@@ -215,7 +221,7 @@ pub(crate) fn talks_meet<R: Abort + Threads + Wait + Sync>(rt: &R, alloc: Global
     ] {
         let line = "2 talks, 2 taken, 0 confirmed, 2 left\n";
         let answers: &[(&[u8], &[u8])] = &[(OPENED, STORED), (OPENED, STORED)];
-        check(rt, alloc, PAIR, words, line, answers);
+        check(rt, alloc, PAIR, words, line, answers, b"");
     }
     for words in [
         "serve --relp r --lumberjack l --hec h --workers 1 --talks 1 --token 11111111-2222-3333-4444-555555555555",
@@ -223,13 +229,14 @@ pub(crate) fn talks_meet<R: Abort + Threads + Wait + Sync>(rt: &R, alloc: Global
     ] {
         let line = "3 talks, 5 taken, 0 confirmed, 5 left\n";
         let answers: &[(&[u8], &[u8])] = &[(OPENED, STORED), (ACK, ACK), (SUCCESS, SUCCESS)];
-        check(rt, alloc, THREE, words, line, answers);
+        check(rt, alloc, THREE, words, line, answers, b"");
     }
     for words in [
         "serve --relp r --workers 1 --talks 1 --forward relp --to d",
         "serve --relp r --workers 1 --talks 1 --forward relp --to d --group",
     ] {
         let line = "1 talks, 1 taken, 1 confirmed, 0 left\n";
-        check(rt, alloc, ONWARD, words, line, &[(OPENED, STORED)]);
+        let answers: &[(&[u8], &[u8])] = &[(OPENED, STORED)];
+        check(rt, alloc, ONWARD, words, line, answers, ALL_SENT);
     }
 }

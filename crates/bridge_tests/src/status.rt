@@ -7,7 +7,7 @@ use crate::held_net::HeldNet;
 use crate::play::{formatted, plain, words_of};
 use crate::script::OPEN;
 use bridge_core::{Ended, bridge};
-use edge_io::{MemSink, MemSource, SpoolNumbers};
+use edge_io::{EventCounts, MemSink, MemSource, SpoolNumbers};
 use edge_memory::MemDisk;
 use notes::Note;
 use std::alloc::Global;
@@ -27,6 +27,11 @@ const EMPTY: SpoolNumbers = SpoolNumbers {
     slots: 2,
     free_slots: 1,
     most: 4078,
+    stored: EventCounts {
+        relp: 0,
+        lumberjack: 0,
+        hec: 0,
+    },
 };
 
 /// Those once an event of five bytes is stored, for which its group needs 38 bytes more.
@@ -39,6 +44,11 @@ const STORED: SpoolNumbers = SpoolNumbers {
     slots: 2,
     free_slots: 1,
     most: 4078,
+    stored: EventCounts {
+        relp: 1,
+        lumberjack: 0,
+        hec: 0,
+    },
 };
 
 // The marks: the event is answered; the first one who asks is told; a sync is held; the second one is told, and no sync is held any
@@ -203,6 +213,7 @@ fn nobody_is_told<R: Abort + Threads + Wait + Sync>(rt: &R, alloc: Global) {
     assert!(rt; left.note == Note::Fine);
     assert!(rt; left.output.taken() == ONE_TALK);
     assert!(rt; left.monitors == 0);
+    assert!(rt; marks[ANSWERED].load(Ordering::SeqCst));
 }
 
 // Where no monitor is to be had at the place no door is bound, and nothing is stored.

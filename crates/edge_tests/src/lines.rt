@@ -1,5 +1,5 @@
 //! Which lines are due, by times that are given.
-use edge_net::{Answer, Illness, Line, Matter, Pace, Receiver, Recent, Topic};
+use edge_net::{Answer, Illness, Line, Matter, Pace, Receiver, Recent, Standstill, Topic};
 use std::net::{IpAddr, Ipv4Addr};
 use std::process::Abort;
 
@@ -108,6 +108,34 @@ fn a_receiver_is_said_at_each_change(rt: &impl Abort) {
     assert!(rt; receiver.fails(Illness::Closed, 460_000) == Some(2));
 }
 
+fn an_entry_has_one_line_a_minute(rt: &impl Abort) {
+    let mut standstill = Standstill::new();
+    for (number, is_refused, now, due) in [
+        // a session that was lost, and the next one at the same entry
+        (7, false, 1_000, false),
+        (7, false, 2_000, true),
+        (7, true, 61_999, false),
+        (7, true, 62_000, true),
+        // another entry, ten seconds after that line
+        (8, true, 71_999, false),
+        (8, true, 72_000, true),
+        (9, false, 90_000, false),
+        (9, false, 90_001, true),
+        // the one before comes back
+        (8, false, 95_000, false),
+        (8, false, 100_001, true),
+        (9, true, 100_002, false),
+        // lost each time at another one
+        (10, false, 300_000, false),
+        (11, false, 400_000, false),
+        (12, true, u64::MAX, true),
+        (12, true, u64::MAX, true),
+    ] {
+        let given = standstill.fails(number, is_refused, now);
+        assert!(rt; given == due, "{number} at {now}: {given}");
+    }
+}
+
 fn answers_are_told_by_their_first_bytes(rt: &impl Abort) {
     let reply = |code| Some(Answer::Reply { code });
     let frame = |code| Some(Answer::Frame { code });
@@ -145,6 +173,7 @@ pub(crate) fn lines_are_few_and_count_the_rest(rt: &impl Abort) {
     ten_lines_a_second_are_printed(rt);
     a_flood_is_counted(rt);
     a_receiver_is_said_at_each_change(rt);
+    an_entry_has_one_line_a_minute(rt);
     answers_are_told_by_their_first_bytes(rt);
     codes_from_400_on_refuse(rt);
 }

@@ -1,6 +1,6 @@
 //! Those who ask for numbers over the loopback's sockets.
 use crate::sockets::{bound, free_place, pair};
-use edge_io::{Door, Monitor, Net, NetFault, Proto, Sink, SpoolNumbers};
+use edge_io::{Door, EventCounts, Monitor, Net, NetFault, Proto, Sink, SpoolNumbers};
 use edge_net::{Reports, TcpMonitor, TcpNet, Waits};
 use std::io::{self, Write};
 use std::net::{Shutdown, TcpStream};
@@ -18,6 +18,11 @@ const NUMBERS: SpoolNumbers = SpoolNumbers {
     slots: 8,
     free_slots: 2,
     most: 10_000,
+    stored: EventCounts {
+        relp: 40,
+        lumberjack: 500,
+        hec: 6,
+    },
 };
 
 // The same of a spool in which no slot is free.
@@ -30,7 +35,7 @@ const FULL: SpoolNumbers = SpoolNumbers {
 const STORED: SpoolNumbers = SpoolNumbers { end: 1_003, ..FULL };
 
 // What is told of these numbers.
-const TOLD: [&str; 11] = [
+const TOLD: [&str; 16] = [
     "bridge_spool_end 1002",
     "bridge_spool_cursor 990",
     "bridge_spool_known_beyond_cursor 3",
@@ -42,6 +47,11 @@ const TOLD: [&str; 11] = [
     "bridge_spool_full 0",
     "bridge_spool_run 7",
     "bridge_spool_runs_left 2097144",
+    "# HELP bridge_events_stored_total Events that this run has stored, by the protocol by which they came.",
+    "# TYPE bridge_events_stored_total counter",
+    "bridge_events_stored_total{protocol=\"relp\"} 40",
+    "bridge_events_stored_total{protocol=\"lumberjack\"} 500",
+    "bridge_events_stored_total{protocol=\"hec\"} 6",
 ];
 
 const METRICS: &str = "GET /metrics HTTP/1.1\r\nHost: bridge\r\n\r\n";

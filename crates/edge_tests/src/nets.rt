@@ -3,8 +3,8 @@ ghost use Rattle.edge_io.specs.MemLink.{IsUnused};
 ghost use Rattle.edge_io.specs.MemDoor.{IsUntouched};
 
 use edge_io::{
-    Door, Finished, Hung, MemDoor, MemLink, MemNet, MemPlace, MemScript, MemSink, MemSource,
-    Monitor, Net, NetFault, Pause, Proto, Sink, Source,
+    Door, Finished, HeldUp, Hung, MemDoor, MemLink, MemNet, MemPlace, MemScript, MemSink,
+    MemSource, Monitor, Net, NetFault, Pause, Proto, Sink, Source,
 };
 use std::alloc::Global;
 use std::process::Abort;
@@ -183,6 +183,13 @@ fn dial_twice(rt: &impl Abort, net: &mut MemNet) {
     assert!(rt; counts == [Some(9), None, Some(2)]);
     net.pause();
     net.wait_briefly();
+    let held_up = HeldUp {
+        number: 0,
+        proto: Proto::Relp,
+        len: None,
+        code: None,
+    };
+    net.report_held_up("d", &held_up);
     net.hang_up(link);
     net.hang_up(again);
 }

@@ -1,7 +1,7 @@
 //! What a net says of what befalls its doors and links, by a clock and a standard error in memory.
 use crate::sockets::free_place;
 use crate::staged::Staged;
-use edge_io::{Door, Net, Pause, Proto, Sink, Source};
+use edge_io::{Door, HeldUp, Net, Pause, Proto, Sink, Source};
 use edge_net::{Reports, TcpDoor, TcpLink, TcpNet, Waits};
 use std::alloc::Global;
 use std::process::Abort;
@@ -15,6 +15,65 @@ type StagedLink<'a, 'h> = TcpLink<'a, Staged<'h>>;
 
 // A minute, in milliseconds.
 const MINUTE: u64 = 60_000;
+
+// An entry that a receiver refuses.
+const REFUSED: HeldUp = HeldUp {
+    number: 17,
+    proto: Proto::Relp,
+    len: Some(131_072),
+    code: Some(500),
+};
+
+// One at which the receiver is lost.
+const LOST: HeldUp = HeldUp {
+    code: None,
+    ..REFUSED
+};
+
+// What is said of each of them, by its number; `None`: nothing.
+const HELD_UP: [(HeldUp, Option<&str>); 8] = [
+    (REFUSED, Some("is held up, refused with 500")),
+    (REFUSED, None),
+    (
+        HeldUp {
+            number: 18,
+            len: Some(131_073),
+            ..REFUSED
+        },
+        Some(
+            "is held up, refused with 500; it has 131073 bytes by RELP, and a bridge takes 131072 at most",
+        ),
+    ),
+    (HeldUp { number: 19, ..LOST }, None),
+    (HeldUp { number: 19, ..LOST }, Some("is held up")),
+    (
+        HeldUp {
+            number: 20,
+            proto: Proto::Lumberjack,
+            len: None,
+            code: Some(0),
+        },
+        Some("is held up, refused with 0"),
+    ),
+    (
+        HeldUp {
+            number: 21,
+            proto: Proto::Lumberjack,
+            len: Some(200_000),
+            code: None,
+        },
+        None,
+    ),
+    (
+        HeldUp {
+            number: 21,
+            proto: Proto::Lumberjack,
+            len: Some(200_000),
+            code: None,
+        },
+        Some("is held up; it has 200000 bytes by Lumberjack, and a bridge takes 131072 at most"),
+    ),
+];
 
 // Waits of a second for a peer, and none of doors for each other.
 fn waits() -> Waits {
@@ -231,6 +290,30 @@ fn a_receiver_hangs(
     assert_silence(rt, staged);
 }
 
+fn an_entry_that_is_held_up_is_said(
+    rt: &impl Abort,
+    alloc: Global,
+    staged: &Staged<'_>,
+    net: &mut StagedNet<'_, '_>,
+) {
+    for (held_up, words) in HELD_UP {
+        // (ten seconds after the line before)
+        staged.pass(MINUTE / 6);
+        net.report_held_up("10.0.0.7:514", &held_up);
+        let Some(words) = words else {
+            assert_silence(rt, staged);
+            continue;
+        };
+        let number = held_up.number;
+        let line = format!(in alloc; ": entry {number} {words}").expect(rt, "memory");
+        assert_receiver(rt, staged, "10.0.0.7:514", &line);
+    }
+    staged.pass(MINUTE);
+    net.report_held_up("nowhere", &REFUSED);
+    let line = ": entry 17 is held up, refused with 500";
+    assert_receiver(rt, staged, "nowhere", line);
+}
+
 // A sender's connection is served to its end, which has this status.
 fn serve_to<'a, 'h>(
     rt: &impl Abort,
@@ -365,6 +448,7 @@ fn a_quiet_net_says_nothing(
     assert!(rt; door.give_back(far, Proto::Hec, 0, 66).is_ok());
     for _ in 0..4 {
         net.pause();
+        net.report_held_up(place, &REFUSED);
     }
     assert_silence(rt, staged);
     drop(doors);
@@ -397,6 +481,9 @@ fn receivers_are_said(rt: &impl Abort, alloc: Global, host: &HostRuntime, staged
     let reports = Reports::new();
     let mut net = TcpNet::with_waits(alloc, staged, &reports, waits());
     a_receiver_hangs(rt, staged, &mut net, &free_place(rt, host));
+    let reports = Reports::new();
+    let mut net = TcpNet::with_waits(alloc, staged, &reports, waits());
+    an_entry_that_is_held_up_is_said(rt, alloc, staged, &mut net);
 }
 
 /// Each with what it keeps in mind of its own.

@@ -163,20 +163,44 @@ fn a_write_ends_when_the_peer_that_stopped_reading_goes(
     place: &str,
 ) {
     let mut door = bound(rt, net, place);
-    let (mut near, far) = pair(rt, net, &mut door, place);
+    let (near, mut far) = pair(rt, net, &mut door, place);
     let piece = vec![in rt.alloc(); b'x'; 67_108_864].expect(rt, "memory");
     let (wrote, ()) = thread::join(
         rt,
-        move || write_whole(&mut near, &piece),
+        move || write_whole(&mut far, &piece),
         || {
             thread::sleep(rt, Duration::from_millis(300));
-            drop(far);
+            drop(near);
         },
     );
     assert!(rt;
         matches!(wrote, Err(Stopped { sent }) if 0 < sent && sent < 67_108_864),
         "{wrote:?}"
     );
+}
+
+// Whether an answer goes over the link, which is dropped a while later. Bytes are unread then, so that resets the connection.
+fn answers_and_breaks_off(rt: &impl Clock, mut link: TcpLink<'_, HostRuntime>) -> bool {
+    let answered = write_whole(&mut link, b"answer").is_ok();
+    thread::sleep(rt, Duration::from_millis(300));
+    answered
+}
+
+fn a_receiver_that_breaks_off_is_heard(
+    rt: &(impl Abort + AllocGlobal + Clock + Sync + Threads),
+    net: &mut TcpNet<'_, HostRuntime>,
+    place: &str,
+) {
+    let mut door = bound(rt, net, place);
+    let (near, far) = pair(rt, net, &mut door, place);
+    let piece = vec![in rt.alloc(); b'x'; 67_108_864].expect(rt, "memory");
+    let (heard, answered) = thread::join(
+        rt,
+        move || sends_then_hears(near, &piece),
+        move || answers_and_breaks_off(rt, far),
+    );
+    let is_heard = matches!(heard, (true, true, Ok(0) | Err(ReadFault)));
+    assert!(rt; answered && is_heard, "{heard:?}");
 }
 
 fn a_pause_takes_a_while(rt: &(impl Abort + Clock), net: &mut TcpNet<'_, HostRuntime>) {
@@ -208,5 +232,6 @@ pub(crate) fn sockets_are_links(
     a_peer_that_resets_is_a_fault(rt, &mut net, &free_place(rt, host));
     a_link_given_back_unread_ends_after_its_answer(rt, &mut net, &free_place(rt, host));
     a_write_ends_when_the_peer_that_stopped_reading_goes(rt, &mut net, &free_place(rt, host));
+    a_receiver_that_breaks_off_is_heard(rt, &mut net, &free_place(rt, host));
     a_pause_takes_a_while(rt, &mut net);
 }

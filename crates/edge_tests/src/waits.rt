@@ -2,6 +2,8 @@
 use crate::sockets::{bound, free_place, pair};
 use edge_io::{Door, Proto, ReadFault, Sink, Source, write_whole};
 use edge_net::{LinkSettings, Reports, TcpDoor, TcpLink, TcpNet, Waits};
+use std::io::Write;
+use std::net::TcpStream;
 use std::process::Abort;
 use std::rt::Clock;
 use std::thread::{self, Threads};
@@ -97,9 +99,9 @@ fn a_peer_that_reads_nothing_is_a_fault(
 }
 
 // Sends a byte each 15 milliseconds until a write fails, 2,000 at most: how many were sent.
-fn sends_bytes_slowly(rt: &impl Clock, mut link: TcpLink<'_, HostRuntime>) -> u32 {
+fn sends_bytes_slowly(rt: &impl Clock, mut stream: TcpStream) -> u32 {
     for sent in 0..2_000 {
-        if link.write(b"x").is_err() {
+        if stream.write(b"x").is_err() {
             return sent;
         }
         thread::sleep(rt, Duration::from_millis(15));
@@ -110,11 +112,14 @@ fn sends_bytes_slowly(rt: &impl Clock, mut link: TcpLink<'_, HostRuntime>) -> u3
 // A peer that never falls silent is given up in two seconds, while it could go on for 30.
 fn a_peer_that_sends_on_is_given_up(
     rt: &(impl Abort + Clock + Sync + Threads),
+    host: &HostRuntime,
     net: &mut TcpNet<'_, HostRuntime>,
     place: &str,
 ) {
     let mut door = bound(rt, net, place);
-    let (near, far) = pair(rt, net, &mut door, place);
+    let near = TcpStream::connect(host, place).expect(rt, "it listens");
+    let far = door.accept().expect(rt, "a connection waits");
+    let far = far.expect(rt, "no door is shut");
     let (sent, waited) = thread::join(
         rt,
         move || sends_bytes_slowly(rt, near),
@@ -150,5 +155,5 @@ pub(crate) fn links_wait_for_a_while(
     let mut net = TcpNet::with_waits(rt.alloc(), host, &reports, short_waits());
     a_silent_peer_is_a_fault(rt, &mut net, &free_place(rt, host));
     a_peer_that_reads_nothing_is_a_fault(rt, &mut net, &free_place(rt, host));
-    a_peer_that_sends_on_is_given_up(rt, &mut net, &free_place(rt, host));
+    a_peer_that_sends_on_is_given_up(rt, host, &mut net, &free_place(rt, host));
 }

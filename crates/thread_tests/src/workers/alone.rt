@@ -4,7 +4,7 @@ ghost use Rattle.desk_access.specs.Call.{Record};
 ghost use Rattle.spool_turns.specs.Passes.{Known};
 ghost use Rattle.spool_turns.specs.Replays.{Closes, IsReal, desk_at};
 ghost use Rattle.desk_access.specs.Division.{callers_of, each_of};
-ghost use Rattle.serve_workers.specs.Crews.{AreNew, HaveWorked};
+ghost use Rattle.serve_workers.specs.Crews.{AreNew, HaveWorked, returned_as, roster_as};
 ghost use Rattle.serve_workers.specs.Answering.{MayAnswer};
 
 use edge_disk::Disk;
@@ -46,8 +46,9 @@ where
     requires says { (i : ℕ) (post : _) → slice_get posts.items i ≡ Some post
         → MayAnswer (IsReal D.Disk J.start J.run J.seats J.began) J.start J.run i (P.permits post.door) post.rules }
 
-    ensures each { IfOk result (λ crew. HaveWorked J.start J.run talks (map (λ (post : _). post.rules) posts.items) (map (λ (post : _). P.told post.door) posts.items)
-        passes.items (map (λ (door : _). P.told door) crew.doors.items) crew.passes.items crew.reports.items) }
+    ensures each { IfOk result (λ crew. HaveWorked J.start J.run talks
+        (roster_as (map (λ (post : _). post.rules) posts.items) (map (λ (post : _). P.told post.door) posts.items) passes.items)
+        (returned_as (map (λ (door : _). P.told door) crew.doors.items) crew.passes.items crew.reports.items)) }
 {
     match hire(rt, alloc, shared, posts, passes) {
         Ok(hired) => Ok(hired.work(rt, alloc, talks)),
@@ -79,8 +80,9 @@ where
         → MayAnswer (IsReal D.Disk J.start J.run J.seats J.began) J.start J.run i (P.permits post.door) post.rules }
 
     ensures journal { IfOk result (λ served. (log : List Record) × (passes : List Known) × Closes D.tells J.start J.run J.seats J.began log passes (desk_at served.desk)
-        × HaveWorked J.start J.run talks (map (λ (post : _). post.rules) posts.items) (map (λ (post : _). P.told post.door) posts.items)
-        opened.passes.items (map (λ (door : _). P.told door) served.doors.items) passes served.reports.items) }
+        × HaveWorked J.start J.run talks
+        (roster_as (map (λ (post : _). post.rules) posts.items) (map (λ (post : _). P.told post.door) posts.items) opened.passes.items)
+        (returned_as (map (λ (door : _). P.told door) served.doors.items) passes served.reports.items)) }
 {
     let Opened { shared, passes } = opened;
     match crew_of(rt, alloc, &shared, posts, passes, talks) {

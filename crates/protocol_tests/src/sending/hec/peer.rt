@@ -14,13 +14,17 @@ const ACK_HEAD: &str = "POST /services/collector/ack HTTP/1.1\r\nHost: collector
     X-Splunk-Request-Channel: cccccccc-2222-3333-4444-555555555555\r\n\
     Content-Type: application/json\r\nContent-Length: ";
 
-/// The requests of these lines: a letter, `e` for an event request and `a` for a query, and the body.
+/// The requests of these lines: a letter, `e` for an event request and `a` for a query, and the body. Another letter is refused.
 pub fn requests(rt: &impl Abort, alloc: Global, lines: &str) -> String {
     let mut text = String::new(alloc);
     for line in lines.lines() {
         let head = if line.starts_with('e') {
             EVENT_HEAD
         } else {
+            assert!(rt;
+                line.starts_with('a'),
+                "neither a request nor a query: {line}"
+            );
             ACK_HEAD
         };
         let body = line.get(1..).unwrap_or("");
