@@ -1,6 +1,6 @@
 -- Why a number is known as confirmed.
-use Rattle.std.proofs.Common.{◌≡◌, ◌⊎◌, inl, inr, ℕ, ◌+◌, List, [], ◌∷◌, refl, sym, subst, arith}
-use Rattle.std.specs.Prelude.{None, Option, Some}
+use Rattle.std.proofs.Common.{◌≡◌, ◌⊎◌, inl, inr, ℕ, ◌+◌, List, [], ◌∷◌, subst, arith}
+use Rattle.std.specs.Prelude.{Option}
 use Rattle.known_numbers.specs.Numbers.{IsInSome, IsKnown, Numbers}
 use Rattle.edge_disk.specs.Disk.{Moment, IsLawful, LeavesOnly}
 use Rattle.edge_disk.proofs.Moments.{weaker}
@@ -25,16 +25,16 @@ use Rattle.bridge_parts.proofs.Desks.{desk_rules}
 use Rattle.bridge_skip.specs.Leave.{WasPrinted}
 use Rattle.bridge_skip.specs.Released.{only}
 use Rattle.bridge_skip.specs.Skipped.{Skips}
-use Rattle.bridge_skip.specs.SkipRun.{IsSkipRun, IsUnopened as IsSkipUnopened, SkipsFromDevice}
+use Rattle.bridge_skip.specs.SkipRun.{IsSkipRun}
 use Rattle.commands.specs.Replayed.{ServesInput, replay_rules}
 use Rattle.bridge_core.specs.Done.{Does, IsUndone}
 use Rattle.bridge_core.specs.RunOf.{IsRunOf}
-use Rattle.bridge_laws.specs.Cause.{AsksForward, HasCause, IsCause, KnownHasCause, MakesKnown, SkipsIt}
+use Rattle.bridge_laws.specs.Cause.{AsksForward, IsCause, KnownHasCause, MakesKnown, SkipsIt}
 use Rattle.bridge_laws.specs.InOrder.{HoldsNoOther}
 use Rattle.bridge_laws.specs.KeepsOrder.{AsksFormat}
 use Rattle.bridge_laws.specs.Leave.{IsKnownAt}
-use Rattle.bridge_laws.specs.Lifetime.{AreNext, IsMovedInto, IsNext, IsOneCall, IsSkip, no_format}
-use Rattle.bridge_laws.specs.Told.{DiskKind, Telling, disk_told}
+use Rattle.bridge_laws.specs.Lifetime.{IsMovedInto, IsNext, IsOneCall, IsSkip, no_format}
+use Rattle.bridge_laws.specs.Told.{DiskKind, Telling}
 use Rattle.bridge_laws.proofs.JournalKnown.{KnowsOnly, mark_within, stood_known, unmarked}
 use Rattle.bridge_laws.proofs.KeepsOrder.{opened_sound}
 use Rattle.bridge_laws.proofs.Lifetime.{run_in, untouched}

@@ -1,10 +1,9 @@
 -- What skips leave of a spool: it is the same one, of which at most more numbers are known.
-use Rattle.std.proofs.Common.{◌≡◌, ◌⊎◌, inl, inr, ℕ, List, [], ◌∷◌, Option, refl, sym, subst}
+use Rattle.std.proofs.Common.{◌≡◌, ◌⊎◌, inl, inr, ℕ, List, [], ◌∷◌, refl}
 use Rattle.std.specs.Prelude.{All, Ok, Err, Result, nat_le}
 use Rattle.std.proofs.lemmas.Bool.{cond_both}
 use Rattle.known_numbers.specs.declared.stretch.Stretch.{Stretch}
 use Rattle.known_numbers.specs.Numbers.{marked}
-use Rattle.event_form.specs.declared.event.Entry.{Entry}
 use Rattle.edge_disk.specs.Disk.{Moment, IsLawful, LeavesOnly}
 use Rattle.edge_disk.proofs.Moments.{weaker}
 use Rattle.spool_state.specs.SpoolState.{SpoolState, list, numbers_of, Follows, IsSound}
@@ -19,7 +18,7 @@ use Rattle.desk_access.proofs.Stages.{cons_of, none_of}
 use Rattle.notes.specs.declared.note.Note.{Note}
 use Rattle.bridge_parts.specs.Run.{DiskRun, OutputRun}
 use Rattle.bridge_skip.specs.Released.{only}
-use Rattle.bridge_skip.specs.Skipped.{Skips, SkipsEvent}
+use Rattle.bridge_skip.specs.Skipped.{Skips}
 use Rattle.bridge_skip.specs.SkipRun.{IsSkipRun, IsUnopened, SkipsFromDevice}
 use Rattle.bridge_laws.specs.InOrder.{IsInOrder, IsUnmoved}
 use Rattle.bridge_laws.proofs.JournalKnown.{left_is}

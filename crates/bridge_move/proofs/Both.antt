@@ -1,6 +1,6 @@
 -- What a crash leaves of two disks, of which each was opened before a move.
-use Rattle.std.proofs.Common.{◌≡◌, ◌⊎◌, inl, inr, ℕ, List, [], ◌∷◌, refl}
-use Rattle.edge_disk.specs.Disk.{Moment, LeavesOnly, IsLawful}
+use Rattle.std.proofs.Common.{inl, inr, ℕ, List, ◌∷◌}
+use Rattle.edge_disk.specs.Disk.{Moment, LeavesOnly}
 use Rattle.spool_move.specs.Turns.{WasLeft, LeavesBoth}
 use Rattle.spool_move.specs.Turns.Turn.{OfSource, OfTarget}
 

@@ -1,5 +1,5 @@
 -- How a move between two open spools ended, as its note tells.
-use Rattle.std.proofs.Common.{◌≡◌, ◌⊎◌, inl, inr, ℕ, List, [], refl, sym, ap, subst, arith, length}
+use Rattle.std.proofs.Common.{◌≡◌, ◌⊎◌, inl, inr, ℕ, List, [], refl, sym, ap, subst, arith}
 use Rattle.std.specs.Prelude.{Bool, false, Result, Ok, Err, IfErr, IsErrOf}
 use Rattle.edge_disk.specs.declared.disk.Disk.{Ghosts as Disks}
 use Rattle.edge_disk.specs.Calls.{Calls}
@@ -8,7 +8,6 @@ use Rattle.edge_disk.proofs.Calls.{calls_as, calls_on}
 use Rattle.spool_state.specs.SpoolState.{SpoolState}
 use Rattle.spool_log.specs.declared.fault.RecoverFault.{RecoverFault}
 use Rattle.spool_log.specs.declared.fault.RecoverFault.TheVariants as Recover
-use Rattle.spool_log.specs.declared.memory.Memory.{Memory}
 use Rattle.spool_log.specs.declared.spool.Spool.{Spool}
 use Rattle.spool_log.specs.State.{View, IsIn, view}
 use Rattle.spool_move.specs.declared.fault.MoveFault.{MoveFault}

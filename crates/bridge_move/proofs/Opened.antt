@@ -1,11 +1,10 @@
 -- The devices of a move, opened as they are.
-use Rattle.std.proofs.Common.{◌≡◌, ◌⊎◌, inl, inr, ℕ, ◌+◌, ◌-◌, List, [], drop, length, refl, sym, ◌∙◌, ap, subst, arith, length-drop}
-use Rattle.std.specs.Prelude.{Bool, false, Result, Ok, Err, IfErr, IsOk}
+use Rattle.std.proofs.Common.{◌≡◌, inl, inr, ℕ, List, [], length, ap, subst, arith, length-drop}
+use Rattle.std.specs.Prelude.{Bool, false, Result, Ok, Err, IsOk}
 use Rattle.edge_disk.specs.declared.disk.Disk.{Ghosts as Disks}
 use Rattle.edge_disk.specs.Disk.{Moment, LeavesOnly}
 use Rattle.edge_disk.proofs.Moments.{weaker}
 use Rattle.spool_state.specs.SpoolState.{SpoolState}
-use Rattle.spool_state.specs.Image.{StandsFor}
 use Rattle.spool_state.specs.Left.{left}
 use Rattle.spool_log.specs.declared.fault.RecoverFault.{RecoverFault}
 use Rattle.spool_log.specs.declared.fault.RecoverFault.TheVariants as Recover
@@ -21,7 +20,7 @@ use Rattle.bridge_parts.specs.Run.{OutputRun}
 use Rattle.bridge_parts.proofs.Numbers.{pending_seen}
 use Rattle.bridge_move.specs.declared.moved.Moved.{Moved}
 use Rattle.bridge_move.specs.Ended.{EndsOpen, LeavesOpen}
-use Rattle.bridge_move.specs.MoveRun.{MovesFromDevices, MovesOpened, two_disks}
+use Rattle.bridge_move.specs.MoveRun.{MovesOpened, two_disks}
 use Rattle.bridge_move.proofs.Both.{both_weaker, both_opened}
 
 -- refused, it has what it had

@@ -1,5 +1,5 @@
 -- A call with the words of a move, as a run of that move.
-use Rattle.std.proofs.Common.{◌≡◌, ◌⊎◌, inl, inr, ℕ, List, [], ◌∷◌, length, refl, sym, ◌∙◌, subst}
+use Rattle.std.proofs.Common.{◌≡◌, ◌⊎◌, inl, inr, ℕ, List, [], ◌∷◌, refl, sym, ◌∙◌, subst}
 use Rattle.std.specs.Prelude.{Result, Ok, Err, IsOk}
 use Rattle.edge_disk.specs.Disk.{Moment, LeavesOnly}
 use Rattle.spool_state.specs.SpoolState.{SpoolState}
@@ -10,11 +10,10 @@ use Rattle.spool_log.specs.State.{view}
 use Rattle.spool_move.specs.declared.fault.MoveFault.{MoveFault}
 use Rattle.spool_move.specs.declared.fault.MoveFault.TheVariants as Fault
 use Rattle.spool_move.specs.Moves.{Moves, IsAnyMoment}
-use Rattle.spool_move.specs.Runs.{IsRun, IsMoved}
+use Rattle.spool_move.specs.Runs.{IsMoved}
 use Rattle.spool_move.specs.Stands.{IsMoving}
 use Rattle.spool_move.specs.Turns.Turn.{OfSource, OfTarget}
 use Rattle.notes.specs.declared.note.Note.{Note}
-use Rattle.bridge_words.specs.Words.{IsMove}
 use Rattle.bridge_parts.specs.Refused.{note_of_recover}
 use Rattle.bridge_parts.specs.Run.{OutputRun}
 use Rattle.bridge_move.specs.Ended.{note_of_move, IsTold}

@@ -1,5 +1,5 @@
 -- What a call did, by its words.
-use Rattle.std.proofs.Common.{◌≡◌, ◌∙◌, ◌⊎◌, inl, inr, ℕ, List, refl, sym, subst}
+use Rattle.std.proofs.Common.{◌≡◌, ◌∙◌, inl, inr, ℕ, List, sym, subst}
 use Rattle.edge_disk.specs.Calls.{Calls}
 use Rattle.edge_disk.specs.Disk.{Moment}
 use Rattle.edge_disk.proofs.Calls.{calls_as, calls_none}
@@ -14,7 +14,7 @@ use Rattle.bridge_words.proofs.Once.{move_is_no_command, one_tag}
 use Rattle.notes.specs.declared.note.Note.{Note}
 use Rattle.bridge_parts.specs.Run.{OutputRun, IsSilent}
 use Rattle.bridge_move.specs.Ended.{TellsDisks, IsMoveNote}
-use Rattle.bridge_move.specs.MoveRun.{IsMoved, IsLeftAlone, IsMoveRun, two_disks}
+use Rattle.bridge_move.specs.MoveRun.{IsMoved, IsMoveRun, two_disks}
 
 no_pair : (command : Command) (target : List ℕ) (tag : ℕ) → need_for command ≡ Pair target tag → ⊥
 no_pair (Format slots size) target tag is = cc

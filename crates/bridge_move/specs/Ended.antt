@@ -1,5 +1,5 @@
 -- How a move between two spools that are open ended.
-use Rattle.std.specs.Prelude.{◌≡◌, ◌⊎◌, ℕ, Bool, false, [], Result, Ok, Err, IfErr, IsOk}
+use Rattle.std.specs.Prelude.{◌≡◌, ◌⊎◌, ℕ, Bool, false, [], Result, Ok, Err, IfErr}
 use Rattle.edge_disk.specs.Calls.{Calls}
 use Rattle.edge_disk.specs.declared.disk.Disk.{Ghosts as Disks}
 use Rattle.edge_disk.specs.Disk.{Moment}
@@ -13,7 +13,7 @@ use Rattle.spool_move.specs.Moves.{Moves, IsAnyMoment}
 use Rattle.spool_move.specs.Said.{IsSaidBy}
 use Rattle.spool_move.specs.Turns.{LeavesBoth}
 use Rattle.notes.specs.declared.note.Note.{Note}
-use Rattle.notes.specs.declared.note.Note.TheVariants.{Fine, Usage, NotSpool, Full, TooLarge, NoMemory, WriteFault, DiskFault, RunsSpent, Spent, Worn, Strange}
+use Rattle.notes.specs.declared.note.Note.TheVariants.{Fine, NotSpool, Full, TooLarge, NoMemory, WriteFault, DiskFault, RunsSpent, Spent, Worn, Strange}
 use Rattle.bridge_words.specs.Lines.{move_line}
 use Rattle.bridge_parts.specs.Pending.{pending_in}
 use Rattle.bridge_parts.specs.Run.{OutputRun, IsSilent}

@@ -4,7 +4,6 @@ use Rattle.std.specs.Prelude.{All, Option, None, Some, Err, slice_get, if◌then
 use Rattle.std.specs.List.{list_any}
 use Rattle.std.proofs.lemmas.List.Elements.{All-head, All-tail}
 use Rattle.foundation.specs.Faults.{Rose}
-use Rattle.edge_io.specs.Door.{DoorState}
 use Rattle.edge_io.specs.Net.{Bound, NetState, SameHung, HasNetCause}
 use Rattle.edge_io.specs.declared.net_fault.NetFault.{NetFault}
 use Rattle.edge_io.specs.declared.net_fault.NetFault.TheVariants as Net
@@ -13,7 +12,6 @@ use Rattle.desk_access.specs.Division.{DividedRun}
 use Rattle.desk_access.specs.Call.{failures_of, pends}
 use Rattle.desk_access.specs.Desk.{DeskState}
 use Rattle.desk_access.specs.Journal.{failures_then}
-use Rattle.conn_serve.specs.declared.rules.Rules.{Rules}
 use Rattle.conn_serve.specs.Endings.{CountsFaults}
 use Rattle.conn_serve.proofs.Faults.{counts_none}
 use Rattle.forward_core.specs.declared.sent.Sent.{Sent}

@@ -1,5 +1,5 @@
 -- What a run promises, by the laws of what it did.
-use Rattle.std.proofs.Common.{◌≡◌, inl, inr, ℕ, ◌+◌, ◌-◌, ◌^◌, ◌<◌, ◌≤◌, List, [], ◌∷◌, length, refl, sym, ◌∙◌, ap, subst, arith}
+use Rattle.std.proofs.Common.{◌≡◌, inl, inr, ℕ, ◌+◌, ◌-◌, ◌<◌, ◌≤◌, List, [], ◌∷◌, length, refl, sym, ◌∙◌, ap, subst, arith}
 use Rattle.std.specs.Prelude.{Option, None, Some, IsSome, get_or}
 use Rattle.std.proofs.lemmas.List.Elements.{All-head}
 use Rattle.edge_io.specs.Door.{DoorState}

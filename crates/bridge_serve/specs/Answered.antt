@@ -1,5 +1,5 @@
 -- What the server may write to those who send to it, where it may bind doors, and where it may dial.
-use Rattle.std.specs.Prelude.{◌≡◌, ◌⊎◌, ◌+◌, ◌<◌, ◌^◌, ◌++◌, ℕ, List, Some, IfSome, All}
+use Rattle.std.specs.Prelude.{◌≡◌, ◌⊎◌, ◌+◌, ◌<◌, ◌++◌, ℕ, List, Some, IfSome, All}
 use Rattle.edge_disk.specs.Disk.{Moment, LeavesOnly}
 use Rattle.edge_io.specs.declared.proto.Proto.{Proto}
 use Rattle.spool_log.specs.declared.opening.Opening.TheVariants.{Raise}

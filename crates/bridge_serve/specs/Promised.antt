@@ -1,5 +1,5 @@
 -- What a run of the server promises to its senders, to the place that it forwards to, and to who runs it.
-use Rattle.std.specs.Prelude.{◌≡◌, ◌⊎◌, ℕ, ◌+◌, ◌-◌, List, [], ◌∷◌, ◌++◌, length, All, Option, None, Some, IsSome}
+use Rattle.std.specs.Prelude.{◌≡◌, ◌⊎◌, ℕ, ◌-◌, List, [], ◌∷◌, ◌++◌, length, All, Option, None, Some, IsSome}
 use Rattle.std.specs.List.{sum_by}
 use Rattle.std.specs.Io.KnownBytes.{IsAtEnd}
 use Rattle.foundation.specs.Faults.{Rose}

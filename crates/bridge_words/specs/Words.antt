@@ -1,7 +1,8 @@
 -- Which words are which command, and which device they want.
-use Rattle.std.specs.Prelude.{◌≡◌, ◌⊎◌, Bool, ℕ, ◌≤◌, ◌^◌, List, [], Option, None, Some, IsSome, IfSome, Result, Ok, Err, codes}
+use Rattle.std.specs.Prelude.{◌≡◌, ◌⊎◌, Bool, ℕ, ◌≤◌, List, [], Option, None, Some, IsSome, IfSome, Result, Ok, Err, codes}
 use Rattle.clap.specs.Walk.{Row, Text}
 use Rattle.edge_io.specs.declared.proto.Proto.{Proto}
+use Rattle.edge_io.specs.declared.proto.Proto.TheVariants.{Hec}
 use Rattle.hec_tokens.specs.declared.list.ListedToken.{ListedToken}
 use Rattle.spool_state.specs.Image.{slot_at}
 use Rattle.desk_access.specs.declared.division.Division.{Division}
@@ -18,7 +19,7 @@ use Rattle.bridge_words.specs.declared.need.Need.{Need}
 use Rattle.bridge_words.specs.declared.need.Need.TheVariants.{NoCommand, Nothing, Existing, Make, Pair}
 use Rattle.bridge_words.specs.Grammar.{refusals, named}
 use Rattle.bridge_words.specs.Tokens.{listed_in}
-use Rattle.bridge_words.specs.Values.{slots_in, size_in, proto_in, place_in, number_in, count_in, form_in, token_in, ack_token_in, out_token_in, out_channel_in, polls_in, receiver_of, target_in, tag_in}
+use Rattle.bridge_words.specs.Values.{guid, slots_in, size_in, proto_in, place_in, number_in, count_in, form_in, token_in, ack_token_in, out_token_in, out_channel_in, polls_in, receiver_of, target_in, tag_in}
 use Rattle.bridge_words.specs.Values.{relp_in, lumberjack_in, hec_in, status_in, division_in, workers_in, talks_in, group_in, forward_in, to_in, relay_of}
 
 -- ---- the table
@@ -186,6 +187,11 @@ IsNoCommand words = (command : Command) → IsCommand command words → ⊥
 -- and of one
 abbrev pub IsSomeCommand : List Text → Type 0
 IsSomeCommand words = (command : Command) × IsCommand command words
+
+-- Words with two texts in them, each of which is a GUID, are `replay` of the collector's requests, under these two tokens.
+abbrev pub SpellTokens : (Text → Text → List Text) → Type 0
+SpellTokens words = (t a : Text) (token ack_token : ℕ) → guid t ≡ Some token → guid a ≡ Some ack_token
+    → IsCommand (Replay Hec (Some token) (Some ack_token)) (words t a)
 
 -- ---- two spools
 

@@ -1,12 +1,11 @@
 //! What holds of all words.
 ghost use Rattle.std.specs.Prelude.{◌≡◌, ℕ, List, [], ◌∷◌, ◌++◌, Some, None, true, false, codes};
 ghost use Rattle.clap.specs.Walk.{Text};
-ghost use Rattle.edge_io.specs.declared.proto.Proto.TheVariants.{Hec};
 ghost use Rattle.bridge_words.specs.declared.command.Command.{Command};
-ghost use Rattle.bridge_words.specs.declared.command.Command.TheVariants.{Replay, Drain, Serve};
+ghost use Rattle.bridge_words.specs.declared.command.Command.TheVariants.{Drain, Serve};
 ghost use Rattle.bridge_words.specs.declared.command.Receiver.TheVariants.{Relp as ToRelp};
-ghost use Rattle.bridge_words.specs.Values.{guid, number_within};
-ghost use Rattle.bridge_words.specs.Words.{IsCommand, IsMove, IsNoCommand, IsNoMove, relp_server};
+ghost use Rattle.bridge_words.specs.Values.{number_within};
+ghost use Rattle.bridge_words.specs.Words.{IsCommand, IsMove, IsNoCommand, IsNoMove, SpellTokens, relp_server};
 
 /// Words are one command at most.
 pub fn one_command()
@@ -31,19 +30,16 @@ pub fn moving()
 /// How options are spelt, at `replay`, whatever their values are: they stand in any order, each once, and only after the
 /// command's name and before `--`. A place after `--` is any text that isn't empty.
 pub fn spelling()
-    ensures joined { (t a : Text) (token ack_token : ℕ) → guid t ≡ Some token → guid a ≡ Some ack_token
-        → IsCommand (Replay Hec (Some token) (Some ack_token))
-        (codes "replay" ∷ codes "hec" ∷ (codes "--token=" ++ t) ∷ (codes "--ack-token=" ++ a) ∷ []) }
-    ensures turned { (t a : Text) (token ack_token : ℕ) → guid t ≡ Some token → guid a ≡ Some ack_token
-        → IsCommand (Replay Hec (Some token) (Some ack_token))
-        (codes "replay" ∷ (codes "--ack-token=" ++ a) ∷ (codes "--token=" ++ t) ∷ codes "--" ∷ codes "hec" ∷ []) }
+    ensures joined { SpellTokens (λ t a. codes "replay" ∷ codes "hec" ∷ (codes "--token=" ++ t) ∷ (codes "--ack-token=" ++ a) ∷ []) }
+    ensures turned { SpellTokens (λ t a. codes "replay"
+        ∷ (codes "--ack-token=" ++ a) ∷ (codes "--token=" ++ t) ∷ codes "--" ∷ codes "hec" ∷ []) }
     ensures twice { (t u : Text) → IsNoCommand (codes "replay" ∷ codes "hec" ∷ (codes "--token=" ++ t) ∷ (codes "--token=" ++ u) ∷ []) }
     ensures ended { (t : Text) → IsNoCommand (codes "replay" ∷ codes "hec" ∷ codes "--" ∷ (codes "--token=" ++ t) ∷ []) }
     ensures before { (t : Text) → IsNoCommand ((codes "--token=" ++ t) ∷ codes "replay" ∷ codes "hec" ∷ []) }
     ensures placed { (x : ℕ) (more : Text) → IsCommand (Drain ToRelp (Some (x ∷ more))) (codes "drain" ∷ codes "relp" ∷ codes "--" ∷ (x ∷ more) ∷ []) }
 {}
 
-/// How `--group` is spelt, at a `serve` of RELP at any place: it is there or not, before the place or behind it, once at most, and it
+/// How `--group` is spelt, at a `serve` of RELP at any place: it is there or not, before the place or after it, once at most, and it
 /// takes no value.
 pub fn grouping()
     ensures without { (x : ℕ) (place : Text) → IsCommand (Serve (relp_server (x ∷ place) false))

@@ -3,7 +3,7 @@ use Rattle.std.proofs.Common.{◌≡◌, ℕ, List, [], ◌∷◌, refl, ◌∙�
 use Rattle.foundation.specs.Faults.{Rose}
 use Rattle.edge_disk.specs.Calls.{Calls}
 use Rattle.spool_state.specs.SpoolState.{SpoolState, end}
-use Rattle.desk_access.specs.Call.{Call, Record, AreBy, failures_of}
+use Rattle.desk_access.specs.Call.{Call, Record, AreBy}
 use Rattle.desk_access.specs.Journal.{failed_by}
 use Rattle.desk_access.specs.Desk.{DeskState}
 use Rattle.spool_desk.specs.Alone.{AloneView, IsAt, Ran, HasSeen, LeadsFrom}

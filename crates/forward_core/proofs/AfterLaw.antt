@@ -1,13 +1,12 @@
 -- What is known and what is left after a session.
-use Rattle.std.proofs.Common.{◌≡◌, ◌⊎◌, inl, inr, ℕ, ◌+◌, ◌<◌, ◌≤◌, List, [], ◌∷◌, ◌++◌, length, refl, sym, ◌∙◌, ap, subst, arith}
+use Rattle.std.proofs.Common.{◌≡◌, ◌⊎◌, inl, inr, ℕ, ◌+◌, ◌≤◌, List, [], ◌∷◌, length, refl, sym, ◌∙◌, ap, subst, arith}
 use Rattle.std.specs.Prelude.{Option, Ok, Err, nat_le}
 use Rattle.std.proofs.lemmas.Bool.{cond_both}
 use Rattle.known_numbers.specs.declared.stretch.Stretch.{Stretch}
 use Rattle.known_numbers.specs.Numbers.{IsKnown, IsSound as IsSoundKnown, Numbers, fitting, joined, marked}
 use Rattle.known_numbers.proofs.Marking.{confirmed_reaches, marked_keeps, marked_only, marked_reaches, marked_sound}
-use Rattle.event_form.specs.declared.event.Entry.{Entry}
-use Rattle.spool_state.specs.SpoolState.{IsKnownIn, SpoolState, base, end, list, numbers_of}
-use Rattle.spool_state.specs.Left.{NumberedEntry, left, numbered, unknown}
+use Rattle.spool_state.specs.SpoolState.{IsKnownIn, SpoolState, base, list, numbers_of}
+use Rattle.spool_state.specs.Left.{numbered, unknown}
 use Rattle.spool_state.proofs.Registered.{with_marked}
 use Rattle.spool_state.proofs.Unknown.{unknown_thinned}
 use Rattle.spool_answers.specs.declared.fault.ConfirmFault.{ConfirmFault}
@@ -22,7 +21,7 @@ use Rattle.desk_access.specs.History.{IsDesk}
 use Rattle.desk_access.proofs.Steps.{allowed_later}
 use Rattle.forward_core.specs.Calls.{AreGranted, AreOfSession, IsMarked, MarksAllBelow, next_after}
 use Rattle.forward_core.specs.Laws.{KnowsMarked, LeavesRest, known_by}
-use Rattle.forward_core.proofs.CallLists.{marked_cases, marked_left, marked_right}
+use Rattle.forward_core.proofs.CallLists.{marked_left, marked_right}
 use Rattle.forward_core.proofs.KnownLaw.{known_after}
 
 -- ---- only what was marked is known

@@ -1,18 +1,18 @@
 -- A batch is counted and given.
-use Rattle.std.proofs.Common.{◌≡◌, ℕ, ◌+◌, ◌-◌, ◌*◌, ◌<◌, ◌≤◌, ◌^◌, Bool, true, false, cond, List, [], ◌++◌, length, All, refl, ap, ◌∙◌, sym, subst, inl, inr, arith}
-use Rattle.std.specs.Prelude.{nat_lt, if◌then◌else◌, Result, Ok, Err, OnOk, is_err}
-use Rattle.std.proofs.lemmas.List.{length-map, append-nil, nil_from_length}
+use Rattle.std.proofs.Common.{◌≡◌, ℕ, ◌+◌, ◌-◌, ◌*◌, ◌<◌, ◌≤◌, ◌^◌, Bool, false, cond, List, ◌++◌, length, All, ap, ◌∙◌, sym, subst, inr, arith}
+use Rattle.std.specs.Prelude.{nat_lt, Result, Ok, Err, OnOk, is_err}
+use Rattle.std.proofs.lemmas.List.{length-map}
 use Rattle.event_form.specs.Event.{IsEvent}
 use Rattle.event_form.specs.declared.event.Entry.{Entry}
 use Rattle.spool_answers.specs.Pend.{AreNumbered}
 use Rattle.spool_answers.specs.declared.numbered.Numbered.{Numbered}
-use Rattle.forward_core.specs.Calls.{after_last, asked_from, entries_of, next_after, numbers_of, within}
+use Rattle.forward_core.specs.Calls.{asked_from, within}
 use Rattle.forward_core.specs.Course.{reading_left}
 use Rattle.forward_core.specs.Reading.{Added, AddsBatch, IsBatch}
 use Rattle.forward_core.specs.Session.{Agrees}
 use Rattle.forward_core.specs.declared.course.Course.{Course}
 use Rattle.forward_core.specs.declared.refill.Batch.{Batch}
-use Rattle.forward_core.proofs.Batches.{Leads, events_of, numbers_below, reading_leads, within_fewer, within_rising}
+use Rattle.forward_core.proofs.Batches.{events_of, numbers_below, reading_leads, within_fewer, within_rising}
 
 -- a batch that was asked for
 pub Asked : Course → ℕ → Batch → Type 0

@@ -1,14 +1,14 @@
 -- The peer's bytes are read, or the session ends there.
-use Rattle.std.proofs.Common.{◌≡◌, ℕ, ◌+◌, ◌*◌, ◌<◌, ◌≤◌, ◌^◌, Bool, true, false, List, [], ◌∷◌, ◌++◌, length, take, refl, ap, ◌∙◌, sym, subst, inl, inr, arith}
-use Rattle.std.specs.Prelude.{◌⊎◌, Option, Ok}
+use Rattle.std.proofs.Common.{◌≡◌, ℕ, true, false, List, [], ◌∷◌, ◌++◌, length, take, refl, ap, ◌∙◌, sym, subst, inl, arith}
+use Rattle.std.specs.Prelude.{Option, Ok}
 use Rattle.std.specs.Io.KnownBytes.{Appends, Consumes, IsAtEnd}
 use Rattle.std.proofs.lemmas.List.{append-nil}
 use Rattle.event_form.specs.declared.event.Entry.{Entry}
 use Rattle.desk_access.specs.Call.{Call, marks}
 use Rattle.forward_core.specs.Calls.{entries_of, read_of}
-use Rattle.forward_core.specs.Course.{SameTold, reading_left}
+use Rattle.forward_core.specs.Course.{SameTold}
 use Rattle.forward_core.specs.Hearing.{Hears, IsUnheard, Unheard}
-use Rattle.forward_core.specs.Moments.{Told, told, Does, Calls, Fact, Leads, LeadsBy}
+use Rattle.forward_core.specs.Moments.{told, Does, Leads}
 use Rattle.forward_core.specs.Session.{Agrees, Ended, MayHalt, Stands}
 use Rattle.forward_core.specs.Turning.{IsHalt, MayEnd, MayFollow}
 use Rattle.forward_core.specs.declared.course.Course.{Course}

@@ -1,5 +1,5 @@
 -- A reading is refused, or there is no memory for what it gave.
-use Rattle.std.proofs.Common.{◌≡◌, ℕ, ◌*◌, ◌<◌, ◌≤◌, ◌^◌, true, false, List, [], ◌∷◌, ◌++◌, length, take, refl, sym, subst, inl, inr, arith, append_assoc}
+use Rattle.std.proofs.Common.{◌≡◌, ℕ, ◌*◌, ◌<◌, ◌≤◌, ◌^◌, true, false, List, [], ◌∷◌, ◌++◌, length, take, refl, sym, subst, arith, append_assoc}
 use Rattle.std.specs.Prelude.{Option, Result, Ok, Err, IfErr, IsErrAnd, OnOk}
 use Rattle.known_numbers.specs.declared.stretch.Stretch.{Stretch}
 use Rattle.std.proofs.lemmas.List.{append-nil}

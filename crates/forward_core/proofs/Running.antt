@@ -1,12 +1,11 @@
 -- A session from its start on.
-use Rattle.std.proofs.Common.{◌≡◌, ℕ, ◌+◌, ◌*◌, ◌<◌, ◌≤◌, ◌^◌, Bool, true, false, List, [], ◌∷◌, ◌++◌, length, take, drop, refl, ap, ◌∙◌, sym, subst, inl, inr, arith}
+use Rattle.std.proofs.Common.{◌≡◌, ℕ, false, List, [], ◌∷◌, length, take, drop, refl, ap, ◌∙◌, sym, arith}
 use Rattle.std.proofs.lemmas.List.{nil_from_length}
 use Rattle.known_numbers.specs.declared.stretch.Stretch.{Stretch}
 use Rattle.spool_answers.specs.declared.numbered.Numbered.{Numbered}
-use Rattle.event_form.specs.declared.event.Entry.{Entry}
 use Rattle.forward_core.specs.Calls.{after_last}
 use Rattle.forward_core.specs.Course.{below}
-use Rattle.forward_core.specs.Session.{Agrees, IsToMark, OnDesk, Stands}
+use Rattle.forward_core.specs.Session.{Agrees, IsToMark, Stands}
 use Rattle.forward_core.specs.declared.course.Course.{Course}
 use Rattle.forward_core.proofs.Standing.{History}
 

@@ -7,10 +7,10 @@ use Rattle.spool_answers.specs.Pend.{AreNumbered}
 use Rattle.spool_answers.specs.declared.numbered.Numbered.{Numbered}
 use Rattle.desk_access.specs.Call.{Call, pends, marks}
 use Rattle.forward_core.specs.Calls.{asked_from, entries_of, read_of, within}
-use Rattle.forward_core.specs.Course.{SameCourse, SameTold, TellsFirst, TellsOne}
+use Rattle.forward_core.specs.Course.{SameTold, TellsFirst, TellsOne}
 use Rattle.forward_core.specs.Moments.{LeadsBy}
 use Rattle.forward_core.specs.Reading.{Added}
-use Rattle.forward_core.specs.Session.{OnDesk, Stands}
+use Rattle.forward_core.specs.Session.{Stands}
 use Rattle.forward_core.specs.declared.course.Course.{Course}
 use Rattle.forward_core.proofs.Desk.{added_on, marked_on, read_marked, read_more, told_first_on, told_one_on, unmarked_on}
 

@@ -1,23 +1,22 @@
 -- What is done for a turn of the sender.
-use Rattle.std.proofs.Common.{◌≡◌, ◌≢◌, ℕ, ◌+◌, ◌-◌, ◌*◌, ◌<◌, ◌≤◌, ◌^◌, Bool, true, false, List, [], ◌∷◌, ◌++◌, length, take, drop, refl, ap, ◌∙◌, sym, subst, inl, inr, arith}
-use Rattle.std.specs.Prelude.{◌⊎◌, Option, Ok, Err, Contains}
-use Rattle.std.specs.Io.KnownBytes.{Appends, IsAtEnd}
+use Rattle.std.proofs.Common.{◌≡◌, ℕ, ◌-◌, ◌<◌, ◌≤◌, false, List, [], ◌∷◌, ◌++◌, length, take, drop, refl, ◌∙◌, sym, subst, inl, inr, arith}
+use Rattle.std.specs.Prelude.{Option}
+use Rattle.std.specs.Io.KnownBytes.{Appends}
 use Rattle.std.proofs.lemmas.List.{append-nil, length-drop, take-append-drop}
 use Rattle.std.proofs.lemmas.List.Elements.{Contains-append_left}
 use Rattle.event_form.specs.declared.event.Entry.{Entry}
 use Rattle.event_form.specs.declared.turn.Turn.{Turn}
 use Rattle.event_form.specs.declared.turn.Turn.TheVariants as turns
 use Rattle.event_form.specs.Turn.{text_of}
-use Rattle.spool_answers.specs.Pend.{AreNumbered}
 use Rattle.spool_answers.specs.declared.numbered.Numbered.{Numbered}
 use Rattle.desk_access.specs.Call.{Call, marks}
 use Rattle.forward_core.specs.Acting.{GoesOn}
-use Rattle.forward_core.specs.Calls.{entries_of, next_of, read_of}
+use Rattle.forward_core.specs.Calls.{entries_of, read_of}
 use Rattle.forward_core.specs.Course.{TellsFirst, TellsOne}
 use Rattle.forward_core.specs.Marking.{EndsSo, MarksOnlyTold}
-use Rattle.forward_core.specs.Moments.{Told, told, Does, Calls, Fact, Leads, LeadsBy}
-use Rattle.forward_core.specs.Session.{Agrees, Ended, MayEndBy, MayHalt, Stands}
-use Rattle.forward_core.specs.Turning.{IsAlsoOne, IsCut, IsEndingBy, IsHalt, MayFollow, also_of}
+use Rattle.forward_core.specs.Moments.{Told, told, Does, Fact, Leads}
+use Rattle.forward_core.specs.Session.{Agrees, Ended, MayHalt, Stands}
+use Rattle.forward_core.specs.Turning.{IsCut, IsEndingBy, IsHalt, MayFollow, also_of}
 use Rattle.forward_core.specs.Turning as turning
 use Rattle.forward_core.specs.declared.course.Course.{Course}
 use Rattle.forward_core.specs.declared.sent.Sent.{Sent}

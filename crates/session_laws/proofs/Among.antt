@@ -1,6 +1,6 @@
 -- A session beside other callers.
 use Rattle.std.proofs.Common.{◌≡◌, inl, inr, ℕ, ◌+◌, ◌<◌, ◌≤◌, false, List, [], ◌∷◌, ◌++◌, length, refl, sym, ◌∙◌, ap, subst, arith}
-use Rattle.std.specs.Prelude.{All, Option, not}
+use Rattle.std.specs.Prelude.{All, not}
 use Rattle.std.proofs.lemmas.Bool.{both_ways}
 use Rattle.std.proofs.lemmas.List.{append-nil, map-append}
 use Rattle.std.proofs.lemmas.List.Elements.{All-append}
@@ -18,10 +18,7 @@ use Rattle.desk_access.specs.History.{Grown}
 use Rattle.desk_access.specs.Legal.{all_of}
 use Rattle.desk_access.proofs.Growth.{grown_self}
 use Rattle.forward_core.specs.Calls.{next_of, read_of}
-use Rattle.forward_core.specs.Protocols.{EndsAs, HintsAs}
-use Rattle.forward_core.specs.Session.{Ended}
 use Rattle.forward_core.specs.Settings.{Settings}
-use Rattle.forward_core.specs.declared.sent.Sent.{Sent}
 use Rattle.forward_core.proofs.CallLists.{below_next}
 use Rattle.forward_core.proofs.Rest.{all_rise, as_given, as_given_entries, entries_as_given, list_limits, one_entry, some_rise}
 use Rattle.serve_forwarder.specs.Sessions.{Session}

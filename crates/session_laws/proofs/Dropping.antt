@@ -5,7 +5,6 @@ use Rattle.std.proofs.lemmas.Bool.{and_from, both_ways, cases_Bool, cases_lt, co
 use Rattle.std.proofs.lemmas.List.{drop_all, get_or-drop, get_or-map, length-drop, length-map, map-append}
 use Rattle.std.proofs.lemmas.List.Elements.{All-cons, All-filter, All-nil}
 use Rattle.known_numbers.specs.Numbers.{IsKnown, Numbers}
-use Rattle.edge_io.specs.declared.proto.Proto.{Proto}
 use Rattle.spool_state.specs.Left.{NumberedEntry, is_known, unknown}
 use Rattle.spool_state.proofs.Unknown.{filter_all, known_or_not, unknown_append, unknown_from, unknown_none, unknown_numbers}
 use Rattle.spool_answers.specs.declared.numbered.Numbered.{Numbered}
@@ -14,9 +13,7 @@ use Rattle.desk_access.specs.Call.{Call}
 use Rattle.forward_core.specs.Calls.{AreGranted, IsMarked, MarksAllBelow, after_last, entries_of, is_within, number_at}
 use Rattle.forward_core.specs.Marking.{MarksTold}
 use Rattle.forward_core.specs.Protocols.{EndsAs}
-use Rattle.forward_core.specs.Settings.{Settings}
-use Rattle.forward_core.specs.Turning.{IsHalt, IsTold}
-use Rattle.forward_core.specs.declared.sent.Sent.{Sent}
+use Rattle.forward_core.specs.Turning.{IsTold}
 use Rattle.forward_core.specs.declared.sent.Sent.TheVariants.{Drained}
 use Rattle.forward_core.proofs.DropLaw.{all_told, below_end, granted_of, told_of}
 use Rattle.forward_core.proofs.Numbered.{numbered_lower, numbered_take}

@@ -1,5 +1,5 @@
 -- A session is a part of a journal, over one whole list.
-use Rattle.std.proofs.Common.{◌≡◌, inl, inr, ℕ, ◌+◌, ◌<◌, ◌≤◌, List, [], ◌∷◌, ◌++◌, length, take, Option, refl, sym, ◌∙◌, ap, subst, arith, append_assoc}
+use Rattle.std.proofs.Common.{◌≡◌, inl, inr, ℕ, ◌+◌, ◌<◌, ◌≤◌, List, [], ◌∷◌, ◌++◌, length, take, refl, sym, ◌∙◌, ap, subst, arith, append_assoc}
 use Rattle.std.specs.Prelude.{All}
 use Rattle.std.proofs.lemmas.Bool.{cond-true}
 use Rattle.std.proofs.lemmas.List.{length-map, length-take}
@@ -23,7 +23,6 @@ use Rattle.forward_core.specs.Calls.{is_within}
 use Rattle.forward_core.specs.Protocols.{EndsAs, HintsAs}
 use Rattle.forward_core.specs.Session.{Ended}
 use Rattle.forward_core.specs.Settings.{Settings}
-use Rattle.forward_core.specs.declared.sent.Sent.{Sent}
 use Rattle.forward_core.proofs.Rest.{as_given, left_rise, one_entry}
 use Rattle.serve_forwarder.specs.Sessions.{Session}
 use Rattle.session_laws.specs.Beside.{EndsAmong, KnowsMarked, MarksAlone, course_of}

@@ -1,5 +1,5 @@
 -- A letter whose take is a change of its own.
-use Rattle.std.proofs.Common.{◌≡◌, ℕ, ◌-◌, ◌≤◌, ◌<◌, Bool, true, false, List, [], length, refl, sym, ap, ◌∙◌, subst, arith}
+use Rattle.std.proofs.Common.{◌≡◌, ℕ, ◌-◌, ◌≤◌, ◌<◌, Bool, true, false, List, length, refl, sym, ◌∙◌, subst, arith}
 use Rattle.std.specs.Prelude.{◌+◌, ◌^◌, take, Result, IfOk, IfErr}
 use Rattle.std.proofs.lemmas.List.{take_all, length-take-le}
 use Rattle.atomic_table.specs.Table.{Me}
@@ -12,7 +12,7 @@ use Rattle.desk_access.specs.Division.{DividedRun}
 use Rattle.desk_access.specs.Batch.{MayTake, MayUse}
 use Rattle.desk_access.specs.Call.{takes}
 use Rattle.desk_access.specs.Desk.{DeskState}
-use Rattle.desk_access.specs.Legal.{May, Met, IsNext, IsUnused}
+use Rattle.desk_access.specs.Legal.{May, IsNext, IsUnused}
 use Rattle.spool_turns.specs.Rules.{View, handed_by}
 use Rattle.spool_turns.specs.Passes.{Beginning, known, known_of, Sound, Calls, IsPass, pass_in}
 use Rattle.spool_turns.specs.Replays.{IsReal}

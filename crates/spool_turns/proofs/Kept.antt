@@ -1,5 +1,5 @@
 -- What lies under the lock of the journal after a call of the ids, and after one of the spool.
-use Rattle.std.proofs.Common.{◌≡◌, ℕ, ◌-◌, ◌≤◌, List, [], ◌∷◌, ◌++◌, refl, sym, ap, ◌∙◌, subst, arith}
+use Rattle.std.proofs.Common.{◌≡◌, ℕ, ◌-◌, List, [], refl, sym, ap, ◌∙◌, subst, arith}
 use Rattle.std.specs.Prelude.{Option, None, Some}
 use Rattle.atomic_table.specs.Table.{Me}
 use Rattle.edge_disk.specs.declared.disk.Disk.{Ghosts}
@@ -18,7 +18,7 @@ use Rattle.spool_desk.specs.Standing.{standing_in}
 use Rattle.spool_desk.proofs.Leading.{end_is}
 use Rattle.spool_desk.proofs.Making.{idle_makes}
 use Rattle.spool_turns.specs.declared.view.Twin.{Twin}
-use Rattle.spool_turns.specs.Rules.{View, Facts, facts, PassView, made_by, Knows, after_call, with_record}
+use Rattle.spool_turns.specs.Rules.{View, facts, PassView, made_by, Knows, after_call, with_record}
 use Rattle.spool_turns.specs.Passes.{Beginning, Known, known_of, Sound, Calls, IsTurn, IsPass, locked_of, pass_of, facts_in, pass_in}
 use Rattle.spool_turns.specs.Replays.{BeganAt, Begins, Replays, IsReal, IsExact}
 use Rattle.spool_turns.specs.Twins.{of_journal}

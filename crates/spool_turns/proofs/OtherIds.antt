@@ -1,8 +1,8 @@
 -- What calls of the spool do doesn't depend on the ids: they do the same beside other ids.
-use Rattle.std.proofs.Common.{◌≡◌, ◌⊎◌, inl, inr, ℕ, ◌≤◌, List, [], ◌∷◌, ◌++◌, Bool, true, false, Option, refl, sym, ap, ◌∙◌, subst, arith}
-use Rattle.std.specs.Prelude.{None, Result, Ok, Err}
+use Rattle.std.proofs.Common.{◌≡◌, inl, inr, ℕ, List, [], ◌∷◌, ◌++◌, Bool, true, false, Option, refl, sym, ap, ◌∙◌, subst}
+use Rattle.std.specs.Prelude.{Result, Ok, Err}
 use Rattle.event_form.specs.declared.event.Entry.{Entry}
-use Rattle.spool_state.specs.SpoolState.{SpoolState, end}
+use Rattle.spool_state.specs.SpoolState.{SpoolState}
 use Rattle.spool_answers.specs.declared.fault.Receipt.{Receipt}
 use Rattle.spool_answers.specs.declared.fault.TakeFault.{TakeFault}
 use Rattle.spool_answers.specs.declared.fault.TakeFault.TheVariants as Take
@@ -15,11 +15,11 @@ use Rattle.hec_ids.specs.Rows.{Issues, Settles, Forgets, Asks}
 use Rattle.desk_access.specs.declared.standing.Standing.{Standing}
 use Rattle.desk_access.specs.Call.{Call, takes, pends, confirms, marks, counts, issues, settles, forgets, asks, Record}
 use Rattle.desk_access.specs.JointRecords.{Part, stored_from, failed_from, refused_from, joint_of}
-use Rattle.desk_access.specs.Desk.{DeskState, desk_of, Finds, Mending, Leaving, Answers, AnswersAs, Joins, Allowed, Goes, StandsWithin, Stood}
+use Rattle.desk_access.specs.Desk.{DeskState, desk_of, Finds, Mending, Leaving, Answers, AnswersAs, Joins, Goes, StandsWithin, Stood}
 use Rattle.desk_access.specs.History.{IsDesk}
 use Rattle.desk_access.proofs.Steps.{goes_later}
 use Rattle.spool_desk.specs.Alone.{AloneView, IsAt, LeadsFrom, RunsTo, Makes, record_of}
-use Rattle.spool_turns.specs.Stands.{with_ids, IsTold, IsOfSpool, AreOfSpool}
+use Rattle.spool_turns.specs.Stands.{with_ids, IsOfSpool, AreOfSpool}
 
 -- the desk beside other ids
 abbrev beside : Table → DeskState → DeskState

@@ -1,14 +1,12 @@
-use Rattle.std.proofs.Common.{◌≡◌, ◌∙◌, ℕ, ◌+◌, ◌<◌, ◌≤◌, ◌^◌, true, false, List, [], ◌∷◌, ◌++◌, All, length, ap, sym, subst, arith}
+use Rattle.std.proofs.Common.{◌≡◌, ◌∙◌, ℕ, ◌+◌, ◌≤◌, ◌^◌, true, false, List, [], ◌∷◌, ◌++◌, All, length, ap, sym, subst, arith}
 use Rattle.std.specs.Prelude.{Ok}
 use Rattle.std.proofs.lemmas.List.{append-nil, nil_from_length}
 use Rattle.std.proofs.lemmas.Grind.{common_steps}
 use Rattle.event_form.specs.Event.{IsEvent}
 use Rattle.event_form.specs.declared.event.Entry.{Entry}
-use Rattle.spool_answers.specs.declared.numbered.Numbered.{Numbered}
 use Rattle.desk_access.specs.Call.{pends}
-use Rattle.forward_core.specs.Calls.{asked_from, entries_of, within}
+use Rattle.forward_core.specs.Calls.{entries_of, within}
 use Rattle.forward_core.specs.Moments.{LeadsBy}
-use Rattle.forward_core.specs.Reading.{AddsBatch}
 use Rattle.forward_core.specs.Session.{Stands}
 use Rattle.forward_core.proofs.Handing.{added_of, agrees_given, batch_events, batch_small, counted, less_counted, ok_by}
 use Rattle.forward_core.proofs.Standing.{stands_added}

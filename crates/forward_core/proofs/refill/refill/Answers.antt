@@ -1,12 +1,10 @@
-use Rattle.std.proofs.Common.{◌≡◌, ◌≢◌, ◌∙◌, ℕ, ◌<◌, ◌≤◌, List, [], ◌∷◌, ap, sym, subst, arith}
+use Rattle.std.proofs.Common.{◌≡◌, ◌∙◌, ℕ, ◌<◌, List, ap, sym, subst, arith}
 use Rattle.std.specs.Prelude.{min, Option}
-use Rattle.desk_access.specs.Call.{Call}
 use Rattle.forward_core.specs.Calls.{asked_from}
 use Rattle.forward_core.specs.Moments.{Calls, LeadsBy}
 use Rattle.forward_core.specs.Session.{Ended, Stands}
 use Rattle.forward_core.specs.Turning.{IsHalt}
 use Rattle.forward_core.specs.declared.sent.Sent.{Sent}
-use Rattle.forward_core.specs.declared.sent.Sent.TheVariants.{NoMemory}
 use Rattle.std.proofs.Common.{true}
 use Rattle.forward_core.proofs.Refilling.{err_then, refused_by, starved_by}
 use Rattle.forward_core.proofs.refill.refill.Goals as goal

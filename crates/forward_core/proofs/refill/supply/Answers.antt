@@ -1,4 +1,4 @@
-use Rattle.std.proofs.Common.{ℕ, false, List, [], ◌∷◌}
+use Rattle.std.proofs.Common.{false, [], ◌∷◌}
 use Rattle.forward_core.specs.Session.{Stands}
 use Rattle.forward_core.proofs.Refilling.{err_is, err_then, halts_so, ok_then, supplied, unmarked_by, unsupplied}
 use Rattle.forward_core.proofs.refill.supply.Goals as goal

@@ -1,4 +1,4 @@
-use Rattle.std.proofs.Common.{ℕ, ◌+◌, ◌^◌, ◌<◌, ◌≡◌, arith, subst}
+use Rattle.std.proofs.Common.{ℕ, ◌+◌, ◌<◌, ◌≡◌, arith, subst}
 use Rattle.conn_serve.specs.Serves.{CarriedBy}
 use Rattle.conn_serve.specs.Says.{HasCarried}
 use Rattle.desk_access.specs.Division.{each_of, first_conn}

@@ -1,5 +1,5 @@
-use Rattle.std.proofs.Common.{ap, ◌∙◌, sym, subst, arith}
-use Rattle.spool_turns.specs.Twins.{meeting, of_spool, of_journal, of_both, KnewOne}
+use Rattle.std.proofs.Common.{ap, ◌∙◌, subst}
+use Rattle.spool_turns.specs.Twins.{meeting, KnewOne}
 use Rattle.spool_turns.proofs.KeepsTwins.{hands_over_as, meets_as, matches_as}
 use Rattle.spool_turns.proofs.twin.meet.Goals as goal
 

@@ -1,4 +1,4 @@
-use Rattle.std.proofs.Common.{ℕ, ◌+◌, ◌<◌, ◌≤◌, arith, All, sym}
+use Rattle.std.proofs.Common.{ℕ, ◌+◌, ◌<◌, ◌≤◌, arith, sym}
 use Rattle.std.proofs.lemmas.List.Elements.{All-head, All-rest, All-same, All-set}
 use Rattle.known_numbers.specs.declared.stretch.Stretch.{Stretch}
 use Rattle.forward_core.proofs.course.Course.tell_next.Goals as goal

@@ -1,5 +1,4 @@
-use Rattle.std.proofs.Common.{◌≤◌, refl, sym, ap, ◌∙◌, subst, arith}
-use Rattle.spool_turns.specs.Passes.{facts_in}
+use Rattle.std.proofs.Common.{sym, ap, ◌∙◌, arith}
 use Rattle.spool_turns.proofs.Kept.{made_kept, made_pass, made_calls, made_real}
 use Rattle.spool_turns.proofs.Levels.{level_beside}
 use Rattle.spool_turns.proofs.journal.Journal.enter.Goals as goal

@@ -1,10 +1,7 @@
 use Rattle.std.proofs.Common.{refl, sym, ◌∙◌, subst}
 use Rattle.hec_ids.specs.Rows.{Forgets}
-use Rattle.desk_access.specs.Legal.{IsStored}
-use Rattle.spool_turns.specs.Passes.{known_of, pass_in}
 use Rattle.spool_turns.proofs.OtherIds.{run_forgotten}
 use Rattle.spool_turns.proofs.Kept.{idle_kept, idle_pass, idle_calls, idle_real}
-use Rattle.spool_turns.proofs.Closing.{told_stored, asked_held}
 use Rattle.spool_turns.proofs.journal.Journal.forget.Goals as goal
 
 pub invariant_of-self : goal.invariant_of-self

@@ -1,5 +1,4 @@
-use Rattle.std.proofs.Common.{◌≤◌, sym, ap, ◌∙◌, subst, arith}
-use Rattle.spool_turns.specs.Passes.{IsPass, facts_in}
+use Rattle.std.proofs.Common.{sym, ap, ◌∙◌, subst, arith}
 use Rattle.spool_turns.specs.Twins.{of_journal}
 use Rattle.spool_turns.specs.Stands.{IsKept}
 use Rattle.spool_turns.proofs.Levels.{level_beside, level_known}
