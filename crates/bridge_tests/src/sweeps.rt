@@ -190,7 +190,7 @@ pub(crate) fn fails_well<R: Abort + Threads + Wait + Sync>(
 }
 
 /// Whether each crash leaves an outcome that may be, where the machine stops at each call of the
-/// disk in turn, until the call ends well.
+/// disk in turn, until the call ends well. Each one before that has the status of the disk's fault, and there is one at least.
 pub(crate) fn stops_well<R: Abort + Threads + Wait + Sync>(
     rt: &R,
     alloc: Global,
@@ -202,13 +202,13 @@ pub(crate) fn stops_well<R: Abort + Threads + Wait + Sync>(
             let device = play.device.to_vec(alloc).expect(rt, MEMORY);
             let disk = MemDisk::stopped(device, calls);
             let (status, found) = outcome_over(rt, alloc, play, disk, Some(choice));
-            if found == WRONG {
+            is_fine = is_over(play, DISK_FAULT, status);
+            if found == WRONG || (!is_fine && status != DISK_FAULT) {
                 return false;
             }
-            is_fine = is_over(play, DISK_FAULT, status);
         }
         if is_fine {
-            return true;
+            return calls > 0;
         }
     }
     false

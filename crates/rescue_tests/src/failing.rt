@@ -1,5 +1,5 @@
 //! Reads and writes that fail.
-use crate::devices::{SLOTS, copied, device, is_as, lines, rescue};
+use crate::devices::{SLOTS, copied, device, is_as, rescue};
 use bridge_rescue::Why;
 use edge_memory::MemDisk;
 use std::alloc::Global;
@@ -46,10 +46,8 @@ pub(crate) fn each_read_fails(rt: &impl Abort, alloc: Global) {
             let due = [(fault.place, Why::Unread, SLOTS[place] as u64)];
             is_as(rt, alloc, &ending, 73, left, 2, &due);
         } else {
-            // (a slot that was sound is not read again: the lines of whole entries were printed, in order)
-            assert!(rt; report.printed.is_none());
-            let all = lines(rt, alloc, b"abcdefg");
-            assert!(rt; all.starts_with(&ending.printed));
+            // (a slot that was sound is not read again: no line was printed, since so few are held until all are made)
+            assert!(rt; report.printed.is_none() && ending.printed.is_empty());
         }
     }
     // Each slot was looked at by more than one call.

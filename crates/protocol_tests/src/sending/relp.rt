@@ -4,8 +4,8 @@ mod rows;
 
 use self::driven::{DrivenRelp, FIRST};
 use self::rows::{
-    ANSWERED, CLOSED, HELLO, IN_ORDER, LONG, MIXED, MIXED_TOLD, ONE_ANSWERED, OPEN, ROWS, Row,
-    SENT, SENT_ENTRIES, TOGETHER,
+    ANSWERED, CLOSED, HELLO, IN_ORDER, LONG, MIXED, MIXED_TOLD, ONE_ANSWERED, ONE_SENT, OPEN, ROWS,
+    Row, SENT, SENT_ENTRIES, TOGETHER, TWO_SENT,
 };
 use super::entries::Entries;
 use super::session::{Session, send};
@@ -135,32 +135,14 @@ pub(crate) fn every_second_entry(rt: &impl Abort, alloc: Global) {
     talk(rt, alloc, &entries, peer.as_bytes(), 100).check(rt, out.as_bytes(), &told);
 }
 
-/// A session of which this is told.
-fn told(
-    rt: &impl Abort,
-    alloc: Global,
-    entries: &[Entries],
-    peer: &[u8],
-    size: usize,
-    turns: &str,
-) {
-    let session = talk(rt, alloc, entries, peer, size);
-    assert_eq!(rt; session.turns.as_str(), turns);
-}
-
 /// Answers that an `imrelp` gave.
 pub(crate) fn recorded(rt: &impl Abort, alloc: Global) {
     for size in SIZES {
         let all = talk(rt, alloc, SENT_ENTRIES, ANSWERED, *size);
         assert!(rt; all.out.as_slice() == SENT && all.turns.ends_with("c10 Done"));
-        told(rt, alloc, &SENT_ENTRIES[..2], CLOSED, *size, "PeerClosed");
-        told(
-            rt,
-            alloc,
-            &SENT_ENTRIES[..1],
-            ONE_ANSWERED,
-            *size,
-            "c1 Done",
-        );
+        let closed = talk(rt, alloc, &SENT_ENTRIES[..2], CLOSED, *size);
+        closed.check(rt, TWO_SENT, "PeerClosed");
+        let one = talk(rt, alloc, &SENT_ENTRIES[..1], ONE_ANSWERED, *size);
+        one.check(rt, ONE_SENT, "c1 Done");
     }
 }

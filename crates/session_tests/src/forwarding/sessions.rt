@@ -87,6 +87,18 @@ pub(crate) fn check_rows(rt: &impl Abort, alloc: Global, proto: Proto, rows: &st
     }
 }
 
+// Whether these are each second number below 480 and each from there on, of 600.
+fn are_scattered(numbers: &[u64]) -> bool {
+    for (place, number) in numbers.iter().enumerate() {
+        let place = place as u64;
+        let wanted = place.saturating_add(place.min(240));
+        if *number != wanted {
+            return false;
+        }
+    }
+    numbers.len() == 360
+}
+
 /// Each second entry of 600 is acknowledged, of which the spool keeps 240 apart.
 pub(crate) fn check_scattered(rt: &impl Abort, alloc: Global, row: &str) {
     check_form(rt, row, WORDS, 1);
@@ -98,7 +110,7 @@ pub(crate) fn check_scattered(rt: &impl Abort, alloc: Global, row: &str) {
     let device = filled(rt, alloc, row);
     let left = left(rt, alloc, Proto::Relp, row, &device, sends, 1000);
     assert_eq!(rt; wrong_part(rt, alloc, row, &left), "what stays");
-    assert!(rt; left.numbers.len() == 360);
+    assert!(rt; are_scattered(&left.numbers));
 }
 
 // Whether a session ended by a fault of its disk. If not, it ended as the row has it. The entries that weren't acknowledged stay.

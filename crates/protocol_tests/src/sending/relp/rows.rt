@@ -292,6 +292,13 @@ pub const SENT: &[u8] =
 pub const ANSWERED: &[u8] =
     b"1 rsp 93 200 OK\nrelp_version=0\nrelp_software=librelp,1.11.0,http://librelp.adiscon.com\ncommands=syslog\n2 rsp 6 200 OK\n3 rsp 6 200 OK\n4 rsp 6 200 OK\n5 rsp 6 200 OK\n6 rsp 6 200 OK\n7 rsp 6 200 OK\n8 rsp 6 200 OK\n9 rsp 6 200 OK\n10 rsp 6 200 OK\n11 rsp 6 200 OK\n12 rsp 0\n0 serverclose 0\n";
 
+/// What an `imrelp` was sent in a session of two entries that it closed, and in one of one entry.
+pub const TWO_SENT: &[u8] =
+    b"1 open 59 relp_version=0\nrelp_software=bridge,1,local\ncommands=syslog\n2 syslog 38 <13>Jan  1 00:00:00 host app: bridge 2\n3 syslog 38 <13>Jan  1 00:00:00 host app: bridge 3\n";
+
+pub const ONE_SENT: &[u8] =
+    b"1 open 59 relp_version=0\nrelp_software=bridge,1,local\ncommands=syslog\n2 syslog 38 <13>Jan  1 00:00:00 host app: bridge 2\n3 close 0\n";
+
 /// What an `imrelp` answered to a session that it closed, and to one of one entry.
 pub const CLOSED: &[u8] =
     b"1 rsp 93 200 OK\nrelp_version=0\nrelp_software=librelp,1.11.0,http://librelp.adiscon.com\ncommands=syslog\n0 serverclose 0\n";
