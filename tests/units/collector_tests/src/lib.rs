@@ -1,5 +1,5 @@
-//! Tests of what the collector speaks and says: `http_edge` and `http_reply`, and `hec_body`, `hec_ids` and `hec_session`. They
-//! stand in a crate of their own, since the gate proves a crate with tests twice, with and without them.
+//! Tests of what the collector speaks and says: `http_edge` and `http_reply`, and `hec_body`, `hec_ids` and
+//! `hec_session`.
 #![tactic(auto)]
 
 #[cfg(test)]

@@ -1,6 +1,5 @@
-//! Tests of whole connections: what senders of each protocol send, cut in pieces of each size, and what
-//! is stored, answered and reported for it. They stand in a crate of their own, since the gate proves a
-//! crate with tests twice, with and without them.
+//! Tests of whole connections: what senders of each protocol send, cut in pieces of each size, and what is stored,
+//! answered and reported for it.
 #![tactic(auto)]
 
 #[cfg(test)]

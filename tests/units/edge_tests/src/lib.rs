@@ -1,6 +1,5 @@
-//! Tests of the lowest crates: `foundation`'s bytes, `known_numbers`, the streams and nets of `edge_io`, the
-//! sockets of `edge_net` and the disks of `edge_memory` and `edge_file`. They stand in a crate of their own, since the gate
-//! proves a crate with tests twice, with and without them.
+//! Tests of the lowest crates: `foundation`'s bytes, `known_numbers`, the streams and nets of `edge_io`, the sockets of
+//! `edge_net` and the disks of `edge_memory` and `edge_file`.
 #![tactic(auto)]
 
 #[cfg(test)]

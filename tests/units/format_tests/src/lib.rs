@@ -1,6 +1,4 @@
-//! Tests of the crates on events and their forms: `event_form`, `event_map`, `json_span` and
-//! `bridge_words`. They stand in a crate of their own, since the gate proves a crate with tests twice, with
-//! and without them.
+//! Tests of the crates on events and their forms: `event_form`, `event_map`, `json_span` and `bridge_words`.
 #![tactic(auto)]
 
 #[cfg(test)]

@@ -1,6 +1,6 @@
-//! Tests of a move between two spools on disks in memory: its answers, runs that are stopped at each call of either disk,
-//! a target that fills up, a source with stretches known out of order, two sources into one target, and a target that is
-//! drained between two runs. They stand in a crate of their own, since the gate proves a crate with tests twice.
+//! Tests of a move between two spools on disks in memory: its answers, runs that are stopped at each call of either
+//! disk, a target that fills up, a source with stretches known out of order, two sources into one target, and a target
+//! that is drained between two runs.
 #![tactic(auto)]
 
 #[cfg(test)]

@@ -1,7 +1,6 @@
-//! Tests of the crates that speak the protocols, in pieces of each size: those that cut streams into frames, `relp_frame` and
-//! `lumber_frame`; the sessions above them, `relp_session` and `lumber_session`; and the senders, `relp_sender`, `lumber_sender` and
-//! `hec_sender`. They stand in a crate of their own, since the gate proves a crate with tests twice, with and without them. What isn't
-//! as a row has it ends the process, also a lack of memory: so no value has to be dropped on the way, which keeps the proofs short.
+//! Tests of the crates that speak the protocols, in pieces of each size: those that cut streams into frames,
+//! `relp_frame` and `lumber_frame`; the sessions above them, `relp_session` and `lumber_session`; and the senders,
+//! `relp_sender`, `lumber_sender` and `hec_sender`. What isn't as a row has it ends the process, also a lack of memory.
 #![tactic(auto)]
 
 #[cfg(test)]

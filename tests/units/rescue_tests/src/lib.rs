@@ -1,6 +1,5 @@
-//! Tests of a rescue over devices in memory: what is printed of each kind of damage, that the device stays as it was byte for byte, reads
-//! and writes that fail, and layouts that are given. They stand in a crate of their own, since the gate proves a crate with tests
-//! twice.
+//! Tests of a rescue over devices in memory: what is printed of each kind of damage, that the device stays as it was
+//! byte for byte, reads and writes that fail, and layouts that are given.
 #![tactic(auto)]
 
 #[cfg(test)]

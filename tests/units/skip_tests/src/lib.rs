@@ -1,6 +1,5 @@
-//! Tests of a skip over spools on disks in memory: what is printed and left, numbers that aren't pending, as many stretches as there may be,
-//! writes and calls of the disk that fail, and a stop at each of these calls. They stand in a crate of their own, since the gate proves a
-//! crate with tests twice.
+//! Tests of a skip over spools on disks in memory: what is printed and left, numbers that aren't pending, as many
+//! stretches as there may be, writes and calls of the disk that fail, and a stop at each of these calls.
 #![tactic(auto)]
 
 #[cfg(test)]

@@ -1,7 +1,5 @@
-//! Tests of the spool's crates: `disk_cell`'s register, `spool_slots`' groups, `spool_log` and `desk_access`. They
-//! are scripts of calls with what each answers and what then stands on the device, and a model of the slots.
-//! They stand in a crate of their own, since the gate proves a crate with tests twice,
-//! with and without them; and in one, since each crate of tests costs the gate as much as some ten functions.
+//! Tests of the spool's crates: `disk_cell`'s register, `spool_slots`' groups, `spool_log` and `desk_access`. They are
+//! scripts of calls with what each answers and what then stands on the device, and a model of the slots.
 #![tactic(auto)]
 
 #[cfg(test)]
