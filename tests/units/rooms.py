@@ -47,7 +47,11 @@ def make(room, names):
         place = HERE if name in UNITS else f"{TOP}/crates"
         shutil.copytree(f"{place}/{name}", f"{room}/crates/{name}", ignore=shutil.ignore_patterns("out", "must-fail"))
     for name in names:
-        for at, _, files in os.walk(f"{room}/crates/{name}/src"):
-            for it in files:
-                if it.endswith(".rs"):
-                    os.rename(f"{at}/{it}", f"{at}/{it[:-3]}.rt")
+        for _, it in copies(name, room):
+            os.rename(f"{it[:-3]}.rs", it)
+
+
+def copies(name, room):
+    """Returns the files of a unit, each with its copy in the room."""
+    files = [f"{at}/{it}" for at, _, names in os.walk(f"{HERE}/{name}/src") for it in sorted(names)]
+    return [(it, f"{room}/crates/{name}{it.removeprefix(f'{HERE}/{name}')[:-3]}.rt") for it in files]
