@@ -1,6 +1,0 @@
-use Rattle.std.specs.List.{IsDistinct}
-use Rattle.thread_tests.proofs.turns.pair.asked.Goals as goal
-
-pub ask-requires-clause-distinct : goal.ask-requires-clause-distinct
-unfolding IsDistinct
-ask-requires-clause-distinct g c = (tt, tt)
