@@ -2,8 +2,8 @@
 use Rattle.std.specs.Prelude.{◌≡◌, ℕ, ◌<◌, List}
 use Rattle.spool_state.specs.Layout.{most_number}
 use Rattle.spool_state.specs.Cells.{CellsBreak}
-use Rattle.spool_answers.specs.declared.fault.PendFault.{PendFault}
-use Rattle.spool_answers.specs.declared.fault.PendFault.TheVariants as Pend
+use Rattle.spool_faults.specs.declared.fault.PendFault.{PendFault}
+use Rattle.spool_faults.specs.declared.fault.PendFault.TheVariants as Pend
 use Rattle.disk_cell.specs.declared.fault.LoadFault.{LoadFault}
 use Rattle.disk_cell.specs.declared.fault.LoadFault.TheVariants.{NotSpool, NoMemory, DiskFault as LoadFailed}
 use Rattle.disk_cell.specs.declared.fault.SetFault.{SetFault}

@@ -2,25 +2,31 @@
 use edge_disk::DiskFault;
 use spool_answers::PendFault;
 use std::alloc::AllocError;
+use thiserror::Error;
 
 /// Why no register was read.
-#[derive(Clone, Copy, PartialEq, Eq)]
+#[derive(Clone, Copy, PartialEq, Eq, Debug, Drop, Error)]
 pub enum LoadFault {
     /// The cells break a rule of their layout. `at` is the offset on the device, in bytes, of the cell at
     /// fault: that of the first cell where none counts, else that of the cell that counts.
+    #[error("not a spool at {at}")]
     NotSpool { at: u64 },
     /// There is no memory for the stretches of numbers.
+    #[error("no memory")]
     NoMemory,
     /// A call on the disk failed.
+    #[error("disk fault")]
     DiskFault,
 }
 
 /// Why a register was not written.
-#[derive(Clone, Copy, PartialEq, Eq)]
+#[derive(Clone, Copy, PartialEq, Eq, Debug, Drop, Error)]
 pub enum SetFault {
     /// The register was written as often as it can be. `ordinal` is its ordinal, 2^63.
+    #[error("register spent at {ordinal}")]
     Worn { ordinal: u64 },
     /// A call on the disk failed.
+    #[error("disk fault")]
     DiskFault,
 }
 

@@ -1,4 +1,3 @@
-pub mod Fault
 pub mod Stages
 pub mod Take
 pub mod Mark

@@ -4,8 +4,8 @@ use Rattle.known_numbers.specs.declared.stretch.Stretch.{Stretch}
 use Rattle.known_numbers.specs.Numbers.{marked}
 use Rattle.spool_state.specs.Layout.{most_number}
 use Rattle.spool_state.specs.SpoolState.{SpoolState, numbers_of}
-use Rattle.spool_answers.specs.declared.fault.ConfirmFault.{ConfirmFault}
-use Rattle.spool_answers.specs.declared.fault.ConfirmFault.TheVariants.{Worn, NotSpool, DiskFault, NoMemory}
+use Rattle.spool_faults.specs.declared.fault.ConfirmFault.{ConfirmFault}
+use Rattle.spool_faults.specs.declared.fault.ConfirmFault.TheVariants.{Worn, NotSpool, DiskFault, NoMemory}
 use Rattle.spool_answers.specs.Stages.{last_of, known_stages}
 
 -- all numbers below this one, as a stretch: what a confirm marks

@@ -4,8 +4,8 @@ use Rattle.std.specs.Global.{Vec}
 use Rattle.event_form.specs.Entry.{IsEntry}
 use Rattle.spool_state.specs.SpoolState.{SpoolState}
 use Rattle.spool_state.specs.Left.{NumberedEntry, left_from}
-use Rattle.spool_answers.specs.declared.fault.PendFault.{PendFault}
-use Rattle.spool_answers.specs.declared.fault.PendFault.TheVariants.{NotSpool, DiskFault, NoMemory}
+use Rattle.spool_faults.specs.declared.fault.PendFault.{PendFault}
+use Rattle.spool_faults.specs.declared.fault.PendFault.TheVariants.{NotSpool, DiskFault, NoMemory}
 use Rattle.spool_answers.specs.declared.numbered.Numbered.{Numbered}
 
 -- the device was not said to be no spool

@@ -6,8 +6,9 @@
 //! callers of a spool can be checked without the code that does this.
 #![tactic(auto)]
 
-mod fault;
 mod numbered;
+mod receipt;
 
-pub use fault::{ConfirmFault, PendFault, Receipt, TakeFault};
 pub use numbered::Numbered;
+pub use receipt::Receipt;
+pub use spool_faults::{ConfirmFault, PendFault, TakeFault};

@@ -3,8 +3,8 @@ use Rattle.disk_cell.specs.declared.fault.SetFault.{SetFault}
 use Rattle.disk_cell.specs.declared.fault.SetFault.TheVariants as Set
 use Rattle.spool_log.specs.declared.fault.RecoverFault.{RecoverFault}
 use Rattle.spool_log.specs.declared.fault.RecoverFault.TheVariants as Recover
-use Rattle.spool_answers.specs.declared.fault.PendFault.{PendFault}
-use Rattle.spool_answers.specs.declared.fault.PendFault.TheVariants.{NotSpool, DiskFault, NoMemory}
+use Rattle.spool_faults.specs.declared.fault.PendFault.{PendFault}
+use Rattle.spool_faults.specs.declared.fault.PendFault.TheVariants.{NotSpool, DiskFault, NoMemory}
 
 -- the same fault of an opening
 abbrev pub as_recover : PendFault → RecoverFault

@@ -5,12 +5,12 @@ use Rattle.event_form.specs.declared.event.Entry.{Entry}
 use Rattle.known_numbers.specs.declared.stretch.Stretch.{Stretch}
 use Rattle.spool_state.specs.SpoolState.{SpoolState, Follows}
 use Rattle.edge_disk.specs.Disk.{LeavesOnly}
-use Rattle.spool_answers.specs.declared.fault.PendFault.{PendFault}
-use Rattle.spool_answers.specs.declared.fault.Receipt.{Receipt}
-use Rattle.spool_answers.specs.declared.fault.TakeFault.{TakeFault}
+use Rattle.spool_faults.specs.declared.fault.PendFault.{PendFault}
+use Rattle.spool_answers.specs.declared.receipt.Receipt.{Receipt}
+use Rattle.spool_faults.specs.declared.fault.TakeFault.{TakeFault}
 use Rattle.spool_answers.specs.declared.numbered.Numbered.{Numbered}
-use Rattle.spool_answers.specs.declared.fault.ConfirmFault.{ConfirmFault}
-use Rattle.spool_answers.specs.Fault.{as_take, as_confirm}
+use Rattle.spool_faults.specs.declared.fault.ConfirmFault.{ConfirmFault}
+use Rattle.spool_faults.specs.Fault.{as_take, as_confirm}
 use Rattle.spool_answers.specs.Pend.{IsNotBroken, Pends}
 use Rattle.spool_answers.specs.Stages.{IsOneOf, AllFollow}
 use Rattle.spool_log.specs.State.{View, IsIn, LeavesStages}

@@ -9,8 +9,8 @@ use Rattle.spool_state.specs.Image.{slot_at}
 use Rattle.spool_state.specs.Order.{AreOpenSlots}
 use Rattle.spool_state.specs.Rules.{GroupBreaks, Breaks}
 use Rattle.spool_slots.specs.declared.slot.Slot.{Slot}
-use Rattle.spool_answers.specs.declared.fault.PendFault.{PendFault}
-use Rattle.spool_answers.specs.declared.fault.PendFault.TheVariants.{NotSpool, DiskFault, NoMemory}
+use Rattle.spool_faults.specs.declared.fault.PendFault.{PendFault}
+use Rattle.spool_faults.specs.declared.fault.PendFault.TheVariants.{NotSpool, DiskFault, NoMemory}
 use Rattle.spool_log.specs.declared.memory.Memory.{Memory}
 use Rattle.spool_log.specs.Knows.{KnowsSlots, IsStored}
 

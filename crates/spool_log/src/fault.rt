@@ -5,19 +5,25 @@ ghost use Rattle.spool_log.specs.Fault.{as_recover, of_set};
 use crate::PendFault;
 use disk_cell::SetFault;
 use edge_disk::DiskFault;
+use thiserror::Error;
 
 /// Why a device was not opened.
-#[derive(Clone, Copy, PartialEq, Eq)]
+#[derive(Clone, Copy, PartialEq, Eq, Debug, Drop, Error)]
 pub enum RecoverFault {
     /// The device read as no spool. `at` is the offset of the first byte, field, slot or group at fault.
+    #[error("not a spool at {at}")]
     NotSpool { at: u64 },
     /// The spool was opened for storing as often as it can be: `run` is 2,097,151.
+    #[error("run {run} was the last")]
     RunsSpent { run: u32 },
     /// The register was written as often as it can be. `ordinal` is its ordinal, 2^63.
+    #[error("register spent at {ordinal}")]
     Worn { ordinal: u64 },
     /// A call of the disk failed.
+    #[error("disk fault")]
     DiskFault,
     /// No memory was found.
+    #[error("no memory")]
     NoMemory,
 }
 

@@ -2,8 +2,8 @@
 use Rattle.std.specs.Prelude.{◌≡◌, ◌⊎◌, ℕ, ◌-◌, ◌<◌, ◌≤◌, List}
 use Rattle.foundation.specs.Bytes.{part}
 use Rattle.event_form.specs.Reading.{BeginsNoEntry}
-use Rattle.spool_answers.specs.declared.fault.PendFault.{PendFault}
-use Rattle.spool_answers.specs.declared.fault.PendFault.TheVariants as Pend
+use Rattle.spool_faults.specs.declared.fault.PendFault.{PendFault}
+use Rattle.spool_faults.specs.declared.fault.PendFault.TheVariants as Pend
 use Rattle.spool_slots.specs.declared.fault.SlotFault.{SlotFault}
 use Rattle.spool_slots.specs.declared.fault.SlotFault.TheVariants.{NoRoom, DiskFault}
 use Rattle.spool_slots.specs.declared.fault.ScanFault.{ScanFault}

@@ -2,13 +2,16 @@
 use edge_disk::DiskFault;
 use spool_answers::PendFault;
 use std::alloc::AllocError;
+use thiserror::Error;
 
 /// Why a group was not added.
-#[derive(Clone, Copy, PartialEq, Eq)]
+#[derive(Clone, Copy, PartialEq, Eq, Debug, Drop, Error)]
 pub enum SlotFault {
     /// The group needs `need` bytes and the slot has room for `room`, which is less. No call was made.
+    #[error("spool full: {need} needed, {room} free")]
     NoRoom { need: u64, room: u64 },
     /// A call of the disk failed.
+    #[error("disk fault")]
     DiskFault,
 }
 
@@ -24,14 +27,17 @@ impl From<DiskFault> for SlotFault {
 }
 
 /// Why a slot was not read.
-#[derive(Clone, Copy, PartialEq, Eq)]
+#[derive(Clone, Copy, PartialEq, Eq, Debug, Drop, Error)]
 pub enum ScanFault {
     /// At this offset of the device an open gate stands, and after it no group that ends with its closing
     /// gate inside the slot and holds exactly its count of entries, at least one.
+    #[error("not a spool at {at}")]
     NotSpool { at: u64 },
     /// A call of the disk failed.
+    #[error("disk fault")]
     DiskFault,
     /// No memory was found.
+    #[error("no memory")]
     NoMemory,
 }
 

@@ -11,7 +11,7 @@ use Rattle.spool_state.specs.Change.{registered}
 use Rattle.spool_state.proofs.Following.{follows_self}
 use Rattle.spool_state.proofs.Registered.{with_marked, follows_marked}
 use Rattle.edge_disk.specs.Disk.{LeavesOnly}
-use Rattle.spool_answers.specs.declared.fault.ConfirmFault.TheVariants.{Worn, DiskFault}
+use Rattle.spool_faults.specs.declared.fault.ConfirmFault.TheVariants.{Worn, DiskFault}
 use Rattle.spool_log.specs.State.{View, IsIn, LeavesStages}
 use Rattle.spool_answers.specs.Stages.{last_of, total_of, known_stages, StandsForOne, AllFollow}
 use Rattle.spool_log.specs.Changing.Mark.{MarksTo}

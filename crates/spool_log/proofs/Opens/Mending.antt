@@ -8,8 +8,8 @@ use Rattle.spool_state.proofs.Laws.{one_state, stands_unbroken}
 use Rattle.edge_disk.specs.Disk.{Moment, IsLawful, IsSettled, IsUntouched, LeavesOnly}
 use Rattle.edge_disk.proofs.Moments.{started, untouched, untouched_run, still_settled}
 use Rattle.spool_log.specs.declared.memory.Memory.{Memory}
-use Rattle.spool_answers.specs.declared.fault.PendFault.{PendFault}
-use Rattle.spool_answers.specs.declared.fault.PendFault.TheVariants.{NotSpool, DiskFault, NoMemory}
+use Rattle.spool_faults.specs.declared.fault.PendFault.{PendFault}
+use Rattle.spool_faults.specs.declared.fault.PendFault.TheVariants.{NotSpool, DiskFault, NoMemory}
 use Rattle.spool_log.specs.Reading.{IsReadFault, KnowsState}
 use Rattle.spool_log.specs.Knows.{IsStored}
 use Rattle.spool_log.specs.State.{View, view, IsIn}

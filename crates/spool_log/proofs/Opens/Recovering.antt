@@ -14,8 +14,8 @@ use Rattle.spool_log.specs.declared.fault.RecoverFault.TheVariants as Recover
 use Rattle.spool_log.specs.declared.opening.Opening.{Opening}
 use Rattle.spool_log.specs.declared.opening.Opening.TheVariants.{Keep, Raise}
 use Rattle.spool_log.specs.declared.memory.Memory.{Memory}
-use Rattle.spool_answers.specs.declared.fault.PendFault.{PendFault}
-use Rattle.spool_answers.specs.declared.fault.PendFault.TheVariants.{NotSpool, DiskFault, NoMemory}
+use Rattle.spool_faults.specs.declared.fault.PendFault.{PendFault}
+use Rattle.spool_faults.specs.declared.fault.PendFault.TheVariants.{NotSpool, DiskFault, NoMemory}
 use Rattle.spool_log.specs.Reading.{IsReadFault, KnowsState}
 use Rattle.spool_log.specs.Fault.{as_recover, of_set}
 use Rattle.spool_log.specs.Knows.{Knows, IsStored}

@@ -7,7 +7,7 @@ use Rattle.spool_state.specs.Left.{left_from}
 use Rattle.spool_state.proofs.Following.{follows_self}
 use Rattle.edge_disk.specs.Disk.{Moment, IsLawful, IsUntouched}
 use Rattle.edge_disk.proofs.Moments.{untouched_run}
-use Rattle.spool_answers.specs.declared.fault.PendFault.{PendFault}
+use Rattle.spool_faults.specs.declared.fault.PendFault.{PendFault}
 use Rattle.spool_answers.specs.declared.numbered.Numbered.{Numbered}
 use Rattle.spool_log.specs.declared.memory.Memory.{Memory}
 use Rattle.spool_log.specs.Knows.{Knows, IsStored}

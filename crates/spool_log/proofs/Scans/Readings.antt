@@ -28,8 +28,8 @@ use Rattle.disk_cell.proofs.Contents.{text_is}
 use Rattle.disk_cell.proofs.Frames.{knows_holds}
 use Rattle.spool_slots.specs.declared.slot.Slot.{Slot}
 use Rattle.spool_log.specs.declared.reading.header.Header.{Header}
-use Rattle.spool_answers.specs.declared.fault.PendFault.{PendFault}
-use Rattle.spool_answers.specs.declared.fault.PendFault.TheVariants.{NotSpool, DiskFault, NoMemory}
+use Rattle.spool_faults.specs.declared.fault.PendFault.{PendFault}
+use Rattle.spool_faults.specs.declared.fault.PendFault.TheVariants.{NotSpool, DiskFault, NoMemory}
 use Rattle.spool_log.specs.declared.memory.Memory.{Memory}
 use Rattle.spool_log.specs.Knows.{KnowsSlot, KnowsSlots, IsStored}
 use Rattle.spool_log.specs.Reading.Header.{HasHeader}

@@ -3,8 +3,8 @@ use Rattle.std.specs.Prelude.{◌≡◌, List, Result}
 use Rattle.known_numbers.specs.declared.stretch.Stretch.{Stretch}
 use Rattle.spool_state.specs.Layout.{most_number}
 use Rattle.spool_state.specs.SpoolState.{SpoolState, Follows}
-use Rattle.spool_answers.specs.declared.fault.ConfirmFault.{ConfirmFault}
-use Rattle.spool_answers.specs.declared.fault.ConfirmFault.TheVariants.{Worn, NotSpool, DiskFault, NoMemory}
+use Rattle.spool_faults.specs.declared.fault.ConfirmFault.{ConfirmFault}
+use Rattle.spool_faults.specs.declared.fault.ConfirmFault.TheVariants.{Worn, NotSpool, DiskFault, NoMemory}
 use Rattle.spool_answers.specs.Mark.{Marks, after_mark, mark_stages, mark_doubt}
 use Rattle.spool_log.specs.declared.memory.Memory.{Memory}
 use Rattle.spool_answers.specs.Stages.{AllFollow}

@@ -10,13 +10,16 @@ ghost use Rattle.spool_log.specs.Making.Format.{IsFormatStep, CameOf};
 use crate::making::steps::make_empty;
 use crate::reading::header::FIRST_SLOT;
 use edge_disk::{Disk, DiskFault};
+use thiserror::Error;
 
 /// Why a device was not made an empty spool.
-#[derive(Clone, Copy, PartialEq, Eq)]
+#[derive(Clone, Copy, PartialEq, Eq, Debug, Drop, Error)]
 pub enum FormatFault {
     /// The device has `have` bytes, and so many slots of this size need `want`. No call was made.
+    #[error("device has {have} bytes, {want} wanted")]
     WrongLength { have: u64, want: u64 },
     /// A call of the disk failed.
+    #[error("disk fault")]
     DiskFault,
 }
 

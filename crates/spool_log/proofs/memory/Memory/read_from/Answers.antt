@@ -7,7 +7,7 @@ use Rattle.edge_disk.proofs.Moments.{untouched_refl, untouched_then}
 use Rattle.spool_state.specs.Segment.{entries_of}
 use Rattle.spool_state.specs.SpoolState.{base, list, numbers_of}
 use Rattle.spool_state.specs.Left.{NumberedEntry, numbered, left_from}
-use Rattle.spool_answers.specs.declared.fault.PendFault.{PendFault}
+use Rattle.spool_faults.specs.declared.fault.PendFault.{PendFault}
 use Rattle.spool_log.specs.declared.reading.bookmark.Bookmark.{Bookmark}
 use Rattle.spool_answers.specs.declared.numbered.Numbered.{Numbered}
 use Rattle.spool_log.specs.Device.{first_in}

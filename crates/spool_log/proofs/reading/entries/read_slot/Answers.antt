@@ -8,7 +8,7 @@ use Rattle.spool_state.specs.Segment.{entries_of}
 use Rattle.spool_state.specs.Left.{numbered}
 use Rattle.spool_slots.specs.Slot as Slots
 use Rattle.spool_slots.specs.Mark.{IsMark}
-use Rattle.spool_answers.specs.declared.fault.PendFault.{PendFault}
+use Rattle.spool_faults.specs.declared.fault.PendFault.{PendFault}
 use Rattle.spool_log.specs.declared.reading.bookmark.Bookmark.{Bookmark}
 use Rattle.spool_answers.specs.Pend.{given_entries, AreNumbered, IsNotBroken}
 use Rattle.spool_log.specs.Reading.Marked.{AreMarks}

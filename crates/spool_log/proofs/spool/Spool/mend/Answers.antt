@@ -1,8 +1,8 @@
 use Rattle.std.proofs.Common.{◌∙◌, sym, subst}
 use Rattle.std.specs.Prelude.{Result}
 use Rattle.edge_disk.proofs.Moments.{still_settled, untouched_refl}
-use Rattle.spool_answers.specs.declared.fault.PendFault.{PendFault}
-use Rattle.spool_answers.specs.declared.fault.PendFault.TheVariants.{DiskFault}
+use Rattle.spool_faults.specs.declared.fault.PendFault.{PendFault}
+use Rattle.spool_faults.specs.declared.fault.PendFault.TheVariants.{DiskFault}
 use Rattle.spool_log.specs.Knows.{IsStored}
 use Rattle.spool_log.specs.State.{view}
 use Rattle.spool_log.specs.Outcome.{Mends}

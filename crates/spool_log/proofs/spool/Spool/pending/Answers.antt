@@ -5,7 +5,7 @@ use Rattle.std.proofs.Math.Logic.{∥∥₁_elim}
 use Rattle.std.proofs.Props.{props}
 use Rattle.spool_state.specs.Image.{slot_at}
 use Rattle.edge_disk.proofs.Moments.{still_settled}
-use Rattle.spool_answers.specs.declared.fault.PendFault.{PendFault}
+use Rattle.spool_faults.specs.declared.fault.PendFault.{PendFault}
 use Rattle.spool_answers.specs.declared.numbered.Numbered.{Numbered}
 use Rattle.spool_log.specs.Knows.{IsStored}
 use Rattle.spool_log.specs.State.{KnowsDevice, view}
