@@ -78,7 +78,10 @@ fn give(bytes: &[u8], at: usize, buf: &mut [u8]) -> usize
 
 impl<'a> Held<'a> {
     /// A link by this plan, of which nothing was given and to which nothing was written.
-    pub(crate) fn by(alloc: Global, plan: &'static Plan, marks: &'a [AtomicBool]) -> Held<'a> {
+    pub(crate) fn by(alloc: Global, plan: &'static Plan, marks: &'a [AtomicBool]) -> Held<'a>
+        ensures reads { result.read_faults ≡ 0 }
+        ensures writes { result.write_faults ≡ 0 }
+    {
         Held {
             plan,
             marks,

@@ -240,6 +240,7 @@ impl Net for MemNet {
         ensures place { IfOk result (λ link. IsDialed (state_of self.old).hung (link_place link) place.now) }
         ensures fresh { IfOk result (λ link. IsFresh (state_of self.old).hung
             (Some (given_of (source_of link))) (Some (taken_of (sink_of link))) (Some (left_of (source_of link)))) }
+        ensures unfailed { IfOk result (λ link. (link_read_faults (source_of link) ≡ 0) × (link_write_faults (sink_of link) ≡ 0)) }
         ensures room { OnOk result (has_room_for_one self.new) }
         ensures cause { HasNetCause (state_of self.old).net_faults (state_of self.new).net_faults result }
         ensures bound { (state_of self.new).bound ≡ (state_of self.old).bound }

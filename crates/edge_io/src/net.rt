@@ -57,13 +57,14 @@ pub trait Net: Pause {
         ensures rest { SameHung (told self.old) (told self.new) }
         ensures same { Self.same self.old self.new };
 
-    /// Dials the place: the link has given and taken no byte. `Fault` comes only where the net's own count of
-    /// faults rose in this call.
+    /// Dials the place: the link has given and taken no byte, and no call of it has failed yet. `Fault` comes only where the net's own
+    /// count of faults rose in this call.
     fn dial(&mut self, place: &str) -> Result<Self::L, NetFault>
         requires named { may_dial place.now }
         ensures place { IfOk result (λ link. IsDialed (told self.old).hung (Self.L.dialed link) place.now) }
         ensures fresh { IfOk result (λ link. IsFresh (told self.old).hung
             (Self.L.given link) (Self.L.taken link) (Self.L.left link)) }
+        ensures unfailed { IfOk result (λ link. (Self.L.read_faults link ≡ 0) × (Self.L.write_faults link ≡ 0)) }
         ensures room { OnOk result (has_room self.new) }
         ensures cause { HasNetCause (told self.old).net_faults (told self.new).net_faults result }
         ensures bound { (told self.new).bound ≡ (told self.old).bound }

@@ -26,7 +26,7 @@ nothing o entries takes begins = record {
   progress = o.start;
   takes = takes;
   begins = begins;
-  ends = (o.text entries o.start, refl, λ place told. absurd (none_told place told));
+  ends = (o.text entries o.start, refl, λ place told. absurd (none_told place told), λ place told. absurd (none_told place told));
 }
 
 nothing_as : (settings : Settings) (proto : Proto) (entries : List Entry) → EndsAs settings proto entries [] [] 0 [] Ending.NoMemory

@@ -17,6 +17,10 @@ pub if_both : {E : Type 0} (P Q R : Turn → Type 0) (r : Result Turn E) → ((t
 if_both P Q R (Ok turn) f h g = f turn h g
 if_both P Q R (Err e) f h g = tt
 
+pub if_three : {E : Type 0} (P Q R S : Turn → Type 0) (r : Result Turn E) → ((turn : Turn) → P turn → Q turn → R turn → S turn) → IfOk r P → IfOk r Q → IfOk r R → IfOk r S
+if_three P Q R S (Ok turn) f h g k = f turn h g k
+if_three P Q R S (Err e) f h g k = tt
+
 pub append_none : {A : Type 0} (xs : List A) → xs ++ [] ≡ xs
 append_none {A = A} [] = refl
 append_none {A = A} (x ∷ xs) = ap (λ (l : List A). x ∷ l) (append_none xs)
@@ -30,9 +34,9 @@ begins_first {F = F} Spells (f ∷ fs) gs bytes front rest are whole =
     let r = begins_first Spells fs gs (are.1 ++ rest) are.1 rest are.4 refl in
     (first ++ r.0, r.1, (first, r.0, are.2, refl, r.2), whole ∙ ap (λ (l : List ℕ). l ++ rest) are.3 ∙ append_assoc first are.1 rest ∙ ap (λ (l : List ℕ). first ++ l) r.3 ∙ sym (append_assoc first r.0 r.1))
 
--- What was told is acknowledged, and begins the text.
+-- What was told was sent and is acknowledged, and what was written begins the text.
 pub begun : {F P : Type 0} (o : Outlet F P) (entries : List Entry) (p : P) (out : List ℕ) (told : ℕ) (also : List ℕ) → IsCutShort o entries p out told also → IsBegun o entries p out told also
-begun o entries p out told also c = (c.0, c.2, λ place is. (c.3.all place).1 is)
+begun o entries p out told also c = (c.0, c.2, c.4, λ place is. (c.3.all place).1 is)
 
 -- a session that halts
 pub halted : {F P : Type 0} (o : Outlet F P) (entries : List Entry) (bytes : List ℕ) (frames : List F) (p : P) (out : List ℕ) (told : ℕ) (also : List ℕ) → o.Takes (length entries) o.start frames p → o.IsFront bytes frames

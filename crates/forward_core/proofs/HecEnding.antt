@@ -1,6 +1,6 @@
 -- What a sender to the collector has sent, where a session ends.
 use Rattle.std.proofs.Common.{◌≡◌, ◌≢◌, inl, inr, ℕ, ◌+◌, ◌*◌, ◌<◌, ◌≤◌, ◌^◌, ◌∙◌, Bool, true, false, List, [], ◌∷◌, ◌++◌, length, refl, sym, ap, subst, arith, append_assoc, length-append}
-use Rattle.std.specs.Prelude.{◌⊎◌, if◌then◌else◌, Contains, Option, Some, None, Result, Ok, Err, IfOk}
+use Rattle.std.specs.Prelude.{◌%◌, ◌⊎◌, if◌then◌else◌, Contains, Option, Some, None, Result, Ok, Err, IfOk}
 use Rattle.std.specs.List.{flat_map}
 use Rattle.std.proofs.lemmas.Bool.{false≢true}
 use Rattle.event_form.specs.declared.event.Entry.{Entry}
@@ -19,7 +19,9 @@ use Rattle.hec_sender.specs.Progress.{Progress, known_by}
 use Rattle.hec_sender.specs.Sender.{Sender, given}
 use Rattle.hec_sender.specs.Sender as sender
 use Rattle.hec_sender.specs.Sends.{History, Sends, SendsOn, HasRead}
-use Rattle.hec_sender.specs.Turns.{Begins, IsSpent, IsTold, IsTurn, IsWholeOf}
+use Rattle.hec_sender.specs.Turns.{Begins, IsSpent, IsTold, IsTurn, IsWholeOf, TellsSent}
+use Rattle.hec_sender.specs.Requests.{IsSent, confirmed_text}
+use Rattle.hec_sender.specs.declared.terms.Terms.{Terms}
 use Rattle.forward_core.specs.declared.sent.Sent.{Sent}
 use Rattle.forward_core.specs.declared.sent.Sent.TheVariants as ending
 use Rattle.forward_core.specs.Hec.{HasSent, IsFront, IsWhole, StopsNext, collector, settings_of}
@@ -27,7 +29,7 @@ use Rattle.forward_core.specs.Outlet.{Ended, Ends, IsFull, IsOpen}
 use Rattle.forward_core.specs.Outlet as outlet
 use Rattle.forward_core.specs.Turning.{IsAlsoOne, IsCut, IsEndingBy, IsHalt, IsSpending, MayEnd, MayFollow, TellsFirst, also_of}
 use Rattle.forward_core.proofs.Ends.{append_none, cut_short, halted, many, missing_of, some_missing}
-use Rattle.forward_core.proofs.LumberEnding.{even_of}
+use Rattle.forward_core.proofs.LumberEnding.{even_of, of_first}
 
 -- ---- what the turns of the two crates say
 
@@ -310,22 +312,50 @@ pub waits_of : (turn : Turn) (s : Sender) → Facts turn s → turn ≡ Wait →
     → MayEnd (λ fed out. HasSent s entries fed out also) (λ fed out. Ended (collector (settings_of s)) (entries ++ more) fed out s.done also)
 waits_of turn s f is = waits_for s (subst (λ (t : Turn). Facts t s) is f)
 
+-- what a sender has told was sent
+abbrev HasSentTold : Sender → Type 0
+HasSentTold s = (h : History) (more : List Entry) → Sends h s → sender.MayFollow s more → TellsSent h more s
+
+-- so it is once a text more was written
+sent_still : (terms : Terms) (entries : List Entry) (out part : List ℕ) (place : ℕ) → IsSent terms entries out place → IsSent terms entries (out ++ part) place
+sent_still terms entries out part place is = record {
+  requests = is.requests;
+  rest = is.rest ++ part;
+  within = is.within;
+  begins = ap (λ (l : List ℕ). l ++ part) is.begins ∙ append_assoc (confirmed_text terms 0 is.requests entries) is.rest part;
+}
+
 -- a session halts
-pub halts_of : (s : Sender) → ((h : History) (more : List Entry) → Sends h s → sender.MayFollow s more → Begins s.terms h more)
+pub halts_of : (s : Sender) → ((h : History) (more : List Entry) → Sends h s → sender.MayFollow s more → Begins s.terms h more) → HasSentTold s
     → (entries more : List Entry) (fed piece out also : List ℕ) (sent : Sent) → IsHalt sent → May s more → HasSent s entries fed out also → EndedBy s (entries ++ more) (fed ++ piece) out sent also
-halts_of s begins entries more fed piece out also sent halt may h =
+halts_of s begins sent_of entries more fed piece out also sent halt may h =
     let hist = HistoryOf entries fed out h.1.0 h.1.1 in
     let was = h.1.2 in
     let b = begins hist more was (follow s more may) in
     let tells = tells_all hist s more may was in
+    let sent_are = of_first s.done (IsSent s.terms (entries ++ more) out) (sent_of hist more was (follow s more may)) in
     let front = front_more fed piece h.1.0 (front_by s.terms.polls s.reader h.1.1 fed h.1.0 s.stop was.read) in
     subst (EndedBy s (entries ++ more) (fed ++ piece) out sent) (sym h.0)
-    (halted (collector (settings_of s)) (entries ++ more) (fed ++ piece) h.1.0 h.1.1 out s.done [] was.takes front (b.0, b.1, λ place told. (tells.all place).1 told) sent halt)
+    (halted (collector (settings_of s)) (entries ++ more) (fed ++ piece) h.1.0 h.1.1 out s.done [] was.takes front (b.0, b.1, sent_are, λ place told. (tells.all place).1 told) sent halt)
+
+-- what a turn leaves as it was, and what was told before it
+pub record Before (old s : Sender) : Type 0 where
+  pub terms : s.terms ≡ old.terms
+  pub given_is : given s ≡ given old
+  pub finished : s.finished ≡ old.finished
+  pub sent : HasSentTold old
+
+-- what was told before a text was sent before it, whatever of the text was written
+sent_before : (old s : Sender) → Before old s → s.done ≡ old.done → (h : History) (more : List Entry) (part : List ℕ) → sender.MayFollow s more → Sends h old → (place : ℕ) → place < s.done → IsSent s.terms (h.entries ++ more) (h.out ++ part) place
+sent_before old s b same h more part may was place less =
+    let may_old : sender.MayFollow old more = record { none = λ f. may.none (b.finished ∙ f); whole = λ some. ap (λ (n : ℕ). n % 128) (sym b.given_is) ∙ may.whole some } in
+    let is = b.sent h more was may_old place (omega (arith, less, same)) in
+    sent_still s.terms (h.entries ++ more) h.out part place (subst (λ (t : Terms). IsSent t (h.entries ++ more) h.out place) (sym b.terms) is)
 
 -- a text is cut
-cuts_for : (text : List ℕ) (old s : Sender) → SendsOn old text s → ((h : History) (more : List Entry) → Sends h s → sender.MayFollow s more → Begins s.terms h more)
+cuts_for : (text : List ℕ) (old s : Sender) → SendsOn old text s → Before old s → s.done ≡ old.done → ((h : History) (more : List Entry) → Sends h s → sender.MayFollow s more → Begins s.terms h more)
     → (entries more : List Entry) (fed out part rest also : List ℕ) (sent : Sent) → IsCut sent → May s more → text ≡ part ++ rest → 0 < length rest → HasSent old entries fed out also → EndedBy s (entries ++ more) fed (out ++ part) sent also
-cuts_for text old s on begins entries more fed out part rest also sent is may parts some was =
+cuts_for text old s on before same begins entries more fed out part rest also sent is may parts some was =
     let h = sent_on old s text on entries fed out also was in
     let after = HistoryOf entries fed (out ++ text) h.1.0 h.1.1 in
     let sends = h.1.2 in
@@ -336,9 +366,11 @@ cuts_for text old s on begins entries more fed out part rest also sent is may pa
       some_missing rest b.0 some,
       b.1 ∙ missing_of out text part rest b.0 parts,
       tells_all after s more may sends,
+      of_first s.done (IsSent s.terms (entries ++ more) (out ++ part)) (sent_before old s before same (HistoryOf entries fed out was.1.0 was.1.1) more part (follow s more may) was.1.2),
     ) sent is in
     subst (EndedBy s (entries ++ more) fed (out ++ part) sent) (sym was.0) row
 
-pub cuts_of : (turn : Turn) (old s : Sender) → SendsOn old (text_of turn) s → ((h : History) (more : List Entry) → Sends h s → sender.MayFollow s more → Begins s.terms h more)
+pub cuts_of : (turn : Turn) (old s : Sender) → SendsOn old (text_of turn) s → Before old s → IsTold turn old.done s.done → ((h : History) (more : List Entry) → Sends h s → sender.MayFollow s more → Begins s.terms h more)
     → (entries more : List Entry) (fed out part rest also : List ℕ) (sent : Sent) → IsCut sent → May s more → text_of turn ≡ part ++ rest → 0 < length rest → HasSent old entries fed out also → EndedBy s (entries ++ more) fed (out ++ part) sent also
-cuts_of turn old s on begins entries more fed out part rest also sent is may parts some was = cuts_for (text_of turn) old s on begins entries more fed out part rest also sent is may parts some was
+cuts_of (Write text) old s on before same begins entries more fed out part rest also sent is may parts some was = cuts_for text old s on before same begins entries more fed out part rest also sent is may parts some was
+cuts_of turn old s on before same begins entries more fed out part rest also sent is may parts some was = absurd (let n : 0 ≡ length (part ++ rest) = ap length parts in omega (arith, n, some, length-append part rest))

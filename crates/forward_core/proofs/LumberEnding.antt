@@ -1,6 +1,6 @@
 -- What a sender of Lumberjack has sent, where a session ends.
 use Rattle.std.proofs.Common.{◌≡◌, ◌≢◌, inl, inr, ℕ, ◌+◌, ◌*◌, ◌<◌, ◌≤◌, ◌^◌, ◌∙◌, true, List, [], ◌∷◌, ◌++◌, length, refl, sym, ap, subst, arith, append_assoc, length-append}
-use Rattle.std.specs.Prelude.{◌%◌, ◌⊎◌, Contains, Option, Some, None, Result, Ok, Err, IfOk}
+use Rattle.std.specs.Prelude.{◌%◌, ◌/◌, Contains, Option, Some, None, Result, Ok, Err, IfOk}
 use Rattle.std.proofs.lemmas.Bool.{false≢true}
 use Rattle.event_form.specs.declared.event.Entry.{Entry}
 use Rattle.event_form.specs.declared.talk.Why.{Why}
@@ -17,19 +17,21 @@ use Rattle.lumber_sender.specs.Progress.{Progress, TakesAll, known_by, unacknowl
 use Rattle.lumber_sender.specs.Sender.{Sender, given, progress_of}
 use Rattle.lumber_sender.specs.Sender as sender
 use Rattle.lumber_sender.specs.Sends.{History, Sends, SendsOn, CanHave, EndAt, HasRead}
-use Rattle.lumber_sender.specs.Turns.{Begins, IsSpent, IsTold, IsTurn, IsWholeOf, TellsAll}
+use Rattle.lumber_sender.specs.Turns.{Begins, IsSpent, IsTurn, IsWholeOf, TellsAll, TellsSent}
+use Rattle.lumber_sender.specs.Turns as turns
+use Rattle.lumber_sender.specs.Windows.{IsSent, windows_text}
 use Rattle.forward_core.specs.declared.sent.Sent.{Sent}
 use Rattle.forward_core.specs.declared.sent.Sent.TheVariants as ending
 use Rattle.forward_core.specs.Lumber.{EndsAt, HasSent, IsFront, IsWhole, StopsNext, lumberjack}
 use Rattle.forward_core.specs.Outlet.{Ended, Ends, IsFull, IsOpen}
 use Rattle.forward_core.specs.Outlet as outlet
-use Rattle.forward_core.specs.Turning.{IsAlsoOne, IsCut, IsEndingBy, IsHalt, IsSpending, MayEnd, MayFollow, TellsFirst, also_of}
+use Rattle.forward_core.specs.Turning.{IsAlsoOne, IsCut, IsEndingBy, IsHalt, IsSpending, IsTold, MayEnd, MayFollow, TellsFirst, also_of}
 use Rattle.lumber_sender.proofs.Reading.{acks_length}
 use Rattle.forward_core.proofs.Ends.{append_none, begins_first, cut_short, halted, many, missing_of, some_missing}
 
 -- ---- what the turns of the two crates say
 
-pub tells_first : (turn : Turn) (s : Sender) (before : ℕ) → IsTurn turn s → IsTold turn before s.told → TellsFirst s.first turn before s.told
+pub tells_first : (turn : Turn) (s : Sender) (before : ℕ) → IsTurn turn s → turns.IsTold turn before s.told → TellsFirst s.first turn before s.told
 tells_first (Confirmed upto) s before is on = (on, is.2)
 tells_first turn s before is on = on
 
@@ -254,24 +256,49 @@ pub waits_of : (turn : Turn) (s : Sender) → Facts turn s → turn ≡ Wait →
     → MayEnd (λ fed out. HasSent s entries fed out also) (λ fed out. Ended lumberjack (entries ++ more) fed out s.told also)
 waits_of turn s f is = waits_for s (subst (λ (t : Turn). Facts t s) is f)
 
+-- what a sender has told was sent
+abbrev HasSentTold : Sender → Type 0
+HasSentTold s = (h : History) (more : List Entry) → Sends h s → sender.MayFollow s more → TellsSent h more s
+
+-- so it is once a text more was written
+sent_still : (entries : List Entry) (out part : List ℕ) (place : ℕ) → IsSent entries out place → IsSent entries (out ++ part) place
+sent_still entries out part place is = (is.0 ++ part, ap (λ (l : List ℕ). l ++ part) is.1 ∙ append_assoc (windows_text (place / 128 + 1) entries) is.0 part)
+
+-- it tells of the first entries alone
+pub of_first : (told : ℕ) (P : ℕ → Type 0) → ((place : ℕ) → place < told → P place) → (place : ℕ) → IsTold told [] place → P place
+of_first told P all place is = elim is [ inl less ↦ all place less | inr c ↦ absurd (none place c) ]
+
 -- a session halts
-pub halts_of : (s : Sender) → s.reader.side ≡ side.Sender → ((h : History) (more : List Entry) → Sends h s → sender.MayFollow s more → Begins h more) → ((h : History) → Sends h s → s.told ≤ known_by h.progress)
+pub halts_of : (s : Sender) → s.reader.side ≡ side.Sender → ((h : History) (more : List Entry) → Sends h s → sender.MayFollow s more → Begins h more) → ((h : History) → Sends h s → s.told ≤ known_by h.progress) → HasSentTold s
     → (entries more : List Entry) (fed piece out also : List ℕ) (sent : Sent) → IsHalt sent → MayFollow (s.finished ≡ true) (given s) more → HasSent s entries fed out also → Ended lumberjack (entries ++ more) (fed ++ piece) out s.told also sent
-halts_of s is begins most entries more fed piece out also sent halt may h =
+halts_of s is begins most sent_of entries more fed piece out also sent halt may h =
     let hist = HistoryOf entries fed out h.1.0 h.1.1 in
     let was = h.1.2 in
     let b = begins hist more was (follow s more may) in
     let least = most hist was in
     let takes = subst (TakesAll (length (entries ++ more)) unacknowledged h.1.0) (sym was.progress) (was.takes (length (entries ++ more)) (can_have hist s more may was)) in
     let front = front_more fed piece h.1.0 (front_by fed h.1.0 s s.stop is was.read) in
-    let only : (place : ℕ) → (place < s.told) ⊎ Contains [] place → place < known_by h.1.1 = λ place told. elim told [ inl less ↦ omega (arith, less, least) | inr c ↦ absurd (none place c) ] in
-    subst (EndedBy (entries ++ more) (fed ++ piece) out s.told sent) (sym h.0) (halted lumberjack (entries ++ more) (fed ++ piece) h.1.0 h.1.1 out s.told [] takes front (b.0, b.1, only) sent halt)
+    let only = of_first s.told (λ (place : ℕ). place < known_by h.1.1) (λ place less. omega (arith, less, least)) in
+    let sent_are = of_first s.told (IsSent (entries ++ more) out) (sent_of hist more was (follow s more may)) in
+    subst (EndedBy (entries ++ more) (fed ++ piece) out s.told sent) (sym h.0) (halted lumberjack (entries ++ more) (fed ++ piece) h.1.0 h.1.1 out s.told [] takes front (b.0, b.1, sent_are, only) sent halt)
+
+-- what a turn leaves as it was, and what was told before it
+pub record Before (old s : Sender) : Type 0 where
+  pub given_is : given s ≡ given old
+  pub finished : s.finished ≡ old.finished
+  pub sent : HasSentTold old
+
+-- what was told before a text was sent before it, whatever of the text was written
+sent_before : (old s : Sender) → Before old s → s.told ≡ old.told → (h : History) (more : List Entry) (part : List ℕ) → sender.MayFollow s more → Sends h old → (place : ℕ) → place < s.told → IsSent (h.entries ++ more) (h.out ++ part) place
+sent_before old s b same h more part may was place less =
+    let may_old : sender.MayFollow old more = record { none = λ f. may.none (b.finished ∙ f); whole = λ some. ap (λ (n : ℕ). n % 128) (sym b.given_is) ∙ may.whole some } in
+    sent_still (h.entries ++ more) h.out part place (b.sent h more was may_old place (omega (arith, less, same)))
 
 -- a text is cut
-cuts_for : (text : List ℕ) (old s : Sender) → Facts (Write text) s → SendsOn old text s → ((h : History) (more : List Entry) → Sends h s → sender.MayFollow s more → Begins h more)
+cuts_for : (text : List ℕ) (old s : Sender) → Facts (Write text) s → SendsOn old text s → Before old s → s.told ≡ old.told → ((h : History) (more : List Entry) → Sends h s → sender.MayFollow s more → Begins h more)
     → (entries more : List Entry) (fed out part rest also : List ℕ) (sent : Sent) → IsCut sent → MayFollow (s.finished ≡ true) (given s) more → text ≡ part ++ rest → 0 < length rest → HasSent old entries fed out also
     → Ended lumberjack (entries ++ more) fed (out ++ part) s.told also sent
-cuts_for text old s f on begins entries more fed out part rest also sent is may parts some was =
+cuts_for text old s f on before same begins entries more fed out part rest also sent is may parts some was =
     let h = sent_on old s text on entries fed out also was in
     let after = HistoryOf entries fed (out ++ text) h.1.0 h.1.1 in
     let sends = h.1.2 in
@@ -283,11 +310,12 @@ cuts_for text old s f on begins entries more fed out part rest also sent is may 
       some_missing rest b.0 some,
       b.1 ∙ missing_of out text part rest b.0 parts,
       tells_all after s (entries ++ more) (f.known tt after sends),
+      of_first s.told (IsSent (entries ++ more) (out ++ part)) (sent_before old s before same (HistoryOf entries fed out was.1.0 was.1.1) more part (follow s more may) was.1.2),
     ) sent is in
     subst (EndedBy (entries ++ more) fed (out ++ part) s.told sent) (sym was.0) row
 
-pub cuts_of : (turn : Turn) (old s : Sender) → Facts turn s → SendsOn old (text_of turn) s → ((h : History) (more : List Entry) → Sends h s → sender.MayFollow s more → Begins h more)
+pub cuts_of : (turn : Turn) (old s : Sender) → Facts turn s → SendsOn old (text_of turn) s → Before old s → turns.IsTold turn old.told s.told → ((h : History) (more : List Entry) → Sends h s → sender.MayFollow s more → Begins h more)
     → (entries more : List Entry) (fed out part rest also : List ℕ) (sent : Sent) → IsCut sent → MayFollow (s.finished ≡ true) (given s) more → text_of turn ≡ part ++ rest → 0 < length rest → HasSent old entries fed out also
     → Ended lumberjack (entries ++ more) fed (out ++ part) s.told also sent
-cuts_of (Write text) old s f on begins entries more fed out part rest also sent is may parts some was = cuts_for text old s f on begins entries more fed out part rest also sent is may parts some was
-cuts_of turn old s f on begins entries more fed out part rest also sent is may parts some was = absurd (let n : 0 ≡ length (part ++ rest) = ap length parts in omega (arith, n, some, length-append part rest))
+cuts_of (Write text) old s f on before same begins entries more fed out part rest also sent is may parts some was = cuts_for text old s f on before same begins entries more fed out part rest also sent is may parts some was
+cuts_of turn old s f on before same begins entries more fed out part rest also sent is may parts some was = absurd (let n : 0 ≡ length (part ++ rest) = ap length parts in omega (arith, n, some, length-append part rest))

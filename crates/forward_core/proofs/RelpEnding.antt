@@ -1,5 +1,5 @@
 -- What a sender of RELP has sent, where a session ends.
-use Rattle.std.proofs.Common.{◌≡◌, ◌≢◌, inl, inr, ℕ, ◌+◌, ◌*◌, ◌<◌, ◌≤◌, ◌^◌, ◌∙◌, true, false, List, [], ◌∷◌, ◌++◌, length, refl, sym, ap, subst, arith, append_assoc, length-append}
+use Rattle.std.proofs.Common.{◌≡◌, ◌≢◌, inl, inr, ℕ, ◌+◌, ◌*◌, ◌<◌, ◌≤◌, ◌^◌, ◌∙◌, true, false, List, [], ◌∷◌, ◌++◌, length, take, refl, sym, ap, subst, arith, append_assoc, length-append}
 use Rattle.std.specs.Prelude.{Option, Some, None, Result, Ok, Err, IfOk}
 use Rattle.std.proofs.lemmas.Bool.{false≢true}
 use Rattle.stream_grammar.specs.Reading.{ReadsTo, Drops}
@@ -21,13 +21,15 @@ use Rattle.relp_sender.specs.Progress.{Progress}
 use Rattle.relp_sender.specs.Sender.{Sender, MayAsk, given}
 use Rattle.relp_sender.specs.Sends.{History, Sends, SendsOn, CanHave, HasRead}
 use Rattle.relp_sender.specs.Spending.{IsSpent}
-use Rattle.relp_sender.specs.Turns.{IsFirstOf, IsToldOn, IsTurn, IsWholeOf, Begins, TellsAll, TellsKnown}
+use Rattle.relp_sender.specs.Turns.{IsFirstOf, IsToldOn, IsTurn, IsWholeOf, Begins, TellsAll, TellsKnown, TellsSent}
+use Rattle.relp_sender.specs.Text.{IsSent}
+use Rattle.relp_sender.specs.Texts.{frames_text, open_text}
 use Rattle.relp_sender.specs.Turns as turns
 use Rattle.forward_core.specs.declared.sent.Sent.{Sent}
 use Rattle.forward_core.specs.declared.sent.Sent.TheVariants as ending
 use Rattle.forward_core.specs.Outlet.{Ended, Ends, IsFull, IsOpen}
 use Rattle.forward_core.specs.Relp.{HasSent, Hints, IsFront, IsWhole, StopsNext, relp}
-use Rattle.forward_core.specs.Turning.{IsAlsoOne, IsCut, IsEndingBy, IsHalt, IsSpending, MayEnd, MayFollow, TellsFirst, also_of}
+use Rattle.forward_core.specs.Turning.{IsAlsoOne, IsCut, IsEndingBy, IsHalt, IsSpending, IsTold, MayEnd, MayFollow, TellsFirst, also_of}
 use Rattle.forward_core.proofs.Ends.{append_none, begins_first, cut_short, halted, many, missing_of, some_missing}
 
 -- ---- what the turns of the two crates say
@@ -230,20 +232,31 @@ pub waits_of : (turn : Turn) (s : Sender) → Facts turn s → turn ≡ Wait →
     → MayEnd (λ fed out. HasSent s entries fed out also) (λ fed out. Ended relp (entries ++ more) fed out s.told also)
 waits_of turn s f is = waits_for s (subst (λ (t : Turn). Facts t s) is f)
 
+-- what a sender has told was sent
+abbrev HasSentTold : Sender → Type 0
+HasSentTold s = (h : History) (more : List Entry) → Sends h s → TellsSent h more s
+
+-- so it is once a text more was written
+sent_still : (entries : List Entry) (out part : List ℕ) (place : ℕ) → IsSent entries out place → IsSent entries (out ++ part) place
+sent_still entries out part place is =
+    let frames = frames_text 0 (take (place + 1) entries) in
+    (is.0 ++ part, ap (λ (l : List ℕ). l ++ part) is.1 ∙ append_assoc open_text (frames ++ is.0) part ∙ ap (λ (l : List ℕ). open_text ++ l) (append_assoc frames is.0 part))
+
 -- a session halts
-pub halts_of : (s : Sender) → ((h : History) (more : List Entry) → Sends h s → IsFirstOf s more → Begins h more) → ((h : History) → Sends h s → TellsKnown h s)
+pub halts_of : (s : Sender) → ((h : History) (more : List Entry) → Sends h s → IsFirstOf s more → Begins h more) → ((h : History) → Sends h s → TellsKnown h s) → HasSentTold s
     → (entries more : List Entry) (fed piece out also : List ℕ) (sent : Sent) → IsHalt sent → MayFollow (s.finished ≡ true) (given s) more → HasSent s entries fed out also → Ended relp (entries ++ more) (fed ++ piece) out s.told also sent
-halts_of s begins most entries more fed piece out also sent is may h =
+halts_of s begins most sent_of entries more fed piece out also sent is may h =
     let hist = HistoryOf entries fed out also h.0 h.1 in
     let b = begins hist more h.2 may.none in
-    halted relp (entries ++ more) (fed ++ piece) h.0 h.1 out s.told also (h.2.takes (length (entries ++ more)) (can_have hist s more may h.2)) (front_more fed piece h.0 (front_by fed h.0 h.1 s s.stop h.2.read)) (b.0, b.1, most hist h.2) sent is
+    halted relp (entries ++ more) (fed ++ piece) h.0 h.1 out s.told also (h.2.takes (length (entries ++ more)) (can_have hist s more may h.2)) (front_more fed piece h.0 (front_by fed h.0 h.1 s s.stop h.2.read)) (b.0, b.1, sent_of hist more h.2, most hist h.2) sent is
 
 -- a text is cut
-cuts_for : (text : List ℕ) (old s : Sender) → Facts (Write text) s → SendsOn old text [] s → ((h : History) (more : List Entry) → Sends h s → IsFirstOf s more → Begins h more)
+cuts_for : (text : List ℕ) (old s : Sender) → Facts (Write text) s → SendsOn old text [] s → s.told ≡ old.told → HasSentTold old → ((h : History) (more : List Entry) → Sends h s → IsFirstOf s more → Begins h more)
     → (entries more : List Entry) (fed out part rest also : List ℕ) (sent : Sent) → IsCut sent → MayFollow (s.finished ≡ true) (given s) more → text ≡ part ++ rest → 0 < length rest → HasSent old entries fed out also
     → Ended relp (entries ++ more) fed (out ++ part) s.told also sent
-cuts_for text old s f on begins entries more fed out part rest also sent is may parts some was =
+cuts_for text old s f on same sent_of begins entries more fed out part rest also sent is may parts some was =
     let h = sent_on old s text [] on entries fed out also was in
+    let before = HistoryOf entries fed out also was.0 was.1 in
     let after = HistoryOf entries fed (out ++ text) (also ++ []) h.0 h.1 in
     let b = begins after more h.2 may.none in
     let k = f.known tt after h.2 in
@@ -254,11 +267,12 @@ cuts_for text old s f on begins entries more fed out part rest also sent is may 
       some_missing rest b.0 some,
       b.1 ∙ missing_of out text part rest b.0 parts,
       record { front = k.front; all = k.all },
+      λ place told. sent_still (entries ++ more) out part place (sent_of before more was.2 place (subst (λ (n : ℕ). IsTold n also place) same (subst (λ (l : List ℕ). IsTold s.told l place) (append_none also) told))),
     ) sent is in
     subst (λ (l : List ℕ). Ended relp (entries ++ more) fed (out ++ part) s.told l sent) (append_none also) row
 
-pub cuts_of : (turn : Turn) (old s : Sender) → Facts turn s → SendsOn old (text_of turn) (turns.also_of old.first turn) s → ((h : History) (more : List Entry) → Sends h s → IsFirstOf s more → Begins h more)
+pub cuts_of : (turn : Turn) (old s : Sender) → Facts turn s → SendsOn old (text_of turn) (turns.also_of old.first turn) s → IsToldOn turn old.told s.told → HasSentTold old → ((h : History) (more : List Entry) → Sends h s → IsFirstOf s more → Begins h more)
     → (entries more : List Entry) (fed out part rest also : List ℕ) (sent : Sent) → IsCut sent → MayFollow (s.finished ≡ true) (given s) more → text_of turn ≡ part ++ rest → 0 < length rest → HasSent old entries fed out also
     → Ended relp (entries ++ more) fed (out ++ part) s.told also sent
-cuts_of (Write text) old s f on begins entries more fed out part rest also sent is may parts some was = cuts_for text old s f on begins entries more fed out part rest also sent is may parts some was
-cuts_of turn old s f on begins entries more fed out part rest also sent is may parts some was = absurd (let n : 0 ≡ length (part ++ rest) = ap length parts in omega (arith, n, some, length-append part rest))
+cuts_of (Write text) old s f on same sent_of begins entries more fed out part rest also sent is may parts some was = cuts_for text old s f on same sent_of begins entries more fed out part rest also sent is may parts some was
+cuts_of turn old s f on same sent_of begins entries more fed out part rest also sent is may parts some was = absurd (let n : 0 ≡ length (part ++ rest) = ap length parts in omega (arith, n, some, length-append part rest))

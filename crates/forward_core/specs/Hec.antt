@@ -10,6 +10,7 @@ use Rattle.hec_sender.specs.declared.stop.Stop.{Stop}
 use Rattle.hec_sender.specs.declared.stop.Stop.TheVariants as stop
 use Rattle.hec_sender.specs.declared.terms.Terms.{Terms}
 use Rattle.hec_sender.specs.Progress.{Progress, TakesAll, Stops, known_by, session_text, unconfirmed}
+use Rattle.hec_sender.specs.Requests.{IsSent}
 use Rattle.hec_sender.specs.Sender.{Sender}
 use Rattle.hec_sender.specs.Sends.{Sends}
 use Rattle.http_edge.specs.Why.{why_of}
@@ -56,6 +57,7 @@ collector settings = record {
   text = λ entries p. session_text (terms_of settings) entries p;
   front = known_by;
   IsKnown = λ entries p place. place < known_by entries p;
+  IsSent = IsSent (terms_of settings);
   IsFront = IsFront;
   IsWhole = IsWhole;
   Stops = λ n bytes taken p sent. EndsAfter settings.polls bytes taken p sent;

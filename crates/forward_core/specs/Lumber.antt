@@ -12,6 +12,7 @@ use Rattle.lumber_frame.specs.Spelling.{Spells}
 use Rattle.lumber_frame.specs.Why.{why_of}
 use Rattle.lumber_sender.specs.Sender.{Sender}
 use Rattle.lumber_sender.specs.Sends.{Sends}
+use Rattle.lumber_sender.specs.Windows.{IsSent}
 use Rattle.lumber_sender.specs.Progress.{Progress, TakesAll, Stops, known_by, session_text, unacknowledged}
 use Rattle.forward_core.specs.declared.sent.Sent.{Sent}
 use Rattle.forward_core.specs.declared.sent.Sent.TheVariants.{PeerFault}
@@ -54,6 +55,7 @@ lumberjack = record {
   text = session_text;
   front = λ entries p. known_by p;
   IsKnown = λ entries p place. place < known_by p;
+  IsSent = IsSent;
   IsFront = IsFront;
   IsWhole = IsWhole;
   Stops = EndsAfter;

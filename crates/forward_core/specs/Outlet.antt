@@ -17,6 +17,8 @@ pub record Outlet (F P : Type 0) : Type 1 where
   pub front : List Entry → P → ℕ
   -- of a list of entries, the one at this place is acknowledged
   pub IsKnown : List Entry → P → ℕ → Type 0
+  -- of a list of entries, this text begins with all that is written up to and with the one at this place
+  pub IsSent : List Entry → List ℕ → ℕ → Type 0
   -- the bytes begin with these frames
   pub IsFront : List ℕ → List F → Type 0
   -- these are all frames of the bytes, which have no fault
@@ -38,15 +40,20 @@ IsFull o entries p out told also = (out ≡ o.text entries p) × TellsAll o entr
 abbrev pub IsOpen : {F P : Type 0} → Outlet F P → List Entry → P → List ℕ → ℕ → List ℕ → Type 0
 IsOpen o entries p out told also = (out ≡ o.text entries p) × TellsAll o entries p told also × (told < length entries)
 
--- something of the text is missing
+-- of each place that was told as acknowledged the entry was sent
+abbrev pub AreSent : {F P : Type 0} → Outlet F P → List Entry → List ℕ → ℕ → List ℕ → Type 0
+AreSent o entries out told also = (place : ℕ) → IsTold told also place → o.IsSent entries out place
+
+-- something of the text is missing, and nothing of what was told
 abbrev pub IsCutShort : {F P : Type 0} → Outlet F P → List Entry → P → List ℕ → ℕ → List ℕ → Type 0
 IsCutShort o entries p out told also =
-    (missing : List ℕ) × (0 < length missing) × (o.text entries p ≡ out ++ missing) × TellsAll o entries p told also
+    (missing : List ℕ) × (0 < length missing) × (o.text entries p ≡ out ++ missing) × TellsAll o entries p told also × AreSent o entries out told also
 
--- what was written begins the text, and what was told is acknowledged
+-- what was written begins the text, and what was told was sent and is acknowledged
 abbrev pub IsBegun : {F P : Type 0} → Outlet F P → List Entry → P → List ℕ → ℕ → List ℕ → Type 0
 IsBegun o entries p out told also =
-    (missing : List ℕ) × (o.text entries p ≡ out ++ missing) × ((place : ℕ) → IsTold told also place → o.IsKnown entries p place)
+    (missing : List ℕ) × (o.text entries p ≡ out ++ missing) × AreSent o entries out told also
+    × ((place : ℕ) → IsTold told also place → o.IsKnown entries p place)
 
 -- THE TABLE OF ENDINGS. Of a list of entries and the peer's bytes, of which these frames were taken: what was written, and
 -- what was told as acknowledged.

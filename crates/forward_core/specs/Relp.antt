@@ -15,7 +15,7 @@ use Rattle.relp_sender.specs.Progress.{Progress, Unopened, TakesAll, Stops, IsKn
 use Rattle.relp_sender.specs.Reply.{IsHint}
 use Rattle.relp_sender.specs.Sender.{Sender}
 use Rattle.relp_sender.specs.Sends.{Sends, StopsAt}
-use Rattle.relp_sender.specs.Text.{session_text}
+use Rattle.relp_sender.specs.Text.{IsSent, session_text}
 use Rattle.forward_core.specs.declared.sent.Sent.{Sent}
 use Rattle.forward_core.specs.declared.sent.Sent.TheVariants.{Refused, PeerClosed, PeerFault}
 use Rattle.forward_core.specs.Outlet.{Outlet}
@@ -56,6 +56,7 @@ relp = record {
   text = λ entries p. session_text entries p true;
   front = λ entries p. known_by p;
   IsKnown = λ entries p place. IsKnown p place;
+  IsSent = IsSent;
   IsFront = IsFront;
   IsWhole = IsWhole;
   Stops = EndsAfter;

@@ -7,3 +7,4 @@ pub mod Writing
 pub mod Taking
 pub mod Hears
 pub mod Whole
+pub mod Sent

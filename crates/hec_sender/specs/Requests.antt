@@ -1,5 +1,5 @@
 -- How a list of entries is cut into requests, and the text of a session.
-use Rattle.std.specs.Prelude.{ℕ, suc, ◌+◌, ◌-◌, ◌%◌, nat_le, max, if◌then◌else◌, List, [], ◌∷◌, ◌++◌, length, take, drop, Option}
+use Rattle.std.specs.Prelude.{◌≡◌, ℕ, suc, ◌+◌, ◌-◌, ◌%◌, ◌<◌, nat_le, max, if◌then◌else◌, List, [], ◌∷◌, ◌++◌, length, take, drop, Option}
 use Rattle.event_form.specs.declared.event.Entry.{Entry}
 use Rattle.event_map.proofs.Functions.{hec_object_of}
 use Rattle.hec_sender.specs.declared.limits.TheConstants.{WINDOW, MOST_BODY}
@@ -44,3 +44,11 @@ confirmed_text terms place (asked ∷ confirmed) (e ∷ es) =
 abbrev pub next_text : Terms → ℕ → Option Query → List Entry → List ℕ
 next_text terms place asked [] = []
 next_text terms place asked (e ∷ es) = request_text terms (request_of place (e ∷ es)) ++ asked_text terms asked
+
+-- A text has the request of the entry at this place: it begins with some first requests, each followed by what was asked for it,
+-- and the entry stands in one of them.
+pub record IsSent (terms : Terms) (entries : List Entry) (out : List ℕ) (place : ℕ) : Type 0 where
+  pub requests : List (Option Query)
+  pub rest : List ℕ
+  pub within : place < known_from 0 requests entries
+  pub begins : out ≡ confirmed_text terms 0 requests entries ++ rest

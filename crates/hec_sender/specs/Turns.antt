@@ -17,7 +17,7 @@ use Rattle.hec_sender.specs.declared.terms.Terms.{Terms}
 use Rattle.hec_sender.specs.declared.verdict.Verdict.{Verdict}
 use Rattle.hec_sender.specs.declared.verdict.Verdict.TheVariants.{Confirms, Asks, Denies, Refuses, Faults}
 use Rattle.hec_sender.specs.Texts.{request_text, query_text}
-use Rattle.hec_sender.specs.Requests.{request_of}
+use Rattle.hec_sender.specs.Requests.{IsSent, request_of}
 use Rattle.hec_sender.specs.Progress.{session_text, known_by}
 use Rattle.hec_sender.specs.Sender.{Sender, given, extent, asked_by, Needs, IsDone, Awaits, IsDue}
 use Rattle.hec_sender.specs.Hearing.{Hears}
@@ -117,6 +117,10 @@ pub record Acts (old : Sender) (what : Turn) (new : Sender) : Type 0 where
 -- what is reported as acknowledged is what the collector's replies acknowledge
 abbrev pub TellsAll : History → Sender → Type 0
 TellsAll h s = s.done ≡ known_by h.entries h.progress
+
+-- where these entries follow, the text has the request of each entry that was reported as acknowledged
+abbrev pub TellsSent : History → List Entry → Sender → Type 0
+TellsSent h more s = (place : ℕ) → place < s.done → IsSent s.terms (h.entries ++ more) h.out place
 
 -- the text is that of the entries given
 abbrev pub IsWhole : Terms → History → Type 0

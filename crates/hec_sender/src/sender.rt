@@ -13,7 +13,7 @@ ghost use Rattle.hec_sender.specs.declared.verdict.Verdict.TheVariants.{Confirms
 ghost use Rattle.hec_sender.specs.Sender.{untouched, given, extent, asked_by, MayFollow, Keeps, Needs, IsDone, IsDue};
 ghost use Rattle.hec_sender.specs.Hearing.{Hears, StopsSo};
 ghost use Rattle.hec_sender.specs.Sends.{History, nothing, Sends, SendsOn};
-ghost use Rattle.hec_sender.specs.Turns.{Acts, IsTurn, IsFor, IsTold, IsSpent, IsWhole, IsWholeOf, Begins, TellsAll, ending_of, spent};
+ghost use Rattle.hec_sender.specs.Turns.{Acts, IsTurn, IsFor, IsTold, IsSpent, IsWhole, IsWholeOf, Begins, TellsAll, TellsSent, ending_of, spent};
 
 use crate::due::Due;
 use crate::query::Query;
@@ -163,6 +163,8 @@ impl HecSender {
         // what is reported
         ensures told { IfOk result (λ turn. IsTold turn self.old.done self.new.done) }
         ensures known { (h : History) → Sends h self.new → TellsAll h self.new }
+        ensures sent { (h : History) (more : List Entry) → Sends h self.new → MayFollow self.new more → TellsSent h more self.new }
+        ensures sent_before { (h : History) (more : List Entry) → Sends h self.old → MayFollow self.old more → TellsSent h more self.old }
         ensures done { IfOk result (λ turn. turn ≡ Done → self.new.done ≡ given self.new) }
         ensures left { IfOk result (λ turn. IsResting turn → turn ≢ Need → turn ≢ Done → self.new.done < given self.new) }
         // when each turn comes

@@ -6,3 +6,4 @@ pub mod Hears
 pub mod Writing
 pub mod Telling
 pub mod Whole
+pub mod Sent

@@ -10,7 +10,7 @@ use Rattle.event_form.specs.declared.turn.Turn.TheVariants.{Write, Confirmed, Al
 use Rattle.lumber_sender.specs.Progress.{session_text, known_by}
 use Rattle.lumber_sender.specs.Sender.{Sender, known, Needs, IsDone, IsDue}
 use Rattle.lumber_sender.specs.Sends.{History}
-use Rattle.lumber_sender.specs.Windows.{IsPart}
+use Rattle.lumber_sender.specs.Windows.{IsPart, IsSent}
 
 -- of the sender after a turn
 abbrev pub IsTurn : Turn → Sender → Type 0
@@ -61,6 +61,10 @@ IsSpent turn before now = now ≡ before
 -- what is reported as acknowledged is what the receiver's frames acknowledge
 abbrev pub TellsAll : History → Sender → Type 0
 TellsAll h s = s.told ≡ known_by h.progress
+
+-- where these entries follow, the text has the window of each entry that was reported as acknowledged
+abbrev pub TellsSent : History → List Entry → Sender → Type 0
+TellsSent h more s = (place : ℕ) → place < s.told → IsSent (h.entries ++ more) h.out place
 
 -- the text is that of the entries given
 abbrev pub IsWhole : History → Type 0

@@ -1,5 +1,5 @@
 -- What is written to a receiver of Lumberjack, by the entries alone.
-use Rattle.std.specs.Prelude.{◌≡◌, ◌⊎◌, ℕ, zero, suc, ◌+◌, ◌<◌, ◌≤◌, List, [], ◌∷◌, ◌++◌, length, take, drop}
+use Rattle.std.specs.Prelude.{◌≡◌, ◌⊎◌, ℕ, zero, suc, ◌+◌, ◌/◌, ◌<◌, ◌≤◌, List, [], ◌∷◌, ◌++◌, length, take, drop}
 use Rattle.event_form.specs.declared.event.Entry.{Entry}
 use Rattle.event_map.proofs.Functions.{json_object_of}
 use Rattle.lumber_frame.specs.Spelling.{window_text, json_text}
@@ -39,3 +39,7 @@ pub record IsPart (batch : List Entry) (from upto : ℕ) (text : List ℕ) : Typ
 abbrev pub text_before : ℕ → ℕ → List ℕ
 text_before zero size = window_text size
 text_before (suc place) size = []
+
+-- a text has the window of the entry at this place: it begins with the windows up to and with that one
+abbrev pub IsSent : List Entry → List ℕ → ℕ → Type 0
+IsSent entries out place = (rest : List ℕ) × (out ≡ windows_text (place / WINDOW + 1) entries ++ rest)

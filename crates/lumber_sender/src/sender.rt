@@ -11,7 +11,7 @@ ghost use Rattle.lumber_sender.specs.Progress.{known_by};
 ghost use Rattle.lumber_sender.specs.Sender.{untouched, given, known, extent, MayFollow, Keeps, Needs, IsDue};
 ghost use Rattle.lumber_sender.specs.Sends.{History, nothing, Sends, SendsOn};
 ghost use Rattle.event_form.specs.Turn.{text_of, HasTold, IsResting};
-ghost use Rattle.lumber_sender.specs.Turns.{IsTurn, IsFor, IsTold, IsWritten, spent, IsSpent, TellsAll, IsWhole, IsWholeOf, Begins};
+ghost use Rattle.lumber_sender.specs.Turns.{IsTurn, IsFor, IsTold, IsWritten, spent, IsSpent, TellsAll, TellsSent, IsWhole, IsWholeOf, Begins};
 
 use crate::due::Due;
 use crate::hearing::{Heard, hear};
@@ -151,6 +151,8 @@ impl LumberSender {
         // what is reported
         ensures told { IfOk result (λ turn. IsTold turn self.old.told self.new.told) }
         ensures most { (h : History) → Sends h self.new → self.new.told ≤ known_by h.progress }
+        ensures sent { (h : History) (more : List Entry) → Sends h self.new → MayFollow self.new more → TellsSent h more self.new }
+        ensures sent_before { (h : History) (more : List Entry) → Sends h self.old → MayFollow self.old more → TellsSent h more self.old }
         ensures known { IfOk result (λ turn. HasTold turn → (h : History) → Sends h self.new → TellsAll h self.new) }
         ensures done { IfOk result (λ turn. turn ≡ Done → self.new.told ≡ given self.new) }
         ensures within { self.new.told ≤ given self.new }

@@ -11,3 +11,4 @@ pub mod Whole
 pub mod OneDue
 pub mod Spending
 pub mod Bounds
+pub mod Sent

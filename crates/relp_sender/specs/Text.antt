@@ -1,7 +1,7 @@
 -- THE TEXT of a list of entries, by what the peer's frames have brought: nothing for no entry; else the
 -- frame that opens the session, once it is answered the frames of as many entries as may be written, and
 -- once all are acknowledged the frame that closes it, where no more entries come.
-use Rattle.std.specs.Prelude.{ℕ, Bool, ◌==◌, ◌&&◌, if◌then◌else◌, List, [], ◌∷◌, ◌++◌, length, take}
+use Rattle.std.specs.Prelude.{◌≡◌, ℕ, ◌+◌, Bool, ◌==◌, ◌&&◌, if◌then◌else◌, List, [], ◌∷◌, ◌++◌, length, take}
 use Rattle.event_form.specs.declared.event.Entry.{Entry}
 use Rattle.relp_sender.specs.Texts.{open_text, close_text, frames_text}
 use Rattle.relp_sender.specs.Marks.{count_known, allowed}
@@ -19,3 +19,8 @@ text_by (Opened marks) entries over = open_text ++ (frames_text 0 (take (allowed
 abbrev pub session_text : List Entry → Progress → Bool → List ℕ
 session_text [] p over = []
 session_text (e ∷ es) p over = text_by p (e ∷ es) over
+
+-- A text has the frame of the entry at this place: after the frame that opens the session it begins with those of all entries
+-- up to and with that one.
+abbrev pub IsSent : List Entry → List ℕ → ℕ → Type 0
+IsSent entries out place = (rest : List ℕ) × (out ≡ open_text ++ (frames_text 0 (take (place + 1) entries) ++ rest))

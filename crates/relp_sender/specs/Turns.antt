@@ -13,7 +13,7 @@ use Rattle.relp_sender.specs.declared.due.Due.TheVariants.{Stopped, Confirm, Tel
 use Rattle.relp_sender.specs.declared.stage.Stage.TheVariants.{Open}
 use Rattle.relp_sender.specs.declared.stage.Stop.{Stop}
 use Rattle.relp_sender.specs.Progress.{IsKnown, known_by}
-use Rattle.relp_sender.specs.Text.{session_text}
+use Rattle.relp_sender.specs.Text.{IsSent, session_text}
 use Rattle.relp_sender.specs.Texts.{event_text, IsTooLongWith}
 use Rattle.relp_sender.specs.Window.{first_open}
 use Rattle.relp_sender.specs.Sender.{Sender, HasTold, Needs, given}
@@ -72,6 +72,10 @@ pub record TellsAll (h : History) (s : Sender) : Type 0 where
 -- the entries that were told are acknowledged
 abbrev pub TellsKnown : History → Sender → Type 0
 TellsKnown h s = (place : ℕ) → (place < s.told) ⊎ Contains h.also place → IsKnown h.progress place
+
+-- whatever entries follow, the text has the frame of each entry that was told
+abbrev pub TellsSent : History → List Entry → Sender → Type 0
+TellsSent h more s = (place : ℕ) → (place < s.told) ⊎ Contains h.also place → IsSent (h.entries ++ more) h.out place
 
 -- the text is that of the entries given
 abbrev pub IsWhole : History → Sender → Type 0

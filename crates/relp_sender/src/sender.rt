@@ -10,7 +10,7 @@ ghost use Rattle.relp_sender.specs.Due.{IsDue};
 ghost use Rattle.relp_sender.specs.Sender.{Keeps, given};
 ghost use Rattle.relp_sender.specs.Sends.{History, Sends, SendsOn, untouched};
 ghost use Rattle.relp_sender.specs.Spending.{IsSpent, spent};
-ghost use Rattle.relp_sender.specs.Turns.{Acts, Begins, Hears, IsFirstOf, IsJoint, IsToldOn, IsTurn, IsWhole, IsWholeOf, Stays, TellsAll, TellsKnown, also_of};
+ghost use Rattle.relp_sender.specs.Turns.{Acts, Begins, Hears, IsFirstOf, IsJoint, IsToldOn, IsTurn, IsWhole, IsWholeOf, Stays, TellsAll, TellsKnown, TellsSent, also_of};
 ghost use Rattle.relp_sender.specs.Window.{first_open};
 
 mod acting;
@@ -159,6 +159,8 @@ impl RelpSender {
         ensures stays { Stays self.old self.new }
         ensures told { IfOk result (λ turn. IsToldOn turn self.old.told self.new.told) }
         ensures most { (h : History) → Sends h self.new → TellsKnown h self.new }
+        ensures sent { (h : History) (more : List Entry) → Sends h self.new → TellsSent h more self.new }
+        ensures sent_before { (h : History) (more : List Entry) → Sends h self.old → TellsSent h more self.old }
         ensures within { self.new.told ≤ given self.new }
         ensures left { IfOk result (λ turn. IsResting turn → turn ≢ Need → turn ≢ Done → self.new.told < given self.new) }
         ensures spent { IfOk result (λ turn. IsSpent turn (spent self.old) (spent self.new)) }

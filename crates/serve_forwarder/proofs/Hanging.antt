@@ -11,7 +11,7 @@ use Rattle.forward_core.specs.Forwarded.{CountsFaults, CountsWrites}
 use Rattle.forward_core.specs.Turning.{IsHalt}
 use Rattle.forward_core.specs.declared.sent.Sent.{Sent}
 use Rattle.forward_core.specs.declared.sent.Sent.TheVariants.{ReadFault, WriteFault}
-use Rattle.serve_forwarder.specs.Sessions.{Session, TellsSession, RoseBy, HangsUp}
+use Rattle.serve_forwarder.specs.Sessions.{Session, TellsSession, HangsUp}
 
 -- ---- the bytes
 
@@ -56,10 +56,22 @@ tells_session place one (Some list) new dialed given given' left taken taken' th
 gained : (n m before now : ℕ) → Gains n before now → Rose 1 m n → Rose 1 before now
 gained n m before now gains rose = omega (arith, gains.by, rose)
 
-link_counts : (fault : Type 0) (n m before mid now : ℕ) → mid ≡ before → (fault → Rose 1 m n) → Gains n mid now → RoseBy fault before now
-link_counts fault n m before mid now same cause gains = record {
+-- and where there are none, nothing is
+gained_none : (n before now : ℕ) → n ≡ 0 → Gains n before now → now ≡ before
+gained_none n before now none gains = omega (arith, none, gains.by, gains.later)
+
+link_reads : (fault : Type 0) (n m before mid now : ℕ) → mid ≡ before → m ≡ 0 → CountsFaults fault m n → Gains n mid now → CountsFaults fault before now
+link_reads fault n m before mid now same new counts gains = record {
   later = omega (arith, same, gains.later);
-  cause = λ by. subst (λ (k : ℕ). Rose 1 k now) same (gained n m mid now gains (cause by));
+  cause = λ by. subst (λ (k : ℕ). Rose 1 k now) same (gained n m mid now gains (counts.cause by));
+  quiet = λ not. gained_none n mid now (counts.quiet not ∙ new) gains ∙ same;
+}
+
+link_writes : (fault halt : Type 0) (n m before mid now : ℕ) → mid ≡ before → m ≡ 0 → CountsWrites fault halt m n → Gains n mid now → CountsWrites fault halt before now
+link_writes fault halt n m before mid now same new counts gains = record {
+  later = omega (arith, same, gains.later);
+  cause = λ by. subst (λ (k : ℕ). Rose 1 k now) same (gained n m mid now gains (counts.cause by));
+  quiet = λ not none. gained_none n mid now (counts.quiet not none ∙ new) gains ∙ same;
 }
 
 -- ---- the session
@@ -71,18 +83,18 @@ session_of start until bytes calls text left sent = record { start = start; unti
 -- The net before the dial, after it, after the session, in which it was only paused, and after the link was hung up.
 pub hangs_up : (place : List ℕ) (one : Session) (old after paused new : NetState) (HasRoom : Type 0) (dialed dialed' given given' left taken taken' : Option (List ℕ)) (m n m' n' : ℕ)
     → SameHung old after → after.net_faults ≡ old.net_faults → after.bound ≡ old.bound → paused ≡ after → HasRoom
-    → IsDialed old.hung dialed place → dialed' ≡ dialed → IsFresh old.hung given taken left
+    → IsDialed old.hung dialed place → dialed' ≡ dialed → IsFresh old.hung given taken left → (m ≡ 0) × (m' ≡ 0)
     → Appends given given' one.bytes → Consumes left one.left one.bytes → Appends taken taken' one.text
     → CountsFaults (one.sent ≡ ReadFault) m n → CountsWrites (one.sent ≡ WriteFault) (IsHalt one.sent) m' n'
     → AddsHung HasRoom paused.hung new.hung (IsHungUp dialed' given' taken' one.left) → Gains n paused.read_faults new.read_faults → Gains n' paused.write_faults new.write_faults → new.net_faults ≡ paused.net_faults
     → new.bound ≡ paused.bound → HangsUp place one old new
-hangs_up place one old after paused new HasRoom dialed dialed' given given' left taken taken' m n m' n' rest quiet unbound pauses room there same fresh read consumed wrote reads writes adds gains gains' kept binds =
+hangs_up place one old after paused new HasRoom dialed dialed' given given' left taken taken' m n m' n' rest quiet unbound pauses room there same fresh unfailed read consumed wrote reads writes adds gains gains' kept binds =
     let hung = ap (λ (t : NetState). t.hung) pauses ∙ rest.hung in
     let adds_there = subst (λ (d : Option (List ℕ)). AddsHung HasRoom paused.hung new.hung (IsHungUp d given' taken' one.left)) same adds in
     record {
       hung = tells_session place one old.hung new.hung dialed given given' left taken taken' there fresh read consumed wrote (added HasRoom old.hung paused.hung new.hung _ hung room adds_there);
-      reads = link_counts (one.sent ≡ ReadFault) n m old.read_faults paused.read_faults new.read_faults (ap (λ (t : NetState). t.read_faults) pauses ∙ rest.read_faults) reads.cause gains;
-      writes = link_counts (one.sent ≡ WriteFault) n' m' old.write_faults paused.write_faults new.write_faults (ap (λ (t : NetState). t.write_faults) pauses ∙ rest.write_faults) writes.cause gains';
+      reads = link_reads (one.sent ≡ ReadFault) n m old.read_faults paused.read_faults new.read_faults (ap (λ (t : NetState). t.read_faults) pauses ∙ rest.read_faults) unfailed.0 reads gains;
+      writes = link_writes (one.sent ≡ WriteFault) (IsHalt one.sent) n' m' old.write_faults paused.write_faults new.write_faults (ap (λ (t : NetState). t.write_faults) pauses ∙ rest.write_faults) unfailed.1 writes gains';
       net_faults = kept ∙ ap (λ (t : NetState). t.net_faults) pauses ∙ quiet;
       bound = binds ∙ ap (λ (t : NetState). t.bound) pauses ∙ unbound;
     }

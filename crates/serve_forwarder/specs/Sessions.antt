@@ -1,15 +1,15 @@
 -- Sessions that a forwarder held.
-use Rattle.std.specs.Prelude.{◌≡◌, ◌≤◌, ℕ, List, ◌++◌, length, Option, None, Some}
+use Rattle.std.specs.Prelude.{◌≡◌, ℕ, List, ◌++◌, length, Option, None, Some}
 use Rattle.std.specs.List.{AllZip}
-use Rattle.foundation.specs.Faults.{Rose}
 use Rattle.edge_io.specs.Net.{HungUp, NetState}
 use Rattle.edge_io.specs.Told.{Adds}
 use Rattle.desk_access.specs.Call.{Call, Record}
 use Rattle.desk_access.specs.Desk.{DeskState}
 use Rattle.desk_access.specs.History.{IsDesk}
-use Rattle.forward_core.specs.Forwarded.{Asked, until_by}
+use Rattle.forward_core.specs.Forwarded.{Asked, CountsFaults, CountsWrites, until_by}
 use Rattle.forward_core.specs.Protocols.{EndsAs, HintsAs, settings_as}
 use Rattle.forward_core.specs.Session.{Ended}
+use Rattle.forward_core.specs.Turning.{IsHalt}
 use Rattle.forward_core.specs.declared.outward.Outward.{Outward}
 use Rattle.forward_core.specs.declared.sent.Sent.{Sent}
 use Rattle.forward_core.specs.declared.sent.Sent.TheVariants.{ReadFault, WriteFault}
@@ -79,17 +79,13 @@ abbrev pub TellsSessions : List ℕ → List Session → Option (List HungUp) �
 TellsSessions place sessions None new = new ≡ None
 TellsSessions place sessions (Some old) new = (more : List HungUp) × AllZip (TellsSession place) sessions more × (new ≡ Some (old ++ more))
 
--- The count of a net's reads or writes that failed doesn't fall, and it rose where the session ended at such a fault.
-pub record RoseBy (fault : Type 0) (before now : ℕ) : Type 0 where
-  pub later : before ≤ now
-  pub cause : fault → Rose 1 before now
-
--- The link of a session was dialed at the place and is hung up. Its reads and writes that failed are added to the net's counts, and
--- the count of binds and dials that failed stays. No door was bound.
+-- The link of a session was dialed at the place and is hung up. Its reads and writes that failed are added to the net's counts: these rise
+-- where the session ended at such a fault, and stay where it didn't, but that a refusal by the desk may hide a write that failed. The count
+-- of binds and dials that failed stays. No door was bound.
 pub record HangsUp (place : List ℕ) (one : Session) (net net' : NetState) : Type 0 where
   pub hung : Adds net.hung net'.hung (TellsSession place one)
-  pub reads : RoseBy (one.sent ≡ ReadFault) net.read_faults net'.read_faults
-  pub writes : RoseBy (one.sent ≡ WriteFault) net.write_faults net'.write_faults
+  pub reads : CountsFaults (one.sent ≡ ReadFault) net.read_faults net'.read_faults
+  pub writes : CountsWrites (one.sent ≡ WriteFault) (IsHalt one.sent) net.write_faults net'.write_faults
   pub net_faults : net'.net_faults ≡ net.net_faults
   pub bound : net'.bound ≡ net.bound
 

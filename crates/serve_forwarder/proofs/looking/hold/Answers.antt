@@ -27,6 +27,6 @@ returns-clause-held g c =
       one = one;
       held = record { begun = forwards.2; end = forwards.1; asked = forwards.3; until_is = refl; made = by.made; ended = by.ended };
       hung = hangs_up c.args.destination.now.place one (told c.args.net.now) (told c.dial.new.self) (told c.forward-sent.new.rest) (told c.hang_up.new.self) _ _ _ _ _ _ _ _ _ _ _ _
-          dial.rest dial.cause dial.bound pauses room there c.forward-sent.ensures.dialed dial.fresh by.read by.consumed by.wrote c.forward-sent.ensures.reads c.forward-sent.ensures.writes hung.adds hung.reads hung.writes hung.quiet hung.bound;
+          dial.rest dial.cause dial.bound pauses room there c.forward-sent.ensures.dialed dial.fresh dial.unfailed by.read by.consumed by.wrote c.forward-sent.ensures.reads c.forward-sent.ensures.writes hung.adds hung.reads hung.writes hung.quiet hung.bound;
       sent_is = refl;
     }

@@ -34,6 +34,7 @@ window 128
 stay 64..130
 
 row two windows
+- Both acknowledgments lie ready before the second window is written, and count all the same.
 count 130
 ack 128
 ack 2

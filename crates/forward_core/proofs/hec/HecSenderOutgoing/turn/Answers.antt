@@ -40,14 +40,15 @@ returns-clause-waits c =
     if_ok (λ turn. Facts turn new) _ c.turn.result (λ turn f. waits_of turn new f) (facts_of c.turn.result new e.turn e.all e.done e.left)
 
 pub returns-clause-halts : goal.returns-clause-halts
-returns-clause-halts c = let e = c.turn.ensures in halts_of c.turn.new.self e.begins
+returns-clause-halts c = let e = c.turn.ensures in halts_of c.turn.new.self e.begins e.sent
 
 pub returns-clause-cuts : goal.returns-clause-cuts
 returns-clause-cuts c =
     let e = c.turn.ensures in
     let old = c.args.self.now in
     let new = c.turn.new.self in
-    if_ok (λ turn. SendsOn old (text_of turn) new) _ c.turn.result (λ turn on. cuts_of turn old new on e.begins) e.sends
+    if_both (λ turn. SendsOn old (text_of turn) new) (λ turn. IsTold turn old.done new.done) _ c.turn.result
+    (λ turn on told. cuts_of turn old new on (record { terms = e.terms; given_is = e.given; finished = e.finished; sent = e.sent_before }) told e.begins) e.sends e.told
 
 pub returns-clause-spent : goal.returns-clause-spent
 returns-clause-spent c =

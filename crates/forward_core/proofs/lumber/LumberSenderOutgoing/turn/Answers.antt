@@ -2,7 +2,7 @@ use Rattle.event_form.specs.Turn.{text_of}
 use Rattle.lumber_sender.specs.Sender.{given}
 use Rattle.lumber_sender.specs.Sends.{SendsOn}
 use Rattle.lumber_sender.specs.Turns.{IsSpent, IsTold, IsTurn, spent}
-use Rattle.forward_core.proofs.Ends.{if_ok, if_both}
+use Rattle.forward_core.proofs.Ends.{if_ok, if_both, if_three}
 use Rattle.forward_core.proofs.LumberEnding.{Facts, facts_of, sent_also, tells_first, also_one, unfinished, ends_of, not_closed, waits_of, halts_of, cuts_of, spends, bound_of}
 use Rattle.forward_core.proofs.lumber.LumberSenderOutgoing.turn.Goals as goal
 
@@ -40,14 +40,15 @@ returns-clause-waits c =
     if_ok (λ turn. Facts turn new) _ c.turn.result (λ turn f. waits_of turn new f) (facts_of c.turn.result new e.side e.turn e.known e.all e.done e.left)
 
 pub returns-clause-halts : goal.returns-clause-halts
-returns-clause-halts c = let e = c.turn.ensures in halts_of c.turn.new.self e.side e.begins e.most
+returns-clause-halts c = let e = c.turn.ensures in halts_of c.turn.new.self e.side e.begins e.most e.sent
 
 pub returns-clause-cuts : goal.returns-clause-cuts
 returns-clause-cuts c =
     let e = c.turn.ensures in
     let old = c.args.self.now in
     let new = c.turn.new.self in
-    if_both (λ turn. Facts turn new) (λ turn. SendsOn old (text_of turn) new) _ c.turn.result (λ turn f on. cuts_of turn old new f on e.begins) (facts_of c.turn.result new e.side e.turn e.known e.all e.done e.left) e.sends
+    if_three (λ turn. Facts turn new) (λ turn. SendsOn old (text_of turn) new) (λ turn. IsTold turn old.told new.told) _ c.turn.result
+    (λ turn f on told. cuts_of turn old new f on (record { given_is = e.given; finished = e.finished; sent = e.sent_before }) told e.begins) (facts_of c.turn.result new e.side e.turn e.known e.all e.done e.left) e.sends e.told
 
 pub returns-clause-spent : goal.returns-clause-spent
 returns-clause-spent c =

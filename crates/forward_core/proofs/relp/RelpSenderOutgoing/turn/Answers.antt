@@ -7,7 +7,7 @@ use Rattle.relp_sender.specs.Turns as turns
 use Rattle.relp_sender.specs.Turns.{IsToldOn, IsTurn}
 use Rattle.forward_core.specs.Relp.{HasSent}
 use Rattle.forward_core.specs.Turning.{also_of}
-use Rattle.forward_core.proofs.Ends.{if_ok, if_both}
+use Rattle.forward_core.proofs.Ends.{if_ok, if_both, if_three}
 use Rattle.forward_core.proofs.RelpEnding.{Facts, facts_of, sent_on, same_also, tells_first, also_one, unfinished, ends_of, hints_of, waits_of, halts_of, cuts_of, spends, bound_of}
 use Rattle.forward_core.proofs.relp.RelpSenderOutgoing.turn.Goals as goal
 
@@ -48,14 +48,15 @@ returns-clause-waits c =
     if_ok (λ turn. Facts turn new) _ c.turn.result (λ turn f. waits_of turn new f) (facts_of c.turn.result new e.turn e.known e.all e.done e.left)
 
 pub returns-clause-halts : goal.returns-clause-halts
-returns-clause-halts c = halts_of c.turn.new.self c.turn.ensures.begins c.turn.ensures.most
+returns-clause-halts c = halts_of c.turn.new.self c.turn.ensures.begins c.turn.ensures.most c.turn.ensures.sent
 
 pub returns-clause-cuts : goal.returns-clause-cuts
 returns-clause-cuts c =
     let e = c.turn.ensures in
     let old = c.args.self.now in
     let new = c.turn.new.self in
-    if_both (λ turn. Facts turn new) (λ turn. SendsOn old (text_of turn) (turns.also_of old.first turn) new) _ c.turn.result (λ turn f on. cuts_of turn old new f on e.begins) (facts_of c.turn.result new e.turn e.known e.all e.done e.left) e.sends
+    if_three (λ turn. Facts turn new) (λ turn. SendsOn old (text_of turn) (turns.also_of old.first turn) new) (λ turn. IsToldOn turn old.told new.told) _ c.turn.result
+    (λ turn f on told. cuts_of turn old new f on told e.sent_before e.begins) (facts_of c.turn.result new e.turn e.known e.all e.done e.left) e.sends e.told
 
 pub returns-clause-spent : goal.returns-clause-spent
 returns-clause-spent c =

@@ -1,5 +1,6 @@
 use Rattle.std.proofs.lemmas.Result.{IfOk-weaker}
 use Rattle.hec_sender.proofs.Writing.{stays_any}
+use Rattle.hec_sender.proofs.Sent.{sent_at}
 use Rattle.hec_sender.proofs.Whole.{begins_at, done_at, left_at, spent_at, tells_at, text_at, whole_at}
 use Rattle.hec_sender.proofs.sender.HecSender.turn.Goals as goal
 
@@ -56,3 +57,9 @@ returns-clause-first c = (stays_any c.act-turn.result c.args.self.now c.act-turn
 
 pub returns-clause-finished : goal.returns-clause-finished
 returns-clause-finished c = (stays_any c.act-turn.result c.args.self.now c.act-turn.new.self c.act-turn.ensures.acts c.act-turn.ensures.err).finished
+
+pub returns-clause-sent : goal.returns-clause-sent
+returns-clause-sent c = sent_at c.act-turn.new.self
+
+pub returns-clause-sent_before : goal.returns-clause-sent_before
+returns-clause-sent_before c = sent_at c.args.self.now

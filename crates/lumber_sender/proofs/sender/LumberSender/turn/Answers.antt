@@ -1,11 +1,13 @@
-use Rattle.std.proofs.Common.{◌∙◌, [], ◌<◌, ◌≤◌, length, false, refl, ap, subst, arith}
-use Rattle.lumber_sender.specs.Sender.{Sender, given, extent}
-use Rattle.lumber_sender.specs.Sends.{SendsOn}
+use Rattle.std.proofs.Common.{◌∙◌, List, [], ◌<◌, ◌≤◌, length, false, refl, ap, subst, arith}
+use Rattle.event_form.specs.declared.event.Entry.{Entry}
+use Rattle.lumber_sender.specs.Sender.{MayFollow, Sender, given, extent}
+use Rattle.lumber_sender.specs.Sends.{History, Sends, SendsOn}
 use Rattle.event_form.specs.Turn.{text_of}
-use Rattle.lumber_sender.specs.Turns.{IsFor, spent}
+use Rattle.lumber_sender.specs.Turns.{IsFor, TellsSent, spent}
 use Rattle.lumber_sender.specs.View.{sender_of}
 use Rattle.lumber_sender.proofs.Writing.{sends_told, sends_then}
 use Rattle.lumber_sender.proofs.Telling.{for_same, for_taken, writes_none}
+use Rattle.lumber_sender.proofs.Sent.{sent_at}
 use Rattle.lumber_sender.proofs.Whole.{text_at, whole_at, begins_at, tells_at, most_at, within_at, left_at, spent_at}
 use Rattle.lumber_sender.proofs.sender.LumberSender.turn.Goals as goal
 
@@ -78,3 +80,15 @@ returns-clause-bound c = spent_at c.act-turn.new.self c.settle-2.ensures
 
 pub returns-then-self-len-clause-begins : goal.returns-then-self-len-clause-begins
 returns-then-self-len-clause-begins c = begins_at c.write-turn.new.self c.settle.ensures
+
+pub returns-clause-sent : goal.returns-clause-sent
+returns-clause-sent c = sent_at c.act-turn.new.self c.settle-2.ensures
+
+pub returns-clause-sent_before : goal.returns-clause-sent_before
+returns-clause-sent_before c = subst (λ (s : Sender). (h : History) (more : List Entry) → Sends h s → MayFollow s more → TellsSent h more s) c.self.view_is (sent_at (sender_of c.self.inside) c.self.invariant.0)
+
+pub returns-then-self-len-clause-sent : goal.returns-then-self-len-clause-sent
+returns-then-self-len-clause-sent c = sent_at c.write-turn.new.self c.settle.ensures
+
+pub returns-then-self-len-clause-sent_before : goal.returns-then-self-len-clause-sent_before
+returns-then-self-len-clause-sent_before c = subst (λ (s : Sender). (h : History) (more : List Entry) → Sends h s → MayFollow s more → TellsSent h more s) c.self.view_is (sent_at (sender_of c.self.inside) c.self.invariant.0)

@@ -6,10 +6,11 @@ use Rattle.relp_sender.specs.Due.{IsDue}
 use Rattle.relp_sender.specs.Sender.{Sender, HasTold, given}
 use Rattle.relp_sender.specs.Sends.{History, Sends, SendsOn}
 use Rattle.relp_sender.specs.Spending.{spent}
-use Rattle.relp_sender.specs.Turns.{Acts, Begins, Hears, IsFirstOf, Stays, TellsKnown, also_of}
+use Rattle.relp_sender.specs.Turns.{Acts, Begins, Hears, IsFirstOf, Stays, TellsKnown, TellsSent, also_of}
 use Rattle.relp_sender.specs.contracts.sender.RelpSender.{the_view}
 use Rattle.relp_sender.proofs.Bounds.{most_at, within_at, left_at}
 use Rattle.relp_sender.proofs.OneDue.{due_asked}
+use Rattle.relp_sender.proofs.Sent.{sent_at}
 use Rattle.relp_sender.proofs.Spending.{spent_most}
 use Rattle.relp_sender.proofs.Taking.{spent_on}
 use Rattle.relp_sender.proofs.Telling.{sends_told, sends_then, stays_then, suits_asked}
@@ -116,3 +117,15 @@ returns-clause-all c = λ rests not. all_at c.act-turn.result c.act-turn.new.sel
 
 pub returns-clause-done : goal.returns-clause-done
 returns-clause-done c = done_at c.act-turn.result c.act-turn.new.self c.settle.ensures c.act-turn.ensures.turn
+
+pub returns-clause-sent : goal.returns-clause-sent
+returns-clause-sent c = sent_at c.act-turn.new.self c.settle.ensures
+
+pub returns-clause-sent_before : goal.returns-clause-sent_before
+returns-clause-sent_before c = subst (λ (s : Sender). (h : History) (more : List Entry) → Sends h s → TellsSent h more s) c.self.view_is (sent_at (the_view c.self.inside) c.self.invariant.0)
+
+pub returns-in_err-next-clause-sent : goal.returns-in_err-next-clause-sent
+returns-in_err-next-clause-sent c = subst (λ (s : Sender). (h : History) (more : List Entry) → Sends h s → TellsSent h more s) c.self.view_is (sent_at (the_view c.self.inside) c.self.invariant.0)
+
+pub returns-in_err-next-clause-sent_before : goal.returns-in_err-next-clause-sent_before
+returns-in_err-next-clause-sent_before c = subst (λ (s : Sender). (h : History) (more : List Entry) → Sends h s → TellsSent h more s) c.self.view_is (sent_at (the_view c.self.inside) c.self.invariant.0)
