@@ -47,7 +47,6 @@ input_kept rules run note told replayed =
       made = serves.made told;
       acked = λ numbers says. replayed.acknowledged numbers told says;
       answered = replayed.answered told;
-      since = replayed.since told;
     }
 
 -- ---- one link among those of its worker

@@ -1,13 +1,12 @@
 -- The promise to senders: what was acknowledged is not lost.
-use Rattle.std.specs.Prelude.{◌≡◌, ◌⊎◌, ℕ, ◌+◌, List, ◌++◌, All, Option, Some, slice_get}
+use Rattle.std.specs.Prelude.{◌≡◌, ◌⊎◌, ℕ, ◌+◌, List, ◌++◌, Option, Some, slice_get}
 use Rattle.std.specs.Io.KnownBytes.{Appends}
 use Rattle.event_form.specs.declared.talk.Talk.{Talk}
 use Rattle.edge_io.specs.Door.{DoorState, Talked}
 use Rattle.edge_disk.specs.Disk.{Moment}
 use Rattle.desk_access.specs.Division.{divided, first_conn}
 use Rattle.desk_access.specs.Call.{Call, Record, own_of}
-use Rattle.desk_access.specs.Durable.{IsIdTakenDurably, StaysTaken}
-use Rattle.desk_access.specs.Groups.{groups_of}
+use Rattle.desk_access.specs.Durable.{IsIdTakenDurably}
 use Rattle.conn_serve.specs.declared.rules.Rules.{Rules}
 use Rattle.conn_serve.specs.Acked.{Acknowledges}
 use Rattle.conn_serve.specs.Durable.{AckedIsDurable, AnswersAreDurable}
@@ -29,7 +28,7 @@ use Rattle.bridge_core.specs.RunOf.{IsRunOf}
 -- The input was one connection, served by these rules: what was read of it, and the text that was written to the output. The disk was
 -- opened for storing, and then the calls that the protocol asks for by these bytes were made, and no others. Whatever the text
 -- acknowledges was taken by them and is durable now: by RELP the transactions that are answered 200, by Lumberjack the sequence numbers
--- of its acks, and by the collector what its replies say. Each group that they took is durable since that take was answered.
+-- of its acks, and by the collector what its replies say.
 pub record InputIsKept (rules : Rules) (run : Run) : Type 0 where
   pub conn : ℕ
   pub bytes : List ℕ
@@ -44,7 +43,6 @@ pub record InputIsKept (rules : Rules) (run : Run) : Type 0 where
   pub acked : (numbers : List ℕ) → Acknowledges rules.proto text numbers → AckedIsDurable rules.proto calls run.disk.new numbers
   pub answered : AnswersAreDurable rules.proto (terms_of rules) conn left bytes calls text talk carried run.disk.new
       (λ channel id. IsIdTakenDurably calls run.disk.new id)
-  pub since : All (StaysTaken made.reached.records 0 run.disk.new) (groups_of calls)
 
 -- A connection that a door tells of is a link that was served by the rules, and its number is the link's in the run that began as the
 -- disk was opened: that of its worker, and of the links that this worker had served before. The calls made for it stand in a journal

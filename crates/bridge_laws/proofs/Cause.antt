@@ -1,9 +1,13 @@
 -- Why a number is known as confirmed.
-use Rattle.std.proofs.Common.{◌≡◌, ◌⊎◌, inl, inr, ℕ, ◌+◌, List, [], ◌∷◌, subst, arith}
-use Rattle.std.specs.Prelude.{Option}
+use Rattle.std.proofs.Common.{◌≡◌, ◌⊎◌, inl, inr, ℕ, ◌+◌, ◌-◌, ◌==◌, Bool, true, false, cond, List, [], ◌∷◌, length, refl, sym, ◌∙◌, ap, subst, arith}
+use Rattle.std.specs.Prelude.{IsSome, None, Option, Some}
+use Rattle.std.proofs.Math.Logic.{∥∥₁_elim, ∥∥₁_map, ∥∥₁_prop}
+use Rattle.std.proofs.lemmas.Bool.{eq-eqb}
 use Rattle.known_numbers.specs.Numbers.{IsInSome, IsKnown, Numbers}
 use Rattle.edge_disk.specs.Disk.{Moment, IsLawful, LeavesOnly}
 use Rattle.edge_disk.proofs.Moments.{weaker}
+use Rattle.edge_io.specs.Door.{DoorState}
+use Rattle.edge_io.specs.Net.{NetState}
 use Rattle.edge_io.specs.declared.proto.Proto.{Proto}
 use Rattle.spool_state.specs.SpoolState.{IsKnownIn, SpoolState}
 use Rattle.spool_state.specs.Image.{StandsFor}
@@ -14,29 +18,43 @@ use Rattle.spool_log.specs.declared.fault.RecoverFault.{RecoverFault}
 use Rattle.spool_log.specs.declared.fault.RecoverFault.TheVariants as Recover
 use Rattle.spool_log.specs.declared.opening.Opening.TheVariants.{Raise}
 use Rattle.spool_log.specs.Opening.{IsOpening, IsRefusing, opened}
+use Rattle.desk_access.specs.Call.{Call, Record, confirms, marks, own_of}
+use Rattle.desk_access.specs.Desk.{DeskState, Stood}
+use Rattle.desk_access.specs.History.{IsDesk}
+use Rattle.conn_serve.specs.declared.rules.Rules.{Rules}
 use Rattle.conn_serve.specs.RunsOfOne.{RunsOfOne}
+use Rattle.serve_forwarder.specs.declared.destination.Destination.{Destination}
+use Rattle.serve_run.specs.Running.{given_as}
+use Rattle.session_laws.specs.Beside.{IsMarking, MarksAlone}
 use Rattle.notes.specs.declared.note.Note.{Note}
 use Rattle.bridge_words.specs.declared.command.Command.{Command}
 use Rattle.bridge_words.specs.declared.command.Command.TheVariants.{Drain, Format, List as ListCommand, Load, Replay, Serve}
+use Rattle.bridge_words.specs.declared.command.Relay.{Relay}
+use Rattle.bridge_words.specs.declared.command.Server.{Server}
 use Rattle.bridge_words.specs.Words.{IsCommand, IsNoCommand, IsSomeCommand}
 use Rattle.bridge_parts.specs.Opened.{IsUnopened, desk_in}
-use Rattle.bridge_parts.specs.Run.{OutputRun, Run, both_run}
+use Rattle.bridge_parts.specs.Run.{DiskRun, OutputRun, Run, both_run}
 use Rattle.bridge_parts.proofs.Desks.{desk_rules}
 use Rattle.bridge_skip.specs.Leave.{WasPrinted}
 use Rattle.bridge_skip.specs.Released.{only}
 use Rattle.bridge_skip.specs.Skipped.{Skips}
 use Rattle.bridge_skip.specs.SkipRun.{IsSkipRun}
 use Rattle.commands.specs.Replayed.{ServesInput, replay_rules}
+use Rattle.bridge_serve.specs.Doors.{destination_of}
+use Rattle.bridge_serve.specs.Opened.{IsOpenedDesk}
+use Rattle.bridge_serve.specs.Served.{Back, IsRunAt, IsServed, Setup}
 use Rattle.bridge_core.specs.Done.{Does, IsUndone}
 use Rattle.bridge_core.specs.RunOf.{IsRunOf}
-use Rattle.bridge_laws.specs.Cause.{AsksForward, IsCause, KnownHasCause, MakesKnown, SkipsIt}
+use Rattle.bridge_laws.specs.Cause.{AsksForward, IsCause, IsCauseOrCut, KnownHasCause, KnownHasCauseOrCut, MakesKnown, SkipsIt}
+use Rattle.bridge_laws.specs.Cut.{IsNextOrCut}
 use Rattle.bridge_laws.specs.InOrder.{HoldsNoOther}
 use Rattle.bridge_laws.specs.KeepsOrder.{AsksFormat}
 use Rattle.bridge_laws.specs.Leave.{IsKnownAt}
 use Rattle.bridge_laws.specs.Lifetime.{IsMovedInto, IsNext, IsOneCall, IsSkip, no_format}
 use Rattle.bridge_laws.specs.Told.{DiskKind, Telling}
-use Rattle.bridge_laws.proofs.JournalKnown.{KnowsOnly, mark_within, stood_known, unmarked}
+use Rattle.bridge_laws.proofs.JournalKnown.{AnyHas, Has, KnowsOnly, mark_within, stood_known, unmarked}
 use Rattle.bridge_laws.proofs.KeepsOrder.{opened_sound}
+use Rattle.bridge_laws.proofs.LeaveLasts.{at_last, leave_releases}
 use Rattle.bridge_laws.proofs.Lifetime.{run_in, untouched}
 use Rattle.bridge_laws.proofs.Moving.{moved_into}
 use Rattle.desk_access.specs.declared.division.Division.TheVariants.{Workers}
@@ -115,6 +133,35 @@ module _ (old new : Moment) (lawful : IsLawful old) (number : ℕ) (output : Out
     | inr skipped ↦ let from = skipped told in by_skips tells same from.state note from.stood from.skips
   ]
 
+-- ---- a journal in which nobody marks
+
+-- a call that has a number marks or confirms
+marking : (call : Call) (n : ℕ) → Has call n → IsMarking call
+marking (marks stretches result) n has = tt
+marking (confirms upto result) n has = tt
+marking call n has = has
+
+-- Where one caller alone may mark, and made no call, nobody did.
+none_marks : (number : ℕ) (log : List Record) → MarksAlone number log → own_of number log ≡ [] → (n : ℕ) → AnyHas log n → ⊥
+none_marks number [] alone none n any = any
+none_marks number (one ∷ log) alone none n any =
+    by (λ (rest : own_of number log ≡ []) (more : AnyHas log n). none_marks number log alone.1 rest n more) (one.by == number) refl none any
+  where
+    by : (own_of number log ≡ [] → AnyHas log n → ⊥) → (b : Bool) → (one.by == number) ≡ b
+        → cond b (one.call ∷ own_of number log) (own_of number log) ≡ [] → Has one.call n ⊎ AnyHas log n → ⊥
+    by behind true same is any = cc is
+    by behind false same is (inl has) = cc (sym same ∙ eq-eqb one.by number (alone.0 (marking one.call n has)))
+    by behind false same is (inr more) = behind is more
+
+-- Where there is no place to forward to, the forwarder makes no call.
+forwards_nothing : (setup : Setup) (talks : ℕ) (rules : List Rules) (doors : List DoorState) (net : NetState) (disk : DiskRun) (output : OutputRun)
+    (back : Back) (note : Note) (to : Option Destination) → to ≡ None → (ran : IsRunAt setup (given_as talks rules doors to net) disk output back note)
+    → (x : DeskState) → IsOpenedDesk disk.tells disk.old.reads x → own_of ((length doors + 1) - 1) ran.over.served.log ≡ []
+forwards_nothing setup talks rules doors net disk output back note to none =
+    subst (λ (d : Option Destination). (ran : IsRunAt setup (given_as talks rules doors d net) disk output back note)
+    → (x : DeskState) → IsOpenedDesk disk.tells disk.old.reads x → own_of ((length doors + 1) - 1) ran.over.served.log ≡ []) (sym none)
+    (λ ran x is. ran.promises.looks x is)
+
 -- ---- a call of `bridge`
 
 abbrev NoNumber : ℕ → Type 0
@@ -156,7 +203,37 @@ module _ (ones : RunsOfOne) (run : Run) (told : run.disk.tells) (lawful : IsLawf
             ])
       ])
 
+  -- where nothing is forwarded
+  by_serve : (server : Server) (note : Note) → server.forward ≡ None → IsServed server run.disk run.output run.net run.doors note → MakesNone
+  by_serve server note none (inl done) = by_unopened note done.0
+  by_serve server note none (inr (inl done)) =
+      weaker (IsOpening Raise run.disk.old) (KnowsNoOther run.disk.old run.disk.new lawful NoNumber) run.disk.old run.disk.new
+      (done.0.opened told).any_moment (while_opened run.disk.old run.disk.new lawful NoNumber)
+  by_serve server note none (inr (inr done)) =
+      let over = done.ran.over in
+      let opening = over.opened told in
+      let x = opening.0 in
+      let is = opening.1 in
+      let s = is.1 in
+      let log = over.served.log in
+      let rules = subst IsDesk is.4 (over.served.closes.replays.begins x is).rules in
+      let silent = forwards_nothing _ _ _ _ _ _ _ _ _ _ (ap destination_of none) done.ran x is in
+      weaker _ (KnowsNoOther run.disk.old run.disk.new lawful NoNumber) run.disk.old run.disk.new (over.any_moment x is) (λ c h. elim h [
+        | inl opening ↦ while_opened run.disk.old run.disk.new lawful NoNumber c opening
+        | inr stood ↦
+            let came = stood_known (desk_in (opened Raise s)) log c rules (subst (λ (d : DeskState). Stood d log c) is.4 stood) in
+            by_state run.disk.old run.disk.new lawful NoNumber s came.state c is.2 came.stands (λ n known. elim (came.only n known) [
+              | inl was ↦ inl (subst (λ (v : SpoolState). IsKnownIn v n) came.one was)
+              | inr has ↦ absurd (none_marks _ log done.ran.promises.marks_alone silent n has)
+            ])
+      ])
+
   module _ (words : List (List ℕ)) (note : Note) where
+    serves : (server : Server) (forward : Option Relay) → server.forward ≡ forward → IsCommand (Serve server) words
+        → IsServed server run.disk run.output run.net run.doors note → MakesNone ⊎ AsksForward words
+    serves server None is asks done = inl (by_serve server note is done)
+    serves server (Some relay) is asks done = inr (inr (server, asks, subst (λ (o : Option Relay). IsSome o) (sym is) refl))
+
     by_command : (command : Command) → IsCommand command words → (AsksFormat words → ⊥) → IsUndone run note ⊎ Does command run note
         → MakesNone ⊎ AsksForward words
     by_command command asks never (inl undone) = inl (as_before (same undone.1.disk.same))
@@ -168,7 +245,7 @@ module _ (ones : RunsOfOne) (run : Run) (told : run.disk.tells) (lawful : IsLawf
     ])
     by_command (Drain receiver place) asks never (inr does) = inr (inl (receiver, place, asks))
     by_command (Load proto number count) asks never (inr does) = inl (as_before (same does.1.same))
-    by_command (Serve server) asks never (inr does) = inr (inr (server, asks))
+    by_command (Serve server) asks never (inr does) = serves server server.forward refl asks does.0
 
     pub by_words : IsRunOf words run note → (AsksFormat words → ⊥) → IsSomeCommand words ⊎ (IsNoCommand words ⊎ IsUndone run note)
         → MakesNone ⊎ AsksForward words
@@ -240,6 +317,23 @@ module _ {D E S K N P : Type 0} (ones : RunsOfOne) (tell : Telling D S K N P) (o
     | inr cause ↦ inr (inr cause)
     | inl then ↦ elim (next_knows disk next first n then) [ inl was ↦ inl was | inr cause ↦ inr (inl cause) ]
   ]
+
+  -- ---- over calls that were cut off, or never ended
+
+  step_knows : (Release : ℕ → Type 0) (old new : D) (next : IsNextOrCut tell other Release old new) (n : ℕ) → IsKnownAt (tell.disk.moment new) n
+      → ∥ (IsKnownAt (tell.disk.moment old) n ⊎ IsCauseOrCut tell other Release old new next n) ∥₁
+  step_knows Release old new (inl next) n known = ∣ next_knows old new next n known ∣₁
+  step_knows Release old new (inr cut) n (c, t, image, stands, known) =
+      at_last (λ disk. IsKnownAt (tell.disk.moment disk) n → ∥ (IsKnownAt (tell.disk.moment old) n ⊎ Release n) ∥₁) old cut.touches
+      (leave_releases tell.disk.moment Release old cut.touches n cut.touched) (c, t, cut.left c image, stands, known)
+
+  pub known_has_cause_or_cut : (Release : ℕ → Type 0) → KnownHasCauseOrCut tell other Release
+  known_has_cause_or_cut Release disk [] are n known = ∣ inl known ∣₁
+  known_has_cause_or_cut Release disk (next ∷ later) (first, rest) n known =
+      ∥∥₁_elim (known_has_cause_or_cut Release next later rest n known) ∥∥₁_prop (λ which. elim which [
+        | inr cause ↦ ∣ inr (inr cause) ∣₁
+        | inl then ↦ ∥∥₁_map (step_knows Release disk next first n then) (λ here. elim here [ inl was ↦ inl was | inr cause ↦ inr (inl cause) ])
+      ])
 
   -- After two skips a number is known that was known before, or of which one of the two was, which printed its entry.
   two_skips : (a b c : D) (first : IsSkip tell a b) (second : IsSkip tell b c) (n : ℕ) → IsKnownAt (tell.disk.moment c) n

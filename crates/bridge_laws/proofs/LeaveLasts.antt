@@ -8,14 +8,15 @@ use Rattle.std.proofs.lemmas.List.Elements.{All-nil, All-cons, All-head, All-tai
 use Rattle.event_form.specs.declared.event.Entry.{Entry}
 use Rattle.edge_disk.specs.Disk.{Moment}
 use Rattle.spool_state.specs.SpoolState.{SpoolState, base, list, IsKnownIn, Follows}
+use Rattle.spool_state.specs.Image.{StandsFor}
 use Rattle.spool_state.proofs.Laws.{one_state}
-use Rattle.desk_access.specs.Durable.{AreDurable, IsGroupKept}
+use Rattle.desk_access.specs.Durable.{IsGroupKept}
 use Rattle.desk_access.specs.Groups.{Group}
 use Rattle.desk_access.specs.History.{IsKept, AreKept}
-use Rattle.bridge_laws.specs.Leave.{IsTouched, AreTouched, AllKeep, IsKnownAt}
+use Rattle.bridge_laws.specs.Leave.{AreTouched, DurableIsKept, IsKnownAt, IsTouched, LeaveLasts, LeaveReleases, last_disk}
 
 -- what a spool keeps one that follows it keeps
-kept_on : (s t : SpoolState) (number : ℕ) (entry : List Entry) → Follows s t → 0 < length entry → IsKept s number entry
+pub kept_on : (s t : SpoolState) (number : ℕ) (entry : List Entry) → Follows s t → 0 < length entry → IsKept s number entry
     → IsKept t number entry
 kept_on s t number entry follows some (inl below) = inl (omega (arith, below, follows.cursor))
 kept_on s t number entry follows some (inr there) = elim (cases_lt number (base t)) [
@@ -44,35 +45,43 @@ groups_on (group ∷ groups) s t follows kept =
     All-cons (IsGroupKept t) group groups (group_on s t group.first group.entries follows (All-head (IsGroupKept s) group groups kept))
     (groups_on groups s t follows (All-tail (IsGroupKept s) group groups kept))
 
-module _ {D : Type 0} (moment : D → Moment) (Release : ℕ → Type 0) where
-  -- ---- groups
+-- what is so of each disk is so of the last
+pub at_last : {D : Type 0} (P : D → Type 0) (disk : D) (later : List D) → All P (disk ∷ later) → P (last_disk disk later)
+at_last P disk [] all = All-head P disk [] all
+at_last P disk (next ∷ later) all = at_last P next later (All-tail P disk (next ∷ later) all)
 
-  keeps_next : (groups : List Group) (old new : D) → AllKeep (moment old) groups → IsTouched moment Release old new → AllKeep
-      (moment new) groups
-  keeps_next groups old new keep (inl untouched) = λ c image. keep c (untouched.images c image)
-  keeps_next groups old new keep (inr touched) = λ c image.
+-- what is durable is kept
+pub durable_is_kept : {D : Type 0} (moment : D → Moment) → DurableIsKept moment
+durable_is_kept moment disk groups durable = λ c image. ∣ durable c image ∣₁
+
+-- Something that is so of a spool, and stays so in each state that follows, stays so over writes that had leave.
+module _ {D : Type 0} (moment : D → Moment) (Release : ℕ → Type 0) (Is : SpoolState → Type 0)
+    (stays : (s t : SpoolState) → Follows s t → Is s → Is t) where
+  -- whatever a crash leaves now stands for a spool that is so
+  abbrev IsSome : D → Type 0
+  IsSome disk = (c : List ℕ) → (moment disk).image c → ∥ ((s : SpoolState) × StandsFor s c × Is s) ∥₁
+
+  touched_next : (old new : D) → IsSome old → IsTouched moment Release old new → IsSome new
+  touched_next old new here (inl untouched) = λ c image. here c (untouched.images c image)
+  touched_next old new here (inr touched) = λ c image.
       let from = touched.3.images c image in
       ∥∥₁_elim (touched.2 from.0 c from.1 from.2) ∥∥₁_prop (λ one.
       let kept = one.2 in
-      ∥∥₁_map (keep one.0 one.1) (λ had.
-      let is : had.0 ≡ kept.state = one_state had.0 kept.state one.0 had.1 kept.stands in (
-        kept.later,
-        kept.stands_later,
-        groups_on groups kept.state kept.later kept.follows
-            (subst (λ (s : SpoolState). All (IsGroupKept s) groups) is had.2),
-      )))
+      ∥∥₁_map (here one.0 one.1) (λ had.
+      let is : had.0 ≡ kept.state = one_state had.0 kept.state one.0 had.1 kept.stands in
+      (kept.later, kept.stands_later, stays kept.state kept.later kept.follows (subst Is is had.2))))
 
-  all_keep : (groups : List Group) (disk : D) (later : List D) → AllKeep (moment disk) groups → AreTouched moment Release disk later
-      → All (λ next. AllKeep (moment next) groups) (disk ∷ later)
-  all_keep groups disk [] keep touched =
-      All-cons (λ next. AllKeep (moment next) groups) disk [] keep (All-nil (λ next. AllKeep (moment next) groups))
-  all_keep groups disk (next ∷ later) keep touched =
-      All-cons (λ next. AllKeep (moment next) groups) disk (next ∷ later) keep
-      (all_keep groups next later (keeps_next groups disk next keep touched.0) touched.1)
+  pub touched_keep : (disk : D) (later : List D) → IsSome disk → AreTouched moment Release disk later → All IsSome (disk ∷ later)
+  touched_keep disk [] here touched = All-cons IsSome disk [] here (All-nil IsSome)
+  touched_keep disk (next ∷ later) here touched =
+      All-cons IsSome disk (next ∷ later) here (touched_keep next later (touched_next disk next here touched.0) touched.1)
 
-  pub leave_lasts : (disk : D) (later : List D) (groups : List Group) → AreDurable (moment disk) groups
-      → AreTouched moment Release disk later → All (λ next. AllKeep (moment next) groups) (disk ∷ later)
-  leave_lasts disk later groups durable touched = all_keep groups disk later (λ c image. ∣ durable c image ∣₁) touched
+module _ {D : Type 0} (moment : D → Moment) (Release : ℕ → Type 0) where
+  -- ---- groups
+
+  pub leave_lasts : LeaveLasts moment Release
+  leave_lasts disk later groups keep touched =
+      touched_keep moment Release (λ s. All (IsGroupKept s) groups) (groups_on groups) disk later keep touched
 
   -- ---- known numbers
 
@@ -100,6 +109,5 @@ module _ {D : Type 0} (moment : D → Moment) (Release : ℕ → Type 0) where
       All-cons (OnlyReleased disk number) here (next ∷ later) only
       (all_known disk number next later (known_next disk number here next only touched.0) touched.1)
 
-  pub leave_releases : (disk : D) (later : List D) (number : ℕ) → AreTouched moment Release disk later
-      → All (λ next. IsKnownAt (moment next) number → ∥ (IsKnownAt (moment disk) number ⊎ Release number) ∥₁) (disk ∷ later)
+  pub leave_releases : LeaveReleases moment Release
   leave_releases disk later number touched = all_known disk number disk later (λ known. ∣ inl known ∣₁) touched

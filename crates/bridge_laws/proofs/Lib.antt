@@ -15,4 +15,5 @@ pub mod Skipping
 pub mod Lifetime
 pub mod StaysDurable
 pub mod LeaveLasts
+pub mod Copied
 pub mod Cause

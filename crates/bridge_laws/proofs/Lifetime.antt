@@ -53,7 +53,7 @@ module _ {D E S K N P : Type 0} (tell : Telling D S K N P) (other : DiskKind E) 
     → LeavesOnly Is (tell.disk.moment old) (tell.disk.moment new))
     (moves_out : (old new : D) → IsMovedOut tell other old new → IsDisk Is tell.disk old → IsDisk Is tell.disk new)
     (moves_into : coming.into → (old new : D) → IsMovedInto tell other old new → IsDisk Is tell.disk old → IsDisk Is tell.disk new) where
-  next_is : (old new : D) → IsDisk Is tell.disk old → IsNext coming tell other old new → IsDisk Is tell.disk new
+  pub next_is : (old new : D) → IsDisk Is tell.disk old → IsNext coming tell other old new → IsDisk Is tell.disk new
   next_is old new here (inl called) = (keeps old new called here).now
   next_is old new here (inr (inl left)) = λ c image. here c (left c image)
   next_is old new here (inr (inr (inl (mid, called, within)))) = λ c image. (keeps old mid called here).each c (within c image)

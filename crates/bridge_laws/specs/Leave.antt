@@ -19,14 +19,23 @@ abbrev pub AreTouched : {D : Type 0} → (D → Moment) → (ℕ → Type 0) →
 AreTouched moment Release disk [] = Unit {0}
 AreTouched moment Release disk (next ∷ later) = IsTouched moment Release disk next × AreTouched moment Release next later
 
+-- the last of the disks
+abbrev pub last_disk : {D : Type 0} → D → List D → D
+last_disk disk [] = disk
+last_disk disk (next ∷ later) = last_disk next later
+
 -- whatever a crash leaves now stands for a spool that keeps these groups
 abbrev pub AllKeep : Moment → List Group → Type 0
 AllKeep m groups = (c : List ℕ) → m.image c → ∥ ((s : SpoolState) × StandsFor s c × All (IsGroupKept s) groups) ∥₁
 
--- Groups that are durable on a disk are so on each that came from it.
+-- Groups that are durable on a disk are kept on it.
+abbrev pub DurableIsKept : {D : Type 0} → (D → Moment) → Type 0
+DurableIsKept {D} moment = (disk : D) (groups : List Group) → AreDurable (moment disk) groups → AllKeep (moment disk) groups
+
+-- Groups that are kept on a disk are so on each that came from it.
 abbrev pub LeaveLasts : {D : Type 0} → (D → Moment) → (ℕ → Type 0) → Type 0
 LeaveLasts {D} moment Release =
-    (disk : D) (later : List D) (groups : List Group) → AreDurable (moment disk) groups → AreTouched moment Release disk later
+    (disk : D) (later : List D) (groups : List Group) → AllKeep (moment disk) groups → AreTouched moment Release disk later
     → All (λ next. AllKeep (moment next) groups) (disk ∷ later)
 
 -- something that a crash may leave now knows the number

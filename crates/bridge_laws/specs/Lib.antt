@@ -8,6 +8,8 @@ pub mod InOrder
 pub mod KeepsOrder
 pub mod Lifetime
 pub mod LeavesAlone
-pub mod Durable
 pub mod Leave
+pub mod Cut
+pub mod Durable
+pub mod Copied
 pub mod Cause

@@ -12,7 +12,7 @@ mod laws;
 mod order;
 
 pub use alone::each_command_leaves_alone;
-pub use durable::{durable_lasts, leave_lasts};
+pub use durable::{durable_lasts, leave_lasts, moved_lasts};
 pub use known::known_has_cause;
 pub use laws::{each_command_ends_well, serve_ends_well};
 pub use order::{

@@ -54,7 +54,8 @@ pub fn each_command_keeps_order<D: Disk, S: Source, K: Sink, N: Net>(
 
 /// From a call of `format` that ended well on, a crash leaves no spool of the device that is out of order, where `bridge`, `bridge_move`
 /// and `bridge_skip` alone write to it: after any calls of `bridge`, skips, and moves out of the device and into it, one after another, and
-/// any crashes between them and within them. Where none of them is a `format`, it leaves a spool in order.
+/// any crashes between them and within them. Where none of them is a `format`, it leaves a spool in order. Each of these calls ended: of one
+/// that was killed, or never ended, nothing is said here, since its leave to write doesn't say which connection and index a new entry has.
 ///
 /// Entries that are moved into the device have connection numbers from 2^63 on, one for each tag, and no id. Of their indexes nothing is
 /// said here: they are the numbers that the entries had in the source. Where nothing is moved into the device, the order is that of all

@@ -1,7 +1,6 @@
 -- What was acknowledged over a connection that alone uses the spool is durable.
-use Rattle.std.proofs.Common.{◌≡◌, ◌*◌, ◌^◌, ◌∙◌, ℕ, List, [], Option, refl, sym, subst}
+use Rattle.std.proofs.Common.{◌≡◌, ◌*◌, ◌^◌, ℕ, List, Option, refl, subst}
 use Rattle.std.specs.Prelude.{Bool, false}
-use Rattle.std.proofs.lemmas.List.{append-nil}
 use Rattle.event_form.specs.declared.talk.Talk.{Talk}
 use Rattle.edge_io.specs.declared.proto.Proto.{Proto}
 use Rattle.edge_io.specs.declared.proto.Proto.TheVariants.{Relp, Lumberjack, Hec}
@@ -14,9 +13,7 @@ use Rattle.spool_log.specs.Opening.{opened, IsOpening, Opens}
 use Rattle.spool_log.specs.State.{view}
 use Rattle.desk_access.specs.Call.{Call}
 use Rattle.desk_access.specs.Durable.{IsIdTakenDurably, KeepsCalls}
-use Rattle.desk_access.specs.Journal.{own_by}
 use Rattle.desk_access.proofs.Durable.{one_durable}
-use Rattle.desk_access.proofs.Since.{since_taken}
 use Rattle.conn_serve.specs.declared.rules.Rules.{Rules}
 use Rattle.conn_serve.specs.Acked.{Acknowledges}
 use Rattle.conn_serve.specs.Durable.{AckedIsDurable, AnswersAreDurable}
@@ -96,8 +93,4 @@ module _ (rules : Rules) (tells same : Type 0) (old mid new : Moment) (memory : 
         acknowledged = λ numbers told says.
             acked_is_durable rules.proto terms conn link.left_after serves.bytes serves.calls serves.text talk old new numbers serves.carried (made told) says;
         answered = λ told. answers_are_durable rules.proto terms conn link.left_after serves.bytes serves.calls serves.text talk old new serves.carried (made told);
-        since = λ told.
-            let stored = made told in
-            since_taken stored.reached.records new stored.stays 0 [] serves.calls []
-            (own_by 0 serves.calls stored.reached.records stored.reached.by ∙ sym (append-nil serves.calls));
       }

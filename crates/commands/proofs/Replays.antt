@@ -14,7 +14,6 @@ use Rattle.desk_access.specs.History.{AllKept, Grows}
 use Rattle.spool_desk.specs.Alone.{AloneView, IsAt, Ran}
 use Rattle.desk_access.specs.Journal.{calls_by}
 use Rattle.spool_desk.proofs.Lasting.{image_kept}
-use Rattle.desk_access.proofs.Since.{keeps_since}
 use Rattle.notes.specs.declared.note.Note.{Note}
 use Rattle.notes.specs.Notes.{note_of_talk}
 use Rattle.commands.specs.Refused.{IsRefusedFirst}
@@ -43,7 +42,6 @@ ran_keeps_to s tells old new calls told at ran =
               record { state = kept.0; stands = kept.1; later = kept.2; kept = subst (AllKept kept.0) own kept.3; grows = subst (λ (l : List Call). Grows (desk_in s) l kept.0) own kept.4 };
         };
         any_moment = leads.any_moment;
-        stays = keeps_since (desk_in s) leads.after new.spool.moment ran.records at.rules (ran.since (desk_in s) told at);
       };
       here = leads.reached;
     }
@@ -61,7 +59,6 @@ stored_from s m mid new calls run v now is first opens keeps = record {
   conn_is = ap (λ (n : ℕ). n * 2 ^ 32) (sym is ∙ opens.reached.knows.run);
   reached = keeps.reached;
   any_moment = both _ _ (λ c. IsOpening Raise m c ⊎ Stood (desk_in (opened_by Raise s)) keeps.reached.records c) m mid new first keeps.any_moment (λ c o. inl o) (λ c o. inr o);
-  stays = keeps.stays;
 }
 
 -- the notes of words and devices that are refused are no endings of a connection

@@ -1,5 +1,5 @@
 -- What `replay` does.
-use Rattle.std.specs.Prelude.{◌≡◌, ◌⊎◌, false, ℕ, ◌+◌, ◌*◌, ◌^◌, List, [], All, Option}
+use Rattle.std.specs.Prelude.{◌≡◌, ◌⊎◌, false, ℕ, ◌+◌, ◌*◌, ◌^◌, List, [], Option}
 use Rattle.event_form.specs.declared.talk.Attended.{Attended}
 use Rattle.edge_io.specs.declared.proto.Proto.{Proto}
 use Rattle.edge_io.specs.declared.proto.Proto.TheVariants.{Hec}
@@ -12,8 +12,7 @@ use Rattle.spool_log.specs.declared.spool.Spool.{Spool}
 use Rattle.spool_log.specs.Opening.{opened, CanOpen, IsOpening}
 use Rattle.desk_access.specs.Call.{Call}
 use Rattle.desk_access.specs.Desk.{Stood}
-use Rattle.desk_access.specs.Durable.{IsIdTakenDurably, KeepsSince, StaysTaken}
-use Rattle.desk_access.specs.Groups.{groups_of}
+use Rattle.desk_access.specs.Durable.{IsIdTakenDurably}
 use Rattle.conn_serve.specs.Acked.{Acknowledges}
 use Rattle.conn_serve.specs.Durable.{AckedIsDurable, AnswersAreDurable}
 use Rattle.conn_serve.specs.declared.rules.Rules.{Rules}
@@ -34,11 +33,10 @@ abbrev pub replay_rules : Proto → Option ℕ → Option ℕ → Rules
 replay_rules proto token ack_token = record { proto = proto; token = token; ack_token = ack_token; listed = []; group = false }
 
 -- And so it was from that moment on: whatever a crash left meanwhile stands for the state after the first of the
--- calls, or for a stage of the next one. What a call took stays since that call was answered.
+-- calls, or for a stage of the next one.
 pub record Keeps (s : SpoolState) (old new : Moment) (calls : List Call) : Type 0 where
   pub reached : Reaches s new calls
   pub any_moment : LeavesOnly (Stood (desk_in s) reached.records) old new
-  pub stays : KeepsSince reached.records new
 
 -- so it was from whatever state the spool was in
 abbrev pub KeepsFrom : SpoolRun → List Call → Type 0
@@ -51,7 +49,7 @@ KeepsOver spool new calls = KeepsFrom (spool_over spool new) calls
 -- The device stood for a state, and was opened for storing: its run was raised by one, and the connection has
 -- the number that begins the new run. Then the calls were made on the spool. Whatever a crash left meanwhile is what
 -- it could leave as the call began, or stands for that state with the run raised or not, or for one on the way of the
--- calls. What a call took stays since that call was answered.
+-- calls.
 pub record IsStored (old new : Moment) (conn : ℕ) (calls : List Call) : Type 0 where
   pub state : SpoolState
   pub stood : StandsFor state old.reads
@@ -59,7 +57,6 @@ pub record IsStored (old new : Moment) (conn : ℕ) (calls : List Call) : Type 0
   pub conn_is : conn ≡ (state.run + 1) * 2 ^ 32
   pub reached : Reaches (opened Raise state) new calls
   pub any_moment : LeavesOnly (λ c. IsOpening Raise old c ⊎ Stood (desk_in (opened Raise state)) reached.records c) old new
-  pub stays : KeepsSince reached.records new
 
 -- A link was served by these rules, as one connection of this number: the bytes read are its frames, from the first one, none skipped;
 -- the calls on the spool and the bytes written are those that they ask for; where it ended with the input, the input was read to its
@@ -71,7 +68,7 @@ pub record ServesLink (rules : Rules) (conn : ℕ) (link : LinkRun) (Made : List
 
 -- And that was done over the spool that the device stood for. Whatever the text that was written acknowledges is durable:
 -- by RELP and Lumberjack the numbers in it, and by the collector its replies, of which one that tells an id true means that
--- these calls took a group of that id. Each group that they took is durable since that take was answered.
+-- these calls took a group of that id.
 pub record ServesInput (rules : Rules) (disk : DiskRun) (link : LinkRun) (note : Note) : Type 0 where
   pub conn : ℕ
   pub served : ServesLink rules conn link (λ calls. disk.tells → IsStored disk.old disk.new conn calls) note
@@ -79,7 +76,6 @@ pub record ServesInput (rules : Rules) (disk : DiskRun) (link : LinkRun) (note :
       → AckedIsDurable rules.proto served.serves.calls disk.new numbers
   pub answered : disk.tells → AnswersAreDurable rules.proto (terms_of rules) conn link.left_after served.serves.bytes served.serves.calls
       served.serves.text served.attended.talk served.serves.carried disk.new (λ channel id. IsIdTakenDurably served.serves.calls disk.new id)
-  pub since : (told : disk.tells) → All (StaysTaken (served.serves.made told).reached.records 0 disk.new) (groups_of served.serves.calls)
 
 -- What a call of `replay` did: the device was not opened, and nothing was read or written; or the input was served. `ReadFault`,
 -- `WriteFault` and `DiskFault` come exactly where a read, a write or a call of the disk failed in it, but for a reply of the collector

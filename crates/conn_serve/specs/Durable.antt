@@ -7,7 +7,7 @@ use Rattle.edge_io.specs.declared.proto.Proto.{Proto}
 use Rattle.edge_io.specs.declared.proto.Proto.TheVariants.{Relp, Lumberjack, Hec}
 use Rattle.edge_disk.specs.Disk.{Moment}
 use Rattle.desk_access.specs.Call.{Call, Record, calls_of, own_of}
-use Rattle.desk_access.specs.Durable.{AreDurable, IsTakenDurably, IsToldTrue, left_since}
+use Rattle.desk_access.specs.Durable.{AreDurable, IsTakenDurably, IsToldTrue}
 use Rattle.desk_access.specs.Groups.{Group, IsOfId, groups_of}
 use Rattle.desk_access.specs.History.{AddsAll}
 use Rattle.desk_access.specs.Legal.{of_unit}
@@ -35,8 +35,7 @@ AnswersAreDurable Hec terms conn left b calls text talk carried now TrueMeans =
     × ((channel id : ℕ) → TellsTrue carried channel id → TrueMeans channel id)
 
 -- The caller of that number asked about the id and was answered true. Before that question some caller, itself or another, had taken
--- the id's group, and it is durable now, and has been since the question was answered. Where the id is a number from 2^32 on, that
--- group is all that the journal added with the id.
+-- the id's group, and it is durable now. Where the id is a number from 2^32 on, that group is all that the journal added with the id.
 pub record IsToldDurably (log : List Record) (number : ℕ) (now : Moment) (channel id : ℕ) : Type 0 where
   pub before : List Record
   pub question : Record
@@ -49,6 +48,4 @@ pub record IsToldDurably (log : List Record) (number : ℕ) (now : Moment) (chan
   pub of_id : IsOfId id group
   pub taken : Contains (groups_of (own_of taker before)) group
   pub durable : AreDurable now (group ∷ [])
-  pub answered : question.clock ≤ now.clock
-  pub since : AreDurable (left_since question.clock now) (group ∷ [])
   pub whole : 2 ^ 32 ≤ id → (added : List Entry) → AddsAll (calls_of log) added → of_unit id added ≡ group.entries

@@ -23,8 +23,7 @@ use Rattle.desk_access.specs.Standing.{standing_of}
 use Rattle.desk_access.specs.Call.{Record, takes, failed_of}
 use Rattle.desk_access.specs.Desk.{desk_of, Finds, Goes, Stood}
 use Rattle.desk_access.specs.Joint.{longer_last, extended, FitsOn}
-use Rattle.desk_access.specs.Since.{AreAnswered}
-use Rattle.desk_access.specs.JointRecords.{Part, joined, ArePartsOf, standing_with, bytes_of, stored_from, failed_from, refused_from, joint_of}
+use Rattle.desk_access.specs.JointRecords.{Part, joined, ArePartsOf, standing_with, stored_from, failed_from, refused_from, joint_of}
 use Rattle.desk_access.proofs.Extending.{longer_some, extended_added, extended_twice, end-extended, room-extended}
 
 text_join : (a b : List Entry) → length (entries_text (a ++ b)) ≡ length (entries_text a) + length (entries_text b)
@@ -219,27 +218,3 @@ module _ (clock : ℕ) where
   counts_once (Err (Take.Full need room)) at part parts = inl (none_refused (Take.Full need room) at (part ∷ parts) (λ is. cc is), λ is. cc is)
   counts_once (Err (Take.NotSpool place)) at part parts = inl (none_refused (Take.NotSpool place) at (part ∷ parts) (λ is. cc is), λ is. cc is)
   counts_once (Err Take.NoMemory) at part parts = inl (none_refused Take.NoMemory at (part ∷ parts) (λ is. cc is), λ is. cc is)
-
-  -- ---- when they were answered
-
-  answered_stored : (joins : Bool) (at : Standing) (parts : List Part) → AreAnswered clock (stored_from clock joins at parts)
-  answered_stored joins at [] = tt
-  answered_stored joins at (part ∷ parts) = (refl, answered_stored true (standing_with at (length part.entries) (bytes_of joins part.entries)) parts)
-
-  answered_failed : (joins : Bool) (stay at : Standing) (parts : List Part) → AreAnswered clock (failed_from clock joins stay at parts)
-  answered_failed joins stay at [] = tt
-  answered_failed joins stay at (part ∷ parts) = (refl, answered_failed true stay (standing_with at (length part.entries) (bytes_of joins part.entries)) parts)
-
-  answered_refused : (fault : TakeFault) (at : Standing) (parts : List Part) → AreAnswered clock (refused_from clock fault at parts)
-  answered_refused fault at [] = tt
-  answered_refused fault at (part ∷ parts) = (refl, answered_refused fault at parts)
-
-  -- all at the moment of that clock
-  pub answered_jointly : (result : Result Receipt TakeFault) (at : Standing) (parts : List Part) → AreAnswered clock (joint_of result clock at parts)
-  answered_jointly (Ok receipt) at parts = answered_stored false at parts
-  answered_jointly (Err Take.DiskFault) at parts = answered_failed false at at parts
-  answered_jointly (Err (Take.TooLarge need most)) at parts = answered_refused (Take.TooLarge need most) at parts
-  answered_jointly (Err (Take.Spent end)) at parts = answered_refused (Take.Spent end) at parts
-  answered_jointly (Err (Take.Full need room)) at parts = answered_refused (Take.Full need room) at parts
-  answered_jointly (Err (Take.NotSpool place)) at parts = answered_refused (Take.NotSpool place) at parts
-  answered_jointly (Err Take.NoMemory) at parts = answered_refused Take.NoMemory at parts

@@ -18,4 +18,4 @@ pub mod OneGroup
 pub mod InOrder
 pub mod LegalEntries
 pub mod Moves
-pub mod Since
+pub mod Places

@@ -9,7 +9,6 @@ pub mod Groups
 pub mod History
 pub mod Durable
 pub mod Journal
-pub mod Since
 pub mod Legal
 pub mod Settled
 pub mod Laws

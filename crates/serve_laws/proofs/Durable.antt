@@ -16,15 +16,14 @@ use Rattle.desk_access.specs.declared.division.Division.{Division}
 use Rattle.desk_access.specs.Division.{DividedRun, divided}
 use Rattle.desk_access.specs.Call.{Call, asks, Record, own_of, calls_of}
 use Rattle.desk_access.specs.Desk.{DeskState, Goes}
-use Rattle.desk_access.specs.Durable.{IsToldTrue, KeepsCalls, KeepsSince, StaysTaken, left_since}
-use Rattle.desk_access.specs.Groups.{Group, groups_of}
+use Rattle.desk_access.specs.Durable.{IsToldTrue, KeepsCalls}
 use Rattle.desk_access.specs.History.{IsDesk, AllKept}
 use Rattle.desk_access.specs.Journal.{calls_then, goes_parts}
 use Rattle.desk_access.specs.Legal.{AddsGroups, IsLegal, Met, IsStored}
 use Rattle.desk_access.proofs.Durable.{keeps_some, one_durable, own_kept}
 use Rattle.desk_access.proofs.Groups.{stored_group}
 use Rattle.desk_access.proofs.Lasting.{kept_parts}
-use Rattle.desk_access.proofs.Since.{place_of, since_taken}
+use Rattle.desk_access.proofs.Places.{place_of}
 use Rattle.desk_access.proofs.Told.{told_was_taken}
 use Rattle.hec_session.specs.declared.tokens.Tokens.{Tokens}
 use Rattle.conn_serve.specs.declared.rules.Rules.{Rules}
@@ -37,7 +36,7 @@ use Rattle.conn_serve.specs.Serves.{CarriedAs}
 use Rattle.conn_serve.specs.Terms.{Terms, terms_of}
 use Rattle.conn_serve.proofs.Durable.{acked_durably, stored_durably}
 use Rattle.conn_serve.proofs.HecAcks.{said_lies_whole}
-use Rattle.conn_serve.proofs.Late.{asks_late, groups_late, kept_late}
+use Rattle.conn_serve.proofs.Late.{asks_late, kept_late}
 use Rattle.desk_access.specs.Carried.{Carried}
 use Rattle.serve_workers.specs.Served.{Served, calls_in, IsServed, AreServed, Tells, TellsMore}
 use Rattle.serve_laws.specs.Durable.{IsLinkDurable, IsTalkDurable}
@@ -53,7 +52,7 @@ met_first run confirming before (one ∷ log) more m = (m.0, met_first run confi
 module _ (x y : DeskState) (division : Division) (confirming : ℕ) (log : List Record) (rules : IsDesk x) (none : x.ids.held ≡ [])
     (goes : Goes x log y) (met : Met (divided division x.spool.run) confirming [] log)
     (legal : (groups : List (List Entry)) → AddsGroups (calls_of log) groups → IsLegal x.spool.run groups)
-    (now : Moment) (keeps : KeepsCalls now (calls_of log)) (stays : KeepsSince log now) where
+    (now : Moment) (keeps : KeepsCalls now (calls_of log)) where
   -- an id for which a question of the journal was answered true
   told_at : (number channel id : ℕ) (before : List Record) (one : Record) (after : List Record) (ids : List ℕ) (known : List Bool) (k : ℕ) → log ≡ before ++ one ∷ after → one.by ≡ number
       → one.call ≡ asks channel ids known → k < length ids → get_or ids k 0 ≡ id → get_or known k false ≡ true → IsToldDurably log number now channel id
@@ -79,10 +78,6 @@ module _ (x y : DeskState) (division : Division) (confirming : ℕ) (log : List 
         durable = one_durable now (own_of found.0 before) g.0
             (keeps_some now (calls_of log) (own_of found.0 before)
             (λ s kept. own_kept s found.0 before (kept_parts s (calls_of before) (calls_of (one ∷ after)) (subst (AllKept s) (ap calls_of parts ∙ calls_then before (one ∷ after)) kept)).0) keeps) g.1;
-        answered = (stays before one after parts).0;
-        since = one_durable (left_since one.clock now) (own_of found.0 before) g.0
-            (keeps_some (left_since one.clock now) (calls_of (before ++ one ∷ [])) (own_of found.0 before)
-            (λ s kept. own_kept s found.0 before (kept_parts s (calls_of before) (one.call ∷ []) (subst (AllKept s) (calls_then before (one ∷ [])) kept)).0) (stays before one after parts).1) g.1;
         whole = λ large added adds. id_whole x.spool.run found.0 id log before (one ∷ after) g.0 added parts g.1 g.2 large legal adds;
       }
 
@@ -125,7 +120,6 @@ module _ (x y : DeskState) (division : Division) (confirming : ℕ) (log : List 
         served = served;
         acked = λ numbers says. acked_durably by.proto (terms_of by) one.conn one.left one.bytes one.calls one.text one.talk now numbers served kept says;
         answers = λ carried. answers number first made late behind by.proto (terms_of by) one.conn one.left one.bytes one.calls one.text one.talk carried own are nothing kept;
-        since = subst (λ (l : List Group). All (StaysTaken log number now) l) (sym (ap groups_of are ∙ groups_late made late nothing)) (since_taken log now stays number first made behind own);
       }
 
   pub links_durable : (number : ℕ) (before : List Call) (by : Rules) (conn : ℕ) (links : List Served) → AreServed by conn links → own_of number log ≡ before ++ calls_in links → All (IsLinkDurable log number now by) links
@@ -168,7 +162,6 @@ none_durable log number now by one served nothing stands =
       served = served;
       acked = λ numbers says. acked_durably by.proto (terms_of by) one.conn one.left one.bytes one.calls one.text one.talk now numbers served kept says;
       answers = λ carried. answers_of_none log number now by.proto (terms_of by) one.conn one.left one.bytes one.calls one.text one.talk carried nothing kept;
-      since = subst (λ (l : List Group). All (StaysTaken log number now) l) (sym (groups_late [] one.calls nothing)) (All-nil (StaysTaken log number now));
     }
 
 -- ---- what a door reports

@@ -42,7 +42,7 @@ module _ (tells : Type 0) (start : DeskState → Type 0) (seating : Seating) (ne
       let p = closes.replays.leads x s in
       links_durable x p.after division confirming log b.rules b.none_held p.goes (subst (λ (r : ℕ). Met (divided division r) confirming [] log) (sym b.of_run) closes.met)
       (subst (λ (r : ℕ). (groups : List (List Entry)) → AddsGroups (calls_of log) groups → IsLegal r groups) (sym b.of_run) (closes.legal x s)) new.spool.moment
-      (λ c image. let k = closes.kept x s c image in (k.state, k.stands, k.kept)) (closes.stays x s) at.number [] at.rules (first_conn seating.run at.number) (links_of part) is.at_door.served is.at_door.calls
+      (λ c image. let k = closes.kept x s c image in (k.state, k.stands, k.kept)) at.number [] at.rules (first_conn seating.run at.number) (links_of part) is.at_door.served is.at_door.calls
 
   pub doors_tell_durable : DoorsTellDurable tells start seating new
   doors_tell_durable log passes closes talks at part is x s before told =

@@ -12,7 +12,7 @@ use Rattle.conn_serve.specs.Says.{PromisesNothing}
 use Rattle.conn_serve.specs.declared.rules.Rules.{Rules}
 use Rattle.spool_turns.specs.Passes.{Beginning}
 use Rattle.spool_turns.specs.Replays.{Replays}
-use Rattle.spool_turns.proofs.Closing.{adds_legal, keeps, stays_since}
+use Rattle.spool_turns.proofs.Closing.{adds_legal, keeps}
 use Rattle.serve_workers.specs.Served.{Served, IsServed}
 use Rattle.serve_laws.specs.Durable.{IsLinkDurable}
 use Rattle.serve_laws.proofs.Durable.{link_durable}
@@ -31,5 +31,4 @@ says_durable tells start run seats began log v h m x s number earlier made late 
     (subst (λ (r : ℕ). (groups : List (List Entry)) → AddsGroups (calls_of log) groups → IsLegal r groups) of_run
     (adds_legal tells start run (seats - 1) began log v h m x s)) v.spool.moment
     (λ c image. let k = keeps tells start run (seats - 1) began log v h m x s c image in (k.state, k.stands, k.kept))
-    (stays_since tells start run began log v h x s)
     number earlier made late [] by one served (own ∙ ap (λ (l : List Call). earlier ++ l) (sym (append-nil made))) are nothing

@@ -1,11 +1,8 @@
 -- What the sender of a link may rely on once it has read an acknowledgment, where many callers share the desk.
 use Rattle.std.specs.Prelude.{ℕ, List}
-use Rattle.std.specs.List.{All}
 use Rattle.edge_io.specs.Door.{Talked}
 use Rattle.edge_disk.specs.Disk.{Moment}
 use Rattle.desk_access.specs.Call.{Record}
-use Rattle.desk_access.specs.Durable.{StaysTaken}
-use Rattle.desk_access.specs.Groups.{groups_of}
 use Rattle.conn_serve.specs.declared.rules.Rules.{Rules}
 use Rattle.conn_serve.specs.Acked.{Acknowledges}
 use Rattle.conn_serve.specs.Durable.{AckedIsDurable, AnswersAreDurable, IsToldDurably}
@@ -13,14 +10,13 @@ use Rattle.conn_serve.specs.Terms.{terms_of}
 use Rattle.serve_workers.specs.Served.{Served, IsServed, Tells}
 
 -- The caller of that number served the link by the rules, and whatever the link's text acknowledges is durable: by numbers in whole
--- frames, or by replies. Each group that the link's calls took is so since that take was answered.
+-- frames, or by replies.
 pub record IsLinkDurable (log : List Record) (number : ℕ) (now : Moment) (rules : Rules) (one : Served) : Type 0 where
   pub served : IsServed rules one
   pub acked : (numbers : List ℕ) → Acknowledges rules.proto one.text numbers → AckedIsDurable rules.proto one.calls now numbers
   pub answers : (served : IsServed rules one)
       → AnswersAreDurable rules.proto (terms_of rules) one.conn one.left one.bytes one.calls one.text one.talk served now
       (IsToldDurably log number now)
-  pub since : All (StaysTaken log number now) (groups_of one.calls)
 
 -- So it is of a connection that a door reports, by what was written to it.
 pub record IsTalkDurable (log : List Record) (number : ℕ) (now : Moment) (rules : Rules) (told : Talked) : Type 0 where

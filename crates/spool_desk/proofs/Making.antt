@@ -34,7 +34,6 @@ use Rattle.desk_access.specs.Desk.{DeskState, desk_of, Answers, Leaving, Stood}
 use Rattle.desk_access.specs.History.{IsLater}
 use Rattle.spool_desk.specs.Alone.{AloneView, alone_view, IsAt, LeadsFrom, RunsTo, Ran, Makes, Mended, record_of}
 use Rattle.desk_access.specs.Journal.{stood_here}
-use Rattle.desk_access.specs.Since.{since_one}
 use Rattle.desk_access.proofs.Stages.{none_of, told_one}
 use Rattle.desk_access.proofs.Steps.{one_later}
 use Rattle.spool_desk.proofs.Leading.{KeepsKnown, standing_known, end_is, idle_leads, take_leads, take_fails, pend_leads, pend_fails, mark_leads, mark_fails, confirm_leads, confirm_fails}
@@ -118,14 +117,11 @@ makes tells old new call leads counts keeps =
       cursor_rises = omega (arith, keeps.cursor_stays);
     }
 
-pub ran_of : (tells : Type 0) (old new : AloneView) (call : Call) → (tells → IsLawful new.spool.moment) → Makes tells old call new → Ran tells old (call ∷ []) new
-ran_of tells old new call lawful made = record {
+pub ran_of : (tells : Type 0) (old new : AloneView) (call : Call) → Makes tells old call new → Ran tells old (call ∷ []) new
+ran_of tells old new call made = record {
   records = record_of call new ∷ [];
   by = (refl, refl, refl, tt);
   runs = made;
-  since = λ x told at.
-      let leads = made.leads x told at in
-      since_one x leads.after new.spool.moment (record_of call new) (lawful told) refl leads.goes leads.reached.spool.each;
 }
 
 -- ---- the calls that mend first: what each makes, once mending came to this

@@ -14,7 +14,6 @@ use Rattle.spool_desk.specs.Standing.{standing_in}
 use Rattle.desk_access.specs.Call.{Call, Record, AreBy, failed_of}
 use Rattle.desk_access.specs.Desk.{DeskState, desk_of, Finds, StaysDoubtful, Goes, Stood}
 use Rattle.desk_access.specs.History.{IsDesk}
-use Rattle.desk_access.specs.Since.{EachSince}
 
 -- The desk at a moment: its spool and its ids, the numbers that the last call met, and the greatest end and cursor
 -- that were answered.
@@ -59,13 +58,11 @@ pub record RunsTo (tells : Type 0) (old : AloneView) (records : List Record) (ne
   pub end_rises : old.end_known ≤ new.end_known
   pub cursor_rises : old.cursor_known ≤ new.cursor_known
 
--- The calls of the desk's only caller lead from the one moment to the other: with their numbers they are records. Since each of them
--- was answered a crash left no earlier state.
+-- The calls of the desk's only caller lead from the one moment to the other: with their numbers they are records.
 pub record Ran (tells : Type 0) (old : AloneView) (calls : List Call) (new : AloneView) : Type 0 where
   pub records : List Record
   pub by : AreBy 0 calls records
   pub runs : RunsTo tells old records new
-  pub since : (x : DeskState) (told : tells) (at : IsAt x old) → EachSince x records (runs.leads x told at).after new.spool.moment
 
 -- the record of a call as it stands after it
 abbrev pub record_of : Call → AloneView → Record

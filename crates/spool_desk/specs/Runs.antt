@@ -9,7 +9,6 @@ use Rattle.desk_access.specs.History.{IsDesk}
 use Rattle.desk_access.specs.Call.{Call, Record, own_of, failed_of}
 use Rattle.desk_access.specs.Desk.{DeskState, Goes, Stood}
 use Rattle.desk_access.specs.Journal.{goes_then, by_then, own_by, failed_then, rose_then, stood_first, stood_later, stood_here}
-use Rattle.desk_access.specs.Since.{since_none, since_then}
 use Rattle.spool_desk.specs.Alone.{AloneView, LeadsFrom, RunsTo, Ran, HasSeen}
 
 -- no call
@@ -58,20 +57,13 @@ ran_none tells v lawful = record {
   records = [];
   by = tt;
   runs = runs_none tells v lawful;
-  since = λ x told at. since_none x _ v.spool.moment;
 }
 
 pub ran_then : (tells : Type 0) (a b c : AloneView) (calls more : List Call) → Ran tells a calls b → Ran tells b more c → Ran tells a (calls ++ more) c
-unfolding runs_then leads_then
 ran_then tells a b c calls more p q = record {
   records = p.records ++ q.records;
   by = by_then 0 calls more p.records q.records p.by q.by;
   runs = runs_then tells a b c p.records q.records p.runs q.runs;
-  since = λ x told at.
-      let first = p.runs.leads x told at in
-      let second = q.runs.leads first.after told first.reached in
-      since_then x first.after second.after p.records q.records b.spool.moment c.spool.moment first.goes second.goes (p.since x told at) second.any_moment
-      (q.since first.after told first.reached);
 }
 
 -- the journal goes on by the calls

@@ -22,7 +22,7 @@ use Rattle.spool_move.specs.declared.fault.MoveFault.{MoveFault}
 use Rattle.spool_move.specs.declared.fault.MoveFault.TheVariants.{Strange, TooLarge, Spent, Full, Worn, NotSpool, SourceFault, TargetFault, NoMemory}
 use Rattle.spool_move.specs.declared.walking.course.Course.{Course}
 use Rattle.spool_move.specs.Moved.{all_moved, is_present, missing}
-use Rattle.spool_move.specs.Stands.{HasTaken, Stands, IsMoving}
+use Rattle.spool_move.specs.Stands.{AreGivenUp, ArePages, HasTaken, Stands, IsMoving}
 use Rattle.spool_move.specs.Leave.{IsSafe}
 use Rattle.spool_move.specs.Moves.{Reaches, Stops, Refuses, IsWorn, IsDone, Moves}
 use Rattle.spool_move.specs.Reading.{IsReading}
@@ -32,7 +32,7 @@ use Rattle.spool_move.proofs.Copies.{copied}
 use Rattle.spool_move.proofs.Looking.{cons_here}
 use Rattle.spool_move.proofs.Rising.{all_from, left_rises_from}
 use Rattle.spool_move.proofs.Turning.{both_then, source_turn, target_turn}
-use Rattle.spool_move.proofs.Walks.{stands_taken, stands_given, taken_on, taken_count, page_few, page_within, page_first, page_behind, page_has}
+use Rattle.spool_move.proofs.Walks.{pages_more, stands_taken, stands_given, taken_on, taken_count, page_few, page_within, page_first, page_behind, page_has}
 
 -- a state in the midst of the move, from a course
 module _ (tag : ℕ) (m u : SpoolState) (present : BTreeSet ℕ) (course : Course) (v w : View) (at : IsOnCourse tag m u present course v w) where
@@ -72,6 +72,7 @@ module _ (tag : ℕ) (m u : SpoolState) (present : BTreeSet ℕ) (course : Cours
   abbrev pub on_read : (v' : View) → IsIn at.reaches.s [] v' → IsOnCourse tag m u present course v' w
   on_read v' held = record {
     walked = at.walked;
+    pages = at.pages;
     reaches = record { s = at.reaches.s; t = at.reaches.t; source = held; target = at.reaches.target; stands = at.reaches.stands };
     searched = at.searched;
     known = at.known;
@@ -141,15 +142,28 @@ module _ (tag : ℕ) (m u : SpoolState) (present : BTreeSet ℕ) (before after :
 
   stands_walked : (k : ℕ) (t' : SpoolState) → HasWalked tag present page p.at.reaches.t k t' → Stands tag m u (p.at.walked + k) p.at.walked p.at.reaches.s t'
   stands_walked k t' has =
-      stands_taken tag m u present p.at.searched p.at.walked p.at.reaches.s p.at.reaches.t p.at.reaches.stands k t'
+      stands_taken tag m u present p.at.searched p.at.walked p.at.reaches.s p.at.reaches.t p.at.reaches.stands k t' p.at.pages
       (omega (arith, has.within, page_few p.at.reaches.s before.upto page p.at.known p.is)) (omega (arith, has.within, page_within p.at.reaches.s before.upto page p.at.known p.is)) (taken_first k t' has)
 
   behind : left_from p.at.reaches.s after.upto ≡ drop p.k (left p.at.reaches.s)
   behind = ap (left_from p.at.reaches.s) p.counted.upto_is ∙ page_behind p.at.reaches.s before.upto page p.at.known p.is p.k p.has.within
 
-  stands_up : (s' : SpoolState) → HasGivenTo p.at.reaches.s after.upto s' → Stands tag m u (p.at.walked + p.k) (p.at.walked + p.k) s' p.t'
-  stands_up s' given =
+  -- what may be given up
+  abbrev pub Gives : Type 0
+  Gives = AreGivenUp tag m u (p.at.walked + p.k) (p.at.walked + p.k) p.t'
+
+  whole_pages : p.k ≡ length page → ArePages m (p.at.walked + p.k)
+  whole_pages all =
+      pages_more m p.at.reaches.s p.at.walked p.k p.at.reaches.stands.source.left_is p.at.reaches.stands.within (all ∙ ap length p.is) p.at.pages
+
+  -- a page that was walked to its end
+  pub whole_page : p.k ≡ length page → Gives
+  whole_page all = inl (whole_pages all)
+
+  stands_up : (s' : SpoolState) → Gives → HasGivenTo p.at.reaches.s after.upto s' → Stands tag m u (p.at.walked + p.k) (p.at.walked + p.k) s' p.t'
+  stands_up s' paged given =
       stands_given tag m u present p.at.searched p.at.walked p.at.reaches.s p.at.reaches.t p.at.reaches.stands p.k after.upto s' p.t' within (taken_first p.k p.t' p.has) given behind
+      paged
 
   -- a number below those that were walked is safe
   pub page_safe : (from onto : Moment) → StandsFor p.at.reaches.s from.reads → ((d : List ℕ) → onto.image d → StandsFor p.t' d) → after.upto ≤ end p.at.reaches.s → (n : ℕ) → n < after.upto → IsSafe tag from onto n
@@ -174,10 +188,11 @@ module _ (tag : ℕ) (m u : SpoolState) (present : BTreeSet ℕ) (before after :
 
   module _ (v' w' : View) where
     -- all of the page was walked, and given up
-    pub page_done : IsIn p.t' [] w' → IsGiven p.at.reaches.s after.upto (Ok tt) v' → IsOnCourse tag m u present after v' w'
-    page_done held given = record {
+    pub page_done : p.k ≡ length page → IsIn p.t' [] w' → IsGiven p.at.reaches.s after.upto (Ok tt) v' → IsOnCourse tag m u present after v' w'
+    page_done all held given = record {
       walked = p.at.walked + p.k;
-      reaches = record { s = given.0; t = p.t'; source = given.1; target = held; stands = stands_up given.0 given.2 };
+      pages = whole_pages all;
+      reaches = record { s = given.0; t = p.t'; source = given.1; target = held; stands = stands_up given.0 (whole_page all) given.2 };
       searched = p.at.searched;
       known = given.2.known;
       taken_is =
@@ -246,8 +261,22 @@ module _ (tag : ℕ) (m u : SpoolState) (present : BTreeSet ℕ) (before after :
           (subst (λ (l : List NumberedEntry). Contains l refused.one) (sym rest_is) (cons_here refused.one (refused.rest ++ drop 128 (left p.at.reaches.s))))) in
           sym (All-contains (λ (one : NumberedEntry). contains nat_cmp present one.number ≡ is_present tag (left u) one.number) (left m) refused.one p.at.searched.presence here) ∙ refused.absent_is
 
-      pub page_refused : IsIn p.t' [] w' → IsGiven p.at.reaches.s after.upto (Ok tt) v' → Refuses tag m u fault v' w'
-      page_refused held given = record {
+      pub next_refused : IsRefusal fault → Gives
+      next_refused wants = inr (
+        refl,
+        record {
+          one = refused.one;
+          rest = refused.rest ++ drop 128 (left p.at.reaches.s);
+          next = rest_is;
+          absent = not_present;
+          fault = fault;
+          wants = wants;
+          refused = refused.refused;
+        },
+      )
+
+      pub page_refused : IsRefusal fault → IsIn p.t' [] w' → IsGiven p.at.reaches.s after.upto (Ok tt) v' → Refuses tag m u fault v' w'
+      page_refused wants held given = record {
         s = given.0;
         t = p.t';
         walked = p.at.walked + p.k;
@@ -258,7 +287,7 @@ module _ (tag : ℕ) (m u : SpoolState) (present : BTreeSet ℕ) (before after :
         none_strange = p.at.searched.none_strange;
         source = given.1;
         target = held;
-        stands = stands_up given.0 given.2;
+        stands = stands_up given.0 (next_refused wants) given.2;
         refused = refused.refused;
       }
 
@@ -270,11 +299,11 @@ module _ (tag : ℕ) (m u : SpoolState) (present : BTreeSet ℕ) (before after :
     pub page_answers : (fault : TakeFault) (result : MoveFault) (v1 : View) → (fault ≡ Take.DiskFault → IsIn p.at.reaches.s [] v') → IsRefused tag present page p.k p.t' fault w' → AnswersFault p.at.reaches.s after.upto fault result v1 v'
         → Moves tag m u (Err result) v' w'
     page_answers (Take.TooLarge need most) result v1 still refused answers =
-        first_by (TooLarge need most) result answers.given refused.reached (page_refused (Take.TooLarge need most) refused refused.reached) answers.gives.given answers.result_is
+        first_by (TooLarge need most) result answers.given refused.reached (page_refused (Take.TooLarge need most) refused tt refused.reached) answers.gives.given answers.result_is
     page_answers (Take.Spent at) result v1 still refused answers =
-        first_by (Spent at) result answers.given refused.reached (page_refused (Take.Spent at) refused refused.reached) answers.gives.given answers.result_is
+        first_by (Spent at) result answers.given refused.reached (page_refused (Take.Spent at) refused tt refused.reached) answers.gives.given answers.result_is
     page_answers (Take.Full need free) result v1 still refused answers =
-        first_by (Full need free) result answers.given refused.reached (page_refused (Take.Full need free) refused refused.reached) answers.gives.given answers.result_is
+        first_by (Full need free) result answers.given refused.reached (page_refused (Take.Full need free) refused tt refused.reached) answers.gives.given answers.result_is
     page_answers (Take.NotSpool at) result v1 still refused answers = absurd refused.reached
     page_answers Take.NoMemory result v1 still refused answers = absurd refused.reached
     page_answers Take.DiskFault result v1 still refused answers =
@@ -295,15 +324,15 @@ module _ (tag : ℕ) (m u : SpoolState) (present : BTreeSet ℕ) (before after :
         (λ c d h. h) (λ c d h. h)
 
     -- and then given up
-    pub page_turns_up : (a2 : D) → LeavesOnly (IsWalking tag present page p.at.reaches.t) (onto b) (onto b1) → ((d : List ℕ) → (onto b1).image d → StandsFor p.t' d) → LeavesOnly (IsGiving p.at.reaches.s after.upto) (on a1) (on a2)
+    pub page_turns_up : (a2 : D) → Gives → LeavesOnly (IsWalking tag present page p.at.reaches.t) (onto b) (onto b1) → ((d : List ℕ) → (onto b1).image d → StandsFor p.t' d) → LeavesOnly (IsGiving p.at.reaches.s after.upto) (on a1) (on a2)
         → LeavesBoth on onto (IsMoving tag m u) a b a2 b1
-    page_turns_up a2 walking now giving =
+    page_turns_up a2 paged walking now giving =
         both_then on onto (IsMoving tag m u) (IsMoving tag m u) (IsMoving tag m u) a a1 a2 b b1 b1
         (page_turns walking)
         (source_turn on onto (IsMoving tag m u) (IsGiving p.at.reaches.s after.upto) a1 a2 b1 giving
         (λ c d there image. elim there.2 [
           | inl same ↦ (p.at.walked + p.k, p.at.walked, p.at.reaches.s, p.t', subst (λ (x : SpoolState). StandsFor x c) same there.1, now d image, stands_walked p.k p.t' p.has)
-          | inr given ↦ (p.at.walked + p.k, p.at.walked + p.k, there.0, p.t', there.1, now d image, stands_up there.0 given)
+          | inr given ↦ (p.at.walked + p.k, p.at.walked + p.k, there.0, p.t', there.1, now d image, stands_up there.0 paged given)
         ]))
         (λ c d h. h) (λ c d h. h)
 
@@ -311,9 +340,12 @@ module _ (tag : ℕ) (m u : SpoolState) (present : BTreeSet ℕ) (before after :
     pub page_ends : (fault : TakeFault) (result : MoveFault) (a2 : D) (v1 v2 w1 : View) → (fault ≡ Take.DiskFault → a2 ≡ a1) → IsRefused tag present page p.k p.t' fault w1 → ((d : List ℕ) → (onto b1).image d → w1.moment.image d)
         → AnswersFault p.at.reaches.s after.upto fault result v1 v2 → (LeavesOnly (IsGiving p.at.reaches.s after.upto) v1.moment v2.moment → LeavesOnly (IsGiving p.at.reaches.s after.upto) (on a1) (on a2))
         → LeavesOnly (IsWalking tag present page p.at.reaches.t) (onto b) (onto b1) → LeavesBoth on onto (IsMoving tag m u) a b a2 b1
-    page_ends (Take.TooLarge need most) result a2 v1 v2 w1 same refused image answers run walking = page_turns_up a2 walking (λ d i. refused.reached.each d (image d i)) (run answers.gives.any_moment)
-    page_ends (Take.Spent at) result a2 v1 v2 w1 same refused image answers run walking = page_turns_up a2 walking (λ d i. refused.reached.each d (image d i)) (run answers.gives.any_moment)
-    page_ends (Take.Full need free) result a2 v1 v2 w1 same refused image answers run walking = page_turns_up a2 walking (λ d i. refused.reached.each d (image d i)) (run answers.gives.any_moment)
+    page_ends (Take.TooLarge need most) result a2 v1 v2 w1 same refused image answers run walking =
+        page_turns_up a2 (next_refused v1 w1 (Take.TooLarge need most) refused tt) walking (λ d i. refused.reached.each d (image d i)) (run answers.gives.any_moment)
+    page_ends (Take.Spent at) result a2 v1 v2 w1 same refused image answers run walking =
+        page_turns_up a2 (next_refused v1 w1 (Take.Spent at) refused tt) walking (λ d i. refused.reached.each d (image d i)) (run answers.gives.any_moment)
+    page_ends (Take.Full need free) result a2 v1 v2 w1 same refused image answers run walking =
+        page_turns_up a2 (next_refused v1 w1 (Take.Full need free) refused tt) walking (λ d i. refused.reached.each d (image d i)) (run answers.gives.any_moment)
     page_ends (Take.NotSpool at) result a2 v1 v2 w1 same refused image answers run walking = absurd refused.reached
     page_ends Take.NoMemory result a2 v1 v2 w1 same refused image answers run walking = absurd refused.reached
     page_ends Take.DiskFault result a2 v1 v2 w1 same refused image answers run walking = subst (λ (x : D). LeavesBoth on onto (IsMoving tag m u) a b x b1) (sym (same refl)) (page_turns walking)

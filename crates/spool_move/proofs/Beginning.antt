@@ -24,6 +24,7 @@ use Rattle.spool_move.proofs.Turning.{both_then, source_turn, target_turn}
 pub at_start : (tag : ℕ) (m u : SpoolState) (present : BTreeSet ℕ) (v w : View) → IsSearched tag m (left u) present → IsIn m [] v → IsIn u [] w → IsOnCourse tag m u present (record { upto = 0; taken = 0 }) v w
 at_start tag m u present v w searched held held' = record {
   walked = 0;
+  pages = inl (0, refl);
   reaches = record {
     s = m;
     t = u;
@@ -33,6 +34,7 @@ at_start tag m u present v w searched held held' = record {
       within = omega arith;
       behind = omega arith;
       soon = omega arith;
+      paged = inl (inl (0, refl));
       sure = λ some. absurd (omega arith);
       source = record { base_same = refl; list_same = refl; run_same = refl; follows = follows_self m held.sound.from_base; left_is = refl };
       target = taken_none u held'.sound.from_base;
@@ -65,6 +67,7 @@ unread_moves tag m u fault v w finds held held' = by fault finds
         within = omega arith;
         behind = omega arith;
         soon = omega arith;
+        paged = inl (inl (0, refl));
         sure = λ some. absurd (omega arith);
         source = record { base_same = refl; list_same = refl; run_same = refl; follows = follows_self m held.sound.from_base; left_is = refl };
         target = taken_none u held'.sound.from_base;

@@ -1,10 +1,11 @@
 -- A page of the source's entries, walked and given up.
-use Rattle.std.proofs.Common.{◌≡◌, inl, inr, ℕ, ◌+◌, ◌<◌, ◌≤◌, List, ◌++◌, length, take, drop, sym, ◌∙◌, ap, subst, arith, length-drop, length-take, length-append, take-append-drop}
+use Rattle.std.proofs.Common.{◌≡◌, inl, inr, ℕ, ◌+◌, ◌-◌, ◌<◌, ◌≤◌, List, ◌++◌, length, take, drop, sym, ◌∙◌, ap, subst, arith, length-drop, length-take, length-append, take-append-drop}
 use Rattle.std.specs.Prelude.{not}
 use Rattle.std.specs.List.{Contains}
 use Rattle.std.specs.BTreeSet.{BTreeSet, contains}
 use Rattle.std.specs.Ordering.{nat_cmp}
 use Rattle.std.proofs.Math.Seq.{take-add}
+use Rattle.std.proofs.lemmas.Bool.{cases_lt}
 use Rattle.std.proofs.lemmas.List.{drop-drop, map-append, take-take}
 use Rattle.std.proofs.lemmas.List.Elements.{All-drop, All-take, Contains-append_cases, filter-append}
 use Rattle.event_form.specs.declared.event.Entry.{Entry}
@@ -13,7 +14,7 @@ use Rattle.spool_state.specs.Left.{NumberedEntry, left, left_from}
 use Rattle.spool_state.proofs.Following.{follows_then}
 use Rattle.spool_state.proofs.Unknown.{filter_like}
 use Rattle.spool_move.specs.Moved.{moved, all_moved, is_present, missing}
-use Rattle.spool_move.specs.Stands.{HasTaken, Stands}
+use Rattle.spool_move.specs.Stands.{AreGivenUp, ArePages, HasTaken, Stands}
 use Rattle.spool_move.specs.Reading.{IsSearched}
 use Rattle.spool_move.specs.Walking.{absent, after_last, HasGivenTo}
 use Rattle.spool_move.proofs.Growing.{taken_then}
@@ -51,11 +52,12 @@ module _ (tag : ℕ) (m u : SpoolState) (present : BTreeSet ℕ) (searched : IsS
   within : (k : ℕ) → k ≤ length (left s) → walked + k ≤ length (left m)
   within k le = omega (arith, le, ap length stands.source.left_is, length-drop walked (left m), stands.within)
 
-  pub stands_taken : (k : ℕ) (t' : SpoolState) → k ≤ 128 → k ≤ length (left s) → HasTaken t (all_moved tag (absent present (take k (left s)))) t' → Stands tag m u (walked + k) walked s t'
-  stands_taken k t' few le more = record {
+  pub stands_taken : (k : ℕ) (t' : SpoolState) → ArePages m walked → k ≤ 128 → k ≤ length (left s) → HasTaken t (all_moved tag (absent present (take k (left s)))) t' → Stands tag m u (walked + k) walked s t'
+  stands_taken k t' pages few le more = record {
     within = within k le;
     behind = omega arith;
     soon = omega (arith, few);
+    paged = inl pages;
     sure = λ some. searched.none_strange;
     source = stands.source;
     target = taken_on k t' more;
@@ -63,11 +65,12 @@ module _ (tag : ℕ) (m u : SpoolState) (present : BTreeSet ℕ) (searched : IsS
 
   -- and the source gave them up
   pub stands_given : (k upto : ℕ) (s' t' : SpoolState) → k ≤ length (left s) → HasTaken t (all_moved tag (absent present (take k (left s)))) t' → HasGivenTo s upto s' → left_from s upto ≡ drop k (left s)
-      → Stands tag m u (walked + k) (walked + k) s' t'
-  stands_given k upto s' t' le more given is = record {
+      → AreGivenUp tag m u (walked + k) (walked + k) t' → Stands tag m u (walked + k) (walked + k) s' t'
+  stands_given k upto s' t' le more given is paged = record {
     within = within k le;
     behind = omega arith;
     soon = omega arith;
+    paged = paged;
     sure = λ some. searched.none_strange;
     source = record {
       base_same = given.base_same ∙ stands.source.base_same;
@@ -78,6 +81,19 @@ module _ (tag : ℕ) (m u : SpoolState) (present : BTreeSet ℕ) (searched : IsS
     };
     target = taken_on k t' more;
   }
+
+-- After one page more whole pages are walked, or all entries.
+pub pages_more : (m s : SpoolState) (walked k : ℕ) → left s ≡ drop walked (left m) → walked ≤ length (left m) → k ≡ length (take 128 (left s))
+    → ArePages m walked → ArePages m (walked + k)
+pages_more m s walked k is within page pages =
+    let left_is : length (left s) ≡ length (left m) - walked = ap length is ∙ length-drop walked (left m) in
+    elim (cases_lt (length (left s)) 128) [
+      | inl lt ↦ inr (omega (arith, lt, page, length-take 128 (left s), left_is, within))
+      | inr ge ↦ elim pages [
+        | inl whole ↦ inl (whole.0 + 1, omega (arith, ge, page, length-take 128 (left s), whole.1))
+        | inr all ↦ absurd (omega (arith, ge, all, left_is))
+      ]
+    ]
 
 -- the first so many of a page are the first of what is left, and behind them the others are
 module _ (s : SpoolState) (upto : ℕ) (page : List NumberedEntry) (known : upto ≤ s.cursor) (is : page ≡ take 128 (left s)) where

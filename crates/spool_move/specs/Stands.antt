@@ -1,10 +1,12 @@
 -- A source and a target in the midst of a move. As it began they were the states `m` and `u`.
-use Rattle.std.specs.Prelude.{◌≡◌, ℕ, ◌+◌, ◌<◌, ◌≤◌, List, ◌++◌, length, take, drop}
+use Rattle.std.specs.Prelude.{◌≡◌, ◌⊎◌, ℕ, ◌+◌, ◌*◌, ◌<◌, ◌≤◌, false, List, [], ◌∷◌, ◌++◌, length, take, drop, Err}
 use Rattle.event_form.specs.declared.event.Entry.{Entry}
 use Rattle.spool_state.specs.SpoolState.{SpoolState, list, base, end, numbers_of, Follows}
-use Rattle.spool_state.specs.Left.{left, numbered}
+use Rattle.spool_state.specs.Left.{NumberedEntry, left, numbered}
 use Rattle.spool_state.specs.Image.{StandsFor}
-use Rattle.spool_move.specs.Moved.{missing, all_moved}
+use Rattle.spool_answers.specs.declared.fault.TakeFault.{TakeFault}
+use Rattle.spool_answers.specs.Take.{IsRefusal, Takes}
+use Rattle.spool_move.specs.Moved.{all_moved, is_present, missing, moved}
 use Rattle.spool_move.specs.Strange.{NoneIsStrange}
 
 -- The source has given up the first so many entries that it had left: they are known as confirmed. Nothing else changed.
@@ -23,12 +25,32 @@ pub record HasTaken (u : SpoolState) (more : List Entry) (t : SpoolState) : Type
   pub ends : end t ≡ end u + length more
   pub left_is : left t ≡ left u ++ numbered (end u) more
 
--- Of the entries that the source had left so many are walked, and the first ones of these given up: at most 128 are walked that aren't
--- given up yet. The target has taken those of the walked ones that it didn't have, and none is walked where one of its entries was strange.
+-- so many of the entries that the source had left are whole pages of 128, or all
+abbrev pub ArePages : SpoolState → ℕ → Type 0
+ArePages m n = ((pages : ℕ) × (n ≡ pages * 128)) ⊎ (n ≡ length (left m))
+
+-- The target, in its state now, refuses the entry after so many, which it didn't have, for want of room or of numbers.
+pub record RefusesNext (tag : ℕ) (m u : SpoolState) (walked : ℕ) (t : SpoolState) : Type 0 where
+  pub one : NumberedEntry
+  pub rest : List NumberedEntry
+  pub next : drop walked (left m) ≡ one ∷ rest
+  pub absent : is_present tag (left u) one.number ≡ false
+  pub fault : TakeFault
+  pub wants : IsRefusal fault
+  pub refused : Takes t (moved tag one ∷ []) (Err fault)
+
+-- What is given up are whole pages, or all entries; or all that are walked, where the target refuses the next one.
+abbrev pub AreGivenUp : (tag : ℕ) (m u : SpoolState) (walked given : ℕ) (t : SpoolState) → Type 0
+AreGivenUp tag m u walked given t = ArePages m given ⊎ ((given ≡ walked) × RefusesNext tag m u walked t)
+
+-- Of the entries that the source had left so many are walked, and the first ones of these given up: after every 128, at the end, and where
+-- the target refuses the next one, and before another is walked. The target has taken those of the walked ones that it didn't have, and
+-- none is walked where one of its entries was strange.
 pub record Stands (tag : ℕ) (m u : SpoolState) (walked given : ℕ) (s t : SpoolState) : Type 0 where
   pub within : walked ≤ length (left m)
   pub behind : given ≤ walked
   pub soon : walked ≤ given + 128
+  pub paged : AreGivenUp tag m u walked given t
   pub sure : 0 < walked → NoneIsStrange tag m (left u)
   pub source : HasGivenUp m given s
   pub target : HasTaken u (all_moved tag (missing tag (left u) (take walked (left m)))) t

@@ -17,7 +17,7 @@ use Rattle.spool_move.specs.declared.fault.MoveFault.{MoveFault}
 use Rattle.spool_move.specs.declared.fault.MoveFault.TheVariants.{Strange, TooLarge, Spent, Full, Worn, NotSpool, SourceFault, TargetFault, NoMemory}
 use Rattle.spool_move.specs.declared.walking.course.Course.{Course}
 use Rattle.spool_move.specs.Moved.{all_moved, missing, moved}
-use Rattle.spool_move.specs.Stands.{HasTaken}
+use Rattle.spool_move.specs.Stands.{ArePages, HasTaken}
 use Rattle.spool_move.specs.Moves.{Reaches, IsDone, Moves}
 use Rattle.spool_move.specs.Reading.{IsSearched}
 
@@ -169,9 +169,10 @@ AnswersFault s upto Take.DiskFault result old new = result ≡ TargetFault
 
 -- ---- the walk
 
--- Between two pages: so many entries are walked, and all of them given up.
+-- Between two pages: so many entries are walked, whole pages or all, and all of them given up.
 pub record IsOnCourse (tag : ℕ) (m u : SpoolState) (present : BTreeSet ℕ) (course : Course) (from onto : View) : Type 0 where
   pub walked : ℕ
+  pub pages : ArePages m walked
   pub reaches : Reaches tag m u walked walked from onto
   pub searched : IsSearched tag m (left u) present
   pub known : course.upto ≤ reaches.s.cursor

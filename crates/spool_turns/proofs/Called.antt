@@ -2,7 +2,6 @@
 use Rattle.std.proofs.Common.{◌≡◌, ℕ, zero, suc, ◌+◌, ◌-◌, arith, List, [], ◌∷◌, ◌++◌, refl, sym, ap, ◌∙◌, subst}
 use Rattle.std.proofs.lemmas.List.{append-nil}
 use Rattle.atomic_table.specs.Table.{Me}
-use Rattle.edge_disk.specs.Disk.{IsLawful}
 use Rattle.desk_access.specs.Division.{DividedRun}
 use Rattle.desk_access.specs.Call.{Call, takes, pends, confirms, marks, counts, issues, settles, forgets, asks, Record, own_of}
 use Rattle.desk_access.specs.Desk.{DeskState}
@@ -42,7 +41,7 @@ module _ (tells : Type 0) (start : DeskState → Type 0) (run : DividedRun) (sea
     (turn : IsTurn seats me old) (replays : Replays tells start run began (facts_in me.0).log old) (legal : Met run (seats - 1) [] (facts_in me.0).log) (may : May run (seats - 1) m.number m.own call)
     (hosts : hosted ≡ calling_of (facts_in me.0) m) (knew : Knows (facts_in me.0) m)
     (made : Makes tells old call mid) (told : RunsTo tells mid [] new) (same : record_of call new ≡ record_of call mid) (exact : IsExact tells new)
-    (writes : wrote ≡ calling_of (published new (facts_in hosted.0)) (caller_in hosted.0)) (lawful : tells → IsLawful new.spool.moment) where
+    (writes : wrote ≡ calling_of (published new (facts_in hosted.0)) (caller_in hosted.0)) where
   runs : RunsTo tells old (record_of call new ∷ []) new
   runs = subst (λ (r : Record). RunsTo tells old (r ∷ []) new) (sym same) (runs_then tells old mid new (record_of call mid ∷ []) [] made told)
 
@@ -50,7 +49,7 @@ module _ (tells : Type 0) (start : DeskState → Type 0) (run : DividedRun) (sea
   wrote_is = writes ∙ ap (λ (x : Me ℕ View). calling_of (published new (facts_in x.0)) (caller_in x.0)) hosts
 
   after : Replays tells start run began ((facts_in me.0).log ++ made_by m.number (record_of call new) ∷ []) new
-  after = replays_more tells start run began m.number old new (facts_in me.0).log (record_of call new) lawful refl refl replays runs
+  after = replays_more tells start run began m.number old new (facts_in me.0).log (record_of call new) refl replays runs
 
   locked_is : (it : Me ℕ View) → it ≡ locked_of (with_record (facts_in wrote.0) (made_by (caller_in wrote.0).number (record_of call new))) → it ≡ locked_of (with_record (published new (facts_in me.0)) (made_by m.number (record_of call new)))
   locked_is it is = is ∙ ap (λ (x : Me ℕ View). locked_of (with_record (facts_in x.0) (made_by (caller_in x.0).number (record_of call new)))) wrote_is
@@ -129,30 +128,30 @@ module _ (tells : Type 0) (start : DeskState → Type 0) (run : DividedRun) (sea
 module _ (tells : Type 0) (start : DeskState → Type 0) (run : DividedRun) (seats : ℕ) (began : Beginning) (me : Me ℕ View) (old mid new : AloneView) (m : PassView) (call : Call)
     (turn : IsTurn seats me old) (replays : Replays tells start run began (facts_in me.0).log old) (legal : Met run (seats - 1) [] (facts_in me.0).log) (may : May run (seats - 1) m.number m.own call)
     (knew : Knows (facts_in me.0) m)
-    (made : Makes tells old call mid) (told : RunsTo tells mid [] new) (same : record_of call new ≡ record_of call mid) (exact : IsExact tells new) (lawful : tells → IsLawful new.spool.moment) where
+    (made : Makes tells old call mid) (told : RunsTo tells mid [] new) (same : record_of call new ≡ record_of call mid) (exact : IsExact tells new) where
   renewed : (it : Me ℕ View) → it ≡ pass_of (after_call (published new (facts_in me.0)) m (record_of call mid)) → it ≡ pass_of (after_call (published new (facts_in me.0)) m (record_of call new))
   renewed it is = is ∙ ap (λ (r : Record). pass_of (after_call (published new (facts_in me.0)) m r)) (sym same)
 
   pub turn_entered : (it : Me ℕ View) → it ≡ locked_of (with_record (published new (facts_in me.0)) (made_by m.number (record_of call mid))) → Locks tells start run seats began it new
   turn_entered it is =
-      turn_after tells start run seats began me (calling_of (facts_in me.0) m) (calling_of (published new (facts_in me.0)) m) old mid new m call turn replays legal may refl knew made told same exact refl lawful it
+      turn_after tells start run seats began me (calling_of (facts_in me.0) m) (calling_of (published new (facts_in me.0)) m) old mid new m call turn replays legal may refl knew made told same exact refl it
       (is ∙ ap (λ (r : Record). locked_of (with_record (published new (facts_in me.0)) (made_by m.number r))) (sym same))
 
   pub pass_entered : (it : Me ℕ View) → it ≡ pass_of (after_call (published new (facts_in me.0)) m (record_of call mid))
       → IsPass it × Sound start (pass_in it.0) × ((pass_in it.0).number ≡ m.number) × ((pass_in it.0).out ≡ m.out)
   pass_entered it is =
-      pass_after tells start run seats began me (calling_of (facts_in me.0) m) (calling_of (published new (facts_in me.0)) m) old mid new m call turn replays legal may refl knew made told same exact refl lawful it
+      pass_after tells start run seats began me (calling_of (facts_in me.0) m) (calling_of (published new (facts_in me.0)) m) old mid new m call turn replays legal may refl knew made told same exact refl it
       (renewed it is)
 
   pub calls_entered : (v : Known) (it : Me ℕ View) → known_of m ≡ v → it ≡ pass_of (after_call (published new (facts_in me.0)) m (record_of call mid)) → Calls start run seats v call (known_of (pass_in it.0))
   calls_entered v it was is =
-      calls_after tells start run seats began me (calling_of (facts_in me.0) m) (calling_of (published new (facts_in me.0)) m) old mid new m call turn replays legal may refl knew made told same exact refl lawful v
+      calls_after tells start run seats began me (calling_of (facts_in me.0) m) (calling_of (published new (facts_in me.0)) m) old mid new m call turn replays legal may refl knew made told same exact refl v
       it was (renewed it is)
 
   pub real_entered : (it : Me ℕ View) → it ≡ pass_of (after_call (published new (facts_in me.0)) m (record_of call mid))
       → Replays tells start run began (pass_in it.0).seen new × Met run (seats - 1) [] (pass_in it.0).seen
   real_entered it is =
-      real_after tells start run seats began me (calling_of (facts_in me.0) m) (calling_of (published new (facts_in me.0)) m) old mid new m call turn replays legal may refl knew made told same exact refl lawful
+      real_after tells start run seats began me (calling_of (facts_in me.0) m) (calling_of (published new (facts_in me.0)) m) old mid new m call turn replays legal may refl knew made told same exact refl
       (known_of (pass_in it.0)) it refl (renewed it is)
 
 -- one pass more

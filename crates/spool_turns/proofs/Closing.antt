@@ -8,7 +8,6 @@ use Rattle.event_form.specs.declared.event.Entry.{Entry}
 use Rattle.desk_access.specs.Division.{DividedRun, divided}
 use Rattle.desk_access.specs.Call.{Call, asks, Record, own_of, calls_of}
 use Rattle.desk_access.specs.Desk.{DeskState, Goes}
-use Rattle.desk_access.specs.Durable.{KeepsSince}
 use Rattle.desk_access.specs.History.{Was}
 use Rattle.spool_desk.specs.Alone.{AloneView}
 use Rattle.desk_access.specs.Journal.{own_then, goes_parts}
@@ -16,7 +15,6 @@ use Rattle.desk_access.specs.Legal.{May, Met, IsStored, AddsGroups, IsOfRun, IsL
 use Rattle.desk_access.proofs.Tables.{table_then}
 use Rattle.desk_access.proofs.Nexts.{stored_more}
 use Rattle.desk_access.proofs.Steps.{all_later}
-use Rattle.desk_access.proofs.Since.{keeps_since}
 use Rattle.desk_access.proofs.Lasting.{goes_grows, goes_kept, which_one, stood_was}
 use Rattle.desk_access.proofs.LegalEntries.{legal_journal}
 use Rattle.desk_access.proofs.Told.{told_was_taken}
@@ -134,11 +132,6 @@ keeps tells start run confirming began log v h m x s c image =
 pub left_before : (tells : Type 0) (start : DeskState → Type 0) (run : DividedRun) (began : Beginning) (log : List Record) (v : AloneView) → Replays tells start run began log v
     → (x : DeskState) → start x → (c : List ℕ) → v.spool.moment.image_since began.moment.clock c → Was x (calls_of log) c
 left_before tells start run began log v h x s c since = stood_was x log c (h.begins x s).rules ((h.leads x s).any_moment.each c since)
-
--- what it left since a call was answered
-pub stays_since : (tells : Type 0) (start : DeskState → Type 0) (run : DividedRun) (began : Beginning) (log : List Record) (v : AloneView) → Replays tells start run began log v
-    → (x : DeskState) → start x → KeepsSince log v.spool.moment
-stays_since tells start run began log v h x s = let p = h.leads x s in keeps_since x p.after v.spool.moment log (h.begins x s).rules p.since
 
 -- each record is of a pass
 numbers_below : (seats : ℕ) (log : List Record) → ((n : ℕ) → seats ≤ n → own_of n log ≡ []) → All (λ (one : Record). one.by < seats) log

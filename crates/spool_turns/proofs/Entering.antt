@@ -10,14 +10,12 @@ use Rattle.spool_answers.specs.declared.fault.TakeFault.{TakeFault}
 use Rattle.spool_answers.specs.declared.fault.TakeFault.TheVariants as Take
 use Rattle.spool_answers.specs.Take.{IsRefusal}
 use Rattle.edge_disk.specs.declared.disk.Disk.{Ghosts}
-use Rattle.edge_disk.specs.Disk.{IsLawful}
 use Rattle.edge_disk.proofs.Moments.{both}
 use Rattle.desk_access.specs.Division.{DividedRun}
 use Rattle.desk_access.specs.Call.{Call, takes, Record, NoneJoins, own_of, failures_of, failed_of}
 use Rattle.desk_access.specs.Desk.{DeskState, Stood}
 use Rattle.desk_access.specs.Journal.{goes_then, own_then, failed_then, rose_then, stood_first, stood_later}
 use Rattle.desk_access.specs.Legal.{May, Met}
-use Rattle.desk_access.specs.Since.{AreAnswered, since_then, since_together}
 use Rattle.desk_access.proofs.Nexts.{met_then}
 use Rattle.spool_desk.specs.declared.alone.Alone.{Alone}
 use Rattle.spool_desk.specs.Alone.{AloneView, alone_at, LeadsFrom, RunsTo}
@@ -37,24 +35,22 @@ none_both (one ∷ log) more first rest = (first.0, none_both log more first.1 r
 
 -- calls of one change after a journal
 module _ (tells : Type 0) (start : DeskState → Type 0) (run : DividedRun) (began : Beginning) (b c : AloneView) (log records : List Record)
-    (lawful : tells → IsLawful c.spool.moment) (answered : AreAnswered c.spool.moment.clock records) (alone : began.grouped ≡ false → NoneJoins records)
+    (alone : began.grouped ≡ false → NoneJoins records)
     (each : (n : ℕ) → failures_of (own_of n records) ≤ failed_of records) where
-  led : tells → (x : DeskState) (p : LeadsBy x began.moment log b) → LeadsFrom p.after b records c → LeadsBy x began.moment (log ++ records) c
-  led told x p q = record {
+  led : (x : DeskState) (p : LeadsBy x began.moment log b) → LeadsFrom p.after b records c → LeadsBy x began.moment (log ++ records) c
+  led x p q = record {
     after = q.after;
     goes = goes_then x p.after q.after log records p.goes q.goes;
     reached = q.reached;
     any_moment = both (Stood x log) (Stood p.after records) (Stood x (log ++ records)) began.moment b.spool.moment c.spool.moment p.any_moment q.any_moment
         (λ image h. stood_first x log records image h)
         (λ image h. stood_later x p.after log records image p.goes h);
-    since = since_then x p.after q.after log records b.spool.moment c.spool.moment p.goes q.goes p.since q.any_moment
-        (since_together p.after q.after c.spool.moment records (lawful told) answered q.goes q.reached.spool.each);
   }
 
   pub replays_many : Replays tells start run began log b → RunsTo tells b records c → Replays tells start run began (log ++ records) c
   replays_many h r = record {
     begins = h.begins;
-    leads = λ x s. let p = h.leads x s in let told = (h.begins x s).told in led told x p (r.leads p.after told p.reached);
+    leads = λ x s. let p = h.leads x s in led x p (r.leads p.after (h.begins x s).told p.reached);
     later = omega (arith, h.later, r.later);
     cause = subst (λ (k : ℕ). Rose k began.moment.faults c.spool.moment.faults) (sym (failed_then log records))
         (rose_then (failed_of log) (failed_of records) began.moment.faults b.spool.moment.faults c.spool.moment.faults h.cause r.cause h.later r.later);
@@ -65,11 +61,11 @@ module _ (tells : Type 0) (start : DeskState → Type 0) (run : DividedRun) (beg
   }
 
 -- no call after a journal
-pub replays_still : (tells : Type 0) (start : DeskState → Type 0) (run : DividedRun) (began : Beginning) (b c : AloneView) (log : List Record) → (tells → IsLawful c.spool.moment)
+pub replays_still : (tells : Type 0) (start : DeskState → Type 0) (run : DividedRun) (began : Beginning) (b c : AloneView) (log : List Record)
     → Replays tells start run began log b → RunsTo tells b [] c → Replays tells start run began log c
-replays_still tells start run began b c log lawful h r =
+replays_still tells start run began b c log h r =
     subst (λ (l : List Record). Replays tells start run began l c) (append-nil log)
-    (replays_many tells start run began b c log [] lawful tt (λ off. tt) (λ n. omega arith) h r)
+    (replays_many tells start run began b c log [] (λ off. tt) (λ n. omega arith) h r)
 
 -- the take of a pass m is entered in the journal, which leads on from there
 module _ (start : DeskState → Type 0) (run : DividedRun) (seats : ℕ) (f : Facts) (m : PassView) (one : Record) (knew : Knows f m) (legal : Met run (seats - 1) [] f.log)

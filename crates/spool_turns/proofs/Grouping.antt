@@ -3,7 +3,6 @@ use Rattle.std.proofs.Common.{◌≡◌, ℕ, suc, ◌≤◌, ◌<◌, Bool, tru
 use Rattle.std.specs.Prelude.{Result, IfErr, is_ok}
 use Rattle.atomic_table.specs.Table.{Me}
 use Rattle.event_form.specs.declared.event.Entry.{Entry}
-use Rattle.edge_disk.specs.Disk.{IsLawful}
 use Rattle.spool_answers.specs.declared.fault.Receipt.{Receipt}
 use Rattle.spool_answers.specs.declared.fault.TakeFault.{TakeFault}
 use Rattle.spool_answers.specs.declared.fault.TakeFault.TheVariants as Take
@@ -19,7 +18,7 @@ use Rattle.spool_turns.specs.Passes.{Beginning, AllJoin, IsTurn, hosting_of, hos
 use Rattle.spool_turns.specs.Replays.{Replays}
 use Rattle.spool_turns.specs.Joining.{parts_of, numbers_of, AreRising, AreBehind, AreJoint, records_behind, LeadOn}
 use Rattle.spool_turns.proofs.Called.{published}
-use Rattle.spool_turns.proofs.JointRecords.{joint_are, answered_all, all_join, each_fails, lead_on, rest_joins}
+use Rattle.spool_turns.proofs.JointRecords.{joint_are, all_join, each_fails, lead_on, rest_joins}
 use Rattle.spool_turns.proofs.Entering.{replays_many, replays_still}
 
 -- the numbers of passes and how many they are, by their parts
@@ -82,11 +81,10 @@ module _ (tells : Type 0) (start : DeskState → Type 0) (run : DividedRun) (sea
   pub words_rise : (f.end ≤ mid.end_known) × (f.cursor ≤ mid.cursor_known)
   words_rise = (omega (arith, turn.end, runs_all.end_rises), omega (arith, turn.cursor, runs_all.cursor_rises))
 
-  pub replays_all : (tells → IsLawful mid.spool.moment) → (tells → IsLawful new.spool.moment) → RunsTo tells mid [] new → Replays tells start run began (f.log ++ records) new
-  replays_all lawful lawful_new told =
-      replays_still tells start run began mid new (f.log ++ records) lawful_new
-      (replays_many tells start run began old mid f.log records lawful (answered_all stored before mid.spool.moment.clock [] (parts_of passes))
-      (λ off. absurd (cc (sym off ∙ grouped))) (λ n. each_fails n stored before mid.spool.moment.clock (parts_of passes) rising) replays runs_all)
+  pub replays_all : RunsTo tells mid [] new → Replays tells start run began (f.log ++ records) new
+  replays_all told =
+      replays_still tells start run began mid new (f.log ++ records)
+      (replays_many tells start run began old mid f.log records (λ off. absurd (cc (sym off ∙ grouped))) (λ n. each_fails n stored before mid.spool.moment.clock (parts_of passes) rising) replays runs_all)
       told
 
   -- the seat once all takes are entered, and once the words are written

@@ -16,7 +16,6 @@ use Rattle.desk_access.specs.Desk.{DeskState, Goes}
 use Rattle.desk_access.specs.History.{IsDesk}
 use Rattle.desk_access.specs.Journal.{goes_then}
 use Rattle.desk_access.specs.JointRecords.{Part, joined, ArePartsOf, standing_with, bytes_of, stored_from, failed_from, joint_of}
-use Rattle.desk_access.specs.Since.{AreAnswered}
 use Rattle.desk_access.proofs.Steps.{goes_later}
 use Rattle.spool_turns.specs.Passes.{AllJoin}
 use Rattle.spool_turns.specs.Rules.{PassView}
@@ -124,11 +123,6 @@ pub joint_are : (result : Result Receipt TakeFault) (clock : ℕ) (before : Stan
 joint_are (Ok receipt) clock before parts are only = stored_are clock before [] parts are
 joint_are (Err fault) clock before parts are only =
     subst (λ (f : TakeFault). joint_of (Err f) clock before parts ≡ records_behind false before clock [] parts) (sym only) (failed_are clock before [] parts are)
-
--- all were answered at that moment
-pub answered_all : (stored : Bool) (before : Standing) (clock : ℕ) (first : List Entry) (parts : List Part) → AreAnswered clock (records_behind stored before clock first parts)
-answered_all stored before clock first [] = tt
-answered_all stored before clock first (part ∷ parts) = (refl, answered_all stored before clock (first ++ part.entries) parts)
 
 -- all but the first were stored with the one before
 pub all_join : (stored : Bool) (before : Standing) (clock : ℕ) (first : List Entry) (parts : List Part) → 1 ≤ length first → AllJoin (records_behind stored before clock first parts)

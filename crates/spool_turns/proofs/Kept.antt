@@ -80,7 +80,7 @@ module _ {D : Type 0} (disks : Ghosts D) (start : DeskState → Type 0) (run : D
 
   pub idle_kept : (it : Me ℕ View) → it ≡ locked_of (with_record (facts_in me.0) (made_by m.number (idle_record call twin.0))) → IsKept disks start run seats began after it twin
   idle_kept it is =
-      let locks = turn_entered disks.tells start run seats began me old new new m call kept.turn kept.replays kept.met may knew made still refl (exact_of disks.tells new kept.told) lawful it (locked_is it is) in
+      let locks = turn_entered disks.tells start run seats began me old new new m call kept.turn kept.replays kept.met may knew made still refl (exact_of disks.tells new kept.told) it (locked_is it is) in
       record {
         desk = kept.desk;
         twin_is = kept.twin_is;
@@ -94,15 +94,15 @@ module _ {D : Type 0} (disks : Ghosts D) (start : DeskState → Type 0) (run : D
   pub idle_pass : (it : Me ℕ View) → it ≡ pass_of (after_call (facts_in me.0) m (idle_record call twin.0))
       → IsPass it × Sound start (pass_in it.0) × ((pass_in it.0).number ≡ m.number) × ((pass_in it.0).out ≡ m.out)
   idle_pass it is =
-      pass_entered disks.tells start run seats began me old new new m call kept.turn kept.replays kept.met may knew made still refl (exact_of disks.tells new kept.told) lawful it (pass_is it is)
+      pass_entered disks.tells start run seats began me old new new m call kept.turn kept.replays kept.met may knew made still refl (exact_of disks.tells new kept.told) it (pass_is it is)
 
   pub idle_calls : (v : Known) (it : Me ℕ View) → known_of m ≡ v → it ≡ pass_of (after_call (facts_in me.0) m (idle_record call twin.0)) → Calls start run seats v call (known_of (pass_in it.0))
   idle_calls v it was is =
-      calls_entered disks.tells start run seats began me old new new m call kept.turn kept.replays kept.met may knew made still refl (exact_of disks.tells new kept.told) lawful v it was (pass_is it is)
+      calls_entered disks.tells start run seats began me old new new m call kept.turn kept.replays kept.met may knew made still refl (exact_of disks.tells new kept.told) v it was (pass_is it is)
 
   pub idle_real : (it : Me ℕ View) → it ≡ pass_of (after_call (facts_in me.0) m (idle_record call twin.0)) → IsReal disks start run seats began (pass_in it.0).seen
   idle_real it is =
-      let real = real_entered disks.tells start run seats began me old new new m call kept.turn kept.replays kept.met may knew made still refl (exact_of disks.tells new kept.told) lawful it (pass_is it is) in
+      let real = real_entered disks.tells start run seats began me old new new m call kept.turn kept.replays kept.met may knew made still refl (exact_of disks.tells new kept.told) it (pass_is it is) in
       (alone_with after (Some met) kept.desk, real.0, real.1)
 
 -- A call of the spool, which left it as `mid`, and as `now` once it was asked for its words.
@@ -110,8 +110,7 @@ module _ {D : Type 0} (disks : Ghosts D) (start : DeskState → Type 0) (run : D
     (mid now : Alone D disks)
     (kept : IsKept disks start run seats began ids me twin) (done : IsMade disks call other mid) (same_desk : done.before ≡ kept.desk)
     (may : May run (seats - 1) m.number m.own call) (knew : Knows (facts_in me.0) m)
-    (runs : RunsTo disks.tells (alone_at mid) [] (alone_at now)) (same : record_of call (alone_at now) ≡ record_of call (alone_at mid)) (told : IsTold (alone_at now)) (stays : now.desk.ids ≡ mid.desk.ids)
-    (lawful : disks.tells → IsLawful (disks.moment now.desk.spool.disk)) where
+    (runs : RunsTo disks.tells (alone_at mid) [] (alone_at now)) (same : record_of call (alone_at now) ≡ record_of call (alone_at mid)) (told : IsTold (alone_at now)) (stays : now.desk.ids ≡ mid.desk.ids) where
   abbrev before : AloneView
   before = with_ids ids None (alone_at kept.desk)
 
@@ -134,7 +133,7 @@ module _ {D : Type 0} (disks : Ghosts D) (start : DeskState → Type 0) (run : D
   pub made_kept : (it : Me ℕ View) (seat : Me (Alone D disks) (Twin (Alone D disks))) → it ≡ locked_of (with_record (published (alone_at now) (facts_in me.0)) (made_by m.number (record_of call (alone_at mid)))) → seat ≡ of_journal now
       → IsKept disks start run seats began ids it seat
   made_kept it seat is twin_is =
-      let locks = turn_entered disks.tells start run seats began me before between after m call kept.turn kept.replays kept.met may knew makes_here told_here same (exact_of disks.tells after told) lawful it is in
+      let locks = turn_entered disks.tells start run seats began me before between after m call kept.turn kept.replays kept.met may knew makes_here told_here same (exact_of disks.tells after told) it is in
       record {
         desk = now;
         twin_is = twin_is;
@@ -148,15 +147,15 @@ module _ {D : Type 0} (disks : Ghosts D) (start : DeskState → Type 0) (run : D
   pub made_pass : (it : Me ℕ View) → it ≡ pass_of (after_call (published (alone_at now) (facts_in me.0)) m (record_of call (alone_at mid)))
       → IsPass it × Sound start (pass_in it.0) × ((pass_in it.0).number ≡ m.number) × ((pass_in it.0).out ≡ m.out)
   made_pass it is =
-      pass_entered disks.tells start run seats began me before between after m call kept.turn kept.replays kept.met may knew makes_here told_here same (exact_of disks.tells after told) lawful it is
+      pass_entered disks.tells start run seats began me before between after m call kept.turn kept.replays kept.met may knew makes_here told_here same (exact_of disks.tells after told) it is
 
   pub made_calls : (it : Me ℕ View) → it ≡ pass_of (after_call (published (alone_at now) (facts_in me.0)) m (record_of call (alone_at mid))) → Calls start run seats (known_of m) call (known_of (pass_in it.0))
   made_calls it is =
-      calls_entered disks.tells start run seats began me before between after m call kept.turn kept.replays kept.met may knew makes_here told_here same (exact_of disks.tells after told) lawful (known_of m) it refl is
+      calls_entered disks.tells start run seats began me before between after m call kept.turn kept.replays kept.met may knew makes_here told_here same (exact_of disks.tells after told) (known_of m) it refl is
 
   pub made_real : (it : Me ℕ View) → it ≡ pass_of (after_call (published (alone_at now) (facts_in me.0)) m (record_of call (alone_at mid))) → IsReal disks start run seats began (pass_in it.0).seen
   made_real it is =
-      let real = real_entered disks.tells start run seats began me before between after m call kept.turn kept.replays kept.met may knew makes_here told_here same (exact_of disks.tells after told) lawful it is in
+      let real = real_entered disks.tells start run seats began me before between after m call kept.turn kept.replays kept.met may knew makes_here told_here same (exact_of disks.tells after told) it is in
       (alone_with ids now.met now, real.0, real.1)
 
 -- A desk that nobody called, with other ids in place of its own, which lie under the lock of the journal.

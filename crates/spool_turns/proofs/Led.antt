@@ -11,7 +11,6 @@ use Rattle.desk_access.specs.Call.{Record, NoneJoins, own_of, failures_in, failu
 use Rattle.desk_access.specs.Desk.{DeskState, Goes, StandsWithin, Stood}
 use Rattle.spool_desk.specs.Alone.{AloneView, IsAt, LeadsFrom, RunsTo}
 use Rattle.desk_access.specs.Journal.{goes_then, own_then, failures_then, failed_then, rose_then, stood_first, stood_later, stood_here}
-use Rattle.desk_access.specs.Since.{EachSince, since_none, since_one, since_then}
 use Rattle.spool_turns.specs.Rules.{made_by}
 use Rattle.spool_turns.specs.Passes.{Beginning}
 use Rattle.spool_turns.specs.Replays.{BeganAt, Begins, LeadsBy, Replays}
@@ -90,7 +89,6 @@ replays_none tells start run began v lawful is begins at = record {
     goes = refl;
     reached = at x s;
     any_moment = from_then (Stood x []) began.moment v.spool.moment v.spool.moment is (started (Stood x []) v.spool.moment (lawful (begins x s).told) (λ c image. stood_here x [] c ((at x s).spool.each c image)));
-    since = since_none x x v.spool.moment;
   };
   later = omega (arith, is.faults);
   cause = rose_zero began.moment.faults v.spool.moment.faults (omega (arith, is.faults));
@@ -105,9 +103,9 @@ pub stays : (tells : Type 0) (a b : AloneView) → RunsTo tells a [] b → (x : 
 stays tells a b r x told at = let p = r.leads x told at in subst (λ (y : DeskState). IsAt y b) p.goes p.reached
 
 module _ (tells : Type 0) (start : DeskState → Type 0) (run : DividedRun) (began : Beginning) (n : ℕ) (b c : AloneView) (log : List Record) (one : Record)
-    (lawful : tells → IsLawful c.spool.moment) (answered : one.clock ≡ c.spool.moment.clock) (alone : one.joins ≡ false) where
-  led : tells → (x : DeskState) (p : LeadsBy x began.moment log b) → LeadsFrom p.after b (one ∷ []) c → LeadsBy x began.moment (log ++ made_by n one ∷ []) c
-  led told x p q =
+    (alone : one.joins ≡ false) where
+  led : (x : DeskState) (p : LeadsBy x began.moment log b) → LeadsFrom p.after b (one ∷ []) c → LeadsBy x began.moment (log ++ made_by n one ∷ []) c
+  led x p q =
       let goes = goes_renumbered n p.after q.after (one ∷ []) q.goes in
       record {
         after = q.after;
@@ -116,16 +114,13 @@ module _ (tells : Type 0) (start : DeskState → Type 0) (run : DividedRun) (beg
         any_moment = both (Stood x log) (Stood p.after (one ∷ [])) (Stood x (log ++ made_by n one ∷ [])) began.moment b.spool.moment c.spool.moment p.any_moment q.any_moment
             (λ image h. stood_first x log (made_by n one ∷ []) image h)
             (λ image h. stood_later x p.after log (made_by n one ∷ []) image p.goes (stood_renumbered n p.after (one ∷ []) image h));
-        since = since_then x p.after q.after log (made_by n one ∷ []) b.spool.moment c.spool.moment p.goes goes p.since
-            (weaker (Stood p.after (one ∷ [])) (Stood p.after (made_by n one ∷ [])) b.spool.moment c.spool.moment q.any_moment (λ image h. stood_renumbered n p.after (one ∷ []) image h))
-            (since_one p.after q.after c.spool.moment (made_by n one) (lawful told) answered goes q.reached.spool.each);
       }
 
   -- a call of one caller after a journal
   pub replays_more : Replays tells start run began log b → RunsTo tells b (one ∷ []) c → Replays tells start run began (log ++ made_by n one ∷ []) c
   replays_more h r = record {
     begins = h.begins;
-    leads = λ x s. let p = h.leads x s in let told = (h.begins x s).told in led told x p (r.leads p.after told p.reached);
+    leads = λ x s. let p = h.leads x s in led x p (r.leads p.after (h.begins x s).told p.reached);
     later = omega (arith, h.later, r.later);
     cause = subst (λ (k : ℕ). Rose k began.moment.faults c.spool.moment.faults) (sym (failed_made n log one))
         (rose_then (failed_of log) (failed_of (one ∷ [])) began.moment.faults b.spool.moment.faults c.spool.moment.faults h.cause r.cause h.later r.later);
@@ -144,7 +139,6 @@ replays_told tells start run began log v w spool ids end_is cursor_is h = record
     goes = p.goes;
     reached = record { rules = p.reached.rules; spool = subst (IsIn p.after.spool p.after.doubt) (sym spool) p.reached.spool; ids = p.reached.ids ∙ sym ids; end_known = omega (arith, end_is, p.reached.end_known); cursor_known = omega (arith, cursor_is, p.reached.cursor_known) };
     any_moment = subst (λ (s : View). LeavesOnly (Stood x log) began.moment s.moment) (sym spool) p.any_moment;
-    since = subst (λ (s : View). EachSince x log p.after s.moment) (sym spool) p.since;
   };
   later = subst (λ (s : View). began.moment.faults ≤ s.moment.faults) (sym spool) h.later;
   cause = subst (λ (s : View). Rose (failed_of log) began.moment.faults s.moment.faults) (sym spool) h.cause;

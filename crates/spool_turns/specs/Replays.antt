@@ -10,9 +10,7 @@ use Rattle.spool_desk.specs.declared.desk.Desk.{Desk}
 use Rattle.desk_access.specs.Division.{DividedRun}
 use Rattle.desk_access.specs.Call.{Call, Record, NoneJoins, own_of, calls_of, failures_of, failed_of}
 use Rattle.desk_access.specs.Desk.{DeskState, Goes, Stood}
-use Rattle.desk_access.specs.Durable.{KeepsSince}
 use Rattle.desk_access.specs.History.{IsDesk, Was}
-use Rattle.desk_access.specs.Since.{EachSince}
 use Rattle.spool_desk.specs.declared.alone.Alone.{Alone}
 use Rattle.spool_desk.specs.Alone.{AloneView, alone_view, alone_at, IsAt}
 use Rattle.desk_access.specs.Legal.{May, Met, AddsGroups, IsOfRun, IsLegal}
@@ -36,13 +34,12 @@ pub record Begins (tells : Type 0) (run : DividedRun) (x : DeskState) : Type 0 w
   pub none_held : x.ids.held ≡ []
 
 -- From this state the calls of the journal lead to one in which the desk is then, and whenever a crash came meanwhile,
--- what it left stands for a state on the way; since a call was answered, for none before it.
+-- what it left stands for a state on the way.
 pub record LeadsBy (x : DeskState) (began : Moment) (log : List Record) (new : AloneView) : Type 0 where
   pub after : DeskState
   pub goes : Goes x log after
   pub reached : IsAt after new
   pub any_moment : LeavesOnly (Stood x log) began new.spool.moment
-  pub since : EachSince x log after new.spool.moment
 
 -- From each state in which the desk may have been given, this journal leads to where it is. As often as a call of it was
 -- answered that the disk failed, it did; where none was, no call of the disk failed.
@@ -95,8 +92,6 @@ pub record Closes (tells : Type 0) (start : DeskState → Type 0) (run : Divided
   -- What a crash leaves then has all that was taken, and what it left before is a later state than that of the opening.
   pub kept : (x : DeskState) → start x → (c : List ℕ) → new.spool.moment.image c → Keeps x log c
   pub was : (x : DeskState) → start x → (c : List ℕ) → new.spool.moment.image_since began.moment.clock c → Was x (calls_of log) c
-  -- What was taken by a call stays from the moment on at which the call was answered.
-  pub stays : (x : DeskState) → start x → KeepsSince log new.spool.moment
   -- What each pass has seen is a beginning of the journal, and its own calls are all that the journal has of its number.
   pub pass : All (Stands log) passes
   -- The journal has no record of another number, and where all passes are there, each record is of one of them.

@@ -68,7 +68,7 @@ answer_entered-requires-clause-replays g c =
     let new = with_ids ids None (alone_at c.write_words.new.alone) in
     subst (λ (l : List Record). Replays g.D.Disk.tells n.start n.run n.began l new)
     (sym (log_all g.D.Disk.tells n.start n.run n.seats n.began c.args.locked.now.me old mid new c.args.group.letters.items c.deref-all.result.now c.args.before c.args.answer c.is_ok-stored.result c.is_ok-stored.ensures.value r.grouped s.turn s.replays r.some r.parts.0 r.parts.1 are s.standing s.only made c.enter_all.new.locked.me c.write_words.new.locked.me c.enter_all.ensures.locked c.write_words.ensures.locked))
-    (replays_all g.D.Disk.tells n.start n.run n.seats n.began c.args.locked.now.me old mid new c.args.group.letters.items c.deref-all.result.now c.args.before c.args.answer c.is_ok-stored.result c.is_ok-stored.ensures.value r.grouped s.turn s.replays r.some r.parts.0 r.parts.1 are s.standing s.only made (g.met.D.Disk.lawful _) (g.met.D.Disk.lawful _)
+    (replays_all g.D.Disk.tells n.start n.run n.seats n.began c.args.locked.now.me old mid new c.args.group.letters.items c.deref-all.result.now c.args.before c.args.answer c.is_ok-stored.result c.is_ok-stored.ensures.value r.grouped s.turn s.replays r.some r.parts.0 r.parts.1 are s.standing s.only made
     (runs_beside g.D.Disk.tells ids None None (alone_at c.args.alone.now) (alone_at c.write_words.new.alone) [] tt s.unused.0 s.unused.1 c.write_words.ensures.run))
 
 pub answer_entered-requires-clause-joins : goal.answer_entered-requires-clause-joins
@@ -116,7 +116,7 @@ returns-clause-replays g c =
     subst (λ x. Replays g.D.Disk.tells n.start n.run n.began (facts_in x.0).log new) (sym c.answer_entered.ensures.same.1)
     (subst (λ (l : List Record). Replays g.D.Disk.tells n.start n.run n.began l new)
     (sym (log_all g.D.Disk.tells n.start n.run n.seats n.began c.args.locked.now.me old mid new c.args.group.letters.items c.deref-all.result.now c.args.before c.args.answer c.is_ok-stored.result c.is_ok-stored.ensures.value r.grouped s.turn s.replays r.some r.parts.0 r.parts.1 are s.standing s.only made c.enter_all.new.locked.me c.write_words.new.locked.me c.enter_all.ensures.locked c.write_words.ensures.locked))
-    (replays_all g.D.Disk.tells n.start n.run n.seats n.began c.args.locked.now.me old mid new c.args.group.letters.items c.deref-all.result.now c.args.before c.args.answer c.is_ok-stored.result c.is_ok-stored.ensures.value r.grouped s.turn s.replays r.some r.parts.0 r.parts.1 are s.standing s.only made (g.met.D.Disk.lawful _) (g.met.D.Disk.lawful _)
+    (replays_all g.D.Disk.tells n.start n.run n.seats n.began c.args.locked.now.me old mid new c.args.group.letters.items c.deref-all.result.now c.args.before c.args.answer c.is_ok-stored.result c.is_ok-stored.ensures.value r.grouped s.turn s.replays r.some r.parts.0 r.parts.1 are s.standing s.only made
     (runs_beside g.D.Disk.tells ids None None (alone_at c.args.alone.now) (alone_at c.write_words.new.alone) [] tt s.unused.0 s.unused.1 c.write_words.ensures.run)))
 
 pub enter_all-requires-clause-numbers : goal.enter_all-requires-clause-numbers

@@ -16,7 +16,7 @@ returns-in_err-mend-clause-makes g c =
     (record { mended = met.mended; calls = met.calls; keeps = record { end_stays = met.same.1; cursor_stays = met.same.2 } })
 
 pub returns-in_err-mend-clause-ran : goal.returns-in_err-mend-clause-ran
-returns-in_err-mend-clause-ran g c = ran_of _ _ _ _ (g.met.D.Disk.lawful _) (returns-in_err-mend-clause-makes g c)
+returns-in_err-mend-clause-ran g c = ran_of _ _ _ _ (returns-in_err-mend-clause-makes g c)
 
 pub returns-clause-makes : goal.returns-clause-makes
 returns-clause-makes g c =
@@ -32,4 +32,4 @@ returns-clause-makes g c =
     subst (λ (n : ℕ). MarksFrom m.spool m.doubt (all_below n) c.confirm.result old new) same (c.confirm.ensures.confirmed m.spool m.doubt tells at.spool))
 
 pub returns-clause-ran : goal.returns-clause-ran
-returns-clause-ran g c = ran_of _ _ _ _ (g.met.D.Disk.lawful _) (returns-clause-makes g c)
+returns-clause-ran g c = ran_of _ _ _ _ (returns-clause-makes g c)

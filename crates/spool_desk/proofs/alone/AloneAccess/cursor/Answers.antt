@@ -1,6 +1,5 @@
 use Rattle.std.proofs.Common.{[], arith}
 use Rattle.spool_log.specs.State.{view}
-use Rattle.desk_access.specs.Since.{since_none}
 use Rattle.spool_desk.proofs.Making.{told}
 use Rattle.spool_desk.proofs.alone.AloneAccess.cursor.Goals as goal
 
@@ -13,4 +12,4 @@ returns-clause-runs g c =
     (λ x tells at. (at.end_known, omega (arith, c.max-self.ensures, c.cursor.ensures, at.cursor_known, at.spool.knows.cursor)))
 
 pub returns-clause-ran : goal.returns-clause-ran
-returns-clause-ran g c = record { records = []; by = tt; runs = returns-clause-runs g c; since = λ x told at. since_none _ _ _ }
+returns-clause-ran g c = record { records = []; by = tt; runs = returns-clause-runs g c }

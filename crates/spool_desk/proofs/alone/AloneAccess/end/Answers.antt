@@ -1,6 +1,5 @@
 use Rattle.std.proofs.Common.{[], arith}
 use Rattle.spool_log.specs.State.{view}
-use Rattle.desk_access.specs.Since.{since_none}
 use Rattle.spool_desk.specs.Alone.{alone_at}
 use Rattle.spool_desk.proofs.Leading.{end_is}
 use Rattle.spool_desk.proofs.Making.{told}
@@ -15,7 +14,7 @@ returns-clause-runs g c =
     (λ x tells at. (omega (arith, c.max-self.ensures, c.end.ensures.end, at.end_known, end_is x (alone_at a) at), at.cursor_known))
 
 pub returns-clause-ran : goal.returns-clause-ran
-returns-clause-ran g c = record { records = []; by = tt; runs = returns-clause-runs g c; since = λ x told at. since_none _ _ _ }
+returns-clause-ran g c = record { records = []; by = tt; runs = returns-clause-runs g c }
 
 pub returns-clause-limit : goal.returns-clause-limit
 returns-clause-limit g c = omega (arith, c.max-self.ensures, c.end.ensures.most, c.args.self.now.limit)

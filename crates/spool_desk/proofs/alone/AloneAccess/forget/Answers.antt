@@ -14,4 +14,4 @@ returns-clause-makes g c =
     (λ x at leaving. (ids, subst (λ (t : Table). Forgets t c.args.channel c.args.id c.forget.result ids) (sym at.ids) c.forget.ensures, leaving))
 
 pub returns-clause-ran : goal.returns-clause-ran
-returns-clause-ran g c = ran_of _ _ _ _ (g.met.D.Disk.lawful _) (returns-clause-makes g c)
+returns-clause-ran g c = ran_of _ _ _ _ (returns-clause-makes g c)

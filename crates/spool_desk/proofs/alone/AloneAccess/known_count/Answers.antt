@@ -15,4 +15,4 @@ returns-clause-makes g c =
     (λ x at leaving. (c.count_known.ensures ∙ ap count_of (c.known.ensures ∙ at.spool.knows.known), subst (λ (t : Table). Leaving x (Some c.standing.result) t (desk_of x.spool x.doubt a.desk.ids)) (sym at.ids) leaving))
 
 pub returns-clause-ran : goal.returns-clause-ran
-returns-clause-ran g c = ran_of _ _ _ _ (g.met.D.Disk.lawful _) (returns-clause-makes g c)
+returns-clause-ran g c = ran_of _ _ _ _ (returns-clause-makes g c)

@@ -15,7 +15,7 @@ returns-in_err-mend-clause-makes g c =
     (record { mended = met.mended; calls = met.calls; keeps = record { end_stays = met.same.1; cursor_stays = met.same.2 } })
 
 pub returns-in_err-mend-clause-ran : goal.returns-in_err-mend-clause-ran
-returns-in_err-mend-clause-ran g c = ran_of _ _ _ _ (g.met.D.Disk.lawful _) (returns-in_err-mend-clause-makes g c)
+returns-in_err-mend-clause-ran g c = ran_of _ _ _ _ (returns-in_err-mend-clause-makes g c)
 
 pub returns-then-not-end_by-clause-makes : goal.returns-then-not-end_by-clause-makes
 returns-then-not-end_by-clause-makes g c =
@@ -28,7 +28,7 @@ returns-then-not-end_by-clause-makes g c =
     (λ m tells at. absurd (not_outside m (alone_at b) c.args.known.now c.end.result c.end_by.result at ends c.end.ensures.end c.end_by.ensures.1 c.if-not-end_by.true))
 
 pub returns-then-not-end_by-clause-ran : goal.returns-then-not-end_by-clause-ran
-returns-then-not-end_by-clause-ran g c = ran_of _ _ _ _ (g.met.D.Disk.lawful _) (returns-then-not-end_by-clause-makes g c)
+returns-then-not-end_by-clause-ran g c = ran_of _ _ _ _ (returns-then-not-end_by-clause-makes g c)
 
 pub returns-clause-makes : goal.returns-clause-makes
 returns-clause-makes g c =
@@ -38,4 +38,4 @@ returns-clause-makes g c =
     (record { mended = met.mended; calls = met.calls; keeps = record { end_stays = met.same.1; cursor_stays = met.same.2 } }) c.mark-2.ensures.calls (λ m tells at. c.mark-2.ensures.marked m.spool m.doubt tells at.spool)
 
 pub returns-clause-ran : goal.returns-clause-ran
-returns-clause-ran g c = ran_of _ _ _ _ (g.met.D.Disk.lawful _) (returns-clause-makes g c)
+returns-clause-ran g c = ran_of _ _ _ _ (returns-clause-makes g c)

@@ -17,7 +17,7 @@ returns-in_err-mend-clause-makes g c =
     (record { mended = met.mended; calls = met.calls; keeps = record { end_stays = met.same.1; cursor_stays = met.same.2 } })
 
 pub returns-in_err-mend-clause-ran : goal.returns-in_err-mend-clause-ran
-returns-in_err-mend-clause-ran g c = ran_of _ _ _ _ (g.met.D.Disk.lawful _) (returns-in_err-mend-clause-makes g c)
+returns-in_err-mend-clause-ran g c = ran_of _ _ _ _ (returns-in_err-mend-clause-makes g c)
 
 pub returns-clause-makes : goal.returns-clause-makes
 returns-clause-makes g c =
@@ -33,7 +33,7 @@ returns-clause-makes g c =
     subst (λ (n : ℕ). PendsFrom m.spool m.doubt n c.args.most c.pending.result old new) same (c.pending.ensures.pends m.spool m.doubt tells at.spool))
 
 pub returns-clause-ran : goal.returns-clause-ran
-returns-clause-ran g c = ran_of _ _ _ _ (g.met.D.Disk.lawful _) (returns-clause-makes g c)
+returns-clause-ran g c = ran_of _ _ _ _ (returns-clause-makes g c)
 
 pub returns-clause-numbered : goal.returns-clause-numbered
 returns-clause-numbered g c =

@@ -16,7 +16,7 @@ returns-then-is_empty-clause-makes g c =
     (λ i. let s = nothing.0 i in view s.memory s.doubt (g.D.Disk.moment s.disk)) c.standing.ensures (g.met.D.Disk.lawful a.desk.spool.disk) (eqb-true (length c.args.entries.now) 0 (sym c.is_empty.ensures ∙ c.if-is_empty.true)) nothing.1
 
 pub returns-then-is_empty-clause-ran : goal.returns-then-is_empty-clause-ran
-returns-then-is_empty-clause-ran g c = ran_of _ _ _ _ (g.met.D.Disk.lawful _) (returns-then-is_empty-clause-makes g c)
+returns-then-is_empty-clause-ran g c = ran_of _ _ _ _ (returns-then-is_empty-clause-makes g c)
 
 pub returns-in_err-mend-clause-makes : goal.returns-in_err-mend-clause-makes
 returns-in_err-mend-clause-makes g c =
@@ -26,7 +26,7 @@ returns-in_err-mend-clause-makes g c =
     (record { mended = met.mended; calls = met.calls; keeps = record { end_stays = met.same.1; cursor_stays = met.same.2 } })
 
 pub returns-in_err-mend-clause-ran : goal.returns-in_err-mend-clause-ran
-returns-in_err-mend-clause-ran g c = ran_of _ _ _ _ (g.met.D.Disk.lawful _) (returns-in_err-mend-clause-makes g c)
+returns-in_err-mend-clause-ran g c = ran_of _ _ _ _ (returns-in_err-mend-clause-makes g c)
 
 pub returns-clause-makes : goal.returns-clause-makes
 returns-clause-makes g c =
@@ -36,4 +36,4 @@ returns-clause-makes g c =
     (record { mended = met.mended; calls = met.calls; keeps = record { end_stays = met.same.1; cursor_stays = met.same.2 } }) c.take-2.ensures.calls c.take-2.ensures.taken
 
 pub returns-clause-ran : goal.returns-clause-ran
-returns-clause-ran g c = ran_of _ _ _ _ (g.met.D.Disk.lawful _) (returns-clause-makes g c)
+returns-clause-ran g c = ran_of _ _ _ _ (returns-clause-makes g c)

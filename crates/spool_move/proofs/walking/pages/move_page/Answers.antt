@@ -11,7 +11,7 @@ use Rattle.spool_move.specs.Reading.{IsReading}
 use Rattle.spool_move.specs.Said.{IsSaidBy}
 use Rattle.spool_log.specs.declared.spool.Spool.{Spool}
 use Rattle.spool_move.specs.Walking.{WalksPage}
-use Rattle.spool_move.proofs.Answering.{on_done, none_past, none_read, on_read, stop_here, moving_now, read_stops, page_of, page_safe, page_done, page_kept, page_answers, page_ends, page_turns_up, refusal_sure}
+use Rattle.spool_move.proofs.Answering.{on_done, none_past, none_read, on_read, stop_here, moving_now, read_stops, page_of, page_safe, page_done, page_kept, page_answers, page_ends, page_turns_up, refusal_sure, whole_page}
 use Rattle.spool_move.proofs.Looking.{reading_source}
 use Rattle.spool_move.proofs.Outside.{sure_pends}
 use Rattle.spool_move.proofs.Pages.{length-given, not_none, numbered_below, numbered_some}
@@ -110,7 +110,8 @@ returns-in_err-give_up-in-Ok-take_page-clause-walks g c = λ m u tells tells' at
       subst (λ (r : Result Bool MoveFault). WalksPage c.args.tag m u c.args.present.now c.take_page.new.course r v2 w1) (sym (is_err c.from_residual.result fault c.from_residual.ensures.1))
           (page_kept c.args.tag m u c.args.present.now c.args.course.now c.take_page.new.course page _ _ p v2 w1 fault takes.ends.0 gives.given),
       page_turns_up c.args.tag m u c.args.present.now c.args.course.now c.take_page.new.course page _ _ p g.D.Disk.moment g.E.Disk.moment c.args.source.now.disk c.pending.new.self.disk c.args.target.now.disk c.take_page.new.target.disk
-          at.reaches.source.each at.reaches.target.each read.any_moment c.give_up.new.source.disk takes.any_moment takes.ends.0.each gives.any_moment,
+          at.reaches.source.each at.reaches.target.each read.any_moment c.give_up.new.source.disk
+          (whole_page c.args.tag m u c.args.present.now c.args.course.now c.take_page.new.course page _ _ p takes.ends.1) takes.any_moment takes.ends.0.each gives.any_moment,
     )
 
 pub returns-in_ok-give_up-in-Ok-take_page-clause-walks : goal.returns-in_ok-give_up-in-Ok-take_page-clause-walks
@@ -121,9 +122,10 @@ returns-in_ok-give_up-in-Ok-take_page-clause-walks g c = λ m u tells tells' at.
     let page = given_entries c.in-Ok.page.items in
     let p = page_of c.args.tag m u c.args.present.now c.args.course.now c.take_page.new.course page _ _ _ _ at read.pends takes in
     let gives = c.in_ok-give_up-in-Ok-take_page.ensures.given s tells read.reached in (
-      page_done c.args.tag m u c.args.present.now c.args.course.now c.take_page.new.course page _ _ p _ _ takes.ends.0 gives.given,
+      page_done c.args.tag m u c.args.present.now c.args.course.now c.take_page.new.course page _ _ p _ _ takes.ends.1 takes.ends.0 gives.given,
       page_turns_up c.args.tag m u c.args.present.now c.args.course.now c.take_page.new.course page _ _ p g.D.Disk.moment g.E.Disk.moment c.args.source.now.disk c.pending.new.self.disk c.args.target.now.disk c.take_page.new.target.disk
-          at.reaches.source.each at.reaches.target.each read.any_moment c.give_up.new.source.disk takes.any_moment takes.ends.0.each gives.any_moment,
+          at.reaches.source.each at.reaches.target.each read.any_moment c.give_up.new.source.disk
+          (whole_page c.args.tag m u c.args.present.now c.args.course.now c.take_page.new.course page _ _ p takes.ends.1) takes.any_moment takes.ends.0.each gives.any_moment,
     )
 
 pub returns-in-Err-take_page-clause-told : goal.returns-in-Err-take_page-clause-told

@@ -10,7 +10,7 @@ use Rattle.spool_turns.specs.Passes.{Known, Stands, locked_of, facts_in}
 use Rattle.spool_turns.specs.Replays.{Replays, desk_at}
 use Rattle.spool_turns.specs.Stands.{with_ids}
 use Rattle.spool_turns.proofs.Led.{replays_told}
-use Rattle.spool_turns.proofs.Closing.{adds_legal, each_may, each_own, new_ids, keeps, left_before, stays_since, by_a_pass}
+use Rattle.spool_turns.proofs.Closing.{adds_legal, each_may, each_own, new_ids, keeps, left_before, by_a_pass}
 use Rattle.spool_turns.proofs.journal.Journal.close.Goals as goal
 
 pub loop-pass-preserved : goal.loop-pass-preserved
@@ -49,7 +49,6 @@ returns g c =
       issued = new_ids _ _ _ _ _ _ replays;
       kept = keeps _ _ _ _ _ _ _ replays met;
       was = left_before _ _ _ _ _ _ replays;
-      stays = stays_since _ _ _ _ _ _ replays;
       pass = subst (All (Stands c.args.self)) all i.2.2;
       no_others = none_other;
       by_passes = by_a_pass g.J.Naming.seats c.args.self c.args.passes.items none_other;

@@ -39,7 +39,7 @@ invariant_of-self g c =
     let same = (c.meet.ensures.same done.before k.desk k.twin_is done.twin_is).0 in (
       e.tables.0 ∙ c.self.invariant.0,
       c.apart.ensures.tables.0 ∙ c.meet.ensures.table ∙ c.self.invariant.1,
-      made_kept _ _ _ _ _ _ _ _ _ _ _ _ c.enter_call.new.alone k done same c.requires.may e.knew e.run (e.kept _) e.told e.ids (g.met.D.Disk.lawful _) _ _ e.locked c.apart.ensures.journal,
+      made_kept _ _ _ _ _ _ _ _ _ _ _ _ c.enter_call.new.alone k done same c.requires.may e.knew e.run (e.kept _) e.told e.ids _ _ e.locked c.apart.ensures.journal,
       level_beside _ _ _ c.apart.ensures.journal c.of-self-inside.ensures,
     )
 
@@ -55,7 +55,7 @@ returns-clause-pass g c =
     let done = c.requires.made in
     let e = c.enter_call.ensures in
     let same = (c.meet.ensures.same done.before k.desk k.twin_is done.twin_is).0 in
-    made_pass _ _ _ _ _ _ _ _ _ _ _ _ c.enter_call.new.alone k done same c.requires.may e.knew e.run (e.kept _) e.told e.ids (g.met.D.Disk.lawful _) _ e.pass
+    made_pass _ _ _ _ _ _ _ _ _ _ _ _ c.enter_call.new.alone k done same c.requires.may e.knew e.run (e.kept _) e.told e.ids _ e.pass
 
 pub returns-clause-call : goal.returns-clause-call
 returns-clause-call g c =
@@ -63,7 +63,7 @@ returns-clause-call g c =
     let done = c.requires.made in
     let e = c.enter_call.ensures in
     let same = (c.meet.ensures.same done.before k.desk k.twin_is done.twin_is).0 in
-    made_calls _ _ _ _ _ _ _ _ _ _ _ _ c.enter_call.new.alone k done same c.requires.may e.knew e.run (e.kept _) e.told e.ids (g.met.D.Disk.lawful _) _ e.pass
+    made_calls _ _ _ _ _ _ _ _ _ _ _ _ c.enter_call.new.alone k done same c.requires.may e.knew e.run (e.kept _) e.told e.ids _ e.pass
 
 pub returns-clause-real : goal.returns-clause-real
 returns-clause-real g c =
@@ -71,4 +71,4 @@ returns-clause-real g c =
     let done = c.requires.made in
     let e = c.enter_call.ensures in
     let same = (c.meet.ensures.same done.before k.desk k.twin_is done.twin_is).0 in
-    made_real _ _ _ _ _ _ _ _ _ _ _ _ c.enter_call.new.alone k done same c.requires.may e.knew e.run (e.kept _) e.told e.ids (g.met.D.Disk.lawful _) _ e.pass
+    made_real _ _ _ _ _ _ _ _ _ _ _ _ c.enter_call.new.alone k done same c.requires.may e.knew e.run (e.kept _) e.told e.ids _ e.pass
