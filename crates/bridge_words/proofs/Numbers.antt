@@ -62,3 +62,14 @@ within least most text n is = by (number text) is where
   by : (o : Option ℕ) → option_and_then (λ m. if nat_le least m && nat_le m most then Some m else None) o ≡ Some n → n ≤ most
   by None at = absurd (cc)
   by (Some m) at = chosen m (nat_le least m && nat_le m most) refl at
+
+-- and no less than the least
+pub from_least : (least most : ℕ) (text : Text) (n : ℕ) → number_within least most text ≡ Some n → least ≤ n
+from_least least most text n is = by (number text) is where
+  chosen : (m : ℕ) (b : Bool) → (nat_le least m && nat_le m most) ≡ b → cond b (Some m) None ≡ Some n → least ≤ n
+  chosen m true e at = let same : m ≡ n = cc in subst (λ (k : ℕ). least ≤ k) same (leb-true _ _ (and_parts _ _ e).0)
+  chosen m false e at = absurd (cc)
+
+  by : (o : Option ℕ) → option_and_then (λ m. if nat_le least m && nat_le m most then Some m else None) o ≡ Some n → least ≤ n
+  by None at = absurd (cc)
+  by (Some m) at = chosen m (nat_le least m && nat_le m most) refl at

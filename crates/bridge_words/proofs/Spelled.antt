@@ -22,7 +22,7 @@ use Rattle.bridge_words.proofs.Numbers.{within}
 use Rattle.bridge_words.proofs.Wrongs.{wrong_is_no_move}
 
 -- what was found of the words
-abbrev rows_of_words : List Text → List Row
+abbrev pub rows_of_words : List Text → List Row
 rows_of_words words = option_map_or (λ (p : Text × List Row). p.1) (named words) []
 
 -- a token that is read
@@ -73,7 +73,7 @@ placed x more = record {
 }
 
 -- words that clap refuses
-refused : (words : List Text) (k : ErrorKind) (more : Kinds) → refusals words ≡ k ∷ more → IsNoCommand words
+pub refused : (words : List Text) (k : ErrorKind) (more : Kinds) → refusals words ≡ k ∷ more → IsNoCommand words
 refused words k more is command c = let none = c.taken in absurd (cc)
 
 pub twice : (t u : Text) → IsNoCommand (codes "replay" ∷ codes "hec" ∷ (codes "--token=" ++ t) ∷ (codes "--token=" ++ u) ∷ [])

@@ -4,4 +4,5 @@ pub mod Tokens
 pub mod Words
 pub mod Asked
 pub mod Wrong
+pub mod Spellings
 pub mod Lines

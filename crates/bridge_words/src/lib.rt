@@ -13,6 +13,7 @@ mod number;
 mod pair;
 mod reading;
 mod server;
+mod spelt;
 mod tokens;
 mod values;
 
@@ -22,4 +23,7 @@ pub use law::{grouping, moving, one_command, one_move, spelling};
 pub use line::{drain_line, entry_line, move_line, serve_line, spool_line};
 pub use need::{Need, need_of};
 pub use pair::FilePath;
+pub use spelt::{
+    counting, formatting, forwarding, listing, loading, naming_tokens, placing, serving,
+};
 pub use tokens::is_token;

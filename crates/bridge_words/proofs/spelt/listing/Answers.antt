@@ -1,0 +1,5 @@
+use Rattle.bridge_words.proofs.Spellings as spelling
+use Rattle.bridge_words.proofs.spelt.listing.Goals as goal
+
+pub returns : goal.returns
+returns c = spelling.spells_list
