@@ -216,8 +216,9 @@ def try_all(edits, say, note, jobs=None):
     for edit in [edit for crate in lost for edit in by_crate.pop(crate)]:
         tell(edit, Result(False, f"DOES NOT APPLY: crates.txt has no crate {edit.crate}"))
     if by_crate:
-        below = {low for it in by_crate for low in project.below(it)}
-        with tempfile.TemporaryDirectory(prefix="bridge-edits-") as room, Libraries(below | set(by_crate), lambda it: say(f"edits: {it}")) as libraries:
+        crates = {low for it in by_crate for low in (*project.below(it), it)}
+        libraries = Libraries(crates, lambda it: say(f"edits: {it}"))
+        with tempfile.TemporaryDirectory(prefix="bridge-edits-") as room, libraries:
             copy_crates(by_crate, room)
             # (those first that take longest)
             order = sorted(by_crate, key=lambda it: -len(project.below(it)) * len(by_crate[it]))
