@@ -67,7 +67,7 @@ def wait_until(holds, seconds):
 
 
 # How the lines on standard error begin that say what befalls the net.
-OF_THE_NET = ("bridge: listening on ", "bridge: can't listen on ", "bridge: sender ", "bridge: receiver ")
+OF_THE_NET = ("bridge: listening on ", "bridge: can't listen on ", "bridge: sender ", "bridge: senders at ", "bridge: receiver ")
 
 
 def lines_apart(errors):
@@ -94,14 +94,23 @@ class Server:
             os.remove(self.spool)
         subprocess.run([program, self.spool, "format", str(slots), str(size)], check=True, stdout=subprocess.DEVNULL)
 
-    def start(self, *words, places=("relp", "lumberjack", "hec"), to=None, environment=None):
-        """Starts it at these places, forwarding to the port `to` where there is one, with this environment or that of the caller."""
+    def start(self, *words, places=("relp", "lumberjack", "hec"), to=None, environment=None, limit=None):
+        """Starts it at these places, forwarding to the port `to` where there is one, with this environment or that of the caller, and so many
+        descriptors at most."""
         said = [word for place in places for word in (f"--{place}", f"127.0.0.1:{self.ports[place]}")]
         if to is not None:
             said += ["--forward", "relp", "--to", f"127.0.0.1:{to}"]
         command = [self.program, self.spool, "serve", *said, "--token", TOKEN, "--ack-token", ACK_TOKEN, *self.manner, *words]
         pipes = {"stdin": subprocess.DEVNULL, "stdout": subprocess.PIPE, "stderr": subprocess.PIPE}
+        if limit is not None:
+            command[:0] = ["sh", "-c", f'ulimit -n {limit} && exec "$0" "$@"']
         self.child = subprocess.Popen(command, env=environment, **pipes)
+
+    def end(self, err):
+        """Keeps what it said of the net. Gives its status, and its errors but those."""
+        status, self.child = self.child.returncode, None
+        self.said, errors = lines_apart(err.decode())
+        return status, errors
 
     def finish(self, seconds=60):
         """Its status, what it printed, and its errors but those of the net, once it ended. It is killed where it doesn't in that time."""
@@ -111,8 +120,7 @@ class Server:
             self.child.kill()
             out, err = self.child.communicate()
             err += b"(it did not end)"
-        status, self.child = self.child.returncode, None
-        self.said, errors = lines_apart(err.decode())
+        status, errors = self.end(err)
         return status, out.decode(), errors
 
     def kill(self):
@@ -121,9 +129,7 @@ class Server:
             return None, ""
         self.child.kill()
         _, err = self.child.communicate()
-        status, self.child = self.child.returncode, None
-        self.said, errors = lines_apart(err.decode())
-        return status, errors
+        return self.end(err)
 
     def writes(self):
         """How many times it has written to FILE so far (what it sends isn't among its writes)."""
