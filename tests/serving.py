@@ -70,9 +70,18 @@ def wait_until(holds, seconds):
 OF_THE_NET = ("bridge: listening on ", "bridge: can't listen on ", "bridge: sender ", "bridge: senders at ", "bridge: receiver ")
 
 
+# How those begin or end that say what a server needs, as it begins.
+OF_THE_START, OF_NEEDS = "bridge: bridge ", ": raise the limit\n"
+
+
+def begins(line):
+    """Whether it is a line with which a server begins."""
+    return line.startswith(OF_THE_START) or line.endswith(OF_NEEDS)
+
+
 def lines_apart(errors):
-    """The lines of a standard error that say what befalls the net, and the rest."""
-    lines = errors.splitlines(keepends=True)
+    """The lines of a standard error that say what befalls the net, and the rest, both without those with which a server begins."""
+    lines = [line for line in errors.splitlines(keepends=True) if not begins(line)]
     of_the_net = [line for line in lines if line.startswith(OF_THE_NET)]
     return [line.rstrip("\n") for line in of_the_net], "".join(line for line in lines if not line.startswith(OF_THE_NET))
 
@@ -85,7 +94,7 @@ class Server:
     manner = ()
 
     def __init__(self, program, folder, slots=8, size=4194304):
-        self.program, self.folder, self.child, self.said = program, folder, None, []
+        self.program, self.folder, self.child, self.said, self.begun = program, folder, None, [], []
         self.ports = dict(zip(("relp", "lumberjack", "hec"), free_ports(3)))
         self.spool = f"{folder}/spool"
         if slots is None:
@@ -107,8 +116,9 @@ class Server:
         self.child = subprocess.Popen(command, env=environment, **pipes)
 
     def end(self, err):
-        """Keeps what it said of the net. Gives its status, and its errors but those."""
+        """Keeps what it said. Gives its status, and its errors but those of the net and of its start."""
         status, self.child = self.child.returncode, None
+        self.begun = [line.rstrip("\n") for line in err.decode().splitlines(keepends=True) if begins(line)]
         self.said, errors = lines_apart(err.decode())
         return status, errors
 
