@@ -67,12 +67,21 @@ def wait_until(holds, seconds):
 
 
 # How the lines on standard error begin that say what befalls the net.
-OF_THE_NET = ("bridge: listening on ", "bridge: can't listen on ", "bridge: sender ", "bridge: receiver ")
+OF_THE_NET = ("bridge: listening on ", "bridge: can't listen on ", "bridge: sender ", "bridge: senders at ", "bridge: receiver ")
+
+
+# How those begin or end that say what a server needs, as it begins.
+OF_THE_START, OF_NEEDS = "bridge: bridge ", ": raise the limit\n"
+
+
+def begins(line):
+    """Whether it is a line with which a server begins."""
+    return line.startswith(OF_THE_START) or line.endswith(OF_NEEDS)
 
 
 def lines_apart(errors):
-    """The lines of a standard error that say what befalls the net, and the rest."""
-    lines = errors.splitlines(keepends=True)
+    """The lines of a standard error that say what befalls the net, and the rest, both without those with which a server begins."""
+    lines = [line for line in errors.splitlines(keepends=True) if not begins(line)]
     of_the_net = [line for line in lines if line.startswith(OF_THE_NET)]
     return [line.rstrip("\n") for line in of_the_net], "".join(line for line in lines if not line.startswith(OF_THE_NET))
 
@@ -85,7 +94,7 @@ class Server:
     manner = ()
 
     def __init__(self, program, folder, slots=8, size=4194304):
-        self.program, self.folder, self.child, self.said = program, folder, None, []
+        self.program, self.folder, self.child, self.said, self.begun = program, folder, None, [], []
         self.ports = dict(zip(("relp", "lumberjack", "hec"), free_ports(3)))
         self.spool = f"{folder}/spool"
         if slots is None:
@@ -94,14 +103,24 @@ class Server:
             os.remove(self.spool)
         subprocess.run([program, self.spool, "format", str(slots), str(size)], check=True, stdout=subprocess.DEVNULL)
 
-    def start(self, *words, places=("relp", "lumberjack", "hec"), to=None, environment=None):
-        """Starts it at these places, forwarding to the port `to` where there is one, with this environment or that of the caller."""
+    def start(self, *words, places=("relp", "lumberjack", "hec"), to=None, environment=None, limit=None):
+        """Starts it at these places, forwarding to the port `to` where there is one, with this environment or that of the caller, and so many
+        descriptors at most."""
         said = [word for place in places for word in (f"--{place}", f"127.0.0.1:{self.ports[place]}")]
         if to is not None:
             said += ["--forward", "relp", "--to", f"127.0.0.1:{to}"]
         command = [self.program, self.spool, "serve", *said, "--token", TOKEN, "--ack-token", ACK_TOKEN, *self.manner, *words]
         pipes = {"stdin": subprocess.DEVNULL, "stdout": subprocess.PIPE, "stderr": subprocess.PIPE}
+        if limit is not None:
+            command[:0] = ["sh", "-c", f'ulimit -n {limit} && exec "$0" "$@"']
         self.child = subprocess.Popen(command, env=environment, **pipes)
+
+    def end(self, err):
+        """Keeps what it said. Gives its status, and its errors but those of the net and of its start."""
+        status, self.child = self.child.returncode, None
+        self.begun = [line.rstrip("\n") for line in err.decode().splitlines(keepends=True) if begins(line)]
+        self.said, errors = lines_apart(err.decode())
+        return status, errors
 
     def finish(self, seconds=60):
         """Its status, what it printed, and its errors but those of the net, once it ended. It is killed where it doesn't in that time."""
@@ -111,8 +130,7 @@ class Server:
             self.child.kill()
             out, err = self.child.communicate()
             err += b"(it did not end)"
-        status, self.child = self.child.returncode, None
-        self.said, errors = lines_apart(err.decode())
+        status, errors = self.end(err)
         return status, out.decode(), errors
 
     def kill(self):
@@ -121,9 +139,7 @@ class Server:
             return None, ""
         self.child.kill()
         _, err = self.child.communicate()
-        status, self.child = self.child.returncode, None
-        self.said, errors = lines_apart(err.decode())
-        return status, errors
+        return self.end(err)
 
     def writes(self):
         """How many times it has written to FILE so far (what it sends isn't among its writes)."""

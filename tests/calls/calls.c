@@ -20,7 +20,7 @@
 #include <string.h>
 #include <sys/uio.h>
 
-#define MOST_WORDS 64
+#define MOST_WORDS 1024
 
 struct word { char call[8]; long from, to; enum what what; int error; };
 

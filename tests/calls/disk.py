@@ -101,6 +101,23 @@ def is_up(server, port):
     return False
 
 
+def said_of(seen):
+    """What was said so far, and whether the last line about FILE says how it is since the last call of it."""
+    calls = seen.calls()
+    fails = [call.result < 0 for call in calls if call.kind in ("read", "write", "sync")]
+    said = b"".join(call.data for call in calls if call.kind == "say")
+    return said, True not in fails or said.endswith(b"FILE is well again\n") != fails[-1]
+
+
+def is_said(seen):
+    """Whether that is so, and no line came for a tenth of a second. (Lines are written by a thread of their own.)"""
+    before, holds = said_of(seen)
+    if not holds or b" of FILE failed" not in before:
+        return holds
+    time.sleep(0.1)
+    return said_of(seen) == (before, True)
+
+
 def serve(program, library, folder, way, length, plan=(), tries=8, stores=4):
     """Serves a sender with calls that fail as planned, and kills the server then."""
     # (three at a time need room for those that are sent again, too)
@@ -111,6 +128,7 @@ def serve(program, library, folder, way, length, plan=(), tries=8, stores=4):
     server.start("--workers", "2", *way.manner, places=[way.protocol], environment=seen.environment)
     feed = Feed(server, way, length)
     done = is_up(server, feed.port) and [feed.store(tries) for _ in range(stores)]
+    serving.wait_until(lambda: is_said(seen), 2)
     status, errors = server.kill()
     feed.drop()
     return Run(seen.calls(), before, bool(done) and all(done), status, errors)

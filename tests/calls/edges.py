@@ -1,6 +1,10 @@
-"""FILE as the system keeps it, and sockets whose calls fail or never answer."""
+"""FILE as the system keeps it, sockets whose calls fail or never answer, and a standard error that nobody reads."""
 import errno
+import fcntl
+import http.client
 import os
+import pty
+import re
 import socket
 import stat
 import subprocess
@@ -203,7 +207,8 @@ def accepts(check, program, library, folder):
         check(f"accept, {name}: it waits a second at most, and once for each", len(waits) == count and set(waits[9:]) == {1000}, waits[:12])
         said = [at for at, line in lines_said(calls) if b"can't accept" in line]
         check(f"accept, {name}: it is said", len(said) >= 2, said)
-        check(f"accept, {name}: once a minute at most", all(b - a >= 59 for a, b in zip(said, said[1:])), said)
+        # (they are written by a thread of their own, a little later than they are said)
+        check(f"accept, {name}: once a minute at most", said[-1] - said[0] >= 60 * (len(said) - 2), said)
     for error in LASTING:
         server, seen = start(program, library, folder, [calling.fails("accept", 1, error, 1000000)], 1000)
         status, _, errors = server.finish(20)
@@ -295,3 +300,126 @@ def silent_receiver(check, program, library, folder):
     dialed = [(number, call.fd) for number, call in enumerate(calls) if call.kind == "dial" and call.result == 0]
     for number, fd in dialed[:2]:
         check_options(check, "a receiver's connection", options_of(calls, fd, number), 90)
+
+
+# ---- a standard error that nobody reads
+
+# How many syncs fail, one after another with good ones between them: each is said, and so is that FILE is well again after it.
+FAULTS = 700
+DROPPED = re.compile(rb"bridge: ([0-9]+) lines were dropped here")
+
+
+def read_for(stream, holds, seconds=20):
+    """What the stream gives until that holds of it, or as long as so many seconds take."""
+    limit, text = time.monotonic() + seconds, b""
+    os.set_blocking(stream.fileno(), False)
+    while not holds(text) and time.monotonic() < limit:
+        text += stream.read() or b""
+        time.sleep(0.01)
+    return text
+
+
+def unread_lines(check, program, library, folder):
+    """Where nobody reads standard error and its pipe is full, all are served as ever. What is written later are the first lines, and how
+    many were dropped after them."""
+    plan = [calling.fails("sync", 20 + 6 * number, errno.EIO) for number in range(FAULTS)]
+    (status,) = serving.free_ports(1)
+    server, seen = start(program, library, folder, plan, words=("--workers", "2", "--status", f"127.0.0.1:{status}"))
+    link = RelpLink(server.ports["relp"], 5)
+    fcntl.fcntl(server.child.stderr.fileno(), fcntl.F_SETPIPE_SZ, 4096)
+    limit, stored = time.monotonic() + 120, 0
+    while stored < 2 * FAULTS and time.monotonic() < limit:
+        try:
+            link.store(b"event %d" % stored)
+            stored += 1
+        except TimeoutError:
+            break
+        except OSError:
+            link.drop()
+            link = RelpLink(server.ports["relp"], 5)
+    link.drop()
+    check("unread lines: all is stored", stored == 2 * FAULTS, stored)
+    asker = http.client.HTTPConnection("127.0.0.1", status, timeout=10)
+    asker.request("GET", "/health")
+    check("unread lines: the health is told", asker.getresponse().status == 200)
+    text = read_for(server.child.stderr, DROPPED.search)
+    found = DROPPED.search(text)
+    lines = [line for line in text[: found.start() if found else 0].splitlines() if b" sender " not in line and b" FILE " in line]
+    check("unread lines: those dropped are counted", found and len(lines) >= 900, (found, len(lines)))
+    pairs = [b"bridge: a sync of FILE failed; nothing is acknowledged until FILE is well again", b"bridge: FILE is well again"]
+    check("unread lines: the first are written, in order", lines == [pairs[number % 2] for number in range(len(lines))])
+    server.kill()
+    failed = sum(call.kind == "sync" and call.error == errno.EIO for call in seen.calls())
+    told = len(lines) + int(found.group(1)) if found else 0
+    # (others than those of FILE are few, and among them)
+    check("unread lines: each is written or counted", 2 * failed - 1 <= told <= 2 * failed + 50, (failed, told))
+
+
+def unread_end(check, program, library, folder):
+    """A server that ends where nobody reads standard error doesn't wait for that."""
+    server, _ = start(program, library, folder, words=("--workers", "1", "--talks", "1"))
+    link = RelpLink(server.ports["relp"])
+    fcntl.fcntl(server.child.stderr.fileno(), fcntl.F_SETPIPE_SZ, 4096)
+    with open(f"/proc/{server.child.pid}/fd/2", "wb", buffering=0) as pipe:
+        os.set_blocking(pipe.fileno(), False)
+        try:
+            while pipe.write(bytes(64)):
+                pass
+        except BlockingIOError:
+            pass
+    link.link.sendall(b"no frame\n")
+    link.drop()
+    since = time.monotonic()
+    try:
+        status = server.child.wait(10)
+    except subprocess.TimeoutExpired:
+        status = None
+    check("an unread end: it ends", status == 0 and time.monotonic() - since < 6, (status, time.monotonic() - since))
+    server.kill()
+
+
+def journal(check, program, library, folder):
+    """Lines have how grave they are before them where standard error is the stream that JOURNAL_STREAM names, and else nothing."""
+    del library
+    for is_named in True, False:
+        server = serving.Server(program, folder)
+        (port,) = serving.free_ports(1)
+        read, write = os.pipe()
+        seen = os.fstat(write)
+        environment = {**os.environ, "JOURNAL_STREAM": f"{seen.st_dev}:{seen.st_ino + (not is_named)}"}
+        words = [program, server.spool, "serve", "--relp", f"127.0.0.1:{port}", "--workers", "1", "--talks", "1"]
+        with subprocess.Popen(words, env=environment, stdout=subprocess.DEVNULL, stderr=write) as child:
+            os.close(write)
+            with serving.connect(port) as link:
+                link.sendall(b"no frame\n")
+            child.wait(20)
+        with os.fdopen(read, "rb") as stream:
+            lines = stream.read().decode().splitlines()
+        starts = ("bridge: bridge ", "bridge: listening on ", "bridge: sender ")
+        due = [prefix * is_named + start for prefix, start in zip(("<6>", "<6>", "<4>"), starts)]
+        holds = len(lines) == 3 and all(line.startswith(start) for line, start in zip(lines, due))
+        check(f"journal: {'the' if is_named else 'not the'} stream", holds, lines)
+
+
+def terminal(check, program, library, folder):
+    """To a terminal `list` writes control characters of events as escapes; elsewhere their bytes."""
+    path, text = f"{folder}/shown", "a\x1b[2Jb\x7fc\u0085d\u00a0e\tf\u009bg\u00c3"
+    format_under(program, library, folder, path, 2, 4096)
+    frame = text.encode()
+    sent = OPEN + b"2 syslog %d %s\n" % (len(frame), frame)
+    subprocess.run([program, path, "replay", "relp"], input=sent, capture_output=True, check=False)
+    done = subprocess.run([program, path, "list", "--as", "relp"], capture_output=True, check=False)
+    check("terminal: a pipe gets the bytes", done.stdout == frame + b"\n", done)
+    near, far = pty.openpty()
+    with subprocess.Popen([program, path, "list", "--as", "relp"], stdout=far) as child:
+        child.wait(20)
+    os.close(far)
+    shown = b""
+    try:
+        while piece := os.read(near, 4096):
+            shown += piece
+    except OSError:
+        pass
+    os.close(near)
+    due = "a\\u001b[2Jb\\u007fc\\u0085d\u00a0e\tf\\u009bg\u00c3\r\n"
+    check("terminal: it gets escapes", shown.decode().expandtabs() == due.expandtabs(), shown)

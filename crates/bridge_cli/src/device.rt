@@ -14,20 +14,20 @@ ghost use Rattle.edge_file.specs.declared.file.FileDisk.{FileDisk};
 use crate::pair::run_move;
 use bridge_core::{Ended, bridge};
 use bridge_words::{Need, need_of};
-use cli_parts::{Opening, Progress, Waiting, Watched, make_disk, print_no_spool, print_unopened};
+use cli_parts::{
+    Opening, Progress, Told, Waiting, Watched, make_disk, print_no_spool, print_unopened,
+};
 use edge_disk::Disk;
 use edge_file::{FileDisk, OpenFault};
 use edge_io::{Door, Net, Sink, Source};
 use edge_memory::MemDisk;
-use edge_net::Since;
 use notes::Note;
 use std::alloc::Global;
 use std::sync::Wait;
 use std::thread::Threads;
 
-// Runs the words over the disk, which is watched meanwhile, and for which somebody may wait; it is noted in `failing` since when its calls
-// fail. Its reading may be shown. What was done is what `bridge` does, and nothing
-// else: of the disk, of the streams and of the net.
+// Runs the words over the disk, which is watched meanwhile, and for which somebody may wait; how it is goes where `told` says. Its
+// reading may be shown. What was done is what `bridge` does, and nothing else: of the disk, of the streams and of the net.
 fn run_over<D: Disk + Drop + Send, S: Source, K: Sink, N: Net + Send, R: Threads + Wait + Sync>(
     rt: &HostRuntime,
     threads: &R,
@@ -35,7 +35,7 @@ fn run_over<D: Disk + Drop + Send, S: Source, K: Sink, N: Net + Send, R: Threads
     disk: D,
     is_shown: bool,
     waiting: Waiting,
-    failing: &Since,
+    told: Told<'_>,
     input: &mut S,
     output: &mut K,
     net: &mut N,
@@ -61,7 +61,7 @@ where
         (disk, input.old, output.old, net.old) (input.new, output.new, net.new) result }
 {
     let progress = Progress::new(rt, is_shown);
-    let disk = Watched::new(disk, progress, "FILE", waiting).noting(failing);
+    let disk = Watched::new(disk, progress, "FILE", waiting).noting(told);
     let Ended {
         status,
         note,
@@ -120,15 +120,15 @@ pub(crate) fn refuse(rt: &HostRuntime, file: &str, fault: OpenFault) -> Note
 
 /// Does what the words ask for, in threads of `threads` where that takes some, over the device that they want: `file`, opened
 /// or made, or one in memory without a byte where they want none; or a move over `file` and the other that they name. A `file` that can't be
-/// opened is a fault of the disk, and standard error says why in a line of its own; one that is no spool is named there too. Since when
-/// calls of `file` fail is noted in `failing`. `list` shares `file` with others that list it; every
+/// opened is a fault of the disk, and standard error says why in a line of its own; one that is no spool is named there too. How
+/// `file` is goes where `told` says. `list` shares `file` with others that list it; every
 /// other command has it alone while it runs.
 pub fn run_words<S: Source, K: Sink, N: Net + Send, R: Threads + Wait + Sync>(
     rt: &HostRuntime,
     threads: &R,
     file: &str,
     words: &[String],
-    failing: &Since,
+    told: Told<'_>,
     input: &mut S,
     output: &mut K,
     net: &mut N,
@@ -163,7 +163,7 @@ where
             Ok(disk) => {
                 let waiting = Waiting::Nobody;
                 run_over(
-                    rt, threads, words, disk, false, waiting, failing, input, output, net,
+                    rt, threads, words, disk, false, waiting, told, input, output, net,
                 )
                 .note
             }
@@ -178,7 +178,7 @@ where
                     let is_shown = opening.showing.is_seen(rt);
                     let waiting = opening.waiting;
                     let note = run_over(
-                        rt, threads, words, disk, is_shown, waiting, failing, input, output, net,
+                        rt, threads, words, disk, is_shown, waiting, told, input, output, net,
                     )
                     .note;
                     print_no_spool(rt, file, note);

@@ -7,3 +7,4 @@ pub mod RescueWords
 pub mod RunOptions
 pub mod SkipWords
 pub mod Tally
+pub mod Backlog

@@ -1,4 +1,5 @@
 //! Whether FILE, or the TARGET of a move, is well, for an operator who watches standard error.
+use crate::StandardError;
 use edge_disk::DiskFault;
 use edge_net::Since;
 
@@ -57,6 +58,15 @@ impl Waiting {
     }
 }
 
+/// Where it goes how FILE is, beside the command that runs over it.
+#[derive(Clone, Copy)]
+pub struct Told<'a> {
+    /// Where it is noted since when calls fail.
+    pub failing: &'a Since,
+    /// Where lines go.
+    pub errors: &'a StandardError,
+}
+
 /// What is said of a file on standard error: a line where a call of it fails, and one where it is well again. Not
 /// one for each call: while it is failing nothing more is said.
 #[derive(Drop)]
@@ -66,8 +76,8 @@ pub(crate) struct HealthLines<'a> {
     name: &'static str,
     waiting: Waiting,
     health: Health,
-    // Where it is noted too since when calls fail, if anywhere.
-    failing: Option<&'a Since>,
+    // Where it is noted too since when calls fail, and where lines go, if not straight to standard error.
+    told: Option<Told<'a>>,
 }
 
 impl<'a> HealthLines<'a> {
@@ -82,27 +92,36 @@ impl<'a> HealthLines<'a> {
             name,
             waiting,
             health: Health::Well,
-            failing: None,
+            told: None,
         }
     }
 
-    /// The same, but it is noted in `failing` too since when calls fail.
-    pub(crate) fn noting(self, failing: &'a Since) -> HealthLines<'a> {
+    /// The same, but told so.
+    pub(crate) fn noting(self, told: Told<'a>) -> HealthLines<'a> {
         HealthLines {
-            failing: Some(failing),
+            told: Some(told),
             ..self
         }
     }
 
     // Notes since when calls fail.
     fn note(&self) {
-        let Some(failing) = self.failing else {
+        let Some(told) = self.told else {
             return;
         };
         match self.health {
-            Health::Well => failing.is_well(),
-            Health::Unread { .. } | Health::Failing => failing.fails(self.rt),
+            Health::Well => told.failing.is_well(),
+            Health::Unread { .. } | Health::Failing => told.failing.fails(self.rt),
         }
+    }
+
+    // Says a line, which names the file between these words and has the notice last. Nobody waits where a thread writes the lines.
+    fn say(&self, before: &str, after: &str, notice: &str) {
+        let name = self.name;
+        let _ = match self.told {
+            Some(told) => eprintln!(told.errors; "bridge: {before}{name}{after}{notice}"),
+            None => eprintln!(self.rt; "bridge: {before}{name}{after}{notice}"),
+        };
     }
 
     /// Says what a call shows, where that is new.
@@ -114,13 +133,12 @@ impl<'a> HealthLines<'a> {
         }
         self.health = after;
         self.note();
-        let name = self.name;
         let notice = self.waiting.notice();
-        let _ = match (after, call) {
-            (Health::Well, _) => eprintln!(self.rt; "bridge: {name} is well again"),
-            (_, Call::Read { .. }) => eprintln!(self.rt; "bridge: a read of {name} failed"),
-            (_, Call::Write) => { eprintln!(self.rt; "bridge: a write of {name} failed{notice}") }
-            (_, Call::Sync) => { eprintln!(self.rt; "bridge: a sync of {name} failed{notice}") }
-        };
+        match (after, call) {
+            (Health::Well, _) => self.say("", " is well again", ""),
+            (_, Call::Read { .. }) => self.say("a read of ", " failed", ""),
+            (_, Call::Write) => self.say("a write of ", " failed", notice),
+            (_, Call::Sync) => self.say("a sync of ", " failed", notice),
+        }
     }
 }

@@ -68,6 +68,11 @@ Exit statuses; a line on standard error says more:
 
 The manual bridge(1) has the rest.";
 
+/// The version, as it is printed.
+pub(crate) fn version() -> &'static str {
+    VERSION
+}
+
 /// What words may ask for that are no command.
 #[derive(Clone, Copy, PartialEq, Eq)]
 pub(crate) enum Question {

@@ -3,6 +3,7 @@
 #![tactic(auto)]
 
 mod arguments;
+mod backlog;
 mod confirming;
 mod digits;
 mod health;
@@ -16,7 +17,11 @@ mod report;
 mod rescue_words;
 mod run_options;
 mod seconds;
+mod severity;
+mod shown;
 mod skip_words;
+mod standard_error;
+mod starting;
 mod status;
 mod streams;
 mod tally;
@@ -26,8 +31,9 @@ mod token_words;
 mod unopened;
 
 pub use arguments::{Arguments, NoArguments};
+pub use backlog::{Backlog, Batch};
 pub use confirming::confirm;
-pub use health::Waiting;
+pub use health::{Told, Waiting};
 pub use making::make_disk;
 pub use memory::keep_freed;
 pub use opening::{Opening, Showing};
@@ -38,7 +44,10 @@ pub use report::{
 };
 pub use rescue_words::{RescueWords, rescue_of};
 pub use run_options::{RunOptions, Taken, Untaken, WrongOption, take_options};
+pub use shown::Shown;
 pub use skip_words::skip_of;
+pub use standard_error::{Host, StandardError};
+pub use starting::print_start;
 pub use status::exit_code;
 pub use streams::hold_streams;
 pub use token_file::with_tokens;

@@ -1,10 +1,9 @@
 //! How far a command is, for a user who waits, and FILE as it is watched meanwhile.
 ghost use Rattle.std.specs.Prelude.{◌≡◌, None, false};
 
-use crate::health::{Call, HealthLines, Waiting};
+use crate::health::{Call, HealthLines, Told, Waiting};
 use crate::tally::Tally;
 use edge_disk::{Disk, DiskFault};
-use edge_net::Since;
 use std::time::Instant;
 
 // When a command begins that is to be shown, where the clock can be read.
@@ -105,12 +104,12 @@ impl<'a, D: Disk> Watched<'a, D> {
         }
     }
 
-    /// The same, but it is noted in `failing` too since when calls of the disk fail.
-    pub fn noting(self, failing: &'a Since) -> Watched<'a, D>
+    /// The same, but how the disk is goes there too.
+    pub fn noting(self, told: Told<'a>) -> Watched<'a, D>
         ensures { result.disk ≡ self.entry.disk }
     {
         Watched {
-            health: self.health.noting(failing),
+            health: self.health.noting(told),
             ..self
         }
     }

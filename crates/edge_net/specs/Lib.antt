@@ -1,6 +1,7 @@
 pub mod Answer
 pub mod Fullness
 pub mod Pace
+pub mod Page
 pub mod Receiver
 pub mod Recent
 pub mod Standstill

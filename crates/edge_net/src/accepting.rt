@@ -46,9 +46,9 @@ fn next_wait(millis: u64) -> u64
     millis.saturating_mul(2).min(MOST_WAIT_MILLIS)
 }
 
-// Whether a line is due, which is noted in `reported`: none was printed yet, or the last one more than a minute ago. Without a clock
-// none is.
-fn is_due(rt: &impl Clock, reported: &AtomicU64) -> bool {
+/// Whether a line is due, which is noted in `reported`: none was printed yet, or the last one more than a minute ago. Without a clock
+/// none is.
+pub(crate) fn is_due(rt: &impl Clock, reported: &AtomicU64) -> bool {
     let Ok(now) = rt.monotonic() else {
         return false;
     };

@@ -3,7 +3,7 @@ ghost use Rattle.std.specs.Prelude.{◌≡◌, ◌<◌, ◌≤◌, IfSome, IfNon
 ghost use Rattle.edge_net.specs.Answer.{code_of as code_in};
 
 /// An answer that begins a piece of bytes.
-#[derive(Clone, Copy, Debug, PartialEq, Eq)]
+#[derive(Clone, Copy, PartialEq, Eq)]
 pub enum Answer {
     /// A reply of HTTP with this status (RFC 9112, section 4).
     Reply { code: u16 },
@@ -33,11 +33,16 @@ fn code_of(bytes: &[u8]) -> Option<u16> {
 
 // What stands after a number and a space.
 fn after_number(bytes: &[u8]) -> Option<&[u8]> {
-    let digits = bytes.iter().position(|byte| !byte.is_ascii_digit())?;
-    if digits == 0 {
-        return None;
+    for i in 0..bytes.len() {
+        if !bytes[i].is_ascii_digit() {
+            return if i == 0 {
+                None
+            } else {
+                bytes[i..].strip_prefix(b" ")
+            };
+        }
     }
-    bytes.get(digits..)?.strip_prefix(b" ")
+    None
 }
 
 // The code of a `rsp` frame: `TXNR rsp LENGTH CODE ..`.

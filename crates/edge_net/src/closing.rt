@@ -13,9 +13,6 @@ const MOST_SILENT_MILLIS: u64 = 1_000;
 // When the last read may begin, in milliseconds. It waits for little more than 20, so all ends within two seconds.
 const MOST_MILLIS: u64 = 1_950;
 
-// The same for one whose request was read.
-const SOON_MILLIS: u64 = 300;
-
 // How many bytes a read takes at most.
 const READ_BYTES: usize = 4_096;
 
@@ -32,18 +29,7 @@ fn is_vain(kind: ErrorKind) -> bool {
 ///
 /// By the clock that takes two seconds at most, whatever the peer sends, and little more than one where it sends nothing. After
 /// these, and at an error, the clock's too, which is not told, the connection is closed whatever still comes.
-pub(crate) fn close_after_peer(rt: &impl Clock, stream: TcpStream) {
-    let (silent, most) = (MOST_SILENT_MILLIS, MOST_MILLIS);
-    close_within(rt, stream, silent, most)
-}
-
-/// The same, but it takes no more than a third of a second, for a peer whose request was read.
-pub(crate) fn close_soon(rt: &impl Clock, stream: TcpStream) {
-    close_within(rt, stream, SOON_MILLIS, SOON_MILLIS)
-}
-
-// Closes it where no byte came for `most_silent` milliseconds, or `most` of them have passed.
-fn close_within(rt: &impl Clock, mut stream: TcpStream, most_silent: u64, most: u64) {
+pub(crate) fn close_after_peer(rt: &impl Clock, mut stream: TcpStream) {
     let wait = Duration::from_millis(WAIT_MILLIS);
     if stream.shutdown(Shutdown::Write).is_err() || stream.set_read_timeout(Some(wait)).is_err() {
         return;
@@ -66,7 +52,9 @@ fn close_within(rt: &impl Clock, mut stream: TcpStream, most_silent: u64, most: 
             Err(_) => return,
         }
         let silent = passed.saturating_sub(heard);
-        if passed >= Duration::from_millis(most) || silent >= Duration::from_millis(most_silent) {
+        if passed >= Duration::from_millis(MOST_MILLIS)
+            || silent >= Duration::from_millis(MOST_SILENT_MILLIS)
+        {
             return;
         }
     }

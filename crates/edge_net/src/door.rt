@@ -20,6 +20,8 @@ pub(crate) struct Shared<'a, R> {
     pub(crate) reports: &'a Reports,
     /// How long they and their links wait.
     pub(crate) waits: Waits,
+    /// The socket that listens, from which each door accepts the connections that the others don't.
+    pub(crate) listener: Arc<TcpListener>,
     /// The place itself.
     pub(crate) place: Arc<Place>,
     /// All places of the net.
@@ -33,6 +35,7 @@ impl<'a, R> Shared<'a, R> {
             rt: self.rt,
             reports: self.reports,
             waits: self.waits,
+            listener: Arc::try_clone(&self.listener)?,
             place: Arc::try_clone(&self.place)?,
             roll: Arc::try_clone(&self.roll)?,
         })
@@ -46,19 +49,22 @@ impl<R: Clock + Eprint> Shared<'_, R> {
         self.roll.wait_for_all(self.rt, self.waits.roll);
     }
 
-    // The next connection of the socket, and its peer. The error is one that lasts.
-    fn next_stream(&self, listener: &TcpListener) -> io::Result<(TcpStream, SocketAddr)> {
+    // The next connection of the socket, and its peer, which counts as one of the place. The error is one that lasts.
+    fn next_stream(&self) -> io::Result<(TcpStream, SocketAddr)> {
         let place = self.place.name.as_str();
-        next_connection(self.rt, listener, place, &self.place.reported)
+        let listener: &TcpListener = &self.listener;
+        let accepted = next_connection(self.rt, listener, place, &self.place.reported)?;
+        self.place.connections.begin();
+        self.place.report_busy(self.rt);
+        Ok(accepted)
     }
 }
 
-/// A socket that listens. It tells its place, counts its errors, and tells nothing of its links. It is never shut
+/// A door of a socket that listens. It tells its place, counts its errors, and tells nothing of its links. It is never shut
 /// for good: an accept waits for the next connection.
 #[derive(Drop)]
 pub struct TcpDoor<'a, R> {
     place: String,
-    listener: TcpListener,
     shared: Shared<'a, R>,
     has_begun: bool,
     accept_errors: u64,
@@ -71,13 +77,12 @@ impl<'a, R> TcpDoor<'a, R> {
     ghost use Rattle.edge_io.specs.Door.{IsNewDoor};
     ghost use Rattle.edge_net.specs.TcpDoor.{state_of};
 
-    /// A door over the socket, which was bound at that place.
-    pub(crate) fn at(listener: TcpListener, place: String, shared: Shared<'a, R>) -> TcpDoor<'a, R>
+    /// A door of the socket that was bound at that place.
+    pub(crate) fn at(place: String, shared: Shared<'a, R>) -> TcpDoor<'a, R>
         ensures { IsNewDoor (string_bytes place) (state_of result) }
     {
         TcpDoor {
             place,
-            listener,
             shared,
             has_begun: false,
             accept_errors: 0,
@@ -107,9 +112,8 @@ impl<'a, R: Clock + Eprint> Door for TcpDoor<'a, R> {
             self.has_begun = true;
             self.shared.begin();
         }
-        match self.shared.next_stream(&self.listener) {
+        match self.shared.next_stream() {
             Ok((stream, peer)) => {
-                self.shared.place.connections.begin();
                 let (rt, reports) = (self.shared.rt, self.shared.reports);
                 let waits = self.shared.waits;
                 Ok(Some(TcpLink::accepted(rt, reports, stream, peer, waits)))

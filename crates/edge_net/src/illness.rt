@@ -3,7 +3,7 @@ use crate::Trouble;
 use std::fmt;
 
 /// In which way a receiver fails, as a session with it shows.
-#[derive(Clone, Copy, Debug, PartialEq, Eq)]
+#[derive(Clone, Copy, PartialEq, Eq)]
 pub enum Illness {
     /// No address of its host took the connection.
     Unreached,

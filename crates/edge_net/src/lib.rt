@@ -7,6 +7,7 @@
 
 mod accepting;
 mod answer;
+mod asker;
 mod asking;
 mod closing;
 mod counts;
@@ -15,7 +16,6 @@ mod fullness;
 mod hindrance;
 mod illness;
 mod link;
-mod metric;
 mod monitor;
 mod net;
 mod pace;

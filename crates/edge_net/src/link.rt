@@ -28,7 +28,7 @@ pub struct TcpLink<'a, R> {
 }
 
 /// What the system has set for the socket of a link.
-#[derive(Clone, Copy, Debug, PartialEq, Eq)]
+#[derive(Clone, Copy, PartialEq, Eq)]
 pub struct LinkSettings {
     /// Each write goes out at once, and none is held back until more is written.
     pub is_prompt: bool,

@@ -1,35 +1,38 @@
 //! Where those come in over HTTP who ask for a spool's numbers.
+ghost use Rattle.std.specs.Prelude.{◌≡◌};
+ghost use Rattle.edge_net.specs.Page.{health_status, health_line};
+
 use crate::Reports;
-use crate::asking::{Asked, read_request};
+use crate::asker::Asker;
+use crate::asking::Asked;
 use crate::fullness::Fullness;
-use crate::page::Page;
+use crate::page::page;
 use crate::roll::Roll;
+use crate::since::millis;
 use crate::telling::Reply;
 use edge_io::{Monitor, SpoolNumbers};
-use std::alloc::Global;
-use std::net::{TcpListener, TcpStream};
+use std::alloc::{AllocError, Global};
+use std::net::TcpListener;
 use std::rt::Clock;
 use std::sync::Arc;
 use std::time::Duration;
 use std::{io, thread};
 
-// How long it waits where nobody asks, in milliseconds: a twentieth of a second.
+// How long it waits where nobody is connected, in milliseconds: a twentieth of a second; and where somebody is who hasn't asked yet.
 const WAIT_MILLIS: u64 = 50;
+
+const SHORT_WAIT_MILLIS: u64 = 10;
+
+// How many are connected at most.
+const MOST_ASKERS: usize = 64;
 
 // The type of a page of numbers.
 const NUMBERS: &str = "text/plain; version=0.0.4; charset=utf-8";
 
-// Somebody who asks for something that takes numbers.
-#[derive(Drop)]
-struct Asker {
-    stream: TcpStream,
-    is_health: bool,
-    is_head: bool,
-}
-
 /// A socket at which those connect who ask for a spool's numbers over HTTP: `/metrics` is a page in Prometheus' text format, and
-/// `/health` is answered by 200, or by 503 while the spool is full or calls of FILE fail. Each connection gets one answer. One asker is
-/// answered at a time, and has it within two seconds or not at all.
+/// `/health` is answered by 200, or by 503 while the spool is full or calls of FILE fail. Each connection gets one answer. Up to 64 may be
+/// connected; who has asked is answered before those whose requests are still to come, and for one more the first that has not asked is
+/// closed.
 #[derive(Drop)]
 pub struct TcpMonitor<'a, R> {
     alloc: Global,
@@ -39,7 +42,10 @@ pub struct TcpMonitor<'a, R> {
     // It doesn't wait.
     listener: TcpListener,
     fullness: Fullness,
-    asker: Option<Asker>,
+    // Those who are connected, who came first at first.
+    askers: Vec<Asker>,
+    // Somebody of them asks for numbers.
+    is_asked: bool,
 }
 
 // What those are answered who ask for nothing that there is.
@@ -54,16 +60,15 @@ fn refusal(asked: Asked, is_head: bool) -> Reply<'static> {
     }
 }
 
-// Whether all is well: whether calls of FILE fail, and whether the spool is full.
-fn health(disk_fails: bool, is_full: bool, is_head: bool) -> Reply<'static> {
+// The status of an answer about the health, and its line: by whether calls of FILE fail, and whether the spool is full.
+fn health(disk_fails: bool, is_full: bool) -> (&'static str, &'static str)
+    ensures status { result.0.now ≡ health_status disk_fails is_full }
+    ensures line { result.1.now ≡ health_line disk_fails is_full }
+{
     match (disk_fails, is_full) {
-        (true, _) => Reply::plain(
-            "503 Service Unavailable",
-            "a call on FILE failed\n",
-            is_head,
-        ),
-        (false, true) => Reply::plain("503 Service Unavailable", "FILE has no room\n", is_head),
-        (false, false) => Reply::plain("200 OK", "ok\n", is_head),
+        (true, _) => ("503 Service Unavailable", "a call on FILE failed\n"),
+        (false, true) => ("503 Service Unavailable", "FILE has no room\n"),
+        (false, false) => ("200 OK", "ok\n"),
     }
 }
 
@@ -85,81 +90,119 @@ impl<'a, R> TcpMonitor<'a, R> {
             roll,
             listener,
             fullness: Fullness::new(),
-            asker: None,
+            askers: Vec::new(alloc),
+            is_asked: false,
         })
+    }
+
+    // Closes the first connection on which nothing was asked yet.
+    fn let_one_go(&mut self) {
+        for i in 0..self.askers.len() {
+            if self.askers[i].request().is_none() {
+                let _gone = self.askers.remove(i);
+                return;
+            }
+        }
+    }
+
+    // Lets in those who wait, where 64 are connected in place of the first of them who has not asked.
+    fn admit(&mut self, now: u64) {
+        for _ in 0..MOST_ASKERS {
+            let Ok((stream, _)) = self.listener.accept() else {
+                return;
+            };
+            if self.askers.len() >= MOST_ASKERS {
+                self.let_one_go();
+            }
+            if let Some(asker) = Asker::at(self.alloc, stream, now) {
+                let _ = self.askers.push(asker);
+            }
+        }
+    }
+
+    // Looks at each who is connected, and whether somebody asks for numbers. Who asks for something else is answered at once.
+    fn look(&mut self, now: u64) {
+        self.is_asked = false;
+        for asker in &mut self.askers {
+            asker.look(now);
+            let Some(request) = asker.request() else {
+                continue;
+            };
+            match request.asked {
+                Asked::Metrics | Asked::Health => self.is_asked = true,
+                asked => asker.answer(self.alloc, refusal(asked, request.is_head), now),
+            }
+        }
+        self.askers.retain(|asker| !asker.is_gone());
     }
 }
 
 impl<R: Clock> TcpMonitor<'_, R> {
-    // Reads what is asked for over the connection. Who asks for no numbers is answered at once.
-    fn hear(&mut self, mut stream: TcpStream) {
-        let Some(request) = read_request(self.rt, self.alloc, &mut stream) else {
-            return;
-        };
-        let is_head = request.is_head;
-        match request.asked {
-            Asked::Metrics | Asked::Health => {
-                self.asker = Some(Asker {
-                    stream,
-                    is_health: request.asked == Asked::Health,
-                    is_head,
-                });
-            }
-            asked => refusal(asked, is_head).send(self.rt, self.alloc, stream),
-        }
-    }
-
     // The page of numbers.
-    fn page<'p>(&'p self, numbers: &'p SpoolNumbers, is_full: bool) -> Page<'p> {
+    fn page(&self, numbers: &SpoolNumbers, is_full: bool) -> Result<String, AllocError> {
         let counts = self.reports.counts();
-        Page {
+        let disk_fails = counts.disk.seconds(self.rt).unwrap_or(0);
+        let receiver_fails = counts.receiver.seconds(self.rt).unwrap_or(0);
+        page(
+            self.alloc,
             numbers,
             is_full,
             counts,
-            roll: &self.roll,
-            disk_fails: counts.disk.seconds(self.rt).unwrap_or(0),
-            receiver_fails: counts.receiver.seconds(self.rt).unwrap_or(0),
-        }
-    }
-
-    // Answers with the page of numbers. Where no memory is found, the connection is closed.
-    fn send_page(&self, asker: Asker, numbers: &SpoolNumbers, is_full: bool) {
-        let page = self.page(numbers, is_full);
-        let Ok(body) = format!(in self.alloc; "{page}") else {
-            return;
-        };
-        let reply = Reply {
-            kind: NUMBERS,
-            ..Reply::plain("200 OK", body.as_str(), asker.is_head)
-        };
-        reply.send(self.rt, self.alloc, asker.stream);
+            &self.roll,
+            disk_fails,
+            receiver_fails,
+        )
     }
 }
 
 impl<R: Clock> Monitor for TcpMonitor<'_, R> {
     ghost may_tell = { λ _. Unit {0} };
 
-    /// Accepts a connection where one waits, and reads its request; where none does, it sleeps for a twentieth of a second. What can't
-    /// be answered by numbers is answered at once, and then nobody asks. The head of a request has a second and a half to come.
+    /// Lets in those who connect, and reads what has come of their requests. Where nobody asks for numbers, it sleeps: for a twentieth of a
+    /// second, or a hundredth where somebody is connected. Who asks for something else is answered at once. The head of a request has a
+    /// second and a half to come.
     fn is_asked(&mut self) -> bool {
-        match self.listener.accept() {
-            Ok((stream, _)) => self.hear(stream),
-            Err(_) => thread::sleep(self.rt, Duration::from_millis(WAIT_MILLIS)),
+        let now = millis(self.rt).unwrap_or(u64::MAX);
+        self.admit(now);
+        self.look(now);
+        if !self.is_asked {
+            let wait = if self.askers.is_empty() {
+                WAIT_MILLIS
+            } else {
+                SHORT_WAIT_MILLIS
+            };
+            thread::sleep(self.rt, Duration::from_millis(wait));
         }
-        self.asker.is_some()
+        self.is_asked
     }
 
+    /// Answers all who ask for numbers.
     fn tell(&mut self, numbers: &SpoolNumbers) {
-        let Some(asker) = self.asker.take() else {
+        if !self.is_asked {
             return;
-        };
+        }
+        self.is_asked = false;
+        let now = millis(self.rt).unwrap_or(u64::MAX);
         let is_full = self.fullness.look(numbers, self.roll.without_room());
-        if asker.is_health {
-            let disk_fails = self.reports.counts().disk.seconds(self.rt).is_some();
-            let reply = health(disk_fails, is_full, asker.is_head);
-            reply.send(self.rt, self.alloc, asker.stream);
-        } else {
-            self.send_page(asker, numbers, is_full);
+        let disk_fails = self.reports.counts().disk.seconds(self.rt).is_some();
+        let (status, line) = health(disk_fails, is_full);
+        let page = self.page(numbers, is_full);
+        for asker in &mut self.askers {
+            let Some(request) = asker.request() else {
+                continue;
+            };
+            let is_head = request.is_head;
+            match (request.asked, &page) {
+                (Asked::Metrics, Ok(body)) => {
+                    let reply = Reply {
+                        kind: NUMBERS,
+                        ..Reply::plain("200 OK", body.as_str(), is_head)
+                    };
+                    asker.answer(self.alloc, reply, now)
+                }
+                (Asked::Metrics, Err(_)) => asker.let_go(),
+                _ => asker.answer(self.alloc, Reply::plain(status, line, is_head), now),
+            }
         }
     }
 }

@@ -97,14 +97,13 @@ impl<R: Clock + Eprint> Pause for TcpNet<'_, R> {
     ghost pause_trans = { λ x y z p q. Prim.cc };
 }
 
-// So many doors over the one socket: each accepts the connections that the others don't.
+// So many doors of the one socket: each accepts the connections that the others don't.
 fn doors_over<'a, R>(
     alloc: Global,
-    listener: &TcpListener,
     place: &str,
     count: usize,
     shared: &Shared<'a, R>,
-) -> Result<Vec<TcpDoor<'a, R>>, NetFault>
+) -> Result<Vec<TcpDoor<'a, R>>, AllocError>
     ensures count { IfOk result (λ made. length made.items ≡ count) }
     ensures fresh { IfOk result (λ made. All (λ door. IsNewDoor place.now (door_state door)) made.items) }
 {
@@ -112,10 +111,7 @@ fn doors_over<'a, R>(
     'doors: while made.len() < count {
         let name = String::from_str(alloc, place)?;
         let theirs = shared.try_clone()?;
-        let Ok(socket) = listener.try_clone() else {
-            return Err(NetFault::Fault);
-        };
-        made.push_reserved(TcpDoor::at(socket, name, theirs));
+        made.push_reserved(TcpDoor::at(name, theirs));
     }
     Ok(made)
 }
@@ -186,8 +182,13 @@ impl<'a, R> TcpNet<'a, R> {
         }
     }
 
-    // What the doors of a place share, which is entered in the roll.
-    fn shared(&mut self, place: &str, doors: u32) -> Result<Shared<'a, R>, AllocError>
+    // What the doors of a place share at which the socket listens. The place is entered in the roll.
+    fn shared(
+        &mut self,
+        listener: TcpListener,
+        place: &str,
+        doors: u32,
+    ) -> Result<Shared<'a, R>, AllocError>
         ensures { state_of self.new ≡ state_of self.old }
     {
         let roll = self.roll()?;
@@ -201,6 +202,7 @@ impl<'a, R> TcpNet<'a, R> {
             rt: self.rt,
             reports: self.reports,
             waits: self.waits,
+            listener: Arc::new(self.alloc, listener)?,
             place,
             roll,
         })
@@ -230,23 +232,15 @@ impl<'a, R: net::Net<Stream = TcpStream, Listener = TcpListener> + Clock + Eprin
     /// Listens at the place, with one socket for all the doors, and says so on standard error. A port that is taken is a fault;
     /// standard error says which place it is and what the system says of it.
     fn bind(&mut self, place: &str, doors: u32) -> Result<Vec<TcpDoor<'a, R>>, NetFault> {
-        let made = match TcpListener::bind(self.rt, place) {
+        match TcpListener::bind(self.rt, place) {
             Ok(listener) => {
-                let shared = self.shared(place, doors)?;
-                doors_over(self.alloc, &listener, place, doors as usize, &shared)
-            }
-            Err(error) => {
-                self.reports.cannot_listen(self.rt, place, &error);
-                Err(NetFault::Fault)
-            }
-        };
-        match made {
-            Ok(made) => {
+                let shared = self.shared(listener, place, doors)?;
+                let made = doors_over(self.alloc, place, doors as usize, &shared)?;
                 self.reports.listens(self.rt, place);
                 Ok(made)
             }
-            Err(NetFault::NoMemory) => Err(NetFault::NoMemory),
-            Err(NetFault::Fault) => {
+            Err(error) => {
+                self.reports.cannot_listen(self.rt, place, &error);
                 self.errors = self.errors.saturating_add(1);
                 Err(NetFault::Fault)
             }

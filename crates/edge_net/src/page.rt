@@ -1,143 +1,178 @@
 //! All that those are told who ask for numbers.
-use crate::counts::{Connections, Counts};
-use crate::metric::{Head, Label, counter, gauge};
-use crate::roll::{Place, Roll};
+ghost use Rattle.std.specs.Prelude.{◌≡◌};
+ghost use Rattle.edge_net.specs.Page.{spool_values};
+
+use crate::counts::Counts;
+use crate::roll::Roll;
 use edge_io::{Proto, SpoolNumbers};
-use std::fmt;
+use std::alloc::{AllocError, Global};
 
 // The number of the last run that a spool can have.
 const LAST_RUN: u32 = 2_097_151;
 
-const ACCEPTED: Head = Head {
-    name: "bridge_connections_accepted_total",
-    help: "Connections of senders that were accepted.",
-    kind: "counter",
-};
+// A metric: its name, its type, and what it counts or measures, in a sentence.
+type Head = (&'static str, &'static str, &'static str);
 
-const OPEN: Head = Head {
-    name: "bridge_connections_open",
-    help: "Connections of senders that have not ended.",
-    kind: "gauge",
-};
+// The numbers of a spool, in the order of `spool_values`.
+const SPOOL: [Head; 11] = [
+    (
+        "bridge_spool_end",
+        "gauge",
+        "Entries stored since the spool was made.",
+    ),
+    (
+        "bridge_spool_cursor",
+        "gauge",
+        "Below this number every entry is confirmed.",
+    ),
+    (
+        "bridge_spool_known_beyond_cursor",
+        "gauge",
+        "Entries from the cursor on that are confirmed.",
+    ),
+    (
+        "bridge_spool_pending",
+        "gauge",
+        "Entries that are not confirmed.",
+    ),
+    (
+        "bridge_spool_room_bytes",
+        "gauge",
+        "Bytes of events that there is room for.",
+    ),
+    ("bridge_spool_slots", "gauge", "Slots of the spool."),
+    ("bridge_spool_free_slots", "gauge", "Slots that are free."),
+    (
+        "bridge_spool_slot_bytes",
+        "gauge",
+        "Bytes of events that a slot takes at most.",
+    ),
+    (
+        "bridge_spool_full",
+        "gauge",
+        "1 where no slot is free and the last event had no room, else 0.",
+    ),
+    ("bridge_spool_run", "gauge", "Number of this run."),
+    (
+        "bridge_spool_runs_left",
+        "gauge",
+        "Runs that the spool can have after this one.",
+    ),
+];
 
-const ENDED: Head = Head {
-    name: "bridge_connections_ended_total",
-    help: "Connections of senders that have ended, by the status of their ending.",
-    kind: "counter",
-};
+const STORED: Head = (
+    "bridge_events_stored_total",
+    "counter",
+    "Events that this run has stored, by the protocol by which they came.",
+);
 
-const STORED: Head = Head {
-    name: "bridge_events_stored_total",
-    help: "Events that this run has stored, by the protocol by which they came.",
-    kind: "counter",
-};
+// What a place counts that has one sample of it, in the order of `Place::values`.
+const PLACES: [Head; 3] = [
+    (
+        "bridge_connections_accepted_total",
+        "counter",
+        "Connections of senders that were accepted.",
+    ),
+    (
+        "bridge_connections_open",
+        "gauge",
+        "Connections of senders that have not ended.",
+    ),
+    (
+        "bridge_connections_limit",
+        "gauge",
+        "Connections of senders that are served at once at most.",
+    ),
+];
 
-// The numbers of a spool.
-#[derive(Clone, Copy)]
-struct Spool<'a> {
-    numbers: &'a SpoolNumbers,
-    is_full: bool,
+const ENDED: Head = (
+    "bridge_connections_ended_total",
+    "counter",
+    "Connections of senders that have ended, by the status of their ending.",
+);
+
+// What is counted of the senders and of the receiver, and for how long it and FILE fail, in the order of `failure_values`.
+const FAILURES: [Head; 6] = [
+    (
+        "bridge_sender_refusals_total",
+        "counter",
+        "Requests and frames of senders that were refused.",
+    ),
+    (
+        "bridge_receiver_sessions_total",
+        "counter",
+        "Connections to the receiver.",
+    ),
+    (
+        "bridge_receiver_dials_failed_total",
+        "counter",
+        "Tries to connect to the receiver that failed.",
+    ),
+    (
+        "bridge_receiver_refusals_total",
+        "counter",
+        "Connections on which the receiver refused what was sent.",
+    ),
+    (
+        "bridge_receiver_failing_seconds",
+        "gauge",
+        "Seconds since the receiver first failed; 0 while it is well.",
+    ),
+    (
+        "bridge_disk_failing_seconds",
+        "gauge",
+        "Seconds since a call on FILE first failed; 0 while FILE is well.",
+    ),
+];
+
+// The values of the spool's metrics.
+fn spool_values(numbers: &SpoolNumbers, is_full: bool) -> [u64; 11]
+    ensures { result ≡ spool_values numbers.now is_full }
+{
+    let n = *numbers;
+    let from_cursor = n.end.saturating_sub(n.cursor);
+    let free = u64::from(n.free_slots).saturating_mul(n.most);
+    [
+        n.end,
+        n.cursor,
+        n.known_count,
+        from_cursor.saturating_sub(n.known_count),
+        n.room.saturating_add(free),
+        u64::from(n.slots),
+        u64::from(n.free_slots),
+        n.most,
+        u64::from(is_full),
+        u64::from(n.run),
+        u64::from(LAST_RUN.saturating_sub(n.run)),
+    ]
 }
 
-impl Spool<'_> {
-    // How many entries are not confirmed.
-    fn pending(&self) -> u64 {
-        let numbers = self.numbers;
-        let from_cursor = numbers.end.saturating_sub(numbers.cursor);
-        from_cursor.saturating_sub(numbers.known_count)
-    }
-
-    // How many bytes of events there is room for.
-    fn room(&self) -> u64 {
-        let numbers = self.numbers;
-        let free = u64::from(numbers.free_slots).saturating_mul(numbers.most);
-        numbers.room.saturating_add(free)
-    }
-
-    fn write_entries<W: fmt::Write>(&self, f: &mut fmt::Formatter<W>) -> fmt::Result {
-        let numbers = self.numbers;
-        let end = "Entries stored since the spool was made.";
-        write!(f, "{}", gauge("bridge_spool_end", end, numbers.end))?;
-        let cursor = "Below this number every entry is confirmed.";
-        write!(
-            f,
-            "{}",
-            gauge("bridge_spool_cursor", cursor, numbers.cursor)
-        )?;
-        let (name, help) = (
-            "bridge_spool_known_beyond_cursor",
-            "Entries from the cursor on that are confirmed.",
-        );
-        write!(f, "{}", gauge(name, help, numbers.known_count))?;
-        let pending = "Entries that are not confirmed.";
-        write!(
-            f,
-            "{}",
-            gauge("bridge_spool_pending", pending, self.pending())
-        )
-    }
-
-    fn write_room<W: fmt::Write>(&self, f: &mut fmt::Formatter<W>) -> fmt::Result {
-        let numbers = self.numbers;
-        let (free, slots) = (u64::from(numbers.free_slots), u64::from(numbers.slots));
-        let room = "Bytes of events that there is room for.";
-        write!(f, "{}", gauge("bridge_spool_room_bytes", room, self.room()))?;
-        write!(
-            f,
-            "{}",
-            gauge("bridge_spool_slots", "Slots of the spool.", slots)
-        )?;
-        write!(
-            f,
-            "{}",
-            gauge("bridge_spool_free_slots", "Slots that are free.", free)
-        )?;
-        let most = "Bytes of events that a slot takes at most.";
-        write!(
-            f,
-            "{}",
-            gauge("bridge_spool_slot_bytes", most, numbers.most)
-        )?;
-        let full = "1 where no slot is free and the last event had no room, else 0.";
-        write!(
-            f,
-            "{}",
-            gauge("bridge_spool_full", full, u64::from(self.is_full))
-        )
-    }
-
-    fn write_runs<W: fmt::Write>(&self, f: &mut fmt::Formatter<W>) -> fmt::Result {
-        let run = self.numbers.run;
-        let left = u64::from(LAST_RUN.saturating_sub(run));
-        let help = "Number of this run.";
-        write!(f, "{}", gauge("bridge_spool_run", help, u64::from(run)))?;
-        let help = "Runs that the spool can have after this one.";
-        write!(f, "{}", gauge("bridge_spool_runs_left", help, left))
-    }
-
-    // A sample for each protocol.
-    fn write_stored<W: fmt::Write>(&self, f: &mut fmt::Formatter<W>) -> fmt::Result {
-        let (name, stored) = (STORED.name, self.numbers.stored);
-        write!(f, "{STORED}")?;
-        for (proto, times) in [
-            (Proto::Relp, stored.relp),
-            (Proto::Lumberjack, stored.lumberjack),
-            (Proto::Hec, stored.hec),
-        ] {
-            let label = label_of(Some(proto));
-            write!(f, "{name}{{protocol=\"{label}\"}} {times}\n")?;
-        }
-        Ok(())
-    }
+// The values of those of failures.
+fn failure_values(counts: &Counts, disk_fails: u64, receiver_fails: u64) -> [u64; 6] {
+    [
+        counts.refusals.get(),
+        counts.sessions.get(),
+        counts.unreached.get(),
+        counts.receiver_refusals.get(),
+        receiver_fails,
+        disk_fails,
+    ]
 }
 
-impl fmt::Display for Spool<'_> {
-    fn fmt<W: fmt::Write>(&self, f: &mut fmt::Formatter<W>) -> fmt::Result {
-        self.write_entries(f)?;
-        self.write_room(f)?;
-        self.write_runs(f)?;
-        self.write_stored(f)
+// Writes what stands before the samples of a metric.
+fn write_head(text: &mut String, head: Head) -> Result<(), AllocError> {
+    let (name, kind, help) = head;
+    write!(text, "# HELP {name} {help}\n# TYPE {name} {kind}\n")
+}
+
+// Writes metrics with one sample each, and these values.
+fn write_rows(text: &mut String, heads: &[Head], values: &[u64]) -> Result<(), AllocError> {
+    for (head, value) in heads.iter().zip(values) {
+        write_head(text, *head)?;
+        let name = head.0;
+        write!(text, "{name} {value}\n")?;
     }
+    Ok(())
 }
 
 // The protocol in a label. It is empty before the first connection of a place has ended.
@@ -150,160 +185,90 @@ fn label_of(proto: Option<Proto>) -> &'static str {
     }
 }
 
-// A place at which senders connect.
-#[derive(Clone, Copy)]
-struct Senders<'a> {
-    place: Label<'a>,
-    connections: &'a Connections,
+// Writes a sample for each protocol.
+fn write_stored(text: &mut String, numbers: &SpoolNumbers) -> Result<(), AllocError> {
+    write_head(text, STORED)?;
+    let (name, stored) = (STORED.0, numbers.stored);
+    for (proto, times) in [
+        (Proto::Relp, stored.relp),
+        (Proto::Lumberjack, stored.lumberjack),
+        (Proto::Hec, stored.hec),
+    ] {
+        let label = label_of(Some(proto));
+        write!(text, "{name}{{protocol=\"{label}\"}} {times}\n")?;
+    }
+    Ok(())
 }
 
-impl<'a> Senders<'a> {
-    fn at(place: &'a Place) -> Senders<'a> {
-        Senders {
-            place: Label {
-                text: place.name.as_str(),
-            },
-            connections: &place.connections,
+// Writes a sample for each place of what has one.
+fn write_places(text: &mut String, roll: &Roll) -> Result<(), AllocError> {
+    for at in 0..PLACES.len() {
+        write_head(text, PLACES[at])?;
+        let name = PLACES[at].0;
+        for entry in roll.entries() {
+            if let Some(place) = entry.get() {
+                let (label, value) = (place.label.as_str(), place.values()[at]);
+                write!(text, "{name}{{place=\"{label}\"}} {value}\n")?;
+            }
         }
     }
+    Ok(())
+}
 
-    // A sample for each status that came.
-    fn write_ended<W: fmt::Write>(&self, f: &mut fmt::Formatter<W>) -> fmt::Result {
-        let (name, place) = (ENDED.name, self.place);
-        let proto = label_of(self.connections.proto());
-        let mut status = 0u32;
-        for count in self.connections.ended() {
+// Writes a sample for each place and each status that came there.
+fn write_ended(text: &mut String, roll: &Roll) -> Result<(), AllocError> {
+    write_head(text, ENDED)?;
+    let name = ENDED.0;
+    for entry in roll.entries() {
+        let Some(place) = entry.get() else {
+            continue;
+        };
+        let (label, connections) = (place.label.as_str(), &place.connections);
+        let proto = label_of(connections.proto());
+        for (status, count) in connections.ended().iter().enumerate() {
             let times = count.get();
             if times > 0 {
                 write!(
-                    f,
-                    "{name}{{place=\"{place}\",protocol=\"{proto}\",status=\"{status}\"}} {times}\n"
+                    text,
+                    "{name}{{place=\"{label}\",protocol=\"{proto}\",status=\"{status}\"}} {times}\n"
                 )?;
             }
-            status = status.saturating_add(1);
-        }
-        Ok(())
-    }
-}
-
-// What a place counts that has one sample of it.
-#[derive(Clone, Copy)]
-enum Counted {
-    Accepted,
-    Open,
-}
-
-impl Counted {
-    fn head(self) -> Head {
-        match self {
-            Counted::Accepted => ACCEPTED,
-            Counted::Open => OPEN,
         }
     }
-
-    fn of(self, connections: &Connections) -> u64 {
-        match self {
-            Counted::Accepted => connections.accepted(),
-            Counted::Open => connections.open(),
-        }
-    }
+    Ok(())
 }
 
-/// All that those are told who ask for numbers, in Prometheus' text format.
-#[derive(Clone, Copy)]
-pub(crate) struct Page<'a> {
-    /// The numbers of the spool.
-    pub(crate) numbers: &'a SpoolNumbers,
-    /// Whether it is full.
-    pub(crate) is_full: bool,
-    /// What the net counts.
-    pub(crate) counts: &'a Counts,
-    /// The places at which senders connect.
-    pub(crate) roll: &'a Roll,
-    /// For how many seconds calls of FILE have failed, or 0.
-    pub(crate) disk_fails: u64,
-    /// For how many seconds the receiver has failed, or 0.
-    pub(crate) receiver_fails: u64,
+/// The text as the value of a label, between its quotes.
+pub(crate) fn escaped(alloc: Global, text: &str) -> Result<String, AllocError> {
+    let mut label = String::new(alloc);
+    for c in text.chars() {
+        match c {
+            '\\' => label.push_str("\\\\")?,
+            '"' => label.push_str("\\\"")?,
+            '\n' => label.push_str("\\n")?,
+            _ => label.push(c)?,
+        }
+    }
+    Ok(label)
 }
 
-impl Page<'_> {
-    // A sample for each place.
-    fn write_counted<W: fmt::Write>(
-        &self,
-        f: &mut fmt::Formatter<W>,
-        counted: Counted,
-    ) -> fmt::Result {
-        let head = counted.head();
-        let name = head.name;
-        write!(f, "{head}")?;
-        for entry in self.roll.entries() {
-            if let Some(place) = entry.get() {
-                let senders = Senders::at(place);
-                let (label, times) = (senders.place, counted.of(senders.connections));
-                write!(f, "{name}{{place=\"{label}\"}} {times}\n")?;
-            }
-        }
-        Ok(())
-    }
-
-    fn write_ended<W: fmt::Write>(&self, f: &mut fmt::Formatter<W>) -> fmt::Result {
-        write!(f, "{ENDED}")?;
-        for entry in self.roll.entries() {
-            if let Some(place) = entry.get() {
-                Senders::at(place).write_ended(f)?;
-            }
-        }
-        Ok(())
-    }
-
-    fn write_failures<W: fmt::Write>(&self, f: &mut fmt::Formatter<W>) -> fmt::Result {
-        let counts = self.counts;
-        let (name, help) = (
-            "bridge_sender_refusals_total",
-            "Requests and frames of senders that were refused.",
-        );
-        write!(f, "{}", counter(name, help, counts.refusals.get()))?;
-        let help = "Connections to the receiver.";
-        let sessions = counts.sessions.get();
-        write!(
-            f,
-            "{}",
-            counter("bridge_receiver_sessions_total", help, sessions)
-        )?;
-        let (name, help) = (
-            "bridge_receiver_dials_failed_total",
-            "Tries to connect to the receiver that failed.",
-        );
-        write!(f, "{}", counter(name, help, counts.unreached.get()))?;
-        let (name, help) = (
-            "bridge_receiver_refusals_total",
-            "Connections on which the receiver refused what was sent.",
-        );
-        write!(f, "{}", counter(name, help, counts.receiver_refusals.get()))?;
-        let help = "Seconds since the receiver first failed; 0 while it is well.";
-        let fails = self.receiver_fails;
-        write!(
-            f,
-            "{}",
-            gauge("bridge_receiver_failing_seconds", help, fails)
-        )?;
-        let help = "Seconds since a call on FILE first failed; 0 while FILE is well.";
-        write!(
-            f,
-            "{}",
-            gauge("bridge_disk_failing_seconds", help, self.disk_fails)
-        )
-    }
-}
-
-impl fmt::Display for Page<'_> {
-    fn fmt<W: fmt::Write>(&self, f: &mut fmt::Formatter<W>) -> fmt::Result {
-        let (numbers, is_full) = (self.numbers, self.is_full);
-        let spool = Spool { numbers, is_full };
-        write!(f, "{spool}")?;
-        self.write_counted(f, Counted::Accepted)?;
-        self.write_counted(f, Counted::Open)?;
-        self.write_ended(f)?;
-        self.write_failures(f)
-    }
+/// All that those are told who ask for numbers, in Prometheus' text format: the numbers of the spool, and whether it is full; what was
+/// counted; the places at which senders connect; and for how many seconds calls of FILE and the receiver have failed, or 0.
+pub(crate) fn page(
+    alloc: Global,
+    numbers: &SpoolNumbers,
+    is_full: bool,
+    counts: &Counts,
+    roll: &Roll,
+    disk_fails: u64,
+    receiver_fails: u64,
+) -> Result<String, AllocError> {
+    let mut text = String::new(alloc);
+    write_rows(&mut text, &SPOOL, &spool_values(numbers, is_full))?;
+    write_stored(&mut text, numbers)?;
+    write_places(&mut text, roll)?;
+    write_ended(&mut text, roll)?;
+    let values = failure_values(counts, disk_fails, receiver_fails);
+    write_rows(&mut text, &FAILURES, &values)?;
+    Ok(text)
 }

@@ -56,7 +56,7 @@ impl Entry {
 }
 
 /// What a line stands for.
-#[derive(Clone, Copy, Debug, PartialEq, Eq)]
+#[derive(Clone, Copy, PartialEq, Eq)]
 pub struct Line {
     /// How often its topic came since the last line about it, this time included.
     pub count: u64,

@@ -1,6 +1,8 @@
 //! Which places have their workers. Each worker begins with an accept, in a thread of its own where the system grants one; where it
 //! refuses one, that worker begins only once another one has ended, and its place is served late.
+use crate::accepting::is_due;
 use crate::counts::Connections;
+use crate::page::escaped;
 use std::alloc::{AllocError, Global};
 use std::rt::Clock;
 use std::sync::atomic::{AtomicBool, AtomicU64, Ordering};
@@ -19,8 +21,12 @@ const LOOK_MILLIS: u64 = 10;
 pub(crate) struct Place {
     /// Its name, for the lines on standard error.
     pub(crate) name: String,
+    /// Its name as the value of a label.
+    pub(crate) label: String,
     /// When an accept that failed there was reported last, in whole seconds of the clock and one more; 0 for never.
     pub(crate) reported: AtomicU64,
+    /// The same for when it was reported that all its doors have connections.
+    pub(crate) busy_reported: AtomicU64,
     /// The connections that came in there.
     pub(crate) connections: Connections,
     // How many doors it has.
@@ -30,17 +36,21 @@ pub(crate) struct Place {
 }
 
 impl Place {
-    /// A place with so many doors, none of which has begun. Where it is quiet, no accept that failed there is ever reported: it is as
-    /// if one were reported at the end of time.
+    /// A place with so many doors, none of which has begun. Where it is quiet, nothing of it is ever reported: it is as if it had been at
+    /// the end of time.
     pub(crate) fn with_doors(
         alloc: Global,
         name: String,
         doors: u64,
         is_quiet: bool,
     ) -> Result<Place, AllocError> {
+        let label = escaped(alloc, name.as_str())?;
+        let reported = if is_quiet { u64::MAX } else { 0 };
         Ok(Place {
             name,
-            reported: AtomicU64::new(if is_quiet { u64::MAX } else { 0 }),
+            label,
+            reported: AtomicU64::new(reported),
+            busy_reported: AtomicU64::new(reported),
             connections: Connections::none(alloc)?,
             doors,
             begun: AtomicU64::new(0),
@@ -50,6 +60,25 @@ impl Place {
     /// Notes that one more of its doors begins.
     pub(crate) fn begin(&self) {
         let _ = self.begun.fetch_add(1, Ordering::SeqCst);
+    }
+
+    /// How many connections it accepted, how many of them have not ended, and how many it serves at once at most.
+    pub(crate) fn values(&self) -> [u64; 3] {
+        [
+            self.connections.accepted(),
+            self.connections.open(),
+            self.doors,
+        ]
+    }
+
+    /// Says that each of its doors has a connection, where it has several, that is so, and it was not said in the last minute.
+    pub(crate) fn report_busy(&self, rt: &(impl Clock + Eprint)) {
+        let (name, doors) = (&self.name, self.doors);
+        if doors > 1 && self.connections.open() >= doors && is_due(rt, &self.busy_reported) {
+            let _ = eprintln!(rt;
+                "bridge: senders at {name}: all {doors} workers serve one; further ones wait"
+            );
+        }
     }
 
     // How many of its doors have not begun.

@@ -1,13 +1,5 @@
 //! What somebody who asks over HTTP is answered.
-use crate::closing::close_soon;
-use std::alloc::Global;
-use std::io::{self, Write};
-use std::net::TcpStream;
-use std::rt::Clock;
-use std::time::Duration;
-
-// How long a write waits for the peer, in milliseconds. An answer is shorter than what the system takes at once.
-const WAIT_MILLIS: u64 = 200;
+use std::alloc::{AllocError, Global};
 
 /// An answer of HTTP.
 #[derive(Clone, Copy)]
@@ -36,26 +28,13 @@ impl<'a> Reply<'a> {
         }
     }
 
-    // Its bytes.
-    fn text(&self, alloc: Global) -> io::Result<String> {
+    /// Its bytes.
+    pub(crate) fn text(&self, alloc: Global) -> Result<String, AllocError> {
         let (status, kind, fields) = (self.status, self.kind, self.fields);
         let len = self.body.len();
         let body = if self.is_head { "" } else { self.body };
-        let text = format!(in alloc;
+        format!(in alloc;
             "HTTP/1.1 {status}\r\nContent-Type: {kind}\r\nContent-Length: {len}\r\nConnection: close\r\n{fields}\r\n{body}"
-        )?;
-        Ok(text)
-    }
-
-    /// Writes it to the stream, which is closed then. Nobody learns of an error.
-    pub(crate) fn send(&self, rt: &impl Clock, alloc: Global, mut stream: TcpStream) {
-        let wait = Duration::from_millis(WAIT_MILLIS);
-        let Ok(text) = self.text(alloc) else {
-            return;
-        };
-        let _ = stream.set_write_timeout(Some(wait));
-        if stream.write_all(text.as_bytes()).is_ok() {
-            close_soon(rt, stream);
-        }
+        )
     }
 }

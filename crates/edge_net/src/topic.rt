@@ -5,7 +5,7 @@ use std::fmt;
 use std::net::IpAddr;
 
 /// What befell a connection that was accepted.
-#[derive(Clone, Copy, Debug, PartialEq, Eq)]
+#[derive(Clone, Copy, PartialEq, Eq)]
 pub enum Matter {
     /// A request of HTTP was answered with this status, which says that it was refused.
     RequestRefused {

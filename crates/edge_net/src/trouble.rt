@@ -8,7 +8,7 @@ use std::io::{self, ErrorKind};
 use std::time::Duration;
 
 /// What a call of a connection was to do.
-#[derive(Clone, Copy, Debug, PartialEq, Eq)]
+#[derive(Clone, Copy, PartialEq, Eq)]
 pub enum Way {
     /// To read what the peer sends.
     In,
@@ -17,7 +17,7 @@ pub enum Way {
 }
 
 /// What went wrong on a connection, as a call of the system shows it.
-#[derive(Clone, Copy, Debug, PartialEq, Eq)]
+#[derive(Clone, Copy, PartialEq, Eq)]
 pub enum Trouble {
     /// For so many seconds the peer sent nothing that could be read.
     Silent { seconds: u64 },

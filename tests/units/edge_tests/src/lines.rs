@@ -30,7 +30,7 @@ fn a_topic_has_one_line_a_minute(rt: &impl Abort) {
         (1, 401, 200_000, line(2, 0)),
     ] {
         let given = recent.note(topic(peer, code), now);
-        assert!(rt; given == due, "{peer}, {code} at {now}: {given:?}");
+        assert!(rt; given == due, "{peer}, {code} at {now}");
     }
 }
 
@@ -97,7 +97,7 @@ fn a_receiver_is_said_at_each_change(rt: &impl Abort) {
         (Illness::Refuses { code: 503 }, 400_000, Some(1)),
     ] {
         let given = receiver.fails(illness, now);
-        assert!(rt; given == due, "{illness:?} at {now}: {given:?}");
+        assert!(rt; given == due, "at {now}: {given:?}");
     }
     assert!(rt; receiver.fails(Illness::Closed, 400_001).is_none());
     assert!(rt; receiver.is_well() == Some(1));
@@ -156,7 +156,7 @@ fn answers_are_told_by_their_first_bytes(rt: &impl Abort) {
         ("", None),
     ] {
         let given = Answer::at(text.as_bytes());
-        assert!(rt; given == answer, "{text}: {given:?}");
+        assert!(rt; given == answer, "{text}");
     }
 }
 

@@ -2,7 +2,7 @@
 use crate::sockets::{bound, free_place, pair};
 use edge_io::{Door, EventCounts, Monitor, Net, NetFault, Proto, Sink, SpoolNumbers};
 use edge_net::{Reports, TcpMonitor, TcpNet, Waits};
-use std::io::{self, Write};
+use std::io::{self, Read, Write};
 use std::net::{Shutdown, TcpStream};
 use std::process::Abort;
 use std::rt::Clock;
@@ -161,6 +161,28 @@ fn other_requests_are_refused(
     }
 }
 
+// Whether the peer has closed the connection, on which nothing came.
+fn is_closed(rt: &impl Abort, stream: &mut TcpStream) -> bool {
+    assert!(rt; stream.set_nonblocking(true).is_ok());
+    matches!(stream.read(&mut [0u8; 8]), Ok(0))
+}
+
+// How long it takes until the peer has closed the connection, while the monitor looks for those who ask. Nobody asks for numbers.
+fn closed_after(
+    rt: &(impl Abort + Clock),
+    monitor: &mut HostMonitor<'_>,
+    stream: &mut TcpStream,
+) -> Duration {
+    let start = Instant::now(rt).expect(rt, "a clock");
+    for _ in 0..10_000u32 {
+        assert!(rt; !tell(monitor, &NUMBERS), "nobody asks");
+        if is_closed(rt, stream) {
+            break;
+        }
+    }
+    start.elapsed(rt).expect(rt, "a clock")
+}
+
 // What is no whole request is closed without an answer, once it had a second and a half to come where its sender stays.
 fn what_is_no_request_is_closed(
     rt: &(impl Abort + AllocGlobal + Clock),
@@ -178,13 +200,10 @@ fn what_is_no_request_is_closed(
     assert!(rt; !tell(monitor, &NUMBERS), "it is too long");
     drop(whole);
     for request in ["", "GET /metrics HTTP/1.1\r\n"] {
-        let stream = asker(rt, host, place, request);
-        let start = Instant::now(rt).expect(rt, "a clock");
-        assert!(rt; !tell(monitor, &NUMBERS), "{request}");
-        let waited = start.elapsed(rt).expect(rt, "a clock");
+        let mut stream = asker(rt, host, place, request);
+        let waited = closed_after(rt, monitor, &mut stream);
         assert!(rt; Duration::from_millis(1_400) < waited, "{request}");
         assert!(rt; waited < Duration::from_secs(20), "{request}");
-        assert!(rt; heard(rt, stream).is_empty());
     }
 }
 
@@ -197,7 +216,19 @@ fn asks_slowly(rt: &(impl Abort + AllocGlobal + Clock), stream: TcpStream) -> St
     heard(rt, stream)
 }
 
-fn askers_come_in_turn(
+// Tells numbers to the next who asks for some. Gives how long that takes.
+fn tell_next(rt: &(impl Abort + Clock), monitor: &mut HostMonitor<'_>) -> Duration {
+    let start = Instant::now(rt).expect(rt, "a clock");
+    for _ in 0..1_000u32 {
+        if tell(monitor, &NUMBERS) {
+            break;
+        }
+    }
+    start.elapsed(rt).expect(rt, "a clock")
+}
+
+// One whose request comes slowly is answered after one who comes later and asks at once.
+fn who_asks_at_once_is_answered_first(
     rt: &(impl Abort + AllocGlobal + Clock + Sync + Threads),
     host: &HostRuntime,
     monitor: &mut HostMonitor<'_>,
@@ -205,17 +236,43 @@ fn askers_come_in_turn(
 ) {
     let slow = asker(rt, host, place, "GET /health HTTP/1.1\r\n");
     let next = asker(rt, host, place, HEALTH);
-    let (text, are_asked) = thread::join(
+    let (text, heard_next) = thread::join(
         rt,
         || asks_slowly(rt, slow),
         || {
-            let first = tell(monitor, &NUMBERS);
-            (first, tell(monitor, &NUMBERS))
+            let waited = tell_next(rt, monitor);
+            assert!(rt; waited < Duration::from_millis(250), "{waited:?}");
+            let text = heard(rt, next);
+            let _ = tell_next(rt, monitor);
+            text
         },
     );
-    assert!(rt; are_asked == (true, true));
     assert!(rt; assert_answer(rt, &text, "200 OK") == "ok\n");
+    assert!(rt; assert_answer(rt, &heard_next, "200 OK") == "ok\n");
+}
+
+// Whoever is silent keeps nobody waiting: of 64 of them the first is closed for one more.
+fn silent_askers_keep_nobody_waiting(
+    rt: &(impl Abort + AllocGlobal + Clock),
+    host: &HostRuntime,
+    monitor: &mut HostMonitor<'_>,
+    place: &str,
+) {
+    let mut silent = Vec::new(rt.alloc());
+    for _ in 0..64u32 {
+        let stream = asker(rt, host, place, "GET /health HTTP/1.1\r\n");
+        assert!(rt; silent.push(stream).is_ok());
+    }
+    assert!(rt; !tell(monitor, &NUMBERS), "all are silent");
+    let next = asker(rt, host, place, HEALTH);
+    let waited = tell_next(rt, monitor);
+    assert!(rt; waited < Duration::from_secs(1), "{waited:?}");
     assert!(rt; assert_answer(rt, &heard(rt, next), "200 OK") == "ok\n");
+    for (number, stream) in silent.iter_mut().enumerate() {
+        assert!(rt; is_closed(rt, stream) == (number == 0), "{number}");
+    }
+    drop(silent);
+    assert!(rt; !tell(monitor, &NUMBERS));
 }
 
 fn nobody_asks(rt: &(impl Abort + Clock), monitor: &mut HostMonitor<'_>) {
@@ -379,7 +436,8 @@ pub(crate) fn those_who_ask_are_answered(
     numbers_are_told_as_they_are(rt, host, &mut monitor, &place);
     other_requests_are_refused(rt, host, &mut monitor, &place);
     what_is_no_request_is_closed(rt, host, &mut monitor, &place);
-    askers_come_in_turn(rt, host, &mut monitor, &place);
+    who_asks_at_once_is_answered_first(rt, host, &mut monitor, &place);
+    silent_askers_keep_nobody_waiting(rt, host, &mut monitor, &place);
     health_says_what_is_wrong(rt, host, &reports);
     connections_are_counted(rt, host);
     a_place_that_cannot_be_bound_is_a_fault(rt, &mut net, &free_place(rt, host));

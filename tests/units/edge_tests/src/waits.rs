@@ -18,7 +18,7 @@ fn assert_waits(rt: &impl Abort, link: &TcpLink<'_, HostRuntime>, seconds: u64) 
         write_wait: wait,
     };
     let settings = link.settings().expect(rt, "an open socket");
-    assert!(rt; settings == wanted, "{settings:?}");
+    assert!(rt; settings == wanted, "other settings");
 }
 
 // The links of the program's net wait for 600 seconds where they were accepted, and for 90 where they were dialed.

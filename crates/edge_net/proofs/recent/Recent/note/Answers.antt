@@ -1,4 +1,4 @@
-use Rattle.std.proofs.Common.{◌+◌, Some, refl, arith}
+use Rattle.std.proofs.Common.{Some, refl, arith}
 use Rattle.std.proofs.lemmas.Grind.{common_steps}
 use Rattle.edge_net.specs.Pace.{later}
 use Rattle.edge_net.specs.declared.recent.Entry.{Entry}
