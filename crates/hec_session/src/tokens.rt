@@ -52,6 +52,8 @@ fn credentials(value: &[u8]) -> Option<&[u8]>
     }
 }
 
+// The tokens below are compared all, and each whole, whichever the GUID is, so that how long an answer takes tells nothing of them.
+
 fn is_token(token: Option<u128>, id: u128) -> bool
     ensures { result ≡ is_token token id }
 {
@@ -64,13 +66,21 @@ fn is_token(token: Option<u128>, id: u128) -> bool
 fn is_listed(listed: &[ListedToken], id: u128) -> bool
     ensures { result ≡ is_listed listed.now id }
 {
-    listed.iter().any(|token| token.guid == id)
+    let mut found = false;
+    for token in listed {
+        found |= token.guid == id;
+    }
+    found
 }
 
 fn is_listed_with_acks(listed: &[ListedToken], id: u128) -> bool
     ensures { result ≡ is_listed_with_acks listed.now id }
 {
-    listed.iter().any(|token| token.guid == id && token.acks)
+    let mut found = false;
+    for token in listed {
+        found |= (token.guid == id) & token.acks;
+    }
+    found
 }
 
 // How a request without the field is answered.
@@ -89,9 +99,11 @@ impl Tokens {
         ensures { result ≡ granted self.now (Some id) }
     {
         let listed = self.listed.as_slice();
-        if is_token(self.ack_token, id) || is_listed_with_acks(listed, id) {
+        let with_acks = is_token(self.ack_token, id) | is_listed_with_acks(listed, id);
+        let without_acks = is_token(self.token, id) | is_listed(listed, id);
+        if with_acks {
             Ok(Grant::WithAcks)
-        } else if is_token(self.token, id) || is_listed(listed, id) {
+        } else if without_acks {
             Ok(Grant::WithoutAcks)
         } else {
             Err(HecCode::InvalidToken)
