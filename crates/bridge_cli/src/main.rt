@@ -3,6 +3,7 @@
 #![tactic(auto)]
 
 mod device;
+mod over;
 mod pair;
 mod program;
 mod rescue;

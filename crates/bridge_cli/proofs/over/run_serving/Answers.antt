@@ -1,7 +1,7 @@
 use Rattle.std.proofs.Common.{◌∙◌, sym, subst}
-use Rattle.bridge_core.specs.Leave.{MayAnswer, MayReplay, MayTake, WasRead, MayRelease, WasWritten, HasExchangedAt, exchanges_as}
-use Rattle.bridge_core.proofs.Leave.{answers_within, replays_within, releases_within, tears_within}
-use Rattle.bridge_cli.proofs.device.run_over.Goals as goal
+use Rattle.bridge_core.specs.Leave.{MayAnswer, MayReplay, MayTake, WasRead, MayRelease, WasWritten, HasExchangedAt, exchanges_as, MayTell}
+use Rattle.bridge_core.proofs.Leave.{answers_within, replays_within, releases_within, tells_within, tears_within}
+use Rattle.bridge_cli.proofs.over.run_serving.Goals as goal
 
 -- what is durable on the disk that is watched is so on the disk
 pub bridge-status-requires-clause-answers : goal.bridge-status-requires-clause-answers
@@ -20,6 +20,15 @@ bridge-status-requires-clause-replays g c κs within =
     let take = MayTake g.K.Object.same g.K.Sink.taken g.K.Sink.permits c.args.output.now in
     λ command asks. replays_within tells moment (λ w. w.disk) c.noting-disk.result read take command
     (subst (λ d. MayReplay tells moment d read take command) (sym (c.noting-disk.ensures ∙ c.new.ensures)) (c.requires.replays command asks))
+
+-- those who ask may be told the numbers of the spool on it
+pub bridge-status-requires-clause-tells : goal.bridge-status-requires-clause-tells
+bridge-status-requires-clause-tells g c κs within =
+    let tells = g.D.Disk.tells in
+    let moment = g.D.Disk.moment in
+    let may = g.N.M.Monitor.may_tell in
+    λ command asks. tells_within tells moment (λ w. w.disk) c.noting-disk.result may command
+    (subst (λ d. MayTell tells moment d may command) (sym (c.noting-disk.ensures ∙ c.new.ensures)) (c.requires.tells command asks))
 
 -- and what is received of the disk that is watched is so of the disk
 pub bridge-status-requires-clause-releases : goal.bridge-status-requires-clause-releases
