@@ -4,18 +4,21 @@ ghost use Rattle.notes.specs.declared.note.Note.TheVariants.{Usage, NoMemory, Di
 ghost use Rattle.bridge_words.specs.declared.need.Need.TheVariants.{Existing, Make};
 ghost use Rattle.bridge_words.specs.Words.{IsNeed, IsNoCommand, IsNoMove};
 ghost use Rattle.bridge_core.specs.Failed.{TellsReadFault, TellsWriteFault, TellsDial};
-ghost use Rattle.bridge_core.specs.Leave.{ForWords, MayAnswer, MayReplay, MayTake, WasRead, MayBind, MayTell, MayDial, MayPrint};
+ghost use Rattle.bridge_core.specs.Leave.{ForWords, MayAnswer, MayReplay, MayTake, WasRead, MayRelease, WasWritten, exchanges_as, HasExchangedAt, MayTear, MayBind, MayTell, MayDial, MayPrint};
 ghost use Rattle.bridge_cli.specs.Noted.{IsNoteOf, faults_at};
+ghost use Rattle.bridge_cli.specs.Opened.{IsUnopened, OverOpened};
 ghost use Rattle.bridge_cli.specs.Texts.{ForTexts};
 ghost use Rattle.bridge_move.specs.Leave.{ForMoves};
-ghost use Rattle.edge_file.specs.declared.file.FileDisk.{FileDisk};
+ghost use Rattle.spool_answers.specs.Leave.{LetsKeep};
+ghost use Rattle.spool_move.specs.Leave.{MayMove};
 
+use crate::files::{Files, How};
 use crate::over::{run_bare, run_once, run_over};
 use crate::pair::run_move;
 use bridge_words::{Need, need_of};
-use cli_parts::{Opening, Waiting, make_disk, print_no_spool, print_unopened};
+use cli_parts::{Opening, Waiting, print_no_spool, print_unopened};
 use edge_disk::Disk;
-use edge_file::{FileDisk, OpenFault};
+use edge_file::OpenFault;
 use edge_io::{Door, Net, Sink, Source};
 use edge_net::Since;
 use notes::Note;
@@ -31,8 +34,9 @@ pub(crate) fn refuse(rt: &HostRuntime, file: &str, fault: OpenFault) -> Note
 }
 
 // Runs `format` over `file`, which is made where there is none and filled where it is empty.
-fn run_made<S: Source, K: Sink, N: Net>(
+fn run_made<F: Files, S: Source, K: Sink, N: Net>(
     rt: &HostRuntime,
+    files: &F,
     file: &str,
     len: u64,
     words: &[String],
@@ -41,18 +45,27 @@ fn run_made<S: Source, K: Sink, N: Net>(
     output: &mut K,
     net: &mut N,
 ) -> Note
+where
+    N::P: Drop,
     requires need { IsNeed (map string_bytes words.now) (Make len) }
     requires dials { ForWords (map string_bytes words.now) (MayDial N.may_dial) }
-    requires replays { (disk : FileDisk) → ForTexts words.now
-        (MayReplay ⟦<FileDisk as Disk>⟧.tells ⟦<FileDisk as Disk>⟧.moment disk (WasRead S.same S.given input.old)
+    requires replays { (disk : F.D) → ForTexts words.now
+        (MayReplay F.D.tells F.D.moment disk (WasRead S.same S.given input.old)
         (MayTake K.same K.taken K.permits output.old)) }
+    requires releases { (disk : F.D) → ForTexts words.now (MayRelease F.D.tells F.D.moment disk (exchanges_as
+        (WasRead S.same S.given input.old) (WasWritten K.same K.taken output.old)
+        (HasExchangedAt N.L.same N.L.dialed N.L.given N.L.taken)) F.D.may_release) }
+    requires tears { ForWords (map string_bytes words.now) (MayTear F.D.tells F.D.moment F.D.may_tear F.D.may_release) }
     requires prints { ForWords (map string_bytes words.now) (MayPrint ((sink : K) (text : List ℕ) → K.permits sink text)) }
 
     ensures noted { IsNoteOf (map string_bytes words.now) result
         (faults_at (S.read_faults input.old) (K.write_faults output.old) (N.told net.old))
         (faults_at (S.read_faults input.new) (K.write_faults output.new) (N.told net.new)) }
+    ensures done { IsUnopened result (input.new ≡ input.old × output.new ≡ output.old × net.new ≡ net.old)
+        ⊎ OverOpened (F.D.Disk, S.Source.own, K.Sink.own, N.told, N.P.told) (F.opened file.now) (map string_bytes words.now)
+        (input.old, output.old, net.old) (input.new, output.new, net.new) result }
 {
-    match make_disk(rt, file, len) {
+    match files.open(file, How::Made(len)) {
         Ok(disk) => {
             run_once(
                 rt,
@@ -72,9 +85,16 @@ fn run_made<S: Source, K: Sink, N: Net>(
 }
 
 // Runs the words over `file`, which exists and is shared as they want it. Only those of `serve` take threads, and may wait.
-fn run_existing<S: Source, K: Sink, N: Net + Send, R: Threads + Wait + Sync>(
+fn run_existing<
+    F: Files,
+    S: Source,
+    K: Sink,
+    N: Net + Send,
+    R: Threads + Wait + Sync,
+>(
     rt: &HostRuntime,
     threads: &R,
+    files: &F,
     file: &str,
     words: &[String],
     failing: &Since,
@@ -88,25 +108,32 @@ where
     N::L: Send,
     N::M: Drop + Send,
     requires need { IsNeed (map string_bytes words.now) Existing }
-    requires answers { (disk : FileDisk) → ForWords (map string_bytes words.now)
-        (MayAnswer ⟦<FileDisk as Disk>⟧.tells ⟦<FileDisk as Disk>⟧.moment disk N.permits) }
+    requires answers { (disk : F.D) → ForWords (map string_bytes words.now)
+        (MayAnswer F.D.tells F.D.moment disk N.permits) }
     requires binds { ForWords (map string_bytes words.now) (MayBind N.may_bind) }
-    requires tells { (disk : FileDisk) → ForWords (map string_bytes words.now)
-        (MayTell ⟦<FileDisk as Disk>⟧.tells ⟦<FileDisk as Disk>⟧.moment disk N.M.may_tell) }
+    requires tells { (disk : F.D) → ForWords (map string_bytes words.now)
+        (MayTell F.D.tells F.D.moment disk N.M.may_tell) }
     requires dials { ForWords (map string_bytes words.now) (MayDial N.may_dial) }
-    requires replays { (disk : FileDisk) → ForTexts words.now
-        (MayReplay ⟦<FileDisk as Disk>⟧.tells ⟦<FileDisk as Disk>⟧.moment disk (WasRead S.same S.given input.old)
+    requires replays { (disk : F.D) → ForTexts words.now
+        (MayReplay F.D.tells F.D.moment disk (WasRead S.same S.given input.old)
         (MayTake K.same K.taken K.permits output.old)) }
+    requires releases { (disk : F.D) → ForTexts words.now (MayRelease F.D.tells F.D.moment disk (exchanges_as
+        (WasRead S.same S.given input.old) (WasWritten K.same K.taken output.old)
+        (HasExchangedAt N.L.same N.L.dialed N.L.given N.L.taken)) F.D.may_release) }
+    requires tears { ForWords (map string_bytes words.now) (MayTear F.D.tells F.D.moment F.D.may_tear F.D.may_release) }
     requires prints { ForWords (map string_bytes words.now) (MayPrint ((sink : K) (text : List ℕ) → K.permits sink text)) }
 
     ensures noted { IsNoteOf (map string_bytes words.now) result
         (faults_at (S.read_faults input.old) (K.write_faults output.old) (N.told net.old))
         (faults_at (S.read_faults input.new) (K.write_faults output.new) (N.told net.new)) }
+    ensures done { IsUnopened result (input.new ≡ input.old × output.new ≡ output.old × net.new ≡ net.old)
+        ⊎ OverOpened (F.D.Disk, S.Source.own, K.Sink.own, N.told, N.P.told) (F.opened file.now) (map string_bytes words.now)
+        (input.old, output.old, net.old) (input.new, output.new, net.new) result }
 {
     let Ok(opening) = Opening::of(rt.alloc(), words) else {
         return Note::NoMemory;
     };
-    match FileDisk::open_locked(rt, file, opening.sharing) {
+    match files.open(file, How::Existing(opening.sharing)) {
         Ok(disk) => {
             let note = run_over(
                 rt, threads, words, disk, opening, failing, input, output, net,
@@ -124,9 +151,10 @@ where
 /// opened is a fault of the disk, and standard error says why in a line of its own; one that is no spool is named there too. Since when
 /// calls of `file` fail is noted in `failing`. `list` shares `file` with others that list it; every
 /// other command has it alone while it runs.
-pub fn run_words<S: Source, K: Sink, N: Net + Send, R: Threads + Wait + Sync>(
+pub fn run_words<F: Files, S: Source, K: Sink, N: Net + Send, R: Threads + Wait + Sync>(
     rt: &HostRuntime,
     threads: &R,
+    files: &F,
     file: &str,
     words: &[String],
     failing: &Since,
@@ -139,16 +167,22 @@ where
     <N::P as Door>::L: Send,
     N::L: Send,
     N::M: Drop + Send,
-    requires answers { (disk : FileDisk) → ForWords (map string_bytes words.now)
-        (MayAnswer ⟦<FileDisk as Disk>⟧.tells ⟦<FileDisk as Disk>⟧.moment disk N.permits) }
+    requires answers { (disk : F.D) → ForWords (map string_bytes words.now)
+        (MayAnswer F.D.tells F.D.moment disk N.permits) }
     requires binds { ForWords (map string_bytes words.now) (MayBind N.may_bind) }
-    requires tells { (disk : FileDisk) → ForWords (map string_bytes words.now)
-        (MayTell ⟦<FileDisk as Disk>⟧.tells ⟦<FileDisk as Disk>⟧.moment disk N.M.may_tell) }
+    requires tells { (disk : F.D) → ForWords (map string_bytes words.now)
+        (MayTell F.D.tells F.D.moment disk N.M.may_tell) }
     requires dials { ForWords (map string_bytes words.now) (MayDial N.may_dial) }
-    requires replays { (disk : FileDisk) → ForTexts words.now
-        (MayReplay ⟦<FileDisk as Disk>⟧.tells ⟦<FileDisk as Disk>⟧.moment disk (WasRead S.same S.given input.old)
+    requires replays { (disk : F.D) → ForTexts words.now
+        (MayReplay F.D.tells F.D.moment disk (WasRead S.same S.given input.old)
         (MayTake K.same K.taken K.permits output.old)) }
+    requires releases { (disk : F.D) → ForTexts words.now (MayRelease F.D.tells F.D.moment disk (exchanges_as
+        (WasRead S.same S.given input.old) (WasWritten K.same K.taken output.old)
+        (HasExchangedAt N.L.same N.L.dialed N.L.given N.L.taken)) F.D.may_release) }
+    requires tears { ForWords (map string_bytes words.now) (MayTear F.D.tells F.D.moment F.D.may_tear F.D.may_release) }
     requires prints { ForWords (map string_bytes words.now) (MayPrint ((sink : K) (text : List ℕ) → K.permits sink text)) }
+    requires moves { ForMoves (map string_bytes words.now) (λ tag. MayMove F.D.tells F.D.moment F.D.tells F.D.moment tag F.D.may_release) }
+    requires keeps { LetsKeep F.D.tells F.D.moment F.D.may_tear F.D.may_release }
     requires prints_move { ForMoves (map string_bytes words.now) (λ _. (sink : K) (text : List ℕ) → K.permits sink text) }
 
     ensures usage { result ≡ Usage → IsNoCommand (map string_bytes words.now) × IsNoMove (map string_bytes words.now) }
@@ -160,11 +194,15 @@ where
     ensures dials { TellsDial (map string_bytes words.now) result (N.told net.old) (N.told net.new) }
 {
     match need_of(rt.alloc(), words) {
-        Ok(Need::Make { len }) => run_made(rt, file, len, words, failing, input, output, net),
+        Ok(Need::Make { len }) => run_made(
+            rt, files, file, len, words, failing, input, output, net,
+        ),
         Ok(Need::Existing) => {
-            run_existing(rt, threads, file, words, failing, input, output, net)
+            run_existing(
+                rt, threads, files, file, words, failing, input, output, net,
+            )
         }
-        Ok(Need::Pair { target, .. }) => run_move(rt, file, target.as_str(), words, output),
+        Ok(Need::Pair { target, .. }) => run_move(rt, files, file, target.as_str(), words, output),
         Ok(Need::NoCommand) => run_bare(rt.alloc(), words, input, output, net),
         Ok(Need::Nothing) => run_bare(rt.alloc(), words, input, output, net),
         Err(_) => Note::NoMemory,

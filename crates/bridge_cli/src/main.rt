@@ -3,6 +3,7 @@
 #![tactic(auto)]
 
 mod device;
+mod files;
 mod over;
 mod pair;
 mod program;

@@ -168,6 +168,8 @@ pub(crate) fn run_bare<S: Source, K: Sink, N: Net>(
     output: &mut K,
     net: &mut N,
 ) -> Note
+where
+    N::P: Drop,
     requires need { (need : Need) × IsNeed (map string_bytes words.now) need × (need ≢ Existing) }
     requires dials { ForWords (map string_bytes words.now) (MayDial N.may_dial) }
     requires prints { ForWords (map string_bytes words.now) (MayPrint ((sink : K) (text : List ℕ) → K.permits sink text)) }

@@ -1,5 +1,5 @@
 //! The top call of a move, over the two files that its words name.
-ghost use Rattle.std.specs.Prelude.{◌≡◌, ℕ, List, map, string_bytes};
+ghost use Rattle.std.specs.Prelude.{◌≡◌, ◌⊎◌, ℕ, List, map, string_bytes};
 ghost use Rattle.spool_answers.specs.Leave.{LetsKeep};
 ghost use Rattle.spool_move.specs.Leave.{MayMove};
 ghost use Rattle.conn_serve.specs.Endings.{CountsFaults};
@@ -10,13 +10,15 @@ ghost use Rattle.bridge_move.specs.Ended.{IsMoveNote};
 ghost use Rattle.bridge_move.specs.Leave.{ForMoves};
 ghost use Rattle.bridge_move.specs.MoveRun.{two_disks};
 ghost use Rattle.bridge_core.specs.Told.{texts};
+ghost use Rattle.bridge_cli.specs.Opened.{IsUnopened, OverFiles};
 ghost use Rattle.bridge_cli.specs.Watched.{MovesWatched};
 
 use crate::device::refuse;
+use crate::files::Files;
 use bridge_move::{Moved, bridge_move};
 use cli_parts::{Progress, Showing, Waiting, Watched, print_no_spool};
 use edge_disk::Disk;
-use edge_file::{FileDisk, PairFault};
+use edge_file::PairFault;
 use edge_io::Sink;
 use notes::Note;
 
@@ -75,20 +77,26 @@ fn refuse_pair(rt: &HostRuntime, file: &str, target: &str, fault: PairFault) -> 
 
 /// Does what the words of a move ask for, over the two files, each of which this program has alone meanwhile. One that can't be opened is
 /// a fault of the disk, and so is one file as both; standard error says which, in a line of its own, and which of them is no spool.
-pub(crate) fn run_move<K: Sink>(
+pub(crate) fn run_move<F: Files, K: Sink>(
     rt: &HostRuntime,
+    files: &F,
     file: &str,
     target_path: &str,
     words: &[String],
     output: &mut K,
 ) -> Note
     requires moves { IsSomeMove (map string_bytes words.now) }
+    requires earned { ForMoves (map string_bytes words.now) (λ tag. MayMove F.D.tells F.D.moment F.D.tells F.D.moment tag F.D.may_release) }
+    requires tears { LetsKeep F.D.tells F.D.moment F.D.may_tear F.D.may_release }
     requires prints { (k : K) (text : List ℕ) → K.permits k text }
 
     ensures known { IsMoveNote result }
     ensures writes { CountsFaults (result ≡ WriteFault) (K.write_faults output.old) (K.write_faults output.new) }
+    ensures done { IsUnopened result (output.new ≡ output.old) ⊎ OverFiles (F.opened file.now) (F.opened target_path.now) (λ old new.
+        MovesWatched (two_disks F.D.tells F.D.tells F.D.moment F.D.moment) (texts words.now) old new
+        (output_run K.taken K.write_faults output.old output.new) result) }
 {
-    match FileDisk::open_both(rt, file, target_path) {
+    match files.open_both(file, target_path) {
         Ok((source, target)) => {
             let is_shown = Showing::Always.is_seen(rt);
             move_over(

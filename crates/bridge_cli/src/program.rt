@@ -1,5 +1,6 @@
 //! The program over its streams.
 use crate::device::run_words;
+use crate::files::SystemFiles;
 use crate::rescue::run_rescue;
 use crate::skip::run_skip;
 use cli_parts::{
@@ -44,17 +45,19 @@ fn run_arguments<R: Threads + Wait + Sync>(
     }
     let mut input = FileIo::of(rt.reader());
     let mut output = FileIo::of(io::writer(rt));
+    let files = SystemFiles::new(rt);
     if let Some(number) = skip_of(&arguments.words) {
-        return run_skip(rt, &arguments.file, number, &mut output);
+        return run_skip(rt, &files, &arguments.file, number, &mut output);
     }
     if let Some(rescue) = rescue_of(&arguments.words) {
-        return run_rescue(rt, &arguments.file, rescue.layout, &mut output);
+        return run_rescue(rt, &files, &arguments.file, rescue.layout, &mut output);
     }
     let reports = reports_of(options);
     let mut net = TcpNet::with_waits(rt.alloc(), rt, &reports, waits_of(options));
     run_words(
         rt,
         threads,
+        &files,
         &arguments.file,
         &arguments.words,
         reports.disk(),

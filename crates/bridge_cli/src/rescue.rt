@@ -1,15 +1,18 @@
 //! The top call of a rescue, over FILE, which is only read.
-ghost use Rattle.std.specs.Prelude.{◌≡◌, ℕ, List};
+ghost use Rattle.std.specs.Prelude.{◌≡◌, ◌⊎◌, ℕ, List, Option};
 ghost use Rattle.conn_serve.specs.Endings.{CountsFaults};
 ghost use Rattle.notes.specs.declared.note.Note.TheVariants.{WriteFault};
 ghost use Rattle.bridge_parts.specs.Run.{disk_run, output_run};
 ghost use Rattle.bridge_rescue.specs.RescueRun.{IsRescueNote, IsRescueRun};
+ghost use Rattle.bridge_rescue.specs.declared.rescued.Report.{Report};
+ghost use Rattle.bridge_cli.specs.declared.files.How.TheVariants.{ToRead};
+ghost use Rattle.bridge_cli.specs.Opened.{IsUnopened, OverFile};
 
 use crate::device::refuse;
+use crate::files::{Files, How};
 use bridge_rescue::{Layout, Rescued, bridge_rescue};
 use cli_parts::{Progress, Showing, Waiting, Watched, print_note, print_rescue};
 use edge_disk::Disk;
-use edge_file::FileDisk;
 use edge_io::Sink;
 use notes::Note;
 
@@ -44,8 +47,9 @@ fn rescue_over<D: Disk, K: Sink>(
 
 /// Rescues the entries of `file`, which is opened to be read alone, beside others that read it. One that can't be opened is a fault of the
 /// disk, and standard error says why in a line of its own; else it says which slots are at fault.
-pub(crate) fn run_rescue<K: Sink>(
+pub(crate) fn run_rescue<F: Files, K: Sink>(
     rt: &HostRuntime,
+    files: &F,
     file: &str,
     given: Option<Layout>,
     output: &mut K,
@@ -54,8 +58,10 @@ pub(crate) fn run_rescue<K: Sink>(
 
     ensures known { IsRescueNote result }
     ensures writes { CountsFaults (result ≡ WriteFault) (K.write_faults output.old) (K.write_faults output.new) }
+    ensures done { IsUnopened result (output.new ≡ output.old) ⊎ OverFile (F.opened file.now) ToRead (λ disk after. (report : Option Report) ×
+        IsRescueRun given (disk_run F.D.tells F.D.moment disk after) (output_run K.taken K.write_faults output.old output.new) report result) }
 {
-    match FileDisk::open_to_read(rt, file) {
+    match files.open(file, How::ToRead) {
         Ok(disk) => {
             let is_shown = Showing::Apart.is_seen(rt);
             let rescued = rescue_over(rt, given, disk, is_shown, output);

@@ -1,17 +1,21 @@
 //! The top call of the words `skip NUMBER`, over FILE.
-ghost use Rattle.std.specs.Prelude.{◌≡◌, ℕ, List};
+ghost use Rattle.std.specs.Prelude.{◌≡◌, ◌⊎◌, ℕ, List};
 ghost use Rattle.spool_answers.specs.Leave.{LetsKeep};
 ghost use Rattle.conn_serve.specs.Endings.{CountsFaults};
 ghost use Rattle.notes.specs.declared.note.Note.TheVariants.{WriteFault};
 ghost use Rattle.bridge_parts.specs.Run.{disk_run, output_run};
 ghost use Rattle.bridge_skip.specs.Leave.{MaySkip, given_output};
 ghost use Rattle.bridge_skip.specs.SkipRun.{IsSkipNote, IsSkipRun};
+ghost use Rattle.edge_file.specs.declared.open_fault.Sharing.TheVariants.{Exclusive};
+ghost use Rattle.bridge_cli.specs.declared.files.How.TheVariants.{Existing};
+ghost use Rattle.bridge_cli.specs.Opened.{IsUnopened, OverFile};
 
 use crate::device::refuse;
+use crate::files::{Files, How};
 use bridge_skip::{Skipped, bridge_skip};
 use cli_parts::{Progress, Showing, Waiting, Watched, print_no_spool};
 use edge_disk::Disk;
-use edge_file::{FileDisk, Sharing};
+use edge_file::Sharing;
 use edge_io::Sink;
 use notes::Note;
 
@@ -42,13 +46,23 @@ fn skip_over<D: Disk, K: Sink>(
 
 /// Skips the entry of this number in `file`, which this program has alone meanwhile. One that can't be opened is a fault of the disk, and
 /// standard error says why in a line of its own; one that is no spool is named there too.
-pub(crate) fn run_skip<K: Sink>(rt: &HostRuntime, file: &str, number: u64, output: &mut K) -> Note
+pub(crate) fn run_skip<F: Files, K: Sink>(
+    rt: &HostRuntime,
+    files: &F,
+    file: &str,
+    number: u64,
+    output: &mut K,
+) -> Note
+    requires earned { (disk : F.D) → MaySkip F.D.tells (F.D.moment disk).reads number (given_output K.same K.taken output.old) F.D.may_release }
+    requires tears { LetsKeep F.D.tells F.D.moment F.D.may_tear F.D.may_release }
     requires prints { (k : K) (text : List ℕ) → K.permits k text }
 
     ensures known { IsSkipNote number result }
     ensures writes { CountsFaults (result ≡ WriteFault) (K.write_faults output.old) (K.write_faults output.new) }
+    ensures done { IsUnopened result (output.new ≡ output.old) ⊎ OverFile (F.opened file.now) (Existing Exclusive) (λ disk after.
+        IsSkipRun number (disk_run F.D.tells F.D.moment disk after) (output_run K.taken K.write_faults output.old output.new) result) }
 {
-    match FileDisk::open_locked(rt, file, Sharing::Exclusive) {
+    match files.open(file, How::Existing(Sharing::Exclusive)) {
         Ok(disk) => {
             // (it prints one line, and only after its reading)
             let is_shown = Showing::Always.is_seen(rt);

@@ -1,0 +1,45 @@
+-- What was done over files, which were opened for it.
+use Rattle.std.specs.Prelude.{◌≡◌, ◌⊎◌, ◌↔◌, ℕ, List}
+use Rattle.edge_file.specs.declared.open_fault.Sharing.TheVariants.{Exclusive, Shared}
+use Rattle.notes.specs.declared.note.Note.{Note}
+use Rattle.notes.specs.declared.note.Note.TheVariants.{DiskFault, NoMemory}
+use Rattle.bridge_words.specs.declared.need.Need.TheVariants as need
+use Rattle.bridge_words.specs.Words.{IsNeed}
+use Rattle.bridge_core.specs.declared.ended.Ended.{Ended}
+use Rattle.bridge_core.specs.Told.{Telling}
+use Rattle.cli_parts.specs.Opening.{AreList}
+use Rattle.bridge_cli.specs.declared.files.How.{How}
+use Rattle.bridge_cli.specs.declared.files.How.TheVariants.{Existing, Made, ToRead}
+use Rattle.bridge_cli.specs.Watched.{KeepsWatched}
+
+-- The words want FILE so: one that is made of that length where it isn't there, or one that exists, which is shared where they list its
+-- entries, and by no others.
+abbrev pub WantsFile : List (List ℕ) → How → Type 0
+WantsFile words (Made len) = IsNeed words (need.Make len)
+WantsFile words (Existing sharing) = IsNeed words need.Existing × ((sharing ≡ Shared) ↔ AreList words)
+WantsFile words ToRead = ⊥
+
+-- No file was opened: the system refused it, or no memory was found for reading the words. All else is as it was.
+abbrev pub IsUnopened : Note → Type 0 → Type 0
+IsUnopened note same = (note ≡ DiskFault ⊎ note ≡ NoMemory) × same
+
+-- It was done over the file that was opened so.
+abbrev pub OverFile : {D : Type 0} → (How → D → Type 0) → How → (D → D → Type 0) → Type 0
+OverFile {D} Opened how Done = (disk after : D) × Opened how disk × Done disk after
+
+-- It was done over both files, each of which the program had alone.
+abbrev pub OverFiles : {D : Type 0} → (How → D → Type 0) → (How → D → Type 0) → (D × D → D × D → Type 0) → Type 0
+OverFiles {D} Opened Opened' Done =
+    (source target source_after target_after : D) × Opened (Existing Exclusive) source × Opened' (Existing Exclusive) target
+    × Done (source, target) (source_after, target_after)
+
+-- The words were done over FILE, which was opened as they want it: the promises are kept of it.
+pub record OverOpened {D S K N P : Type 0} (tell : Telling D S K N P) (Opened : How → D → Type 0) (words : List (List ℕ)) (given made : S × K × N)
+    (note : Note) : Type 0 where
+  pub how : How
+  pub wanted : WantsFile words how
+  pub disk : D
+  pub opened : Opened how disk
+  pub ended : Ended D P
+  pub note_is : ended.note ≡ note
+  pub kept : KeepsWatched tell words (disk, given.0, given.1, given.2) made ended
