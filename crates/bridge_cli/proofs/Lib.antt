@@ -1,2 +1,3 @@
 pub mod Noting
 pub mod Skipping
+pub mod Wanting

@@ -4,7 +4,7 @@ use Rattle.edge_file.specs.declared.open_fault.Sharing.TheVariants.{Exclusive, S
 use Rattle.notes.specs.declared.note.Note.{Note}
 use Rattle.notes.specs.declared.note.Note.TheVariants.{DiskFault, NoMemory}
 use Rattle.bridge_words.specs.declared.need.Need.TheVariants as need
-use Rattle.bridge_words.specs.Words.{IsNeed}
+use Rattle.bridge_words.specs.Words.{IsMove, IsNeed}
 use Rattle.bridge_core.specs.declared.ended.Ended.{Ended}
 use Rattle.bridge_core.specs.Told.{Telling}
 use Rattle.cli_parts.specs.Opening.{AreList}
@@ -32,6 +32,11 @@ abbrev pub OverFiles : {D : Type 0} → (How → D → Type 0) → (How → D �
 OverFiles {D} Opened Opened' Done =
     (source target source_after target_after : D) × Opened (Existing Exclusive) source × Opened' (Existing Exclusive) target
     × Done (source, target) (source_after, target_after)
+
+-- So it was over FILE and the target that the words of a move name.
+abbrev pub OverTarget : {D : Type 0} → (List ℕ → How → D → Type 0) → List ℕ → List (List ℕ) → (D × D → D × D → Type 0) → Type 0
+OverTarget Opened file words Done =
+    (target : List ℕ) × (tag : ℕ) × IsMove target tag words × OverFiles (Opened file) (Opened target) Done
 
 -- The words were done over FILE, which was opened as they want it: the promises are kept of it.
 pub record OverOpened {D S K N P : Type 0} (tell : Telling D S K N P) (Opened : How → D → Type 0) (words : List (List ℕ)) (given made : S × K × N)

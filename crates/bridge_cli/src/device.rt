@@ -2,12 +2,17 @@
 ghost use Rattle.std.specs.Prelude.{◌≡◌, ◌⊎◌, ℕ, List, map, string_bytes};
 ghost use Rattle.notes.specs.declared.note.Note.TheVariants.{Usage, NoMemory, DiskFault};
 ghost use Rattle.bridge_words.specs.declared.need.Need.TheVariants.{Existing, Make};
-ghost use Rattle.bridge_words.specs.Words.{IsNeed, IsNoCommand, IsNoMove};
+ghost use Rattle.bridge_words.specs.Words.{IsNeed, IsNoCommand, IsNoMove, IsSomeMove};
 ghost use Rattle.bridge_core.specs.Failed.{TellsReadFault, TellsWriteFault, TellsDial};
 ghost use Rattle.bridge_core.specs.Leave.{ForWords, MayAnswer, MayReplay, MayTake, WasRead, MayRelease, WasWritten, exchanges_as, HasExchangedAt, MayTear, MayBind, MayTell, MayDial, MayPrint};
 ghost use Rattle.bridge_cli.specs.Noted.{IsNoteOf, faults_at};
-ghost use Rattle.bridge_cli.specs.Opened.{IsUnopened, OverOpened};
+ghost use Rattle.bridge_cli.specs.declared.files.How.{How};
+ghost use Rattle.bridge_cli.specs.Opened.{IsUnopened, OverOpened, OverTarget, WantsFile};
 ghost use Rattle.bridge_cli.specs.Texts.{ForTexts};
+ghost use Rattle.bridge_cli.specs.Watched.{MovesWatched};
+ghost use Rattle.bridge_core.specs.Told.{texts};
+ghost use Rattle.bridge_move.specs.MoveRun.{two_disks};
+ghost use Rattle.bridge_parts.specs.Run.{output_run};
 ghost use Rattle.bridge_move.specs.Leave.{ForMoves};
 ghost use Rattle.spool_answers.specs.Leave.{LetsKeep};
 ghost use Rattle.spool_move.specs.Leave.{MayMove};
@@ -151,6 +156,8 @@ where
 /// opened is a fault of the disk, and standard error says why in a line of its own; one that is no spool is named there too. Since when
 /// calls of `file` fail is noted in `failing`. `list` shares `file` with others that list it; every
 /// other command has it alone while it runs.
+///
+/// What was done is what `bridge` does over that disk, opened so: `done`; or what `bridge_move` does over both: `moved`.
 pub fn run_words<F: Files, S: Source, K: Sink, N: Net + Send, R: Threads + Wait + Sync>(
     rt: &HostRuntime,
     threads: &R,
@@ -192,6 +199,14 @@ where
     ensures writes { TellsWriteFault (map string_bytes words.now) result (K.write_faults output.old) (K.write_faults output.new)
         (N.told net.old) (N.told net.new) }
     ensures dials { TellsDial (map string_bytes words.now) result (N.told net.old) (N.told net.new) }
+    ensures done { (how : How) → WantsFile (map string_bytes words.now) how
+        → IsUnopened result (input.new ≡ input.old × output.new ≡ output.old × net.new ≡ net.old)
+        ⊎ OverOpened (F.D.Disk, S.Source.own, K.Sink.own, N.told, N.P.told) (F.opened file.now) (map string_bytes words.now)
+        (input.old, output.old, net.old) (input.new, output.new, net.new) result }
+    ensures moved { IsSomeMove (map string_bytes words.now) → IsUnopened result (output.new ≡ output.old)
+        ⊎ OverTarget F.opened file.now (map string_bytes words.now) (λ old new.
+        MovesWatched (two_disks F.D.tells F.D.tells F.D.moment F.D.moment) (texts words.now) old new
+        (output_run K.taken K.write_faults output.old output.new) result) }
 {
     match need_of(rt.alloc(), words) {
         Ok(Need::Make { len }) => run_made(

@@ -1,4 +1,4 @@
-use Rattle.std.proofs.Common.{inl, inr}
+use Rattle.std.proofs.Common.{inl, inr, refl}
 use Rattle.bridge_cli.proofs.pair.run_move.Goals as goal
 
 -- the words move entries
@@ -7,3 +7,11 @@ returns-in-Ok-clause-known g c =
     let run = c.move_over.ensures.run.6 in
     let moves = c.requires.moves in
     elim run.known [ inl usage ↦ absurd (run.usage usage moves.0 moves.1 moves.2) | inr known ↦ known ]
+
+pub returns-in-Ok-clause-done : goal.returns-in-Ok-clause-done
+returns-in-Ok-clause-done g c =
+    let done = c.move_over in
+    inr (c.in-Ok.source, c.in-Ok.target, done.result.source, done.result.target, c.in-Ok.ensures.0, c.in-Ok.ensures.1, done.ensures.run)
+
+pub returns-clause-done : goal.returns-clause-done
+returns-clause-done g c = inl (inl c.refuse_pair.ensures, refl)

@@ -1,0 +1,8 @@
+use Rattle.std.proofs.Common.{inl, inr, refl}
+use Rattle.bridge_cli.proofs.skip.run_skip.Goals as goal
+
+pub returns-in-Ok-clause-done : goal.returns-in-Ok-clause-done
+returns-in-Ok-clause-done g c = inr (c.in-Ok.disk, c.skip_over-note.result.disk, c.in-Ok.ensures, c.skip_over-note.ensures.run)
+
+pub returns-clause-done : goal.returns-clause-done
+returns-clause-done g c = inl (inl c.refuse.ensures, refl)
