@@ -6,8 +6,8 @@ use Rattle.bridge_words.specs.declared.need.Need.{Need}
 use Rattle.bridge_words.specs.declared.need.Need.TheVariants.{NoCommand, Existing, Make, Pair}
 use Rattle.bridge_words.specs.Words.{IsMove, IsNeed, IsNoMove, IsSomeMove, need_for}
 use Rattle.bridge_words.proofs.Once.{one_command, move_is_no_command}
-use Rattle.bridge_cli.specs.declared.files.How.{How}
-use Rattle.bridge_cli.specs.declared.files.How.TheVariants as how
+use Rattle.cli_files.specs.declared.files.How.{How}
+use Rattle.cli_files.specs.declared.files.How.TheVariants as how
 use Rattle.bridge_cli.specs.Opened.{WantsFile}
 
 -- no command wants two devices

@@ -1,15 +1,15 @@
--- What was done over files, which were opened for it.
-use Rattle.std.specs.Prelude.{◌≡◌, ◌⊎◌, ◌↔◌, ℕ, List}
-use Rattle.edge_file.specs.declared.open_fault.Sharing.TheVariants.{Exclusive, Shared}
+-- What was done over files, which were opened as the words want them.
+use Rattle.std.specs.Prelude.{◌≡◌, ◌↔◌, ℕ, List}
+use Rattle.edge_file.specs.declared.open_fault.Sharing.TheVariants.{Shared}
 use Rattle.notes.specs.declared.note.Note.{Note}
-use Rattle.notes.specs.declared.note.Note.TheVariants.{DiskFault, NoMemory}
 use Rattle.bridge_words.specs.declared.need.Need.TheVariants as need
 use Rattle.bridge_words.specs.Words.{IsMove, IsNeed}
 use Rattle.bridge_core.specs.declared.ended.Ended.{Ended}
 use Rattle.bridge_core.specs.Told.{Telling}
 use Rattle.cli_parts.specs.Opening.{AreList}
-use Rattle.bridge_cli.specs.declared.files.How.{How}
-use Rattle.bridge_cli.specs.declared.files.How.TheVariants.{Existing, Made, ToRead}
+use Rattle.cli_files.specs.declared.files.How.{How}
+use Rattle.cli_files.specs.declared.files.How.TheVariants.{Existing, Made, ToRead}
+use Rattle.cli_files.specs.Opened.{OverFiles}
 use Rattle.bridge_cli.specs.Watched.{KeepsWatched}
 
 -- The words want FILE so: one that is made of that length where it isn't there, or one that exists, which is shared where they list its
@@ -18,20 +18,6 @@ abbrev pub WantsFile : List (List ℕ) → How → Type 0
 WantsFile words (Made len) = IsNeed words (need.Make len)
 WantsFile words (Existing sharing) = IsNeed words need.Existing × ((sharing ≡ Shared) ↔ AreList words)
 WantsFile words ToRead = ⊥
-
--- No file was opened: the system refused it, or no memory was found for reading the words. All else is as it was.
-abbrev pub IsUnopened : Note → Type 0 → Type 0
-IsUnopened note same = (note ≡ DiskFault ⊎ note ≡ NoMemory) × same
-
--- It was done over the file that was opened so.
-abbrev pub OverFile : {D : Type 0} → (How → D → Type 0) → How → (D → D → Type 0) → Type 0
-OverFile {D} Opened how Done = (disk after : D) × Opened how disk × Done disk after
-
--- It was done over both files, each of which the program had alone.
-abbrev pub OverFiles : {D : Type 0} → (How → D → Type 0) → (How → D → Type 0) → (D × D → D × D → Type 0) → Type 0
-OverFiles {D} Opened Opened' Done =
-    (source target source_after target_after : D) × Opened (Existing Exclusive) source × Opened' (Existing Exclusive) target
-    × Done (source, target) (source_after, target_after)
 
 -- So it was over FILE and the target that the words of a move name.
 abbrev pub OverTarget : {D : Type 0} → (List ℕ → How → D → Type 0) → List ℕ → List (List ℕ) → (D × D → D × D → Type 0) → Type 0

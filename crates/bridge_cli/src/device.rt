@@ -1,42 +1,32 @@
 //! The top call, over the device that the words want.
 ghost use Rattle.std.specs.Prelude.{◌≡◌, ◌⊎◌, ℕ, List, map, string_bytes};
-ghost use Rattle.notes.specs.declared.note.Note.TheVariants.{Usage, NoMemory, DiskFault};
+ghost use Rattle.notes.specs.declared.note.Note.TheVariants.{Usage, NoMemory};
 ghost use Rattle.bridge_words.specs.declared.need.Need.TheVariants.{Existing, Make};
 ghost use Rattle.bridge_words.specs.Words.{IsNeed, IsNoCommand, IsNoMove, IsSomeMove};
 ghost use Rattle.bridge_core.specs.Failed.{TellsReadFault, TellsWriteFault, TellsDial};
 ghost use Rattle.bridge_core.specs.Leave.{ForWords, MayAnswer, MayReplay, MayTake, WasRead, MayRelease, WasWritten, exchanges_as, HasExchangedAt, MayTear, MayBind, MayTell, MayDial, MayPrint};
 ghost use Rattle.bridge_cli.specs.Noted.{IsNoteOf, faults_at};
-ghost use Rattle.bridge_cli.specs.declared.files.How.{How};
-ghost use Rattle.bridge_cli.specs.Opened.{IsUnopened, OverOpened, OverTarget, WantsFile};
+ghost use Rattle.cli_files.specs.declared.files.How.{How};
+ghost use Rattle.cli_files.specs.Opened.{IsUnopened};
+ghost use Rattle.cli_files.specs.Watched.{MovesWatched};
+ghost use Rattle.bridge_cli.specs.Opened.{OverOpened, OverTarget, WantsFile};
 ghost use Rattle.bridge_cli.specs.Texts.{ForTexts};
-ghost use Rattle.bridge_cli.specs.Watched.{MovesWatched};
-ghost use Rattle.bridge_core.specs.Told.{texts};
 ghost use Rattle.bridge_move.specs.MoveRun.{two_disks};
 ghost use Rattle.bridge_parts.specs.Run.{output_run};
 ghost use Rattle.bridge_move.specs.Leave.{ForMoves};
 ghost use Rattle.spool_answers.specs.Leave.{LetsKeep};
 ghost use Rattle.spool_move.specs.Leave.{MayMove};
 
-use crate::files::{Files, How};
 use crate::over::{run_bare, run_once, run_over};
-use crate::pair::run_move;
 use bridge_words::{Need, need_of};
-use cli_parts::{Opening, Waiting, print_no_spool, print_unopened};
+use cli_files::{Files, How, refuse, run_move};
+use cli_parts::{Opening, Waiting, print_no_spool};
 use edge_disk::Disk;
-use edge_file::OpenFault;
 use edge_io::{Door, Net, Sink, Source};
 use edge_net::Since;
 use notes::Note;
 use std::sync::Wait;
 use std::thread::Threads;
-
-/// Says why the file wasn't opened.
-pub(crate) fn refuse(rt: &HostRuntime, file: &str, fault: OpenFault) -> Note
-    ensures { result ≡ DiskFault }
-{
-    print_unopened(rt, file, fault);
-    Note::DiskFault
-}
 
 // Runs `format` over `file`, which is made where there is none and filled where it is empty.
 fn run_made<F: Files, S: Source, K: Sink, N: Net>(
@@ -205,7 +195,7 @@ where
         (input.old, output.old, net.old) (input.new, output.new, net.new) result }
     ensures moved { IsSomeMove (map string_bytes words.now) → IsUnopened result (output.new ≡ output.old)
         ⊎ OverTarget F.opened file.now (map string_bytes words.now) (λ old new.
-        MovesWatched (two_disks F.D.tells F.D.tells F.D.moment F.D.moment) (texts words.now) old new
+        MovesWatched (two_disks F.D.tells F.D.tells F.D.moment F.D.moment) (map string_bytes words.now) old new
         (output_run K.taken K.write_faults output.old output.new) result) }
 {
     match need_of(rt.alloc(), words) {

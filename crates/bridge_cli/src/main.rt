@@ -3,12 +3,8 @@
 #![tactic(auto)]
 
 mod device;
-mod files;
 mod over;
-mod pair;
 mod program;
-mod rescue;
-mod skip;
 
 use cli_parts::exit_code;
 use std::process::ExitCode;

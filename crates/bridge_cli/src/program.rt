@@ -1,8 +1,6 @@
 //! The program over its streams.
 use crate::device::run_words;
-use crate::files::SystemFiles;
-use crate::rescue::run_rescue;
-use crate::skip::run_skip;
+use cli_files::{SystemFiles, run_rescue, run_skip};
 use cli_parts::{
     Arguments, NoArguments, RunOptions, Taken, Untaken, confirm, hold_streams, keep_freed,
     print_beside_usage, print_beside_wrong_option, print_ending, print_line, print_note, rescue_of,

@@ -1,5 +1,5 @@
 use Rattle.std.proofs.Common.{inl, inr, refl}
-use Rattle.bridge_cli.specs.declared.files.How.TheVariants.{Existing}
+use Rattle.cli_files.specs.declared.files.How.TheVariants.{Existing}
 use Rattle.bridge_cli.proofs.Noting.{noted, no_memory, unopened}
 use Rattle.bridge_cli.proofs.device.run_existing.Goals as goal
 

@@ -1,6 +1,6 @@
 use Rattle.std.proofs.Common.{inl, inr, refl}
 use Rattle.bridge_core.proofs.OneCommand.{serves_existing}
-use Rattle.bridge_cli.specs.declared.files.How.TheVariants.{Made}
+use Rattle.cli_files.specs.declared.files.How.TheVariants.{Made}
 use Rattle.bridge_cli.proofs.Noting.{noted, unopened}
 use Rattle.bridge_cli.proofs.device.run_made.Goals as goal
 

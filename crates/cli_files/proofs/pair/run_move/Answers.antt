@@ -1,5 +1,5 @@
 use Rattle.std.proofs.Common.{inl, inr, refl}
-use Rattle.bridge_cli.proofs.pair.run_move.Goals as goal
+use Rattle.cli_files.proofs.pair.run_move.Goals as goal
 
 -- the words move entries
 pub returns-in-Ok-clause-known : goal.returns-in-Ok-clause-known

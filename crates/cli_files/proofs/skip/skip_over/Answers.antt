@@ -1,8 +1,8 @@
 use Rattle.std.proofs.Common.{sym, subst}
 use Rattle.bridge_parts.specs.Run.{disk_run, output_run}
 use Rattle.bridge_skip.specs.SkipRun.{IsSkipRun}
-use Rattle.bridge_cli.proofs.Skipping.{of_any_value}
-use Rattle.bridge_cli.proofs.skip.skip_over.Goals as goal
+use Rattle.cli_files.proofs.Skipping.{of_any_value}
+use Rattle.cli_files.proofs.skip.skip_over.Goals as goal
 
 -- what was printed of an entry of the disk that is watched is so of the disk
 pub bridge_skip-status-requires-clause-earned : goal.bridge_skip-status-requires-clause-earned

@@ -1,5 +1,5 @@
 use Rattle.std.proofs.Common.{inl, inr, refl}
-use Rattle.bridge_cli.proofs.skip.run_skip.Goals as goal
+use Rattle.cli_files.proofs.skip.run_skip.Goals as goal
 
 pub returns-in-Ok-clause-done : goal.returns-in-Ok-clause-done
 returns-in-Ok-clause-done g c = inr (c.in-Ok.disk, c.skip_over-note.result.disk, c.in-Ok.ensures, c.skip_over-note.ensures.run)

@@ -1,8 +1,8 @@
 //! Where FILE and TARGET are opened.
 ghost use Rattle.std.specs.Prelude.{IfOk, ℕ, List};
 ghost use Rattle.edge_file.specs.declared.open_fault.Sharing.TheVariants.{Exclusive};
-ghost use Rattle.bridge_cli.specs.declared.files.How.{How};
-ghost use Rattle.bridge_cli.specs.declared.files.How.TheVariants.{Existing};
+ghost use Rattle.cli_files.specs.declared.files.How.{How};
+ghost use Rattle.cli_files.specs.declared.files.How.TheVariants.{Existing};
 
 use cli_parts::make_disk;
 use edge_disk::Disk;

@@ -2,7 +2,7 @@ use Rattle.std.proofs.Common.{sym, subst}
 use Rattle.bridge_parts.specs.Run.{disk_run, output_run}
 use Rattle.bridge_rescue.specs.RescueRun.{IsRescueRun}
 use Rattle.bridge_rescue.proofs.Over.{of_any_value}
-use Rattle.bridge_cli.proofs.rescue.rescue_over.Goals as goal
+use Rattle.cli_files.proofs.rescue.rescue_over.Goals as goal
 
 -- what was done with the disk that is watched was done with the disk
 pub returns : goal.returns

@@ -1,5 +1,5 @@
 use Rattle.std.proofs.Common.{sym}
-use Rattle.bridge_cli.proofs.pair.move_over.Goals as goal
+use Rattle.cli_files.proofs.pair.move_over.Goals as goal
 
 -- what the target keeps that is watched is kept by the target
 pub bridge_move-status-requires-clause-earned : goal.bridge_move-status-requires-clause-earned

@@ -7,10 +7,10 @@ ghost use Rattle.bridge_parts.specs.Run.{disk_run, output_run};
 ghost use Rattle.bridge_skip.specs.Leave.{MaySkip, given_output};
 ghost use Rattle.bridge_skip.specs.SkipRun.{IsSkipNote, IsSkipRun};
 ghost use Rattle.edge_file.specs.declared.open_fault.Sharing.TheVariants.{Exclusive};
-ghost use Rattle.bridge_cli.specs.declared.files.How.TheVariants.{Existing};
-ghost use Rattle.bridge_cli.specs.Opened.{IsUnopened, OverFile};
+ghost use Rattle.cli_files.specs.declared.files.How.TheVariants.{Existing};
+ghost use Rattle.cli_files.specs.Opened.{IsUnopened, OverFile};
 
-use crate::device::refuse;
+use crate::refused::refuse;
 use crate::files::{Files, How};
 use bridge_skip::{Skipped, bridge_skip};
 use cli_parts::{Progress, Showing, Waiting, Watched, print_no_spool};
@@ -46,7 +46,7 @@ fn skip_over<D: Disk, K: Sink>(
 
 /// Skips the entry of this number in `file`, which this program has alone meanwhile. One that can't be opened is a fault of the disk, and
 /// standard error says why in a line of its own; one that is no spool is named there too.
-pub(crate) fn run_skip<F: Files, K: Sink>(
+pub fn run_skip<F: Files, K: Sink>(
     rt: &HostRuntime,
     files: &F,
     file: &str,

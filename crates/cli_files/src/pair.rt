@@ -9,11 +9,10 @@ ghost use Rattle.bridge_parts.specs.Run.{output_run};
 ghost use Rattle.bridge_move.specs.Ended.{IsMoveNote};
 ghost use Rattle.bridge_move.specs.Leave.{ForMoves};
 ghost use Rattle.bridge_move.specs.MoveRun.{two_disks};
-ghost use Rattle.bridge_core.specs.Told.{texts};
-ghost use Rattle.bridge_cli.specs.Opened.{IsUnopened, OverFiles};
-ghost use Rattle.bridge_cli.specs.Watched.{MovesWatched};
+ghost use Rattle.cli_files.specs.Opened.{IsUnopened, OverFiles};
+ghost use Rattle.cli_files.specs.Watched.{MovesWatched};
 
-use crate::device::refuse;
+use crate::refused::refuse;
 use crate::files::Files;
 use bridge_move::{Moved, bridge_move};
 use cli_parts::{Progress, Showing, Waiting, Watched, print_no_spool};
@@ -38,7 +37,7 @@ fn move_over<D: Disk, E: Disk, K: Sink>(
     requires tears_target { LetsKeep E.tells E.moment E.may_tear E.may_release }
     requires prints { (k : K) (text : List ℕ) → K.permits k text }
 
-    ensures run { MovesWatched (two_disks D.tells E.tells D.moment E.moment) (texts words.now) (source, target)
+    ensures run { MovesWatched (two_disks D.tells E.tells D.moment E.moment) (map string_bytes words.now) (source, target)
         (result.source, result.target) (output_run K.taken K.write_faults output.old output.new) result.note }
 {
     let source = Watched::new(source, Progress::new(rt, is_shown), "FILE", Waiting::Nobody);
@@ -77,7 +76,7 @@ fn refuse_pair(rt: &HostRuntime, file: &str, target: &str, fault: PairFault) -> 
 
 /// Does what the words of a move ask for, over the two files, each of which this program has alone meanwhile. One that can't be opened is
 /// a fault of the disk, and so is one file as both; standard error says which, in a line of its own, and which of them is no spool.
-pub(crate) fn run_move<F: Files, K: Sink>(
+pub fn run_move<F: Files, K: Sink>(
     rt: &HostRuntime,
     files: &F,
     file: &str,
@@ -93,7 +92,7 @@ pub(crate) fn run_move<F: Files, K: Sink>(
     ensures known { IsMoveNote result }
     ensures writes { CountsFaults (result ≡ WriteFault) (K.write_faults output.old) (K.write_faults output.new) }
     ensures done { IsUnopened result (output.new ≡ output.old) ⊎ OverFiles (F.opened file.now) (F.opened target_path.now) (λ old new.
-        MovesWatched (two_disks F.D.tells F.D.tells F.D.moment F.D.moment) (texts words.now) old new
+        MovesWatched (two_disks F.D.tells F.D.tells F.D.moment F.D.moment) (map string_bytes words.now) old new
         (output_run K.taken K.write_faults output.old output.new) result) }
 {
     match files.open_both(file, target_path) {

@@ -5,10 +5,10 @@ ghost use Rattle.notes.specs.declared.note.Note.TheVariants.{WriteFault};
 ghost use Rattle.bridge_parts.specs.Run.{disk_run, output_run};
 ghost use Rattle.bridge_rescue.specs.RescueRun.{IsRescueNote, IsRescueRun};
 ghost use Rattle.bridge_rescue.specs.declared.rescued.Report.{Report};
-ghost use Rattle.bridge_cli.specs.declared.files.How.TheVariants.{ToRead};
-ghost use Rattle.bridge_cli.specs.Opened.{IsUnopened, OverFile};
+ghost use Rattle.cli_files.specs.declared.files.How.TheVariants.{ToRead};
+ghost use Rattle.cli_files.specs.Opened.{IsUnopened, OverFile};
 
-use crate::device::refuse;
+use crate::refused::refuse;
 use crate::files::{Files, How};
 use bridge_rescue::{Layout, Rescued, bridge_rescue};
 use cli_parts::{Progress, Showing, Waiting, Watched, print_note, print_rescue};
@@ -47,7 +47,7 @@ fn rescue_over<D: Disk, K: Sink>(
 
 /// Rescues the entries of `file`, which is opened to be read alone, beside others that read it. One that can't be opened is a fault of the
 /// disk, and standard error says why in a line of its own; else it says which slots are at fault.
-pub(crate) fn run_rescue<F: Files, K: Sink>(
+pub fn run_rescue<F: Files, K: Sink>(
     rt: &HostRuntime,
     files: &F,
     file: &str,

@@ -1,5 +1,5 @@
 use Rattle.std.proofs.Common.{inl, inr, refl}
-use Rattle.bridge_cli.proofs.rescue.run_rescue.Goals as goal
+use Rattle.cli_files.proofs.rescue.run_rescue.Goals as goal
 
 pub returns-in-Ok-clause-done : goal.returns-in-Ok-clause-done
 returns-in-Ok-clause-done g c =
