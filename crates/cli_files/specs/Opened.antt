@@ -1,5 +1,5 @@
 -- What was done over files, which were opened for it.
-use Rattle.std.specs.Prelude.{◌≡◌, ◌⊎◌, ℕ}
+use Rattle.std.specs.Prelude.{◌≡◌, ◌⊎◌}
 use Rattle.edge_file.specs.declared.open_fault.Sharing.TheVariants.{Exclusive}
 use Rattle.notes.specs.declared.note.Note.{Note}
 use Rattle.notes.specs.declared.note.Note.TheVariants.{DiskFault, NoMemory}

@@ -13,5 +13,5 @@ returns-in-Ok-clause-done g c =
     let done = c.move_over in
     inr (c.in-Ok.source, c.in-Ok.target, done.result.source, done.result.target, c.in-Ok.ensures.0, c.in-Ok.ensures.1, done.ensures.run)
 
-pub returns-clause-done : goal.returns-clause-done
-returns-clause-done g c = inl (inl c.refuse_pair.ensures, refl)
+pub returns-in-Err-clause-done : goal.returns-in-Err-clause-done
+returns-in-Err-clause-done g c = inl (inl c.refuse_pair.ensures, refl)

@@ -6,5 +6,5 @@ returns-in-Ok-clause-done g c =
     let done = c.rescue_over-rescued in
     inr (c.in-Ok.disk, done.result.disk, c.in-Ok.ensures, (done.result.report, done.ensures.run))
 
-pub returns-clause-done : goal.returns-clause-done
-returns-clause-done g c = inl (inl c.refuse-note.ensures, refl)
+pub returns-in-Err-clause-done : goal.returns-in-Err-clause-done
+returns-in-Err-clause-done g c = inl (inl c.refuse-note.ensures, refl)
