@@ -51,10 +51,10 @@ returns-in-Ok-Existing-clause-moved g c = λ some. absurd (moves_none _ _ (λ ta
 -- no device is wanted
 
 pub run_bare-requires-clause-need : goal.run_bare-requires-clause-need
-run_bare-requires-clause-need g c κs within = (c.in-Ok-NoCommand.field-0, c.in-Ok-NoCommand.ensures, λ is. cc)
+run_bare-requires-clause-need g c = (c.in-Ok-NoCommand.field-0, c.in-Ok-NoCommand.ensures, λ is. cc)
 
 pub run_bare-requires-in-Ok-Nothing-clause-need : goal.run_bare-requires-in-Ok-Nothing-clause-need
-run_bare-requires-in-Ok-Nothing-clause-need g c κs within = (c.in-Ok-Nothing.field-0, c.in-Ok-Nothing.ensures, λ is. cc)
+run_bare-requires-in-Ok-Nothing-clause-need g c = (c.in-Ok-Nothing.field-0, c.in-Ok-Nothing.ensures, λ is. cc)
 
 -- the words are no command
 
