@@ -1,2 +1,4 @@
+pub mod Noted
+pub mod Opened
 pub mod Texts
 pub mod Watched

@@ -1,86 +1,98 @@
 //! The top call, over the device that the words want.
-ghost use Rattle.std.specs.Prelude.{◌≡◌, ◌≢◌, ◌⊎◌, ℕ, List, map, string_bytes};
-ghost use Rattle.notes.specs.declared.note.Note.TheVariants.{Usage, NoMemory, DiskFault};
-ghost use Rattle.bridge_words.specs.declared.need.Need.{Need};
-ghost use Rattle.bridge_words.specs.declared.need.Need.TheVariants.{Existing};
-ghost use Rattle.bridge_words.specs.Words.{IsNeed, IsNoCommand, IsNoMove};
+ghost use Rattle.std.specs.Prelude.{◌≡◌, ◌⊎◌, ℕ, List, map, string_bytes};
+ghost use Rattle.notes.specs.declared.note.Note.TheVariants.{Usage, NoMemory};
+ghost use Rattle.bridge_words.specs.declared.need.Need.TheVariants.{Existing, Make};
+ghost use Rattle.bridge_words.specs.Words.{IsNeed, IsNoCommand, IsNoMove, IsSomeMove};
 ghost use Rattle.bridge_core.specs.Failed.{TellsReadFault, TellsWriteFault, TellsDial};
-ghost use Rattle.bridge_core.specs.Leave.{ForWords, MayAnswer, MayReplay, MayTake, WasRead, MayReleaseOn, WasWritten, exchanges_as, HasExchangedAt, MayTear, MayBind, MayTell, MayDial, MayPrint};
+ghost use Rattle.bridge_core.specs.Leave.{ForWords, MayAnswer, MayReplay, MayTake, WasRead, MayRelease, WasWritten, exchanges_as, HasExchangedAt, MayTear, MayBind, MayTell, MayDial, MayPrint};
+ghost use Rattle.bridge_cli.specs.Noted.{IsNoteOf, faults_at};
+ghost use Rattle.cli_files.specs.declared.files.How.{How};
+ghost use Rattle.cli_files.specs.Opened.{IsUnopened};
+ghost use Rattle.cli_files.specs.Watched.{MovesWatched};
+ghost use Rattle.bridge_cli.specs.Opened.{OverOpened, OverTarget, WantsFile};
 ghost use Rattle.bridge_cli.specs.Texts.{ForTexts};
-ghost use Rattle.bridge_cli.specs.Watched.{KeepsWatched};
+ghost use Rattle.bridge_move.specs.MoveRun.{two_disks};
+ghost use Rattle.bridge_parts.specs.Run.{output_run};
 ghost use Rattle.bridge_move.specs.Leave.{ForMoves};
-ghost use Rattle.edge_file.specs.declared.file.FileDisk.{FileDisk};
+ghost use Rattle.spool_answers.specs.Leave.{LetsKeep};
+ghost use Rattle.spool_move.specs.Leave.{MayMove};
 
-use crate::pair::run_move;
-use bridge_core::{Ended, bridge};
+use crate::over::{run_bare, run_once, run_over};
 use bridge_words::{Need, need_of};
-use cli_parts::{
-    Opening, Progress, Told, Waiting, Watched, make_disk, print_no_spool, print_unopened,
-};
+use cli_files::{Files, How, refuse, run_move};
+use cli_parts::{Opening, Waiting, print_no_spool};
 use edge_disk::Disk;
-use edge_file::{FileDisk, OpenFault};
 use edge_io::{Door, Net, Sink, Source};
-use edge_memory::MemDisk;
+use edge_net::Since;
 use notes::Note;
-use std::alloc::Global;
 use std::sync::Wait;
 use std::thread::Threads;
 
-// Runs the words over the disk, which is watched meanwhile, and for which somebody may wait; how it is goes where `told` says. Its
-// reading may be shown. What was done is what `bridge` does, and nothing else: of the disk, of the streams and of the net.
-fn run_over<D: Disk + Drop + Send, S: Source, K: Sink, N: Net + Send, R: Threads + Wait + Sync>(
+// Runs `format` over `file`, which is made where there is none and filled where it is empty.
+fn run_made<F: Files, S: Source, K: Sink, N: Net>(
     rt: &HostRuntime,
-    threads: &R,
+    files: &F,
+    file: &str,
+    len: u64,
     words: &[String],
-    disk: D,
-    is_shown: bool,
-    waiting: Waiting,
-    told: Told<'_>,
+    failing: &Since,
     input: &mut S,
     output: &mut K,
     net: &mut N,
-) -> Ended<D, N::P>
+) -> Note
 where
-    N::P: Drop + Send,
-    <N::P as Door>::L: Send,
-    N::L: Send,
-    N::M: Drop + Send,
-    requires answers { ForWords (map string_bytes words.now) (MayAnswer D.tells D.moment disk N.permits) }
-    requires binds { ForWords (map string_bytes words.now) (MayBind N.may_bind) }
-    requires tells { ForWords (map string_bytes words.now) (MayTell N.M.may_tell) }
+    N::P: Drop,
+    requires need { IsNeed (map string_bytes words.now) (Make len) }
     requires dials { ForWords (map string_bytes words.now) (MayDial N.may_dial) }
-    requires replays { ForWords (map string_bytes words.now)
-        (MayReplay D.tells D.moment disk (WasRead S.same S.given input.old) (MayTake K.same K.taken K.permits output.old)) }
-    requires releases { ForTexts words.now (MayReleaseOn D.Disk disk (exchanges_as
+    requires replays { (disk : F.D) → ForTexts words.now
+        (MayReplay F.D.tells F.D.moment disk (WasRead S.same S.given input.old)
+        (MayTake K.same K.taken K.permits output.old)) }
+    requires releases { (disk : F.D) → ForTexts words.now (MayRelease F.D.tells F.D.moment disk (exchanges_as
         (WasRead S.same S.given input.old) (WasWritten K.same K.taken output.old)
-        (HasExchangedAt N.L.same N.L.dialed N.L.given N.L.taken))) }
-    requires tears { ForWords (map string_bytes words.now) (MayTear D.tells D.moment D.may_tear D.may_release) }
+        (HasExchangedAt N.L.same N.L.dialed N.L.given N.L.taken)) F.D.may_release) }
+    requires tears { ForWords (map string_bytes words.now) (MayTear F.D.tells F.D.moment F.D.may_tear F.D.may_release) }
     requires prints { ForWords (map string_bytes words.now) (MayPrint ((sink : K) (text : List ℕ) → K.permits sink text)) }
 
-    ensures run { KeepsWatched (D.Disk, S.Source.own, K.Sink.own, N.told, N.P.told) (map string_bytes words.now)
-        (disk, input.old, output.old, net.old) (input.new, output.new, net.new) result }
+    ensures noted { IsNoteOf (map string_bytes words.now) result
+        (faults_at (S.read_faults input.old) (K.write_faults output.old) (N.told net.old))
+        (faults_at (S.read_faults input.new) (K.write_faults output.new) (N.told net.new)) }
+    ensures done { IsUnopened result (input.new ≡ input.old × output.new ≡ output.old × net.new ≡ net.old)
+        ⊎ OverOpened (F.D.Disk, S.Source.own, K.Sink.own, N.told, N.P.told) (F.opened file.now) (map string_bytes words.now)
+        (input.old, output.old, net.old) (input.new, output.new, net.new) result }
 {
-    let progress = Progress::new(rt, is_shown);
-    let disk = Watched::new(disk, progress, "FILE", waiting).noting(told);
-    let Ended {
-        status,
-        note,
-        disk,
-        doors,
-    } = bridge(threads, rt.alloc(), words, disk, input, output, net);
-    Ended {
-        status,
-        note,
-        disk: disk.into_disk(),
-        doors,
+    match files.open(file, How::Made(len)) {
+        Ok(disk) => {
+            run_once(
+                rt,
+                words,
+                disk,
+                false,
+                Waiting::Nobody,
+                failing,
+                input,
+                output,
+                net,
+            )
+            .note
+        }
+        Err(fault) => refuse(rt, file, fault),
     }
 }
 
-// Runs words that want no device, over one in memory without a byte.
-fn run_bare<S: Source, K: Sink, N: Net + Send, R: Threads + Wait + Sync>(
+// Runs the words over `file`, which exists and is shared as they want it. Only those of `serve` take threads, and may wait.
+fn run_existing<
+    F: Files,
+    S: Source,
+    K: Sink,
+    N: Net + Send,
+    R: Threads + Wait + Sync,
+>(
+    rt: &HostRuntime,
     threads: &R,
-    alloc: Global,
+    files: &F,
+    file: &str,
     words: &[String],
+    failing: &Since,
     input: &mut S,
     output: &mut K,
     net: &mut N,
@@ -90,45 +102,59 @@ where
     <N::P as Door>::L: Send,
     N::L: Send,
     N::M: Drop + Send,
-    requires need { (need : Need) × IsNeed (map string_bytes words.now) need × (need ≢ Existing) }
+    requires need { IsNeed (map string_bytes words.now) Existing }
+    requires answers { (disk : F.D) → ForWords (map string_bytes words.now)
+        (MayAnswer F.D.tells F.D.moment disk N.permits) }
     requires binds { ForWords (map string_bytes words.now) (MayBind N.may_bind) }
-    requires tells { ForWords (map string_bytes words.now) (MayTell N.M.may_tell) }
+    requires tells { (disk : F.D) → ForWords (map string_bytes words.now)
+        (MayTell F.D.tells F.D.moment disk N.M.may_tell) }
     requires dials { ForWords (map string_bytes words.now) (MayDial N.may_dial) }
+    requires replays { (disk : F.D) → ForTexts words.now
+        (MayReplay F.D.tells F.D.moment disk (WasRead S.same S.given input.old)
+        (MayTake K.same K.taken K.permits output.old)) }
+    requires releases { (disk : F.D) → ForTexts words.now (MayRelease F.D.tells F.D.moment disk (exchanges_as
+        (WasRead S.same S.given input.old) (WasWritten K.same K.taken output.old)
+        (HasExchangedAt N.L.same N.L.dialed N.L.given N.L.taken)) F.D.may_release) }
+    requires tears { ForWords (map string_bytes words.now) (MayTear F.D.tells F.D.moment F.D.may_tear F.D.may_release) }
     requires prints { ForWords (map string_bytes words.now) (MayPrint ((sink : K) (text : List ℕ) → K.permits sink text)) }
 
-    ensures usage { result ≡ Usage → IsNoCommand (map string_bytes words.now) }
-    ensures no_command { IsNoCommand (map string_bytes words.now) → result ≡ Usage ⊎ result ≡ NoMemory }
-    ensures reads { TellsReadFault (map string_bytes words.now) result (S.read_faults input.old) (S.read_faults input.new)
-        (N.told net.old) (N.told net.new) }
-    ensures writes { TellsWriteFault (map string_bytes words.now) result (K.write_faults output.old) (K.write_faults output.new)
-        (N.told net.old) (N.told net.new) }
-    ensures dials { TellsDial (map string_bytes words.now) result (N.told net.old) (N.told net.new) }
+    ensures noted { IsNoteOf (map string_bytes words.now) result
+        (faults_at (S.read_faults input.old) (K.write_faults output.old) (N.told net.old))
+        (faults_at (S.read_faults input.new) (K.write_faults output.new) (N.told net.new)) }
+    ensures done { IsUnopened result (input.new ≡ input.old × output.new ≡ output.old × net.new ≡ net.old)
+        ⊎ OverOpened (F.D.Disk, S.Source.own, K.Sink.own, N.told, N.P.told) (F.opened file.now) (map string_bytes words.now)
+        (input.old, output.old, net.old) (input.new, output.new, net.new) result }
 {
-    match MemDisk::plain(alloc, 0) {
-        Ok(disk) => bridge(threads, alloc, words, disk, input, output, net).note,
-        Err(_) => Note::NoMemory,
+    let Ok(opening) = Opening::of(rt.alloc(), words) else {
+        return Note::NoMemory;
+    };
+    match files.open(file, How::Existing(opening.sharing)) {
+        Ok(disk) => {
+            let note = run_over(
+                rt, threads, words, disk, opening, failing, input, output, net,
+            )
+            .note;
+            print_no_spool(rt, file, note);
+            note
+        }
+        Err(fault) => refuse(rt, file, fault),
     }
-}
-
-/// Says why the file wasn't opened.
-pub(crate) fn refuse(rt: &HostRuntime, file: &str, fault: OpenFault) -> Note
-    ensures { result ≡ DiskFault }
-{
-    print_unopened(rt, file, fault);
-    Note::DiskFault
 }
 
 /// Does what the words ask for, in threads of `threads` where that takes some, over the device that they want: `file`, opened
 /// or made, or one in memory without a byte where they want none; or a move over `file` and the other that they name. A `file` that can't be
-/// opened is a fault of the disk, and standard error says why in a line of its own; one that is no spool is named there too. How
-/// `file` is goes where `told` says. `list` shares `file` with others that list it; every
+/// opened is a fault of the disk, and standard error says why in a line of its own; one that is no spool is named there too. Since when
+/// calls of `file` fail is noted in `failing`. `list` shares `file` with others that list it; every
 /// other command has it alone while it runs.
-pub fn run_words<S: Source, K: Sink, N: Net + Send, R: Threads + Wait + Sync>(
+///
+/// What was done is what `bridge` does over that disk, opened so: `done`; or what `bridge_move` does over both: `moved`.
+pub fn run_words<F: Files, S: Source, K: Sink, N: Net + Send, R: Threads + Wait + Sync>(
     rt: &HostRuntime,
     threads: &R,
+    files: &F,
     file: &str,
     words: &[String],
-    told: Told<'_>,
+    failing: &Since,
     input: &mut S,
     output: &mut K,
     net: &mut N,
@@ -138,15 +164,22 @@ where
     <N::P as Door>::L: Send,
     N::L: Send,
     N::M: Drop + Send,
-    requires answers { (disk : FileDisk) → ForWords (map string_bytes words.now)
-        (MayAnswer ⟦<FileDisk as Disk>⟧.tells ⟦<FileDisk as Disk>⟧.moment disk N.permits) }
+    requires answers { (disk : F.D) → ForWords (map string_bytes words.now)
+        (MayAnswer F.D.tells F.D.moment disk N.permits) }
     requires binds { ForWords (map string_bytes words.now) (MayBind N.may_bind) }
-    requires tells { ForWords (map string_bytes words.now) (MayTell N.M.may_tell) }
+    requires tells { (disk : F.D) → ForWords (map string_bytes words.now)
+        (MayTell F.D.tells F.D.moment disk N.M.may_tell) }
     requires dials { ForWords (map string_bytes words.now) (MayDial N.may_dial) }
-    requires replays { (disk : FileDisk) → ForTexts words.now
-        (MayReplay ⟦<FileDisk as Disk>⟧.tells ⟦<FileDisk as Disk>⟧.moment disk (WasRead S.same S.given input.old)
+    requires replays { (disk : F.D) → ForTexts words.now
+        (MayReplay F.D.tells F.D.moment disk (WasRead S.same S.given input.old)
         (MayTake K.same K.taken K.permits output.old)) }
+    requires releases { (disk : F.D) → ForTexts words.now (MayRelease F.D.tells F.D.moment disk (exchanges_as
+        (WasRead S.same S.given input.old) (WasWritten K.same K.taken output.old)
+        (HasExchangedAt N.L.same N.L.dialed N.L.given N.L.taken)) F.D.may_release) }
+    requires tears { ForWords (map string_bytes words.now) (MayTear F.D.tells F.D.moment F.D.may_tear F.D.may_release) }
     requires prints { ForWords (map string_bytes words.now) (MayPrint ((sink : K) (text : List ℕ) → K.permits sink text)) }
+    requires moves { ForMoves (map string_bytes words.now) (λ tag. MayMove F.D.tells F.D.moment F.D.tells F.D.moment tag F.D.may_release) }
+    requires keeps { LetsKeep F.D.tells F.D.moment F.D.may_tear F.D.may_release }
     requires prints_move { ForMoves (map string_bytes words.now) (λ _. (sink : K) (text : List ℕ) → K.permits sink text) }
 
     ensures usage { result ≡ Usage → IsNoCommand (map string_bytes words.now) × IsNoMove (map string_bytes words.now) }
@@ -156,40 +189,27 @@ where
     ensures writes { TellsWriteFault (map string_bytes words.now) result (K.write_faults output.old) (K.write_faults output.new)
         (N.told net.old) (N.told net.new) }
     ensures dials { TellsDial (map string_bytes words.now) result (N.told net.old) (N.told net.new) }
+    ensures done { (how : How) → WantsFile (map string_bytes words.now) how
+        → IsUnopened result (input.new ≡ input.old × output.new ≡ output.old × net.new ≡ net.old)
+        ⊎ OverOpened (F.D.Disk, S.Source.own, K.Sink.own, N.told, N.P.told) (F.opened file.now) (map string_bytes words.now)
+        (input.old, output.old, net.old) (input.new, output.new, net.new) result }
+    ensures moved { IsSomeMove (map string_bytes words.now) → IsUnopened result (output.new ≡ output.old)
+        ⊎ OverTarget F.opened file.now (map string_bytes words.now) (λ old new.
+        MovesWatched (two_disks F.D.tells F.D.tells F.D.moment F.D.moment) (map string_bytes words.now) old new
+        (output_run K.taken K.write_faults output.old output.new) result) }
 {
-    let alloc = rt.alloc();
-    match need_of(alloc, words) {
-        Ok(Need::Make { len }) => match make_disk(rt, file, len) {
-            Ok(disk) => {
-                let waiting = Waiting::Nobody;
-                run_over(
-                    rt, threads, words, disk, false, waiting, told, input, output, net,
-                )
-                .note
-            }
-            Err(fault) => refuse(rt, file, fault),
-        },
+    match need_of(rt.alloc(), words) {
+        Ok(Need::Make { len }) => run_made(
+            rt, files, file, len, words, failing, input, output, net,
+        ),
         Ok(Need::Existing) => {
-            let Ok(opening) = Opening::of(alloc, words) else {
-                return Note::NoMemory;
-            };
-            match FileDisk::open_locked(rt, file, opening.sharing) {
-                Ok(disk) => {
-                    let is_shown = opening.showing.is_seen(rt);
-                    let waiting = opening.waiting;
-                    let note = run_over(
-                        rt, threads, words, disk, is_shown, waiting, told, input, output, net,
-                    )
-                    .note;
-                    print_no_spool(rt, file, note);
-                    note
-                }
-                Err(fault) => refuse(rt, file, fault),
-            }
+            run_existing(
+                rt, threads, files, file, words, failing, input, output, net,
+            )
         }
-        Ok(Need::Pair { target, .. }) => run_move(rt, file, target.as_str(), words, output),
-        Ok(Need::NoCommand) => run_bare(threads, alloc, words, input, output, net),
-        Ok(Need::Nothing) => run_bare(threads, alloc, words, input, output, net),
+        Ok(Need::Pair { target, .. }) => run_move(rt, files, file, target.as_str(), words, output),
+        Ok(Need::NoCommand) => run_bare(rt.alloc(), words, input, output, net),
+        Ok(Need::Nothing) => run_bare(rt.alloc(), words, input, output, net),
         Err(_) => Note::NoMemory,
     }
 }

@@ -3,10 +3,8 @@
 #![tactic(auto)]
 
 mod device;
-mod pair;
+mod over;
 mod program;
-mod rescue;
-mod skip;
 
 use cli_parts::exit_code;
 use std::process::ExitCode;

@@ -2,6 +2,7 @@
 use Rattle.std.proofs.Common.{◌≡◌, inl, inr, ℕ, List, ◌∙◌, ap}
 use Rattle.std.specs.Prelude.{Some, None}
 use Rattle.edge_disk.specs.Disk.{Moment}
+use Rattle.edge_io.specs.declared.monitor.SpoolNumbers.{SpoolNumbers}
 use Rattle.bridge_words.specs.declared.command.Command.{Command}
 use Rattle.bridge_words.specs.declared.command.Command.TheVariants.{Format, List as ListCommand, Replay, Drain, Load, Serve}
 use Rattle.bridge_words.specs.declared.need.Need.{Need}
@@ -9,7 +10,7 @@ use Rattle.bridge_words.specs.declared.need.Need.TheVariants.{Existing}
 use Rattle.bridge_words.specs.Words.{IsNeed, need_for}
 use Rattle.bridge_words.proofs.Once.{one_command, move_is_no_command}
 use Rattle.bridge_serve.proofs.Releasing.{any_some, if_some}
-use Rattle.bridge_core.specs.Leave.{Exchanges, ForWords, MayAnswer, MayRelease, MayReplay, MayTear}
+use Rattle.bridge_core.specs.Leave.{Exchanges, ForWords, MayAnswer, MayRelease, MayReplay, MayTear, MayTell}
 
 -- what is durable on a disk within another is so on that
 pub answers_within : {D W : Type 0} (tells : Type 0) (moment : D → Moment) (within : W → D) (given : W) (Permits : List ℕ → ℕ → ℕ → List ℕ → List ℕ → Type 0)
@@ -43,6 +44,16 @@ releases_within tells moment within given exchanges Release (Drain receiver (Som
 releases_within tells moment within given exchanges Release (Load proto number count) may = tt
 releases_within tells moment within given exchanges Release (Serve server) may =
     if_some server.forward _ _ (λ relay may disk n received. may (within disk) n received) may
+
+-- those who ask may be told the numbers of the spool on it
+pub tells_within : {D W : Type 0} (tells : Type 0) (moment : D → Moment) (within : W → D) (given : W) (May : SpoolNumbers → Type 0) (command : Command)
+    → MayTell tells moment (within given) May command → MayTell tells (λ (w : W). moment (within w)) given May command
+tells_within tells moment within given May (Format slots size) may = tt
+tells_within tells moment within given May (ListCommand form) may = tt
+tells_within tells moment within given May (Replay proto token ack_token) may = tt
+tells_within tells moment within given May (Drain receiver place) may = tt
+tells_within tells moment within given May (Load proto number count) may = tt
+tells_within tells moment within given May (Serve server) may = λ disk numbers are. may (within disk) numbers are
 
 -- what may be written to a disk may be so to one round it
 pub tears_within : {D W : Type 0} (tells : Type 0) (moment : D → Moment) (within : W → D) (Tear : D → ℕ → ℕ → Type 0) (Release : ℕ → Type 0) (command : Command)

@@ -53,3 +53,8 @@ Does (Drain receiver (Some place)) run note =
 Does (Load proto number count) run note =
     LoadIsTold proto number count run.output note × IsUnused run.disk × IsUngiven run.input × IsOffline run.net × (run.doors ≡ [])
 Does (Serve server) run note = IsServed server run.disk run.output run.net run.doors note × IsUngiven run.input × ServeTells run note
+
+-- the command is another one than `serve`
+abbrev pub IsOther : Command → Type 0
+IsOther (Serve server) = ⊥
+IsOther command = Unit {0}

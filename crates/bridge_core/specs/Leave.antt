@@ -17,6 +17,7 @@ use Rattle.commands.specs.Released as drain
 use Rattle.commands.specs.Replayed.{replay_rules}
 pub use Rattle.commands.specs.Released.{WasWritten, WereStreamed}
 use Rattle.bridge_serve.specs.Answered as server
+use Rattle.bridge_serve.specs.Numbers as numbers
 use Rattle.bridge_serve.specs.Released as forwarder
 
 -- What was exchanged with peers: which bytes were read from the input, which text was written to the output, and which of both over a link
@@ -78,10 +79,11 @@ abbrev pub MayBind : (List ℕ → Type 0) → Command → Type 0
 MayBind May (Serve words) = server.MayBind words May
 MayBind May command = Unit {0}
 
--- `serve` may tell any numbers of the spool to those who ask for them. Nobody asks another command.
-abbrev pub MayTell : (SpoolNumbers → Type 0) → Command → Type 0
-MayTell May (Serve words) = (numbers : SpoolNumbers) → May numbers
-MayTell May command = Unit {0}
+-- `serve` may tell those who ask for numbers those of the spool, after a journal that led to then. `given` is the disk as it was before.
+-- Nobody asks another command.
+abbrev pub MayTell : {D : Type 0} → Type 0 → (D → Moment) → D → (SpoolNumbers → Type 0) → Command → Type 0
+MayTell tells moment given May (Serve words) = numbers.MayTell tells moment given May
+MayTell tells moment given May command = Unit {0}
 
 -- `drain` and `serve` may dial the place that their words name, and no other command any.
 abbrev pub MayDial : (List ℕ → Type 0) → Command → Type 0

@@ -1,8 +1,8 @@
-//! One function does each command.
+//! One function does each command: `serve`, which waits for senders, or another one, which ends.
 ghost use Rattle.std.specs.Prelude.{◌≡◌, ℕ, List};
 ghost use Rattle.notes.specs.Notes.{status_of};
 ghost use Rattle.bridge_core.specs.Asked.{IsAsked};
-ghost use Rattle.bridge_core.specs.Done.{Does};
+ghost use Rattle.bridge_core.specs.Done.{Does, IsOther};
 ghost use Rattle.bridge_core.specs.Leave.{MayAnswer, MayReplay, MayTake, WasRead, MayReleaseOn, WasWritten, exchanges_as, HasExchangedAt, MayTear, MayBind, MayTell, MayDial, MayPrint};
 ghost use Rattle.bridge_core.specs.Told.{ran};
 
@@ -19,16 +19,9 @@ use std::alloc::Global;
 use std::sync::Wait;
 use std::thread::Threads;
 
-/// Does the command, which words ask for, with the leave that it has. What a command doesn't need is left alone: `serve` alone binds
-/// doors, and answers those who ask for numbers.
-pub(crate) fn do_command<
-    D: Disk + Drop + Send,
-    S: Source,
-    K: Sink,
-    N: Net + Send,
-    R: Threads + Wait + Sync,
->(
-    rt: &R,
+/// Does a command other than `serve`, which words ask for, with the leave that it has. It waits for nobody, and ends. What a command
+/// doesn't need is left alone.
+pub(crate) fn do_other<D: Disk, S: Source, K: Sink, N: Net>(
     alloc: Global,
     command: Command,
     disk: D,
@@ -36,15 +29,8 @@ pub(crate) fn do_command<
     output: &mut K,
     net: &mut N,
 ) -> Ended<D, N::P>
-where
-    N::P: Drop + Send,
-    <N::P as Door>::L: Send,
-    N::L: Send,
-    N::M: Drop + Send,
+    requires other { IsOther command }
     requires asked { IsAsked command }
-    requires answers { MayAnswer D.tells D.moment disk N.permits command }
-    requires binds { MayBind N.may_bind command }
-    requires tells { MayTell N.M.may_tell command }
     requires dials { MayDial N.may_dial command }
     requires replays { MayReplay D.tells D.moment disk (WasRead S.same S.given input.old) (MayTake K.same K.taken K.permits output.old)
         command }
@@ -114,6 +100,49 @@ where
             let note = load(alloc, proto, number, count, output);
             Ended::of(alloc, note, disk)
         }
+        Command::Serve { .. } => unreachable!(),
+    }
+}
+
+/// Does the command, which words ask for, with the leave that it has. What a command doesn't need is left alone: `serve` alone binds
+/// doors, and answers those who ask for numbers.
+pub(crate) fn do_command<
+    D: Disk + Drop + Send,
+    S: Source,
+    K: Sink,
+    N: Net + Send,
+    R: Threads + Wait + Sync,
+>(
+    rt: &R,
+    alloc: Global,
+    command: Command,
+    disk: D,
+    input: &mut S,
+    output: &mut K,
+    net: &mut N,
+) -> Ended<D, N::P>
+where
+    N::P: Drop + Send,
+    <N::P as Door>::L: Send,
+    N::L: Send,
+    N::M: Drop + Send,
+    requires asked { IsAsked command }
+    requires answers { MayAnswer D.tells D.moment disk N.permits command }
+    requires binds { MayBind N.may_bind command }
+    requires tells { MayTell D.tells D.moment disk N.M.may_tell command }
+    requires dials { MayDial N.may_dial command }
+    requires replays { MayReplay D.tells D.moment disk (WasRead S.same S.given input.old) (MayTake K.same K.taken K.permits output.old)
+        command }
+    requires releases { MayReleaseOn D.Disk disk (exchanges_as (WasRead S.same S.given input.old) (WasWritten K.same K.taken output.old)
+        (HasExchangedAt N.L.same N.L.dialed N.L.given N.L.taken)) command }
+    requires tears { MayTear D.tells D.moment D.may_tear D.may_release command }
+    requires prints { MayPrint ((sink : K) (text : List ℕ) → K.permits sink text) command }
+
+    ensures status { result.status ≡ status_of result.note }
+    ensures done { Does command (ran (D.Disk, S.Source.own, K.Sink.own, N.told, N.P.told)
+        (disk, input.old, output.old, net.old) (input.new, output.new, net.new) result) result.note }
+{
+    match command {
         Command::Serve { server } => {
             let Over { note, disk, doors } = serve(rt, alloc, server, disk, output, net);
             Ended {
@@ -123,5 +152,6 @@ where
                 doors,
             }
         }
+        command => do_other(alloc, command, disk, input, output, net),
     }
 }

@@ -51,6 +51,12 @@ use std::thread::Threads;
 /// So it is with what becomes known as confirmed: `releases` is leave for that, of the disk's type. A number may become known once the
 /// peer to whom the words forward has received its entry, that is has acknowledged it, and no other number may.
 ///
+/// And so it is with the numbers that those are told who ask at `--status`: by `tells` they are those of the spool after a journal of
+/// calls that led to then, but for how many events were stored by each protocol, of which no clause says anything. Nor does one say that
+/// they were read after the question.
+///
+/// Of all words but those of `serve` [`bridge_once`](crate::bridge_once) does the same, and is proved to return.
+///
 /// The clause `run` has all the rest, by command. That each connection contributes exactly its protocol's events up to the first fault,
 /// in order, is for `replay` `IsReplayed.served` (`carried`) with `IsStored.reached` (`each`, `grows`), and for `serve`
 /// `Promises.are_parts` with `contributes`, `nothing_else`, `order` and `order_was`. That only what a peer acknowledged becomes known is
@@ -83,10 +89,11 @@ where
     // `format` may write anything to the disk, and every other command what keeps the spool.
     requires tears { ForWords (texts words.now) (MayTear D.tells D.moment D.may_tear D.may_release) }
 
-    // The places that the words name may be bound and dialed, any numbers may be told to those who ask for them, and any text may be
-    // printed.
+    // Those who ask for numbers may be told the spool's.
+    requires tells { ForWords (texts words.now) (MayTell D.tells D.moment disk N.M.may_tell) }
+
+    // The places that the words name may be bound and dialed, and any text may be printed.
     requires binds { ForWords (texts words.now) (MayBind N.may_bind) }
-    requires tells { ForWords (texts words.now) (MayTell N.M.may_tell) }
     requires dials { ForWords (texts words.now) (MayDial N.may_dial) }
     requires prints { ForWords (texts words.now) (MayPrint ((sink : K) (text : List ℕ) → K.permits sink text)) }
 

@@ -2,8 +2,8 @@
 ghost use Rattle.std.specs.Prelude.{◌≡◌, ◌⊎◌, ◌+◌, ◌<◌, ◌^◌, ◌≤◌, ℕ, Some, false, IfOk, IfErr, IfSome, option_copied, slice_get, vec_len};
 ghost use Rattle.edge_disk.specs.Calls.{Calls};
 ghost use Rattle.spool_log.specs.State.{view};
-ghost use Rattle.edge_io.specs.declared.monitor.SpoolNumbers.{SpoolNumbers};
 ghost use Rattle.forward_core.specs.Exchanged.{HasExchangedAt};
+ghost use Rattle.spool_turns.specs.Levels.{HasLevel};
 ghost use Rattle.spool_turns.specs.Named.{IsName};
 ghost use Rattle.spool_turns.specs.Replays.{desk_at, IsReal};
 ghost use Rattle.serve_workers.specs.Answering.{MayAnswer};
@@ -11,7 +11,9 @@ ghost use Rattle.desk_access.specs.Division.{callers_of, each_of};
 ghost use Rattle.serve_forwarder.specs.Released.{MayRelease};
 ghost use Rattle.serve_run.specs.Running.{HasNotServed, given_by, seating_as};
 ghost use Rattle.serve_run.specs.Served.{IsServed};
+ghost use Rattle.serve_run.specs.Telling.{MayTell as MayTellLevels};
 ghost use Rattle.bridge_serve.specs.Answered.{WorkerMayAnswer, first_link};
+ghost use Rattle.bridge_serve.specs.Numbers.{MayTell};
 ghost use Rattle.bridge_serve.specs.Opened.{IsOpenedFrom, IsOpenedOnly};
 ghost use Rattle.bridge_serve.specs.Released.{ForwarderMayRelease};
 ghost use Rattle.bridge_serve.specs.Served.{RanOver, setup_as};
@@ -71,7 +73,7 @@ where
     requires named { IfSome destination (λ d. N.may_dial d.now.place) }
     requires earned { IfSome destination (λ d. MayRelease (IsReal ⟦<D as Disk>⟧ J.start J.run J.seats J.began) J.start d.now.outward
         (HasExchangedAt N.L.same N.L.dialed N.L.given N.L.taken d.now.place) D.may_release) }
-    requires tells { (numbers : SpoolNumbers) → N.M.may_tell numbers }
+    requires tells { MayTellLevels (HasLevel ⟦<D as Disk>⟧ J.start J.run J.seats J.began) J.run.number N.M.may_tell }
 
     ensures many { IfOk result (λ served. (vec_len served.doors ≡ vec_len posts) × (vec_len served.reports ≡ vec_len posts)) }
     ensures served { IfOk result (IsServed N.P.told J.start (seating_as J.run J.seats J.began)
@@ -121,7 +123,7 @@ where
     requires dials { IfSome destination (λ d. N.may_dial d.now.place) }
     requires releases { IfSome destination (λ d. ForwarderMayRelease D.tells (λ (d : D). D.moment d) before.value d.now.outward
         (HasExchangedAt N.L.same N.L.dialed N.L.given N.L.taken d.now.place) D.may_release) }
-    requires tells { (numbers : SpoolNumbers) → N.M.may_tell numbers }
+    requires tells { MayTell D.tells (λ (d : D). D.moment d) before.value N.M.may_tell }
 
     ensures many { IfOk result (λ served. (vec_len served.doors ≡ vec_len posts) × (vec_len served.reports ≡ vec_len posts)) }
     ensures over { IfOk result (RanOver N.P.told before.value (setup_as group division)

@@ -1,7 +1,6 @@
 //! The command `serve`.
 ghost use Rattle.std.specs.Prelude.{◌≡◌, ◌≢◌, ◌⊎◌, ℕ, ◌^◌, ◌<◌, ◌≤◌, List, Some, false, map, slice_get, IfSome, vec_len};
 ghost use Rattle.desk_access.specs.Division.{callers_of, each_of};
-ghost use Rattle.edge_io.specs.declared.monitor.SpoolNumbers.{SpoolNumbers};
 ghost use Rattle.forward_core.specs.Exchanged.{HasExchangedAt};
 ghost use Rattle.spool_answers.specs.Leave.{LetsKeep};
 ghost use Rattle.spool_log.specs.State.{view};
@@ -13,6 +12,7 @@ ghost use Rattle.serve_workers.specs.Crews.{IsRoom};
 ghost use Rattle.bridge_serve.specs.Answered.{WorkerMayAnswer, first_link, MayAnswer, MayBind, MayDial};
 ghost use Rattle.bridge_serve.specs.Doors.{destination_of};
 ghost use Rattle.bridge_serve.specs.Noted.{note_of_run, PrintsLast};
+ghost use Rattle.bridge_serve.specs.Numbers.{MayTell};
 ghost use Rattle.bridge_serve.specs.Opened.{IsOpenedFrom};
 ghost use Rattle.bridge_serve.specs.Released.{ForwarderMayRelease, MayRelease};
 ghost use Rattle.bridge_serve.specs.Served.{EndsAt, IsServed, line_after, setup_as};
@@ -120,7 +120,7 @@ where
     requires dials { IfSome destination (λ d. N.may_dial d.place) }
     requires releases { IfSome destination (λ d. ForwarderMayRelease D.tells (λ (d : D). D.moment d) before.value d.outward
         (HasExchangedAt N.L.same N.L.dialed N.L.given N.L.taken d.place) D.may_release) }
-    requires tells { (numbers : SpoolNumbers) → N.M.may_tell numbers }
+    requires tells { MayTell D.tells (λ (d : D). D.moment d) before.value N.M.may_tell }
     requires prints { (sink : K) (text : List ℕ) → K.permits sink text }
 
     ensures known { (result.note ≢ Usage) × ((have want : ℕ) → result.note ≢ WrongLength have want) }
@@ -180,6 +180,9 @@ where
 /// No number becomes known as confirmed but by leave of the disk's type, and by `releases` that may be as little as this: a number may
 /// become known once the peer at the place to forward to has received its entry, that is has acknowledged it (`IsReceived`). So it is
 /// at each moment, too, and where the words name no such place no number becomes known at all.
+///
+/// Those who ask for numbers are told no others than the spool's, by `tells`, after a journal of calls that led to then (`MayTell`). That
+/// they are read after the question, and how many events were stored by each protocol, no clause says.
 pub fn serve<D: Disk + Drop + Send, K: Sink, N: Net + Send, R: Threads + Wait + Sync>(
     rt: &R,
     alloc: Global,
@@ -202,7 +205,7 @@ where
     requires releases { MayRelease D.tells (λ (d : D). D.moment d) disk server
         (HasExchangedAt N.L.same N.L.dialed N.L.given N.L.taken) D.may_release }
     requires tears { LetsKeep D.tells D.moment D.may_tear D.may_release }
-    requires tells { (numbers : SpoolNumbers) → N.M.may_tell numbers }
+    requires tells { MayTell D.tells (λ (d : D). D.moment d) disk N.M.may_tell }
     requires prints { (sink : K) (text : List ℕ) → K.permits sink text }
 
     ensures known { (result.note ≢ Usage) × ((have want : ℕ) → result.note ≢ WrongLength have want) }

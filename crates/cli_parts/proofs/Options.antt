@@ -1,10 +1,10 @@
 -- How words are read, one after another, where options of a run stand among them.
-use Rattle.std.proofs.Common.{◌≡◌, ◌∙◌, ℕ, ◌-◌, ◌<◌, ◌≤◌, List, [], ◌∷◌, ◌++◌, length, get_or, take, drop, map, true, false, inl, inr, refl, sym, ap, subst, append_assoc, arith, codes}
+use Rattle.std.proofs.Common.{◌≡◌, ◌∙◌, ◌-◌, ◌<◌, ◌≤◌, List, [], ◌∷◌, ◌++◌, length, get_or, take, drop, map, true, false, inl, inr, refl, sym, ap, subst, arith, codes}
 use Rattle.std.proofs.lemmas.List.{take_rest, append-nil}
 use Rattle.cli_parts.specs.declared.run_options.RunOptions.{RunOptions}
 use Rattle.cli_parts.specs.declared.run_options.WrongOption.{WrongOption}
 use Rattle.cli_parts.specs.declared.run_options.WrongOption.TheVariants.{QuietTwice, QuietValue, IdleElsewhere, IdleTwice, IdleNoValue, IdleRange}
-use Rattle.cli_parts.specs.RunOptions.{Text, no_options, option_name, IsNoOption, IsNoSeconds, IsIdle, IsRead, named, quiet, idle, other, EndsOptions, AreTaken, TakesIdle, IsWrong, IsWrongNext}
+use Rattle.cli_parts.specs.RunOptions.{Text, no_options, option_name, IsNoOption, IsNoSeconds, IsRead, named, quiet, idle, other, AreTaken, TakesIdle, IsWrongNext}
 use Rattle.cli_parts.specs.Piece.{IsNext, so_far_as}
 
 -- the first of some elements, and the others as a pattern has them

@@ -4,7 +4,8 @@ use Rattle.edge_file.specs.declared.open_fault.OpenFault.{OpenFault}
 use Rattle.edge_file.specs.declared.open_fault.OpenFault.TheVariants.{NotFound, NotAllowed, IsFolder, InUse, NoRoom, NoFile, Other}
 use Rattle.bridge_words.specs.declared.command.ListForm.{ListForm}
 use Rattle.bridge_words.specs.declared.command.Command.{Command}
-use Rattle.bridge_words.specs.declared.command.Command.TheVariants.{List as ListCommand}
+use Rattle.bridge_words.specs.declared.command.Command.TheVariants.{List as ListCommand, Serve}
+use Rattle.bridge_words.specs.declared.command.Server.{Server}
 use Rattle.bridge_words.specs.Words.{IsCommand}
 
 abbrev pub open_text : OpenFault → List ℕ
@@ -24,3 +25,12 @@ IsList command = ⊥
 -- the words are such a command
 abbrev pub AreList : List (List ℕ) → Type 0
 AreList words = (form : ListForm) × IsCommand (ListCommand form) words
+
+-- a command that serves many senders, and goes on until its doors are shut
+abbrev pub IsServe : Command → Type 0
+IsServe (Serve server) = Unit {0}
+IsServe command = ⊥
+
+-- the words are such a command
+abbrev pub AreServe : List (List ℕ) → Type 0
+AreServe words = (server : Server) × IsCommand (Serve server) words

@@ -1,5 +1,5 @@
 -- How the next of a command's words is read, where it may be an option of a run, and what is taken of all.
-use Rattle.std.specs.Prelude.{◌≡◌, ◌≢◌, ◌⊎◌, List, [], ◌++◌, codes, map, string_bytes}
+use Rattle.std.specs.Prelude.{◌≡◌, ◌≢◌, ◌⊎◌, List, ◌++◌, codes, map, string_bytes}
 use Rattle.cli_parts.specs.declared.run_options.Piece.{Piece}
 use Rattle.cli_parts.specs.declared.run_options.Piece.TheVariants.{Quiet, QuietWith, Idle, IdleWith, Other}
 use Rattle.cli_parts.specs.declared.run_options.RunOptions.{RunOptions}

@@ -1,8 +1,8 @@
 //! How FILE is opened.
-ghost use Rattle.std.specs.Prelude.{◌≡◌, ◌↔◌, false, IfOk, map, string_bytes};
+ghost use Rattle.std.specs.Prelude.{◌≡◌, ◌↔◌, false, IfOk, IsTrue, map, string_bytes};
 ghost use Rattle.edge_file.specs.declared.open_fault.Sharing.TheVariants.{Shared};
 ghost use Rattle.cli_parts.specs.declared.opening.Showing.TheVariants.{Never};
-ghost use Rattle.cli_parts.specs.Opening.{IsList, AreList};
+ghost use Rattle.cli_parts.specs.Opening.{IsList, AreList, IsServe, AreServe};
 
 use crate::health::Waiting;
 use bridge_words::Command;
@@ -53,6 +53,8 @@ pub struct Opening {
     pub showing: Showing,
     /// Who waits for it.
     pub waiting: Waiting,
+    /// Whether the words are those of `serve`, which goes on until its doors are shut.
+    pub is_serving: bool,
 }
 
 // A command that lists FILE may have it beside others that do; every other one has it alone.
@@ -67,6 +69,13 @@ fn sharing_of(command: &Command) -> Sharing
         Command::Load { .. } => Sharing::Exclusive,
         Command::Serve { .. } => Sharing::Exclusive,
     }
+}
+
+// One command alone serves many senders.
+fn is_serving(command: &Command) -> bool
+    ensures { IsTrue result ↔ IsServe command.now }
+{
+    matches!(command, Command::Serve { .. })
 }
 
 // A server shows nothing. A command that forwards to a place writes its line at the end, and the others write meanwhile.
@@ -97,17 +106,20 @@ impl Opening {
     /// How the words want it. Those that list it may have it beside others that do.
     pub fn of(alloc: Global, words: &[String]) -> Result<Opening, AllocError>
         ensures shared { IfOk result (λ opening. (opening.sharing ≡ Shared) ↔ AreList (map string_bytes words.now)) }
+        ensures serves { IfOk result (λ opening. IsTrue opening.is_serving ↔ AreServe (map string_bytes words.now)) }
     {
         match Command::of(alloc, words)? {
             Some(command) => Ok(Opening {
                 sharing: sharing_of(&command),
                 showing: showing_of(&command),
                 waiting: waiting_of(&command),
+                is_serving: is_serving(&command),
             }),
             None => Ok(Opening {
                 sharing: Sharing::Exclusive,
                 showing: Showing::Apart,
                 waiting: Waiting::Nobody,
+                is_serving: false,
             }),
         }
     }

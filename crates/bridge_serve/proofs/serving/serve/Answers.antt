@@ -5,6 +5,7 @@ use Rattle.notes.specs.declared.note.Note.{Note}
 use Rattle.bridge_serve.specs.Opened.{IsOpenedFrom}
 use Rattle.bridge_serve.proofs.Opening.{opened_only}
 use Rattle.bridge_serve.specs.Answered.{WorkerMayAnswer, first_link}
+use Rattle.bridge_serve.specs.Numbers.{MayTell}
 use Rattle.bridge_serve.proofs.Answering.{stands_may}
 use Rattle.bridge_serve.proofs.Causes.{net_bound, net_refused}
 use Rattle.bridge_serve.proofs.Doors.{few_each, few_all, all_unused, none_unused, unused_doors, tells_same, may_dial}
@@ -50,6 +51,10 @@ serve_posts-requires-clause-answers g c κs within =
     (sym c.of-before.ensures)
     (stands_may g.D.Disk.tells (λ (d : _). g.D.Disk.moment d) c.args.disk c.args.server g.N.Net.permits i post.rules (g.N.P.Door.permits post.door) c.requires.answers
     (c.in-Ok-bind_places.ensures.stand i post at))
+
+pub serve_posts-requires-clause-tells : goal.serve_posts-requires-clause-tells
+serve_posts-requires-clause-tells g c κs within =
+    subst (λ (given : _). MayTell g.D.Disk.tells (λ (d : _). g.D.Disk.moment d) given g.N.M.Monitor.may_tell) (sym c.of-before.ensures) c.requires.tells
 
 pub serve_posts-requires-clause-dials : goal.serve_posts-requires-clause-dials
 serve_posts-requires-clause-dials g c κs within = rw c.destination_of.ensures (may_dial c.args.server.forward g.N.Net.may_dial c.requires.dials)

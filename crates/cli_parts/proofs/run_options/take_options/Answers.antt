@@ -1,4 +1,4 @@
-use Rattle.std.proofs.Common.{◌<◌, Global, length, map, string_bytes, inl, arith}
+use Rattle.std.proofs.Common.{◌<◌, Global, length, string_bytes, inl, arith}
 use Rattle.cli_parts.proofs.Options.{first_and_rest, none_of, begun, taken_all}
 use Rattle.cli_parts.proofs.run_options.take_options.Goals as goal
 

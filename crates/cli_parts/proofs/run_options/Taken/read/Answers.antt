@@ -1,5 +1,4 @@
-use Rattle.std.proofs.Common.{◌≡◌, ◌∷◌, Global, map, string_bytes}
-use Rattle.cli_parts.specs.RunOptions.{IsWrongNext}
+use Rattle.std.proofs.Common.{◌≡◌, Global, map, string_bytes}
 use Rattle.cli_parts.proofs.Options.{first_and_rest, next_quiet, next_idle, next_idle_with, next_other, wrong_idle, wrong_idle_with}
 use Rattle.cli_parts.proofs.run_options.Taken.read.Goals as goal
 

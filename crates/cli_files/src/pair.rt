@@ -1,0 +1,114 @@
+//! The top call of a move, over the two files that its words name.
+ghost use Rattle.std.specs.Prelude.{◌≡◌, ◌⊎◌, ℕ, List, map, string_bytes};
+ghost use Rattle.spool_answers.specs.Leave.{LetsKeep};
+ghost use Rattle.spool_move.specs.Leave.{MayMove};
+ghost use Rattle.conn_serve.specs.Endings.{CountsFaults};
+ghost use Rattle.notes.specs.declared.note.Note.TheVariants.{DiskFault, WriteFault};
+ghost use Rattle.bridge_words.specs.Words.{IsSomeMove};
+ghost use Rattle.bridge_parts.specs.Run.{output_run};
+ghost use Rattle.bridge_move.specs.Ended.{IsMoveNote};
+ghost use Rattle.bridge_move.specs.Leave.{ForMoves};
+ghost use Rattle.bridge_move.specs.MoveRun.{two_disks};
+ghost use Rattle.cli_files.specs.Opened.{IsUnopened, OverFiles};
+ghost use Rattle.cli_files.specs.Watched.{MovesWatched};
+
+use crate::refused::refuse;
+use crate::files::Files;
+use bridge_move::{Moved, bridge_move};
+use cli_parts::{Progress, Showing, Waiting, Watched, print_no_spool};
+use edge_disk::Disk;
+use edge_file::PairFault;
+use edge_io::Sink;
+use notes::Note;
+
+// Runs the words over both disks, which are watched meanwhile. The reading of the first may be shown. What was done is what `bridge_move`
+// does, and nothing else. The names are those of the two, by which standard error says which of them is no spool.
+fn move_over<D: Disk, E: Disk, K: Sink>(
+    rt: &HostRuntime,
+    words: &[String],
+    names: [&str; 2],
+    source: D,
+    target: E,
+    is_shown: bool,
+    output: &mut K,
+) -> Moved<D, E>
+    requires earned { ForMoves (map string_bytes words.now) (λ tag. MayMove D.tells D.moment E.tells E.moment tag D.may_release) }
+    requires tears { LetsKeep D.tells D.moment D.may_tear D.may_release }
+    requires tears_target { LetsKeep E.tells E.moment E.may_tear E.may_release }
+    requires prints { (k : K) (text : List ℕ) → K.permits k text }
+
+    ensures run { MovesWatched (two_disks D.tells E.tells D.moment E.moment) (map string_bytes words.now) (source, target)
+        (result.source, result.target) (output_run K.taken K.write_faults output.old output.new) result.note }
+{
+    let source = Watched::new(source, Progress::new(rt, is_shown), "FILE", Waiting::Nobody);
+    let target = Watched::new(target, Progress::new(rt, false), "TARGET", Waiting::Nobody);
+    let Moved {
+        status,
+        note,
+        source,
+        target,
+    } = bridge_move(rt.alloc(), words, source, target, output);
+    // (the first is opened before the second is read)
+    let [first, second] = names;
+    let name = if target.is_read() { second } else { first };
+    print_no_spool(rt, name, note);
+    Moved {
+        status,
+        note,
+        source: source.into_disk(),
+        target: target.into_disk(),
+    }
+}
+
+// Says why the two files weren't opened.
+fn refuse_pair(rt: &HostRuntime, file: &str, target: &str, fault: PairFault) -> Note
+    ensures { result ≡ DiskFault }
+{
+    match fault {
+        PairFault::First(fault) => refuse(rt, file, fault),
+        PairFault::Second(fault) => refuse(rt, target, fault),
+        PairFault::OneFile => {
+            let _ = eprintln!(rt; "bridge: {file} and {target} are one file");
+            Note::DiskFault
+        }
+    }
+}
+
+/// Does what the words of a move ask for, over the two files, each of which this program has alone meanwhile. One that can't be opened is
+/// a fault of the disk, and so is one file as both; standard error says which, in a line of its own, and which of them is no spool.
+pub fn run_move<F: Files, K: Sink>(
+    rt: &HostRuntime,
+    files: &F,
+    file: &str,
+    target_path: &str,
+    words: &[String],
+    output: &mut K,
+) -> Note
+    requires moves { IsSomeMove (map string_bytes words.now) }
+    requires earned { ForMoves (map string_bytes words.now) (λ tag. MayMove F.D.tells F.D.moment F.D.tells F.D.moment tag F.D.may_release) }
+    requires tears { LetsKeep F.D.tells F.D.moment F.D.may_tear F.D.may_release }
+    requires prints { (k : K) (text : List ℕ) → K.permits k text }
+
+    ensures known { IsMoveNote result }
+    ensures writes { CountsFaults (result ≡ WriteFault) (K.write_faults output.old) (K.write_faults output.new) }
+    ensures done { IsUnopened result (output.new ≡ output.old) ⊎ OverFiles (F.opened file.now) (F.opened target_path.now) (λ old new.
+        MovesWatched (two_disks F.D.tells F.D.tells F.D.moment F.D.moment) (map string_bytes words.now) old new
+        (output_run K.taken K.write_faults output.old output.new) result) }
+{
+    match files.open_both(file, target_path) {
+        Ok((source, target)) => {
+            let is_shown = Showing::Always.is_seen(rt);
+            move_over(
+                rt,
+                words,
+                [file, target_path],
+                source,
+                target,
+                is_shown,
+                output,
+            )
+            .note
+        }
+        Err(fault) => refuse_pair(rt, file, target_path, fault),
+    }
+}
