@@ -26,7 +26,7 @@ def program():
     looks at all sources when it is started, so it isn't timed itself."""
     if "BRIDGE" in os.environ:
         return os.environ["BRIDGE"]
-    if subprocess.run([TOP / "bin/build"], stdin=subprocess.DEVNULL).returncode != 0:
+    if subprocess.run([TOP / "bin/build", "--llvm"], stdin=subprocess.DEVNULL).returncode != 0:
         sys.exit(f"{sys.argv[0]}: there is no program to measure")
     return str(TOP / "bin/.build/bridge")
 

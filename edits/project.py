@@ -114,6 +114,11 @@ class Edit:
         """The goal that must refuse it, or ''."""
         return next((line.removeprefix("must refuse: ").strip() for line in self.lines if line.startswith("must refuse: ")), "")
 
+    @property
+    def carries_promise(self):
+        """Whether a promise of the whole program rests on it, so that each gate tries it."""
+        return "carries: the promise" in self.lines
+
     def sum(self):
         """Returns the sum of what its verdict is made from: the edit, its crate's files, what the crates below state, and the kit."""
         return sum_of(ground_of(self.crate), self.lines)
@@ -160,20 +165,16 @@ class Edit:
         return function
 
 
-def edits_in(folder, crate):
-    names = sorted(os.listdir(f"{TOP}/{folder}")) if os.path.isdir(f"{TOP}/{folder}") else []
-    return [Edit(f"{folder}/{it}", crate) for it in names if it.endswith(".edit")]
-
-
-def kept_apart():
-    """Returns the edits that stand here, beside this file, which the gate doesn't try each time."""
+def edits():
+    """Returns the harmful edits, which stand here in a folder for each crate."""
     crates = sorted(it for it in os.listdir(HERE) if os.path.isdir(f"{HERE}/{it}") and not it.startswith(("_", ".")))
-    return [edit for crate in crates for edit in edits_in(f"{os.path.basename(HERE)}/{crate}", crate)]
+    names = [(crate, name) for crate in crates for name in sorted(os.listdir(f"{HERE}/{crate}")) if name.endswith(".edit")]
+    return [Edit(f"{os.path.basename(HERE)}/{crate}/{name}", crate) for crate, name in names]
 
 
-def tried_by_rt():
-    """Returns the edits that rt ci itself tries each time."""
-    return [edit for crate in sorted(uses()) for edit in edits_in(f"crates/{crate}/must-fail", crate)]
+def elsewhere():
+    """Returns the folders in which `rt ci` would look for edits: it proves each such crate once more for them."""
+    return [f"crates/{it}/must-fail" for it in sorted(uses()) if os.path.isdir(f"{TOP}/crates/{it}/must-fail")]
 
 
 def why_not(edit):

@@ -1,4 +1,4 @@
-"""The table edits/tried: for each edit that stands under edits/, what refused it and the sum of what that verdict was made from."""
+"""The table edits/tried: for each edit, what refused it and the sum of what that verdict was made from."""
 import os
 
 import project

@@ -4,13 +4,18 @@ The edits of a crate are tried in rounds. In a round each changes another functi
 of which these functions alone are checked, with those that they call. (An edit of a constant has a round of its own, of the whole
 crate.) What the prover says of one function rests on the contracts
 of the others and not on their bodies, so in a round each edit is judged by what is said of its own function: it is refused where
-a message on that function names the goal of its line `must refuse:`. What is said of any other function counts for nothing.
+a message on that function names the goal of its line `must refuse:`. What is said of any other function counts for nothing. An edit of
+which nothing is said, since a function that its own one calls is edited too, has another round.
+
+What was checked of a crate is kept between runs, in the folder that EDITS_KEPT names (bin/.build/edits where nothing does): a run over
+it checks only what changed since.
 """
+import contextlib
+import fcntl
 import os
 import re
 import shutil
 import signal
-import subprocess
 import tempfile
 import threading
 from concurrent.futures import ThreadPoolExecutor
@@ -18,13 +23,10 @@ from dataclasses import dataclass, field
 
 import project
 import sources
+from libraries import KIT, Libraries, copy_crates, processors, run
 from project import TOP, BadEdit
 
-KIT = os.path.dirname(os.path.dirname(os.path.realpath(shutil.which("rt") or "rt")))
-# What the kit runs a program on once it is built.
-OF_RUN = ("args", "stdin", "stdout", "status")
-# What a check takes of memory, at most, as far as is known.
-MEMORY = 3_000_000_000
+KEPT = os.path.abspath(os.environ.get("EDITS_KEPT") or f"{TOP}/bin/.build/edits")
 # A message on a goal in a proof file, and what is said of a function at the end of a check.
 IN_FILE = re.compile(r"(?:\./)?proofs/(?P<path>\S+)/\w+\.antt:\d+:\d+: error: `(?P<goal>[^`]*)`: (?P<why>.*)")
 AT_PLACE = re.compile(r"note: (?P<file>src/\S+\.rt):(?P<line>\d+):\d+: .*?\(`(?P<goal>[^`]*)`\)")
@@ -94,51 +96,6 @@ def judge(edit, functions, found):
     return Result(False, f"NOT TRIED: the check could not tell: {'; '.join(ended)[:300]}")
 
 
-def run(words, folder):
-    """Runs a command in the folder, and returns what came of it, with all that it said as one text."""
-    how = {"stdin": subprocess.DEVNULL, "stdout": subprocess.PIPE, "stderr": subprocess.STDOUT, "text": True, "errors": "replace"}
-    return subprocess.run(words, cwd=folder, check=False, **how)
-
-
-class Libraries:
-    """A copy of crates in which the kit proves them, so that it builds their libraries; what it proved on this machine it takes."""
-
-    def __init__(self, room, crates, say):
-        self.root = f"{room}/repository"
-        names = [it for it in project.uses() if it in crates or any(it in project.below(crate) for crate in crates)]
-        # (it is the top of a repository)
-        os.makedirs(f"{self.root}/.git")
-        for name in names:
-            for part in project.PARTS:
-                if os.path.isdir(f"{TOP}/crates/{name}/{part}"):
-                    shutil.copytree(f"{TOP}/crates/{name}/{part}", f"{self.root}/crates/{name}/{part}")
-            for part in OF_RUN:
-                if os.path.isfile(f"{TOP}/crates/{name}/{part}"):
-                    shutil.copy(f"{TOP}/crates/{name}/{part}", f"{self.root}/crates/{name}")
-        with open(f"{TOP}/crates.txt", encoding="utf-8") as whole, open(f"{self.root}/crates.txt", "w", encoding="utf-8") as few:
-            few.writelines(line for line in whole if re.match(r"\s*(\w*)", line)[1] in names)
-        shutil.copy(f"{TOP}/HANDLES", self.root)
-        say(f"edits: the proofs of {len(names)} crates")
-        ran = run(["rt", "ci"], self.root)
-        self.proved = {it for it in names if os.path.isfile(f"{self.library(it)}/format") or os.path.isfile(f"{self.root}/crates/{it}/out/{it}")}
-        if ran.returncode:
-            say("\n".join(ran.stdout.rstrip().split("\n")[-20:]))
-
-    def library(self, name):
-        return f"{self.root}/crates/{name}/out/rlib/{name}.rlib"
-
-    def words(self, crate):
-        """Returns the words of a check of the crate over these libraries."""
-        of_kit = ["std", *[it for it in project.uses()[crate] if it not in project.uses()]]
-        named = [(it, f"{KIT}/rlibs/{it}.rlib") for it in of_kit]
-        named += [(it, self.library(it)) for it in project.uses()[crate] if it in project.uses()]
-        root = "src/lib.rt" if os.path.isfile(f"{TOP}/crates/{crate}/src/lib.rt") else "src/main.rt"
-        words = ["--crate-name", crate, root, "-L", f"dependency={KIT}/rlibs"]
-        words += [word for name, place in named for word in ("--extern", f"{name}={place}")]
-        words += [word for it in project.below(crate) for word in ("-L", f"dependency={os.path.dirname(self.library(it))}")]
-        return [*words, "--antt-project", f"{KIT}/rattle/logic/antt-project.json", "--logic-built", f"{KIT}/logic_built", "--jobs", "1"]
-
-
 def rounds_of(edits):
     """Returns the rounds in which a crate's edits are tried, each as its edits with their functions and the texts of the changed files,
     and what is wrong with those that don't apply."""
@@ -166,64 +123,73 @@ def rounds_of(edits):
     return rounds, wrong
 
 
-def check(libraries, crate, texts, functions, kept):
-    """Checks these functions, or all where None is among them, in a copy of the crate with these texts, over what is kept of its other
-    rounds."""
-    asked = sorted({project.printed(crate, it) for it in functions}) if None not in functions else []
-    with tempfile.TemporaryDirectory(prefix="bridge-edit-") as copy:
-        shutil.copytree(f"{libraries.root}/crates/{crate}", copy, ignore=shutil.ignore_patterns("out"), dirs_exist_ok=True)
-        for path, text in texts.items():
-            with open(f"{copy}/{path}", "w", encoding="utf-8") as it:
-                it.write(text)
-        for _ in range(len(asked) + 2):
-            only = [word for it in asked for word in ("--only", it)]
-            words = [f"{KIT}/bin/rattle", "check", *libraries.words(crate), "--incremental", kept, *only]
-            ran = run(words, copy)
-            missing = NO_FUNCTION.search(ran.stdout)
-            if missing and missing[1] in asked and missing[1].count("::") > 1:
-                asked[asked.index(missing[1])] = "::".join(missing[1].split("::")[-2:])
-            # (killed for memory, most likely, and tried once more)
-            elif ran.returncode != -signal.SIGKILL:
-                break
-    return read_messages(crate, ran.stdout, lambda path: texts[path] if path in texts else project.read(crate, path))
+@contextlib.contextmanager
+def kept_of(crate):
+    """Gives the folder of what is kept of a crate's checks; another one, for this run alone, while a run elsewhere uses that."""
+    os.makedirs(f"{KEPT}/{crate}", exist_ok=True)
+    with open(f"{KEPT}/{crate}.lock", "w", encoding="utf-8") as lock, tempfile.TemporaryDirectory(prefix="bridge-kept-") as other:
+        try:
+            fcntl.flock(lock, fcntl.LOCK_EX | fcntl.LOCK_NB)
+        except BlockingIOError:
+            yield other
+        else:
+            yield f"{KEPT}/{crate}"
 
 
-def try_round(libraries, crate, members, texts, kept):
-    """Gives the result of each edit of a round; where the check says nothing of one, of this one alone."""
-    found = check(libraries, crate, texts, set().union(*[functions for _, functions in members]), kept)
-    for edit, functions in members:
-        result = judge(edit, functions, found)
-        if result is None or result.text.startswith("NOT TRIED"):
-            if len(members) > 1:
-                alone = {}
-                edit.apply(alone)
-                yield from try_round(libraries, crate, [(edit, functions)], alone, kept)
-                continue
-            said = [line for line in found.lines if "error" in line or line.startswith("rattle")][:4] or found.lines[:4]
-            result = result or Result(False, "NOT TRIED: the check says nothing of what it changes: " + " / ".join(said)[:600])
-        yield edit, result
+@dataclass
+class Tried:
+    """A crate whose edits are tried: its name, the folder of its copy, the libraries that it stands on, and what is kept of its checks."""
+
+    crate: str
+    folder: str
+    libraries: Libraries
+    kept: str
+
+    def check(self, texts, functions):
+        """Checks these functions, or all where None is among them, in a copy of the crate with these texts."""
+        asked = sorted({project.printed(self.crate, it) for it in functions}) if None not in functions else []
+        with tempfile.TemporaryDirectory(prefix="bridge-edit-") as copy:
+            shutil.copytree(self.folder, copy, dirs_exist_ok=True)
+            for path, text in texts.items():
+                with open(f"{copy}/{path}", "w", encoding="utf-8") as it:
+                    it.write(text)
+            words = [f"{KIT}/bin/rattle", "check", *self.libraries.words(self.crate), "--jobs", "1", "--incremental", self.kept]
+            for _ in range(len(asked) + 2):
+                ran = run([*words, *[word for it in asked for word in ("--only", it)]], copy)
+                missing = NO_FUNCTION.search(ran.stdout)
+                if missing and missing[1] in asked and missing[1].count("::") > 1:
+                    asked[asked.index(missing[1])] = "::".join(missing[1].split("::")[-2:])
+                # (killed for memory, most likely, and tried once more)
+                elif ran.returncode != -signal.SIGKILL:
+                    break
+        return read_messages(self.crate, ran.stdout, lambda path: texts[path] if path in texts else project.read(self.crate, path))
+
+    def try_round(self, members, texts, tell):
+        """Tells the result of each edit of a round, and returns those that have none yet."""
+        found, untold = self.check(texts, set().union(*[functions for _, functions in members])), []
+        for edit, functions in members:
+            result = judge(edit, functions, found)
+            if result and not result.text.startswith("NOT TRIED"):
+                tell(edit, result)
+            elif len(members) > 1:
+                untold.append(edit)
+            else:
+                said = [line for line in found.lines if "error" in line or line.startswith("rattle")][:4] or found.lines[:4]
+                tell(edit, result or Result(False, "NOT TRIED: the check says nothing of what it changes: " + " / ".join(said)[:600]))
+        return untold
 
 
-def try_crate(libraries, crate, edits, tell):
+def try_crate(tried, edits, tell):
     """Tries the edits of one crate."""
-    if crate not in libraries.proved:
-        for edit in edits:
-            tell(edit, Result(False, f"NOT TRIED: {crate} is not proved as it stands"))
-        return
     rounds, wrong = rounds_of(edits)
     for edit, result in wrong.items():
         tell(edit, result)
-    with tempfile.TemporaryDirectory(prefix="bridge-kept-") as kept:
-        for members, texts in rounds:
-            for edit, result in try_round(libraries, crate, members, texts, kept):
-                tell(edit, result)
-
-
-def processors():
-    """Returns how many checks to do side by side."""
-    with open("/proc/meminfo", encoding="utf-8") as it:
-        free = 1024 * int(re.search(r"MemAvailable:\s*(\d+)", it.read())[1])
-    return max(1, min(len(os.sched_getaffinity(0)), free // MEMORY))
+    while rounds:
+        members, texts = rounds.pop(0)
+        untold = tried.try_round(members, texts, tell)
+        # (together where they are fewer, and else each alone)
+        for together in [untold] if len(untold) < len(members) else [[it] for it in untold]:
+            rounds += rounds_of(together)[0]
 
 
 def try_all(edits, say, note, jobs=None):
@@ -238,15 +204,25 @@ def try_all(edits, say, note, jobs=None):
             say(f"edits: {edit.name}: {result.text}")
             note(edit, result)
 
+    def work(crate, room, libraries):
+        if libraries.is_proved(crate):
+            with kept_of(crate) as kept:
+                try_crate(Tried(crate, f"{room}/crates/{crate}", libraries, kept), by_crate[crate], tell)
+        else:
+            for edit in by_crate[crate]:
+                tell(edit, Result(False, f"NOT TRIED: {crate} is not proved as it stands"))
+
     lost = [it for it in by_crate if it not in project.uses()]
     for edit in [edit for crate in lost for edit in by_crate.pop(crate)]:
         tell(edit, Result(False, f"DOES NOT APPLY: crates.txt has no crate {edit.crate}"))
     if by_crate:
-        with tempfile.TemporaryDirectory(prefix="bridge-edits-") as room:
-            libraries = Libraries(room, set(by_crate), say)
+        crates = {low for it in by_crate for low in (*project.below(it), it)}
+        libraries = Libraries(crates, lambda it: say(f"edits: {it}"))
+        with tempfile.TemporaryDirectory(prefix="bridge-edits-") as room, libraries:
+            copy_crates(by_crate, room)
             # (those first that take longest)
             order = sorted(by_crate, key=lambda it: -len(project.below(it)) * len(by_crate[it]))
             with ThreadPoolExecutor(jobs or processors()) as pool:
-                for done in [pool.submit(try_crate, libraries, it, by_crate[it], tell) for it in order]:
+                for done in [pool.submit(work, it, room, libraries) for it in order]:
                     done.result()
     return all(results)
