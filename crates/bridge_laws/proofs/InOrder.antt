@@ -7,7 +7,7 @@ use Rattle.std.proofs.lemmas.List.Elements.{All-nil, All-append, All-drop}
 use Rattle.event_form.specs.declared.event.Entry.{Entry}
 use Rattle.spool_state.specs.SpoolState.{SpoolState, base, list}
 use Rattle.spool_log.specs.declared.opening.Opening.TheVariants.{Keep, Raise}
-use Rattle.spool_answers.specs.declared.fault.TakeFault.TheVariants as Take
+use Rattle.spool_faults.specs.declared.fault.TakeFault.TheVariants as Take
 use Rattle.spool_log.specs.Opening.{opened}
 use Rattle.desk_access.specs.declared.division.Division.{Division}
 use Rattle.desk_access.specs.Division.{divided}

@@ -12,11 +12,11 @@ use Rattle.spool_state.specs.Image.{StandsFor}
 use Rattle.spool_state.specs.Segment.{need_of}
 use Rattle.spool_state.specs.SpoolState.{IsKnownIn, OpenSlot, SpoolState, numbers_of, room}
 use Rattle.spool_state.proofs.Registered.{with_marked}
-use Rattle.spool_answers.specs.declared.fault.ConfirmFault.{ConfirmFault}
-use Rattle.spool_answers.specs.declared.fault.ConfirmFault.TheVariants as Confirm
-use Rattle.spool_answers.specs.declared.fault.Receipt.{Receipt}
-use Rattle.spool_answers.specs.declared.fault.TakeFault.{TakeFault}
-use Rattle.spool_answers.specs.declared.fault.TakeFault.TheVariants as Take
+use Rattle.spool_faults.specs.declared.fault.ConfirmFault.{ConfirmFault}
+use Rattle.spool_faults.specs.declared.fault.ConfirmFault.TheVariants as Confirm
+use Rattle.spool_answers.specs.declared.receipt.Receipt.{Receipt}
+use Rattle.spool_faults.specs.declared.fault.TakeFault.{TakeFault}
+use Rattle.spool_faults.specs.declared.fault.TakeFault.TheVariants as Take
 use Rattle.spool_answers.specs.Mark.{all_below, mark_stages}
 use Rattle.spool_answers.specs.Stages.{IsMidway, IsOneOf, begin_stages, closed_stages, first_stages, group_stages, known_stages}
 use Rattle.spool_answers.specs.Stages.{replace_stages, total_of}

@@ -6,8 +6,8 @@ use Rattle.std.proofs.lemmas.List.Elements.{All-nil, All-cons, All-head}
 use Rattle.event_form.specs.declared.event.Entry.{Entry}
 use Rattle.event_form.specs.declared.event.Event.{Event}
 use Rattle.event_form.specs.declared.talk.Talk.{Talk}
-use Rattle.spool_answers.specs.declared.fault.Receipt.{Receipt}
-use Rattle.spool_answers.specs.declared.fault.TakeFault.{TakeFault}
+use Rattle.spool_answers.specs.declared.receipt.Receipt.{Receipt}
+use Rattle.spool_faults.specs.declared.fault.TakeFault.{TakeFault}
 use Rattle.stream_grammar.specs.Framing.{AreSpelled}
 use Rattle.relp_frame.specs.declared.frame.Frame.{Frame}
 use Rattle.relp_frame.specs.Spelling as relp_frames

@@ -10,8 +10,8 @@ use Rattle.spool_state.specs.SpoolState.{SpoolState, list, numbers_of, Follows, 
 use Rattle.spool_state.specs.Image.{StandsFor}
 use Rattle.spool_state.proofs.Following.{follows_self}
 use Rattle.spool_state.proofs.Registered.{with_marked, follows_marked}
-use Rattle.spool_answers.specs.declared.fault.ConfirmFault.{ConfirmFault}
-use Rattle.spool_answers.specs.declared.fault.ConfirmFault.TheVariants as Confirm
+use Rattle.spool_faults.specs.declared.fault.ConfirmFault.{ConfirmFault}
+use Rattle.spool_faults.specs.declared.fault.ConfirmFault.TheVariants as Confirm
 use Rattle.spool_answers.specs.Mark.{mark_stages}
 use Rattle.spool_answers.specs.Stages.{IsMidway, known_stages, total_of}
 use Rattle.desk_access.proofs.Stages.{cons_of, none_of}

@@ -3,7 +3,7 @@ use Rattle.std.specs.Prelude.{◌⊎◌, ℕ, List, Option, Some}
 use mathlib.Core.Logic.{inl, inr}
 use Rattle.spool_state.specs.SpoolState.{SpoolState}
 use Rattle.spool_state.specs.Image.{StandsFor}
-use Rattle.spool_answers.specs.declared.fault.PendFault.TheVariants as unread
+use Rattle.spool_faults.specs.declared.fault.PendFault.TheVariants as unread
 use Rattle.spool_log.specs.declared.opening.Opening.TheVariants.{Raise}
 use Rattle.spool_log.specs.Opening.{CanOpen}
 use Rattle.forward_core.specs.declared.sent.Sent.TheVariants as sent

@@ -6,8 +6,8 @@ use Rattle.forward_core.specs.Calls.{AreGranted, AreOfSession, next_after}
 use Rattle.forward_core.specs.Session.{EndsBy, EndsRefused, IsRefusedWith}
 use Rattle.forward_core.specs.declared.sent.Sent.{Sent}
 use Rattle.forward_core.specs.declared.sent.Sent.TheVariants as Ending
-use Rattle.spool_answers.specs.declared.fault.PendFault.TheVariants as Pend
-use Rattle.spool_answers.specs.declared.fault.ConfirmFault.TheVariants as Confirm
+use Rattle.spool_faults.specs.declared.fault.PendFault.TheVariants as Pend
+use Rattle.spool_faults.specs.declared.fault.ConfirmFault.TheVariants as Confirm
 
 none_after : (before : List Call) (last : Call) → before ++ last ∷ [] ≡ [] → ⊥
 none_after [] last is = cc

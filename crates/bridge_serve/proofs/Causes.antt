@@ -7,7 +7,7 @@ use Rattle.foundation.specs.Faults.{Rose}
 use Rattle.edge_io.specs.Net.{Bound, NetState, SameHung, HasNetCause}
 use Rattle.edge_io.specs.declared.net_fault.NetFault.{NetFault}
 use Rattle.edge_io.specs.declared.net_fault.NetFault.TheVariants as Net
-use Rattle.spool_answers.specs.declared.fault.PendFault.TheVariants as Pend
+use Rattle.spool_faults.specs.declared.fault.PendFault.TheVariants as Pend
 use Rattle.desk_access.specs.Division.{DividedRun}
 use Rattle.desk_access.specs.Call.{failures_of, pends}
 use Rattle.desk_access.specs.Desk.{DeskState}

@@ -7,7 +7,7 @@ use Rattle.edge_io.specs.declared.net_fault.NetFault.TheVariants as Net
 use Rattle.known_numbers.specs.Numbers.{IsKnown}
 use Rattle.spool_state.specs.SpoolState.{SpoolState, numbers_of}
 use Rattle.spool_state.specs.Image.{StandsFor}
-use Rattle.spool_answers.specs.declared.fault.PendFault.TheVariants as Pend
+use Rattle.spool_faults.specs.declared.fault.PendFault.TheVariants as Pend
 use Rattle.spool_answers.specs.Stages.{IsOneOf, StandsForOne}
 use Rattle.spool_desk.specs.Alone.{AloneView}
 use Rattle.desk_access.specs.Division.{DividedRun, callers_of, each_of}

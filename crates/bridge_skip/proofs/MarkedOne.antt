@@ -6,7 +6,7 @@ use Rattle.known_numbers.specs.Numbers.{Numbers, IsKnown, IsInSome, marked}
 use Rattle.known_numbers.proofs.Marking.{marked_only}
 use Rattle.spool_state.specs.SpoolState.{SpoolState, IsKnownIn, numbers_of}
 use Rattle.spool_state.specs.Change.{registered}
-use Rattle.spool_answers.specs.declared.fault.ConfirmFault.{ConfirmFault}
+use Rattle.spool_faults.specs.declared.fault.ConfirmFault.{ConfirmFault}
 use Rattle.spool_answers.specs.Mark.{after_mark}
 use Rattle.spool_answers.specs.Stages.{last_of, total_of}
 use Rattle.spool_log.specs.declared.memory.Memory.{Memory}

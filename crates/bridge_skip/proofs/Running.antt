@@ -6,8 +6,8 @@ use Rattle.edge_disk.proofs.Calls.{calls_as}
 use Rattle.edge_disk.proofs.Moments.{both, weaker}
 use Rattle.event_form.specs.declared.event.Event.{Event}
 use Rattle.spool_state.specs.SpoolState.{SpoolState}
-use Rattle.spool_answers.specs.declared.fault.PendFault.{PendFault}
-use Rattle.spool_answers.specs.declared.fault.PendFault.TheVariants as Pend
+use Rattle.spool_faults.specs.declared.fault.PendFault.{PendFault}
+use Rattle.spool_faults.specs.declared.fault.PendFault.TheVariants as Pend
 use Rattle.spool_answers.specs.Mark.{mark_stages}
 use Rattle.spool_answers.specs.Pend.{IsNotBroken}
 use Rattle.spool_answers.specs.Stages.{IsMidway}

@@ -21,9 +21,9 @@ use Rattle.relp_session.specs.Answer.{act_of, reply, offers, stored, hint}
 use Rattle.stream_grammar.specs.Framing.{AreSpelled}
 use Rattle.stream_grammar.proofs.Streams.{spelled_append, spelled_strip}
 use Rattle.edge_io.specs.declared.proto.Proto.TheVariants.{Relp}
-use Rattle.spool_answers.specs.declared.fault.Receipt.{Receipt}
-use Rattle.spool_answers.specs.declared.fault.TakeFault.{TakeFault}
-use Rattle.spool_answers.specs.declared.fault.TakeFault.TheVariants as fault
+use Rattle.spool_answers.specs.declared.receipt.Receipt.{Receipt}
+use Rattle.spool_faults.specs.declared.fault.TakeFault.{TakeFault}
+use Rattle.spool_faults.specs.declared.fault.TakeFault.TheVariants as fault
 use Rattle.desk_access.specs.Call.{Call, takes}
 use Rattle.desk_access.specs.Step.{Step, frames_of, calls_of, text_of}
 use Rattle.desk_access.specs.Carried.{Carried, EndsAtMove, Ending}

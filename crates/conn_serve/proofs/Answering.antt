@@ -10,8 +10,8 @@ use Rattle.std.proofs.lemmas.List.Elements.{All-tail}
 use Rattle.std.proofs.Math.Seq.{take-append_seam, drop-append_seam}
 use Rattle.event_form.specs.declared.event.Entry.{Entry}
 use Rattle.relp_session.specs.Answer.{stored}
-use Rattle.spool_answers.specs.declared.fault.Receipt.{Receipt}
-use Rattle.spool_answers.specs.declared.fault.TakeFault.{TakeFault}
+use Rattle.spool_answers.specs.declared.receipt.Receipt.{Receipt}
+use Rattle.spool_faults.specs.declared.fault.TakeFault.{TakeFault}
 use Rattle.desk_access.specs.Batch.{AreNext}
 use Rattle.desk_access.specs.Call.{takes, taken_of, TookSurely}
 use Rattle.conn_serve.specs.Groups.{IsFrameEntry}

@@ -4,8 +4,8 @@ use Rattle.std.specs.Prelude.{Result, Ok, Err, IfErr, IsErr, IsErrAnd, IsErrOf, 
 use Rattle.foundation.specs.Faults.{Rose}
 use Rattle.event_form.specs.declared.talk.Talk.{Talk}
 use Rattle.event_form.specs.declared.talk.Talk.TheVariants.{Closed, NoMemory, ReadFault, WriteFault}
-use Rattle.spool_answers.specs.declared.fault.TakeFault.{TakeFault}
-use Rattle.spool_answers.specs.declared.fault.TakeFault.TheVariants.{TooLarge, Spent, Full, NotSpool, DiskFault}
+use Rattle.spool_faults.specs.declared.fault.TakeFault.{TakeFault}
+use Rattle.spool_faults.specs.declared.fault.TakeFault.TheVariants.{TooLarge, Spent, Full, NotSpool, DiskFault}
 use Rattle.conn_serve.specs.Relp.{talk_of}
 use Rattle.desk_access.specs.Endings.{IsAtEndOfInput, IsAtMove, IsByFault}
 use Rattle.conn_serve.specs.Endings.{CountsFaults}

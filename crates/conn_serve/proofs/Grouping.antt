@@ -8,8 +8,8 @@ use Rattle.edge_io.specs.declared.proto.Proto.{Proto}
 use Rattle.edge_io.specs.declared.proto.Proto.TheVariants.{Relp}
 use Rattle.std.proofs.lemmas.List.Elements.{All-nil, All-cons, All-append, All-head, All-tail}
 use Rattle.event_form.specs.declared.event.Entry.{Entry}
-use Rattle.spool_answers.specs.declared.fault.Receipt.{Receipt}
-use Rattle.spool_answers.specs.declared.fault.TakeFault.{TakeFault}
+use Rattle.spool_answers.specs.declared.receipt.Receipt.{Receipt}
+use Rattle.spool_faults.specs.declared.fault.TakeFault.{TakeFault}
 use Rattle.desk_access.specs.Call.{Call, takes}
 use Rattle.desk_access.specs.Groups.{Group, HasEntries, groups_of}
 use Rattle.desk_access.proofs.Groups.{groups_then}

@@ -14,8 +14,8 @@ use Rattle.http_edge.specs.Fields.{closes}
 use Rattle.hec_session.specs.Acts.{IsAct}
 use Rattle.hec_ids.specs.declared.fault.IssueFault.{IssueFault}
 use Rattle.hec_ids.specs.declared.fault.IssueFault.TheVariants as issue
-use Rattle.spool_answers.specs.declared.fault.TakeFault.{TakeFault}
-use Rattle.spool_answers.specs.declared.fault.TakeFault.TheVariants.{DiskFault}
+use Rattle.spool_faults.specs.declared.fault.TakeFault.{TakeFault}
+use Rattle.spool_faults.specs.declared.fault.TakeFault.TheVariants.{DiskFault}
 use Rattle.http_edge.specs.declared.request.HttpItem.{HttpItem}
 use Rattle.http_edge.specs.declared.request.HttpItem.TheVariants.{Continue, Request}
 use Rattle.http_edge.specs.Lending.{GivesItem}

@@ -13,9 +13,9 @@ use Rattle.lumber_session.specs.declared.act.LumberAct.TheVariants.{Nothing, Sta
 use Rattle.lumber_session.specs.Acts.{Tells, commits}
 use Rattle.lumber_session.specs.Counting.{Core, IsBehind}
 use Rattle.lumber_session.specs.Staged.{staged}
-use Rattle.spool_answers.specs.declared.fault.Receipt.{Receipt}
-use Rattle.spool_answers.specs.declared.fault.TakeFault.{TakeFault}
-use Rattle.spool_answers.specs.declared.fault.TakeFault.TheVariants.{TooLarge, Spent, Full, NotSpool, NoMemory, DiskFault}
+use Rattle.spool_answers.specs.declared.receipt.Receipt.{Receipt}
+use Rattle.spool_faults.specs.declared.fault.TakeFault.{TakeFault}
+use Rattle.spool_faults.specs.declared.fault.TakeFault.TheVariants.{TooLarge, Spent, Full, NotSpool, NoMemory, DiskFault}
 use Rattle.desk_access.specs.Batch.{AreNext}
 use Rattle.desk_access.specs.Call.{Call, takes, taken_of, TookSurely}
 use Rattle.conn_serve.specs.Groups.{IsFrameEntry}

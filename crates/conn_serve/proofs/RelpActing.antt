@@ -18,9 +18,9 @@ use Rattle.relp_session.specs.declared.act.RelpActRef.TheVariants as lent
 use Rattle.relp_session.specs.Row.{act_lent, answer_text}
 use Rattle.relp_session.specs.declared.state.State.{State}
 use Rattle.relp_session.specs.Session.{state_after}
-use Rattle.spool_answers.specs.declared.fault.Receipt.{Receipt}
-use Rattle.spool_answers.specs.declared.fault.TakeFault.{TakeFault}
-use Rattle.spool_answers.specs.declared.fault.TakeFault.TheVariants as take_fault
+use Rattle.spool_answers.specs.declared.receipt.Receipt.{Receipt}
+use Rattle.spool_faults.specs.declared.fault.TakeFault.{TakeFault}
+use Rattle.spool_faults.specs.declared.fault.TakeFault.TheVariants as take_fault
 use Rattle.spool_answers.specs.Take.{IsRefusal}
 use Rattle.desk_access.specs.Batch.{AreNext}
 use Rattle.desk_access.specs.Call.{Call, takes}

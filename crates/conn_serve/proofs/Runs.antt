@@ -18,8 +18,8 @@ use Rattle.relp_session.specs.declared.state.State.TheVariants.{Unopened, Opened
 use Rattle.relp_session.specs.State.{next}
 use Rattle.relp_session.specs.Session.{state_after}
 use Rattle.relp_session.proofs.States.{state_then}
-use Rattle.spool_answers.specs.declared.fault.TakeFault.{TakeFault}
-use Rattle.spool_answers.specs.declared.fault.TakeFault.TheVariants as take_fault
+use Rattle.spool_faults.specs.declared.fault.TakeFault.{TakeFault}
+use Rattle.spool_faults.specs.declared.fault.TakeFault.TheVariants as take_fault
 use Rattle.spool_answers.specs.Take.{IsRefusal}
 use Rattle.desk_access.specs.Batch.{AreNext}
 use Rattle.desk_access.specs.Call.{Call, takes}

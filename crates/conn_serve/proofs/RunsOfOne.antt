@@ -10,8 +10,8 @@ use Rattle.relp_session.specs.declared.act.RelpAct.TheVariants.{Store}
 use Rattle.relp_session.specs.Answer.{IsAnswer, stored}
 use Rattle.relp_session.specs.declared.state.State.{State}
 use Rattle.relp_session.specs.Session.{state_after}
-use Rattle.spool_answers.specs.declared.fault.TakeFault.{TakeFault}
-use Rattle.spool_answers.specs.declared.fault.TakeFault.TheVariants as fault
+use Rattle.spool_faults.specs.declared.fault.TakeFault.{TakeFault}
+use Rattle.spool_faults.specs.declared.fault.TakeFault.TheVariants as fault
 use Rattle.desk_access.specs.Call.{Call, takes}
 use Rattle.desk_access.specs.Step.{Step, frames_of, calls_of, count}
 use Rattle.desk_access.specs.Protocol.{AreMoves}

@@ -22,9 +22,9 @@ use Rattle.hec_session.specs.declared.act.HecAct.TheVariants.{StoreThenSay, SayT
 use Rattle.hec_session.specs.declared.code.HecCode.{HecCode}
 use Rattle.hec_session.specs.declared.code.HecCode.TheVariants.{InvalidFormat, ServerBusy, ServerError}
 use Rattle.hec_session.specs.declared.tokens.Tokens.{Tokens}
-use Rattle.spool_answers.specs.declared.fault.Receipt.{Receipt}
-use Rattle.spool_answers.specs.declared.fault.TakeFault.{TakeFault}
-use Rattle.spool_answers.specs.declared.fault.TakeFault.TheVariants.{TooLarge, Spent, Full, NotSpool, NoMemory, DiskFault}
+use Rattle.spool_answers.specs.declared.receipt.Receipt.{Receipt}
+use Rattle.spool_faults.specs.declared.fault.TakeFault.{TakeFault}
+use Rattle.spool_faults.specs.declared.fault.TakeFault.TheVariants.{TooLarge, Spent, Full, NotSpool, NoMemory, DiskFault}
 use Rattle.desk_access.specs.Call.{Call, takes, issues, settles, forgets, asks}
 use Rattle.desk_access.specs.Step.{calls_of, count}
 use Rattle.desk_access.specs.Protocol.{Protocol, IsNothing}

@@ -17,8 +17,8 @@ use Rattle.hec_session.specs.declared.act.HecAct.TheVariants.{SayThenStore}
 use Rattle.hec_session.specs.declared.code.HecCode.{HecCode}
 use Rattle.hec_session.specs.declared.code.HecCode.TheVariants.{InvalidFormat, ServerBusy, ServerError}
 use Rattle.hec_session.specs.declared.tokens.Tokens.{Tokens}
-use Rattle.spool_answers.specs.declared.fault.Receipt.{Receipt}
-use Rattle.spool_answers.specs.declared.fault.TakeFault.{TakeFault}
+use Rattle.spool_answers.specs.declared.receipt.Receipt.{Receipt}
+use Rattle.spool_faults.specs.declared.fault.TakeFault.{TakeFault}
 use Rattle.desk_access.specs.Call.{Call, issues, settles}
 use Rattle.desk_access.specs.Protocol.{IsNothing}
 use Rattle.conn_serve.specs.declared.hec.asked.Asked.{Asked}

@@ -11,8 +11,8 @@ use Rattle.lumber_frame.specs.Why.{why_of}
 use Rattle.lumber_session.specs.Staged.{Staged, staged}
 use Rattle.lumber_session.specs.Acts.{last_seq}
 use Rattle.lumber_session.specs.Batches.{EndsNowhere, IsBatch}
-use Rattle.spool_answers.specs.declared.fault.Receipt.{Receipt}
-use Rattle.spool_answers.specs.declared.fault.TakeFault.{TakeFault}
+use Rattle.spool_answers.specs.declared.receipt.Receipt.{Receipt}
+use Rattle.spool_faults.specs.declared.fault.TakeFault.{TakeFault}
 use Rattle.desk_access.specs.Call.{Call, takes}
 use Rattle.desk_access.specs.Step.{frames_of, calls_of, count}
 use Rattle.desk_access.specs.Protocol.{Protocol, IsNothing}

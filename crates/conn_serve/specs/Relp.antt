@@ -13,9 +13,9 @@ use Rattle.relp_session.specs.declared.act.RelpAct.TheVariants.{Store, Say, End}
 use Rattle.relp_session.specs.Answer.{IsAnswer, stored, hint}
 use Rattle.relp_session.specs.declared.state.State.{State}
 use Rattle.relp_session.specs.Session.{state_after}
-use Rattle.spool_answers.specs.declared.fault.Receipt.{Receipt}
-use Rattle.spool_answers.specs.declared.fault.TakeFault.{TakeFault}
-use Rattle.spool_answers.specs.declared.fault.TakeFault.TheVariants.{TooLarge, Spent, Full, NotSpool, NoMemory, DiskFault}
+use Rattle.spool_answers.specs.declared.receipt.Receipt.{Receipt}
+use Rattle.spool_faults.specs.declared.fault.TakeFault.{TakeFault}
+use Rattle.spool_faults.specs.declared.fault.TakeFault.TheVariants.{TooLarge, Spent, Full, NotSpool, NoMemory, DiskFault}
 use Rattle.spool_answers.specs.Take.{IsRefusal}
 use Rattle.desk_access.specs.Call.{Call, takes}
 use Rattle.desk_access.specs.Step.{frames_of, calls_of, count}

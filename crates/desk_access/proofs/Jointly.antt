@@ -11,9 +11,9 @@ use Rattle.spool_state.specs.Segment.{entries_text, need_of}
 use Rattle.spool_state.specs.SpoolState.{SpoolState, base, end, room, most_room}
 use Rattle.spool_state.specs.Change.{added}
 use Rattle.spool_state.proofs.Texts.{end-added, length-segment_text-with_group}
-use Rattle.spool_answers.specs.declared.fault.Receipt.{Receipt}
-use Rattle.spool_answers.specs.declared.fault.TakeFault.{TakeFault}
-use Rattle.spool_answers.specs.declared.fault.TakeFault.TheVariants as Take
+use Rattle.spool_answers.specs.declared.receipt.Receipt.{Receipt}
+use Rattle.spool_faults.specs.declared.fault.TakeFault.{TakeFault}
+use Rattle.spool_faults.specs.declared.fault.TakeFault.TheVariants as Take
 use Rattle.spool_answers.specs.Stages.{last_of, StandsForOne}
 use Rattle.spool_answers.specs.Take.{Fits}
 use Rattle.spool_answers.proofs.Adding.{adding_here}

@@ -8,10 +8,10 @@ use Rattle.known_numbers.specs.declared.stretch.Stretch.{Stretch}
 use Rattle.spool_state.specs.SpoolState.{SpoolState, base, end, entry_at, Follows, IsSound}
 use Rattle.spool_state.specs.Image.{StandsFor}
 use Rattle.spool_state.proofs.Following.{follows_self}
-use Rattle.spool_answers.specs.declared.fault.Receipt.{Receipt}
-use Rattle.spool_answers.specs.declared.fault.TakeFault.TheVariants as Take
-use Rattle.spool_answers.specs.declared.fault.ConfirmFault.{ConfirmFault}
-use Rattle.spool_answers.specs.declared.fault.ConfirmFault.TheVariants as Confirm
+use Rattle.spool_answers.specs.declared.receipt.Receipt.{Receipt}
+use Rattle.spool_faults.specs.declared.fault.TakeFault.TheVariants as Take
+use Rattle.spool_faults.specs.declared.fault.ConfirmFault.{ConfirmFault}
+use Rattle.spool_faults.specs.declared.fault.ConfirmFault.TheVariants as Confirm
 use Rattle.spool_answers.specs.Stages.{IsOneOf, StandsForOne, IsMidway, AllFollow, group_stages, known_stages}
 use Rattle.spool_answers.specs.Mark.{all_below, mark_stages}
 use Rattle.spool_answers.proofs.Adding.{adding_follow}

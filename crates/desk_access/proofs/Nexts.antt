@@ -4,8 +4,8 @@ use Rattle.std.specs.Prelude.{All, Ok, Err}
 use Rattle.std.proofs.lemmas.List.{append-nil}
 use Rattle.std.proofs.lemmas.List.Elements.{All-nil, All-cons, All-head, All-tail}
 use Rattle.event_form.specs.declared.event.Entry.{Entry}
-use Rattle.spool_answers.specs.declared.fault.Receipt.{Receipt}
-use Rattle.spool_answers.specs.declared.fault.TakeFault.TheVariants as Take
+use Rattle.spool_answers.specs.declared.receipt.Receipt.{Receipt}
+use Rattle.spool_faults.specs.declared.fault.TakeFault.TheVariants as Take
 use Rattle.desk_access.specs.Division.{DividedRun}
 use Rattle.desk_access.specs.Call.{Call, takes, issues, Record, own_of, taken_by, taken_of, TookSurely}
 use Rattle.desk_access.specs.Batch.{AreOfUnit, Belongs}

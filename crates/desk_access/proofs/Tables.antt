@@ -1,16 +1,16 @@
 -- The table of ids after a call.
 use Rattle.std.proofs.Common.{◌≡◌, inl, inr, [], ◌∷◌, Option, sym, ap, subst}
 use Rattle.spool_state.specs.SpoolState.{SpoolState}
-use Rattle.spool_answers.specs.declared.fault.PendFault.{PendFault}
+use Rattle.spool_faults.specs.declared.fault.PendFault.{PendFault}
 use Rattle.hec_ids.specs.Table.{Table}
 use Rattle.hec_ids.specs.Rows.{Issues, Settles, Forgets, Asks}
 use Rattle.desk_access.specs.declared.standing.Standing.{Standing}
 use Rattle.desk_access.specs.Call.{Call, Record, takes, pends, confirms, marks, counts, issues, settles, forgets, asks}
 use Rattle.std.specs.Prelude.{Bool, true, false, List, Result, Ok, Err}
 use Rattle.event_form.specs.declared.event.Entry.{Entry}
-use Rattle.spool_answers.specs.declared.fault.Receipt.{Receipt}
-use Rattle.spool_answers.specs.declared.fault.TakeFault.{TakeFault}
-use Rattle.spool_answers.specs.declared.fault.TakeFault.TheVariants as Take
+use Rattle.spool_answers.specs.declared.receipt.Receipt.{Receipt}
+use Rattle.spool_faults.specs.declared.fault.TakeFault.{TakeFault}
+use Rattle.spool_faults.specs.declared.fault.TakeFault.TheVariants as Take
 use Rattle.desk_access.specs.Desk.{DeskState, Mending, Leaving, Answers, Joins, AnswersAs, Allowed}
 
 -- a call of ids made it from the one before, and no other call changes it

@@ -7,12 +7,12 @@ use Rattle.known_numbers.specs.Numbers.{count_of}
 use Rattle.spool_state.specs.SpoolState.{SpoolState, end}
 use Rattle.spool_state.specs.Left.{left_from}
 use Rattle.spool_answers.specs.declared.numbered.Numbered.{Numbered}
-use Rattle.spool_answers.specs.declared.fault.Receipt.{Receipt}
-use Rattle.spool_answers.specs.declared.fault.TakeFault.{TakeFault}
-use Rattle.spool_answers.specs.declared.fault.TakeFault.TheVariants as Take
-use Rattle.spool_answers.specs.declared.fault.PendFault.{PendFault}
-use Rattle.spool_answers.specs.declared.fault.ConfirmFault.{ConfirmFault}
-use Rattle.spool_answers.specs.Fault.{as_take, as_confirm}
+use Rattle.spool_answers.specs.declared.receipt.Receipt.{Receipt}
+use Rattle.spool_faults.specs.declared.fault.TakeFault.{TakeFault}
+use Rattle.spool_faults.specs.declared.fault.TakeFault.TheVariants as Take
+use Rattle.spool_faults.specs.declared.fault.PendFault.{PendFault}
+use Rattle.spool_faults.specs.declared.fault.ConfirmFault.{ConfirmFault}
+use Rattle.spool_faults.specs.Fault.{as_take, as_confirm}
 use Rattle.spool_answers.specs.Stages.{IsOneOf, StandsForOne, IsMidway}
 use Rattle.spool_answers.specs.Take.{Takes, after_take, take_stages, take_doubt}
 use Rattle.spool_answers.specs.Mark.{EndsBy, all_below, Marks, after_mark, mark_stages, mark_doubt}

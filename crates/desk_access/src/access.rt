@@ -5,7 +5,7 @@ ghost use Rattle.known_numbers.specs.Numbers.{IsInSome};
 ghost use Rattle.event_form.specs.declared.event.Entry.{Entry};
 ghost use Rattle.event_form.specs.Entry.{IsEntry};
 ghost use Rattle.spool_state.specs.SpoolState.{end};
-ghost use Rattle.spool_answers.specs.declared.fault.Receipt.{Receipt as TheReceipt};
+ghost use Rattle.spool_answers.specs.declared.receipt.Receipt.{Receipt as TheReceipt};
 ghost use Rattle.spool_answers.specs.Mark.{EndsBy};
 ghost use Rattle.spool_answers.specs.Pend.{AreNumbered};
 ghost use Rattle.desk_access.specs.Call.{Call, takes, pends, confirms, marks, counts, issues, settles, forgets, asks, Record};

@@ -29,7 +29,7 @@ use Rattle.hec_session.specs.declared.act.HecAct.{HecAct}
 use Rattle.hec_session.specs.declared.act.HecAct.TheVariants.{StoreThenSay, SayThenStore, Ask, Say}
 use Rattle.hec_session.specs.declared.tokens.Tokens.{Tokens}
 use Rattle.spool_state.specs.SpoolState.{SpoolState}
-use Rattle.spool_answers.specs.declared.fault.TakeFault.TheVariants as Take
+use Rattle.spool_faults.specs.declared.fault.TakeFault.TheVariants as Take
 use Rattle.spool_answers.specs.Take.{Fits}
 use Rattle.desk_access.specs.Call.{Call, takes, issues, forgets, taken_of, failures_of}
 use Rattle.desk_access.specs.Carried.{Carried, Ending, EndsAtMove, IsOver}

@@ -21,9 +21,9 @@ use Rattle.lumber_session.specs.Staged.{Staged, staged}
 use Rattle.lumber_session.proofs.WindowLaws.{staged-append}
 use Rattle.hec_session.specs.declared.tokens.Tokens.{Tokens}
 use Rattle.spool_state.specs.SpoolState.{SpoolState}
-use Rattle.spool_answers.specs.declared.fault.Receipt.{Receipt}
-use Rattle.spool_answers.specs.declared.fault.TakeFault.{TakeFault}
-use Rattle.spool_answers.specs.declared.fault.TakeFault.TheVariants as Take
+use Rattle.spool_answers.specs.declared.receipt.Receipt.{Receipt}
+use Rattle.spool_faults.specs.declared.fault.TakeFault.{TakeFault}
+use Rattle.spool_faults.specs.declared.fault.TakeFault.TheVariants as Take
 use Rattle.spool_answers.specs.Take.{Fits}
 use Rattle.desk_access.specs.Call.{Call, takes, taken_of, failures_of}
 use Rattle.desk_access.specs.Carried.{Carried, Ending, EndsAtMove, IsOver}

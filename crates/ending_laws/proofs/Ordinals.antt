@@ -10,10 +10,10 @@ use Rattle.known_numbers.proofs.Marking.{marked_ends, marked_rises, marked_sound
 use Rattle.spool_state.specs.Layout.{most_number}
 use Rattle.spool_state.specs.SpoolState.{SpoolState, end, numbers_of, IsSound}
 use Rattle.spool_state.specs.Change.{registered}
-use Rattle.spool_answers.specs.declared.fault.ConfirmFault.{ConfirmFault}
-use Rattle.spool_answers.specs.declared.fault.ConfirmFault.TheVariants as Confirm
-use Rattle.spool_answers.specs.declared.fault.PendFault.{PendFault}
-use Rattle.spool_answers.specs.declared.fault.PendFault.TheVariants as Pend
+use Rattle.spool_faults.specs.declared.fault.ConfirmFault.{ConfirmFault}
+use Rattle.spool_faults.specs.declared.fault.ConfirmFault.TheVariants as Confirm
+use Rattle.spool_faults.specs.declared.fault.PendFault.{PendFault}
+use Rattle.spool_faults.specs.declared.fault.PendFault.TheVariants as Pend
 use Rattle.spool_answers.specs.Mark.{EndsBy, IsNothingNew, Marks}
 use Rattle.spool_answers.specs.Pend.{IsNotBroken}
 use Rattle.spool_answers.specs.Stages.{known_stages, last_of, total_of}

@@ -30,7 +30,7 @@ use Rattle.relp_session.proofs.Sessions.{acts_by_frames}
 use Rattle.relp_session.proofs.States.{ends_when_closed, state_then, stays_unclosed}
 use Rattle.hec_session.specs.declared.tokens.Tokens.{Tokens}
 use Rattle.spool_state.specs.SpoolState.{SpoolState}
-use Rattle.spool_answers.specs.declared.fault.TakeFault.TheVariants as Take
+use Rattle.spool_faults.specs.declared.fault.TakeFault.TheVariants as Take
 use Rattle.desk_access.specs.Call.{Call, takes, taken_of, failures_of}
 use Rattle.desk_access.specs.Carried.{Carried, Ending, EndsAtMove, IsOver}
 use Rattle.desk_access.specs.Protocol.{AreMoves}

@@ -9,8 +9,8 @@ use Rattle.spool_state.specs.SpoolState.{IsKnownIn, SpoolState, base, list, numb
 use Rattle.spool_state.specs.Left.{numbered, unknown}
 use Rattle.spool_state.proofs.Registered.{with_marked}
 use Rattle.spool_state.proofs.Unknown.{unknown_thinned}
-use Rattle.spool_answers.specs.declared.fault.ConfirmFault.{ConfirmFault}
-use Rattle.spool_answers.specs.declared.fault.ConfirmFault.TheVariants as Confirm
+use Rattle.spool_faults.specs.declared.fault.ConfirmFault.{ConfirmFault}
+use Rattle.spool_faults.specs.declared.fault.ConfirmFault.TheVariants as Confirm
 use Rattle.spool_answers.specs.Mark.{after_mark, mark_doubt}
 use Rattle.spool_answers.specs.Stages.{IsOneOf, known_stages, last_of, total_of}
 use Rattle.desk_access.specs.declared.standing.Standing.{Standing}

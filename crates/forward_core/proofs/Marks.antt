@@ -6,7 +6,7 @@ use Rattle.std.proofs.lemmas.List.{length-map, map-append, get_or_append_left, g
 use Rattle.std.proofs.lemmas.List.Elements.{Contains-append_left, Contains-push, Contains-push_cases}
 use Rattle.known_numbers.specs.declared.stretch.Stretch.{Stretch}
 use Rattle.known_numbers.specs.Numbers.{IsInSome}
-use Rattle.spool_answers.specs.declared.fault.ConfirmFault.{ConfirmFault}
+use Rattle.spool_faults.specs.declared.fault.ConfirmFault.{ConfirmFault}
 use Rattle.spool_answers.specs.Pend.{AreNumbered}
 use Rattle.spool_answers.specs.declared.numbered.Numbered.{Numbered}
 use Rattle.desk_access.specs.Call.{Call, marks}

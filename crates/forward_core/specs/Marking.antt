@@ -1,8 +1,8 @@
 -- What was marked of a list of entries.
 use Rattle.std.specs.Prelude.{◌≡◌, ◌⊎◌, ℕ, ◌<◌, List, length, take, Contains, Result, Ok, Err}
 use Rattle.known_numbers.specs.declared.stretch.Stretch.{Stretch}
-use Rattle.spool_answers.specs.declared.fault.ConfirmFault.{ConfirmFault}
-use Rattle.spool_answers.specs.declared.fault.ConfirmFault.TheVariants as Confirm
+use Rattle.spool_faults.specs.declared.fault.ConfirmFault.{ConfirmFault}
+use Rattle.spool_faults.specs.declared.fault.ConfirmFault.TheVariants as Confirm
 use Rattle.spool_answers.specs.declared.numbered.Numbered.{Numbered}
 use Rattle.desk_access.specs.Call.{Call, marks}
 use Rattle.forward_core.specs.Calls.{IsMarked, MarksAllBelow, after_last, number_at}

@@ -1,7 +1,7 @@
 //! Marking before the peer's bytes are read.
 ghost use Rattle.std.specs.Prelude.{◌≡◌, ℕ, ◌++◌, ◌<◌, ◌≤◌, ◌^◌, ◌∷◌, [], List, Result, false, IfErr, OnOk, IsErrOf};
 ghost use Rattle.event_form.specs.declared.event.Entry.{Entry};
-ghost use Rattle.spool_answers.specs.declared.fault.ConfirmFault.{ConfirmFault};
+ghost use Rattle.spool_faults.specs.declared.fault.ConfirmFault.{ConfirmFault};
 ghost use Rattle.desk_access.specs.Call.{marks};
 ghost use Rattle.forward_core.specs.Leave.{AreEarned};
 ghost use Rattle.forward_core.specs.Course.{reading_left};

@@ -3,8 +3,8 @@ use Rattle.std.proofs.Common.{◌≡◌, ℕ, List, [], ◌∷◌, refl, ap, ari
 use Rattle.std.specs.Prelude.{Option, Err}
 use Rattle.event_form.specs.declared.talk.Talk.{Talk}
 use Rattle.edge_io.specs.declared.proto.Proto.{Proto}
-use Rattle.spool_answers.specs.declared.fault.PendFault.TheVariants as Pend
-use Rattle.spool_answers.specs.declared.fault.ConfirmFault.TheVariants as Confirm
+use Rattle.spool_faults.specs.declared.fault.PendFault.TheVariants as Pend
+use Rattle.spool_faults.specs.declared.fault.ConfirmFault.TheVariants as Confirm
 use Rattle.desk_access.specs.Call.{Call, failures_of, pends, marks}
 use Rattle.desk_access.specs.Journal.{failures_then}
 use Rattle.conn_serve.specs.Serves.{CarriedAs}

@@ -3,7 +3,7 @@ use Rattle.std.specs.Prelude.{◌≡◌, ◌+◌, ◌==◌, ℕ, if◌then◌els
 use Rattle.std.specs.List.{flat_map}
 use Rattle.edge_io.specs.Net.{NetState, SameHung, HasNetCause}
 use Rattle.edge_io.specs.declared.net_fault.NetFault.{NetFault}
-use Rattle.spool_answers.specs.declared.fault.PendFault.{PendFault}
+use Rattle.spool_faults.specs.declared.fault.PendFault.{PendFault}
 use Rattle.spool_answers.specs.declared.numbered.Numbered.{Numbered}
 use Rattle.desk_access.specs.Call.{Call, pends}
 use Rattle.desk_access.specs.Desk.{DeskState}

@@ -3,7 +3,7 @@ use Rattle.std.specs.Prelude.{◌≡◌, ◌⊎◌, ℕ, ◌+◌, ◌≤◌, Lis
 use Rattle.std.specs.List.{All, Contains, sum_by}
 use Rattle.event_form.specs.declared.event.Entry.{Entry}
 use Rattle.event_form.specs.declared.talk.Talk.TheVariants as Ending
-use Rattle.spool_answers.specs.declared.fault.TakeFault.TheVariants as Take
+use Rattle.spool_faults.specs.declared.fault.TakeFault.TheVariants as Take
 use Rattle.spool_state.specs.SpoolState.{SpoolState, end, list}
 use Rattle.desk_access.specs.Call.{Record, calls_of, takes, taken_of}
 use Rattle.desk_access.specs.Batch.{AreNext}

@@ -1,7 +1,7 @@
 -- The last look of a run.
 use Rattle.std.specs.Prelude.{◌≡◌, ℕ, ◌-◌, ◌<◌, ◌≤◌, List, [], ◌++◌, length, All, None, Some, Result, Ok, Err}
 use Rattle.spool_state.specs.SpoolState.{end}
-use Rattle.spool_answers.specs.declared.fault.PendFault.{PendFault}
+use Rattle.spool_faults.specs.declared.fault.PendFault.{PendFault}
 use Rattle.spool_answers.specs.declared.numbered.Numbered.{Numbered}
 use Rattle.spool_desk.specs.Alone.{AloneView}
 use Rattle.desk_access.specs.Call.{Call, Record, calls_of}

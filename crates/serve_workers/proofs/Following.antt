@@ -8,7 +8,7 @@ use Rattle.event_form.specs.declared.event.Entry.{Entry}
 use Rattle.event_form.specs.declared.talk.Talk.{Talk}
 use Rattle.event_form.specs.declared.talk.Talk.TheVariants.{DiskFault}
 use Rattle.edge_io.specs.Door.{DoorState}
-use Rattle.spool_answers.specs.declared.fault.TakeFault.TheVariants as Take
+use Rattle.spool_faults.specs.declared.fault.TakeFault.TheVariants as Take
 use Rattle.desk_access.specs.Batch.{AreNext, Belongs}
 use Rattle.desk_access.specs.Call.{Call, takes, taken_by, failures_of}
 use Rattle.desk_access.specs.Desk.{DeskState}

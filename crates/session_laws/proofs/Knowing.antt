@@ -9,7 +9,7 @@ use Rattle.known_numbers.proofs.Marking.{marked_keeps, marked_only, marked_same}
 use Rattle.event_form.specs.Entry.{IsEntry}
 use Rattle.event_form.specs.declared.event.Entry.{Entry}
 use Rattle.spool_state.specs.SpoolState.{IsKnownIn, IsSound, SpoolState, end, numbers_of}
-use Rattle.spool_answers.specs.declared.fault.ConfirmFault.{ConfirmFault}
+use Rattle.spool_faults.specs.declared.fault.ConfirmFault.{ConfirmFault}
 use Rattle.spool_answers.specs.Mark.{all_below}
 use Rattle.desk_access.specs.Call.{Call, Record, confirms, marks, own_of, pends}
 use Rattle.desk_access.specs.History.{Grown}

@@ -12,15 +12,15 @@ use Rattle.spool_state.specs.SpoolState.{IsSound, OpenSlot, SpoolState, numbers_
 use Rattle.spool_state.specs.Change.{added, begun, shut}
 use Rattle.spool_state.specs.Free.{is_confirmed, lowest_closed}
 use Rattle.spool_state.proofs.Registered.{with_marked}
-use Rattle.spool_answers.specs.declared.fault.Receipt.{Receipt}
-use Rattle.spool_answers.specs.declared.fault.TakeFault.{TakeFault}
-use Rattle.spool_answers.specs.declared.fault.TakeFault.TheVariants.{TooLarge, Spent, Full}
-use Rattle.spool_answers.specs.declared.fault.TakeFault.TheVariants as Take
-use Rattle.spool_answers.specs.declared.fault.PendFault.{PendFault}
-use Rattle.spool_answers.specs.declared.fault.PendFault.TheVariants as Pend
-use Rattle.spool_answers.specs.declared.fault.ConfirmFault.{ConfirmFault}
-use Rattle.spool_answers.specs.declared.fault.ConfirmFault.TheVariants as Confirm
-use Rattle.spool_answers.specs.Fault.{as_take}
+use Rattle.spool_answers.specs.declared.receipt.Receipt.{Receipt}
+use Rattle.spool_faults.specs.declared.fault.TakeFault.{TakeFault}
+use Rattle.spool_faults.specs.declared.fault.TakeFault.TheVariants.{TooLarge, Spent, Full}
+use Rattle.spool_faults.specs.declared.fault.TakeFault.TheVariants as Take
+use Rattle.spool_faults.specs.declared.fault.PendFault.{PendFault}
+use Rattle.spool_faults.specs.declared.fault.PendFault.TheVariants as Pend
+use Rattle.spool_faults.specs.declared.fault.ConfirmFault.{ConfirmFault}
+use Rattle.spool_faults.specs.declared.fault.ConfirmFault.TheVariants as Confirm
+use Rattle.spool_faults.specs.Fault.{as_take}
 use Rattle.spool_answers.specs.Stages.{IsOneOf, begin_stages, closed_stages, first_stages, group_stages, last_of, replace_stages, total_of}
 use Rattle.spool_answers.specs.Take.{Takes, after_take, take_doubt}
 use Rattle.spool_answers.specs.Mark.{Marks, after_mark, all_below, mark_doubt}

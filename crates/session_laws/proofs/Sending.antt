@@ -9,7 +9,7 @@ use Rattle.known_numbers.proofs.Marking.{marked_keeps, marked_only}
 use Rattle.event_form.specs.declared.event.Entry.{Entry}
 use Rattle.spool_state.specs.SpoolState.{IsKnownIn, IsSound, SpoolState, base, end, list, numbers_of}
 use Rattle.spool_state.specs.Left.{NumberedEntry, left_from, numbered, unknown}
-use Rattle.spool_answers.specs.declared.fault.ConfirmFault.{ConfirmFault}
+use Rattle.spool_faults.specs.declared.fault.ConfirmFault.{ConfirmFault}
 use Rattle.spool_answers.specs.declared.numbered.Numbered.{Numbered}
 use Rattle.spool_answers.specs.Pend.{AreNumbered, given_entries}
 use Rattle.desk_access.specs.Call.{Call, Record, confirms, marks, own_of, pends}

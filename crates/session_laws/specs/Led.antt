@@ -6,7 +6,7 @@ use Rattle.event_form.specs.Entry.{IsEntry}
 use Rattle.event_form.specs.declared.event.Entry.{Entry}
 use Rattle.spool_state.specs.SpoolState.{IsSound, SpoolState, numbers_of}
 use Rattle.spool_state.specs.Left.{left_from}
-use Rattle.spool_answers.specs.declared.fault.ConfirmFault.{ConfirmFault}
+use Rattle.spool_faults.specs.declared.fault.ConfirmFault.{ConfirmFault}
 use Rattle.spool_answers.specs.Mark.{all_below}
 use Rattle.spool_answers.specs.Pend.{given_entries}
 use Rattle.desk_access.specs.Call.{Call, Record, confirms, marks, pends}

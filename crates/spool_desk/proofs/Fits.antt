@@ -2,9 +2,9 @@
 use Rattle.std.proofs.Common.{◌≡◌, ◌⊎◌, inl, inr, ℕ, true, false, List, arith, refl, sym, ◌∙◌}
 use Rattle.std.specs.Prelude.{Bool, Result, Ok, Err, IfErr, IsErrOf, take}
 use Rattle.event_form.specs.declared.event.Entry.{Entry}
-use Rattle.spool_answers.specs.declared.fault.Receipt.{Receipt}
-use Rattle.spool_answers.specs.declared.fault.TakeFault.{TakeFault}
-use Rattle.spool_answers.specs.declared.fault.TakeFault.TheVariants as Take
+use Rattle.spool_answers.specs.declared.receipt.Receipt.{Receipt}
+use Rattle.spool_faults.specs.declared.fault.TakeFault.{TakeFault}
+use Rattle.spool_faults.specs.declared.fault.TakeFault.TheVariants as Take
 use Rattle.spool_log.specs.declared.memory.Memory.{Memory}
 use Rattle.spool_answers.specs.Take.{IsRefusal}
 use Rattle.spool_log.specs.Changing.Take.{RefusedBy}

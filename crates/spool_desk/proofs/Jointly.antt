@@ -10,9 +10,9 @@ use Rattle.spool_state.proofs.Texts.{length-head_text}
 use Rattle.edge_disk.specs.Disk.{LeavesOnly}
 use Rattle.edge_disk.specs.Calls.{Calls}
 use Rattle.edge_disk.proofs.Moments.{weaker}
-use Rattle.spool_answers.specs.declared.fault.Receipt.{Receipt}
-use Rattle.spool_answers.specs.declared.fault.TakeFault.{TakeFault}
-use Rattle.spool_answers.specs.declared.fault.TakeFault.TheVariants as Take
+use Rattle.spool_answers.specs.declared.receipt.Receipt.{Receipt}
+use Rattle.spool_faults.specs.declared.fault.TakeFault.{TakeFault}
+use Rattle.spool_faults.specs.declared.fault.TakeFault.TheVariants as Take
 use Rattle.spool_answers.specs.Stages.{group_stages, last_of, StandsForOne, IsMidway}
 use Rattle.spool_answers.specs.Take.{Takes}
 use Rattle.spool_answers.proofs.Adding.{adding_here}

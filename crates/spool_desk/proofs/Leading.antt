@@ -11,11 +11,11 @@ use Rattle.spool_state.specs.Image.{StandsFor}
 use Rattle.edge_disk.specs.Disk.{IsLawful, LeavesOnly}
 use Rattle.edge_disk.proofs.Moments.{started, both, weaker}
 use Rattle.spool_answers.specs.declared.numbered.Numbered.{Numbered}
-use Rattle.spool_answers.specs.declared.fault.Receipt.{Receipt}
-use Rattle.spool_answers.specs.declared.fault.TakeFault.{TakeFault}
-use Rattle.spool_answers.specs.declared.fault.PendFault.{PendFault}
-use Rattle.spool_answers.specs.declared.fault.ConfirmFault.{ConfirmFault}
-use Rattle.spool_answers.specs.Fault.{as_take, as_confirm}
+use Rattle.spool_answers.specs.declared.receipt.Receipt.{Receipt}
+use Rattle.spool_faults.specs.declared.fault.TakeFault.{TakeFault}
+use Rattle.spool_faults.specs.declared.fault.PendFault.{PendFault}
+use Rattle.spool_faults.specs.declared.fault.ConfirmFault.{ConfirmFault}
+use Rattle.spool_faults.specs.Fault.{as_take, as_confirm}
 use Rattle.spool_log.specs.State.{View, IsIn}
 use Rattle.spool_answers.specs.Stages.{IsOneOf, StandsForOne, IsMidway}
 use Rattle.spool_answers.specs.Mark.{EndsBy, all_below}

@@ -2,7 +2,7 @@
 use Rattle.std.specs.Prelude.{◌≡◌, false, ℕ, ◌^◌, ◌≤◌, List, [], ◌∷◌, Option, Result, Ok, Err}
 use Rattle.foundation.specs.Faults.{Rose}
 use Rattle.spool_state.specs.SpoolState.{SpoolState, end}
-use Rattle.spool_answers.specs.declared.fault.PendFault.{PendFault}
+use Rattle.spool_faults.specs.declared.fault.PendFault.{PendFault}
 use Rattle.edge_disk.specs.declared.disk.Disk.{Ghosts}
 use Rattle.edge_disk.specs.Disk.{LeavesOnly}
 use Rattle.spool_log.specs.State.{View, view, IsIn}

@@ -14,8 +14,8 @@ use Rattle.spool_state.specs.SpoolState.{SpoolState, base, end}
 use Rattle.spool_state.specs.Left.{NumberedEntry, left, left_from}
 use Rattle.spool_state.proofs.Unknown.{IsOf}
 use Rattle.spool_state.proofs.Lefts.{left_of, left_from-cursor}
-use Rattle.spool_answers.specs.declared.fault.TakeFault.{TakeFault}
-use Rattle.spool_answers.specs.declared.fault.TakeFault.TheVariants as Take
+use Rattle.spool_faults.specs.declared.fault.TakeFault.{TakeFault}
+use Rattle.spool_faults.specs.declared.fault.TakeFault.TheVariants as Take
 use Rattle.spool_answers.specs.Take.{IsRefusal}
 use Rattle.spool_log.specs.State.{View, IsIn}
 use Rattle.spool_move.specs.declared.fault.MoveFault.{MoveFault}

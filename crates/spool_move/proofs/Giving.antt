@@ -12,8 +12,8 @@ use Rattle.spool_state.proofs.Following.{follows_self}
 use Rattle.spool_state.proofs.Lefts.{left_unknown, left_from-cursor}
 use Rattle.spool_state.proofs.Registered.{with_marked, follows_marked, left-marked}
 use Rattle.spool_state.proofs.Unknown.{filter_like, known_from, unknown_from}
-use Rattle.spool_answers.specs.declared.fault.ConfirmFault.{ConfirmFault}
-use Rattle.spool_answers.specs.declared.fault.ConfirmFault.TheVariants as Confirm
+use Rattle.spool_faults.specs.declared.fault.ConfirmFault.{ConfirmFault}
+use Rattle.spool_faults.specs.declared.fault.ConfirmFault.TheVariants as Confirm
 use Rattle.spool_answers.specs.Mark.{all_below}
 use Rattle.spool_answers.specs.Stages.{known_stages, last_of, total_of}
 use Rattle.spool_log.specs.Outcome.{MarksFrom}

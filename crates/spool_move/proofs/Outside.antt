@@ -8,10 +8,10 @@ use Rattle.edge_disk.specs.Disk.{LeavesOnly}
 use Rattle.edge_disk.proofs.Moments.{weaker}
 use Rattle.spool_state.specs.SpoolState.{SpoolState}
 use Rattle.spool_answers.specs.declared.numbered.Numbered.{Numbered}
-use Rattle.spool_answers.specs.declared.fault.PendFault.{PendFault}
-use Rattle.spool_answers.specs.declared.fault.ConfirmFault.{ConfirmFault}
-use Rattle.spool_answers.specs.declared.fault.Receipt.{Receipt}
-use Rattle.spool_answers.specs.declared.fault.TakeFault.{TakeFault}
+use Rattle.spool_faults.specs.declared.fault.PendFault.{PendFault}
+use Rattle.spool_faults.specs.declared.fault.ConfirmFault.{ConfirmFault}
+use Rattle.spool_answers.specs.declared.receipt.Receipt.{Receipt}
+use Rattle.spool_faults.specs.declared.fault.TakeFault.{TakeFault}
 use Rattle.spool_answers.specs.Mark.{Marks, after_mark, mark_stages, mark_doubt}
 use Rattle.spool_answers.specs.Pend.{Pends}
 use Rattle.spool_answers.specs.Take.{Takes, after_take, take_stages, take_doubt}

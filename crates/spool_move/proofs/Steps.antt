@@ -12,7 +12,7 @@ use Rattle.edge_disk.proofs.Moments.{both, started, weaker}
 use Rattle.spool_state.specs.Image.{StandsFor}
 use Rattle.spool_state.specs.SpoolState.{SpoolState}
 use Rattle.spool_state.specs.Left.{NumberedEntry}
-use Rattle.spool_answers.specs.declared.fault.TakeFault.{TakeFault}
+use Rattle.spool_faults.specs.declared.fault.TakeFault.{TakeFault}
 use Rattle.spool_answers.specs.declared.numbered.Numbered.{Numbered}
 use Rattle.spool_answers.specs.Pend.{given_entries}
 use Rattle.spool_log.specs.State.{View, IsIn}

@@ -4,9 +4,9 @@ use Rattle.edge_disk.specs.Disk.{Moment}
 use Rattle.spool_state.specs.Layout.{most_number}
 use Rattle.spool_state.specs.SpoolState.{SpoolState, Follows}
 use Rattle.spool_state.specs.Left.{NumberedEntry, left}
-use Rattle.spool_answers.specs.declared.fault.PendFault.{PendFault}
-use Rattle.spool_answers.specs.declared.fault.TakeFault.{TakeFault}
-use Rattle.spool_answers.specs.declared.fault.TakeFault.TheVariants as Take
+use Rattle.spool_faults.specs.declared.fault.PendFault.{PendFault}
+use Rattle.spool_faults.specs.declared.fault.TakeFault.{TakeFault}
+use Rattle.spool_faults.specs.declared.fault.TakeFault.TheVariants as Take
 use Rattle.spool_answers.specs.Stages.{IsOneOf}
 use Rattle.spool_answers.specs.Take.{Takes}
 use Rattle.spool_log.specs.State.{View, IsIn}

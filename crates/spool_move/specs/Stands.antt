@@ -4,7 +4,7 @@ use Rattle.event_form.specs.declared.event.Entry.{Entry}
 use Rattle.spool_state.specs.SpoolState.{SpoolState, list, base, end, numbers_of, Follows}
 use Rattle.spool_state.specs.Left.{NumberedEntry, left, numbered}
 use Rattle.spool_state.specs.Image.{StandsFor}
-use Rattle.spool_answers.specs.declared.fault.TakeFault.{TakeFault}
+use Rattle.spool_faults.specs.declared.fault.TakeFault.{TakeFault}
 use Rattle.spool_answers.specs.Take.{IsRefusal, Takes}
 use Rattle.spool_move.specs.Moved.{all_moved, is_present, missing, moved}
 use Rattle.spool_move.specs.Strange.{NoneIsStrange}

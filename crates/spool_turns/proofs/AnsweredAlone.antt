@@ -5,8 +5,8 @@ use Rattle.std.proofs.lemmas.List.{take_all, length-take-le}
 use Rattle.atomic_table.specs.Table.{Me}
 use Rattle.event_form.specs.declared.event.Entry.{Entry}
 use Rattle.edge_disk.specs.declared.disk.Disk.{Ghosts}
-use Rattle.spool_answers.specs.declared.fault.Receipt.{Receipt}
-use Rattle.spool_answers.specs.declared.fault.TakeFault.{TakeFault}
+use Rattle.spool_answers.specs.declared.receipt.Receipt.{Receipt}
+use Rattle.spool_faults.specs.declared.fault.TakeFault.{TakeFault}
 use Rattle.spool_answers.specs.Take.{IsRefusal}
 use Rattle.desk_access.specs.Division.{DividedRun}
 use Rattle.desk_access.specs.Batch.{MayTake, MayUse}

@@ -3,10 +3,10 @@ use Rattle.std.proofs.Common.{◌≡◌, inl, inr, ℕ, List, [], ◌∷◌, ◌
 use Rattle.std.specs.Prelude.{Result, Ok, Err}
 use Rattle.event_form.specs.declared.event.Entry.{Entry}
 use Rattle.spool_state.specs.SpoolState.{SpoolState}
-use Rattle.spool_answers.specs.declared.fault.Receipt.{Receipt}
-use Rattle.spool_answers.specs.declared.fault.TakeFault.{TakeFault}
-use Rattle.spool_answers.specs.declared.fault.TakeFault.TheVariants as Take
-use Rattle.spool_answers.specs.declared.fault.PendFault.{PendFault}
+use Rattle.spool_answers.specs.declared.receipt.Receipt.{Receipt}
+use Rattle.spool_faults.specs.declared.fault.TakeFault.{TakeFault}
+use Rattle.spool_faults.specs.declared.fault.TakeFault.TheVariants as Take
+use Rattle.spool_faults.specs.declared.fault.PendFault.{PendFault}
 use Rattle.edge_disk.proofs.Moments.{weaker}
 use Rattle.hec_ids.specs.declared.fault.IssueFault.{IssueFault}
 use Rattle.hec_ids.specs.Table.{Table}

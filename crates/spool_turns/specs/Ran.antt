@@ -4,7 +4,7 @@ use Rattle.std.specs.Prelude.{All, Ok}
 use Rattle.std.proofs.lemmas.List.{append-nil}
 use Rattle.event_form.specs.declared.event.Entry.{Entry}
 use Rattle.spool_state.specs.SpoolState.{end}
-use Rattle.spool_answers.specs.declared.fault.Receipt.{Receipt}
+use Rattle.spool_answers.specs.declared.receipt.Receipt.{Receipt}
 use Rattle.desk_access.specs.Division.{DividedRun}
 use Rattle.desk_access.specs.Call.{Call, takes, issues, Record, own_of, taken_of, TookSurely}
 use Rattle.desk_access.specs.Batch.{AreOfUnit}

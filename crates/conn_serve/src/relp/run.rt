@@ -4,7 +4,7 @@ ghost use Rattle.event_form.specs.Event.{IsEvent};
 ghost use Rattle.event_form.specs.declared.event.Entry.{Entry as TheEntry};
 ghost use Rattle.event_form.specs.declared.event.Origin.TheVariants.{Relp};
 ghost use Rattle.relp_session.specs.Answer.{stored};
-ghost use Rattle.spool_answers.specs.declared.fault.Receipt.{Receipt as TheReceipt};
+ghost use Rattle.spool_answers.specs.declared.receipt.Receipt.{Receipt as TheReceipt};
 ghost use Rattle.spool_answers.specs.Take.{IsRefusal};
 ghost use Rattle.desk_access.specs.Batch.{AreNext};
 ghost use Rattle.desk_access.specs.Call.{takes};

@@ -1,7 +1,7 @@
 use Rattle.std.proofs.Common.{◌∷◌, [], take, subst}
 use Rattle.std.specs.Prelude.{Result}
-use Rattle.spool_answers.specs.declared.fault.Receipt.{Receipt}
-use Rattle.spool_answers.specs.declared.fault.TakeFault.{TakeFault}
+use Rattle.spool_answers.specs.declared.receipt.Receipt.{Receipt}
+use Rattle.spool_faults.specs.declared.fault.TakeFault.{TakeFault}
 use Rattle.desk_access.specs.Call.{takes}
 use Rattle.conn_serve.proofs.Answering.{front_may}
 use Rattle.conn_serve.proofs.connection.take_front.Goals as goal

@@ -4,7 +4,7 @@ ghost use Rattle.event_form.specs.Entry.{IsEntry};
 ghost use Rattle.spool_state.specs.SpoolState.{SpoolState};
 ghost use Rattle.spool_state.specs.Image.{StandsFor};
 ghost use Rattle.edge_memory.specs.MemDisk.{mem_moment};
-ghost use Rattle.spool_answers.specs.declared.fault.Receipt.{Receipt as TheReceipt};
+ghost use Rattle.spool_answers.specs.declared.receipt.Receipt.{Receipt as TheReceipt};
 ghost use Rattle.desk_access.specs.Call.{takes, issues, settles};
 ghost use Rattle.desk_access.specs.Batch.{AreNext, IsPlain, AreOfUnit};
 ghost use Rattle.desk_access.specs.Desk.{DeskState};

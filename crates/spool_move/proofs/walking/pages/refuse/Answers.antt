@@ -1,5 +1,5 @@
 use Rattle.std.proofs.Common.{◌∷◌, [], subst}
-use Rattle.spool_answers.specs.declared.fault.TakeFault.{TakeFault}
+use Rattle.spool_faults.specs.declared.fault.TakeFault.{TakeFault}
 use Rattle.spool_log.specs.Changing.Take.{RefusedBy}
 use Rattle.spool_move.proofs.walking.pages.refuse.Goals as goal
 

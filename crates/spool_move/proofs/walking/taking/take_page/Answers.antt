@@ -6,7 +6,7 @@ use Rattle.edge_disk.specs.Disk.{LeavesOnly}
 use Rattle.edge_disk.proofs.Calls.{calls_none, calls_as, calls_on}
 use Rattle.edge_disk.proofs.Moments.{started}
 use Rattle.spool_state.specs.Left.{NumberedEntry}
-use Rattle.spool_answers.specs.declared.fault.TakeFault.{TakeFault}
+use Rattle.spool_faults.specs.declared.fault.TakeFault.{TakeFault}
 use Rattle.spool_answers.specs.declared.numbered.Numbered.{Numbered}
 use Rattle.spool_answers.specs.Pend.{AreNumbered, given_entries}
 use Rattle.spool_log.specs.State.{view}

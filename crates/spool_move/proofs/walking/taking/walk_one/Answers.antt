@@ -1,6 +1,6 @@
 use Rattle.std.proofs.Common.{◌∙◌, length, refl, sym, ap, arith, subst}
 use Rattle.std.specs.Prelude.{Result}
-use Rattle.spool_answers.specs.declared.fault.TakeFault.{TakeFault}
+use Rattle.spool_faults.specs.declared.fault.TakeFault.{TakeFault}
 use Rattle.spool_log.specs.State.{view}
 use Rattle.spool_move.specs.Reading.{as_entry}
 use Rattle.spool_move.specs.Walking.{WalksOne}
