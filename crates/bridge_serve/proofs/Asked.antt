@@ -70,7 +70,7 @@ module _ {D : Type 0} (disks : Ghosts D) (given now : D) (memory : Memory) (in_d
         let lead = has.replays.leads x.0 x.1 in
         let same = goes_later x.0 lead.after has.log begins.rules lead.goes in
         ap (λ (l : Level). numbers_of run.number l stored) has.level_is
-            ∙ known_numbers run.number lead.after.spool lead.after.doubt _ stored lead.reached.spool (sym begins.of_run ∙ sym same.1.run);
+        ∙ known_numbers run.number lead.after.spool lead.after.doubt _ stored lead.reached.spool (sym begins.of_run ∙ sym same.1.run);
   }
 
   -- what may be told of the spool, the run may tell of each level
