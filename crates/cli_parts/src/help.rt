@@ -4,7 +4,7 @@ ghost use Rattle.cli_parts.specs.declared.help.Question.{Question};
 ghost use Rattle.cli_parts.specs.Help.{asked_by, IsFirst, IsSilent};
 
 /// The version: the day of the newest of the changes that CHANGELOG.md tells of.
-const VERSION: &str = "bridge 2026-11-30";
+const VERSION: &str = "bridge 2026-12-01";
 
 /// The page of help: what FILE is, a line for each command, for each option and for each exit status. tests/pages compares it with the
 /// manual.
