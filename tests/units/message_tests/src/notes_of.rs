@@ -1,0 +1,233 @@
+//! Faults beside the notes that the program ends with.
+use disk_cell::{LoadFault, SetFault};
+use event_form::Why;
+use hec_ids::IssueFault;
+use http_edge::{HttpFault, HttpWhy};
+use lumber_frame::{LumberFault, LumberWhy};
+use notes::{Note, note_text};
+use relp_frame::{RelpFault, RelpWhy};
+use spool_faults::{ConfirmFault, PendFault, TakeFault};
+use spool_log::{FormatFault, RecoverFault};
+use spool_move::MoveFault;
+use spool_slots::{ScanFault, SlotFault};
+use std::alloc::Global;
+use std::fmt::Display;
+use std::process::Abort;
+
+// The message is the note's text.
+fn is_said<F: Display + Drop>(rt: &impl Abort, alloc: Global, fault: F, note: Note) {
+    let message = format!(in alloc; "{fault}").expect(rt, "memory");
+    let text = note_text(alloc, &note).expect(rt, "memory");
+    assert_eq!(rt; message.as_bytes(), text.bytes());
+}
+
+pub fn faults_of_spools(rt: &impl Abort, alloc: Global) {
+    is_said(
+        rt,
+        alloc,
+        TakeFault::TooLarge { need: 7, most: 5 },
+        Note::TooLarge { need: 7, most: 5 },
+    );
+    is_said(
+        rt,
+        alloc,
+        TakeFault::Spent { end: 9 },
+        Note::Spent { end: 9 },
+    );
+    is_said(
+        rt,
+        alloc,
+        TakeFault::Full { need: 7, room: 5 },
+        Note::Full { need: 7, room: 5 },
+    );
+    is_said(
+        rt,
+        alloc,
+        TakeFault::NotSpool { at: 3 },
+        Note::NotSpool { at: 3 },
+    );
+    is_said(rt, alloc, TakeFault::NoMemory, Note::NoMemory);
+    is_said(rt, alloc, TakeFault::DiskFault, Note::DiskFault);
+    is_said(
+        rt,
+        alloc,
+        PendFault::NotSpool { at: 3 },
+        Note::NotSpool { at: 3 },
+    );
+    is_said(rt, alloc, PendFault::DiskFault, Note::DiskFault);
+    is_said(rt, alloc, PendFault::NoMemory, Note::NoMemory);
+    is_said(
+        rt,
+        alloc,
+        ConfirmFault::Worn { ordinal: 11 },
+        Note::Worn { ordinal: 11 },
+    );
+    is_said(
+        rt,
+        alloc,
+        ConfirmFault::NotSpool { at: 3 },
+        Note::NotSpool { at: 3 },
+    );
+    is_said(rt, alloc, ConfirmFault::DiskFault, Note::DiskFault);
+    is_said(rt, alloc, ConfirmFault::NoMemory, Note::NoMemory);
+    is_said(
+        rt,
+        alloc,
+        RecoverFault::NotSpool { at: 3 },
+        Note::NotSpool { at: 3 },
+    );
+    is_said(
+        rt,
+        alloc,
+        RecoverFault::RunsSpent { run: 13 },
+        Note::RunsSpent { run: 13 },
+    );
+    is_said(
+        rt,
+        alloc,
+        RecoverFault::Worn { ordinal: 11 },
+        Note::Worn { ordinal: 11 },
+    );
+    is_said(rt, alloc, RecoverFault::DiskFault, Note::DiskFault);
+    is_said(rt, alloc, RecoverFault::NoMemory, Note::NoMemory);
+    is_said(
+        rt,
+        alloc,
+        MoveFault::Strange { number: 17 },
+        Note::Strange { number: 17 },
+    );
+    is_said(
+        rt,
+        alloc,
+        MoveFault::TooLarge { need: 7, most: 5 },
+        Note::TooLarge { need: 7, most: 5 },
+    );
+    is_said(
+        rt,
+        alloc,
+        MoveFault::Spent { end: 9 },
+        Note::Spent { end: 9 },
+    );
+    is_said(
+        rt,
+        alloc,
+        MoveFault::Full { need: 7, room: 5 },
+        Note::Full { need: 7, room: 5 },
+    );
+    is_said(
+        rt,
+        alloc,
+        MoveFault::Worn { ordinal: 11 },
+        Note::Worn { ordinal: 11 },
+    );
+    is_said(
+        rt,
+        alloc,
+        MoveFault::NotSpool { at: 3 },
+        Note::NotSpool { at: 3 },
+    );
+    is_said(rt, alloc, MoveFault::SourceFault, Note::DiskFault);
+    is_said(rt, alloc, MoveFault::TargetFault, Note::DiskFault);
+    is_said(rt, alloc, MoveFault::NoMemory, Note::NoMemory);
+}
+
+pub fn faults_of_disks(rt: &impl Abort, alloc: Global) {
+    is_said(
+        rt,
+        alloc,
+        FormatFault::WrongLength { have: 19, want: 23 },
+        Note::WrongLength { have: 19, want: 23 },
+    );
+    is_said(rt, alloc, FormatFault::DiskFault, Note::DiskFault);
+    is_said(
+        rt,
+        alloc,
+        LoadFault::NotSpool { at: 3 },
+        Note::NotSpool { at: 3 },
+    );
+    is_said(rt, alloc, LoadFault::NoMemory, Note::NoMemory);
+    is_said(rt, alloc, LoadFault::DiskFault, Note::DiskFault);
+    is_said(
+        rt,
+        alloc,
+        SetFault::Worn { ordinal: 11 },
+        Note::Worn { ordinal: 11 },
+    );
+    is_said(rt, alloc, SetFault::DiskFault, Note::DiskFault);
+    is_said(
+        rt,
+        alloc,
+        SlotFault::NoRoom { need: 7, room: 5 },
+        Note::Full { need: 7, room: 5 },
+    );
+    is_said(rt, alloc, SlotFault::DiskFault, Note::DiskFault);
+    is_said(
+        rt,
+        alloc,
+        ScanFault::NotSpool { at: 3 },
+        Note::NotSpool { at: 3 },
+    );
+    is_said(rt, alloc, ScanFault::DiskFault, Note::DiskFault);
+    is_said(rt, alloc, ScanFault::NoMemory, Note::NoMemory);
+}
+
+pub fn faults_of_ids(rt: &impl Abort, alloc: Global) {
+    is_said(
+        rt,
+        alloc,
+        IssueFault::NoMore { run: 13 },
+        Note::NoMore { run: 13 },
+    );
+    is_said(
+        rt,
+        alloc,
+        IssueFault::Busy { held: 10_000 },
+        Note::Busy { held: 10_000 },
+    );
+    is_said(rt, alloc, IssueFault::NoMemory, Note::NoMemory);
+}
+
+pub fn faults_of_frames(rt: &impl Abort, alloc: Global) {
+    for (why, same) in [
+        (RelpWhy::Digits, Why::Digits),
+        (RelpWhy::Space, Why::Space),
+        (RelpWhy::Command, Why::Command),
+        (RelpWhy::TooLong, Why::TooLong),
+        (RelpWhy::Trailer, Why::Trailer),
+    ] {
+        is_said(
+            rt,
+            alloc,
+            RelpFault { at: 29, why },
+            Note::Fault { at: 29, why: same },
+        );
+    }
+    for (why, same) in [
+        (LumberWhy::Version, Why::Version),
+        (LumberWhy::Kind, Why::Kind),
+        (LumberWhy::Compressed, Why::Compressed),
+        (LumberWhy::AckFromWriter, Why::AckFromWriter),
+        (LumberWhy::TooLong, Why::TooLong),
+        (LumberWhy::TooMany, Why::TooMany),
+    ] {
+        is_said(
+            rt,
+            alloc,
+            LumberFault { at: 29, why },
+            Note::Fault { at: 29, why: same },
+        );
+    }
+    for (why, same) in [
+        (HttpWhy::BadHead, Why::BadHead),
+        (HttpWhy::BadLength, Why::BadLength),
+        (HttpWhy::TooLong, Why::TooLong),
+        (HttpWhy::BadChunk, Why::BadChunk),
+    ] {
+        is_said(
+            rt,
+            alloc,
+            HttpFault { at: 29, why },
+            Note::Fault { at: 29, why: same },
+        );
+    }
+}

@@ -1,0 +1,11 @@
+//! All that holds of messages.
+use crate::notes_of::{faults_of_disks, faults_of_frames, faults_of_ids, faults_of_spools};
+
+#[test]
+fn messages(rt: HostRuntime) {
+    let alloc = rt.alloc();
+    faults_of_spools(&rt, alloc);
+    faults_of_disks(&rt, alloc);
+    faults_of_ids(&rt, alloc);
+    faults_of_frames(&rt, alloc);
+}
