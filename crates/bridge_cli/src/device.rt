@@ -20,10 +20,9 @@ ghost use Rattle.spool_move.specs.Leave.{MayMove};
 use crate::over::{run_bare, run_once, run_over};
 use bridge_words::{Need, need_of};
 use cli_files::{Files, How, refuse, run_move};
-use cli_parts::{Opening, Waiting, print_no_spool};
+use cli_parts::{Opening, Told, Waiting, print_no_spool};
 use edge_disk::Disk;
 use edge_io::{Door, Net, Sink, Source};
-use edge_net::Since;
 use notes::Note;
 use std::sync::Wait;
 use std::thread::Threads;
@@ -35,7 +34,7 @@ fn run_made<F: Files, S: Source, K: Sink, N: Net>(
     file: &str,
     len: u64,
     words: &[String],
-    failing: &Since,
+    told: Told<'_>,
     input: &mut S,
     output: &mut K,
     net: &mut N,
@@ -68,7 +67,7 @@ where
                 disk,
                 false,
                 Waiting::Nobody,
-                failing,
+                told,
                 input,
                 output,
                 net,
@@ -80,19 +79,13 @@ where
 }
 
 // Runs the words over `file`, which exists and is shared as they want it. Only those of `serve` take threads, and may wait.
-fn run_existing<
-    F: Files,
-    S: Source,
-    K: Sink,
-    N: Net + Send,
-    R: Threads + Wait + Sync,
->(
+fn run_existing<F: Files, S: Source, K: Sink, N: Net + Send, R: Threads + Wait + Sync>(
     rt: &HostRuntime,
     threads: &R,
     files: &F,
     file: &str,
     words: &[String],
-    failing: &Since,
+    told: Told<'_>,
     input: &mut S,
     output: &mut K,
     net: &mut N,
@@ -130,10 +123,7 @@ where
     };
     match files.open(file, How::Existing(opening.sharing)) {
         Ok(disk) => {
-            let note = run_over(
-                rt, threads, words, disk, opening, failing, input, output, net,
-            )
-            .note;
+            let note = run_over(rt, threads, words, disk, opening, told, input, output, net).note;
             print_no_spool(rt, file, note);
             note
         }
@@ -143,8 +133,8 @@ where
 
 /// Does what the words ask for, in threads of `threads` where that takes some, over the device that they want: `file`, opened
 /// or made, or one in memory without a byte where they want none; or a move over `file` and the other that they name. A `file` that can't be
-/// opened is a fault of the disk, and standard error says why in a line of its own; one that is no spool is named there too. Since when
-/// calls of `file` fail is noted in `failing`. `list` shares `file` with others that list it; every
+/// opened is a fault of the disk, and standard error says why in a line of its own; one that is no spool is named there too. How
+/// `file` is goes where `told` says. `list` shares `file` with others that list it; every
 /// other command has it alone while it runs.
 ///
 /// What was done is what `bridge` does over that disk, opened so: `done`; or what `bridge_move` does over both: `moved`.
@@ -154,7 +144,7 @@ pub fn run_words<F: Files, S: Source, K: Sink, N: Net + Send, R: Threads + Wait 
     files: &F,
     file: &str,
     words: &[String],
-    failing: &Since,
+    told: Told<'_>,
     input: &mut S,
     output: &mut K,
     net: &mut N,
@@ -199,13 +189,9 @@ where
         (output_run K.taken K.write_faults output.old output.new) result) }
 {
     match need_of(rt.alloc(), words) {
-        Ok(Need::Make { len }) => run_made(
-            rt, files, file, len, words, failing, input, output, net,
-        ),
+        Ok(Need::Make { len }) => run_made(rt, files, file, len, words, told, input, output, net),
         Ok(Need::Existing) => {
-            run_existing(
-                rt, threads, files, file, words, failing, input, output, net,
-            )
+            run_existing(rt, threads, files, file, words, told, input, output, net)
         }
         Ok(Need::Pair { target, .. }) => run_move(rt, files, file, target.as_str(), words, output),
         Ok(Need::NoCommand) => run_bare(rt.alloc(), words, input, output, net),

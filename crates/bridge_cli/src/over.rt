@@ -10,18 +10,17 @@ ghost use Rattle.bridge_cli.specs.Texts.{ForTexts};
 ghost use Rattle.bridge_cli.specs.Watched.{KeepsWatched};
 
 use bridge_core::{Ended, bridge, bridge_once};
-use cli_parts::{Opening, Progress, Waiting, Watched};
+use cli_parts::{Opening, Progress, Told, Waiting, Watched};
 use edge_disk::Disk;
 use edge_io::{Door, Net, Sink, Source};
 use edge_memory::MemDisk;
-use edge_net::Since;
 use notes::Note;
 use std::alloc::Global;
 use std::sync::Wait;
 use std::thread::Threads;
 
-// Runs the words over the disk, which is watched meanwhile, and for which somebody may wait; it is noted in `failing` since when its calls
-// fail. Its reading may be shown. What was done is what `bridge` does, and nothing else: of the disk, of the streams and of the net.
+// Runs the words over the disk, which is watched meanwhile, and for which somebody may wait; how it is goes where `told` says. Its
+// reading may be shown. What was done is what `bridge` does, and nothing else: of the disk, of the streams and of the net.
 fn run_serving<D: Disk + Drop + Send, S: Source, K: Sink, N: Net + Send, R: Threads + Wait + Sync>(
     rt: &HostRuntime,
     threads: &R,
@@ -29,7 +28,7 @@ fn run_serving<D: Disk + Drop + Send, S: Source, K: Sink, N: Net + Send, R: Thre
     disk: D,
     is_shown: bool,
     waiting: Waiting,
-    failing: &Since,
+    told: Told<'_>,
     input: &mut S,
     output: &mut K,
     net: &mut N,
@@ -55,7 +54,7 @@ where
         (disk, input.old, output.old, net.old) (input.new, output.new, net.new) result }
 {
     let progress = Progress::new(rt, is_shown);
-    let disk = Watched::new(disk, progress, "FILE", waiting).noting(failing);
+    let disk = Watched::new(disk, progress, "FILE", waiting).noting(told);
     let Ended {
         status,
         note,
@@ -70,15 +69,15 @@ where
     }
 }
 
-/// Runs words that are none of `serve` over the disk, which is watched meanwhile, and for which somebody may wait; it is noted in `failing`
-/// since when its calls fail. Its reading may be shown. What was done is what `bridge_once` does, and nothing else, and it ends.
+/// Runs words that are none of `serve` over the disk, which is watched meanwhile, and for which somebody may wait; how it is goes where
+/// `told` says. Its reading may be shown. What was done is what `bridge_once` does, and nothing else, and it ends.
 pub(crate) fn run_once<D: Disk, S: Source, K: Sink, N: Net>(
     rt: &HostRuntime,
     words: &[String],
     disk: D,
     is_shown: bool,
     waiting: Waiting,
-    failing: &Since,
+    told: Told<'_>,
     input: &mut S,
     output: &mut K,
     net: &mut N,
@@ -97,7 +96,7 @@ pub(crate) fn run_once<D: Disk, S: Source, K: Sink, N: Net>(
         (disk, input.old, output.old, net.old) (input.new, output.new, net.new) result }
 {
     let progress = Progress::new(rt, is_shown);
-    let disk = Watched::new(disk, progress, "FILE", waiting).noting(failing);
+    let disk = Watched::new(disk, progress, "FILE", waiting).noting(told);
     let Ended {
         status,
         note,
@@ -112,16 +111,22 @@ pub(crate) fn run_once<D: Disk, S: Source, K: Sink, N: Net>(
     }
 }
 
-/// Runs the words over the disk, as they want it. It is watched meanwhile, and it is noted in `failing` since when its calls fail. What was
+/// Runs the words over the disk, as they want it. It is watched meanwhile, and how it is goes where `told` says. What was
 /// done is what `bridge` does, and nothing else: of the disk, of the streams and of the net. Words that are none of `serve` are done by
 /// `bridge_once`, which ends; so they alone may wait, and take threads.
-pub(crate) fn run_over<D: Disk + Drop + Send, S: Source, K: Sink, N: Net + Send, R: Threads + Wait + Sync>(
+pub(crate) fn run_over<
+    D: Disk + Drop + Send,
+    S: Source,
+    K: Sink,
+    N: Net + Send,
+    R: Threads + Wait + Sync,
+>(
     rt: &HostRuntime,
     threads: &R,
     words: &[String],
     disk: D,
     opening: Opening,
-    failing: &Since,
+    told: Told<'_>,
     input: &mut S,
     output: &mut K,
     net: &mut N,
@@ -151,12 +156,10 @@ where
     let waiting = opening.waiting;
     if opening.is_serving {
         run_serving(
-            rt, threads, words, disk, is_shown, waiting, failing, input, output, net,
+            rt, threads, words, disk, is_shown, waiting, told, input, output, net,
         )
     } else {
-        run_once(
-            rt, words, disk, is_shown, waiting, failing, input, output, net,
-        )
+        run_once(rt, words, disk, is_shown, waiting, told, input, output, net)
     }
 }
 

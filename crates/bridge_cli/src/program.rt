@@ -2,15 +2,15 @@
 use crate::device::run_words;
 use cli_files::{SystemFiles, run_rescue, run_skip};
 use cli_parts::{
-    Arguments, NoArguments, RunOptions, Taken, Untaken, confirm, hold_streams, keep_freed,
-    print_beside_usage, print_beside_wrong_option, print_ending, print_line, print_note, rescue_of,
-    skip_of, take_options, with_tokens,
+    Arguments, Host, NoArguments, RunOptions, Shown, StandardError, Taken, Told, Untaken, confirm,
+    hold_streams, keep_freed, print_beside_usage, print_beside_wrong_option, print_ending,
+    print_line, print_note, print_start, rescue_of, skip_of, take_options, with_tokens,
 };
 use edge_io::FileIo;
 use edge_net::{Reports, TcpNet, Waits};
 use notes::Note;
-use std::io;
-use std::sync::Wait;
+use std::io::{self, IsTerminal};
+use std::sync::{Arc, Wait};
 use std::thread::Threads;
 
 // What is said of the net, as the options have it.
@@ -30,6 +30,14 @@ fn waits_of(options: RunOptions) -> Waits {
     }
 }
 
+// Whether the arguments ask for the command of this name.
+fn asks_for(arguments: &Arguments, command: &str) -> bool {
+    match arguments.words.first() {
+        Some(name) => name.as_str() == command,
+        None => false,
+    }
+}
+
 // Does what the arguments say, over standard input, standard output and the sockets of the system; but a `format` that its user takes back
 // does nothing.
 fn run_arguments<R: Threads + Wait + Sync>(
@@ -37,12 +45,14 @@ fn run_arguments<R: Threads + Wait + Sync>(
     threads: &R,
     arguments: &Arguments,
     options: RunOptions,
+    errors: &StandardError,
 ) -> Note {
     if let Err(note) = confirm(rt, arguments) {
         return note;
     }
     let mut input = FileIo::of(rt.reader());
-    let mut output = FileIo::of(io::writer(rt));
+    let is_terminal = asks_for(arguments, "list") && rt.stdout().is_terminal();
+    let mut output = FileIo::of(Shown::over(rt.alloc(), io::writer(rt), is_terminal));
     let files = SystemFiles::new(rt);
     if let Some(number) = skip_of(&arguments.words) {
         return run_skip(rt, &files, &arguments.file, number, &mut output);
@@ -51,22 +61,62 @@ fn run_arguments<R: Threads + Wait + Sync>(
         return run_rescue(rt, &files, &arguments.file, rescue.layout, &mut output);
     }
     let reports = reports_of(options);
-    let mut net = TcpNet::with_waits(rt.alloc(), rt, &reports, waits_of(options));
+    let host = Host { rt, errors };
+    let told = Told {
+        failing: reports.disk(),
+        errors,
+    };
+    let mut net = TcpNet::with_waits(rt.alloc(), &host, &reports, waits_of(options));
     run_words(
         rt,
         threads,
         &files,
         &arguments.file,
         &arguments.words,
-        reports.disk(),
+        told,
         &mut input,
         &mut output,
         &mut net,
     )
 }
 
-// The same where the options of the run stand among the words, which are taken out of them; and says on standard error what isn't well.
-fn run_all<R: Threads + Wait + Sync>(rt: &HostRuntime, threads: &R, arguments: Arguments) -> Note {
+// The same, and says on standard error what isn't well. A server has its lines written by a thread, and waits for that in the end.
+fn run_taken<R: Threads + Wait + Sync + Copy + Send + 'static>(
+    rt: &HostRuntime,
+    threads: &R,
+    arguments: &Arguments,
+    options: RunOptions,
+) -> Note {
+    let alloc = rt.alloc();
+    let Ok(errors) = Arc::new(alloc, StandardError::new(rt)) else {
+        print_note(rt, Note::NoMemory);
+        return Note::NoMemory;
+    };
+    if asks_for(arguments, "serve") {
+        if StandardError::start(threads, &errors).is_err() {
+            print_note(rt, Note::NoMemory);
+            return Note::NoMemory;
+        }
+        if !options.is_quiet {
+            print_start(&(&*errors, alloc), &arguments.file, &arguments.words);
+            errors.finish(rt);
+        }
+    }
+    let note = run_arguments(rt, threads, arguments, options, &errors);
+    print_ending(&(&*errors, alloc), arguments, note);
+    errors.finish(rt);
+    if note == Note::Usage {
+        print_beside_usage(rt, arguments);
+    }
+    note
+}
+
+// The same where the options of the run stand among the words, which are taken out of them.
+fn run_all<R: Threads + Wait + Sync + Copy + Send + 'static>(
+    rt: &HostRuntime,
+    threads: &R,
+    arguments: Arguments,
+) -> Note {
     let taken = take_options(rt.alloc(), &arguments.words);
     let Arguments { file, words } = arguments;
     match taken {
@@ -76,12 +126,7 @@ fn run_all<R: Threads + Wait + Sync>(rt: &HostRuntime, threads: &R, arguments: A
                 Err(note) => return note,
             };
             let arguments = Arguments { file, words };
-            let note = run_arguments(rt, threads, &arguments, options);
-            print_ending(rt, &arguments, note);
-            if note == Note::Usage {
-                print_beside_usage(rt, &arguments);
-            }
-            note
+            run_taken(rt, threads, &arguments, options)
         }
         Err(Untaken::Wrong(wrong)) => {
             print_note(rt, Note::Usage);
@@ -99,7 +144,10 @@ fn run_all<R: Threads + Wait + Sync>(rt: &HostRuntime, threads: &R, arguments: A
 /// stand the options of the run, and its streams are standard input and output. One that is closed is taken as empty, or as one to which
 /// a write fails. Where it doesn't end well, standard error gets the note's line. After the usage line it gets others that say what is
 /// wrong with the words; but where these ask for help or for the version, standard output gets that.
-pub fn run<R: Threads + Wait + Sync>(rt: &HostRuntime, threads: &R) -> Note {
+pub fn run<R: Threads + Wait + Sync + Copy + Send + 'static>(
+    rt: &HostRuntime,
+    threads: &R,
+) -> Note {
     let _held = hold_streams(rt);
     keep_freed(rt.alloc());
     match Arguments::read(rt) {

@@ -12,8 +12,8 @@ ghost use Rattle.bridge_move.specs.MoveRun.{two_disks};
 ghost use Rattle.cli_files.specs.Opened.{IsUnopened, OverFiles};
 ghost use Rattle.cli_files.specs.Watched.{MovesWatched};
 
-use crate::refused::refuse;
 use crate::files::Files;
+use crate::refused::refuse;
 use bridge_move::{Moved, bridge_move};
 use cli_parts::{Progress, Showing, Waiting, Watched, print_no_spool};
 use edge_disk::Disk;

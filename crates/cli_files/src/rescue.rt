@@ -8,8 +8,8 @@ ghost use Rattle.bridge_rescue.specs.declared.rescued.Report.{Report};
 ghost use Rattle.cli_files.specs.declared.files.How.TheVariants.{ToRead};
 ghost use Rattle.cli_files.specs.Opened.{IsUnopened, OverFile};
 
-use crate::refused::refuse;
 use crate::files::{Files, How};
+use crate::refused::refuse;
 use bridge_rescue::{Layout, Rescued, bridge_rescue};
 use cli_parts::{Progress, Showing, Waiting, Watched, print_note, print_rescue};
 use edge_disk::Disk;

@@ -10,8 +10,8 @@ ghost use Rattle.edge_file.specs.declared.open_fault.Sharing.TheVariants.{Exclus
 ghost use Rattle.cli_files.specs.declared.files.How.TheVariants.{Existing};
 ghost use Rattle.cli_files.specs.Opened.{IsUnopened, OverFile};
 
-use crate::refused::refuse;
 use crate::files::{Files, How};
+use crate::refused::refuse;
 use bridge_skip::{Skipped, bridge_skip};
 use cli_parts::{Progress, Showing, Waiting, Watched, print_no_spool};
 use edge_disk::Disk;
