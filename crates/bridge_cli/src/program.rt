@@ -3,7 +3,7 @@ use crate::device::run_words;
 use crate::rescue::run_rescue;
 use crate::skip::run_skip;
 use cli_parts::{
-    Arguments, NoArguments, RunOptions, Taken, Untaken, confirm, hold_streams, keep_freed,
+    Arguments, Ending, NoArguments, RunOptions, Taken, Untaken, confirm, hold_streams, keep_freed,
     print_beside_usage, print_beside_wrong_option, print_ending, print_line, print_note, rescue_of,
     skip_of, take_options, with_tokens,
 };
@@ -38,9 +38,9 @@ fn run_arguments<R: Threads + Wait + Sync>(
     threads: &R,
     arguments: &Arguments,
     options: RunOptions,
-) -> Note {
+) -> Ending {
     if let Err(note) = confirm(rt, arguments) {
-        return note;
+        return Ending::Noted(note);
     }
     let mut input = FileIo::of(rt.reader());
     let mut output = FileIo::of(io::writer(rt));
@@ -65,31 +65,35 @@ fn run_arguments<R: Threads + Wait + Sync>(
 }
 
 // The same where the options of the run stand among the words, which are taken out of them; and says on standard error what isn't well.
-fn run_all<R: Threads + Wait + Sync>(rt: &HostRuntime, threads: &R, arguments: Arguments) -> Note {
+fn run_all<R: Threads + Wait + Sync>(
+    rt: &HostRuntime,
+    threads: &R,
+    arguments: Arguments,
+) -> Ending {
     let taken = take_options(rt.alloc(), &arguments.words);
     let Arguments { file, words } = arguments;
     match taken {
         Ok(Taken { words, options }) => {
             let words = match with_tokens(rt, words) {
                 Ok(words) => words,
-                Err(note) => return note,
+                Err(note) => return Ending::Noted(note),
             };
             let arguments = Arguments { file, words };
-            let note = run_arguments(rt, threads, &arguments, options);
-            print_ending(rt, &arguments, note);
-            if note == Note::Usage {
+            let ending = run_arguments(rt, threads, &arguments, options);
+            print_ending(rt, &arguments, ending);
+            if ending == Ending::Noted(Note::Usage) {
                 print_beside_usage(rt, &arguments);
             }
-            note
+            ending
         }
         Err(Untaken::Wrong(wrong)) => {
             print_note(rt, Note::Usage);
             print_beside_wrong_option(rt, &Arguments { file, words }, wrong);
-            Note::Usage
+            Ending::Noted(Note::Usage)
         }
         Err(Untaken::NoMemory) => {
             print_note(rt, Note::NoMemory);
-            Note::NoMemory
+            Ending::Noted(Note::NoMemory)
         }
     }
 }
@@ -98,7 +102,7 @@ fn run_all<R: Threads + Wait + Sync>(rt: &HostRuntime, threads: &R, arguments: A
 /// stand the options of the run, and its streams are standard input and output. One that is closed is taken as empty, or as one to which
 /// a write fails. Where it doesn't end well, standard error gets the note's line. After the usage line it gets others that say what is
 /// wrong with the words; but where these ask for help or for the version, standard output gets that.
-pub fn run<R: Threads + Wait + Sync>(rt: &HostRuntime, threads: &R) -> Note {
+pub fn run<R: Threads + Wait + Sync>(rt: &HostRuntime, threads: &R) -> Ending {
     let _held = hold_streams(rt);
     keep_freed(rt.alloc());
     match Arguments::read(rt) {
@@ -106,11 +110,11 @@ pub fn run<R: Threads + Wait + Sync>(rt: &HostRuntime, threads: &R) -> Note {
         Err(NoArguments::NoText) => {
             print_note(rt, Note::Usage);
             print_line(rt, "a word is no UTF-8");
-            Note::Usage
+            Ending::Noted(Note::Usage)
         }
         Err(NoArguments::NoMemory) => {
             print_note(rt, Note::NoMemory);
-            Note::NoMemory
+            Ending::Noted(Note::NoMemory)
         }
     }
 }

@@ -6,14 +6,14 @@ ghost use Rattle.notes.specs.declared.note.Note.TheVariants.{WriteFault};
 ghost use Rattle.bridge_parts.specs.Run.{disk_run, output_run};
 ghost use Rattle.bridge_skip.specs.Leave.{MaySkip, given_output};
 ghost use Rattle.bridge_skip.specs.SkipRun.{IsSkipNote, IsSkipRun};
+ghost use Rattle.cli_parts.specs.Ending.{note_in};
 
 use crate::device::refuse;
 use bridge_skip::{Skipped, bridge_skip};
-use cli_parts::{Progress, Showing, Waiting, Watched, print_no_spool};
+use cli_parts::{Ending, Progress, Showing, Waiting, Watched, print_no_spool};
 use edge_disk::Disk;
 use edge_file::{FileDisk, Sharing};
 use edge_io::Sink;
-use notes::Note;
 
 // Skips the entry over the disk, which is watched meanwhile. Its reading may be shown. What was done is what `bridge_skip` does, and
 // nothing else.
@@ -40,13 +40,13 @@ fn skip_over<D: Disk, K: Sink>(
     }
 }
 
-/// Skips the entry of this number in `file`, which this program has alone meanwhile. One that can't be opened is a fault of the disk, and
-/// standard error says why in a line of its own; one that is no spool is named there too.
-pub(crate) fn run_skip<K: Sink>(rt: &HostRuntime, file: &str, number: u64, output: &mut K) -> Note
+/// Skips the entry of this number in `file`, which this program has alone meanwhile. One that can't be opened is a fault of the disk, or
+/// `InUse`, and standard error says why in a line of its own; one that is no spool is named there too.
+pub(crate) fn run_skip<K: Sink>(rt: &HostRuntime, file: &str, number: u64, output: &mut K) -> Ending
     requires prints { (k : K) (text : List ℕ) → K.permits k text }
 
-    ensures known { IsSkipNote number result }
-    ensures writes { CountsFaults (result ≡ WriteFault) (K.write_faults output.old) (K.write_faults output.new) }
+    ensures known { IsSkipNote number (note_in result) }
+    ensures writes { CountsFaults (note_in result ≡ WriteFault) (K.write_faults output.old) (K.write_faults output.new) }
 {
     match FileDisk::open_locked(rt, file, Sharing::Exclusive) {
         Ok(disk) => {
@@ -54,7 +54,7 @@ pub(crate) fn run_skip<K: Sink>(rt: &HostRuntime, file: &str, number: u64, outpu
             let is_shown = Showing::Always.is_seen(rt);
             let note = skip_over(rt, number, disk, is_shown, output).note;
             print_no_spool(rt, file, note);
-            note
+            Ending::Noted(note)
         }
         Err(fault) => refuse(rt, file, fault),
     }

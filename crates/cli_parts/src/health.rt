@@ -1,5 +1,6 @@
 //! Whether FILE, or the TARGET of a move, is well, for an operator who watches standard error.
 use edge_disk::DiskFault;
+use edge_file::Home;
 use edge_net::Since;
 
 /// A call of the file.
@@ -68,6 +69,8 @@ pub(crate) struct HealthLines<'a> {
     health: Health,
     // Where it is noted too since when calls fail, if anywhere.
     failing: Option<&'a Since>,
+    // Where it stood as it was opened, as far as that is known.
+    home: Option<Home>,
 }
 
 impl<'a> HealthLines<'a> {
@@ -83,14 +86,24 @@ impl<'a> HealthLines<'a> {
             waiting,
             health: Health::Well,
             failing: None,
+            home: None,
         }
     }
 
-    /// The same, but it is noted in `failing` too since when calls fail.
-    pub(crate) fn noting(self, failing: &'a Since) -> HealthLines<'a> {
+    /// The same of the file at this path, but it is noted in `failing` too since when calls fail.
+    pub(crate) fn noting(self, failing: &'a Since, path: &str) -> HealthLines<'a> {
         HealthLines {
             failing: Some(failing),
+            home: Home::look(self.rt.alloc(), path).ok(),
             ..self
+        }
+    }
+
+    // Whether the file is known to be at its path no more.
+    fn is_left(&self) -> bool {
+        match &self.home {
+            Some(home) => home.is_left(),
+            None => false,
         }
     }
 
@@ -118,6 +131,9 @@ impl<'a> HealthLines<'a> {
         let notice = self.waiting.notice();
         let _ = match (after, call) {
             (Health::Well, _) => eprintln!(self.rt; "bridge: {name} is well again"),
+            (Health::Failing, _) if self.is_left() => {
+                eprintln!(self.rt; "bridge: {name} was removed or renamed{notice}")
+            }
             (_, Call::Read { .. }) => eprintln!(self.rt; "bridge: a read of {name} failed"),
             (_, Call::Write) => { eprintln!(self.rt; "bridge: a write of {name} failed{notice}") }
             (_, Call::Sync) => { eprintln!(self.rt; "bridge: a sync of {name} failed{notice}") }

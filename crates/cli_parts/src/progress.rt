@@ -105,12 +105,12 @@ impl<'a, D: Disk> Watched<'a, D> {
         }
     }
 
-    /// The same, but it is noted in `failing` too since when calls of the disk fail.
-    pub fn noting(self, failing: &'a Since) -> Watched<'a, D>
+    /// The same of the file at this path, but it is noted in `failing` too since when calls of the disk fail.
+    pub fn noting(self, failing: &'a Since, path: &str) -> Watched<'a, D>
         ensures { result.disk ≡ self.entry.disk }
     {
         Watched {
-            health: self.health.noting(failing),
+            health: self.health.noting(failing, path),
             ..self
         }
     }

@@ -1,12 +1,15 @@
 //! The lines on standard error, and what is printed where words ask for it. A write of them that fails is not reported.
 use crate::arguments::Arguments;
 use crate::help::{Question, question_in, question_of};
+use crate::limits::{descriptors, descriptors_of};
 use crate::misspelt::{Misspelt, Named, misspelt_in};
 use crate::rescue_words::{begins_rescue, rescue_of};
 use crate::run_options::WrongOption;
 use crate::skip_words::{begins_skip, skip_of};
+use crate::status::Ending;
 use crate::unopened::{missing_folder, open_text};
 use bridge_rescue::{Report, SlotFault, Why};
+use bridge_words::Command;
 use edge_file::OpenFault;
 use notes::{Note, note_text};
 use std::fs::Files;
@@ -99,10 +102,17 @@ pub fn print_rescue(
 }
 
 /// Prints why what the arguments asked for ended, where it didn't end well: the note's text, but of a skip that found no pending entry, or
-/// no room for a stretch more, what that means. Of a rescue it prints nothing: [`print_rescue`] does.
-pub fn print_ending(rt: &(impl AllocGlobal + Eprint), arguments: &Arguments, note: Note) {
+/// no room for a stretch more, what that means. Of a rescue it prints nothing: [`print_rescue`] does; nor of a file in use, which has its
+/// own line. Where a server may have lacked descriptors, it says so first.
+pub fn print_ending(rt: &(impl AllocGlobal + Eprint), arguments: &Arguments, ending: Ending) {
+    let Ending::Noted(note) = ending else {
+        return;
+    };
     if rescue_of(&arguments.words).is_some() {
         return;
+    }
+    if note == Note::NetFault {
+        print_lack_of_descriptors(rt, arguments);
     }
     let _ = match (skip_of(&arguments.words), note) {
         (Some(number), Note::Strange { .. }) => {
@@ -118,6 +128,22 @@ pub fn print_ending(rt: &(impl AllocGlobal + Eprint), arguments: &Arguments, not
             return;
         }
     };
+}
+
+// Says where the connections that a server serves at once may take more descriptors than the program may have.
+fn print_lack_of_descriptors(rt: &(impl AllocGlobal + Eprint), arguments: &Arguments) {
+    let Some(limit) = descriptors() else {
+        return;
+    };
+    let Ok(Some(Command::Serve { server })) = Command::of(rt.alloc(), &arguments.words) else {
+        return;
+    };
+    let need = descriptors_of(&server);
+    if need > limit {
+        let _ = eprintln!(rt;
+            "bridge: so many connections may take {need} open files, and {limit} are allowed: ulimit -n, or LimitNOFILE= of the service"
+        );
+    }
 }
 
 // What the program was asked for beside its commands: by the first word that asks.
